@@ -1,0 +1,8 @@
+pub mod BitTests
+pub mod Steps
+pub mod FirstEntry
+pub mod Lowest
+pub mod Decisions
+pub mod Travelling
+mod Names
+mod Rows

@@ -1,0 +1,7 @@
+use Rattle.std.proofs.Common.{◌≡◌, ◌++◌, drop}
+use Rattle.room_acl.specs.Inheritance.{handed_down}
+use Rattle.room_acl.proofs.inheritance.hand_down.Given as goal
+
+-- what was given so far, and what the rest gives, is what the whole list gives
+abbrev pub invariant-loop-entry : goal.invariant-loop-entry
+invariant-loop-entry l = l.given.items ++ handed_down (drop l.entry-index l.entries) l.kind ≡ handed_down l.entries l.kind

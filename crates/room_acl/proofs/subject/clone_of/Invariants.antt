@@ -1,0 +1,6 @@
+use Rattle.std.proofs.Common.{◌≡◌, take}
+use Rattle.room_acl.proofs.subject.clone_of.Given as goal
+
+-- the names copied so far
+abbrev pub invariant-loop-name : goal.invariant-loop-name
+invariant-loop-name l = l.copy.items ≡ take l.name-index l.names.items

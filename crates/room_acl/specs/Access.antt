@@ -1,0 +1,86 @@
+-- Which bits a list allows: the first applying entry that names a bit decides it (RFC 8881, section 6.2.1).
+use Rattle.std.specs.Prelude.{◌≡◌, ℕ, ◌^◌, ◌<◌, Bool, true, false, not, ◌&&◌, List, ◌∷◌, ◌++◌, IsTrue}
+use Rattle.std.specs.Prelude.{Option, None, Some}
+use Rattle.std.specs.List.{find, list_any, AllByRecursion}
+use Rattle.std.specs.Str.{bytes_eq}
+use Rattle.room_acl.specs.declared.who.Who.{Who}
+use Rattle.room_acl.specs.declared.who.Who.TheVariants.{Owner, Group, Everyone, User, Members}
+use Rattle.room_acl.specs.declared.subject.Standing.{Standing}
+use Rattle.room_acl.specs.declared.access.Decision.{Decision}
+use Rattle.room_acl.specs.declared.access.Decision.TheVariants.{Allowed, Denied}
+use Rattle.room_acl.specs.Bits.{has_bit, inherit_only, named_bits, mask_of}
+use Rattle.room_acl.specs.SubjectModel.{SubjectModel}
+use Rattle.room_acl.specs.Entries.{EntryModel}
+
+abbrev pub is_member : SubjectModel → List ℕ → Bool
+is_member caller group = list_any (bytes_eq group) caller.groups
+
+-- whom an entry names (RFC 8881, section 6.2.1.5). A user and a group of one name are two principals
+abbrev pub matches : SubjectModel → Standing → Who → Bool
+matches caller standing Owner = bytes_eq standing.owner caller.name
+matches caller standing Group = is_member caller standing.group
+matches caller standing Everyone = true
+matches caller standing (User name) = bytes_eq name caller.name
+matches caller standing (Members group) = is_member caller group
+
+-- the entry counts on the object where it stands: INHERIT_ONLY is clear (RFC 8881, section 6.2.1.4.1)
+abbrev pub applies : SubjectModel → Standing → EntryModel → Bool
+applies caller standing entry = matches caller standing entry.who && not (inherit_only entry.flags)
+
+-- the entry counts and names the bit
+abbrev pub decides : SubjectModel → Standing → ℕ → EntryModel → Bool
+decides caller standing bit entry = applies caller standing entry && has_bit entry.mask bit
+
+-- a bit that none names is denied
+abbrev pub is_allow : Option EntryModel → Bool
+is_allow None = false
+is_allow (Some entry) = entry.allow
+
+-- the first applying entry that names the bit is an allow entry
+abbrev pub entries_allow : List EntryModel → SubjectModel → Standing → ℕ → Bool
+entries_allow entries caller standing bit = is_allow (find (decides caller standing bit) entries)
+
+-- the entries decide each bit
+abbrev pub allows_bit : List EntryModel → SubjectModel → Standing → ℕ → Bool
+allows_bit entries caller standing bit = entries_allow entries caller standing bit
+
+-- the same in the standard's words: some applying allow entry names the bit, and no earlier applying entry names it
+pub record EntriesAllow (entries : List EntryModel) (caller : SubjectModel) (standing : Standing) (bit : ℕ) : Type 0 where
+  pub earlier : List EntryModel
+  pub entry : EntryModel
+  pub later : List EntryModel
+  pub stands : entries ≡ earlier ++ entry ∷ later
+  pub allow : IsTrue entry.allow
+  pub applying : IsTrue (decides caller standing bit entry)
+  pub first : AllByRecursion (λ other. IsTrue (not (decides caller standing bit other))) earlier
+
+abbrev pub AllowsBit : List EntryModel → SubjectModel → Standing → ℕ → Type 0
+AllowsBit entries caller standing bit = EntriesAllow entries caller standing bit
+
+-- a mask is allowed where each of its bits is
+abbrev pub AllowsMask : List EntryModel → SubjectModel → Standing → ℕ → Type 0
+AllowsMask entries caller standing wanted = (bit : ℕ) → IsTrue (has_bit wanted bit) → AllowsBit entries caller standing bit
+
+-- the refused right is the lowest wanted one that is not allowed
+pub record IsLowestRefused (entries : List EntryModel) (caller : SubjectModel) (standing : Standing) (wanted refused : ℕ) : Type 0 where
+  pub bit : ℕ
+  pub value : refused ≡ 2 ^ bit
+  pub is_wanted : IsTrue (has_bit wanted bit)
+  pub not_allowed : ¬ (AllowsBit entries caller standing bit)
+  pub lowest : (lower : ℕ) → lower < bit → IsTrue (has_bit wanted lower) → AllowsBit entries caller standing lower
+
+-- the lowest wanted bit that is not allowed
+abbrev pub refused_bit : List EntryModel → SubjectModel → Standing → ℕ → Option ℕ
+refused_bit entries caller standing wanted =
+    find (λ bit. has_bit wanted bit && not (allows_bit entries caller standing bit)) named_bits
+
+abbrev pub decision_by : Option ℕ → Decision
+decision_by None = Allowed
+decision_by (Some bit) = Denied (2 ^ bit)
+
+abbrev pub decision : List EntryModel → SubjectModel → Standing → ℕ → Decision
+decision entries caller standing wanted = decision_by (refused_bit entries caller standing wanted)
+
+-- the bits that the list allows
+abbrev pub allowed_mask : List EntryModel → SubjectModel → Standing → ℕ
+allowed_mask entries caller standing = mask_of (allows_bit entries caller standing)

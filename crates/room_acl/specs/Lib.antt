@@ -1,0 +1,6 @@
+pub mod Bits
+pub mod Principals
+pub mod SubjectModel
+pub mod Entries
+pub mod Access
+pub mod Inheritance

@@ -1,0 +1,105 @@
+//! Entries of an access list.
+ghost use Rattle.std.specs.Prelude.{◌≡◌, IsSome, IfSome, IfOk, ◌↔◌, IsTrue};
+ghost use Rattle.room_acl.specs.Bits.{identifier_group};
+ghost use Rattle.room_acl.specs.Entries.{names_its_kind, IsEntry};
+
+use crate::flags::Flags;
+use crate::mask::Mask;
+use crate::who::Who;
+use std::alloc::AllocError;
+use std::marker::Model;
+
+/// One entry of an access list: it allows or denies the rights of its mask to whom it names
+/// (RFC 8881, section 6.2.1).
+#[derive(Debug, Drop)]
+pub struct Entry {
+    allow: bool,
+    flags: Flags,
+    mask: Mask,
+    who: Who,
+}
+
+impl Model for Entry {
+    ghost use Rattle.room_acl.specs.Entries.{EntryModel, IsEntry};
+
+    ghost Value = { EntryModel };
+
+    ghost view = { λ e. record { allow = e.allow; flags = e.flags; mask = e.mask; who = e.who } };
+
+    ghost invariant = { λ e. IsEntry (record { allow = e.allow; flags = e.flags; mask = e.mask; who = e.who }) };
+}
+
+impl Entry {
+    /// The entry of these parts: None where a user's name stands with IDENTIFIER_GROUP, or a group's without.
+    /// Beside OWNER@, GROUP@ and EVERYONE@ that flag is ignored, and kept. Takes no memory.
+    pub fn new(allow: bool, flags: Flags, mask: Mask, who: Who) -> Option<Entry>
+        ensures lawful { IsSome result ↔ IsTrue (names_its_kind flags who) }
+        ensures value { IfSome result (λ e. e ≡ record { allow = allow; flags = flags; mask = mask; who = who }) }
+    {
+        // both readers promise that what they read is lawful
+        let _ = flags.bits();
+        let _ = mask.bits();
+        if who.agrees_with(flags) {
+            Some(Entry {
+                allow,
+                flags,
+                mask,
+                who,
+            })
+        } else {
+            None
+        }
+    }
+
+    /// The same entry once more. AllocError where memory is refused, and nothing has changed then.
+    pub fn clone(&self) -> Result<Entry, AllocError>
+        ensures { IfOk result (λ copy. copy ≡ self.now) }
+    {
+        self.with_flags(self.flags)
+    }
+
+    /// The entry with other flags, and IDENTIFIER_GROUP as it is.
+    pub(crate) fn with_flags(&self, flags: Flags) -> Result<Entry, AllocError>
+        requires { identifier_group flags ≡ identifier_group self.now.flags }
+        ensures { IfOk result (λ e. e ≡ record self.now { flags = flags }) }
+    {
+        let _ = flags.bits();
+        let who = self.who.clone()?;
+        Ok(Entry {
+            allow: self.allow,
+            flags,
+            mask: self.mask,
+            who,
+        })
+    }
+
+    /// Whether the entry allows (type 0), or else denies (type 1).
+    pub fn allow(&self) -> bool
+        ensures { result ≡ self.now.allow }
+    {
+        self.allow
+    }
+
+    /// The flags of the entry.
+    pub fn flags(&self) -> Flags
+        ensures { result ≡ self.now.flags }
+    {
+        self.flags
+    }
+
+    /// The rights that the entry names.
+    pub fn mask(&self) -> Mask
+        ensures { result ≡ self.now.mask }
+    {
+        self.mask
+    }
+
+    /// Whom the entry names. Every entry is lawful, and this reader says so.
+    pub fn who(&self) -> &Who
+        ensures value { result.now ≡ self.now.who }
+        ensures kind { IsTrue (names_its_kind self.now.flags self.now.who) }
+        ensures lawful { IsEntry self.now }
+    {
+        &self.who
+    }
+}

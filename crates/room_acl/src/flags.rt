@@ -1,0 +1,94 @@
+//! Flags of an entry.
+ghost use Rattle.std.specs.Prelude.{◌≡◌, ℕ, ◌<◌, ◌↔◌, IsSome, IfSome};
+ghost use Rattle.room_acl.specs.Bits.{IsFlags, has_bit, file_inherit, directory_inherit, no_propagate, inherit_only, identifier_group};
+
+use std::marker::Model;
+
+/// The flags that an entry may have: all but the two for auditing.
+const ALL_FLAGS: u8 = 0xCF;
+
+/// The flags of an entry (RFC 8881, section 6.2.1.4): FILE_INHERIT 0x01, DIRECTORY_INHERIT 0x02,
+/// NO_PROPAGATE_INHERIT 0x04, INHERIT_ONLY 0x08, IDENTIFIER_GROUP 0x40, and 0x80, the mark of an entry
+/// that was handed down. The two flags for auditing are no flags here.
+#[derive(Clone, Copy, Debug, PartialEq, Eq)]
+pub struct Flags {
+    bits: u8,
+}
+
+impl Model for Flags {
+    ghost Value = { ℕ };
+
+    ghost view = { λ f. f.bits };
+
+    ghost invariant = { λ f. IsFlags f.bits };
+
+    ghost inverse = { λ n. record { bits = n } };
+}
+
+impl Flags {
+    /// The flags of these bits: None with 0x10 or 0x20.
+    pub fn new(bits: u8) -> Option<Flags>
+        ensures named { IsSome result ↔ IsFlags bits }
+        ensures value { IfSome result (λ flags. flags ≡ bits) }
+    {
+        if bits & ALL_FLAGS == bits {
+            Some(Flags { bits })
+        } else {
+            None
+        }
+    }
+
+    pub(crate) fn of_named(bits: u8) -> Flags
+        requires { IsFlags bits }
+        ensures { result ≡ bits }
+    {
+        Flags { bits }
+    }
+
+    /// Whether the flag at this place is set.
+    #[tactic(auto, using(std::proofs::lemmas::Nat::Bits::shr_and_one))]
+    fn has(self, place: u32) -> bool
+        requires { place < 8 }
+        ensures { result ≡ has_bit self place }
+    {
+        (self.bits >> place) & 1 == 1
+    }
+
+    pub(crate) fn is_file_inherit(self) -> bool
+        ensures { result ≡ file_inherit self }
+    {
+        self.has(0)
+    }
+
+    pub(crate) fn is_directory_inherit(self) -> bool
+        ensures { result ≡ directory_inherit self }
+    {
+        self.has(1)
+    }
+
+    pub(crate) fn is_no_propagate(self) -> bool
+        ensures { result ≡ no_propagate self }
+    {
+        self.has(2)
+    }
+
+    pub(crate) fn is_inherit_only(self) -> bool
+        ensures { result ≡ inherit_only self }
+    {
+        self.has(3)
+    }
+
+    pub(crate) fn is_group(self) -> bool
+        ensures { result ≡ identifier_group self }
+    {
+        self.has(6)
+    }
+
+    /// The bits of the flags.
+    pub fn bits(self) -> u8
+        ensures value { result ≡ self }
+        ensures named { IsFlags self }
+    {
+        self.bits
+    }
+}

@@ -1,0 +1,23 @@
+-- A request that is accepted and not refused had every right.
+use Rattle.std.proofs.Common.{◌≡◌, refl, Option, None, Some}
+use Rattle.room_acl.specs.SubjectModel.{SubjectModel}
+use Rattle.room_tree.specs.CommandModel.{CommandModel}
+use Rattle.room_records.specs.Room.{Room}
+use Rattle.room_tree.specs.ReplyModel.{Refusal, IsRefused}
+use Rattle.room_tree.specs.Checks.{first_refusal, checks}
+use Rattle.room_tree.specs.Effect.{effect_by}
+use Rattle.room_tree.proofs.Rights.{rights_of_success}
+use Rattle.room_wire.specs.EventModel.{EventModel, Open, Close, Slot}
+use Rattle.room_desk.specs.History.{History, state_after}
+use Rattle.room_desk.specs.Representation.{WasAllowed}
+
+none_if_not_refused : (room : Room) (caller : SubjectModel) (command : CommandModel) (o : Option Refusal) → (IsRefused (effect_by room caller command o).reply → ⊥) → o ≡ None
+none_if_not_refused room caller command None h = refl
+none_if_not_refused room caller command (Some refusal) h = absurd (h tt)
+
+pub had_rights : (start : Room) (past : History) (event : EventModel) → WasAllowed start past event
+had_rights start past (Open caller sid slots) = tt
+had_rights start past (Close caller sid) = tt
+had_rights start past (Slot q) = λ yes success.
+    rights_of_success (state_after start past) q.caller q.command
+    (none_if_not_refused (state_after start past) q.caller q.command (first_refusal (checks (state_after start past) q.caller q.command)) success)

@@ -1,0 +1,71 @@
+use Rattle.std.proofs.Common.{◌≡◌, ◌∙◌, ap, sym, subst, ◌∷◌, true, false, IfOk}
+use Rattle.std.proofs.lemmas.Result.{IfOk-weaker}
+use Rattle.room_records.specs.Records.{Records}
+use Rattle.room_records.specs.Rules.{SlotRules}
+use Rattle.room_records.specs.Room.{Room}
+use Rattle.room_records.specs.Representation.{RepresentsRoom}
+use Rattle.room_slots.specs.Slots.{verdict}
+use Rattle.room_slots.specs.declared.verdict.Verdict.{Verdict}
+use Rattle.room_tree.specs.CommandModel.{command_model}
+use Rattle.room_wire.specs.EventModel.{Request, Slot}
+use Rattle.room_wire.specs.Texts.{command_text}
+use Rattle.room_desk.specs.AnswerModel.{answer_model}
+use Rattle.room_desk.specs.History.{answer_to, state_after}
+use Rattle.room_desk.specs.Representation.{RepresentsHistory}
+use Rattle.room_desk.specs.Rows.{HasSlot, Ran, answer_kept}
+use Rattle.room_desk.proofs.SlotTests.{new_answer, new_stands, accepted_if_verdict, old_answer, old_stands}
+use Rattle.room_desk.proofs.requests.in_slot.Goals as goal
+
+pub returns-then-is_new-clause-step : goal.returns-then-is_new-clause-step
+returns-then-is_new-clause-step g c = λ h d start past stand usable has.
+    let S = g.S.Shelf in
+    let old = S.records c.args.shelf.now in
+    let after = S.records c.run_new.new.shelf in
+    let q : Request = record { caller = c.args.subject.now; sid = c.args.sid.now; slot = c.args.slot; seq = c.args.seq; command = command_model c.args.command.now } in
+    let read = c.run_new.ensures.was_honest h in
+    let same : S.records c.slot.new.self ≡ old = c.slot.ensures.unchanged.same read d in
+    let kept : c.in_ok-kept.kept ≡ old.slot q.sid q.slot = c.in_ok-kept.ensures.value read d in
+    let v : Verdict = c.verdict_of-verdict.result in
+    let is : v ≡ verdict (old.slot q.sid q.slot) q.seq (command_text q.command) =
+    c.verdict_of-verdict.ensures ∙ (λ i. verdict (kept i) q.seq ((c.deref.ensures.value ∙ c.in_ok-text.ensures) i)) in
+    let new = c.is_new.ensures.new c.if-is_new.true in
+    let Runs : Records → Type 0 = λ r. (room : Room) → RepresentsRoom r.objects room → SlotRules r → HasSlot r q.sid q.slot →
+    IfOk c.run_new.result (λ answer. Ran r room q.caller q.command q.sid q.slot q.seq (answer_model answer) after) in
+    let runs : Runs old = subst Runs same (c.run_new.ensures.ok h (c.slot.ensures.unchanged.declared read d)) in
+    IfOk-weaker c.run_new.result (λ answer. Ran old (state_after start past) q.caller q.command q.sid q.slot q.seq (answer_model answer) after)
+    (λ answer. (answer_model answer ≡ answer_to start past (Slot q)) × RepresentsHistory start after (Slot q ∷ past))
+    (λ answer ran. (
+      ran.says ∙ sym (new_answer start old past stand q usable has v is new),
+      new_stands start old past stand q usable has v is new (answer_model answer) after ran,
+    ))
+    (runs (state_after start past) stand.room stand.rules has)
+
+pub returns-then-is_new-clause-idle : goal.returns-then-is_new-clause-idle
+returns-then-is_new-clause-idle g c = λ h d start past stand usable has idle.
+    let S = g.S.Shelf in
+    let old = S.records c.args.shelf.now in
+    let q : Request = record { caller = c.args.subject.now; sid = c.args.sid.now; slot = c.args.slot; seq = c.args.seq; command = command_model c.args.command.now } in
+    let read = c.run_new.ensures.was_honest h in
+    let kept : c.in_ok-kept.kept ≡ old.slot q.sid q.slot = c.in_ok-kept.ensures.value read d in
+    let v : Verdict = c.verdict_of-verdict.result in
+    let is : v ≡ verdict (old.slot q.sid q.slot) q.seq (command_text q.command) =
+    c.verdict_of-verdict.ensures ∙ (λ i. verdict (kept i) q.seq ((c.deref.ensures.value ∙ c.in_ok-text.ensures) i)) in
+    let accepted = accepted_if_verdict start old past stand q usable has v is (c.is_new.ensures.new c.if-is_new.true) in
+    let never : true ≡ false = sym accepted ∙ idle in
+    absurd cc
+
+pub returns-else-is_new-clause-step : goal.returns-else-is_new-clause-step
+returns-else-is_new-clause-step g c = λ h d start past stand usable has.
+    let S = g.S.Shelf in
+    let old = S.records c.args.shelf.now in
+    let q : Request = record { caller = c.args.subject.now; sid = c.args.sid.now; slot = c.args.slot; seq = c.args.seq; command = command_model c.args.command.now } in
+    let same : S.records c.slot.new.self ≡ old = c.slot.ensures.unchanged.same h d in
+    let kept : c.in_ok-kept.kept ≡ old.slot q.sid q.slot = c.in_ok-kept.ensures.value h d in
+    let v : Verdict = c.verdict_of-verdict.result in
+    let is : v ≡ verdict (old.slot q.sid q.slot) q.seq (command_text q.command) =
+    c.verdict_of-verdict.ensures ∙ (λ i. verdict (kept i) q.seq ((c.deref.ensures.value ∙ c.in_ok-text.ensures) i)) in
+    let other = c.is_new.ensures.other c.if-is_new.false in
+    let Stands : Records → Type 0 = λ r. RepresentsHistory start r (Slot q ∷ past) in (
+      c.answer_kept.ensures ∙ ap (λ k. answer_kept v k) kept ∙ sym (old_answer start old past stand q usable has v is other),
+      subst Stands (sym same) (old_stands start old past stand q usable has v is other),
+    )

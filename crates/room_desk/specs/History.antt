@@ -1,0 +1,154 @@
+-- Histories: whose a session is, which requests are accepted, what the room is, and what is answered.
+-- Slots and their numbers are those of RFC 8881, sections 2.10.6.1 and 18.46; who owns a session name, when it is open, and that
+-- the first number is 1 are our own rules.
+use Rattle.std.specs.Prelude.{◌≡◌, ℕ, ◌%◌, ◌^◌, Bool, true, false, not, ◌&&◌, ◌==◌, List, [], ◌∷◌, length, Option, None, Some, if◌then◌else◌, nat_lt, is_some}
+use Rattle.std.specs.List.{list_any}
+use Rattle.std.specs.Str.{bytes_eq}
+use Rattle.room_acl.specs.SubjectModel.{SubjectModel}
+use Rattle.room_slots.specs.Slots.{next_number}
+use Rattle.room_records.specs.Room.{Room}
+use Rattle.room_tree.specs.ReplyModel.{Done, Opened}
+use Rattle.room_tree.specs.Lawful.{IsLawful}
+use Rattle.room_tree.specs.Effect.{effect}
+use Rattle.room_wire.specs.declared.code.Code.TheVariants.{BadSession, BadSlot, SeqMisordered, SeqFalseRetry, SessionTaken}
+use Rattle.room_wire.specs.EventModel.{EventModel, Request, Open, Close, Slot}
+use Rattle.room_wire.specs.Texts.{command_text, reply_text}
+use Rattle.room_desk.specs.AnswerModel.{AnswerModel, Reply, Refused}
+
+-- the events so far, the latest first
+abbrev pub History : Type 0
+History = List EventModel
+
+-- a session by its first OPEN, with the events since, the latest first (our own rule)
+pub record Session : Type 0 where
+  pub owner : List ℕ
+  pub slots : ℕ
+  pub since : List EventModel
+
+-- the session that an event would open, if the name was never opened
+abbrev pub opened_by : List ℕ → EventModel → Option Session
+opened_by sid (Open caller name slots) = if bytes_eq sid name then Some (record { owner = caller.name; slots = slots; since = [] }) else None
+opened_by sid (Close caller name) = None
+opened_by sid (Slot request) = None
+
+-- one event later
+abbrev pub with_event : Option Session → Option Session → EventModel → Option Session
+with_event None opening event = opening
+with_event (Some session) opening event = Some (record session { since = event ∷ session.since })
+
+-- whose a session name is: its first OPEN decides for good (our own rule)
+abbrev pub session_of : History → List ℕ → Option Session
+session_of [] sid = None
+session_of (event ∷ past) sid = with_event (session_of past sid) (opened_by sid event) event
+
+-- the event is a CLOSE of this name by its owner
+abbrev pub closes : List ℕ → List ℕ → EventModel → Bool
+closes sid owner (Close caller name) = bytes_eq sid name && bytes_eq owner caller.name
+closes sid owner (Open caller name slots) = false
+closes sid owner (Slot request) = false
+
+-- it is open until a CLOSE by its owner, and never afterwards (our own rule)
+abbrev pub is_open : List ℕ → Session → Bool
+is_open sid session = not (list_any (closes sid session.owner) session.since)
+
+-- the session is open and the caller's
+abbrev pub is_open_for : List ℕ → SubjectModel → Option Session → Bool
+is_open_for sid caller None = false
+is_open_for sid caller (Some session) = bytes_eq session.owner caller.name && is_open sid session
+
+-- how many slots a session has
+abbrev pub slots_of : Option Session → ℕ
+slots_of None = 0
+slots_of (Some session) = session.slots
+
+-- an accepted request, and the events before it
+pub record Accepted : Type 0 where
+  pub request : Request
+  pub before : History
+
+-- a request that is accepted where so many were before it in its slot: its number is the one after their count, modulo 2^32 (RFC 8881, section 2.10.6.1)
+abbrev pub accepts : History → ℕ → Request → Bool
+accepts past count q =
+    is_open_for q.sid q.caller (session_of past q.sid) && (nat_lt q.slot (slots_of (session_of past q.sid)) && (q.seq == next_number count))
+
+-- the request is to this slot
+abbrev pub is_for : List ℕ → ℕ → Request → Bool
+is_for sid slot q = bytes_eq sid q.sid && (slot == q.slot)
+
+-- the accepted requests of a slot, the latest first
+abbrev pub accepted : History → List ℕ → ℕ → List Accepted
+accepted [] sid slot = []
+accepted (Open caller name slots ∷ past) sid slot = accepted past sid slot
+accepted (Close caller name ∷ past) sid slot = accepted past sid slot
+accepted (Slot q ∷ past) sid slot =
+    if is_for sid slot q && accepts past (length (accepted past sid slot)) q
+    then record { request = q; before = past } ∷ accepted past sid slot
+    else accepted past sid slot
+
+-- whether a request is accepted after a history
+abbrev pub is_accepted : History → Request → Bool
+is_accepted past q = accepts past (length (accepted past q.sid q.slot)) q
+
+-- what the room that it began with becomes by the accepted requests of all slots, in their order
+abbrev pub state_after : Room → History → Room
+state_after start [] = start
+state_after start (Open caller name slots ∷ past) = state_after start past
+state_after start (Close caller name ∷ past) = state_after start past
+state_after start (Slot q ∷ past) = if is_accepted past q then (effect (state_after start past) q.caller q.command).room else state_after start past
+
+-- the commands of all requests are lawful
+abbrev pub AreLawful : History → Type 0
+AreLawful [] = Unit {0}
+AreLawful (Open caller name slots ∷ past) = AreLawful past
+AreLawful (Close caller name ∷ past) = AreLawful past
+AreLawful (Slot q ∷ past) = IsLawful q.command × AreLawful past
+
+-- the reply of an accepted request: that of its command on the room that stood before it
+abbrev pub original_reply : Room → Accepted → List ℕ
+original_reply start a = reply_text (effect (state_after start a.before) a.request.caller a.request.command).reply
+
+-- what a repeat of an accepted request is answered: its original reply (RFC 8881, section 2.10.6.1)
+abbrev pub replay : Room → Accepted → AnswerModel
+replay start a = Reply (original_reply start a)
+
+-- a request that is not accepted, in a session that its caller may use: a repeat, a false retry (RFC 8881, section 2.10.6.1.3.1) or misordered
+abbrev pub answer_unaccepted : Room → Request → List Accepted → AnswerModel
+answer_unaccepted start q [] = Refused SeqMisordered
+answer_unaccepted start q (last ∷ earlier) =
+    if q.seq == length (last ∷ earlier) % 2 ^ 32
+    then (if bytes_eq (command_text q.command) (command_text last.request.command) then replay start last else Refused SeqFalseRetry)
+    else Refused SeqMisordered
+
+-- an OPEN of an unused name, or of an open one of the caller with the same slots, succeeds (our own rule)
+abbrev pub answer_open : SubjectModel → List ℕ → ℕ → Option Session → AnswerModel
+answer_open caller sid slots None = Reply (reply_text (Opened slots))
+answer_open caller sid slots (Some session) =
+    if bytes_eq session.owner caller.name
+    then (if is_open sid session then (if slots == session.slots then Reply (reply_text (Opened slots)) else Refused SessionTaken) else Refused BadSession)
+    else Refused SessionTaken
+
+-- a CLOSE by the owner succeeds, also of a closed session (our own rule)
+abbrev pub answer_close : SubjectModel → Option Session → AnswerModel
+answer_close caller None = Refused BadSession
+answer_close caller (Some session) = if bytes_eq session.owner caller.name then Reply (reply_text Done) else Refused BadSession
+
+-- what an event is answered after a past
+abbrev pub answer_to : Room → History → EventModel → AnswerModel
+answer_to start past (Open caller sid slots) = answer_open caller sid slots (session_of past sid)
+answer_to start past (Close caller sid) = answer_close caller (session_of past sid)
+answer_to start past (Slot q) =
+    if not (is_open_for q.sid q.caller (session_of past q.sid)) then Refused BadSession
+    else (if not (nat_lt q.slot (slots_of (session_of past q.sid))) then Refused BadSlot
+    else (if is_accepted past q then Reply (original_reply start (record { request = q; before = past }))
+    else answer_unaccepted start q (accepted past q.sid q.slot)))
+
+-- an OPEN of an unused name, a CLOSE that ends a session, and an accepted request change what is kept; nothing else does
+abbrev pub changes_rows : History → EventModel → Bool
+changes_rows past (Open caller sid slots) = not (is_some (session_of past sid))
+changes_rows past (Close caller sid) = is_open_for sid caller (session_of past sid)
+changes_rows past (Slot q) = is_accepted past q
+
+-- the answer tells the caller that something has changed
+abbrev pub ReportsChange : History → EventModel → AnswerModel → Type 0
+ReportsChange past event (Reply text) = changes_rows past event ≡ true
+ReportsChange past event (Refused code) = ⊥

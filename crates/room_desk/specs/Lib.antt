@@ -1,0 +1,6 @@
+pub mod AnswerModel
+pub mod History
+pub mod Representation
+pub mod Rows
+pub mod Serving
+pub mod Verdicts

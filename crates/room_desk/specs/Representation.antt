@@ -1,0 +1,71 @@
+-- Rows that stand for a history, and runs (our own rules).
+use Rattle.std.specs.Prelude.{◌≡◌, ◌⊎◌, ℕ, ◌%◌, ◌^◌, Bool, true, false, List, [], ◌∷◌, length, Option, None, Some, if◌then◌else◌}
+use Rattle.std.specs.Option.{option_map}
+use Rattle.room_slots.specs.KeptModel.{KeptModel}
+use Rattle.room_records.specs.declared.session.SessionRow.{SessionRow}
+use Rattle.room_records.specs.Records.{Records}
+use Rattle.room_records.specs.Rules.{SlotRules}
+use Rattle.room_records.specs.Room.{Room}
+use Rattle.room_records.specs.Representation.{RepresentsRoom}
+use Rattle.room_tree.specs.ReplyModel.{IsRefused}
+use Rattle.room_tree.specs.Effect.{effect}
+use Rattle.room_tree.specs.Needs.{NeedsAllowed}
+use Rattle.room_wire.specs.declared.code.Code.TheVariants.{Delay}
+use Rattle.room_wire.specs.EventModel.{EventModel, Open, Close, Slot}
+use Rattle.room_wire.specs.Texts.{command_text}
+use Rattle.room_desk.specs.AnswerModel.{AnswerModel, Refused}
+use Rattle.room_desk.specs.History.{History, Session, session_of, is_open, Accepted, accepted, is_accepted, state_after, original_reply, answer_to}
+
+-- the row of a session
+abbrev pub session_row_of : List ℕ → Session → SessionRow
+session_row_of sid session = record { sid = sid; owner = session.owner; slots = session.slots; is_open = is_open sid session }
+
+-- the name was opened and not closed since
+abbrev pub is_open_session : List ℕ → Option Session → Bool
+is_open_session sid None = false
+is_open_session sid (Some session) = is_open sid session
+
+-- the reply that is kept of an accepted request
+abbrev pub kept_reply : Room → Accepted → List ℕ
+kept_reply start a = original_reply start a
+
+-- what a slot keeps: the count of its accepted requests, the last one and its reply
+abbrev pub kept_after : Room → List Accepted → Option KeptModel
+kept_after start [] = None
+kept_after start (last ∷ earlier) = Some (record {
+  seq = length (last ∷ earlier) % 2 ^ 32;
+  request = command_text last.request.command;
+  reply = kept_reply start last;
+})
+
+-- a slot row is kept while its session is open, once a request was accepted
+abbrev pub slot_row_of : Room → History → List ℕ → ℕ → Option KeptModel
+slot_row_of start past sid slot =
+    if is_open_session sid (session_of past sid) then kept_after start (accepted past sid slot) else None
+
+-- the rows stand for a history that began with this room
+pub record RepresentsHistory (start : Room) (r : Records) (past : History) : Type 0 where
+  pub room : RepresentsRoom r.objects (state_after start past)
+  pub rules : SlotRules r
+  pub sessions : (sid : List ℕ) → r.session sid ≡ option_map (session_row_of sid) (session_of past sid)
+  pub slots : (sid : List ℕ) (slot : ℕ) → r.slot sid slot ≡ slot_row_of start past sid slot
+
+-- an event is answered as the history says and joins it, or is answered DELAY and does not
+abbrev pub Step : Room → History → EventModel → AnswerModel → History → Type 0
+Step start past event answered next =
+    ((answered ≡ answer_to start past event) × (next ≡ event ∷ past)) ⊎ ((answered ≡ Refused Delay) × (next ≡ past))
+
+-- a run takes events in turn, with one answer for each
+abbrev pub Run : Room → History → List EventModel → List AnswerModel → History → Type 0
+Run start past [] [] next = next ≡ past
+Run start past (event ∷ events) (answered ∷ answers) next =
+    (mid : History) × Step start past event answered mid × Run start mid events answers next
+Run start past [] (answered ∷ answers) next = ⊥
+Run start past (event ∷ events) [] next = ⊥
+
+-- an accepted request that is not refused had every right that its command needs, by the lists then
+abbrev pub WasAllowed : Room → History → EventModel → Type 0
+WasAllowed start past (Open caller sid slots) = Unit {0}
+WasAllowed start past (Close caller sid) = Unit {0}
+WasAllowed start past (Slot q) =
+    is_accepted past q ≡ true → (IsRefused (effect (state_after start past) q.caller q.command).reply → ⊥) → NeedsAllowed (state_after start past) q.caller q.command

@@ -1,0 +1,54 @@
+-- Runs of messages over a room (our own rules).
+use Rattle.std.specs.Prelude.{◌≡◌, ℕ, ◌≤◌, ◌⊎◌, List, ◌∷◌, Result, Ok, Err}
+use Rattle.matchit.specs.Router.{RouteOf}
+use Rattle.matchit.specs.Rows.{RowsOf}
+use Rattle.room_acl.specs.SubjectModel.{SubjectModel}
+use Rattle.room_records.specs.Records.{Records}
+use Rattle.room_records.specs.Room.{Room}
+use Rattle.room_wire.specs.declared.code.Code.TheVariants.{Delay}
+use Rattle.room_wire.specs.declared.fault.WireFault.{WireFault}
+use Rattle.room_wire.specs.declared.routing.Route.{Route}
+use Rattle.room_wire.specs.AskOf.{AskModel, Check, Event, ask_of}
+use Rattle.room_wire.specs.CheckAnswers.{answer_text}
+use Rattle.room_wire.specs.CheckService.{fault_code}
+use Rattle.room_wire.specs.Messages.{MessageModel, fields_of}
+use Rattle.room_wire.specs.Routing.{room_rows}
+use Rattle.room_wire.specs.Serving.{Outputs}
+use Rattle.room_desk.specs.AnswerModel.{AnswerModel, Reply, Refused}
+use Rattle.room_desk.specs.History.{History, answer_to}
+use Rattle.room_desk.specs.Representation.{RepresentsHistory}
+
+-- what was asked is answered: a question and a refusal change nothing, and an event joins the history
+abbrev pub AnswersAsk : Room → History → Result AskModel WireFault → AnswerModel → History → Type 0
+AnswersAsk start past (Ok (Check question)) answered next = (answered ≡ Reply (answer_text question)) × (next ≡ past)
+AnswersAsk start past (Ok (Event event)) answered next = (answered ≡ answer_to start past event) × (next ≡ event ∷ past)
+AnswersAsk start past (Err fault) answered next = (answered ≡ Refused (fault_code fault)) × (next ≡ past)
+
+-- it is answered, or is answered DELAY and changes nothing
+abbrev pub AnswersOrDelays : Room → History → Result AskModel WireFault → AnswerModel → History → Type 0
+AnswersOrDelays start past ask answered next = AnswersAsk start past ask answered next ⊎ ((answered ≡ Refused Delay) × (next ≡ past))
+
+-- what a message asks, by these routes and users
+abbrev pub ask_by : RowsOf (RouteOf Route) → List SubjectModel → MessageModel → Result AskModel WireFault
+ask_by rows users m = ask_of rows users m.head.method m.head.target (fields_of m) m.body
+
+-- a message to the routes of a room is answered
+abbrev pub AnswersMessage : List SubjectModel → Room → History → MessageModel → AnswerModel → History → Type 0
+AnswersMessage users start past m answered next = AnswersOrDelays start past (ask_by room_rows users m) answered next
+
+-- a run over messages from a history to a history, with its output; `Serves` of `room_wire` says the same of a whole stream
+abbrev pub IsRun : List SubjectModel → Room → History → List MessageModel → (out : List ℕ) → History → Type 0
+IsRun users start past ms out next = Outputs (AnswersMessage users start) past ms out next
+
+-- what a shelf is after an answer: the rows stand for the history before it, or for one event more
+pub record Answered {S : Type 0} (is_honest is_declared : S → Type 0) (records : S → Records) (failures : S → ℕ) (ask : Result AskModel WireFault) (before : S) (answered : AnswerModel) (after : S) : Type 0 where
+  pub was_honest : is_honest after → is_honest before
+  pub declared : is_honest after → is_declared before → is_declared after
+  pub never_falls : failures before ≤ failures after
+  pub step : is_honest after → is_declared before → (start : Room) (past : History) → RepresentsHistory start (records before) past →
+      (next : History) × AnswersOrDelays start past ask answered next × RepresentsHistory start (records after) next
+
+-- what a message may be answered over a shelf
+abbrev pub MayAnswer : {S : Type 0} (is_honest is_declared : S → Type 0) (records : S → Records) (failures : S → ℕ) → RowsOf (RouteOf Route) → List SubjectModel → S → MessageModel → AnswerModel → S → Type 0
+MayAnswer is_honest is_declared records failures rows users before m answered after =
+    Answered is_honest is_declared records failures (ask_by rows users m) before answered after

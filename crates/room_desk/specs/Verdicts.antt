@@ -1,0 +1,18 @@
+-- What a slot test answers, by what the slot keeps (RFC 8881, section 2.10.6.1).
+use Rattle.std.specs.Prelude.{ℕ, List, [], Option, None, Some}
+use Rattle.room_slots.specs.KeptModel.{KeptModel}
+use Rattle.room_slots.specs.declared.verdict.Verdict.{Verdict}
+use Rattle.room_slots.specs.declared.verdict.Verdict.TheVariants.{New, Repeat, FalseRetry, Misordered}
+use Rattle.room_wire.specs.declared.code.Code.TheVariants.{SeqMisordered, SeqFalseRetry}
+use Rattle.room_desk.specs.AnswerModel.{AnswerModel, Reply, Refused}
+
+abbrev pub reply_in : Option KeptModel → List ℕ
+reply_in None = []
+reply_in (Some kept) = kept.reply
+
+-- a new request is run, and a repeat gets the reply that is kept
+abbrev pub answer_by : Verdict → List ℕ → Option KeptModel → AnswerModel
+answer_by New fresh kept = Reply fresh
+answer_by Repeat fresh kept = Reply (reply_in kept)
+answer_by FalseRetry fresh kept = Refused SeqFalseRetry
+answer_by Misordered fresh kept = Refused SeqMisordered

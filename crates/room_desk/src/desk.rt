@@ -1,0 +1,120 @@
+//! The desk: takes events, and answers each.
+ghost use Rattle.std.specs.Prelude.{◌≡◌, ◌≤◌, ℕ, List, ◌∷◌, map, IfOk, OnErr, Err, false};
+ghost use Rattle.room_records.specs.Room.{Room};
+ghost use Rattle.room_records.specs.Shelf.{FailureCounted};
+ghost use Rattle.room_wire.specs.EventModel.{event_model};
+ghost use Rattle.room_desk.specs.AnswerModel.{answer_model, IsTurnedAway};
+ghost use Rattle.room_desk.specs.History.{History, answer_to, changes_rows};
+ghost use Rattle.room_desk.specs.Representation.{RepresentsHistory, WasAllowed, Step, Run};
+
+use crate::requests::request;
+use crate::sessions::{close, open};
+use room_records::{Shelf, ShelfFault};
+use room_wire::{Answer, Code, Event};
+use std::alloc::{AllocError, Global};
+use std::marker::Model;
+
+/// Answers events over a shelf.
+pub struct Desk<S: Shelf> {
+    pub(crate) alloc: Global,
+    shelf: S,
+}
+
+impl<S: Shelf> Model for Desk<S> {
+    ghost Value = { S };
+
+    ghost view = { λ d. d.shelf };
+}
+
+impl<S: Shelf> Desk<S> {
+    pub fn new(alloc: Global, shelf: S) -> Desk<S>
+        ensures { result ≡ shelf }
+    {
+        Desk { alloc, shelf }
+    }
+
+    pub fn into_shelf(self) -> S
+        ensures { result ≡ self }
+    {
+        let Desk { alloc: _, shelf } = self;
+        shelf
+    }
+
+    /// Answers one event as the history says, or gives up with nothing changed.
+    fn answer(&mut self, event: &Event) -> Result<Answer, ShelfFault>
+        ensures was_honest { S.is_honest self.new → S.is_honest self.old }
+        ensures declared { S.is_honest self.new → S.is_declared self.old → S.is_declared self.new }
+        ensures never_falls { S.failures self.old ≤ S.failures self.new }
+        ensures store { result ≡ Err ShelfFault.Store → FailureCounted (S.failures self.old) (S.failures self.new) }
+        ensures err { S.is_honest self.new → S.is_declared self.old → OnErr result (S.records self.new ≡ S.records self.old) }
+        ensures step { S.is_honest self.new → S.is_declared self.old → (start : Room) (past : History) → RepresentsHistory start (S.records self.old) past →
+            IfOk result (λ answer. (answer_model answer ≡ answer_to start past (event_model event.now))
+            × RepresentsHistory start (S.records self.new) (event_model event.now ∷ past)) }
+        ensures refused { S.is_honest self.new → S.is_declared self.old →
+            IfOk result (λ answer. IsTurnedAway (answer_model answer) → S.records self.new ≡ S.records self.old) }
+        ensures idle { S.is_honest self.new → S.is_declared self.old → (start : Room) (past : History) → RepresentsHistory start (S.records self.old) past →
+            changes_rows past (event_model event.now) ≡ false → S.records self.new ≡ S.records self.old }
+    {
+        match event {
+            Event::Open {
+                subject,
+                sid,
+                slots,
+            } => open(self.alloc, &mut self.shelf, subject, sid, *slots),
+            Event::Close { subject, sid } => close(self.alloc, &mut self.shelf, subject, sid),
+            Event::Slot {
+                subject,
+                sid,
+                slot,
+                seq,
+                command,
+            } => request(
+                self.alloc,
+                &mut self.shelf,
+                subject,
+                sid,
+                *slot,
+                *seq,
+                command,
+            ),
+        }
+    }
+
+    /// Answers one event: as the history says, or DELAY with nothing changed. DELAY comes where
+    /// memory was refused, or where the shelf failed and counted it.
+    pub fn handle(&mut self, event: &Event) -> Answer
+        ensures was_honest { S.is_honest self.new → S.is_honest self.old }
+        ensures declared { S.is_honest self.new → S.is_declared self.old → S.is_declared self.new }
+        ensures step { S.is_honest self.new → S.is_declared self.old → (start : Room) (past : History) → RepresentsHistory start (S.records self.old) past →
+            (next : History) × Step start past (event_model event.now) (answer_model result) next × RepresentsHistory start (S.records self.new) next }
+        ensures allowed { (start : Room) (past : History) → WasAllowed start past (event_model event.now) }
+        ensures never_falls { S.failures self.old ≤ S.failures self.new }
+        ensures refused { S.is_honest self.new → S.is_declared self.old → IsTurnedAway (answer_model result) → S.records self.new ≡ S.records self.old }
+        ensures idle { S.is_honest self.new → S.is_declared self.old → (start : Room) (past : History) → RepresentsHistory start (S.records self.old) past →
+            changes_rows past (event_model event.now) ≡ false → S.records self.new ≡ S.records self.old }
+    {
+        match self.answer(event) {
+            Ok(answer) => answer,
+            Err(_) => Answer::Refused(Code::Delay),
+        }
+    }
+
+    /// Answers events in turn. An `Err` changes nothing.
+    pub fn run(&mut self, events: &[Event]) -> Result<Vec<Answer>, AllocError>
+        ensures was_honest { S.is_honest self.new → S.is_honest self.old }
+        ensures declared { S.is_honest self.new → S.is_declared self.old → S.is_declared self.new }
+        ensures run { S.is_honest self.new → S.is_declared self.old → (start : Room) (past : History) → RepresentsHistory start (S.records self.old) past →
+            IfOk result (λ answers. (next : History)
+            × Run start past (map event_model events.now) (map answer_model answers.items) next
+            × RepresentsHistory start (S.records self.new) next) }
+        ensures err { OnErr result (self.new ≡ self.old) }
+    {
+        let mut answers = Vec::with_capacity(self.alloc, events.len())?;
+        for event in events {
+            let Ok(()) = answers.push(self.handle(event)) else {
+                unreachable!()
+            };
+        }
+        Ok(answers)
+    }
+}

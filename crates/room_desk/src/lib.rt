@@ -1,0 +1,20 @@
+//! Sessions, one commit a request.
+#![tactic(auto)]
+
+mod desk;
+mod laws;
+mod requests;
+mod run_laws;
+mod service;
+mod serving;
+mod sessions;
+
+pub use desk::Desk;
+pub use laws::{
+    a_history_begins_with_a_room, a_history_keeps_a_room, a_refused_event_changes_nothing,
+    a_repeat_gets_its_first_reply, a_repeated_event_changes_nothing, a_request_leaves_other_slots,
+    an_accepted_request_was_allowed, an_idle_event_changes_nothing, no_number_is_accepted_twice,
+    the_kept_row_tells_the_answer,
+};
+pub use room_wire::Answer;
+pub use run_laws::runs_in_turn_are_one_run;

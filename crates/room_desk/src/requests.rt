@@ -1,0 +1,182 @@
+//! Requests in a slot.
+ghost use Rattle.std.specs.Prelude.{◌≡◌, ◌≤◌, ◌++◌, IfOk, OnErr, Err, [], ◌∷◌, true, false};
+ghost use Rattle.room_slots.specs.Slots.{verdict};
+ghost use Rattle.room_slots.specs.declared.verdict.Verdict.TheVariants.{New};
+ghost use Rattle.room_records.specs.Records.{Records};
+ghost use Rattle.room_records.specs.Rules.{SlotRules};
+ghost use Rattle.room_records.specs.Changes.{apply_changes, RulesHoldAfterEach};
+ghost use Rattle.room_records.specs.Room.{Room};
+ghost use Rattle.room_records.specs.Representation.{RepresentsRoom};
+ghost use Rattle.room_records.specs.Shelf.{FailureCounted};
+ghost use Rattle.room_tree.specs.CommandModel.{command_model};
+ghost use Rattle.room_wire.specs.EventModel.{Slot};
+ghost use Rattle.room_wire.specs.Texts.{command_text};
+ghost use Rattle.room_desk.specs.AnswerModel.{answer_model, IsTurnedAway};
+ghost use Rattle.room_desk.specs.History.{History, session_of, is_open_for, answer_to, changes_rows};
+ghost use Rattle.room_desk.specs.Representation.{RepresentsHistory};
+ghost use Rattle.room_desk.specs.Rows.{HasSlot, Ran, answer_kept};
+
+use crate::sessions::is_usable;
+use room_acl::Subject;
+use room_records::{Change, Shelf, ShelfFault, Sid, SlotRow};
+use room_slots::{Kept, Verdict, classify};
+use room_tree::{Command, plan};
+use room_wire::{Answer, Code, command_text, reply_text};
+use std::alloc::{AllocError, Global};
+
+/// The row that a request leaves in its slot: its number, its command text and its reply.
+fn slot_row(
+    sid: &Sid,
+    slot: u32,
+    seq: u32,
+    request: Vec<u8>,
+    reply: &Vec<u8>,
+) -> Result<SlotRow, AllocError>
+    ensures { IfOk result (λ row. row ≡ record { sid = sid.now; slot = slot; kept = record { seq = seq; request = request.items; reply = reply.now.items } }) }
+{
+    Ok(SlotRow {
+        sid: sid.clone()?,
+        slot,
+        kept: Kept {
+            seq,
+            request,
+            reply: reply.clone()?,
+        },
+    })
+}
+
+/// Runs a new request: what its command changes and the slot's row go in one commit. The reply's
+/// text is made before it, and nothing grows after it.
+fn run_new<S: Shelf>(
+    alloc: Global,
+    shelf: &mut S,
+    subject: &Subject,
+    sid: &Sid,
+    slot: u32,
+    seq: u32,
+    command: &Command,
+    request: Vec<u8>,
+) -> Result<Answer, ShelfFault>
+    requires { request.items ≡ command_text (command_model command.now) }
+    ensures was_honest { S.is_honest shelf.new → S.is_honest shelf.old }
+    ensures declared { S.is_honest shelf.new → S.is_declared shelf.old → S.is_declared shelf.new }
+    ensures never_falls { S.failures shelf.old ≤ S.failures shelf.new }
+    ensures store { result ≡ Err ShelfFault.Store → FailureCounted (S.failures shelf.old) (S.failures shelf.new) }
+    ensures err { S.is_honest shelf.new → S.is_declared shelf.old → OnErr result (S.records shelf.new ≡ S.records shelf.old) }
+    ensures reply { IfOk result (λ answer. IsTurnedAway (answer_model answer) → ⊥) }
+    ensures ok { S.is_honest shelf.new → S.is_declared shelf.old → (room : Room) → RepresentsRoom (S.records shelf.old).objects room →
+        SlotRules (S.records shelf.old) → HasSlot (S.records shelf.old) sid.now slot →
+        IfOk result (λ answer. Ran (S.records shelf.old) room subject.now (command_model command.now) sid.now slot seq
+        (answer_model answer) (S.records shelf.new)) }
+{
+    let outcome = plan(alloc, shelf, subject, command)?;
+    let reply = reply_text(alloc, &outcome.reply)?;
+    let row = slot_row(sid, slot, seq, request, &reply)?;
+    let mut changes = outcome.changes;
+    let Ok(()) = changes.push(Change::PutSlot(row)) else {
+        return Err(ShelfFault::Memory);
+    };
+    shelf.commit(&changes)?;
+    Ok(Answer::Reply(reply))
+}
+
+/// What a request with this number and command text is to what its slot keeps.
+fn verdict_of(kept: &Option<Kept>, seq: u32, text: &[u8]) -> Verdict
+    ensures { result ≡ verdict kept.now seq text.now }
+{
+    classify(kept.as_ref(), seq, text)
+}
+
+fn is_new(verdict: Verdict) -> bool
+    ensures new { result ≡ true → verdict ≡ New }
+    ensures other { result ≡ false → verdict ≡ New → ⊥ }
+{
+    match verdict {
+        Verdict::New => true,
+        Verdict::Repeat | Verdict::FalseRetry | Verdict::Misordered => false,
+    }
+}
+
+/// What a request is answered that is not new to its slot: a repeat gets the kept reply.
+fn answer_kept(verdict: Verdict, kept: Option<Kept>) -> Answer
+    ensures { answer_model result ≡ answer_kept verdict kept }
+{
+    match verdict {
+        Verdict::Repeat => match kept {
+            Some(kept) => Answer::Reply(kept.reply),
+            None => Answer::Refused(Code::SeqMisordered),
+        },
+        Verdict::FalseRetry => Answer::Refused(Code::SeqFalseRetry),
+        Verdict::Misordered | Verdict::New => Answer::Refused(Code::SeqMisordered),
+    }
+}
+
+/// A request in a slot of an open session of the caller: the number decides.
+fn in_slot<S: Shelf>(
+    alloc: Global,
+    shelf: &mut S,
+    subject: &Subject,
+    sid: &Sid,
+    slot: u32,
+    seq: u32,
+    command: &Command,
+) -> Result<Answer, ShelfFault>
+    ensures was_honest { S.is_honest shelf.new → S.is_honest shelf.old }
+    ensures declared { S.is_honest shelf.new → S.is_declared shelf.old → S.is_declared shelf.new }
+    ensures never_falls { S.failures shelf.old ≤ S.failures shelf.new }
+    ensures store { result ≡ Err ShelfFault.Store → FailureCounted (S.failures shelf.old) (S.failures shelf.new) }
+    ensures err { S.is_honest shelf.new → S.is_declared shelf.old → OnErr result (S.records shelf.new ≡ S.records shelf.old) }
+    ensures refused { S.is_honest shelf.new → S.is_declared shelf.old →
+        IfOk result (λ answer. IsTurnedAway (answer_model answer) → S.records shelf.new ≡ S.records shelf.old) }
+    ensures step { S.is_honest shelf.new → S.is_declared shelf.old → (start : Room) (past : History) → RepresentsHistory start (S.records shelf.old) past →
+        is_open_for sid.now subject.now (session_of past sid.now) ≡ true → HasSlot (S.records shelf.old) sid.now slot →
+        IfOk result (λ answer. (answer_model answer ≡ answer_to start past (Slot (record { caller = subject.now; sid = sid.now; slot = slot; seq = seq; command = command_model command.now })))
+        × RepresentsHistory start (S.records shelf.new) (Slot (record { caller = subject.now; sid = sid.now; slot = slot; seq = seq; command = command_model command.now }) ∷ past)) }
+    ensures idle { S.is_honest shelf.new → S.is_declared shelf.old → (start : Room) (past : History) → RepresentsHistory start (S.records shelf.old) past →
+        is_open_for sid.now subject.now (session_of past sid.now) ≡ true → HasSlot (S.records shelf.old) sid.now slot →
+        changes_rows past (Slot (record { caller = subject.now; sid = sid.now; slot = slot; seq = seq; command = command_model command.now })) ≡ false → S.records shelf.new ≡ S.records shelf.old }
+{
+    let text = command_text(alloc, command)?;
+    let kept = shelf.slot(sid, slot)?;
+    let verdict = verdict_of(&kept, seq, &text);
+    if is_new(verdict) {
+        run_new(alloc, shelf, subject, sid, slot, seq, command, text)
+    } else {
+        Ok(answer_kept(verdict, kept))
+    }
+}
+
+/// A request to a slot: the session is tested first, then the slot, then the number.
+pub(crate) fn request<S: Shelf>(
+    alloc: Global,
+    shelf: &mut S,
+    subject: &Subject,
+    sid: &Sid,
+    slot: u32,
+    seq: u32,
+    command: &Command,
+) -> Result<Answer, ShelfFault>
+    ensures was_honest { S.is_honest shelf.new → S.is_honest shelf.old }
+    ensures declared { S.is_honest shelf.new → S.is_declared shelf.old → S.is_declared shelf.new }
+    ensures never_falls { S.failures shelf.old ≤ S.failures shelf.new }
+    ensures store { result ≡ Err ShelfFault.Store → FailureCounted (S.failures shelf.old) (S.failures shelf.new) }
+    ensures err { S.is_honest shelf.new → S.is_declared shelf.old → OnErr result (S.records shelf.new ≡ S.records shelf.old) }
+    ensures refused { S.is_honest shelf.new → S.is_declared shelf.old →
+        IfOk result (λ answer. IsTurnedAway (answer_model answer) → S.records shelf.new ≡ S.records shelf.old) }
+    ensures step { S.is_honest shelf.new → S.is_declared shelf.old → (start : Room) (past : History) → RepresentsHistory start (S.records shelf.old) past →
+        IfOk result (λ answer. (answer_model answer ≡ answer_to start past (Slot (record { caller = subject.now; sid = sid.now; slot = slot; seq = seq; command = command_model command.now })))
+        × RepresentsHistory start (S.records shelf.new) (Slot (record { caller = subject.now; sid = sid.now; slot = slot; seq = seq; command = command_model command.now }) ∷ past)) }
+    ensures idle { S.is_honest shelf.new → S.is_declared shelf.old → (start : Room) (past : History) → RepresentsHistory start (S.records shelf.old) past →
+        changes_rows past (Slot (record { caller = subject.now; sid = sid.now; slot = slot; seq = seq; command = command_model command.now })) ≡ false → S.records shelf.new ≡ S.records shelf.old }
+{
+    let Some(row) = shelf.session(sid)? else {
+        return Ok(Answer::Refused(Code::BadSession));
+    };
+    if !is_usable(&row, subject) {
+        return Ok(Answer::Refused(Code::BadSession));
+    }
+    if slot >= row.slots.get() {
+        return Ok(Answer::Refused(Code::BadSlot));
+    }
+    in_slot(alloc, shelf, subject, sid, slot, seq, command)
+}

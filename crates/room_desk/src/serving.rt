@@ -1,0 +1,67 @@
+//! Serving a room over a reader and a writer.
+ghost use Rattle.std.specs.Prelude.{◌≡◌, ◌≤◌, []};
+ghost use Rattle.room_records.specs.Room.{Room};
+ghost use Rattle.room_wire.specs.Ends.{Serves};
+ghost use Rattle.room_wire.specs.Routing.{room_rows};
+ghost use Rattle.room_desk.specs.History.{History};
+ghost use Rattle.room_desk.specs.Representation.{RepresentsHistory};
+ghost use Rattle.room_desk.specs.Serving.{AnswersMessage};
+
+use crate::desk::Desk;
+use crate::service::Lookup;
+use room_records::{Roster, Shelf};
+use room_wire::{Buffers, Routes, ServeEnd, Why, serve_messages};
+use std::io::{Read, Write};
+
+impl<S: Shelf> Desk<S> {
+    /// Answers the messages of a stream until it ends.
+    ///
+    /// A question is answered and changes nothing, an event as by `handle`. DELAY, and the refusals
+    /// BAD_HTTP, BAD_ROUTE, UNKNOWN_USER and BAD_REQUEST, change nothing. Each error of a read or write, and
+    /// a write of 0 bytes, ends it at once; so do 2^64 - 1 reads. `Memory` comes only before the first
+    /// read. Want of memory later is answered DELAY.
+    pub fn serve<R: Read, W: Write>(
+        &mut self,
+        roster: &Roster,
+        reader: &mut R,
+        writer: &mut W,
+    ) -> ServeEnd
+        ensures was_honest { S.is_honest self.new → S.is_honest self.old }
+        ensures declared { S.is_honest self.new → S.is_declared self.old → S.is_declared self.new }
+        ensures never_falls { S.failures self.old ≤ S.failures self.new }
+        ensures run { S.is_honest self.new → S.is_declared self.old → (start : Room) (past : History) → RepresentsHistory start (S.records self.old) past →
+            (next : History) × Serves (AnswersMessage roster.now start) past next (R.remaining reader.old) (R.remaining reader.new)
+            (W.contents writer.old) (W.contents writer.new) result.why result.count
+            × RepresentsHistory start (S.records self.new) next }
+    {
+        let (Ok(routes), Ok(buffers)) = (Routes::new(self.alloc), Buffers::new(self.alloc)) else {
+            return ServeEnd {
+                why: Why::Memory,
+                count: 0,
+            };
+        };
+        let lookup = Lookup { routes, roster };
+        self.serve_by(&lookup, buffers, reader, writer)
+    }
+
+    /// Serves by the routes and over the buffers that are made.
+    fn serve_by<R: Read, W: Write>(
+        &mut self,
+        lookup: &Lookup<'_>,
+        buffers: Buffers,
+        reader: &mut R,
+        writer: &mut W,
+    ) -> ServeEnd
+        requires rows { lookup.now.routes ≡ room_rows }
+        requires empty { buffers.input ≡ [] }
+        ensures was_honest { S.is_honest self.new → S.is_honest self.old }
+        ensures declared { S.is_honest self.new → S.is_declared self.old → S.is_declared self.new }
+        ensures never_falls { S.failures self.old ≤ S.failures self.new }
+        ensures run { S.is_honest self.new → S.is_declared self.old → (start : Room) (past : History) → RepresentsHistory start (S.records self.old) past →
+            (next : History) × Serves (AnswersMessage lookup.now.roster.now start) past next (R.remaining reader.old) (R.remaining reader.new)
+            (W.contents writer.old) (W.contents writer.new) result.why result.count
+            × RepresentsHistory start (S.records self.new) next }
+    {
+        serve_messages(self, lookup, buffers, reader, writer)
+    }
+}

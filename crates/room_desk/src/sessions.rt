@@ -1,0 +1,200 @@
+//! OPEN and CLOSE of sessions.
+ghost use Rattle.std.specs.Prelude.{◌≡◌, ◌≤◌, ◌⊎◌, IfOk, OnOk, OnErr, Err, ◌∷◌, true, false};
+ghost use Rattle.std.specs.Str.{bytes_eq};
+ghost use Rattle.room_records.specs.Records.{Records};
+ghost use Rattle.room_records.specs.Rules.{RulesHold};
+ghost use Rattle.room_records.specs.declared.change.Change.TheVariants.{PutSession, DropSlots};
+ghost use Rattle.room_records.specs.Changes.{apply_change};
+ghost use Rattle.room_records.specs.Room.{Room};
+ghost use Rattle.room_records.specs.Shelf.{FailureCounted};
+ghost use Rattle.room_tree.specs.ReplyModel.{Done, Opened};
+ghost use Rattle.room_wire.specs.Texts.{reply_text};
+ghost use Rattle.room_wire.specs.EventModel.{Open, Close};
+ghost use Rattle.room_desk.specs.AnswerModel.{answer_model, IsTurnedAway};
+ghost use Rattle.room_desk.specs.AnswerModel as A;
+ghost use Rattle.room_desk.specs.History.{History, answer_to, changes_rows};
+ghost use Rattle.room_desk.specs.Representation.{RepresentsHistory};
+ghost use Rattle.room_desk.specs.Rows.{answer_open_again, is_usable};
+
+use room_acl::Subject;
+use room_records::{Change, SessionRow, Shelf, ShelfFault, Sid, SlotCount};
+use room_tree::Reply;
+use room_wire::{Answer, Code, reply_text};
+use std::alloc::{AllocError, Global};
+
+/// Whether the session is the caller's. Groups play no part.
+pub(crate) fn owns(row: &SessionRow, subject: &Subject) -> bool
+    ensures { result ≡ bytes_eq row.now.owner subject.now.name }
+{
+    row.owner.text() == subject.name.text()
+}
+
+/// Whether the session is open and the caller's.
+pub(crate) fn is_usable(row: &SessionRow, subject: &Subject) -> bool
+    ensures { result ≡ is_usable subject.now row.now }
+{
+    owns(row, subject) && row.is_open
+}
+
+/// What an OPEN of a name that was opened before is answered. Nothing changes.
+fn open_again(
+    alloc: Global,
+    row: &SessionRow,
+    subject: &Subject,
+    slots: SlotCount,
+) -> Result<Answer, AllocError>
+    ensures { IfOk result (λ answer. answer_model answer ≡ answer_open_again subject.now slots row.now) }
+{
+    if !owns(row, subject) {
+        return Ok(Answer::Refused(Code::SessionTaken));
+    }
+    if !row.is_open {
+        return Ok(Answer::Refused(Code::BadSession));
+    }
+    if row.slots.get() != slots.get() {
+        return Ok(Answer::Refused(Code::SessionTaken));
+    }
+    let text = reply_text(alloc, &Reply::Opened(slots))?;
+    Ok(Answer::Reply(text))
+}
+
+/// The row of a session that opens.
+fn opened_row(subject: &Subject, sid: &Sid, slots: SlotCount) -> Result<SessionRow, AllocError>
+    ensures { IfOk result (λ row. row ≡ record { sid = sid.now; owner = subject.now.name; slots = slots; is_open = true }) }
+{
+    Ok(SessionRow {
+        sid: sid.clone()?,
+        owner: subject.name.clone()?,
+        slots,
+        is_open: true,
+    })
+}
+
+/// Opens a name for the first time: one commit of its row.
+fn open_first<S: Shelf>(
+    alloc: Global,
+    shelf: &mut S,
+    subject: &Subject,
+    sid: &Sid,
+    slots: SlotCount,
+) -> Result<Answer, ShelfFault>
+    ensures was_honest { S.is_honest shelf.new → S.is_honest shelf.old }
+    ensures declared { S.is_honest shelf.new → S.is_declared shelf.old → S.is_declared shelf.new }
+    ensures never_falls { S.failures shelf.old ≤ S.failures shelf.new }
+    ensures store { result ≡ Err ShelfFault.Store → FailureCounted (S.failures shelf.old) (S.failures shelf.new) }
+    ensures err { S.is_honest shelf.new → S.is_declared shelf.old → OnErr result (S.records shelf.new ≡ S.records shelf.old) }
+    ensures reply { IfOk result (λ answer. answer_model answer ≡ A.Reply (reply_text (Opened slots))) }
+    ensures ok { S.is_honest shelf.new → S.is_declared shelf.old →
+        RulesHold (apply_change (PutSession (record { sid = sid.now; owner = subject.now.name; slots = slots; is_open = true })) (S.records shelf.old)) →
+        OnOk result (S.records shelf.new
+        ≡ apply_change (PutSession (record { sid = sid.now; owner = subject.now.name; slots = slots; is_open = true })) (S.records shelf.old)) }
+{
+    let text = reply_text(alloc, &Reply::Opened(slots))?;
+    let changes = [Change::PutSession(opened_row(subject, sid, slots)?)];
+    shelf.commit(&changes)?;
+    Ok(Answer::Reply(text))
+}
+
+/// OPEN: an unused name opens, and a used one is answered by its row.
+pub(crate) fn open<S: Shelf>(
+    alloc: Global,
+    shelf: &mut S,
+    subject: &Subject,
+    sid: &Sid,
+    slots: SlotCount,
+) -> Result<Answer, ShelfFault>
+    ensures was_honest { S.is_honest shelf.new → S.is_honest shelf.old }
+    ensures declared { S.is_honest shelf.new → S.is_declared shelf.old → S.is_declared shelf.new }
+    ensures never_falls { S.failures shelf.old ≤ S.failures shelf.new }
+    ensures store { result ≡ Err ShelfFault.Store → FailureCounted (S.failures shelf.old) (S.failures shelf.new) }
+    ensures err { S.is_honest shelf.new → S.is_declared shelf.old → OnErr result (S.records shelf.new ≡ S.records shelf.old) }
+    ensures step { S.is_honest shelf.new → S.is_declared shelf.old → (start : Room) (past : History) → RepresentsHistory start (S.records shelf.old) past →
+        IfOk result (λ answer. (answer_model answer ≡ answer_to start past (Open subject.now sid.now slots))
+        × RepresentsHistory start (S.records shelf.new) (Open subject.now sid.now slots ∷ past)) }
+    ensures refused { S.is_honest shelf.new → S.is_declared shelf.old →
+        IfOk result (λ answer. IsTurnedAway (answer_model answer) → S.records shelf.new ≡ S.records shelf.old) }
+    ensures idle { S.is_honest shelf.new → S.is_declared shelf.old → (start : Room) (past : History) → RepresentsHistory start (S.records shelf.old) past →
+        changes_rows past (Open subject.now sid.now slots) ≡ false → S.records shelf.new ≡ S.records shelf.old }
+{
+    match shelf.session(sid)? {
+        Some(row) => Ok(open_again(alloc, &row, subject, slots)?),
+        None => open_first(alloc, shelf, subject, sid, slots),
+    }
+}
+
+/// Ends an open session in one commit: its row is closed, and what its slots kept is dropped.
+fn end_session<S: Shelf>(shelf: &mut S, sid: &Sid, row: SessionRow) -> Result<(), ShelfFault>
+    ensures was_honest { S.is_honest shelf.new → S.is_honest shelf.old }
+    ensures declared { S.is_honest shelf.new → S.is_declared shelf.old → S.is_declared shelf.new }
+    ensures never_falls { S.failures shelf.old ≤ S.failures shelf.new }
+    ensures store { result ≡ Err ShelfFault.Store → FailureCounted (S.failures shelf.old) (S.failures shelf.new) }
+    ensures err { S.is_honest shelf.new → S.is_declared shelf.old → OnErr result (S.records shelf.new ≡ S.records shelf.old) }
+    ensures ok { S.is_honest shelf.new → S.is_declared shelf.old →
+        RulesHold (apply_change (PutSession (record { sid = row.sid; owner = row.owner; slots = row.slots; is_open = false })) (S.records shelf.old)) →
+        RulesHold (apply_change (DropSlots sid.now) (apply_change (PutSession (record { sid = row.sid; owner = row.owner; slots = row.slots; is_open = false })) (S.records shelf.old))) →
+        OnOk result (S.records shelf.new ≡ apply_change (DropSlots sid.now) (apply_change (PutSession (record { sid = row.sid; owner = row.owner; slots = row.slots; is_open = false })) (S.records shelf.old))) }
+{
+    let closed = SessionRow {
+        sid: row.sid,
+        owner: row.owner,
+        slots: row.slots,
+        is_open: false,
+    };
+    let changes = [Change::PutSession(closed), Change::DropSlots(sid.clone()?)];
+    shelf.commit(&changes)
+}
+
+/// CLOSE by the owner of a session: an open one is ended, and a closed one stays as it is.
+fn close_owned<S: Shelf>(
+    alloc: Global,
+    shelf: &mut S,
+    sid: &Sid,
+    row: SessionRow,
+) -> Result<Answer, ShelfFault>
+    ensures was_honest { S.is_honest shelf.new → S.is_honest shelf.old }
+    ensures declared { S.is_honest shelf.new → S.is_declared shelf.old → S.is_declared shelf.new }
+    ensures never_falls { S.failures shelf.old ≤ S.failures shelf.new }
+    ensures store { result ≡ Err ShelfFault.Store → FailureCounted (S.failures shelf.old) (S.failures shelf.new) }
+    ensures err { S.is_honest shelf.new → S.is_declared shelf.old → OnErr result (S.records shelf.new ≡ S.records shelf.old) }
+    ensures reply { IfOk result (λ answer. answer_model answer ≡ A.Reply (reply_text Done)) }
+    ensures idle { row.is_open ≡ false → S.is_honest shelf.new → S.is_declared shelf.old → S.records shelf.new ≡ S.records shelf.old }
+    ensures ok { row.is_open ≡ true → S.is_honest shelf.new → S.is_declared shelf.old →
+        RulesHold (apply_change (PutSession (record { sid = row.sid; owner = row.owner; slots = row.slots; is_open = false })) (S.records shelf.old)) →
+        RulesHold (apply_change (DropSlots sid.now) (apply_change (PutSession (record { sid = row.sid; owner = row.owner; slots = row.slots; is_open = false })) (S.records shelf.old))) →
+        OnOk result (S.records shelf.new ≡ apply_change (DropSlots sid.now) (apply_change (PutSession (record { sid = row.sid; owner = row.owner; slots = row.slots; is_open = false })) (S.records shelf.old))) }
+{
+    let text = reply_text(alloc, &Reply::Done)?;
+    if row.is_open {
+        end_session(shelf, sid, row)?;
+    }
+    Ok(Answer::Reply(text))
+}
+
+/// CLOSE: OK by the session's owner, also where it is closed already.
+pub(crate) fn close<S: Shelf>(
+    alloc: Global,
+    shelf: &mut S,
+    subject: &Subject,
+    sid: &Sid,
+) -> Result<Answer, ShelfFault>
+    ensures was_honest { S.is_honest shelf.new → S.is_honest shelf.old }
+    ensures declared { S.is_honest shelf.new → S.is_declared shelf.old → S.is_declared shelf.new }
+    ensures never_falls { S.failures shelf.old ≤ S.failures shelf.new }
+    ensures store { result ≡ Err ShelfFault.Store → FailureCounted (S.failures shelf.old) (S.failures shelf.new) }
+    ensures err { S.is_honest shelf.new → S.is_declared shelf.old → OnErr result (S.records shelf.new ≡ S.records shelf.old) }
+    ensures step { S.is_honest shelf.new → S.is_declared shelf.old → (start : Room) (past : History) → RepresentsHistory start (S.records shelf.old) past →
+        IfOk result (λ answer. (answer_model answer ≡ answer_to start past (Close subject.now sid.now))
+        × RepresentsHistory start (S.records shelf.new) (Close subject.now sid.now ∷ past)) }
+    ensures refused { S.is_honest shelf.new → S.is_declared shelf.old →
+        IfOk result (λ answer. IsTurnedAway (answer_model answer) → S.records shelf.new ≡ S.records shelf.old) }
+    ensures idle { S.is_honest shelf.new → S.is_declared shelf.old → (start : Room) (past : History) → RepresentsHistory start (S.records shelf.old) past →
+        changes_rows past (Close subject.now sid.now) ≡ false → S.records shelf.new ≡ S.records shelf.old }
+{
+    let Some(row) = shelf.session(sid)? else {
+        return Ok(Answer::Refused(Code::BadSession));
+    };
+    if !owns(&row, subject) {
+        return Ok(Answer::Refused(Code::BadSession));
+    }
+    close_owned(alloc, shelf, sid, row)
+}

@@ -1,0 +1,2 @@
+mod SessionRows
+mod Counting

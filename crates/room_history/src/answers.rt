@@ -1,0 +1,195 @@
+//! What an event is answered.
+ghost use Rattle.std.specs.Prelude.{◌≡◌, IfOk, map};
+ghost use Rattle.std.specs.Str.{bytes_eq};
+ghost use Rattle.room_acl.specs.SubjectModel.{SubjectModel};
+ghost use Rattle.room_tree.specs.CommandModel.{command_model};
+ghost use Rattle.room_tree.specs.Effect.{effect};
+ghost use Rattle.room_wire.specs.EventModel.{event_model, Slot};
+ghost use Rattle.room_wire.specs.Texts.{command_text, reply_text};
+ghost use Rattle.room_desk.specs.AnswerModel.{answer_model};
+ghost use Rattle.room_desk.specs.History.{answer_to, answer_unaccepted, accepted, state_after};
+ghost use Rattle.room_history.specs.Told.{row_answer_open, row_answer_close, answer_again};
+
+use crate::accepted::{count_accepted, is_accepted, last_accepted};
+use crate::sessions::{Told, is_open_for, session_of, slots_of};
+use crate::state::state_after;
+use room_acl::Subject;
+use room_desk::Answer;
+use room_model::PlainRoom;
+use room_records::{Sid, SlotCount};
+use room_tree::{Command, Reply};
+use room_wire::{Code, Event, command_text, reply_text};
+use std::alloc::{AllocError, Global};
+
+/// An OPEN, by what its name is before it.
+fn answer_open(
+    alloc: Global,
+    caller: &Subject,
+    slots: SlotCount,
+    told: &Option<Told>,
+) -> Result<Answer, AllocError>
+    ensures { IfOk result (λ answer. answer_model answer ≡ row_answer_open caller.now slots told.now) }
+{
+    if let Some(told) = told {
+        if told.owner.text() != caller.name.text() {
+            return Ok(Answer::Refused(Code::SessionTaken));
+        }
+        if !told.is_open {
+            return Ok(Answer::Refused(Code::BadSession));
+        }
+        if slots.get() != told.slots.get() {
+            return Ok(Answer::Refused(Code::SessionTaken));
+        }
+    }
+    Ok(Answer::Reply(reply_text(alloc, &Reply::Opened(slots))?))
+}
+
+/// A CLOSE, by what its name is before it.
+fn answer_close(alloc: Global, caller: &Subject, told: &Option<Told>) -> Result<Answer, AllocError>
+    ensures { IfOk result (λ answer. answer_model answer ≡ row_answer_close caller.now told.now) }
+{
+    let Some(told) = told else {
+        return Ok(Answer::Refused(Code::BadSession));
+    };
+    if told.owner.text() == caller.name.text() {
+        Ok(Answer::Reply(reply_text(alloc, &Reply::Done)?))
+    } else {
+        Ok(Answer::Refused(Code::BadSession))
+    }
+}
+
+/// The reply of a request that is accepted after a past: that of its command on the room that stands then.
+fn original_reply(
+    alloc: Global,
+    start: &PlainRoom,
+    past: &[Event],
+    caller: &Subject,
+    command: &Command,
+) -> Result<Vec<u8>, AllocError>
+    ensures { IfOk result (λ text. text.items ≡ reply_text (effect (state_after start.now (map event_model past.now)) caller.now (command_model command.now)).reply) }
+{
+    let room = state_after(alloc, start, past)?;
+    let outcome = room.run_command(alloc, caller, command)?;
+    reply_text(alloc, &outcome.reply)
+}
+
+fn is_same_command(alloc: Global, a: &Command, b: &Command) -> Result<bool, AllocError>
+    ensures { IfOk result (λ same. same ≡ bytes_eq (command_text (command_model a.now)) (command_text (command_model b.now))) }
+{
+    let a = command_text(alloc, a)?;
+    let b = command_text(alloc, b)?;
+    Ok(a.as_slice() == b.as_slice())
+}
+
+/// The last number of a slot again: the original reply of the last accepted request, or a false retry.
+fn answer_again(
+    alloc: Global,
+    start: &PlainRoom,
+    command: &Command,
+    last: &[Event],
+) -> Result<Answer, AllocError>
+    ensures { IfOk result (λ answer. answer_model answer ≡ answer_again start.now (command_model command.now) (map event_model last.now)) }
+{
+    match last.split_first() {
+        Some(
+            (
+                Event::Slot {
+                    subject,
+                    sid: _,
+                    slot: _,
+                    seq: _,
+                    command: accepted,
+                },
+                before,
+            ),
+        ) => {
+            if is_same_command(alloc, command, accepted)? {
+                Ok(Answer::Reply(original_reply(alloc, start, before, subject, accepted)?))
+            } else {
+                Ok(Answer::Refused(Code::SeqFalseRetry))
+            }
+        }
+        _ => Ok(Answer::Refused(Code::SeqMisordered)),
+    }
+}
+
+/// A request that is not accepted, in a session that its caller may use: a repeat, a false retry or misordered.
+#[tactic(auto, using(crate::proofs::Counting::unaccepted_none, crate::proofs::Counting::unaccepted_again, crate::proofs::Counting::unaccepted_other))]
+fn answer_unaccepted(
+    alloc: Global,
+    start: &PlainRoom,
+    past: &[Event],
+    sid: &Sid,
+    slot: u32,
+    seq: u32,
+    command: &Command,
+) -> Result<Answer, AllocError>
+    ensures { IfOk result (λ answer. (caller : SubjectModel) → answer_model answer ≡ answer_unaccepted start.now
+        (record { caller = caller; sid = sid.now; slot = slot; seq = seq; command = command_model command.now }) (accepted (map event_model past.now) sid.now slot)) }
+{
+    let Some(last) = last_accepted(past, sid, slot) else {
+        return Ok(Answer::Refused(Code::SeqMisordered));
+    };
+    if seq as usize == count_accepted(past, sid, slot) % 4294967296 {
+        answer_again(alloc, start, command, last)
+    } else {
+        Ok(Answer::Refused(Code::SeqMisordered))
+    }
+}
+
+/// A request: the session is tested first, then the slot, then the number.
+fn answer_request(
+    alloc: Global,
+    start: &PlainRoom,
+    past: &[Event],
+    caller: &Subject,
+    sid: &Sid,
+    slot: u32,
+    seq: u32,
+    command: &Command,
+) -> Result<Answer, AllocError>
+    ensures { IfOk result (λ answer. answer_model answer ≡ answer_to start.now (map event_model past.now)
+        (Slot (record { caller = caller.now; sid = sid.now; slot = slot; seq = seq; command = command_model command.now }))) }
+{
+    if !is_open_for(past, sid, caller) {
+        return Ok(Answer::Refused(Code::BadSession));
+    }
+    if slot >= slots_of(past, sid) {
+        return Ok(Answer::Refused(Code::BadSlot));
+    }
+    if is_accepted(past, caller, sid, slot, seq) {
+        return Ok(Answer::Reply(original_reply(alloc, start, past, caller, command)?));
+    }
+    answer_unaccepted(alloc, start, past, sid, slot, seq, command)
+}
+
+/// What an event is answered after a past, the latest event first, that began with a room.
+///
+/// # Errors
+///
+/// Only where memory was refused.
+#[tactic(auto, using(crate::proofs::SessionRows::open_row, crate::proofs::SessionRows::close_row))]
+pub fn answer_to(
+    alloc: Global,
+    start: &PlainRoom,
+    past: &[Event],
+    event: &Event,
+) -> Result<Answer, AllocError>
+    ensures { IfOk result (λ answer. answer_model answer ≡ answer_to start.now (map event_model past.now) (event_model event.now)) }
+{
+    match event {
+        Event::Open {
+            subject,
+            sid,
+            slots,
+        } => answer_open(alloc, subject, *slots, &session_of(past, sid)),
+        Event::Close { subject, sid } => answer_close(alloc, subject, &session_of(past, sid)),
+        Event::Slot {
+            subject,
+            sid,
+            slot,
+            seq,
+            command,
+        } => answer_request(alloc, start, past, subject, sid, *slot, *seq, command),
+    }
+}

@@ -1,0 +1,53 @@
+-- Places and their folders.
+use Rattle.std.proofs.Common.{◌≡◌, ℕ, zero, suc, ◌+◌, ◌<◌, ◌≤◌, refl, ap, sym, ◌∙◌, arith, Bool, true, false, cond, ◌&&◌, List, [], ◌∷◌, ◌++◌, take, length, get_or, Option, None, Some}
+use Rattle.std.specs.List.{AllByRecursion, starts_with}
+use Rattle.std.proofs.lemmas.List.{length-take}
+use Rattle.room_records.specs.Names.{Name, Path, IsPath, IsFileName, name_eq, path_eq}
+use Rattle.room_records.specs.Room.{name_in, parent_of}
+
+take_names : (n : ℕ) (path : Path) → AllByRecursion IsFileName path → AllByRecursion IsFileName (take n path)
+take_names zero path h = tt
+take_names (suc n) [] h = tt
+take_names (suc n) (name ∷ path) h = (h.0, take_names n path h.1)
+
+-- a front of a path is a path
+pub take_is_path : (n : ℕ) (path : Path) → IsPath path → IsPath (take n path)
+take_is_path n path h = record {
+  short = omega (arith, length-take n path, h.short);
+  names = take_names n path h.names;
+}
+
+pub parent_is_path : (path : Path) → IsPath path → IsPath (parent_of path)
+parent_is_path path h = take_is_path _ path h
+
+inside_one : (b rest : Bool) (found named : Option Name) → (b && rest) ≡ true → (rest ≡ true → found ≡ named) → found ≡ cond b named None
+inside_one true rest found named h below = below h
+inside_one false rest found named h below = absurd (cc)
+
+-- one name longer, and beginning with the folder: it is in the folder
+pub name_inside : (folder path : Path) (d : Name) → length path ≡ length folder + 1 → starts_with name_eq path folder ≡ true
+    → Some (get_or path (length folder) d) ≡ name_in folder path
+name_inside [] [] d long begins = absurd (omega arith)
+name_inside [] (name ∷ []) d long begins = refl
+name_inside [] (name ∷ other ∷ path) d long begins = absurd (omega arith)
+name_inside (a ∷ folder) [] d long begins = absurd (omega arith)
+name_inside (a ∷ folder) (b ∷ path) d long begins =
+    inside_one (name_eq a b) (starts_with name_eq path folder) (Some (get_or path (length folder) d)) (name_in folder path) begins
+    (λ rest. name_inside folder path d (omega arith) rest)
+
+outside_one : (b rest : Bool) (named : Option Name) (long : Type 0) → (long → (b && rest) ≡ true → ⊥) → ((long → rest ≡ true → ⊥) → None ≡ named)
+    → None ≡ cond b named None
+outside_one true rest named long h below = below h
+outside_one false rest named long h below = refl
+
+-- and else it is not
+pub name_outside : (folder path : Path) → (length path ≡ length folder + 1 → starts_with name_eq path folder ≡ true → ⊥)
+    → None ≡ name_in folder path
+name_outside [] [] h = refl
+name_outside [] (name ∷ []) h = absurd (h refl refl)
+name_outside [] (name ∷ other ∷ path) h = refl
+name_outside (a ∷ folder) [] h = refl
+name_outside (a ∷ folder) (b ∷ path) h =
+    outside_one (name_eq a b) (starts_with name_eq path folder) (name_in folder path) (length path ≡ length folder + 1)
+    (λ long begins. h (omega arith) begins)
+    (λ rest. name_outside folder path rest)

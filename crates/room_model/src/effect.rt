@@ -1,0 +1,53 @@
+//! The effect of a command.
+ghost use Rattle.std.specs.Prelude.{◌≡◌, IfOk};
+ghost use Rattle.room_tree.specs.CommandModel.{command_model};
+ghost use Rattle.room_tree.specs.ReplyModel.{reply_model, Refused};
+ghost use Rattle.room_model.specs.Outcomes.{IsEffect};
+
+use crate::refusal::{Refusal, first_refusal};
+use crate::room::PlainRoom;
+use room_acl::Subject;
+use room_tree::{Command, Reply};
+use std::alloc::{AllocError, Global};
+
+/// What a command comes to.
+#[derive(Debug, Drop)]
+pub struct Outcome {
+    pub room: PlainRoom,
+    pub reply: Reply,
+}
+
+impl PlainRoom {
+    /// Runs a command: the first check that fails gives the reply, and the room stays. The room itself is left as it is.
+    pub fn run_command(
+        &self,
+        alloc: Global,
+        caller: &Subject,
+        command: &Command,
+    ) -> Result<Outcome, AllocError>
+        ensures { IfOk result (IsEffect self.now caller.now (command_model command.now)) }
+    {
+        let checks = self.checks(alloc, caller, command)?;
+        match first_refusal(checks) {
+            Some(refusal) => {
+                let room = self.clone(alloc)?;
+                let reply = refused(refusal);
+                Ok(Outcome { room, reply })
+            }
+            None => {
+                let room = self.changed(alloc, caller, command)?;
+                let reply = self.reply(alloc, caller, command)?;
+                Ok(Outcome { room, reply })
+            }
+        }
+    }
+}
+
+fn refused(refusal: Refusal) -> Reply
+    ensures { reply_model result ≡ Refused refusal }
+{
+    Reply::Refused {
+        code: refusal.code,
+        place: refusal.place,
+    }
+}

@@ -1,0 +1,82 @@
+//! What a list that is sent becomes.
+ghost use Rattle.std.specs.Prelude.{◌≡◌, IfOk, not, map};
+ghost use Rattle.std.specs.List.{filter};
+ghost use Rattle.room_acl.specs.Entries.{EntryModel};
+ghost use Rattle.room_acl.specs.Bits.{is_inherited};
+ghost use Rattle.room_tree.specs.SetList.{clear_inherited, follows_at, own_entries_of_setlist};
+
+use crate::object::copy_entry;
+use crate::room::follows;
+use room_acl::{Entry, Flags, ListFlags};
+use room_records::FileName;
+use std::alloc::{AllocError, Global};
+
+/// Own entries from what is sent: those with the mark are dropped where the object follows, and else lose the mark.
+pub fn own_entries_of_setlist(
+    alloc: Global,
+    path: &[FileName],
+    aclflag: ListFlags,
+    sent: &[Entry],
+) -> Result<Vec<Entry>, AllocError>
+    ensures { IfOk result (λ own. own.items ≡ own_entries_of_setlist path.now aclflag sent.now) }
+{
+    if follows_at(path, aclflag) {
+        without_inherited(alloc, sent)
+    } else {
+        all_cleared(alloc, sent)
+    }
+}
+
+/// Whether an object at this path follows with these list flags. The root never does.
+fn follows_at(path: &[FileName], aclflag: ListFlags) -> bool
+    ensures { result ≡ follows_at path.now aclflag }
+{
+    match path {
+        [] => false,
+        _ => follows(aclflag),
+    }
+}
+
+fn is_inherited(flags: Flags) -> bool
+    ensures { result ≡ is_inherited flags }
+{
+    (flags.bits() >> 7) & 1 == 1
+}
+
+fn without_inherited(alloc: Global, sent: &[Entry]) -> Result<Vec<Entry>, AllocError>
+    ensures { IfOk result (λ own. own.items ≡ filter (λ (entry : EntryModel). not (is_inherited entry.flags)) sent.now) }
+{
+    let mut own = Vec::new(alloc);
+    for entry in sent {
+        if !is_inherited(entry.flags()) {
+            own.push(copy_entry(entry)?)?;
+        }
+    }
+    Ok(own)
+}
+
+fn all_cleared(alloc: Global, sent: &[Entry]) -> Result<Vec<Entry>, AllocError>
+    ensures { IfOk result (λ own. own.items ≡ map clear_inherited sent.now) }
+{
+    let mut own = Vec::new(alloc);
+    for entry in sent {
+        own.push(cleared(entry)?)?;
+    }
+    Ok(own)
+}
+
+/// The entry without the mark.
+#[tactic(auto, using(crate::proofs::Marks::cleared_is_flags))]
+fn cleared(entry: &Entry) -> Result<Entry, AllocError>
+    ensures { IfOk result (λ own. own ≡ clear_inherited entry.now) }
+{
+    let bits = entry.flags().bits();
+    let Some(flags) = Flags::new(bits - (bits & 0x80)) else {
+        unreachable!()
+    };
+    let who = entry.who().clone()?;
+    let Some(own) = Entry::new(entry.allow(), flags, entry.mask(), who) else {
+        unreachable!()
+    };
+    Ok(own)
+}

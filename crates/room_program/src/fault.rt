@@ -1,0 +1,79 @@
+//! The faults that end a run with status 1.
+ghost use Rattle.std.specs.Prelude.{◌≡◌};
+ghost use Rattle.room_program.specs.Faults.{fault_line, fault_of, roster_fault_of};
+
+use room_roster::RosterFault;
+use room_wire::Why;
+
+/// A fault that ends a run with status 1, told by one line on standard error.
+#[derive(Clone, Copy, Debug, PartialEq, Eq)]
+pub enum Fault {
+    /// OWNER or GROUP is no principal.
+    BadName,
+    /// The roster's file can't be read as UTF-8 text.
+    CannotReadRoster,
+    /// The text is no roster, or one over the limits.
+    BadRoster,
+    /// A room is to be made where a table of a room is.
+    RoomExists,
+    /// The file is no room of version 1, or is not there.
+    NotARoom,
+    /// Another fault of the store.
+    StoreFailed,
+    /// Want of memory.
+    Memory,
+    /// Listening or accepting failed.
+    NetworkFailed,
+    /// The input held bytes that no message can begin with, or ended within a message.
+    BadMessage,
+    /// The input failed.
+    ReadFailed,
+    /// The output failed, or took no more bytes.
+    WriteFailed,
+    /// An answer differed, or the socket failed.
+    SelftestFailed,
+}
+
+impl Fault {
+    /// The fault's line, with its line feed.
+    pub fn line(self) -> &'static str
+        ensures { result.now ≡ fault_line self }
+    {
+        match self {
+            Fault::BadName => "fileroom: bad name\n",
+            Fault::CannotReadRoster => "fileroom: cannot read roster\n",
+            Fault::BadRoster => "fileroom: bad roster\n",
+            Fault::RoomExists => "fileroom: room exists\n",
+            Fault::NotARoom => "fileroom: not a room\n",
+            Fault::StoreFailed => "fileroom: store failed\n",
+            Fault::Memory => "fileroom: no memory\n",
+            Fault::NetworkFailed => "fileroom: network failed\n",
+            Fault::BadMessage => "fileroom: bad message\n",
+            Fault::ReadFailed => "fileroom: read failed\n",
+            Fault::WriteFailed => "fileroom: write failed\n",
+            Fault::SelftestFailed => "fileroom: selftest failed\n",
+        }
+    }
+
+    /// The fault of an end of serving, if it is one.
+    pub(crate) fn of_end(why: Why) -> Option<Fault>
+        ensures { result ≡ fault_of why }
+    {
+        match why {
+            Why::Closed => None,
+            Why::BadMessage => Some(Fault::BadMessage),
+            Why::ReadFailed => Some(Fault::ReadFailed),
+            Why::WriteFailed => Some(Fault::WriteFailed),
+            Why::Memory => Some(Fault::Memory),
+        }
+    }
+
+    pub(crate) fn of_roster(fault: RosterFault) -> Fault
+        ensures { result ≡ roster_fault_of fault }
+    {
+        match fault {
+            RosterFault::Memory => Fault::Memory,
+            RosterFault::Bad => Fault::BadRoster,
+        }
+    }
+}

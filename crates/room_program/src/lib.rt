@@ -1,0 +1,23 @@
+//! The program `fileroom`: what each command of its command line runs, and how a run ends.
+//!
+//! The crate `fileroom` is `main` alone; everything that it does stands here, over any reader and
+//! any two writers, so that contracts name what is read and written and tests can call it.
+#![tactic(auto)]
+
+mod fault;
+mod making;
+mod names;
+mod network;
+mod opening;
+mod printing;
+mod replaying;
+mod reporting;
+mod rosters;
+mod running;
+mod selftest;
+mod serving;
+
+pub use fault::Fault;
+pub use network::serve_listener;
+pub use room_words::{Job, ReportKind, WordsFault, read_words};
+pub use running::run_program;

@@ -1,0 +1,74 @@
+//! Serving a room over connections.
+ghost use Rattle.std.specs.Prelude.{◌≤◌};
+ghost use Rattle.room_records.specs.Room.{Room};
+ghost use Rattle.room_desk.specs.History.{History};
+ghost use Rattle.room_desk.specs.Representation.{RepresentsHistory};
+
+use room_desk::Desk;
+use room_records::{Roster, Shelf};
+use room_wire::Why;
+use std::io::{self, Read};
+use std::net::{Shutdown, TcpListener, TcpStream};
+use std::time::Duration;
+
+/// How many pieces of what a peer still sends are read before its connection is closed.
+const LAST_READS: u32 = 32;
+
+/// How long each of them is waited for, in milliseconds.
+const LAST_WAIT: u64 = 250;
+
+/// Ends the writing, and takes what the peer still sends, up to a bound. A connection that is closed
+/// over unread bytes may lose answers on their way.
+fn finish(stream: &TcpStream) {
+    if stream.shutdown(Shutdown::Write).is_err()
+        || stream
+            .set_read_timeout(Some(Duration::from_millis(LAST_WAIT)))
+            .is_err()
+    {
+        return;
+    }
+    let mut rest = [0; 8192];
+    for _ in 0..LAST_READS {
+        match (&mut &*stream).read(&mut rest) {
+            Ok(0) | Err(_) => return,
+            Ok(_) => {}
+        }
+    }
+}
+
+/// Serves one connection. However it ends, the room is left with a history.
+fn serve_stream<S: Shelf>(stream: &TcpStream, desk: &mut Desk<S>, roster: &Roster)
+    ensures was_honest { S.is_honest desk.new → S.is_honest desk.old }
+    ensures declared { S.is_honest desk.new → S.is_declared desk.old → S.is_declared desk.new }
+    ensures never_falls { S.failures desk.old ≤ S.failures desk.new }
+    ensures run { S.is_honest desk.new → S.is_declared desk.old → (start : Room) (past : History) → RepresentsHistory start (S.records desk.old) past →
+        (next : History) × RepresentsHistory start (S.records desk.new) next }
+{
+    // An answer goes out at once, not with the next one.
+    let _ = stream.set_nodelay(true);
+    let end = desk.serve(roster, &mut &*stream, &mut &*stream);
+    if end.why == Why::Closed || end.why == Why::BadMessage {
+        finish(stream);
+    }
+}
+
+/// Serves `count` connections, one after another. One that ends badly does not end it: an error
+/// comes only where a connection can't be accepted. However it ends, the room is left with a history.
+pub fn serve_listener<S: Shelf>(
+    listener: &TcpListener,
+    desk: &mut Desk<S>,
+    roster: &Roster,
+    count: u32,
+) -> io::Result<()>
+    ensures was_honest { S.is_honest desk.new → S.is_honest desk.old }
+    ensures declared { S.is_honest desk.new → S.is_declared desk.old → S.is_declared desk.new }
+    ensures never_falls { S.failures desk.old ≤ S.failures desk.new }
+    ensures run { S.is_honest desk.new → S.is_declared desk.old → (start : Room) (past : History) → RepresentsHistory start (S.records desk.old) past →
+        (next : History) × RepresentsHistory start (S.records desk.new) next }
+{
+    for _ in 0..count {
+        let (stream, _) = listener.accept()?;
+        serve_stream(&stream, desk, roster);
+    }
+    Ok(())
+}

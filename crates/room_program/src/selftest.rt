@@ -1,0 +1,104 @@
+//! Trying a room in memory over a socket to itself.
+ghost use Rattle.std.specs.Prelude.{Err, IfErr};
+ghost use Rattle.room_program.specs.Ends.{SelftestEnds};
+
+use crate::fault::Fault;
+use crate::names::standing;
+use crate::network::serve_listener;
+use crate::replaying::fresh_desk;
+use room_desk::Desk;
+use room_records::{MemShelf, Roster};
+use room_roster::{RosterFault, read_roster};
+use std::alloc::Global;
+use std::io::{Read, Write};
+use std::net::{Ipv4Addr, Shutdown, TcpListener, TcpStream};
+
+const ROSTER: &str = "[users]\nann = [\"eng\"]\nbob = [\"eng\", \"staff\"]\neng = []\n";
+
+/// OPEN, MKDIR, and the same MKDIR once more.
+const REQUESTS: &str = "POST /v1/sessions/0123456789abcdef0123456789abcdef HTTP/1.1\r\n\
+room-user: ann\r\ncontent-length: 11\r\n\r\n{\"slots\":3}\
+POST /v1/sessions/0123456789abcdef0123456789abcdef/slots/0/1 HTTP/1.1\r\n\
+room-user: ann\r\ncontent-length: 31\r\n\r\n{\"cmd\":\"MKDIR\",\"path\":\"/plans\"}\
+POST /v1/sessions/0123456789abcdef0123456789abcdef/slots/0/1 HTTP/1.1\r\n\
+room-user: ann\r\ncontent-length: 31\r\n\r\n{\"cmd\":\"MKDIR\",\"path\":\"/plans\"}";
+
+/// What they are answered.
+const ANSWERS: &str = "HTTP/1.1 200 OK\r\ncontent-type: application/json\r\n\
+content-length: 20\r\n\r\n{\"code\":0,\"slots\":3}\
+HTTP/1.1 200 OK\r\ncontent-type: application/json\r\ncontent-length: 10\r\n\r\n{\"code\":0}\
+HTTP/1.1 200 OK\r\ncontent-type: application/json\r\ncontent-length: 10\r\n\r\n{\"code\":0}";
+
+fn users(alloc: Global) -> Result<Roster, Fault>
+    ensures { IfErr result (λ fault. SelftestEnds (Err fault)) }
+{
+    match read_roster(alloc, ROSTER) {
+        Ok(roster) => Ok(roster),
+        Err(RosterFault::Memory) => Err(Fault::Memory),
+        Err(RosterFault::Bad) => Err(Fault::SelftestFailed),
+    }
+}
+
+fn desk(alloc: Global) -> Result<Desk<MemShelf>, Fault>
+    ensures { IfErr result (λ fault. SelftestEnds (Err fault)) }
+{
+    match standing(alloc, "ann", "eng") {
+        Ok(standing) => fresh_desk(alloc, standing),
+        Err(Fault::Memory) => Err(Fault::Memory),
+        Err(_) => Err(Fault::SelftestFailed),
+    }
+}
+
+/// The client's end: what it writes before it is served. It writes no more then.
+fn ask(client: &TcpStream) -> Result<(), Fault>
+    ensures { SelftestEnds result }
+{
+    let mut writer = client;
+    if writer.write_all(REQUESTS.as_bytes()).is_err() || client.shutdown(Shutdown::Write).is_err() {
+        return Err(Fault::SelftestFailed);
+    }
+    Ok(())
+}
+
+/// Whether the client's end has the answers, and nothing behind them.
+fn is_answered(alloc: Global, client: &TcpStream) -> Result<(), Fault>
+    ensures { SelftestEnds result }
+{
+    let mut answers = Vec::new(alloc);
+    let mut reader = client;
+    if reader.read_to_end(&mut answers).is_err() || answers.as_slice() != ANSWERS.as_bytes() {
+        return Err(Fault::SelftestFailed);
+    }
+    Ok(())
+}
+
+/// Both ends of a connection, one after the other.
+fn talk(rt: &HostRuntime, desk: &mut Desk<MemShelf>, roster: &Roster) -> Result<(), Fault>
+    ensures { SelftestEnds result }
+{
+    let Ok(listener) = TcpListener::bind(rt, (Ipv4Addr::LOCALHOST, 0)) else {
+        return Err(Fault::SelftestFailed);
+    };
+    let Ok(address) = listener.local_addr() else {
+        return Err(Fault::SelftestFailed);
+    };
+    let Ok(client) = TcpStream::connect(rt, address) else {
+        return Err(Fault::SelftestFailed);
+    };
+    ask(&client)?;
+    if serve_listener(&listener, desk, roster, 1).is_err() {
+        return Err(Fault::SelftestFailed);
+    }
+    is_answered(rt.alloc(), &client)
+}
+
+/// Asks a fresh room in memory over a socket to itself, one end after the other.
+pub(crate) fn selftest(rt: &HostRuntime) -> Result<(), Fault>
+    ensures { SelftestEnds result }
+{
+    let roster = users(rt.alloc())?;
+    let mut desk = desk(rt.alloc())?;
+    let tried = talk(rt, &mut desk, &roster);
+    let _ = desk.into_shelf();
+    tried
+}

@@ -1,0 +1,101 @@
+-- The fresh_room room is a room, and two rows stand for it.
+use Rattle.std.proofs.Common.{◌≡◌, ℕ, refl, true, false, Bool, List, [], ◌∷◌, ◌++◌, None, Some, length, ap, sym, ◌∙◌, ◌≤◌, arith, subst}
+use Rattle.std.specs.Prelude.{cond, ◌==◌}
+use Rattle.std.proofs.lemmas.Bool.{eqb-true}
+use Rattle.room_acl.specs.declared.subject.Kind.TheVariants.{Folder}
+use Rattle.room_acl.specs.declared.who.Who.TheVariants.{Owner, Group}
+use Rattle.room_acl.specs.Entries.{EntryModel}
+use Rattle.room_records.specs.declared.node.Node.{Node}
+use Rattle.room_records.specs.Names.{Path, Name, path_eq}
+use Rattle.room_records.specs.Records.{ObjectRecords}
+use Rattle.room_records.specs.Rules.{ObjectRules}
+use Rattle.room_records.specs.Room.{Object, IsRoom, fresh_room, object_at, children}
+use Rattle.room_records.specs.Representation.{RepresentsRoom, NodeIsObject}
+
+module _ (owner group : List ℕ) where
+  abbrev pub own : List EntryModel
+  own = record { allow = true; flags = 3; mask = 0x1F07FF; who = Owner } ∷ record { allow = true; flags = 3; mask = 0x1200A9; who = Group } ∷ []
+
+  abbrev pub root_object : Object
+  root_object = record { kind = Folder; owner = owner; group = group; aclflag = 0; own = own; bytes = [] }
+
+  not_root : (path : Path) (name : Name) → path_eq (path ++ name ∷ []) [] ≡ false
+  not_root [] name = refl
+  not_root (a ∷ path) name = refl
+
+  few_there : (path : Path) → length (children (fresh_room owner group) path) ≤ 256
+  few_there [] = omega arith
+  few_there (a ∷ path) = omega arith
+
+  pub fresh_is_room : IsRoom (fresh_room owner group)
+  fresh_is_room = record {
+    root = (root_object, refl, refl);
+    parents = λ path name o e. absurd (let e' : None ≡ Some o = ap (λ b. cond b (Some root_object) None) (sym (not_root path name)) ∙ e in cc);
+    once = (record { short = omega arith; names = tt }, record { few_entries = omega arith; own_entries = refl; small = omega arith; folder = λ _. refl }, refl, tt);
+    few = few_there;
+  }
+
+  abbrev pub root_node : Node
+  root_node = record { id = 1; parent = None; name = None; kind = Folder; owner = owner; group = group; aclflag = 0 }
+
+  abbrev pub rows : ObjectRecords
+  rows = record {
+    node = λ id. cond (id == 1) (Some root_node) None;
+    entries = λ id. cond (id == 1) own [];
+    document = λ id. None;
+    next = 2;
+  }
+
+  at_one : (id : ℕ) (node : Node) → rows.node id ≡ Some node → (id ≡ 1) × (root_node ≡ node)
+  at_one id node h = by (id == 1) refl h
+    where
+      by : (b : Bool) → (id == 1) ≡ b → cond b (Some root_node) None ≡ Some node → (id ≡ 1) × (root_node ≡ node)
+      by true e g = (eqb-true id 1 e, cc)
+      by false e g = absurd cc
+
+  no_parent : (node : Node) → root_node ≡ node → (parent : ℕ) → node.parent ≡ Some parent → ⊥
+  no_parent node e parent h = let g : None ≡ Some parent = ap (λ (n : Node). n.parent) e ∙ h in cc
+
+  no_entries : (id : ℕ) → rows.node id ≡ None → rows.entries id ≡ []
+  no_entries id h = by (id == 1) h
+    where
+      by : (b : Bool) → cond b (Some root_node) None ≡ None → cond b own [] ≡ []
+      by true g = absurd cc
+      by false g = refl
+
+  pub rules : ObjectRules rows
+  rules = record {
+    numbered = λ id node h. let p = at_one id node h in (sym (ap (λ (n : Node). n.id) p.1) ∙ sym p.0, omega (arith, p.0), omega (arith, p.0));
+    root = record { no_parent = refl; no_name = refl; folder = refl };
+    has_root = refl;
+    below = λ id node h other. absurd (other (at_one id node h).0);
+    once = λ a b ha hb p n. (at_one a.id a ha).0 ∙ sym (at_one b.id b hb).0;
+    entries = no_entries;
+    documents = λ id h. absurd cc;
+    next = omega arith;
+  }
+
+  meets_root : NodeIsObject rows (fresh_room owner group) 1 root_node [] root_object
+  meets_root = record {
+    at = refl;
+    node_stands = refl;
+    object_stands = refl;
+    shows = record { kind = refl; owner = refl; group = refl; aclflag = refl; entries = refl; bytes = refl };
+  }
+
+  only_root : (path : Path) (o : Object) → object_at (fresh_room owner group) path ≡ Some o → (id : ℕ) × (node : Node) × NodeIsObject rows (fresh_room owner group) id node path o
+  only_root [] o h =
+      let P : Object → Type 0 = λ p. NodeIsObject rows (fresh_room owner group) 1 root_node [] p in
+      let e : root_object ≡ o = cc in
+      (1, root_node, subst P e meets_root)
+  only_root (a ∷ path) o h = absurd cc
+
+  node_there : (id : ℕ) (node : Node) → rows.node id ≡ Some node → (path : Path) × (o : Object) × NodeIsObject rows (fresh_room owner group) id node path o
+  node_there id node h =
+      let p = at_one id node h in
+      let P : ℕ → Type 0 = λ i. NodeIsObject rows (fresh_room owner group) i root_node [] root_object in
+      let Q : Node → Type 0 = λ n. NodeIsObject rows (fresh_room owner group) id n [] root_object in
+      ([], root_object, subst Q p.1 (subst P (sym p.0) meets_root))
+
+  pub fresh_stands : RepresentsRoom rows (fresh_room owner group)
+  fresh_stands = record { rules = rules; lawful = fresh_is_room; nodes = node_there; objects = only_root; next = refl }

@@ -1,0 +1,170 @@
+-- The record rules after one change.
+use Rattle.std.proofs.Common.{◌≡◌, ◌≢◌, ℕ, ◌+◌, ◌<◌, ◌≤◌, refl, ap, sym, ◌∙◌, subst, arith, Bool, true, false, cond, eqb, ◌⊎◌, inl, inr, List, [], ◌∷◌, Option, None, Some, IsSome, IsNone, IfSome, eq-eqb}
+use Rattle.std.proofs.lemmas.Bool.{eqb-true, false_from_ne_true}
+use Rattle.room_acl.specs.declared.subject.Kind.TheVariants.{File, Folder}
+use Rattle.room_records.specs.declared.change.Change.TheVariants.{PutNode, DropNode, PutEntries, PutDoc, PutNext}
+use Rattle.room_records.specs.declared.node.Node.{Node}
+use Rattle.room_records.specs.Limits.{max_objects}
+use Rattle.room_records.specs.Names.{Name, IsFileName}
+use Rattle.room_records.specs.Records.{ObjectRecords, IsChild}
+use Rattle.room_records.specs.Rules.{ObjectRules, IsRoot, IsBelow}
+use Rattle.room_records.specs.Changes.{apply_to_objects}
+use Rattle.room_records.specs.Representation.{NamesUpwards}
+use Rattle.room_records.proofs.RoomsMap.{some_is, none_is_some}
+
+pub same_or_other : (a b : ℕ) → (a ≡ b) ⊎ (a ≢ b)
+same_or_other a b = by_test (eqb a b) refl
+  where
+    by_test : (test : Bool) → eqb a b ≡ test → (a ≡ b) ⊎ (a ≢ b)
+    by_test true e = inl (eqb-true a b e)
+    by_test false e = inr (λ same. let f : true ≡ false = sym (eq-eqb a b same) ∙ e in cc)
+
+pub if_same : {X : Type 0} (a b : ℕ) (x y : X) → a ≡ b → cond (eqb a b) x y ≡ x
+if_same a b x y same = ap (λ test. cond test x y) (eq-eqb a b same)
+
+pub if_other : {X : Type 0} (a b : ℕ) (x y : X) → a ≢ b → cond (eqb a b) x y ≡ y
+if_other a b x y other = ap (λ test. cond test x y) (false_from_ne_true (eqb a b) (λ e. other (eqb-true a b e)))
+
+-- two rows of a node that stays where it is
+pub record SamePlace (now before : Node) : Type 0 where
+  pub id : now.id ≡ before.id
+  pub parent : now.parent ≡ before.parent
+  pub name : now.name ≡ before.name
+  pub kind : now.kind ≡ before.kind
+
+pub place_itself : (node : Node) → SamePlace node node
+place_itself node = record { id = refl; parent = refl; name = refl; kind = refl }
+
+-- each node stays where it is
+pub record SameShape (t later : ObjectRecords) : Type 0 where
+  pub back : (id : ℕ) (now : Node) → later.node id ≡ Some now → (before : Node) × (t.node id ≡ Some before) × SamePlace now before
+  pub forth : (id : ℕ) (before : Node) → t.node id ≡ Some before → (now : Node) × (later.node id ≡ Some now) × SamePlace now before
+
+pub shape_itself : (t later : ObjectRecords) → later.node ≡ t.node → SameShape t later
+shape_itself t later same = record {
+  back = λ id now stands. (now, sym (ap (λ (f : ℕ → Option Node). f id) same) ∙ stands, place_itself now);
+  forth = λ id before stands. (before, ap (λ (f : ℕ → Option Node). f id) same ∙ stands, place_itself before);
+}
+
+pub names_by_shape : (t later : ObjectRecords) → SameShape t later → (names : List Name) (id : ℕ) → NamesUpwards t names id → NamesUpwards later names id
+names_by_shape t later shape [] id up = up
+names_by_shape t later shape (name ∷ above) id (node, parent, stands, named, inside, up) =
+    let now = shape.forth id node stands in
+    (now.0, parent, now.1, now.2.name ∙ named, now.2.parent ∙ inside, names_by_shape t later shape above parent up)
+
+pub some_or_none : {X : Type 0} (o : Option X) → (o ≡ None) ⊎ ((x : X) × (o ≡ Some x))
+some_or_none None = inl refl
+some_or_none (Some x) = inr (x, refl)
+
+is_some_of : {X : Type 0} (o : Option X) → IsSome o → (x : X) × (o ≡ Some x)
+is_some_of None h = let f = h in cc
+is_some_of (Some x) h = (x, refl)
+
+module _ (t later : ObjectRecords) (rules : ObjectRules t) (shape : SameShape t later) where
+  gone_before : (id : ℕ) → later.node id ≡ None → t.node id ≡ None
+  gone_before id gone = elim (some_or_none (t.node id)) [
+    | inl none ↦ none
+    | inr found ↦ absurd (let now = shape.forth id found.0 found.1 in none_is_some now.0 (sym gone ∙ now.1))
+  ]
+
+  pub rules_by_shape : ((id : ℕ) → t.node id ≡ None → later.entries id ≡ [])
+      → ((id : ℕ) → IsSome (later.document id) → (node : Node) × (t.node id ≡ Some node) × (node.kind ≡ File))
+      → t.next ≤ later.next → later.next ≤ max_objects + 1 → ObjectRules later
+  rules_by_shape entries documents more few = record {
+    numbered = λ id now stands.
+        let before = shape.back id now stands in
+        let number = rules.numbered id before.0 before.1 in
+        (before.2.id ∙ number.0, number.1, omega (arith, number.2, more));
+    root =
+        let first = is_some_of (t.node 1) rules.has_root in
+        let now = shape.forth 1 first.0 first.1 in
+        let Root : Option Node → Type 0 = λ o. IfSome o IsRoot in
+        let root : IsRoot first.0 = subst Root first.1 rules.root in
+        let root_now : IsRoot now.0 = record {
+          no_parent = now.2.parent ∙ root.no_parent;
+          no_name = now.2.name ∙ root.no_name;
+          folder = now.2.kind ∙ root.folder;
+        } in
+        subst Root (sym now.1) root_now;
+    has_root =
+        let first = is_some_of (t.node 1) rules.has_root in
+        let now = shape.forth 1 first.0 first.1 in
+        let There : Option Node → Type 0 = λ o. IsSome o in subst There (sym now.1) refl;
+    below = λ id now stands other.
+        let before = shape.back id now stands in
+        let under = rules.below id before.0 before.1 other in
+        let parent = shape.forth under.above under.parent under.stands in
+        record {
+          above = under.above;
+          parent = parent.0;
+          has_parent = before.2.parent ∙ under.has_parent;
+          stands = parent.1;
+          folder = parent.2.kind ∙ under.folder;
+          name = under.name;
+          named = before.2.name ∙ under.named;
+          lawful = under.lawful;
+        };
+    once = λ a b a_stands b_stands parents names.
+        let x = shape.back a.id a a_stands in
+        let y = shape.back b.id b b_stands in
+        x.2.id
+        ∙ rules.once x.0 y.0 (ap t.node (sym x.2.id) ∙ x.1) (ap t.node (sym y.2.id) ∙ y.1) (sym x.2.parent ∙ parents ∙ y.2.parent) (sym x.2.name ∙ names ∙ y.2.name)
+        ∙ sym y.2.id;
+    entries = λ id gone. entries id (gone_before id gone);
+    documents = λ id there.
+        let before = documents id there in
+        let now = shape.forth id before.0 before.1 in
+        (now.0, now.1, now.2.kind ∙ before.2);
+    next = few;
+  }
+
+module _ (t : ObjectRecords) (rules : ObjectRules t) where
+  -- a row of a node that stays where it is
+  pub shape_put : (node later : Node) → t.node node.id ≡ Some node → SamePlace later node → SameShape t (apply_to_objects (PutNode later) t)
+  shape_put node later stands same = record {
+    back = λ id now found. elim (same_or_other id later.id) [
+      | inl here ↦
+          let is : later ≡ now = some_is later now (sym (if_same id later.id (Some later) (t.node id) here) ∙ found) in
+          let Place : Node → Type 0 = λ n. SamePlace n node in
+          (node, ap t.node (here ∙ same.id) ∙ stands, subst Place is same)
+      | inr away ↦ (now, sym (if_other id later.id (Some later) (t.node id) away) ∙ found, place_itself now)
+    ];
+    forth = λ id before found. elim (same_or_other id later.id) [
+      | inl here ↦
+          let is : node ≡ before = some_is node before (sym stands ∙ ap t.node (sym (here ∙ same.id)) ∙ found) in
+          let Place : Node → Type 0 = λ n. SamePlace later n in
+          (later, if_same id later.id (Some later) (t.node id) here, subst Place is same)
+      | inr away ↦ (before, if_other id later.id (Some later) (t.node id) away ∙ found, place_itself before)
+    ];
+  }
+
+  pub rules_put : (node later : Node) → t.node node.id ≡ Some node → SamePlace later node → ObjectRules (apply_to_objects (PutNode later) t)
+  rules_put node later stands same =
+      rules_by_shape t (apply_to_objects (PutNode later) t) rules (shape_put node later stands same)
+      rules.entries rules.documents (omega arith) rules.next
+
+  pub rules_put_entries : (id : ℕ) (node : Node) → t.node id ≡ Some node → (entries : _) → ObjectRules (apply_to_objects (PutEntries id entries) t)
+  rules_put_entries id node stands entries =
+      let later = apply_to_objects (PutEntries id entries) t in
+      rules_by_shape t later rules (shape_itself t later refl)
+      (λ k gone. elim (same_or_other k id) [
+        | inl here ↦ absurd (none_is_some node (sym gone ∙ ap t.node here ∙ stands))
+        | inr away ↦ if_other k id entries.items (t.entries k) away ∙ rules.entries k gone
+      ])
+      rules.documents (omega arith) rules.next
+
+  pub rules_put_doc : (id : ℕ) (node : Node) → t.node id ≡ Some node → node.kind ≡ File → (bytes : _) → ObjectRules (apply_to_objects (PutDoc id bytes) t)
+  rules_put_doc id node stands file bytes =
+      let later = apply_to_objects (PutDoc id bytes) t in
+      rules_by_shape t later rules (shape_itself t later refl)
+      rules.entries
+      (λ k there. elim (same_or_other k id) [
+        | inl here ↦ (node, ap t.node here ∙ stands, file)
+        | inr away ↦ (let There : Option (List ℕ) → Type 0 = λ o. IsSome o in
+            rules.documents k (subst There (if_other k id (Some bytes.items) (t.document k) away) there))
+      ]) (omega arith) rules.next
+
+  pub rules_put_next : (n : ℕ) → t.next ≤ n → n ≤ max_objects + 1 → ObjectRules (apply_to_objects (PutNext n) t)
+  rules_put_next n more few =
+      let later = apply_to_objects (PutNext n) t in
+      rules_by_shape t later rules (shape_itself t later refl) rules.entries rules.documents more few

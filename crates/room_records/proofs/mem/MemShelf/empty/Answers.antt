@@ -1,0 +1,19 @@
+use Rattle.std.proofs.Common.{◌≡◌, ℕ, ap, [], nat_cmp}
+use Rattle.std.specs.Prelude.{unwrap_or}
+use Rattle.std.specs.Map.{lookup}
+use Rattle.std.specs.BTreeMap.{is_at}
+use Rattle.std.specs.Option.{option_map}
+use Rattle.room_records.specs.Table.{value_in}
+use Rattle.room_records.proofs.mem.MemShelf.empty.Goals as goal
+
+pub returns : goal.returns
+returns c = λ i. record {
+  objects = record {
+    node = λ id. c.new.ensures id i;
+    entries = λ id. ap (λ es. unwrap_or (option_map (λ e. e.items) (value_in (lookup (is_at (nat_cmp id)) es))) []) c.new-2.ensures i;
+    document = λ id. ap (λ es. option_map (λ d. d.items) (value_in (lookup (is_at (nat_cmp id)) es))) c.new-3.ensures i;
+    next = 2;
+  };
+  session = λ sid. c.new-4.ensures.sessions sid i;
+  slot = λ sid slot. c.new-4.ensures.slots sid slot i;
+}

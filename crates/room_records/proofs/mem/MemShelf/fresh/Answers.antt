@@ -1,0 +1,42 @@
+use Rattle.std.proofs.Common.{◌≡◌, ℕ, refl, ap, ◌∙◌, cond, [], None, Some, nat_cmp}
+use Rattle.std.specs.Prelude.{◌==◌, unwrap_or}
+use Rattle.std.specs.Option.{option_map}
+use Rattle.room_records.specs.Records.{Records}
+use Rattle.room_records.specs.Table.{held}
+use Rattle.room_records.specs.NodeIndex.{node_in}
+use Rattle.room_records.proofs.MemRecords.{read_put}
+use Rattle.room_records.proofs.FreshRows.{free_of_none, rules_of, represents_of}
+use Rattle.room_records.proofs.mem.MemShelf.fresh.Goals as goal
+
+pub add-requires-clause-absent : goal.add-requires-clause-absent
+add-requires-clause-absent c =
+    c.make_room.ensures.same c.root_of-root.result.id ∙ ap (λ (r : Records). r.objects.node c.root_of-root.result.id) c.empty-shelf.ensures
+
+pub returns-clause-rows : goal.returns-clause-rows
+returns-clause-rows c =
+    let empty = c.empty-shelf.result in
+    let none : (id : ℕ) → node_in c.make_room.new.self.nodes.slots id ≡ None = λ id. c.make_room.ensures.same id ∙ ap (λ (r : Records). r.objects.node id) c.empty-shelf.ensures in
+    let nodes = c.add.ensures.nodes (free_of_none (node_in c.make_room.new.self.nodes.slots) c.root_of-root.result none) in
+    let read = read_put (λ o. unwrap_or (option_map (λ e. e.items) o) []) (held nat_cmp c.put.new.self.slots) (held nat_cmp c.make_room-2.new.self.slots) 1
+    (Some c.in_ok-entries.entries) c.put.ensures.held in
+    let no_entries : (id : ℕ) → unwrap_or (option_map (λ e. e.items) (held nat_cmp c.make_room-2.new.self.slots id)) [] ≡ [] =
+    λ id. ap (λ o. unwrap_or (option_map (λ e. e.items) o) []) (c.make_room-2.ensures.same id) ∙ ap (λ (r : Records). r.objects.entries id) c.empty-shelf.ensures in
+    λ i. record {
+      objects = record {
+        node = λ id. (nodes id ∙ (λ j. cond (id == (c.root_of-root.ensures j).id) (Some (c.root_of-root.ensures j)) (none id j))) i;
+        entries = λ id. (read id ∙ (λ j. cond (id == 1) (c.in_ok-entries.ensures j) (no_entries id j))) i;
+        document = λ id. (c.empty-shelf.ensures i).objects.document id;
+        next = (c.empty-shelf.ensures i).objects.next;
+      };
+      session = λ sid. (c.empty-shelf.ensures i).session sid;
+      slot = λ sid slot. (c.empty-shelf.ensures i).slot sid slot;
+    }
+
+pub returns-clause-rules : goal.returns-clause-rules
+returns-clause-rules c = rules_of _ c.args.owner c.args.group (returns-clause-rows c)
+
+pub returns-clause-stands : goal.returns-clause-stands
+returns-clause-stands c = represents_of _ c.args.owner c.args.group (returns-clause-rows c)
+
+pub returns-clause-made : goal.returns-clause-made
+returns-clause-made c = record { honest = tt; declared = tt; no_failure = refl; leaves = (_, refl) }

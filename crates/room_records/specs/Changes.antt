@@ -1,0 +1,85 @@
+-- What a change does to the rows.
+use Rattle.std.specs.Prelude.{ℕ, ◌==◌, ◌&&◌, List, [], ◌∷◌, Option, None, Some, if◌then◌else◌}
+use Rattle.std.specs.Str.{bytes_eq}
+use Rattle.room_slots.specs.KeptModel.{KeptModel}
+use Rattle.room_records.specs.declared.change.Change.{Change}
+use Rattle.room_records.specs.declared.change.Change.TheVariants.{PutNode, DropNode, PutEntries, PutDoc, PutSession, PutSlot, DropSlots, PutNext}
+use Rattle.room_records.specs.declared.session.SessionRow.{SessionRow}
+use Rattle.room_records.specs.Records.{ObjectRecords, Records}
+use Rattle.room_records.specs.Rules.{ObjectRules, RulesHold}
+
+-- nodes, entries, documents and the next number after one change. A new node's entries are empty by the rules before
+abbrev pub apply_to_objects : Change → ObjectRecords → ObjectRecords
+apply_to_objects (PutNode node) t = record t { node = λ id. if id == node.id then Some node else t.node id }
+apply_to_objects (DropNode gone) t = record t {
+  node = λ id. if id == gone then None else t.node id;
+  entries = λ id. if id == gone then [] else t.entries id;
+  document = λ id. if id == gone then None else t.document id;
+}
+apply_to_objects (PutEntries at entries) t = record t { entries = λ id. if id == at then entries.items else t.entries id }
+apply_to_objects (PutDoc at bytes) t = record t { document = λ id. if id == at then Some bytes.items else t.document id }
+apply_to_objects (PutNext n) t = record t { next = n }
+apply_to_objects (PutSession row) t = t
+apply_to_objects (PutSlot row) t = t
+apply_to_objects (DropSlots gone) t = t
+
+-- session rows after one change
+abbrev pub apply_to_sessions : Change → (List ℕ → Option SessionRow) → List ℕ → Option SessionRow
+apply_to_sessions (PutSession row) session sid = if bytes_eq sid row.sid then Some row else session sid
+apply_to_sessions (PutNode node) session sid = session sid
+apply_to_sessions (DropNode gone) session sid = session sid
+apply_to_sessions (PutEntries at entries) session sid = session sid
+apply_to_sessions (PutDoc at bytes) session sid = session sid
+apply_to_sessions (PutSlot row) session sid = session sid
+apply_to_sessions (DropSlots gone) session sid = session sid
+apply_to_sessions (PutNext n) session sid = session sid
+
+-- slot rows after one change
+abbrev pub apply_to_slots : Change → (List ℕ → ℕ → Option KeptModel) → List ℕ → ℕ → Option KeptModel
+apply_to_slots (PutSlot row) kept sid slot = if bytes_eq sid row.sid && (slot == row.slot) then Some row.kept else kept sid slot
+apply_to_slots (DropSlots gone) kept sid slot = if bytes_eq sid gone then None else kept sid slot
+apply_to_slots (PutNode node) kept sid slot = kept sid slot
+apply_to_slots (DropNode gone) kept sid slot = kept sid slot
+apply_to_slots (PutEntries at entries) kept sid slot = kept sid slot
+apply_to_slots (PutDoc at bytes) kept sid slot = kept sid slot
+apply_to_slots (PutSession row) kept sid slot = kept sid slot
+apply_to_slots (PutNext n) kept sid slot = kept sid slot
+
+-- the rows after one change
+abbrev pub apply_change : Change → Records → Records
+apply_change change r = record {
+  objects = apply_to_objects change r.objects;
+  session = apply_to_sessions change r.session;
+  slot = apply_to_slots change r.slot;
+}
+
+-- after changes, in order
+abbrev pub apply_all_to_objects : List Change → ObjectRecords → ObjectRecords
+apply_all_to_objects [] t = t
+apply_all_to_objects (change ∷ changes) t = apply_all_to_objects changes (apply_to_objects change t)
+
+abbrev pub apply_changes : List Change → Records → Records
+apply_changes [] r = r
+apply_changes (change ∷ changes) r = apply_changes changes (apply_change change r)
+
+-- the record rules hold after each change
+abbrev pub RulesHoldAfterEach : List Change → Records → Type 0
+RulesHoldAfterEach [] r = Unit {0}
+RulesHoldAfterEach (change ∷ changes) r = RulesHold (apply_change change r) × RulesHoldAfterEach changes (apply_change change r)
+
+-- the rules on nodes, entries and documents hold after each change
+abbrev pub ObjectRulesHoldAfterEach : List Change → ObjectRecords → Type 0
+ObjectRulesHoldAfterEach [] t = Unit {0}
+ObjectRulesHoldAfterEach (change ∷ changes) t =
+    ObjectRules (apply_to_objects change t) × ObjectRulesHoldAfterEach changes (apply_to_objects change t)
+
+-- a change of no session and no slot row
+abbrev pub IsOfObjects : Change → Type 0
+IsOfObjects (PutSession row) = ⊥
+IsOfObjects (PutSlot row) = ⊥
+IsOfObjects (DropSlots sid) = ⊥
+IsOfObjects (PutNode node) = Unit {0}
+IsOfObjects (DropNode id) = Unit {0}
+IsOfObjects (PutEntries id entries) = Unit {0}
+IsOfObjects (PutDoc id bytes) = Unit {0}
+IsOfObjects (PutNext next) = Unit {0}

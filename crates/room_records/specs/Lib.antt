@@ -1,0 +1,14 @@
+pub mod Limits
+pub mod Names
+pub mod Records
+pub mod Roster
+pub mod Rules
+pub mod Changes
+pub mod Room
+pub mod Representation
+pub mod Shelf
+pub mod Table
+pub mod NodeIndex
+pub mod Sessions
+pub mod Fresh
+pub mod Mem

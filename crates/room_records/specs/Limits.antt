@@ -1,0 +1,34 @@
+-- The limits of a room (our own rules).
+use Rattle.std.specs.Prelude.{ℕ}
+
+-- names on a path
+abbrev pub max_names : ℕ
+max_names = 16
+
+-- bytes in a file name
+abbrev pub max_name_bytes : ℕ
+max_name_bytes = 64
+
+-- children of a folder
+abbrev pub max_children : ℕ
+max_children = 256
+
+-- bytes in a document
+abbrev pub max_document : ℕ
+max_document = 65536
+
+-- slots of a session
+abbrev pub max_slots : ℕ
+max_slots = 16
+
+-- object numbers ever used, the root's included
+abbrev pub max_objects : ℕ
+max_objects = 1000000
+
+-- users of a roster
+abbrev pub max_users : ℕ
+max_users = 1000
+
+-- groups of a user
+abbrev pub max_groups : ℕ
+max_groups = 16

@@ -1,0 +1,94 @@
+//! A shelf in memory.
+ghost use Rattle.std.specs.Prelude.{◌≡◌, IfOk};
+
+mod changes;
+mod fresh;
+mod nodes;
+mod sessions;
+
+use crate::change::{Change, copy_entries};
+use crate::names::{FileName, Sid};
+use crate::node::Node;
+use crate::session::SessionRow;
+use crate::shelf::{Shelf, ShelfFault};
+use crate::table::Table;
+use nodes::NodeIndex;
+use room_acl::Entry;
+use room_slots::Kept;
+use sessions::Sessions;
+use std::alloc::Global;
+
+/// A shelf in memory. Look-ups go by key and do not scan the room, and a commit costs what it
+/// changes.
+#[derive(Drop)]
+pub struct MemShelf {
+    alloc: Global,
+    nodes: NodeIndex,
+    entries: Table<u32, Vec<Entry>>,
+    docs: Table<u32, Vec<u8>>,
+    sessions: Sessions,
+    next: u32,
+}
+
+impl Shelf for MemShelf {
+    ghost use Rattle.std.specs.Prelude.{◌≡◌};
+    ghost use Rattle.room_records.specs.Mem.{mem_records};
+
+    ghost records = { mem_records };
+
+    ghost failures = { λ _. 0 };
+
+    ghost is_honest = { λ _. Unit {0} };
+
+    ghost is_declared = { λ _. Unit {0} };
+
+    ghost crash_may_leave = { λ s r. r ≡ mem_records s };
+
+    fn node(&mut self, id: u32) -> Result<Option<Node>, ShelfFault> {
+        Ok(self.nodes.node(id)?)
+    }
+
+    fn child(&mut self, parent: u32, name: &FileName) -> Result<Option<Node>, ShelfFault> {
+        Ok(self.nodes.child(parent, name)?)
+    }
+
+    fn children(&mut self, parent: u32) -> Result<Vec<Node>, ShelfFault> {
+        Ok(self.nodes.children(self.alloc, parent)?)
+    }
+
+    fn child_count(&mut self, parent: u32) -> Result<u64, ShelfFault> {
+        Ok(self.nodes.child_count(parent))
+    }
+
+    fn entries(&mut self, id: u32) -> Result<Vec<Entry>, ShelfFault> {
+        match self.entries.get(&id) {
+            Some(entries) => Ok(copy_entries(self.alloc, entries)?),
+            None => Ok(Vec::new(self.alloc)),
+        }
+    }
+
+    fn doc(&mut self, id: u32) -> Result<Vec<u8>, ShelfFault> {
+        match self.docs.get(&id) {
+            Some(bytes) => Ok(bytes.clone()?),
+            None => Ok(Vec::new(self.alloc)),
+        }
+    }
+
+    fn session(&mut self, sid: &Sid) -> Result<Option<SessionRow>, ShelfFault> {
+        Ok(self.sessions.session(sid)?)
+    }
+
+    fn slot(&mut self, sid: &Sid, slot: u32) -> Result<Option<Kept>, ShelfFault> {
+        Ok(self.sessions.slot(sid, slot)?)
+    }
+
+    fn next_id(&mut self) -> Result<u32, ShelfFault> {
+        Ok(self.next)
+    }
+
+    fn commit(&mut self, changes: &[Change]) -> Result<(), ShelfFault> {
+        let steps = self.prepare(changes)?;
+        self.apply_all(steps);
+        Ok(())
+    }
+}

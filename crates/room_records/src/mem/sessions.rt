@@ -1,0 +1,156 @@
+//! Sessions by name, and what their slots keep.
+ghost use Rattle.std.specs.Prelude.{◌≡◌, ◌==◌, ◌&&◌, ◌<◌, ℕ, List, None, Some, OnOk, IfOk, IsSome, nat_lt, if◌then◌else◌};
+ghost use Rattle.std.specs.Str.{bytes_eq};
+ghost use Rattle.room_records.specs.Table.{HasRoom};
+ghost use Rattle.room_records.specs.Names.{name_cmp};
+ghost use Rattle.room_records.specs.Sessions.{slot_cmp, session_in, kept_in, AreFewSlots, HaveSlotCounts};
+
+use crate::names::{Sid, SlotCount};
+use crate::session::{SessionRow, SlotRow, copy_kept};
+use crate::table::Table;
+use room_acl::Principal;
+use room_slots::Kept;
+use std::alloc::{AllocError, Global};
+
+/// A session row without its name.
+#[derive(Debug, Drop)]
+pub(crate) struct SessionCell {
+    owner: Principal,
+    slots: SlotCount,
+    is_open: bool,
+}
+
+/// Session rows by name, and slot rows by session name and slot. No slot is 16 or more.
+#[derive(Drop)]
+pub(crate) struct Sessions {
+    pub(crate) rows: Table<Sid, SessionCell>,
+    pub(crate) kept: Table<(Sid, u32), Kept>,
+    ghost few: { AreFewSlots (kept_in kept.slots) },
+    ghost counted: { HaveSlotCounts (session_in rows.slots) },
+}
+
+impl Sessions {
+    pub(crate) fn new(alloc: Global) -> Sessions
+        ensures sessions { (sid : List ℕ) → session_in result.rows.slots sid ≡ None }
+        ensures slots { (sid : List ℕ) (slot : ℕ) → kept_in result.kept.slots sid slot ≡ None }
+    {
+        Sessions {
+            rows: Table::new(alloc),
+            kept: Table::new(alloc),
+        }
+    }
+
+    pub(crate) fn session(&self, sid: &Sid) -> Result<Option<SessionRow>, AllocError>
+        ensures { IfOk result (λ found. found ≡ session_in self.now.rows.slots sid.now) }
+    {
+        let Some(cell) = self.rows.get(sid) else {
+            return Ok(None);
+        };
+        let sid = sid.clone()?;
+        let owner = cell.owner.clone()?;
+        Ok(Some(SessionRow {
+            sid,
+            owner,
+            slots: cell.slots,
+            is_open: cell.is_open,
+        }))
+    }
+
+    pub(crate) fn slot(&self, sid: &Sid, slot: u32) -> Result<Option<Kept>, AllocError>
+        ensures { IfOk result (λ found. found ≡ kept_in self.now.kept.slots sid.now slot) }
+    {
+        let key = (sid.clone()?, slot);
+        match self.kept.get(&key) {
+            Some(kept) => Ok(Some(copy_kept(kept)?)),
+            None => Ok(None),
+        }
+    }
+
+    /// Makes room for a session row. It changes no row, also where memory is refused.
+    pub(crate) fn make_session_room(&mut self, sid: Sid) -> Result<(), AllocError>
+        ensures sessions { (name : List ℕ) → session_in self.new.rows.slots name ≡ session_in self.old.rows.slots name }
+        ensures slots { self.new.kept.slots ≡ self.old.kept.slots }
+        ensures kept { (name : List ℕ) → HasRoom name_cmp self.old.rows.slots name → HasRoom name_cmp self.new.rows.slots name }
+        ensures room { OnOk result (HasRoom name_cmp self.new.rows.slots sid) }
+    {
+        self.rows.make_room(sid)
+    }
+
+    /// Makes room for a slot row. It changes no row, also where memory is refused.
+    pub(crate) fn make_slot_room(&mut self, sid: Sid, slot: u32) -> Result<(), AllocError>
+        ensures sessions { self.new.rows.slots ≡ self.old.rows.slots }
+        ensures slots { (name : List ℕ) (number : ℕ) → kept_in self.new.kept.slots name number ≡ kept_in self.old.kept.slots name number }
+        ensures kept { (name : List ℕ) (number : ℕ) → HasRoom slot_cmp self.old.kept.slots (name, number) → HasRoom slot_cmp self.new.kept.slots (name, number) }
+        ensures room { OnOk result (slot < 16 → HasRoom slot_cmp self.new.kept.slots (sid, slot)) }
+    {
+        if slot >= 16 {
+            return Ok(());
+        }
+        self.kept.make_room((sid, slot))
+    }
+
+    /// The session rows, which have 16 slots at most.
+    pub(crate) fn has_few_slots(&self)
+        ensures { HaveSlotCounts (session_in self.now.rows.slots) }
+    {}
+
+    /// Puts a session row where room is.
+    pub(crate) fn put_session(&mut self, row: SessionRow)
+        requires { HasRoom name_cmp self.old.rows.slots row.sid }
+        ensures sessions { (sid : List ℕ) → session_in self.new.rows.slots sid ≡ (if bytes_eq sid row.sid then Some row else session_in self.old.rows.slots sid) }
+        ensures slots { self.new.kept.slots ≡ self.old.kept.slots }
+        ensures kept { (sid : List ℕ) → HasRoom name_cmp self.old.rows.slots sid → HasRoom name_cmp self.new.rows.slots sid }
+    {
+        let SessionRow {
+            sid,
+            owner,
+            slots,
+            is_open,
+        } = row;
+        let _count = slots.get();
+        let cell = SessionCell {
+            owner,
+            slots,
+            is_open,
+        };
+        let _ = self.rows.put(&sid, cell);
+    }
+
+    /// Puts a slot row where room is. A slot of 16 or more breaks the record rules, and is left out.
+    pub(crate) fn put_slot(&mut self, row: SlotRow)
+        requires { row.slot < 16 → HasRoom slot_cmp self.old.kept.slots (row.sid, row.slot) }
+        ensures slots { row.slot < 16 → (sid : List ℕ) (slot : ℕ)
+            → kept_in self.new.kept.slots sid slot ≡ (if bytes_eq sid row.sid && (slot == row.slot) then Some row.kept else kept_in self.old.kept.slots sid slot) }
+        ensures sessions { self.new.rows.slots ≡ self.old.rows.slots }
+        ensures kept { (sid : List ℕ) (slot : ℕ) → HasRoom slot_cmp self.old.kept.slots (sid, slot) → HasRoom slot_cmp self.new.kept.slots (sid, slot) }
+    {
+        let SlotRow { sid, slot, kept } = row;
+        if slot >= 16 {
+            return;
+        }
+        let key = (sid, slot);
+        let _ = self.kept.put(&key, kept);
+    }
+
+    /// Takes all slot rows of a session out, and leaves their room.
+    pub(crate) fn drop_slots(&mut self, sid: Sid)
+        ensures slots { (name : List ℕ) (slot : ℕ) → kept_in self.new.kept.slots name slot ≡ (if bytes_eq name sid then None else kept_in self.old.kept.slots name slot) }
+        ensures sessions { self.new.rows.slots ≡ self.old.rows.slots }
+        ensures kept { (sid : List ℕ) (slot : ℕ) → HasRoom slot_cmp self.old.kept.slots (sid, slot) → HasRoom slot_cmp self.new.kept.slots (sid, slot) }
+    {
+        take_slots(&mut self.kept, sid);
+    }
+}
+
+/// Takes the rows of the slots 0 to 15 of a session out, and leaves their room.
+fn take_slots(kept: &mut Table<(Sid, u32), Kept>, sid: Sid)
+    ensures slots { (name : List ℕ) (slot : ℕ) → kept_in kept.new.slots name slot
+        ≡ (if bytes_eq name sid && nat_lt slot 16 then None else kept_in kept.old.slots name slot) }
+    ensures kept { (key : List ℕ × ℕ) → HasRoom slot_cmp kept.old.slots key → HasRoom slot_cmp kept.new.slots key }
+{
+    let mut key = (sid, 0u32);
+    for slot in 0..16 {
+        key.1 = slot;
+        let _ = kept.take(&key);
+    }
+}

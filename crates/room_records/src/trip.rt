@@ -1,0 +1,155 @@
+//! A shelf whose k-th call fails.
+ghost use Rattle.std.specs.Prelude.{◌≡◌, ◌||◌, ◌-◌, ◌↔◌, IsTrue, false, if◌then◌else◌};
+
+use crate::change::Change;
+use crate::names::{FileName, Sid};
+use crate::node::Node;
+use crate::session::SessionRow;
+use crate::shelf::{Shelf, ShelfFault};
+use room_acl::Entry;
+use room_slots::Kept;
+
+/// A shelf whose k-th call answers `Store` without asking the shelf inside.
+pub struct TripShelf<S: Shelf> {
+    inner: S,
+    /// The calls until the one that fails, 0 once it has come.
+    left: u64,
+    tripped: bool,
+}
+
+impl<S: Shelf> TripShelf<S> {
+    /// A shelf whose k-th call trips, counted from 1 over all calls; with 0 none does.
+    pub fn new(inner: S, k: u64) -> TripShelf<S>
+        ensures inner { result.inner ≡ inner }
+        ensures left { result.left ≡ k }
+        ensures fresh { result.tripped ≡ false }
+    {
+        TripShelf {
+            inner,
+            left: k,
+            tripped: false,
+        }
+    }
+
+    /// Whether a call has tripped.
+    pub fn has_tripped(&self) -> bool
+        ensures { result ≡ self.now.tripped }
+    {
+        self.tripped
+    }
+
+    /// The shelf inside, as the calls left it.
+    pub fn into_inner(self) -> S
+        ensures { result ≡ self.inner }
+    {
+        let TripShelf {
+            inner,
+            left: _,
+            tripped: _,
+        } = self;
+        inner
+    }
+
+    /// Whether this call is the one that fails: the last one of the calls that are left.
+    fn trips(&mut self) -> bool
+        ensures count { self.new.left ≡ (if self.old.tripped then self.old.left else self.old.left - 1) }
+        ensures when { IsTrue result ↔ ((self.old.left ≡ 1) × (self.old.tripped ≡ false)) }
+        ensures inner { self.new.inner ≡ self.old.inner }
+        ensures trips { self.new.tripped ≡ (result || self.old.tripped) }
+        ensures first { IsTrue result → self.old.tripped ≡ false }
+    {
+        if self.left == 0 || self.tripped {
+            return false;
+        }
+        self.left -= 1;
+        if self.left == 0 {
+            self.tripped = true;
+            return true;
+        }
+        false
+    }
+}
+
+impl<S: Shelf> Shelf for TripShelf<S> {
+    ghost use Rattle.std.specs.Prelude.{◌+◌, if◌then◌else◌};
+
+    ghost records = { λ s. S.records s.inner };
+
+    ghost failures = { λ s. S.failures s.inner + (if s.tripped then 1 else 0) };
+
+    ghost is_honest = { λ s. S.is_honest s.inner };
+
+    ghost is_declared = { λ s. S.is_declared s.inner };
+
+    ghost crash_may_leave = { λ s r. S.crash_may_leave s.inner r };
+
+    fn node(&mut self, id: u32) -> Result<Option<Node>, ShelfFault> {
+        if self.trips() {
+            return Err(ShelfFault::Store);
+        }
+        self.inner.node(id)
+    }
+
+    fn child(&mut self, parent: u32, name: &FileName) -> Result<Option<Node>, ShelfFault> {
+        if self.trips() {
+            return Err(ShelfFault::Store);
+        }
+        self.inner.child(parent, name)
+    }
+
+    fn children(&mut self, parent: u32) -> Result<Vec<Node>, ShelfFault> {
+        if self.trips() {
+            return Err(ShelfFault::Store);
+        }
+        self.inner.children(parent)
+    }
+
+    fn child_count(&mut self, parent: u32) -> Result<u64, ShelfFault> {
+        if self.trips() {
+            return Err(ShelfFault::Store);
+        }
+        self.inner.child_count(parent)
+    }
+
+    fn entries(&mut self, id: u32) -> Result<Vec<Entry>, ShelfFault> {
+        if self.trips() {
+            return Err(ShelfFault::Store);
+        }
+        self.inner.entries(id)
+    }
+
+    fn doc(&mut self, id: u32) -> Result<Vec<u8>, ShelfFault> {
+        if self.trips() {
+            return Err(ShelfFault::Store);
+        }
+        self.inner.doc(id)
+    }
+
+    fn session(&mut self, sid: &Sid) -> Result<Option<SessionRow>, ShelfFault> {
+        if self.trips() {
+            return Err(ShelfFault::Store);
+        }
+        self.inner.session(sid)
+    }
+
+    fn slot(&mut self, sid: &Sid, slot: u32) -> Result<Option<Kept>, ShelfFault> {
+        if self.trips() {
+            return Err(ShelfFault::Store);
+        }
+        self.inner.slot(sid, slot)
+    }
+
+    fn next_id(&mut self) -> Result<u32, ShelfFault> {
+        if self.trips() {
+            return Err(ShelfFault::Store);
+        }
+        self.inner.next_id()
+    }
+
+    fn commit(&mut self, changes: &[Change]) -> Result<(), ShelfFault> {
+        if self.trips() {
+            return Err(ShelfFault::Store);
+        }
+        self.inner.commit(changes)
+    }
+}

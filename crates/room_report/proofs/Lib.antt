@@ -1,0 +1,10 @@
+mod Rows
+pub mod Below
+pub mod Fronts
+pub mod Hex
+pub mod Items
+pub mod Padding
+pub mod Rising
+pub mod Sent
+pub mod Users
+pub mod Written

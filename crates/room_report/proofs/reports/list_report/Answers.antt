@@ -1,0 +1,20 @@
+use Rattle.std.proofs.Common.{refl, ap, []}
+use Rattle.std.specs.List.{flat_map}
+use Rattle.room_report.specs.declared.lines.Report.TheVariants.{Lists}
+use Rattle.room_report.specs.Lines.{list_text}
+use Rattle.room_report.specs.Walk.{lines_of, text_below}
+use Rattle.room_report.proofs.Below.{all_below_root}
+use Rattle.room_report.proofs.Sent.{sent_whole, sent_beginning}
+use Rattle.room_report.proofs.reports.list_report.Goals as goal
+
+pub returns-clause-ok : goal.returns-clause-ok
+returns-clause-ok g c = λ is_honest is_declared room stand.
+    sent_whole _ _ (text_below Lists room []) (list_text room) c.report_room.result
+    (ap (flat_map (lines_of Lists room)) (all_below_root room stand.lawful))
+    (c.report_room.ensures.value is_honest is_declared _ refl room stand)
+
+pub returns-clause-beginning : goal.returns-clause-beginning
+returns-clause-beginning g c = λ is_honest is_declared room stand.
+    sent_beginning _ _ (text_below Lists room []) (list_text room) c.report_room.result
+    (ap (flat_map (lines_of Lists room)) (all_below_root room stand.lawful))
+    (c.report_room.ensures.value is_honest is_declared _ refl room stand)

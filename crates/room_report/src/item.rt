@@ -1,0 +1,117 @@
+//! What is carried down of an object.
+ghost use Rattle.std.specs.Prelude.{◌≡◌, ◌≤◌, ◌++◌, [], ◌∷◌, IfOk, Err, MatchOption, unwrap_or, if◌then◌else◌};
+ghost use Rattle.room_acl.specs.Inheritance.{handed_down};
+ghost use Rattle.room_records.specs.Names.{Path as PathModel};
+ghost use Rattle.room_records.specs.Records.{IsChild};
+ghost use Rattle.room_records.specs.Room.{follows};
+ghost use Rattle.room_records.specs.Shelf.{FailureCounted, Unchanged, name_of};
+ghost use Rattle.room_report.specs.Walk.{OfRoom, IsItem};
+
+use room_acl::{Entry, Kind, ListFlags, Standing, hand_down};
+use room_records::{FileName, Node, Shelf, ShelfFault};
+use std::alloc::{AllocError, Global};
+
+/// An object on the way down, with its whole list.
+#[derive(Debug, Drop)]
+pub(crate) struct Item {
+    pub id: u32,
+    pub kind: Kind,
+    pub aclflag: ListFlags,
+    pub standing: Standing,
+    pub list: Vec<Entry>,
+    /// The names of its path with a `/` before each: the path's text, but for the root's.
+    pub names: Vec<u8>,
+}
+
+/// The root, with its list.
+pub(crate) fn root_item<S: Shelf>(alloc: Global, shelf: &mut S) -> Result<Option<Item>, ShelfFault>
+    ensures value { OfRoom S.records S.is_honest S.is_declared shelf.old shelf.new (λ t room. IfOk result (λ found.
+        MatchOption found ⊥ (IsItem t room []))) }
+    ensures unchanged { Unchanged S.records S.is_honest S.is_declared S.crash_may_leave shelf.old shelf.new }
+    ensures never_falls { S.failures shelf.old ≤ S.failures shelf.new }
+    ensures store { result ≡ Err ShelfFault.Store → FailureCounted (S.failures shelf.old) (S.failures shelf.new) }
+{
+    let Some(root) = shelf.node(1)? else {
+        return Ok(None);
+    };
+    let list = shelf.entries(root.id)?;
+    Ok(Some(Item {
+        id: root.id,
+        kind: root.kind,
+        aclflag: root.aclflag,
+        standing: Standing {
+            owner: root.owner,
+            group: root.group,
+        },
+        list,
+        names: Vec::new(alloc),
+    }))
+}
+
+/// A child of a folder, with its list: its own entries, then, where it follows, what the folder's list hands down.
+pub(crate) fn item_below<S: Shelf>(
+    alloc: Global,
+    shelf: &mut S,
+    above: &Item,
+    node: &Node,
+) -> Result<Item, ShelfFault>
+    ensures value { OfRoom S.records S.is_honest S.is_declared shelf.old shelf.new (λ t room. (path : PathModel) → IsItem t room path above.now →
+        IsChild t above.now.id node.now → IfOk result (IsItem t room (path ++ name_of node.now ∷ []))) }
+    ensures unchanged { Unchanged S.records S.is_honest S.is_declared S.crash_may_leave shelf.old shelf.new }
+    ensures never_falls { S.failures shelf.old ≤ S.failures shelf.new }
+    ensures store { result ≡ Err ShelfFault.Store → FailureCounted (S.failures shelf.old) (S.failures shelf.new) }
+{
+    let own = shelf.entries(node.id)?;
+    let list = with_inherited(alloc, own, node.aclflag, node.kind, &above.list)?;
+    let names = with_name(alloc, &above.names, &node.name)?;
+    let standing = Standing {
+        owner: node.owner.clone()?,
+        group: node.group.clone()?,
+    };
+    Ok(Item {
+        id: node.id,
+        kind: node.kind,
+        aclflag: node.aclflag,
+        standing,
+        list,
+        names,
+    })
+}
+
+/// The names with one more, and a `/` before it.
+fn with_name(alloc: Global, names: &[u8], name: &Option<FileName>) -> Result<Vec<u8>, AllocError>
+    ensures { IfOk result (λ longer. longer.items ≡ names.now ++ 47 ∷ unwrap_or name.now []) }
+{
+    let mut longer = Vec::from_slice(alloc, names)?;
+    longer.push(b'/')?;
+    if let Some(name) = name {
+        longer.extend_from_slice(name.text().as_bytes())?;
+    }
+    Ok(longer)
+}
+
+/// Whether an object with these list flags follows its folder.
+fn follows(aclflag: ListFlags) -> bool
+    ensures { result ≡ follows aclflag }
+{
+    let bits = aclflag.bits();
+    bits & 1 == 1 && (bits >> 1) & 1 == 0
+}
+
+/// The own entries, then, where the object follows, what its folder's list hands down.
+fn with_inherited(
+    alloc: Global,
+    own: Vec<Entry>,
+    aclflag: ListFlags,
+    kind: Kind,
+    above: &[Entry],
+) -> Result<Vec<Entry>, AllocError>
+    ensures { IfOk result (λ list. list.items ≡ own.items ++ (if follows aclflag then handed_down above.now kind else [])) }
+{
+    let mut list = own;
+    if follows(aclflag) {
+        let mut given = hand_down(alloc, above, kind)?;
+        list.append(&mut given)?;
+    }
+    Ok(list)
+}

@@ -1,0 +1,39 @@
+-- The document that stands for a roster.
+use Rattle.std.specs.Prelude.{◌≡◌, ℕ, List, [], ◌∷◌, Some, codes}
+use Rattle.std.specs.List.{AllByRecursion}
+use Rattle.toml.specs.Data.{string, array, table, Items, no_items, item, Members, no_members, member}
+use Rattle.toml.specs.Parse.{parse_document}
+use Rattle.room_acl.specs.Principals.{IsPrincipal}
+use Rattle.room_acl.specs.SubjectModel.{SubjectModel}
+use Rattle.room_records.specs.Roster.{IsRoster}
+
+-- a list of names
+abbrev pub list_of_names : List (List ℕ) → Items
+list_of_names [] = no_items
+list_of_names (name ∷ names) = item (string name) (list_of_names names)
+
+-- each user's name, with the list of its groups
+abbrev pub table_of_users : List SubjectModel → Members
+table_of_users [] = no_members
+table_of_users (user ∷ users) = member user.name (array (list_of_names user.groups)) (table_of_users users)
+
+-- the table `users`, and nothing else
+abbrev pub document_with : Members → Members
+document_with users = member (codes "users") (table users) no_members
+
+abbrev pub user : List ℕ → List (List ℕ) → SubjectModel
+user name groups = record { name = name; groups = groups }
+
+-- the user's name and those of its groups are principals
+abbrev pub IsNamed : SubjectModel → Type 0
+IsNamed user = IsPrincipal user.name × AllByRecursion IsPrincipal user.groups
+
+-- users in name order and within the limits, named by principals
+pub record IsNamedRoster (users : List SubjectModel) : Type 0 where
+  pub roster : IsRoster users
+  pub named : AllByRecursion IsNamed users
+
+-- the text is a document of these users
+pub record IsRosterText (text : List ℕ) (users : List SubjectModel) : Type 0 where
+  pub document : parse_document text ≡ Some (document_with (table_of_users users))
+  pub lawful : IsNamedRoster users

@@ -1,0 +1,89 @@
+//! What a request is to a slot, by what the slot keeps.
+ghost use Rattle.std.specs.Prelude.{◌≡◌, IfOk};
+ghost use Rattle.std.specs.Option.{option_copied};
+ghost use Rattle.room_slots.specs.Slots.{verdict};
+
+use std::alloc::AllocError;
+use std::marker::Model;
+
+/// What a slot keeps: the last request that was new to it, and its reply.
+///
+/// One is enough (RFC 8881, section 2.10.6): a client that sends the next number has
+/// the reply to the last one. A slot that has run nothing keeps no `Kept`; a kept
+/// number 0 is one like any other.
+#[derive(Debug, Drop)]
+pub struct Kept {
+    /// The number that the request was sent with; 0 follows 4294967295.
+    pub seq: u32,
+    /// The request, as bytes that are equal where the requests are the same.
+    pub request: Vec<u8>,
+    /// The reply that it was given, byte for byte.
+    pub reply: Vec<u8>,
+}
+
+impl Model for Kept {
+    ghost use Rattle.room_slots.specs.KeptModel.{KeptModel};
+
+    ghost Value = { KeptModel };
+
+    ghost view = { λ k. record { seq = k.seq; request = k.request.items; reply = k.reply.items } };
+}
+
+impl Kept {
+    /// A copy of what is kept.
+    ///
+    /// # Errors
+    ///
+    /// `AllocError` where memory is refused.
+    pub fn clone(&self) -> Result<Kept, AllocError>
+        ensures { IfOk result (λ copy. copy ≡ self.now) }
+    {
+        Ok(Kept {
+            seq: self.seq,
+            request: self.request.clone()?,
+            reply: self.reply.clone()?,
+        })
+    }
+}
+
+/// What a request is to a slot.
+#[derive(Clone, Copy, Debug, PartialEq, Eq)]
+pub enum Verdict {
+    /// It has the next number, and is to be run.
+    New,
+    /// It is the last request again, and is to get the reply that is kept.
+    Repeat,
+    /// It has the last number, and is another request (SEQ_FALSE_RETRY).
+    FalseRetry,
+    /// It has another number than the last and the next (SEQ_MISORDERED).
+    Misordered,
+}
+
+/// What a request with this number is to a slot that keeps this.
+///
+/// The next number is the last one plus 1 modulo 2^32, as in RFC 8881, sections 2.10.6
+/// and 18.46. Two rules are this project's own: in a slot that keeps nothing 1 is the
+/// only number that is new, and the last number with another request is always a false
+/// retry, which RFC 8881 permits and does not demand. Takes no memory.
+pub fn classify(kept: Option<&Kept>, seq: u32, request: &[u8]) -> Verdict
+    ensures { result ≡ verdict (option_copied kept.entry) seq request.now }
+{
+    let Some(kept) = kept else {
+        return if seq == 1 {
+            Verdict::New
+        } else {
+            Verdict::Misordered
+        };
+    };
+    if seq == kept.seq {
+        if request == kept.request.as_slice() {
+            Verdict::Repeat
+        } else {
+            Verdict::FalseRetry
+        }
+    } else if seq == kept.seq.wrapping_add(1) {
+        Verdict::New
+    } else {
+        Verdict::Misordered
+    }
+}

@@ -1,0 +1,10 @@
+use Rattle.std.proofs.Common.{◌∙◌, ap, option_map, slice_get}
+use Rattle.room_tables.specs.Rows.{node_of}
+use Rattle.room_tables.proofs.Children.{named_found}
+use Rattle.room_sql.proofs.sql_shelf.SqlShelfShelf.child.Goals as goal
+
+pub returns-in-Ok-first_node-clause-value : goal.returns-in-Ok-first_node-clause-value
+returns-in-Ok-first_node-clause-value g c honest declared =
+    let name = c.text.ensures.lawful in
+    named_found _ c.args.parent c.args.name.now _ _ declared name.some (rw c.text.ensures.value at (c.in-Ok.ensures.rows honest.0 declared.schema))
+    (c.in-Ok-first_node.ensures ∙ ap (λ l. option_map node_of (slice_get l 0)) c.as_slice.ensures.value)

@@ -1,0 +1,8 @@
+use Rattle.std.proofs.Common.{◌∙◌, ap, option_map}
+use Rattle.room_tables.specs.Rows.{only, session_of}
+use Rattle.room_tables.proofs.Queries.{only_permuted}
+use Rattle.room_sql.proofs.sql_shelf.SqlShelfShelf.session.Goals as goal
+
+pub returns-in-Ok-one_session-clause-value : goal.returns-in-Ok-one_session-clause-value
+returns-in-Ok-one_session-clause-value g c honest declared =
+    c.in-Ok-one_session.ensures ∙ ap (option_map (session_of c.args.sid.now)) (ap only c.as_slice.ensures.value ∙ only_permuted _ _ (rw c.text.ensures.value at (c.in-Ok.ensures.rows honest.0 declared.schema)))

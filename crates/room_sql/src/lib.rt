@@ -1,0 +1,13 @@
+//! A room in the six tables of a database.
+#![tactic(auto)]
+
+mod open;
+mod reads;
+mod rows;
+mod sql_shelf;
+mod tables;
+mod values;
+mod writes;
+
+pub use open::OpenFault;
+pub use sql_shelf::SqlShelf;

@@ -1,0 +1,158 @@
+//! The queries, outside a transaction.
+
+ghost use Rattle.std.specs.Prelude.{◌≡◌, [], ◌∷◌, length, false, IfOk, IsTrue, IsPermutation};
+ghost use Rattle.std.specs.List.{AllByRecursion};
+ghost use Rattle.sqlite_trees.specs.Tree.{IsAscending};
+ghost use Rattle.sqlite.specs.State.{HasCleanDisk, Survives};
+ghost use Rattle.sqlite.specs.Held.{state};
+ghost use Rattle.room_tables.specs.Tables.{room_schema};
+ghost use Rattle.room_tables.specs.Rows.{node_rows, named_rows, child_rows, entry_rows, doc_rows, session_rows, slot_rows, next_rows, HasEntryColumns};
+ghost use Rattle.room_tables.specs.Names.{ByName, counted_row};
+
+use sqlite::{Alter, Connection, Error, Row, params};
+
+/// The rows of the node with the number: none, or one.
+pub(crate) fn node_rows<S: Alter>(conn: &mut Connection<S>, id: u32) -> Result<Vec<Row>, Error>
+    ensures rows { HasCleanDisk (state S.Store conn.new) → conn.old.schema ≡ room_schema → IfOk result (λ rows. IsPermutation (node_rows (state S.Store conn.old).now.trees id) rows.items) }
+    ensures same { HasCleanDisk (state S.Store conn.new) → conn.old.schema ≡ room_schema → IsTrue (state S.Store conn.new).is_open → (state S.Store conn.old).now ≡ (state S.Store conn.old).committed
+        → (state S.Store conn.new).now ≡ (state S.Store conn.old).now }
+    ensures open { HasCleanDisk (state S.Store conn.new) → IsTrue (state S.Store conn.new).is_open → IsTrue (state S.Store conn.old).is_open }
+    ensures mode { conn.old.in_transaction ≡ false → conn.new.in_transaction ≡ false }
+    ensures clean { HasCleanDisk (state S.Store conn.new) → HasCleanDisk (state S.Store conn.old) }
+    ensures crash { Survives (state S.Store conn.old) (state S.Store conn.new) (λ _. ⊥) }
+{
+    conn.query_all(
+        "SELECT id, parent, name, kind, owner, grp, aclflag FROM node WHERE id = ?1",
+        params![id],
+    )
+}
+
+/// The rows of a folder with a name: none, or one.
+pub(crate) fn named_rows<S: Alter>(
+    conn: &mut Connection<S>,
+    parent: u32,
+    name: &str,
+) -> Result<Vec<Row>, Error>
+    ensures rows { HasCleanDisk (state S.Store conn.new) → conn.old.schema ≡ room_schema → IfOk result (λ rows. IsPermutation (named_rows (state S.Store conn.old).now.trees parent name.now) rows.items) }
+    ensures same { HasCleanDisk (state S.Store conn.new) → conn.old.schema ≡ room_schema → IsTrue (state S.Store conn.new).is_open → (state S.Store conn.old).now ≡ (state S.Store conn.old).committed
+        → (state S.Store conn.new).now ≡ (state S.Store conn.old).now }
+    ensures open { HasCleanDisk (state S.Store conn.new) → IsTrue (state S.Store conn.new).is_open → IsTrue (state S.Store conn.old).is_open }
+    ensures mode { conn.old.in_transaction ≡ false → conn.new.in_transaction ≡ false }
+    ensures clean { HasCleanDisk (state S.Store conn.new) → HasCleanDisk (state S.Store conn.old) }
+    ensures crash { Survives (state S.Store conn.old) (state S.Store conn.new) (λ _. ⊥) }
+{
+    conn.query_all(
+        "SELECT id, parent, name, kind, owner, grp, aclflag FROM node WHERE parent = ?1 AND name = ?2",
+        params![parent, name],
+    )
+}
+
+/// The rows of a folder, in order of their names.
+pub(crate) fn child_rows<S: Alter>(conn: &mut Connection<S>, parent: u32) -> Result<Vec<Row>, Error>
+    ensures rows { HasCleanDisk (state S.Store conn.new) → conn.old.schema ≡ room_schema → IfOk result (λ rows. IsPermutation (child_rows (state S.Store conn.old).now.trees parent) rows.items × IsAscending ByName rows.items) }
+    ensures same { HasCleanDisk (state S.Store conn.new) → conn.old.schema ≡ room_schema → IsTrue (state S.Store conn.new).is_open → (state S.Store conn.old).now ≡ (state S.Store conn.old).committed
+        → (state S.Store conn.new).now ≡ (state S.Store conn.old).now }
+    ensures open { HasCleanDisk (state S.Store conn.new) → IsTrue (state S.Store conn.new).is_open → IsTrue (state S.Store conn.old).is_open }
+    ensures mode { conn.old.in_transaction ≡ false → conn.new.in_transaction ≡ false }
+    ensures clean { HasCleanDisk (state S.Store conn.new) → HasCleanDisk (state S.Store conn.old) }
+    ensures crash { Survives (state S.Store conn.old) (state S.Store conn.new) (λ _. ⊥) }
+{
+    conn.query_all(
+        "SELECT id, parent, name, kind, owner, grp, aclflag FROM node WHERE parent = ?1 ORDER BY name",
+        params![parent],
+    )
+}
+
+/// How many rows a folder has, as one row.
+pub(crate) fn count_rows<S: Alter>(conn: &mut Connection<S>, parent: u32) -> Result<Vec<Row>, Error>
+    ensures rows { HasCleanDisk (state S.Store conn.new) → conn.old.schema ≡ room_schema → IfOk result (λ rows. rows.items ≡ counted_row (length (child_rows (state S.Store conn.old).now.trees parent)) ∷ []) }
+    ensures same { HasCleanDisk (state S.Store conn.new) → conn.old.schema ≡ room_schema → IsTrue (state S.Store conn.new).is_open → (state S.Store conn.old).now ≡ (state S.Store conn.old).committed
+        → (state S.Store conn.new).now ≡ (state S.Store conn.old).now }
+    ensures open { HasCleanDisk (state S.Store conn.new) → IsTrue (state S.Store conn.new).is_open → IsTrue (state S.Store conn.old).is_open }
+    ensures mode { conn.old.in_transaction ≡ false → conn.new.in_transaction ≡ false }
+    ensures clean { HasCleanDisk (state S.Store conn.new) → HasCleanDisk (state S.Store conn.old) }
+    ensures crash { Survives (state S.Store conn.old) (state S.Store conn.new) (λ _. ⊥) }
+{
+    conn.query_all(
+        "SELECT count(*) FROM node WHERE parent = ?1",
+        params![parent],
+    )
+}
+
+/// The rows of an object's entries, in their order.
+pub(crate) fn entry_rows<S: Alter>(conn: &mut Connection<S>, id: u32) -> Result<Vec<Row>, Error>
+    ensures rows { HasCleanDisk (state S.Store conn.new) → conn.old.schema ≡ room_schema → IfOk result (λ rows. AllByRecursion HasEntryColumns rows.items → rows.items ≡ entry_rows (state S.Store conn.old).now.trees id) }
+    ensures same { HasCleanDisk (state S.Store conn.new) → conn.old.schema ≡ room_schema → IsTrue (state S.Store conn.new).is_open → (state S.Store conn.old).now ≡ (state S.Store conn.old).committed
+        → (state S.Store conn.new).now ≡ (state S.Store conn.old).now }
+    ensures open { HasCleanDisk (state S.Store conn.new) → IsTrue (state S.Store conn.new).is_open → IsTrue (state S.Store conn.old).is_open }
+    ensures mode { conn.old.in_transaction ≡ false → conn.new.in_transaction ≡ false }
+    ensures clean { HasCleanDisk (state S.Store conn.new) → HasCleanDisk (state S.Store conn.old) }
+    ensures crash { Survives (state S.Store conn.old) (state S.Store conn.new) (λ _. ⊥) }
+{
+    conn.query_all(
+        "SELECT place, type, flag, mask, who FROM entry WHERE node = ?1 ORDER BY place, type, flag, mask, who",
+        params![id],
+    )
+}
+
+/// The rows of a document: none, or one.
+pub(crate) fn doc_rows<S: Alter>(conn: &mut Connection<S>, id: u32) -> Result<Vec<Row>, Error>
+    ensures rows { HasCleanDisk (state S.Store conn.new) → conn.old.schema ≡ room_schema → IfOk result (λ rows. IsPermutation (doc_rows (state S.Store conn.old).now.trees id) rows.items) }
+    ensures same { HasCleanDisk (state S.Store conn.new) → conn.old.schema ≡ room_schema → IsTrue (state S.Store conn.new).is_open → (state S.Store conn.old).now ≡ (state S.Store conn.old).committed
+        → (state S.Store conn.new).now ≡ (state S.Store conn.old).now }
+    ensures open { HasCleanDisk (state S.Store conn.new) → IsTrue (state S.Store conn.new).is_open → IsTrue (state S.Store conn.old).is_open }
+    ensures mode { conn.old.in_transaction ≡ false → conn.new.in_transaction ≡ false }
+    ensures clean { HasCleanDisk (state S.Store conn.new) → HasCleanDisk (state S.Store conn.old) }
+    ensures crash { Survives (state S.Store conn.old) (state S.Store conn.new) (λ _. ⊥) }
+{
+    conn.query_all("SELECT bytes FROM doc WHERE node = ?1", params![id])
+}
+
+/// The rows of a session name: none, or one.
+pub(crate) fn session_rows<S: Alter>(conn: &mut Connection<S>, sid: &str) -> Result<Vec<Row>, Error>
+    ensures rows { HasCleanDisk (state S.Store conn.new) → conn.old.schema ≡ room_schema → IfOk result (λ rows. IsPermutation (session_rows (state S.Store conn.old).now.trees sid.now) rows.items) }
+    ensures same { HasCleanDisk (state S.Store conn.new) → conn.old.schema ≡ room_schema → IsTrue (state S.Store conn.new).is_open → (state S.Store conn.old).now ≡ (state S.Store conn.old).committed
+        → (state S.Store conn.new).now ≡ (state S.Store conn.old).now }
+    ensures open { HasCleanDisk (state S.Store conn.new) → IsTrue (state S.Store conn.new).is_open → IsTrue (state S.Store conn.old).is_open }
+    ensures mode { conn.old.in_transaction ≡ false → conn.new.in_transaction ≡ false }
+    ensures clean { HasCleanDisk (state S.Store conn.new) → HasCleanDisk (state S.Store conn.old) }
+    ensures crash { Survives (state S.Store conn.old) (state S.Store conn.new) (λ _. ⊥) }
+{
+    conn.query_all(
+        "SELECT owner, slots, open FROM session WHERE sid = ?1",
+        params![sid],
+    )
+}
+
+/// The rows of a slot: none, or one.
+pub(crate) fn slot_rows<S: Alter>(
+    conn: &mut Connection<S>,
+    sid: &str,
+    slot: u32,
+) -> Result<Vec<Row>, Error>
+    ensures rows { HasCleanDisk (state S.Store conn.new) → conn.old.schema ≡ room_schema → IfOk result (λ rows. IsPermutation (slot_rows (state S.Store conn.old).now.trees sid.now slot) rows.items) }
+    ensures same { HasCleanDisk (state S.Store conn.new) → conn.old.schema ≡ room_schema → IsTrue (state S.Store conn.new).is_open → (state S.Store conn.old).now ≡ (state S.Store conn.old).committed
+        → (state S.Store conn.new).now ≡ (state S.Store conn.old).now }
+    ensures open { HasCleanDisk (state S.Store conn.new) → IsTrue (state S.Store conn.new).is_open → IsTrue (state S.Store conn.old).is_open }
+    ensures mode { conn.old.in_transaction ≡ false → conn.new.in_transaction ≡ false }
+    ensures clean { HasCleanDisk (state S.Store conn.new) → HasCleanDisk (state S.Store conn.old) }
+    ensures crash { Survives (state S.Store conn.old) (state S.Store conn.new) (λ _. ⊥) }
+{
+    conn.query_all(
+        "SELECT seq, request, reply FROM slot WHERE sid = ?1 AND slot = ?2",
+        params![sid, slot],
+    )
+}
+
+/// The row with the next number.
+pub(crate) fn next_rows<S: Alter>(conn: &mut Connection<S>) -> Result<Vec<Row>, Error>
+    ensures rows { HasCleanDisk (state S.Store conn.new) → conn.old.schema ≡ room_schema → IfOk result (λ rows. IsPermutation (next_rows (state S.Store conn.old).now.trees) rows.items) }
+    ensures same { HasCleanDisk (state S.Store conn.new) → conn.old.schema ≡ room_schema → IsTrue (state S.Store conn.new).is_open → (state S.Store conn.old).now ≡ (state S.Store conn.old).committed
+        → (state S.Store conn.new).now ≡ (state S.Store conn.old).now }
+    ensures open { HasCleanDisk (state S.Store conn.new) → IsTrue (state S.Store conn.new).is_open → IsTrue (state S.Store conn.old).is_open }
+    ensures mode { conn.old.in_transaction ≡ false → conn.new.in_transaction ≡ false }
+    ensures clean { HasCleanDisk (state S.Store conn.new) → HasCleanDisk (state S.Store conn.old) }
+    ensures crash { Survives (state S.Store conn.old) (state S.Store conn.new) (λ _. ⊥) }
+{
+    conn.query_all("SELECT next FROM room WHERE one = 1", &[])
+}

@@ -1,0 +1,384 @@
+//! Rows of the tables, read as values of a room. A row that is no value of its type is an error.
+
+ghost use Rattle.std.specs.Prelude.{◌≡◌, ◌==◌, ℕ, pos, List, [], ◌∷◌, map, slice_get, unwrap_or, option_map, IfOk, string_bytes};
+ghost use Rattle.std.specs.List.{AllByRecursion};
+ghost use Rattle.room_acl.specs.Bits.{identifier_group};
+ghost use Rattle.sqlite_value.specs.Order.{column};
+ghost use Rattle.sqlite_value.specs.declared.value.Value.TheVariants.{Int, Text};
+ghost use Rattle.room_tables.specs.Rows.{number_in, text_in, name_of_text, name_in, parent_in, bytes_in, kind_of, named_who, who_of, only, node_of, entry_of, doc_of, session_of, kept_of, HasEntryColumns};
+ghost use Rattle.room_tables.specs.Names.{counted_row};
+
+use room_acl::{Entry, Flags, Kind, ListFlags, Mask, Principal, Who};
+use room_records::{FileName, Node, SessionRow, Sid, SlotCount};
+use room_slots::Kept;
+use sqlite::{Error, ErrorCode, Row};
+use std::alloc::{AllocError, Global};
+
+/// What a row that is no value of its type is answered with.
+pub(crate) fn bad_value() -> Error {
+    Error::SqliteFailure(ErrorCode::TypeMismatch)
+}
+
+pub(crate) fn no_memory(_: AllocError) -> Error {
+    Error::SqliteFailure(ErrorCode::OutOfMemory)
+}
+
+fn number_at(row: &Row, at: usize) -> Result<u32, Error>
+    ensures { IfOk result (λ n. column row.now at ≡ Int (pos n)) }
+{
+    row.get(at)
+}
+
+fn text_at(row: &Row, at: usize) -> Result<String, Error>
+    ensures { IfOk result (λ s. column row.now at ≡ Text (string_bytes s)) }
+{
+    row.get(at)
+}
+
+fn principal_at(alloc: Global, row: &Row, at: usize) -> Result<Principal, Error>
+    ensures { IfOk result (λ name. name ≡ text_in (column row.now at)) }
+{
+    let text = text_at(row, at)?;
+    match Principal::new(alloc, text.as_str()) {
+        Ok(Some(name)) => Ok(name),
+        Ok(None) => Err(bad_value()),
+        Err(error) => Err(no_memory(error)),
+    }
+}
+
+fn parent_at(row: &Row, at: usize) -> Result<Option<u32>, Error>
+    ensures { IfOk result (λ parent. parent ≡ parent_in (column row.now at)) }
+{
+    row.get(at)
+}
+
+/// The name of a node: the empty text is none.
+fn name_from(alloc: Global, text: &str) -> Result<Option<FileName>, Error>
+    ensures { IfOk result (λ name. name ≡ name_of_text text.now) }
+{
+    if text.is_empty() {
+        return Ok(None);
+    }
+    match FileName::new(alloc, text) {
+        Ok(Some(name)) => Ok(Some(name)),
+        Ok(None) => Err(bad_value()),
+        Err(error) => Err(no_memory(error)),
+    }
+}
+
+fn name_at(alloc: Global, row: &Row, at: usize) -> Result<Option<FileName>, Error>
+    ensures { IfOk result (λ name. name ≡ name_in (column row.now at)) }
+{
+    let text = text_at(row, at)?;
+    name_from(alloc, text.as_str())
+}
+
+fn kind_at(row: &Row, at: usize) -> Result<Kind, Error>
+    ensures { IfOk result (λ kind. kind ≡ kind_of (number_in (column row.now at))) }
+{
+    let number = number_at(row, at)?;
+    if number == 1 {
+        Ok(Kind::Folder)
+    } else if number == 0 {
+        Ok(Kind::File)
+    } else {
+        Err(bad_value())
+    }
+}
+
+fn list_flags_at(row: &Row, at: usize) -> Result<ListFlags, Error>
+    ensures { IfOk result (λ flags. flags ≡ number_in (column row.now at)) }
+{
+    let number = number_at(row, at)?;
+    let Ok(bits) = u8::try_from(number) else {
+        return Err(bad_value());
+    };
+    match ListFlags::new(bits) {
+        Some(flags) => Ok(flags),
+        None => Err(bad_value()),
+    }
+}
+
+/// The node of a row that shows number, parent, name, kind, owner, group and list flags.
+pub(crate) fn node_of(alloc: Global, row: &Row) -> Result<Node, Error>
+    ensures { IfOk result (λ node. node ≡ node_of row.now) }
+{
+    let id = number_at(row, 0)?;
+    let parent = parent_at(row, 1)?;
+    let name = name_at(alloc, row, 2)?;
+    let kind = kind_at(row, 3)?;
+    let owner = principal_at(alloc, row, 4)?;
+    let group = principal_at(alloc, row, 5)?;
+    let aclflag = list_flags_at(row, 6)?;
+    Ok(Node {
+        id,
+        parent,
+        name,
+        kind,
+        owner,
+        group,
+        aclflag,
+    })
+}
+
+fn flag_at(row: &Row, at: usize) -> Result<bool, Error>
+    ensures { IfOk result (λ flag. flag ≡ (number_in (column row.now at) == 1)) }
+{
+    let number = number_at(row, at)?;
+    if number == 1 {
+        Ok(true)
+    } else if number == 0 {
+        Ok(false)
+    } else {
+        Err(bad_value())
+    }
+}
+
+fn allow_at(row: &Row, at: usize) -> Result<bool, Error>
+    ensures value { IfOk result (λ allow. allow ≡ (number_in (column row.now at) == 0)) }
+    ensures typed { IfOk result (λ _. column row.now at ≡ Int (pos (number_in (column row.now at)))) }
+{
+    let number = number_at(row, at)?;
+    if number == 0 {
+        Ok(true)
+    } else if number == 1 {
+        Ok(false)
+    } else {
+        Err(bad_value())
+    }
+}
+
+fn flags_at(row: &Row, at: usize) -> Result<Flags, Error>
+    ensures { IfOk result (λ flags. column row.now at ≡ Int (pos flags)) }
+{
+    let number = number_at(row, at)?;
+    let Ok(bits) = u8::try_from(number) else {
+        return Err(bad_value());
+    };
+    match Flags::new(bits) {
+        Some(flags) => Ok(flags),
+        None => Err(bad_value()),
+    }
+}
+
+fn mask_at(row: &Row, at: usize) -> Result<Mask, Error>
+    ensures { IfOk result (λ mask. column row.now at ≡ Int (pos mask)) }
+{
+    let number = number_at(row, at)?;
+    match Mask::new(number) {
+        Some(mask) => Ok(mask),
+        None => Err(bad_value()),
+    }
+}
+
+/// Whether the name is a group's.
+#[tactic(auto, using(std::proofs::lemmas::Nat::Bits::shr_and_one))]
+fn is_group(flags: Flags) -> bool
+    ensures { result ≡ identifier_group flags }
+{
+    (flags.bits() >> 6u32) & 1 == 1
+}
+
+fn named_who(alloc: Global, flags: Flags, text: &str) -> Result<Who, Error>
+    ensures { IfOk result (λ who. who ≡ named_who flags text.now) }
+{
+    let name = match Principal::new(alloc, text) {
+        Ok(Some(name)) => name,
+        Ok(None) => return Err(bad_value()),
+        Err(error) => return Err(no_memory(error)),
+    };
+    if is_group(flags) {
+        Ok(Who::Members(name))
+    } else {
+        Ok(Who::User(name))
+    }
+}
+
+fn who_from(alloc: Global, flags: Flags, text: &str) -> Result<Who, Error>
+    ensures { IfOk result (λ who. who ≡ who_of flags text.now) }
+{
+    if text == "OWNER@" {
+        Ok(Who::Owner)
+    } else if text == "GROUP@" {
+        Ok(Who::Group)
+    } else if text == "EVERYONE@" {
+        Ok(Who::Everyone)
+    } else {
+        named_who(alloc, flags, text)
+    }
+}
+
+/// The entry of a row that shows place, type, flags, mask and whom it names.
+fn entry_of(alloc: Global, row: &Row) -> Result<Entry, Error>
+    ensures value { IfOk result (λ entry. entry ≡ entry_of row.now) }
+    ensures typed { IfOk result (λ _. HasEntryColumns row.now) }
+{
+    let _place = number_at(row, 0)?;
+    let allow = allow_at(row, 1)?;
+    let flags = flags_at(row, 2)?;
+    let mask = mask_at(row, 3)?;
+    let text = text_at(row, 4)?;
+    let who = who_from(alloc, flags, text.as_str())?;
+    match Entry::new(allow, flags, mask, who) {
+        Some(entry) => Ok(entry),
+        None => Err(bad_value()),
+    }
+}
+
+pub(crate) fn all_entries(alloc: Global, rows: &[Row]) -> Result<Vec<Entry>, Error>
+    ensures value { IfOk result (λ entries. entries.items ≡ map entry_of rows.now) }
+    ensures typed { IfOk result (λ _. AllByRecursion HasEntryColumns rows.now) }
+{
+    let mut entries = Vec::new(alloc);
+    for row in rows {
+        entries.push(entry_of(alloc, row)?)?;
+    }
+    Ok(entries)
+}
+
+pub(crate) fn all_nodes(alloc: Global, rows: &[Row]) -> Result<Vec<Node>, Error>
+    ensures { IfOk result (λ nodes. nodes.items ≡ map node_of rows.now) }
+{
+    let mut nodes = Vec::new(alloc);
+    for row in rows {
+        nodes.push(node_of(alloc, row)?)?;
+    }
+    Ok(nodes)
+}
+
+/// The one row, as a node.
+pub(crate) fn one_node(alloc: Global, rows: &[Row]) -> Result<Option<Node>, Error>
+    ensures { IfOk result (λ node. node ≡ option_map node_of (only rows.now)) }
+{
+    match rows {
+        [row] => Ok(Some(node_of(alloc, row)?)),
+        _ => Ok(None),
+    }
+}
+
+/// The first row, as a node.
+pub(crate) fn first_node(alloc: Global, rows: &[Row]) -> Result<Option<Node>, Error>
+    ensures { IfOk result (λ node. node ≡ option_map node_of (slice_get rows.now 0)) }
+{
+    match rows {
+        [row, ..] => Ok(Some(node_of(alloc, row)?)),
+        _ => Ok(None),
+    }
+}
+
+/// How many rows the one row says there are. A count of 2^63 - 1 or more is not told exactly.
+pub(crate) fn one_count(rows: &[Row]) -> Result<u64, Error>
+    ensures { IfOk result (λ count. (n : ℕ) → rows.now ≡ counted_row n ∷ [] → count ≡ n) }
+{
+    match rows {
+        [row] => {
+            let count: u64 = row.get(0)?;
+            if count < 9_223_372_036_854_775_807 {
+                Ok(count)
+            } else {
+                Err(bad_value())
+            }
+        },
+        _ => Err(bad_value()),
+    }
+}
+
+/// The bytes of the one row, none where there is no row.
+pub(crate) fn one_doc(alloc: Global, rows: &[Row]) -> Result<Vec<u8>, Error>
+    ensures { IfOk result (λ bytes. bytes.items ≡ unwrap_or (option_map doc_of (only rows.now)) []) }
+{
+    match rows {
+        [row] => row.get(0),
+        _ => Ok(Vec::new(alloc)),
+    }
+}
+
+fn slot_count_at(row: &Row, at: usize) -> Result<SlotCount, Error>
+    ensures { IfOk result (λ slots. slots ≡ number_in (column row.now at)) }
+{
+    let number = number_at(row, at)?;
+    match SlotCount::new(number) {
+        Some(slots) => Ok(slots),
+        None => Err(bad_value()),
+    }
+}
+
+fn sid_copy(alloc: Global, sid: &Sid) -> Result<Sid, Error>
+    ensures { IfOk result (λ copy. copy ≡ sid.now) }
+{
+    match Sid::new(alloc, sid.text()) {
+        Ok(Some(copy)) => Ok(copy),
+        Ok(None) => Err(bad_value()),
+        Err(error) => Err(no_memory(error)),
+    }
+}
+
+/// The session of a row that shows owner, slots and whether it is open.
+fn session_of(alloc: Global, sid: &Sid, row: &Row) -> Result<SessionRow, Error>
+    ensures { IfOk result (λ session. session ≡ session_of sid.now row.now) }
+{
+    let owner = principal_at(alloc, row, 0)?;
+    let slots = slot_count_at(row, 1)?;
+    let is_open = flag_at(row, 2)?;
+    let sid = sid_copy(alloc, sid)?;
+    Ok(SessionRow {
+        sid,
+        owner,
+        slots,
+        is_open,
+    })
+}
+
+/// The one row, as the session of this name.
+pub(crate) fn one_session(
+    alloc: Global,
+    sid: &Sid,
+    rows: &[Row],
+) -> Result<Option<SessionRow>, Error>
+    ensures { IfOk result (λ session. session ≡ option_map (session_of sid.now) (only rows.now)) }
+{
+    match rows {
+        [row] => Ok(Some(session_of(alloc, sid, row)?)),
+        _ => Ok(None),
+    }
+}
+
+fn bytes_at(row: &Row, at: usize) -> Result<Vec<u8>, Error>
+    ensures { IfOk result (λ bytes. bytes.items ≡ bytes_in (column row.now at)) }
+{
+    row.get(at)
+}
+
+/// What a slot keeps, of a row that shows number, request and reply.
+fn kept_of(row: &Row) -> Result<Kept, Error>
+    ensures { IfOk result (λ kept. kept ≡ kept_of row.now) }
+{
+    let seq = number_at(row, 0)?;
+    let request = bytes_at(row, 1)?;
+    let reply = bytes_at(row, 2)?;
+    Ok(Kept {
+        seq,
+        request,
+        reply,
+    })
+}
+
+/// The one row, as what a slot keeps.
+pub(crate) fn one_kept(rows: &[Row]) -> Result<Option<Kept>, Error>
+    ensures { IfOk result (λ kept. kept ≡ option_map kept_of (only rows.now)) }
+{
+    match rows {
+        [row] => Ok(Some(kept_of(row)?)),
+        _ => Ok(None),
+    }
+}
+
+/// The number of the one row.
+pub(crate) fn one_number(rows: &[Row]) -> Result<u32, Error>
+    ensures { IfOk result (λ number. number ≡ unwrap_or (option_map (λ row. number_in (column row 0)) (only rows.now)) 0) }
+{
+    match rows {
+        [row] => number_at(row, 0),
+        _ => Err(bad_value()),
+    }
+}

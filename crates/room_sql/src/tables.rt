@@ -1,0 +1,247 @@
+//! The tables, and a fresh room in them.
+
+ghost use Rattle.std.specs.Prelude.{◌≡◌, ◌∷◌, [], Some, None, IfOk, OnOk, OnErr, true, false, IsTrue};
+ghost use Rattle.sqlite.specs.State.{HasCleanDisk, KeepsCommit, Survives};
+ghost use Rattle.sqlite.specs.Held.{state};
+ghost use Rattle.room_acl.specs.declared.subject.Kind.TheVariants.{Folder};
+ghost use Rattle.room_acl.specs.declared.who.Who.TheVariants.{Owner, Group};
+ghost use Rattle.room_records.specs.Records.{Records};
+ghost use Rattle.room_records.specs.Changes.{apply_change};
+ghost use Rattle.room_records.specs.declared.change.Change.TheVariants.{PutNode, PutEntries, PutNext};
+ghost use Rattle.room_tables.specs.Tables.{schema_0, schema_1, schema_2, schema_3, schema_4, schema_5, room_schema};
+ghost use Rattle.room_tables.specs.Rows.{records_of};
+ghost use Rattle.room_tables.specs.Layout.{IsRoomDatabase};
+ghost use Rattle.room_tables.specs.Steps.{Steps};
+ghost use Rattle.room_tables.specs.Fresh.{IsMade, IsFresh, MayBeFilled, MayBeMade, filled};
+
+use crate::rows::bad_value;
+use crate::writes::{put_entries, put_next, put_node};
+use room_acl::{Entry, Flags, Kind, ListFlags, Mask, Principal, Who};
+use room_records::Node;
+use sqlite::{Alter, Connection, Error, Transaction};
+use std::alloc::Global;
+
+fn make_room<S: Alter>(tx: &mut Transaction<'_, S>) -> Result<(), Error>
+    ensures same_reference { tx.new.conn.ghost_name ≡ tx.old.conn.ghost_name }
+    ensures ok { HasCleanDisk (state S.Store tx.new.conn.now) → OnOk result (tx.old.conn.now.schema ≡ schema_0 → IsMade schema_1 (state S.Store tx.new.conn.now).now) }
+    ensures inside { HasCleanDisk (state S.Store tx.new.conn.now) → OnOk result (tx.new.conn.now.in_transaction ≡ true) }
+    ensures kept { HasCleanDisk (state S.Store tx.new.conn.now) → KeepsCommit (state S.Store tx.old.conn.now) (state S.Store tx.new.conn.now) }
+    ensures crash { Survives (state S.Store tx.old.conn.now) (state S.Store tx.new.conn.now) (λ _. ⊥) }
+{
+    tx.execute(
+        "CREATE TABLE room (one INTEGER PRIMARY KEY CHECK (one = 1), version INTEGER NOT NULL, next INTEGER NOT NULL) STRICT",
+        &[],
+    )?;
+    Ok(())
+}
+
+fn make_node<S: Alter>(tx: &mut Transaction<'_, S>) -> Result<(), Error>
+    ensures same_reference { tx.new.conn.ghost_name ≡ tx.old.conn.ghost_name }
+    ensures ok { HasCleanDisk (state S.Store tx.new.conn.now) → OnOk result (IsMade schema_1 (state S.Store tx.old.conn.now).now → IsMade schema_2 (state S.Store tx.new.conn.now).now) }
+    ensures inside { HasCleanDisk (state S.Store tx.new.conn.now) → OnOk result (tx.new.conn.now.in_transaction ≡ true) }
+    ensures kept { HasCleanDisk (state S.Store tx.new.conn.now) → KeepsCommit (state S.Store tx.old.conn.now) (state S.Store tx.new.conn.now) }
+    ensures crash { Survives (state S.Store tx.old.conn.now) (state S.Store tx.new.conn.now) (λ _. ⊥) }
+{
+    tx.execute(
+        "CREATE TABLE node (id INTEGER PRIMARY KEY, parent INTEGER REFERENCES node(id), name TEXT NOT NULL, kind INTEGER NOT NULL CHECK (kind = 0 OR kind = 1), owner TEXT NOT NULL, grp TEXT NOT NULL, aclflag INTEGER NOT NULL CHECK (aclflag >= 0 AND aclflag <= 7), UNIQUE (parent, name)) STRICT",
+        &[],
+    )?;
+    Ok(())
+}
+
+fn make_entry<S: Alter>(tx: &mut Transaction<'_, S>) -> Result<(), Error>
+    ensures same_reference { tx.new.conn.ghost_name ≡ tx.old.conn.ghost_name }
+    ensures ok { HasCleanDisk (state S.Store tx.new.conn.now) → OnOk result (IsMade schema_2 (state S.Store tx.old.conn.now).now → IsMade schema_3 (state S.Store tx.new.conn.now).now) }
+    ensures inside { HasCleanDisk (state S.Store tx.new.conn.now) → OnOk result (tx.new.conn.now.in_transaction ≡ true) }
+    ensures kept { HasCleanDisk (state S.Store tx.new.conn.now) → KeepsCommit (state S.Store tx.old.conn.now) (state S.Store tx.new.conn.now) }
+    ensures crash { Survives (state S.Store tx.old.conn.now) (state S.Store tx.new.conn.now) (λ _. ⊥) }
+{
+    tx.execute(
+        "CREATE TABLE entry (node INTEGER NOT NULL REFERENCES node(id) ON DELETE CASCADE, place INTEGER NOT NULL, type INTEGER NOT NULL CHECK (type = 0 OR type = 1), flag INTEGER NOT NULL, mask INTEGER NOT NULL, who TEXT NOT NULL, PRIMARY KEY (node, place)) STRICT",
+        &[],
+    )?;
+    Ok(())
+}
+
+fn make_doc<S: Alter>(tx: &mut Transaction<'_, S>) -> Result<(), Error>
+    ensures same_reference { tx.new.conn.ghost_name ≡ tx.old.conn.ghost_name }
+    ensures ok { HasCleanDisk (state S.Store tx.new.conn.now) → OnOk result (IsMade schema_3 (state S.Store tx.old.conn.now).now → IsMade schema_4 (state S.Store tx.new.conn.now).now) }
+    ensures inside { HasCleanDisk (state S.Store tx.new.conn.now) → OnOk result (tx.new.conn.now.in_transaction ≡ true) }
+    ensures kept { HasCleanDisk (state S.Store tx.new.conn.now) → KeepsCommit (state S.Store tx.old.conn.now) (state S.Store tx.new.conn.now) }
+    ensures crash { Survives (state S.Store tx.old.conn.now) (state S.Store tx.new.conn.now) (λ _. ⊥) }
+{
+    tx.execute(
+        "CREATE TABLE doc (node INTEGER PRIMARY KEY REFERENCES node(id) ON DELETE CASCADE, bytes BLOB NOT NULL) STRICT",
+        &[],
+    )?;
+    Ok(())
+}
+
+fn make_session<S: Alter>(tx: &mut Transaction<'_, S>) -> Result<(), Error>
+    ensures same_reference { tx.new.conn.ghost_name ≡ tx.old.conn.ghost_name }
+    ensures ok { HasCleanDisk (state S.Store tx.new.conn.now) → OnOk result (IsMade schema_4 (state S.Store tx.old.conn.now).now → IsMade schema_5 (state S.Store tx.new.conn.now).now) }
+    ensures inside { HasCleanDisk (state S.Store tx.new.conn.now) → OnOk result (tx.new.conn.now.in_transaction ≡ true) }
+    ensures kept { HasCleanDisk (state S.Store tx.new.conn.now) → KeepsCommit (state S.Store tx.old.conn.now) (state S.Store tx.new.conn.now) }
+    ensures crash { Survives (state S.Store tx.old.conn.now) (state S.Store tx.new.conn.now) (λ _. ⊥) }
+{
+    tx.execute(
+        "CREATE TABLE session (sid TEXT PRIMARY KEY NOT NULL, owner TEXT NOT NULL, slots INTEGER NOT NULL, open INTEGER NOT NULL CHECK (open = 0 OR open = 1)) STRICT",
+        &[],
+    )?;
+    Ok(())
+}
+
+fn make_slot<S: Alter>(tx: &mut Transaction<'_, S>) -> Result<(), Error>
+    ensures same_reference { tx.new.conn.ghost_name ≡ tx.old.conn.ghost_name }
+    ensures ok { HasCleanDisk (state S.Store tx.new.conn.now) → OnOk result (IsMade schema_5 (state S.Store tx.old.conn.now).now → IsMade room_schema (state S.Store tx.new.conn.now).now) }
+    ensures inside { HasCleanDisk (state S.Store tx.new.conn.now) → OnOk result (tx.new.conn.now.in_transaction ≡ true) }
+    ensures kept { HasCleanDisk (state S.Store tx.new.conn.now) → KeepsCommit (state S.Store tx.old.conn.now) (state S.Store tx.new.conn.now) }
+    ensures crash { Survives (state S.Store tx.old.conn.now) (state S.Store tx.new.conn.now) (λ _. ⊥) }
+{
+    tx.execute(
+        "CREATE TABLE slot (sid TEXT NOT NULL REFERENCES session(sid), slot INTEGER NOT NULL, seq INTEGER NOT NULL, request BLOB NOT NULL, reply BLOB NOT NULL, PRIMARY KEY (sid, slot)) STRICT",
+        &[],
+    )?;
+    Ok(())
+}
+
+fn make_half<S: Alter>(tx: &mut Transaction<'_, S>) -> Result<(), Error>
+    ensures same_reference { tx.new.conn.ghost_name ≡ tx.old.conn.ghost_name }
+    ensures ok { HasCleanDisk (state S.Store tx.new.conn.now) → OnOk result (tx.old.conn.now.schema ≡ schema_0 → IsMade schema_3 (state S.Store tx.new.conn.now).now) }
+    ensures inside { HasCleanDisk (state S.Store tx.new.conn.now) → OnOk result (tx.new.conn.now.in_transaction ≡ true) }
+    ensures kept { HasCleanDisk (state S.Store tx.new.conn.now) → KeepsCommit (state S.Store tx.old.conn.now) (state S.Store tx.new.conn.now) }
+    ensures crash { Survives (state S.Store tx.old.conn.now) (state S.Store tx.new.conn.now) (λ _. ⊥) }
+{
+    make_room(tx)?;
+    make_node(tx)?;
+    make_entry(tx)
+}
+
+fn make_tables<S: Alter>(tx: &mut Transaction<'_, S>) -> Result<(), Error>
+    ensures same_reference { tx.new.conn.ghost_name ≡ tx.old.conn.ghost_name }
+    ensures ok { HasCleanDisk (state S.Store tx.new.conn.now) → OnOk result (tx.old.conn.now.schema ≡ schema_0 → IsMade room_schema (state S.Store tx.new.conn.now).now) }
+    ensures inside { HasCleanDisk (state S.Store tx.new.conn.now) → OnOk result (tx.new.conn.now.in_transaction ≡ true) }
+    ensures kept { HasCleanDisk (state S.Store tx.new.conn.now) → KeepsCommit (state S.Store tx.old.conn.now) (state S.Store tx.new.conn.now) }
+    ensures crash { Survives (state S.Store tx.old.conn.now) (state S.Store tx.new.conn.now) (λ _. ⊥) }
+{
+    make_half(tx)?;
+    make_doc(tx)?;
+    make_session(tx)?;
+    make_slot(tx)
+}
+
+/// The root of a fresh room: a folder of this owner and group.
+fn fresh_root(owner: &Principal, group: &Principal) -> Result<Node, Error>
+    ensures { IfOk result (λ node. node ≡ record { id = 1; parent = None; name = None; kind = Folder; owner = owner.now; group = group.now; aclflag = 0 }) }
+{
+    let Some(aclflag) = ListFlags::new(0) else {
+        return Err(bad_value());
+    };
+    Ok(Node {
+        id: 1,
+        parent: None,
+        name: None,
+        kind: Kind::Folder,
+        owner: owner.clone()?,
+        group: group.clone()?,
+        aclflag,
+    })
+}
+
+/// An entry that allows and is handed down to files and folders.
+fn fresh_entry(mask: u32, who: Who) -> Result<Entry, Error>
+    ensures { IfOk result (λ entry. entry ≡ record { allow = true; flags = 3; mask = mask; who = who }) }
+{
+    let Some(flags) = Flags::new(3) else {
+        return Err(bad_value());
+    };
+    let Some(mask) = Mask::new(mask) else {
+        return Err(bad_value());
+    };
+    match Entry::new(true, flags, mask, who) {
+        Some(entry) => Ok(entry),
+        None => Err(bad_value()),
+    }
+}
+
+/// The root's entries: all rights for its owner, and reading for its group.
+fn fresh_entries(alloc: Global) -> Result<Vec<Entry>, Error>
+    ensures { IfOk result (λ entries. entries.items ≡ record { allow = true; flags = 3; mask = 0x1F07FF; who = Owner } ∷ record { allow = true; flags = 3; mask = 0x1200A9; who = Group } ∷ []) }
+{
+    let mut entries = Vec::new(alloc);
+    entries.push(fresh_entry(0x001F_07FF, Who::Owner)?)?;
+    entries.push(fresh_entry(0x0012_00A9, Who::Group)?)?;
+    Ok(entries)
+}
+
+/// Fills tables that were just made.
+fn fill<S: Alter>(
+    tx: &mut Transaction<'_, S>,
+    root: &Node,
+    entries: &Vec<Entry>,
+) -> Result<(), Error>
+    ensures same_reference { tx.new.conn.ghost_name ≡ tx.old.conn.ghost_name }
+    ensures ok { HasCleanDisk (state S.Store tx.new.conn.now) → OnOk result (IsRoomDatabase (state S.Store tx.old.conn.now).now →
+        Steps (state S.Store tx.old.conn.now) (state S.Store tx.new.conn.now) (λ r. apply_change (PutNext 2) (apply_change (PutEntries 1 entries.now) (apply_change (PutNode root.now) r)))) }
+    ensures inside { HasCleanDisk (state S.Store tx.new.conn.now) → OnOk result (tx.new.conn.now.in_transaction ≡ true) }
+    ensures kept { HasCleanDisk (state S.Store tx.new.conn.now) → KeepsCommit (state S.Store tx.old.conn.now) (state S.Store tx.new.conn.now) }
+    ensures crash { Survives (state S.Store tx.old.conn.now) (state S.Store tx.new.conn.now) (λ _. ⊥) }
+{
+    put_node(tx, root)?;
+    put_entries(tx, 1, entries)?;
+    put_next(tx, 2)
+}
+
+fn make_fresh<S: Alter>(
+    tx: &mut Transaction<'_, S>,
+    root: &Node,
+    entries: &Vec<Entry>,
+) -> Result<(), Error>
+    ensures same_reference { tx.new.conn.ghost_name ≡ tx.old.conn.ghost_name }
+    ensures ok { HasCleanDisk (state S.Store tx.new.conn.now) → OnOk result (tx.old.conn.now.schema ≡ schema_0 → IsRoomDatabase (state S.Store tx.new.conn.now).now ×
+        (records_of (state S.Store tx.new.conn.now).now.trees ≡ filled root.now entries.now)) }
+    ensures inside { HasCleanDisk (state S.Store tx.new.conn.now) → OnOk result (tx.new.conn.now.in_transaction ≡ true) }
+    ensures kept { HasCleanDisk (state S.Store tx.new.conn.now) → KeepsCommit (state S.Store tx.old.conn.now) (state S.Store tx.new.conn.now) }
+    ensures crash { Survives (state S.Store tx.old.conn.now) (state S.Store tx.new.conn.now) (λ _. ⊥) }
+{
+    make_tables(tx)?;
+    fill(tx, root, entries)
+}
+
+fn commit_fresh<S: Alter>(
+    conn: &mut Connection<S>,
+    root: &Node,
+    entries: &Vec<Entry>,
+) -> Result<(), Error>
+    requires { conn.old.in_transaction ≡ false }
+    ensures mode { conn.new.in_transaction ≡ false }
+    ensures ok { HasCleanDisk (state S.Store conn.new) → OnOk result (IsTrue (state S.Store conn.new).is_open × (conn.old.schema ≡ schema_0 →
+        IsRoomDatabase (state S.Store conn.new).now × (records_of (state S.Store conn.new).now.trees ≡ filled root.now entries.now))) }
+    ensures err { HasCleanDisk (state S.Store conn.new) → IsTrue (state S.Store conn.new).is_open → OnErr result ((state S.Store conn.new).now ≡ (state S.Store conn.old).committed) }
+    ensures settled { HasCleanDisk (state S.Store conn.new) → OnOk result ((state S.Store conn.new).committed ≡ (state S.Store conn.new).now) }
+    ensures kept { HasCleanDisk (state S.Store conn.new) → IsTrue (state S.Store conn.new).is_open → IsTrue (state S.Store conn.old).is_open }
+    ensures crash { Survives (state S.Store conn.old) (state S.Store conn.new) (MayBeFilled root.now entries.now (state S.Store conn.old).now) }
+{
+    let mut tx = conn.transaction();
+    make_fresh(&mut tx, root, entries)?;
+    tx.commit()
+}
+
+/// Makes the tables and a fresh room in one transaction, or nothing.
+pub(crate) fn make<S: Alter>(
+    conn: &mut Connection<S>,
+    alloc: Global,
+    owner: &Principal,
+    group: &Principal,
+) -> Result<(), Error>
+    requires { conn.old.in_transaction ≡ false }
+    ensures mode { conn.new.in_transaction ≡ false }
+    ensures ok { HasCleanDisk (state S.Store conn.new) → OnOk result (IsTrue (state S.Store conn.new).is_open × (conn.old.schema ≡ schema_0 →
+        IsRoomDatabase (state S.Store conn.new).now × IsFresh owner.now group.now (records_of (state S.Store conn.new).now.trees))) }
+    ensures settled { HasCleanDisk (state S.Store conn.new) → OnOk result ((state S.Store conn.new).committed ≡ (state S.Store conn.new).now) }
+    ensures crash { Survives (state S.Store conn.old) (state S.Store conn.new) (MayBeMade owner.now group.now (state S.Store conn.old).now) }
+{
+    let root = fresh_root(owner, group)?;
+    let entries = fresh_entries(alloc)?;
+    commit_fresh(conn, &root, &entries)
+}

@@ -1,0 +1,122 @@
+//! Values of a room as the tables hold them.
+
+ghost use Rattle.std.specs.Prelude.{◌≡◌};
+ghost use Rattle.room_tables.specs.Rows.{name_of_text, who_of};
+ghost use Rattle.room_tables.specs.Layout.{parent_value};
+ghost use Rattle.room_tables.specs.Steps.{kind_number, flag_of, type_of, text_of_who};
+
+use room_acl::{Entry, Kind, Who};
+use room_records::Node;
+use room_slots::Kept;
+use sqlite::types::Value;
+
+/// The name of a node, and the empty text for the root's.
+pub(crate) fn name_text(node: &Node) -> &str
+    ensures { name_of_text result.now ≡ node.now.name }
+{
+    match &node.name {
+        Some(name) => name.text(),
+        None => "",
+    }
+}
+
+pub(crate) fn node_number(node: &Node) -> u32
+    ensures { result ≡ node.now.id }
+{
+    node.id
+}
+
+/// The parent's number, and NULL for the root.
+pub(crate) fn parent_value(node: &Node) -> Value
+    ensures { result ≡ parent_value node.now.parent }
+{
+    match node.parent {
+        Some(parent) => Value::Int(i64::from(parent)),
+        None => Value::Null,
+    }
+}
+
+/// 0 for a file and 1 for a folder.
+pub(crate) fn kind_number(node: &Node) -> u32
+    ensures { result ≡ kind_number node.now.kind }
+{
+    match node.kind {
+        Kind::File => 0,
+        Kind::Folder => 1,
+    }
+}
+
+pub(crate) fn owner_text(node: &Node) -> &str
+    ensures { result.now ≡ node.now.owner }
+{
+    node.owner.text()
+}
+
+pub(crate) fn group_text(node: &Node) -> &str
+    ensures { result.now ≡ node.now.group }
+{
+    node.group.text()
+}
+
+pub(crate) fn list_flags(node: &Node) -> u32
+    ensures { result ≡ node.now.aclflag }
+{
+    u32::from(node.aclflag.bits())
+}
+
+pub(crate) fn flag_number(flag: bool) -> u32
+    ensures { result ≡ flag_of flag }
+{
+    if flag { 1 } else { 0 }
+}
+
+/// 0 is ALLOW and 1 is DENY.
+pub(crate) fn type_number(entry: &Entry) -> u32
+    ensures { result ≡ type_of entry.now.allow }
+{
+    if entry.allow() { 0 } else { 1 }
+}
+
+pub(crate) fn entry_flags(entry: &Entry) -> u32
+    ensures { result ≡ entry.now.flags }
+{
+    u32::from(entry.flags().bits())
+}
+
+pub(crate) fn entry_mask(entry: &Entry) -> u32
+    ensures { result ≡ entry.now.mask }
+{
+    entry.mask().bits()
+}
+
+pub(crate) fn kept_number(kept: &Kept) -> u32
+    ensures { result ≡ kept.now.seq }
+{
+    kept.seq
+}
+
+pub(crate) fn kept_request(kept: &Kept) -> &[u8]
+    ensures { result.now ≡ kept.now.request }
+{
+    kept.request.as_slice()
+}
+
+pub(crate) fn kept_reply(kept: &Kept) -> &[u8]
+    ensures { result.now ≡ kept.now.reply }
+{
+    kept.reply.as_slice()
+}
+
+/// Whom the entry names, as text that is read back as the same.
+pub(crate) fn who_text(entry: &Entry) -> &str
+    ensures value { result.now ≡ text_of_who entry.now.who }
+    ensures back { who_of entry.now.flags result.now ≡ entry.now.who }
+{
+    match entry.who() {
+        Who::Owner => "OWNER@",
+        Who::Group => "GROUP@",
+        Who::Everyone => "EVERYONE@",
+        Who::User(name) => name.text(),
+        Who::Members(name) => name.text(),
+    }
+}

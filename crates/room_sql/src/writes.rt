@@ -1,0 +1,305 @@
+//! The changes, each inside a transaction.
+
+ghost use Rattle.std.specs.Prelude.{◌≡◌, [], ◌∷◌, ◌++◌, length, OnOk, OnErr, true, false, IsTrue};
+ghost use Rattle.sqlite.specs.State.{HasCleanDisk, KeepsCommit, Survives};
+ghost use Rattle.sqlite.specs.Held.{state};
+ghost use Rattle.room_records.specs.Records.{Records};
+ghost use Rattle.room_records.specs.Changes.{apply_change, apply_changes};
+ghost use Rattle.room_records.specs.declared.change.Change.TheVariants.{PutNode, DropNode, PutEntries, PutDoc, PutSession, PutSlot, DropSlots, PutNext};
+ghost use Rattle.room_tables.specs.Rows.{records_of};
+ghost use Rattle.room_tables.specs.Layout.{IsRoomDatabase};
+ghost use Rattle.room_tables.specs.Steps.{Steps, Lists, MayBecome, HasNoSlot, without_slot};
+
+use crate::values::{
+    entry_flags, entry_mask, flag_number, group_text, kept_number, kept_reply, kept_request,
+    kind_number, list_flags, name_text, node_number, owner_text, parent_value, type_number,
+    who_text,
+};
+use room_acl::Entry;
+use room_records::{Change, Node, SessionRow, Sid, SlotRow};
+use room_slots::Kept;
+use sqlite::{Alter, Connection, Error, ErrorCode, Transaction, params};
+
+/// Adds or replaces the row of the node's number. Entries and document stay.
+pub(crate) fn put_node<S: Alter>(tx: &mut Transaction<'_, S>, node: &Node) -> Result<(), Error>
+    ensures same_reference { tx.new.conn.ghost_name ≡ tx.old.conn.ghost_name }
+    ensures ok { HasCleanDisk (state S.Store tx.new.conn.now) → OnOk result (IsRoomDatabase (state S.Store tx.old.conn.now).now →
+        Steps (state S.Store tx.old.conn.now) (state S.Store tx.new.conn.now) (apply_change (PutNode node.now))) }
+    ensures inside { HasCleanDisk (state S.Store tx.new.conn.now) → OnOk result (tx.new.conn.now.in_transaction ≡ true) }
+    ensures kept { HasCleanDisk (state S.Store tx.new.conn.now) → KeepsCommit (state S.Store tx.old.conn.now) (state S.Store tx.new.conn.now) }
+    ensures crash { Survives (state S.Store tx.old.conn.now) (state S.Store tx.new.conn.now) (λ _. ⊥) }
+{
+    let name = name_text(node);
+    let id = node_number(node);
+    let parent = parent_value(node);
+    let kind = kind_number(node);
+    let owner = owner_text(node);
+    let group = group_text(node);
+    let aclflag = list_flags(node);
+    tx.execute(
+        "INSERT INTO node (id, parent, name, kind, owner, grp, aclflag) VALUES (?1, ?2, ?3, ?4, ?5, ?6, ?7) ON CONFLICT (id) DO UPDATE SET parent = excluded.parent, name = excluded.name, kind = excluded.kind, owner = excluded.owner, grp = excluded.grp, aclflag = excluded.aclflag",
+        params![id, &parent, name, kind, owner, group, aclflag],
+    )?;
+    Ok(())
+}
+
+/// Takes the node away, and its entries and document by ON DELETE CASCADE.
+fn drop_node<S: Alter>(tx: &mut Transaction<'_, S>, id: u32) -> Result<(), Error>
+    ensures same_reference { tx.new.conn.ghost_name ≡ tx.old.conn.ghost_name }
+    ensures ok { HasCleanDisk (state S.Store tx.new.conn.now) → OnOk result (IsRoomDatabase (state S.Store tx.old.conn.now).now →
+        Steps (state S.Store tx.old.conn.now) (state S.Store tx.new.conn.now) (apply_change (DropNode id))) }
+    ensures inside { HasCleanDisk (state S.Store tx.new.conn.now) → OnOk result (tx.new.conn.now.in_transaction ≡ true) }
+    ensures kept { HasCleanDisk (state S.Store tx.new.conn.now) → KeepsCommit (state S.Store tx.old.conn.now) (state S.Store tx.new.conn.now) }
+    ensures crash { Survives (state S.Store tx.old.conn.now) (state S.Store tx.new.conn.now) (λ _. ⊥) }
+{
+    tx.execute("DELETE FROM node WHERE id = ?1", params![id])?;
+    Ok(())
+}
+
+/// Takes the object's entries away.
+fn clear_entries<S: Alter>(tx: &mut Transaction<'_, S>, id: u32) -> Result<(), Error>
+    ensures same_reference { tx.new.conn.ghost_name ≡ tx.old.conn.ghost_name }
+    ensures ok { HasCleanDisk (state S.Store tx.new.conn.now) → OnOk result (IsRoomDatabase (state S.Store tx.old.conn.now).now →
+        Lists (records_of (state S.Store tx.old.conn.now).now.trees) id [] (state S.Store tx.new.conn.now).now) }
+    ensures inside { HasCleanDisk (state S.Store tx.new.conn.now) → OnOk result (tx.new.conn.now.in_transaction ≡ true) }
+    ensures kept { HasCleanDisk (state S.Store tx.new.conn.now) → KeepsCommit (state S.Store tx.old.conn.now) (state S.Store tx.new.conn.now) }
+    ensures crash { Survives (state S.Store tx.old.conn.now) (state S.Store tx.new.conn.now) (λ _. ⊥) }
+{
+    tx.execute("DELETE FROM entry WHERE node = ?1", params![id])?;
+    Ok(())
+}
+
+/// Puts one more entry at the end of the object's.
+fn add_entry<S: Alter>(
+    tx: &mut Transaction<'_, S>,
+    id: u32,
+    place: u32,
+    entry: &Entry,
+) -> Result<(), Error>
+    ensures same_reference { tx.new.conn.ghost_name ≡ tx.old.conn.ghost_name }
+    ensures ok { HasCleanDisk (state S.Store tx.new.conn.now) → OnOk result ((records : Records) (before : _) → length before ≡ place →
+        Lists records id before (state S.Store tx.old.conn.now).now → Lists records id (before ++ entry.now ∷ []) (state S.Store tx.new.conn.now).now) }
+    ensures inside { HasCleanDisk (state S.Store tx.new.conn.now) → OnOk result (tx.new.conn.now.in_transaction ≡ true) }
+    ensures kept { HasCleanDisk (state S.Store tx.new.conn.now) → KeepsCommit (state S.Store tx.old.conn.now) (state S.Store tx.new.conn.now) }
+    ensures crash { Survives (state S.Store tx.old.conn.now) (state S.Store tx.new.conn.now) (λ _. ⊥) }
+{
+    let kind = type_number(entry);
+    let flags = entry_flags(entry);
+    let mask = entry_mask(entry);
+    let who = who_text(entry);
+    tx.execute(
+        "INSERT INTO entry (node, place, type, flag, mask, who) VALUES (?1, ?2, ?3, ?4, ?5, ?6)",
+        params![id, place, kind, flags, mask, who],
+    )?;
+    Ok(())
+}
+
+fn add_entries<S: Alter>(
+    tx: &mut Transaction<'_, S>,
+    id: u32,
+    entries: &[Entry],
+) -> Result<(), Error>
+    ensures same_reference { tx.new.conn.ghost_name ≡ tx.old.conn.ghost_name }
+    ensures ok { HasCleanDisk (state S.Store tx.new.conn.now) → OnOk result ((records : Records) → Lists records id [] (state S.Store tx.old.conn.now).now →
+        Lists records id entries.now (state S.Store tx.new.conn.now).now) }
+    ensures inside { HasCleanDisk (state S.Store tx.new.conn.now) → OnOk result (tx.old.conn.now.in_transaction ≡ true → tx.new.conn.now.in_transaction ≡ true) }
+    ensures kept { HasCleanDisk (state S.Store tx.new.conn.now) → KeepsCommit (state S.Store tx.old.conn.now) (state S.Store tx.new.conn.now) }
+    ensures crash { Survives (state S.Store tx.old.conn.now) (state S.Store tx.new.conn.now) (λ _. ⊥) }
+{
+    for (index, entry) in entries.iter().enumerate() {
+        let Ok(place) = u32::try_from(index) else {
+            return Err(Error::SqliteFailure(ErrorCode::TooBig));
+        };
+        add_entry(tx, id, place, entry)?;
+    }
+    Ok(())
+}
+
+/// Replaces the object's entries. Their places are 0, 1, 2, ..
+pub(crate) fn put_entries<S: Alter>(
+    tx: &mut Transaction<'_, S>,
+    id: u32,
+    entries: &Vec<Entry>,
+) -> Result<(), Error>
+    ensures same_reference { tx.new.conn.ghost_name ≡ tx.old.conn.ghost_name }
+    ensures ok { HasCleanDisk (state S.Store tx.new.conn.now) → OnOk result (IsRoomDatabase (state S.Store tx.old.conn.now).now →
+        Steps (state S.Store tx.old.conn.now) (state S.Store tx.new.conn.now) (apply_change (PutEntries id entries.now))) }
+    ensures inside { HasCleanDisk (state S.Store tx.new.conn.now) → OnOk result (tx.new.conn.now.in_transaction ≡ true) }
+    ensures kept { HasCleanDisk (state S.Store tx.new.conn.now) → KeepsCommit (state S.Store tx.old.conn.now) (state S.Store tx.new.conn.now) }
+    ensures crash { Survives (state S.Store tx.old.conn.now) (state S.Store tx.new.conn.now) (λ _. ⊥) }
+{
+    clear_entries(tx, id)?;
+    add_entries(tx, id, entries.as_slice())
+}
+
+/// Adds or replaces the document.
+fn put_doc<S: Alter>(tx: &mut Transaction<'_, S>, id: u32, bytes: &Vec<u8>) -> Result<(), Error>
+    ensures same_reference { tx.new.conn.ghost_name ≡ tx.old.conn.ghost_name }
+    ensures ok { HasCleanDisk (state S.Store tx.new.conn.now) → OnOk result (IsRoomDatabase (state S.Store tx.old.conn.now).now →
+        Steps (state S.Store tx.old.conn.now) (state S.Store tx.new.conn.now) (apply_change (PutDoc id bytes.now))) }
+    ensures inside { HasCleanDisk (state S.Store tx.new.conn.now) → OnOk result (tx.new.conn.now.in_transaction ≡ true) }
+    ensures kept { HasCleanDisk (state S.Store tx.new.conn.now) → KeepsCommit (state S.Store tx.old.conn.now) (state S.Store tx.new.conn.now) }
+    ensures crash { Survives (state S.Store tx.old.conn.now) (state S.Store tx.new.conn.now) (λ _. ⊥) }
+{
+    tx.execute(
+        "INSERT INTO doc (node, bytes) VALUES (?1, ?2) ON CONFLICT (node) DO UPDATE SET bytes = excluded.bytes",
+        params![id, bytes],
+    )?;
+    Ok(())
+}
+
+/// Adds or replaces the row of a session name. What its slots keep stays.
+fn put_session<S: Alter>(tx: &mut Transaction<'_, S>, row: &SessionRow) -> Result<(), Error>
+    ensures same_reference { tx.new.conn.ghost_name ≡ tx.old.conn.ghost_name }
+    ensures ok { HasCleanDisk (state S.Store tx.new.conn.now) → OnOk result (IsRoomDatabase (state S.Store tx.old.conn.now).now →
+        Steps (state S.Store tx.old.conn.now) (state S.Store tx.new.conn.now) (apply_change (PutSession row.now))) }
+    ensures inside { HasCleanDisk (state S.Store tx.new.conn.now) → OnOk result (tx.new.conn.now.in_transaction ≡ true) }
+    ensures kept { HasCleanDisk (state S.Store tx.new.conn.now) → KeepsCommit (state S.Store tx.old.conn.now) (state S.Store tx.new.conn.now) }
+    ensures crash { Survives (state S.Store tx.old.conn.now) (state S.Store tx.new.conn.now) (λ _. ⊥) }
+{
+    let sid = row.sid.text();
+    let owner = row.owner.text();
+    let slots = row.slots.get();
+    let is_open = flag_number(row.is_open);
+    tx.execute(
+        "INSERT INTO session (sid, owner, slots, open) VALUES (?1, ?2, ?3, ?4) ON CONFLICT (sid) DO UPDATE SET owner = excluded.owner, slots = excluded.slots, open = excluded.open",
+        params![sid, owner, slots, is_open],
+    )?;
+    Ok(())
+}
+
+/// Takes away what one slot keeps.
+fn drop_slot<S: Alter>(tx: &mut Transaction<'_, S>, sid: &Sid, slot: u32) -> Result<(), Error>
+    ensures same_reference { tx.new.conn.ghost_name ≡ tx.old.conn.ghost_name }
+    ensures ok { HasCleanDisk (state S.Store tx.new.conn.now) → OnOk result (IsRoomDatabase (state S.Store tx.old.conn.now).now →
+        Steps (state S.Store tx.old.conn.now) (state S.Store tx.new.conn.now) (without_slot sid.now slot) × HasNoSlot sid.now slot (state S.Store tx.new.conn.now).now.trees) }
+    ensures inside { HasCleanDisk (state S.Store tx.new.conn.now) → OnOk result (tx.new.conn.now.in_transaction ≡ true) }
+    ensures kept { HasCleanDisk (state S.Store tx.new.conn.now) → KeepsCommit (state S.Store tx.old.conn.now) (state S.Store tx.new.conn.now) }
+    ensures crash { Survives (state S.Store tx.old.conn.now) (state S.Store tx.new.conn.now) (λ _. ⊥) }
+{
+    let sid = sid.text();
+    tx.execute(
+        "DELETE FROM slot WHERE sid = ?1 AND slot = ?2",
+        params![sid, slot],
+    )?;
+    Ok(())
+}
+
+/// Puts what a slot keeps, which kept nothing.
+fn add_slot<S: Alter>(
+    tx: &mut Transaction<'_, S>,
+    sid: &Sid,
+    slot: u32,
+    kept: &Kept,
+) -> Result<(), Error>
+    ensures same_reference { tx.new.conn.ghost_name ≡ tx.old.conn.ghost_name }
+    ensures ok { HasCleanDisk (state S.Store tx.new.conn.now) → OnOk result (IsRoomDatabase (state S.Store tx.old.conn.now).now → HasNoSlot sid.now slot (state S.Store tx.old.conn.now).now.trees →
+        Steps (state S.Store tx.old.conn.now) (state S.Store tx.new.conn.now) (apply_change (PutSlot (record { sid = sid.now; slot = slot; kept = kept.now })))) }
+    ensures inside { HasCleanDisk (state S.Store tx.new.conn.now) → OnOk result (tx.new.conn.now.in_transaction ≡ true) }
+    ensures kept { HasCleanDisk (state S.Store tx.new.conn.now) → KeepsCommit (state S.Store tx.old.conn.now) (state S.Store tx.new.conn.now) }
+    ensures crash { Survives (state S.Store tx.old.conn.now) (state S.Store tx.new.conn.now) (λ _. ⊥) }
+{
+    let sid = sid.text();
+    let seq = kept_number(kept);
+    let request = kept_request(kept);
+    let reply = kept_reply(kept);
+    tx.execute(
+        "INSERT INTO slot (sid, slot, seq, request, reply) VALUES (?1, ?2, ?3, ?4, ?5)",
+        params![sid, slot, seq, request, reply],
+    )?;
+    Ok(())
+}
+
+/// Adds or replaces what a slot keeps.
+fn put_slot<S: Alter>(tx: &mut Transaction<'_, S>, row: &SlotRow) -> Result<(), Error>
+    ensures same_reference { tx.new.conn.ghost_name ≡ tx.old.conn.ghost_name }
+    ensures ok { HasCleanDisk (state S.Store tx.new.conn.now) → OnOk result (IsRoomDatabase (state S.Store tx.old.conn.now).now →
+        Steps (state S.Store tx.old.conn.now) (state S.Store tx.new.conn.now) (apply_change (PutSlot row.now))) }
+    ensures inside { HasCleanDisk (state S.Store tx.new.conn.now) → OnOk result (tx.new.conn.now.in_transaction ≡ true) }
+    ensures kept { HasCleanDisk (state S.Store tx.new.conn.now) → KeepsCommit (state S.Store tx.old.conn.now) (state S.Store tx.new.conn.now) }
+    ensures crash { Survives (state S.Store tx.old.conn.now) (state S.Store tx.new.conn.now) (λ _. ⊥) }
+{
+    drop_slot(tx, &row.sid, row.slot)?;
+    add_slot(tx, &row.sid, row.slot, &row.kept)
+}
+
+/// Takes away what all slots of a session keep.
+fn drop_slots<S: Alter>(tx: &mut Transaction<'_, S>, sid: &Sid) -> Result<(), Error>
+    ensures same_reference { tx.new.conn.ghost_name ≡ tx.old.conn.ghost_name }
+    ensures ok { HasCleanDisk (state S.Store tx.new.conn.now) → OnOk result (IsRoomDatabase (state S.Store tx.old.conn.now).now →
+        Steps (state S.Store tx.old.conn.now) (state S.Store tx.new.conn.now) (apply_change (DropSlots sid.now))) }
+    ensures inside { HasCleanDisk (state S.Store tx.new.conn.now) → OnOk result (tx.new.conn.now.in_transaction ≡ true) }
+    ensures kept { HasCleanDisk (state S.Store tx.new.conn.now) → KeepsCommit (state S.Store tx.old.conn.now) (state S.Store tx.new.conn.now) }
+    ensures crash { Survives (state S.Store tx.old.conn.now) (state S.Store tx.new.conn.now) (λ _. ⊥) }
+{
+    let sid = sid.text();
+    tx.execute("DELETE FROM slot WHERE sid = ?1", params![sid])?;
+    Ok(())
+}
+
+/// Sets the next number.
+pub(crate) fn put_next<S: Alter>(tx: &mut Transaction<'_, S>, next: u32) -> Result<(), Error>
+    ensures same_reference { tx.new.conn.ghost_name ≡ tx.old.conn.ghost_name }
+    ensures ok { HasCleanDisk (state S.Store tx.new.conn.now) → OnOk result (IsRoomDatabase (state S.Store tx.old.conn.now).now →
+        Steps (state S.Store tx.old.conn.now) (state S.Store tx.new.conn.now) (apply_change (PutNext next))) }
+    ensures inside { HasCleanDisk (state S.Store tx.new.conn.now) → OnOk result (tx.new.conn.now.in_transaction ≡ true) }
+    ensures kept { HasCleanDisk (state S.Store tx.new.conn.now) → KeepsCommit (state S.Store tx.old.conn.now) (state S.Store tx.new.conn.now) }
+    ensures crash { Survives (state S.Store tx.old.conn.now) (state S.Store tx.new.conn.now) (λ _. ⊥) }
+{
+    tx.execute(
+        "INSERT INTO room (one, version, next) VALUES (1, 1, ?1) ON CONFLICT (one) DO UPDATE SET next = excluded.next",
+        params![next],
+    )?;
+    Ok(())
+}
+
+fn apply<S: Alter>(tx: &mut Transaction<'_, S>, change: &Change) -> Result<(), Error>
+    ensures same_reference { tx.new.conn.ghost_name ≡ tx.old.conn.ghost_name }
+    ensures ok { HasCleanDisk (state S.Store tx.new.conn.now) → OnOk result (IsRoomDatabase (state S.Store tx.old.conn.now).now →
+        Steps (state S.Store tx.old.conn.now) (state S.Store tx.new.conn.now) (apply_change change.now)) }
+    ensures inside { HasCleanDisk (state S.Store tx.new.conn.now) → OnOk result (tx.new.conn.now.in_transaction ≡ true) }
+    ensures kept { HasCleanDisk (state S.Store tx.new.conn.now) → KeepsCommit (state S.Store tx.old.conn.now) (state S.Store tx.new.conn.now) }
+    ensures crash { Survives (state S.Store tx.old.conn.now) (state S.Store tx.new.conn.now) (λ _. ⊥) }
+{
+    match change {
+        Change::PutNode(node) => put_node(tx, node),
+        Change::DropNode(id) => drop_node(tx, *id),
+        Change::PutEntries(id, entries) => put_entries(tx, *id, entries),
+        Change::PutDoc(id, bytes) => put_doc(tx, *id, bytes),
+        Change::PutSession(row) => put_session(tx, row),
+        Change::PutSlot(row) => put_slot(tx, row),
+        Change::DropSlots(sid) => drop_slots(tx, sid),
+        Change::PutNext(next) => put_next(tx, *next),
+    }
+}
+
+fn apply_all<S: Alter>(tx: &mut Transaction<'_, S>, changes: &[Change]) -> Result<(), Error>
+    requires { tx.old.conn.now.in_transaction ≡ true }
+    ensures same_reference { tx.new.conn.ghost_name ≡ tx.old.conn.ghost_name }
+    ensures ok { HasCleanDisk (state S.Store tx.new.conn.now) → OnOk result (IsRoomDatabase (state S.Store tx.old.conn.now).now →
+        Steps (state S.Store tx.old.conn.now) (state S.Store tx.new.conn.now) (apply_changes changes.now)) }
+    ensures inside { HasCleanDisk (state S.Store tx.new.conn.now) → OnOk result (tx.new.conn.now.in_transaction ≡ true) }
+    ensures kept { HasCleanDisk (state S.Store tx.new.conn.now) → KeepsCommit (state S.Store tx.old.conn.now) (state S.Store tx.new.conn.now) }
+    ensures crash { Survives (state S.Store tx.old.conn.now) (state S.Store tx.new.conn.now) (λ _. ⊥) }
+{
+    for change in changes {
+        apply(tx, change)?;
+    }
+    Ok(())
+}
+
+/// All changes in order, or none, also over a crash.
+pub(crate) fn commit<S: Alter>(conn: &mut Connection<S>, changes: &[Change]) -> Result<(), Error>
+    requires { conn.old.in_transaction ≡ false }
+    ensures mode { conn.new.in_transaction ≡ false }
+    ensures ok { HasCleanDisk (state S.Store conn.new) → OnOk result (IsTrue (state S.Store conn.new).is_open × (IsRoomDatabase (state S.Store conn.old).now →
+        IsRoomDatabase (state S.Store conn.new).now × MayBecome changes.now (state S.Store conn.old).now (state S.Store conn.new).now.trees)) }
+    ensures err { HasCleanDisk (state S.Store conn.new) → IsTrue (state S.Store conn.new).is_open → OnErr result ((state S.Store conn.new).now ≡ (state S.Store conn.old).committed) }
+    ensures settled { HasCleanDisk (state S.Store conn.new) → OnOk result ((state S.Store conn.new).committed ≡ (state S.Store conn.new).now) }
+    ensures kept { HasCleanDisk (state S.Store conn.new) → IsTrue (state S.Store conn.new).is_open → IsTrue (state S.Store conn.old).is_open }
+    ensures crash { Survives (state S.Store conn.old) (state S.Store conn.new) (MayBecome changes.now (state S.Store conn.old).now) }
+{
+    let mut tx = conn.transaction();
+    apply_all(&mut tx, changes)?;
+    tx.commit()
+}

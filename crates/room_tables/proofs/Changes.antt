@@ -1,0 +1,223 @@
+-- What the statements that write do to the tables.
+use Rattle.std.proofs.Common.{◌≡◌, ◌≢◌, ◌⊎◌, length, ◌/◌, MatchBool, is_lt, int_cmp, inl, inr, ℕ, ℤ, Bool, true, false, not, cond, List, [], ◌∷◌, filter, slice_get, Option, None, Some, Ok, Err, Result, IfErr, OnErr, refl, sym, ap, subst, true≢false, ◌∙◌}
+use Rattle.std.proofs.lemmas.Bool.{cases_Bool}
+use Rattle.sqlite_value.specs.declared.value.Value.TheVariants.{Null, Int}
+use Rattle.sqlite_value.specs.Order.{Row}
+use Rattle.sqlite_trees.specs.Tree.{Trees, rowid, put_row}
+use Rattle.sqlite_sql.specs.Program.{overlay}
+use Rattle.sqlite_keyed.proofs.RuleLemmas.{first_of_both}
+use Rattle.sqlite_rules.specs.Edit.{edit_of, next_rowid, is_taken, are_fresh, put_all}
+use Rattle.sqlite_rules.specs.Calls.{ids_of}
+use Rattle.sqlite_rules.specs.Action.{works}
+use Rattle.sqlite.specs.Rowids.TheVariants.{Chosen, Given, Above}
+use Rattle.sqlite_schema.specs.declared.schema.Keys.TheVariants.{Enforced}
+use Rattle.sqlite.specs.Command.TheVariants.{Insert, InsertOr, Delete}
+use Rattle.sqlite_schema.specs.declared.command.Conflict.TheVariants.{Abort}
+use Rattle.sqlite_schema.specs.declared.command.Upsert.{Upsert}
+use Rattle.sqlite.specs.Source.{Source}
+use Rattle.sqlite.specs.Source.TheVariants.{Values}
+use Rattle.sqlite.specs.Kind.TheVariants.{Integer}
+use Rattle.sqlite.specs.Cast.{cast}
+use Rattle.sqlite.specs.Ops.{unary}
+use Rattle.sqlite_value.specs.declared.value.Value.{Value}
+use Rattle.sqlite.specs.Effect.{Database}
+use Rattle.sqlite.specs.Rows.{Edited, Counts, CountsIn, Gives, sequence, Written, Task, count_of}
+use Rattle.sqlite.specs.Does.{Tally, Does, Concludes, WritesRows}
+use Rattle.sqlite.specs.declared.run.Mode.{Mode}
+use Rattle.sqlite.specs.Table.{Table}
+use Rattle.sqlite.specs.Command.{Command}
+use Rattle.sqlite_schema.specs.declared.program.Program.{Program}
+use Rattle.sqlite.specs.State.{State, mode_of, Executes, Runs, ExecutesInside, IsUnchanged, IsRolledBack, KeepsCommit, Shows}
+use Rattle.sqlite.specs.Steps.{FailsToCommit}
+use Rattle.sqlite.specs.declared.error.Error.{Error}
+use Rattle.sqlite.proofs.Callers.{runs_as, one_step}
+use Rattle.std.specs.List.{AllByRecursion, list_all}
+use Rattle.sqlite_sql.specs.Term.{Term, col, holds}
+use Rattle.sqlite.specs.Rows.{stamped}
+use Rattle.sqlite.specs.Effect.{value_rows}
+use Rattle.sqlite.specs.Listing.{understood}
+use Rattle.sqlite.proofs.Callers.{IsPlain, command_of}
+use Rattle.room_tables.specs.Tables.{room_schema}
+use Rattle.room_tables.specs.Texts.{over_table}
+use Rattle.room_tables.proofs.Queries.{Picks, passing, answer_is, found}
+use Rattle.room_tables.specs.Layout.{IsKeyed}
+use Rattle.room_tables.proofs.Removed.{removed}
+
+-- a part that gave a value did not stop on the way
+pub went : {B E R : Type 0} {b : B} {Stops : E → Type 0} → ((stop : E) × Stops stop × (Ok b ≡ Err stop)) ⊎ R → R
+went (inl stopped) = absurd (let e = stopped.2 in cc)
+went (inr on) = on
+
+pub same_value : {B E : Type 0} {a b : B} → ◌≡◌ {A = Result B E} (Ok a) (Ok b) → a ≡ b
+same_value e = cc
+
+-- what a statement on rows leaves is what its rows make
+concludes : (task : Task) (mode : Mode) (w : Written) (tally : Tally) (new : Database) → Concludes task mode None w (Ok (tally, new)) → new ≡ record { schema = task.schema; trees = w.trees }
+concludes task mode w tally new h =
+    let tested = went h in
+    let returned = went tested.2 in
+    ap (λ (p : Tally × Database). p.1) (same_value returned.2)
+
+abbrev pub task_on : State → Table → Row → Task
+task_on old table params = record { limit = old.step_limit; keys = Enforced; schema = room_schema; table = table; params = params }
+
+-- the command ran on the rows of the table at this place
+pub record Wrote (old new : State) (table : Table) (params : Row) (command : Command) : Type 0 where
+  pub rows : Written
+  pub written : WritesRows (task_on old table params) old.now.trees command (Ok rows)
+  pub now : new.now ≡ record { schema = room_schema; trees = rows.trees }
+
+pub deletes : (old new : State) (at : ℕ) (table : Table) (q : Program) (text : List ℕ) (params : Row) (count : ℕ) → slice_get room_schema.tables at ≡ Some table → old.now.schema ≡ room_schema
+    → Runs old new None (Delete at q) text params count → Wrote old new table params (Delete at q)
+deletes old new at table q text params count place schema w =
+    let all = subst (λ s. Does old.step_limit (mode_of old) params (record old.now { schema = s }) text None (Delete at q) (Ok (w.tally, new.now))) schema w.changed in
+    let done = went (rw place at all) in
+    record { rows = done.0; written = done.1; now = concludes (task_on old table params) (mode_of old) done.0 w.tally new.now done.2 }
+
+pub inserts : (old new : State) (at : ℕ) (table : Table) (from : Source) (text : List ℕ) (params : Row) (count : ℕ) → slice_get room_schema.tables at ≡ Some table → old.now.schema ≡ room_schema
+    → Runs old new None (Insert at from) text params count → Wrote old new table params (Insert at from)
+inserts old new at table from text params count place schema w =
+    let all = subst (λ s. Does old.step_limit (mode_of old) params (record old.now { schema = s }) text None (Insert at from) (Ok (w.tally, new.now))) schema w.changed in
+    let done = went (rw place at all) in
+    record { rows = done.0; written = done.1; now = concludes (task_on old table params) (mode_of old) done.0 w.tally new.now done.2 }
+
+either : (b : Bool) (x : Value) → cond b x x ≡ x
+either true x = refl
+either false x = refl
+
+pub cast_null : cast Integer Null ≡ Null
+unfolding unary
+cast_null = either _ Null
+
+pub cast_int : (n : ℤ) → cast Integer (Int n) ≡ Int n
+unfolding unary
+cast_int n = either _ (Int n)
+
+pub not_true : (b : Bool) → not b ≡ true → b ≡ false
+not_true true h = sym h
+not_true false h = refl
+
+-- the other tables are as they were
+abbrev pub Others : ℕ → Trees → Trees → Type 0
+Others tree db next = AllByRecursion (λ (t : Table). t.tree ≢ tree → next t.tree ≡ db t.tree) room_schema.tables
+
+-- one table has these rows now
+pub record Leaves (old new : Database) (tree : ℕ) (rows : List Row) : Type 0 where
+  pub schema : new.schema ≡ room_schema
+  pub rows_are : new.trees tree ≡ rows
+  pub others : Others tree old.trees new.trees
+
+-- the rows of a table that a DELETE leaves
+abbrev pub without : (Row → Bool) → List Row → List Row
+without p = filter (λ r. not (p r))
+
+-- a DELETE by a test, where no foreign key acts
+pub cleared : (old new : State) (at : ℕ) (table : Table) (sql : List ℕ) (params : Row) (terms : List Term) (count : ℕ) (p : Row → Bool)
+    → slice_get room_schema.tables at ≡ Some table → old.now.schema ≡ room_schema → IsKeyed (old.now.trees table.tree)
+    → command_of (understood room_schema sql) ≡ Delete at (record { lets = []; body = over_table table.tree terms (col 1 0 ∷ []) [] }) → IsPlain (understood room_schema sql)
+    → overlay old.now.trees [] table.tree ≡ old.now.trees table.tree → ((olds : List Row) → works room_schema Enforced 0 table.tree olds [] ≡ [])
+    → ((r : Row) → list_all (holds (params ∷ r ∷ [])) terms ≡ p r) → Executes sql params old new (Ok count) → Leaves old.now new.now table.tree (without p (old.now.trees table.tree))
+cleared old new at table sql params terms count p place schema keyed is plain here quiet test h =
+    let db = old.now.trees in
+    let q = over_table table.tree terms (col 1 0 ∷ []) [] in
+    let command = Delete at (record { lets = []; body = q }) in
+    let w = deletes old new at table _ _ params count place schema (runs_as sql params old new room_schema schema command is plain count h) in
+    let given = went w.written in
+    let edited_to = went given.2 in
+    let trees : w.rows.trees ≡ edited_to.0 = ap (λ (it : Written). it.trees) (same_value edited_to.2) in
+    let one = one_step room_schema Enforced db edited_to.0 (edit_of db table (ids_of given.0) Given 0 []) (quiet _) edited_to.1 in
+    let k = subst (λ all. Picks q params (passing terms params all) given.0) here (answer_is table.tree terms (col 1 0 ∷ []) [] (overlay db []) params given.0 (given.1.answer Null)) in
+    let same = found q params (db table.tree) given.0 p (λ r. rowid r ∷ []) test (λ r. refl) k in
+    record {
+      schema = ap (λ (d : Database). d.schema) w.now;
+      rows_are = ap (λ (d : Database). d.trees table.tree) w.now ∙ ap (λ (t : Trees). t table.tree) trees ∙ one.rows ∙ removed p (db table.tree) given.0 keyed same;
+      others = subst (λ t. Others table.tree db t) (sym (ap (λ (d : Database). d.trees) w.now ∙ trees)) one.tables;
+    }
+
+-- a table without AUTOINCREMENT counts nothing
+pub not_counted : (task : Task) (db next : Trees) (counter : Option Row) (top : ℤ) → task.table.is_counted ≡ false → Counts task db counter top (Ok next) → next ≡ db
+not_counted task db next counter top plain h =
+    same_value (subst (λ b. MatchBool (cond b (is_lt (int_cmp (count_of counter) top)) false) (CountsIn task db counter top (sequence task.schema) (Ok next)) (Gives db (Ok next))) plain h)
+
+-- the rows with one more, whose rowid was free
+pub record HasMore (rows new : List Row) (tail : Row) : Type 0 where
+  pub rowid : ℤ
+  pub free : is_taken rows (Int rowid ∷ tail) ≡ false
+  pub is : new ≡ put_row (Int rowid ∷ tail) rows
+
+-- an INSERT of one row whose rowid is chosen
+pub inserted : (old new : State) (at : ℕ) (table : Table) (sql : List ℕ) (params tail : Row) (terms : List Term) (width count : ℕ)
+    → slice_get room_schema.tables at ≡ Some table → old.now.schema ≡ room_schema → table.is_counted ≡ false
+    → command_of (understood room_schema sql) ≡ Insert at (Values terms width) → IsPlain (understood room_schema sql)
+    → ((new : Row) → works room_schema Enforced 0 table.tree [] (new ∷ []) ≡ [])
+    → (edit_of old.now.trees table [] Chosen 0 (value_rows (stamped table params) width (length terms / width) terms)).news ≡ (Int (next_rowid (old.now.trees table.tree)) ∷ tail) ∷ []
+    → Executes sql params old new (Ok count)
+    → (new.now.schema ≡ room_schema) × HasMore (old.now.trees table.tree) (new.now.trees table.tree) tail × Others table.tree old.now.trees new.now.trees
+inserted old new at table sql params tail terms width count place schema uncounted is plain quiet news_are h =
+    let db = old.now.trees in
+    let w = inserts old new at table (Values terms width) _ params count place schema (runs_as sql params old new room_schema schema _ is plain count h) in
+    let given = went w.written in
+    let counter = went given.2 in
+    let by_choice = λ (top : ℤ). ap (λ b. cond b (Above top) Chosen) uncounted in
+    let mid = went counter.2 in
+    let counted = went mid.2 in
+    let edit = edit_of db table [] Chosen 0 given.0 in
+    let trees : w.rows.trees ≡ mid.0 = ap (λ (it : Written). it.trees) (same_value counted.2) ∙ not_counted (task_on old table params) mid.0 counted.0 counter.0 _ uncounted counted.1 in
+    let row = Int (next_rowid (db table.tree)) ∷ tail in
+    let news : edit.news ≡ row ∷ [] = ap (λ all. (edit_of db table [] Chosen 0 all).news) given.1.1 ∙ news_are in
+    let quiet_here = subst (λ n. works room_schema Enforced 0 table.tree [] n ≡ []) (sym news) (quiet row) in
+    let one = one_step room_schema Enforced db mid.0 edit quiet_here (subst (λ c. Edited room_schema Enforced db (edit_of db table [] c 0 given.0) (Ok mid.0)) (by_choice (count_of counter.0)) mid.1) in
+    let to = ap (λ (d : Database). d.trees) w.now ∙ trees in (
+      ap (λ (d : Database). d.schema) w.now,
+      record {
+        rowid = next_rowid (db table.tree);
+        free = not_true _ (first_of_both _ _ (subst (λ n. are_fresh (db table.tree) n ≡ true) news one.fresh));
+        is = ap (λ (t : Trees). t table.tree) to ∙ one.rows ∙ ap (put_all (db table.tree)) news;
+      },
+      subst (λ t. Others table.tree db t) (sym to) one.tables,
+    )
+
+pub upserts : (old new : State) (at : ℕ) (table : Table) (from : Source) (clauses : List Upsert) (text : List ℕ) (params : Row) (count : ℕ) → slice_get room_schema.tables at ≡ Some table → old.now.schema ≡ room_schema
+    → Runs old new None (InsertOr at Abort from clauses) text params count → Wrote old new table params (InsertOr at Abort from clauses)
+upserts old new at table from clauses text params count place schema w =
+    let all = subst (λ s. Does old.step_limit (mode_of old) params (record old.now { schema = s }) text None (InsertOr at Abort from clauses) (Ok (w.tally, new.now))) schema w.changed in
+    let done = went (rw place at all) in
+    record { rows = done.0; written = done.1; now = concludes (task_on old table params) (mode_of old) done.0 w.tally new.now done.2 }
+
+-- ---- what an execute inside a transaction leaves
+
+keeps_if : (old new : State) → IsUnchanged old new ⊎ IsRolledBack old new → KeepsCommit old new
+keeps_if old new (inl same) = record { was_open = λ _. same.0.was_open; committed = λ _. same.0.committed_is }
+keeps_if old new (inr back) = record { was_open = back.was_open; committed = λ is. (back.undone is).1 }
+
+pub keeps_failed : (sql : List ℕ) (params : Row) (old new : State) (e : Error) → ExecutesInside 0 sql params old new (Err e) → KeepsCommit old new
+keeps_failed sql params old new e (inl h) = keeps_if old new h.1
+keeps_failed sql params old new e (inr h) = keeps_if old new (inl h.2)
+
+pub executes_inside : (sql : List ℕ) (params : Row) (old new : State) (count : ℕ) → ExecutesInside 0 sql params old new (Ok count) → Executes sql params old new (Ok count) × Shows old new new.now old.committed true
+executes_inside sql params old new count h = (h.0, h.1)
+
+pub keeps_ran : (sql : List ℕ) (params : Row) (old new : State) (r : Result ℕ Error) → ExecutesInside 0 sql params old new r → KeepsCommit old new
+keeps_ran sql params old new (Ok count) h = record { was_open = λ _. h.1.was_open; committed = λ _. h.1.committed_is }
+keeps_ran sql params old new (Err e) h = keeps_failed sql params old new e h
+
+-- with no transaction nothing is done, and in one the commit is kept
+pub keeps_all : (sql : List ℕ) (params : Row) (old new : State) (r : Result ℕ Error) (X : Type 0) → (old.in_transaction ≡ false → X × (new ≡ old)) → (old.in_transaction ≡ true → ExecutesInside 0 sql params old new r) → KeepsCommit old new
+keeps_all sql params old new r X ended ran = elim (cases_Bool old.in_transaction) [
+  | inl inside ↦ keeps_ran sql params old new r (ran inside)
+  | inr outside ↦ let same = (ended outside).1 in record { was_open = λ is. subst (λ (s : State). s.is_open ≡ true) same is; committed = λ _. ap (λ (s : State). s.committed) same }
+]
+
+-- an execute that answered Ok was inside one
+pub was_inside : (inside : Bool) (r : Result ℕ Error) (count : ℕ) (X : Type 0) (e : Error) → (inside ≡ false → (r ≡ Err e) × X) → r ≡ Ok count → inside ≡ true
+was_inside true r count X e ended is = refl
+was_inside false r count X e ended is = absurd (let bad = sym (ended refl).0 ∙ is in cc)
+
+-- a commit that failed leaves what was committed
+pub fails_back : (first mid last : State) (e : Error) → first.in_transaction ≡ true → mid.in_transaction ≡ true → KeepsCommit first mid → FailsToCommit mid last e → last.is_open ≡ true → last.now ≡ first.committed
+fails_back first mid last e begun inside kept (inl failed) is = (failed.3.undone is).0 ∙ kept.committed (failed.3.was_open is)
+fails_back first mid last e begun inside kept (inr h) is = absurd (true≢false (sym inside ∙ h.1))
+
+pub on_err : {X E : Type 0} (r : Result X E) (P : E → Type 0) (Q : Type 0) → ((e : E) → P e → Q) → IfErr r P → OnErr r Q
+on_err (Ok x) P Q f h = tt
+on_err (Err e) P Q f h = f e h

@@ -1,0 +1,121 @@
+-- What the CREATE TABLE of each table makes.
+use Rattle.std.specs.declared.alloc.Global.{Global}
+use Rattle.std.proofs.Common.{Vec, ◌≡◌, ◌==◌, cond, ℕ, false, List, [], None, Some, Ok, refl, sym, ap, subst, ◌∙◌}
+use Rattle.room_acl.specs.Entries.{EntryModel}
+use Rattle.room_records.specs.declared.change.Change.TheVariants.{PutNode, PutEntries, PutNext}
+use Rattle.room_records.specs.Changes.{apply_change}
+use Rattle.room_records.specs.Room.{fresh_room}
+use Rattle.room_records.specs.Representation.{RepresentsRoom}
+use Rattle.room_records.proofs.FreshRoom.{own, root_node, fresh_stands}
+use Rattle.std.specs.List.{AllByRecursion}
+use Rattle.sqlite.specs.Table.{Table}
+use Rattle.sqlite.specs.Schema.{Schema}
+use Rattle.sqlite.specs.Command.TheVariants.{CreateTable}
+use Rattle.sqlite.specs.Compile.{table_defined_by}
+use Rattle.sqlite.specs.Change.{created, next_tree, is_used, KeepsRows}
+use Rattle.sqlite.specs.Does.{Tally, Does, lacks_sequence}
+use Rattle.sqlite.specs.Effect.{Database}
+use Rattle.sqlite.specs.State.{State, mode_of, Writes, ExecutesInside}
+use Rattle.sqlite.proofs.Callers.{runs_as}
+use Rattle.room_tables.specs.Tables.{room_text, node_text, entry_text, doc_text, session_text, slot_text, room_table, node_table, entry_table, doc_table, session_table, slot_table, schema_0, schema_1, schema_2, schema_3, schema_4, schema_5, room_schema}
+use Rattle.room_tables.specs.Layout.{IsKeyed, IsNumbered, IsRoomDatabase}
+use Rattle.room_tables.specs.Fresh.{IsMade, IsFresh, filled, no_records}
+use Rattle.room_records.specs.declared.node.Node.{Node}
+use Rattle.room_records.specs.Records.{Records}
+use Rattle.room_tables.specs.Rows.{nodes_in, entries_in, documents_in, next_in, sessions_in, slots_in, records_of}
+use Rattle.room_tables.proofs.Making.{room_is, room_plain, room_made, node_is, node_plain, node_made, entry_is, entry_plain, entry_made, doc_is, doc_plain, doc_made, session_is, session_plain, session_made, slot_is, slot_plain, slot_made}
+use Rattle.room_tables.proofs.Effects.{same_records}
+use Rattle.room_tables.proofs.Changes.{went, same_value, executes_inside}
+
+record Made (old new : State) (schema : Schema) (table : Table) : Type 0 where
+  -- no table, index or view had the name
+  free : is_used schema table.name ≡ false
+  after : new.now.schema ≡ created schema table
+  empty : new.now.trees (next_tree schema) ≡ []
+  others : KeepsRows schema.tables old.now.trees new.now.trees
+
+makes : (old new : State) (schema : Schema) (table : Table) (sql text : List ℕ) (count : ℕ) → old.now.schema ≡ schema → table_defined_by text ≡ Ok table → lacks_sequence (created schema table) ≡ false
+    → Writes old new None CreateTable text [] count → Made old new schema table
+makes old new schema table sql text count has defined plain w =
+    let changed = subst (λ s. Does old.step_limit (mode_of old) [] (record old.now { schema = s }) text None CreateTable (Ok (w.tally, new.now))) has w.changed in
+    let all = went changed in
+    let first = went all.1 in
+    let made = first.1 in
+    let both : Ok made.table ≡ Ok table = sym made.defined ∙ defined in
+    let same : made.table ≡ table = cc in
+    let is : first.0.schema ≡ created schema table = made.is ∙ ap (created schema) same in
+    let lacks : lacks_sequence first.0.schema ≡ false = ap lacks_sequence is ∙ plain in
+    let now : new.now ≡ first.0 = ap (λ (p : Tally × Database). p.1) (same_value all.2) ∙ same_value (rw lacks at first.2) in
+    record {
+      free = ap (λ (t : Table). is_used schema t.name) (sym same) ∙ made.free;
+      after = ap (λ (d : Database). d.schema) now ∙ is;
+      empty = ap (λ (d : Database). d.trees (next_tree schema)) now ∙ made.empty;
+      others = subst (λ (d : Database). KeepsRows schema.tables old.now.trees d.trees) (sym now) made.others;
+    }
+
+pub room_step : (old new : State) (count : ℕ) → ExecutesInside 0 room_text [] old new (Ok count) → IsMade schema_0 old.now → IsMade schema_1 new.now
+room_step old new count h was =
+    let w = runs_as room_text [] old new schema_0 was.schema CreateTable room_is.0 room_plain count (executes_inside room_text [] old new count h).0 in
+    let it = makes old new schema_0 (record room_table { tree = 0 }) room_text _ count was.schema room_is.2 refl (rw room_is.1 at w) in
+    record { schema = it.after ∙ room_made; empty = (it.empty, tt) }
+
+pub node_step : (old new : State) (count : ℕ) → ExecutesInside 0 node_text [] old new (Ok count) → IsMade schema_1 old.now → IsMade schema_2 new.now
+node_step old new count h was =
+    let w = runs_as node_text [] old new schema_1 was.schema CreateTable node_is.0 node_plain count (executes_inside node_text [] old new count h).0 in
+    let it = makes old new schema_1 (record node_table { tree = 0 }) node_text _ count was.schema node_is.2 refl (rw node_is.1 at w) in
+    record { schema = it.after ∙ node_made; empty = (it.others.0 ∙ was.empty.0, (it.empty, tt)) }
+
+pub entry_step : (old new : State) (count : ℕ) → ExecutesInside 0 entry_text [] old new (Ok count) → IsMade schema_2 old.now → IsMade schema_3 new.now
+entry_step old new count h was =
+    let w = runs_as entry_text [] old new schema_2 was.schema CreateTable entry_is.0 entry_plain count (executes_inside entry_text [] old new count h).0 in
+    let it = makes old new schema_2 (record entry_table { tree = 0 }) entry_text _ count was.schema entry_is.2 refl (rw entry_is.1 at w) in
+    record { schema = it.after ∙ entry_made; empty = (it.others.0 ∙ was.empty.0, (it.others.1.0 ∙ was.empty.1.0, (it.empty, tt))) }
+
+pub doc_step : (old new : State) (count : ℕ) → ExecutesInside 0 doc_text [] old new (Ok count) → IsMade schema_3 old.now → IsMade schema_4 new.now
+doc_step old new count h was =
+    let w = runs_as doc_text [] old new schema_3 was.schema CreateTable doc_is.0 doc_plain count (executes_inside doc_text [] old new count h).0 in
+    let it = makes old new schema_3 (record doc_table { tree = 0 }) doc_text _ count was.schema doc_is.2 refl (rw doc_is.1 at w) in
+    record { schema = it.after ∙ doc_made; empty = (it.others.0 ∙ was.empty.0, (it.others.1.0 ∙ was.empty.1.0, (it.others.1.1.0 ∙ was.empty.1.1.0, (it.empty, tt)))) }
+
+pub session_step : (old new : State) (count : ℕ) → ExecutesInside 0 session_text [] old new (Ok count) → IsMade schema_4 old.now → IsMade schema_5 new.now
+session_step old new count h was =
+    let w = runs_as session_text [] old new schema_4 was.schema CreateTable session_is.0 session_plain count (executes_inside session_text [] old new count h).0 in
+    let it = makes old new schema_4 (record session_table { tree = 0 }) session_text _ count was.schema session_is.2 refl (rw session_is.1 at w) in
+    record { schema = it.after ∙ session_made; empty = (it.others.0 ∙ was.empty.0, (it.others.1.0 ∙ was.empty.1.0, (it.others.1.1.0 ∙ was.empty.1.1.0, (it.others.1.1.1.0 ∙ was.empty.1.1.1.0, (it.empty, tt))))) }
+
+pub slot_step : (old new : State) (count : ℕ) → ExecutesInside 0 slot_text [] old new (Ok count) → IsMade schema_5 old.now → IsMade room_schema new.now
+slot_step old new count h was =
+    let w = runs_as slot_text [] old new schema_5 was.schema CreateTable slot_is.0 slot_plain count (executes_inside slot_text [] old new count h).0 in
+    let it = makes old new schema_5 (record slot_table { tree = 0 }) slot_text _ count was.schema slot_is.2 refl (rw slot_is.1 at w) in
+    record { schema = it.after ∙ slot_made; empty = (it.others.0 ∙ was.empty.0, (it.others.1.0 ∙ was.empty.1.0, (it.others.1.1.0 ∙ was.empty.1.1.0, (it.others.1.1.1.0 ∙ was.empty.1.1.1.0, (it.others.1.1.1.1.0 ∙ was.empty.1.1.1.1.0, (it.empty, tt)))))) }
+
+-- tables that were just made
+pub made_room : (db : Database) → IsMade room_schema db → IsRoomDatabase db × (records_of db.trees ≡ no_records)
+made_room db it =
+    let e = it.empty in
+    let none : IsKeyed [] = record { table = tt; ints = tt } in (
+      record {
+        schema = it.schema;
+        keyed = (subst IsKeyed (sym e.0) none, (subst IsKeyed (sym e.1.0) none, (subst IsKeyed (sym e.1.1.0) none, (subst IsKeyed (sym e.1.1.1.0) none, (subst IsKeyed (sym e.1.1.1.1.0) none, (subst IsKeyed (sym e.1.1.1.1.1.0) none, tt))))));
+        numbered = subst (AllByRecursion IsNumbered) (sym e.1.0) tt;
+      },
+      same_records _ _
+          (λ q. ap (λ rows. nodes_in rows q) e.1.0)
+          (λ q. ap (λ rows. entries_in rows q) e.1.1.0)
+          (λ q. ap (λ rows. documents_in rows q) e.1.1.1.0)
+          (ap next_in e.0)
+          (λ q. ap (λ rows. sessions_in rows q) e.1.1.1.1.0)
+          (λ q n. ap (λ rows. slots_in rows q n) e.1.1.1.1.1.0),
+    )
+
+-- what a fresh room's rows stand for
+pub fresh_is : (owner group : List ℕ) (entries : Vec EntryModel Global) → entries.items ≡ own owner group
+    → IsFresh owner group (apply_change (PutNext 2) (apply_change (PutEntries 1 entries) (apply_change (PutNode (root_node owner group)) no_records)))
+fresh_is owner group entries is = record {
+  room = subst (λ (es : List EntryModel). RepresentsRoom (record { node = λ id. cond (id == 1) (Some (root_node owner group)) None; entries = λ id. cond (id == 1) es []; document = λ _. None; next = 2 }) (fresh_room owner group)) (sym is) (fresh_stands owner group);
+  sessions = λ _. refl;
+  slots = λ _ _. refl;
+}
+
+pub fresh_from : (owner group : List ℕ) (root : Node) (entries : Vec EntryModel Global) (r : Records) → root ≡ root_node owner group → entries.items ≡ own owner group → r ≡ filled root entries → IsFresh owner group r
+fresh_from owner group root entries r root_is entries_is is = subst (IsFresh owner group) (sym (is ∙ ap (λ n. filled n entries) root_is)) (fresh_is owner group entries entries_is)

@@ -1,0 +1,386 @@
+-- What a DELETE of a node does, whose entries and document go with it by ON DELETE CASCADE.
+use Rattle.std.proofs.Common.{◌≡◌, ◌⊎◌, inl, inr, ℕ, zero, suc, ℤ, pos, Bool, true, false, not, ◌&&◌, ◌||◌, ◌==◌, cond, List, [], ◌∷◌, ◌++◌, length, map, filter, Some, option_map, Ok, refl, sym, ap, subst, subst₂, ◌∙◌, arith, true≢false, length-append, append-nil, codes, IsPermutation, Equal, is_eq, eq-eqb}
+use Rattle.std.specs.List.{AllByRecursion, list_any}
+use Rattle.std.proofs.lemmas.Bool.{cases_Bool, cases_eq}
+use Rattle.std.proofs.lemmas.Bool.Decides.{nat_tests}
+use Rattle.std.proofs.lemmas.Cmp.{tied_itself, alike_right}
+use Rattle.std.proofs.lemmas.List.Sorted.{length_permutation}
+use Rattle.sqlite_value.specs.declared.value.Value.TheVariants.{Null, Int}
+use Rattle.sqlite_value.specs.Keys.{plain, first_key}
+use Rattle.sqlite_value.specs.Order.{Row, column, value_cmp}
+use Rattle.sqlite_value.proofs.OrderLemmas.{value_cmp_total}
+use Rattle.sqlite_trees.specs.Tree.{Trees, rowid, without_rowid}
+use Rattle.sqlite_sql.specs.Ops.{binary}
+use Rattle.sqlite_sql.specs.Program.{overlay}
+use Rattle.sqlite_schema.specs.Rules.{agree, parent_key, has_null, is_held, has_parent, Keeps}
+use Rattle.sqlite_schema.specs.declared.schema.Constraint.TheVariants.{ForeignKey}
+use Rattle.sqlite_schema.specs.declared.schema.Keys.TheVariants.{Enforced}
+use Rattle.sqlite_schema.specs.declared.schema.Reference.{Reference}
+use Rattle.sqlite_schema.specs.declared.schema.Action.TheVariants.{Cascade}
+use Rattle.sqlite_rules.specs.declared.action.Deed.TheVariants.{Delete}
+use Rattle.sqlite_rules.specs.Lists.{Has}
+use Rattle.sqlite_rules.specs.Edit.{edit_of, taken_by, without_all}
+use Rattle.sqlite_rules.specs.Calls.{ids_of}
+use Rattle.sqlite_rules.specs.Action.{Work, works, loses, is_child_of, Leads, Acts, ActsOn, AreChildren, Writes, action_edit}
+use Rattle.sqlite_rules.proofs.ListLemmas.{all_has, all_from, some_has, has_kept, has_filtered}
+use Rattle.sqlite_rules.proofs.PlaceLemmas.{row_at_is}
+use Rattle.sqlite_keyed.proofs.RuleLemmas.{first_of_both}
+use Rattle.sqlite_keyed.proofs.ListLemmas.{filter_all, all_weaker, all-filter}
+use Rattle.sqlite.specs.Rowids.TheVariants.{Given}
+use Rattle.sqlite.specs.Table.{Table}
+use Rattle.sqlite.specs.Effect.{Database}
+use Rattle.sqlite.specs.Command.TheVariants as command
+use Rattle.sqlite.specs.Rows.{Written}
+use Rattle.sqlite.specs.State.{State, Executes, ExecutesInside}
+use Rattle.sqlite.proofs.Callers.{runs_as, one_step, one_permutation}
+use Rattle.sqlite_tied.specs.Compute.{everything}
+use Rattle.room_records.specs.declared.change.Change.TheVariants.{DropNode}
+use Rattle.room_records.specs.Changes.{apply_change}
+use Rattle.room_tables.specs.Tables.{room_schema, node_table, entry_table, doc_table, refers}
+use Rattle.room_tables.specs.Texts.{drop_node_text, drop_node_query}
+use Rattle.room_tables.specs.Rows.{has, only, shown_node, node_of, entry_of, in_order, shown_doc, doc_of, next_in, sessions_in, slots_in}
+use Rattle.room_tables.specs.Layout.{IsKeyed, IsNumbered, IsRoomDatabase}
+use Rattle.room_tables.specs.Steps.{Steps}
+use Rattle.room_tables.proofs.Meaning.{drop_node_is, drop_node_plain}
+use Rattle.room_tables.proofs.Queries.{answer_is, found, and_true}
+use Rattle.room_tables.proofs.Values.{has_is, has_int, has_value, has_tied, has_not_null, equal_tied}
+use Rattle.room_tables.proofs.Removed.{one_row, removed_ids}
+use Rattle.room_tables.proofs.Changes.{Others, without, deletes, went, same_value, executes_inside}
+use Rattle.room_tables.proofs.Filters.{none_left, others_left, not_both, keyed_filter}
+use Rattle.room_tables.proofs.Effects.{same_records}
+
+-- ---- what the delete of one node sets off
+
+abbrev entry_ref : Reference
+entry_ref = refers 1 (codes "node") (codes "id") Cascade
+
+abbrev doc_ref : Reference
+doc_ref = refers 0 (codes "node") (codes "id") Cascade
+
+abbrev work_on : Table → Reference → Row → Work
+work_on table ref there = record { depth = 0; child = table; ref = ref; places = 0 ∷ []; order = plain; deed = Delete; moves = (there, []) ∷ [] }
+
+abbrev entry_work : Row → Work
+entry_work = work_on entry_table entry_ref
+
+abbrev doc_work : Row → Work
+doc_work = work_on doc_table doc_ref
+
+loses_key : (there : Row) (id : ℕ) → rowid there ≡ Int (pos id) → loses plain (0 ∷ []) (there, []) ≡ true
+unfolding first_key binary
+loses_key there id is = rw is (rw (ap is_eq (tied_itself value_cmp_total (Int (pos id)))) refl)
+
+set_off : (there : Row) (id : ℕ) → rowid there ≡ Int (pos id) → works room_schema Enforced 0 1 (there ∷ []) [] ≡ entry_work there ∷ doc_work there ∷ []
+unfolding everything
+set_off there id is = rw (loses_key there id is) refl
+
+entries_last : (olds : List Row) → works room_schema Enforced 1 3 olds [] ≡ []
+unfolding everything
+entries_last olds = refl
+
+docs_last : (olds : List Row) → works room_schema Enforced 1 5 olds [] ≡ []
+unfolding everything
+docs_last olds = refl
+
+tidy : (b : Bool) → ((b && true) || false) ≡ b
+tidy true = refl
+tidy false = refl
+
+-- the children of the node are its entries and its document
+entry_is_child : (there r : Row) (id : ℕ) → rowid there ≡ Int (pos id) → list_any (is_child_of (entry_work there) r) ((there, []) ∷ []) ≡ has 1 id r
+unfolding first_key
+entry_is_child there r id is = rw (loses_key there id is, is) (tidy (has 1 id r))
+
+doc_is_child : (there r : Row) (id : ℕ) → rowid there ≡ Int (pos id) → list_any (is_child_of (doc_work there) r) ((there, []) ∷ []) ≡ has 0 id r
+unfolding first_key
+doc_is_child there r id is = rw (loses_key there id is, is) (tidy (has 0 id r))
+
+settled : (n : ℕ) (db next : Trees) → Leads room_schema Enforced n db [] (Ok next) → next ≡ db
+settled zero db next h = let e = h.1 in cc
+settled (suc n) db next h = absurd (omega (arith, ap length h.2, length-append h.0 (h.1 ∷ [])))
+
+last_of : {X : Type 0} (front below : List X) (w v : X) → front ++ v ∷ [] ≡ below ++ w ∷ [] → (below ≡ front) × (w ≡ v)
+last_of [] [] w v e = (refl, let f : w ≡ v = cc in f)
+last_of [] (b ∷ below) w v e = absurd (omega (arith, ap length e, length-append below (w ∷ [])))
+last_of (a ∷ front) [] w v e = absurd (omega (arith, ap length e, length-append front (v ∷ [])))
+last_of (a ∷ front) (b ∷ below) w v e =
+    let first : b ≡ a = cc in
+    let rest : front ++ v ∷ [] ≡ below ++ w ∷ [] = cc in
+    let more = last_of front below w v rest in
+    (let p = more.0 in cc, more.1)
+
+-- the trees after one action, and the actions that are left
+record Acted (n : ℕ) (db next : Trees) (w : Work) (below : List Work) : Type 0 where
+  mid : Trees
+  ids : List ℤ
+  children : AreChildren db w ids
+  rows : mid w.child.tree ≡ without_all (db w.child.tree) ids
+  others : Others w.child.tree db mid
+  rest : Leads room_schema Enforced n mid below (Ok next)
+
+same_tables : (tables : List Table) (tree : ℕ) (db : Trees) → AllByRecursion (λ (t : Table). (t.tree ≡ tree → ⊥) → db t.tree ≡ db t.tree) tables
+same_tables [] tree db = tt
+same_tables (t ∷ tables) tree db = (λ _. refl, same_tables tables tree db)
+
+acts : (n : ℕ) (db next : Trees) (table : Table) (ref : Reference) (there : Row) (below : List Work) → ((olds : List Row) → works room_schema Enforced 1 table.tree olds [] ≡ [])
+    → Acts room_schema Enforced (Leads room_schema Enforced n) db (work_on table ref there) below (Ok next) → Acted n db next (work_on table ref there) below
+acts n db next table ref there below quiet h = go h.0 h.1 h.2
+  where
+    go : (ids : List ℤ) → AreChildren db (work_on table ref there) ids → ActsOn room_schema Enforced (Leads room_schema Enforced n) db (work_on table ref there) below (Ok next) ids → Acted n db next (work_on table ref there) below
+    go [] children h = record { mid = db; ids = []; children = children; rows = refl; others = same_tables room_schema.tables table.tree db; rest = h }
+    go (i ∷ ids) children (inl refused) = absurd (let e = refused.2 in cc)
+    go (i ∷ ids) children (inr (inl big)) = absurd (let e = big.3 in cc)
+    go (i ∷ ids) children (inr (inr step)) =
+        let none = quiet (taken_by db (action_edit db (work_on table ref there) (i ∷ ids))) in
+        record {
+          mid = step.0;
+          ids = i ∷ ids;
+          children = children;
+          rows = step.1.rows;
+          others = step.1.tables;
+          rest = subst (λ s. Leads room_schema Enforced n step.0 s (Ok next)) (ap (λ l. below ++ l) none ∙ append-nil below) step.2;
+        }
+
+led : (n : ℕ) (db next : Trees) (table : Table) (ref : Reference) (there : Row) (front : List Work) → ((olds : List Row) → works room_schema Enforced 1 table.tree olds [] ≡ [])
+    → Leads room_schema Enforced n db (front ++ work_on table ref there ∷ []) (Ok next) → (m : ℕ) × Acted m db next (work_on table ref there) front
+led zero db next table ref there front quiet h = absurd (omega (arith, ap length h.0, length-append front (work_on table ref there ∷ [])))
+led (suc n) db next table ref there front quiet h =
+    let one = last_of front h.0 h.1 (work_on table ref there) h.2 in
+    (n, acts n db next table ref there front quiet (subst₂ (λ b w. Acts room_schema Enforced (Leads room_schema Enforced n) db w b (Ok next)) one.0 one.1 h.3))
+
+-- the trees after the two actions
+record Cascaded (db next : Trees) (id : ℕ) : Type 0 where
+  entries : next 3 ≡ without (has 1 id) (db 3)
+  docs : next 5 ≡ without (has 0 id) (db 5)
+  nodes : next 1 ≡ db 1
+  room : next 0 ≡ db 0
+  sessions : next 6 ≡ db 6
+  slots : next 8 ≡ db 8
+
+cascaded : (n : ℕ) (db next : Trees) (there : Row) (id : ℕ) → rowid there ≡ Int (pos id) → IsKeyed (db 3) → IsKeyed (db 5) → Leads room_schema Enforced n db (entry_work there ∷ doc_work there ∷ []) (Ok next) → Cascaded db next id
+cascaded n db next there id is entries docs h =
+    let first = (led n db next doc_table doc_ref there (entry_work there ∷ []) docs_last h).1 in
+    let o = first.others in
+    let same_entries : first.mid 3 ≡ db 3 = o.1.1.0 (omega arith) in
+    let second = (led _ first.mid next entry_table entry_ref there [] entries_last first.rest).1 in
+    let p = second.others in
+    let end = settled _ second.mid next second.rest in
+    let doc_test = λ (r : Row). doc_is_child there r id is in
+    let entry_test = λ (r : Row). entry_is_child there r id is in
+    record {
+      entries = ap (λ (t : Trees). t 3) end ∙ second.rows
+          ∙ removed_ids (has 1 id) (first.mid 3) second.ids (subst IsKeyed (sym same_entries) entries)
+          (λ i k. let c = second.children.sound i k in (c.0, c.1, sym (entry_test c.0) ∙ c.2, c.3))
+          (λ r i k passes e. second.children.complete r i k (entry_test r ∙ passes) e)
+          ∙ ap (without (has 1 id)) same_entries;
+      docs = ap (λ (t : Trees). t 5) end ∙ p.1.1.1.0 (omega arith) ∙ first.rows
+          ∙ removed_ids (has 0 id) (db 5) first.ids docs
+          (λ i k. let c = first.children.sound i k in (c.0, c.1, sym (doc_test c.0) ∙ c.2, c.3))
+          (λ r i k passes e. first.children.complete r i k (doc_test r ∙ passes) e);
+      nodes = ap (λ (t : Trees). t 1) end ∙ p.1.0 (omega arith) ∙ o.1.0 (omega arith);
+      room = ap (λ (t : Trees). t 0) end ∙ p.0 (omega arith) ∙ o.0 (omega arith);
+      sessions = ap (λ (t : Trees). t 6) end ∙ p.1.1.1.1.0 (omega arith) ∙ o.1.1.1.1.0 (omega arith);
+      slots = ap (λ (t : Trees). t 8) end ∙ p.1.1.1.1.1.0 (omega arith) ∙ o.1.1.1.1.1.0 (omega arith);
+    }
+
+-- the database without the node, its entries and its document
+record Dropped (db next : Trees) (id : ℕ) : Type 0 where
+  nodes : next 1 ≡ without (has 0 id) (db 1)
+  entries : next 3 ≡ without (has 1 id) (db 3)
+  docs : next 5 ≡ without (has 0 id) (db 5)
+  room : next 0 ≡ db 0
+  sessions : next 6 ≡ db 6
+  slots : next 8 ≡ db 8
+
+without_number : (id : ℕ) (rows : List Row) → without_rowid (pos id) rows ≡ without (has 0 id) rows
+without_number id rows = Rattle.sqlite_keyed.proofs.ListLemmas.filter_same _ _ (λ r. ap not (sym (has_is 0 id r))) rows
+
+-- a node with the number is there, and goes with what belongs to it
+drops_there : (db next : Trees) (id : ℕ) (there : Row) (rows : List Row) → IsKeyed (db 1) → IsKeyed (db 3) → IsKeyed (db 5) → filter (has 0 id) (db 1) ≡ there ∷ [] → rows ≡ (Int (pos id) ∷ []) ∷ []
+    → Writes room_schema Enforced db (edit_of db node_table (ids_of rows) Given 0 []) (Ok next) → Dropped db next id
+drops_there db next id there rows nodes entries docs only is h =
+    go (subst (λ l. Writes room_schema Enforced db (edit_of db node_table (ids_of l) Given 0 []) (Ok next)) is h)
+  where
+    go : Writes room_schema Enforced db (edit_of db node_table (pos id ∷ []) Given 0 []) (Ok next) → Dropped db next id
+    go (inl refused) = absurd (let e = refused.2 in cc)
+    go (inr (inl big)) = absurd (let e = big.3 in cc)
+    go (inr (inr step)) =
+        let kept = has_filtered (has 0 id) (db 1) there (subst (λ l. Has l there) (sym only) (inl refl)) in
+        let key = has_int id there (all_has _ (db 1) there nodes.ints kept.0) kept.1 in
+        let at = row_at_is (db 1) (pos id) there nodes.table kept.0 (sym (has_is 0 id there) ∙ kept.1) in
+        let stack = subst (λ r. works room_schema Enforced 0 1 (r ∷ []) [] ≡ entry_work there ∷ doc_work there ∷ []) (sym at) (set_off there id key) in
+        let o = step.1.tables in
+        let same_entries : step.0 3 ≡ db 3 = o.1.1.0 (omega arith) in
+        let same_docs : step.0 5 ≡ db 5 = o.1.1.1.0 (omega arith) in
+        let c = cascaded step.2.0 step.0 next there id key (subst IsKeyed (sym same_entries) entries) (subst IsKeyed (sym same_docs) docs) (subst (λ s. Leads room_schema Enforced step.2.0 step.0 s (Ok next)) stack step.2.1) in
+        record {
+          nodes = c.nodes ∙ step.1.rows ∙ without_number id (db 1);
+          entries = c.entries ∙ ap (without (has 1 id)) same_entries;
+          docs = c.docs ∙ ap (without (has 0 id)) same_docs;
+          room = c.room ∙ o.0 (omega arith);
+          sessions = c.sessions ∙ o.1.1.1.1.0 (omega arith);
+          slots = c.slots ∙ o.1.1.1.1.1.0 (omega arith);
+        }
+
+-- ---- with no such node there is nothing that belongs to it
+
+entry_parent : parent_key room_schema.tables entry_ref ≡ Some (1, 0 ∷ [], plain)
+unfolding everything
+entry_parent = refl
+
+doc_parent : parent_key room_schema.tables doc_ref ≡ Some (1, 0 ∷ [], plain)
+unfolding everything
+doc_parent = refl
+
+held_by : (a b : Bool) → (a || b) ≡ true → a ≡ false → b ≡ true
+held_by true b h fails = absurd (true≢false fails)
+held_by false b h fails = h
+
+not_null : (b : Bool) → b ≡ false → (b || false) ≡ false
+not_null true h = absurd (true≢false h)
+not_null false h = refl
+
+-- a row that refers to the node has it
+has_its_node : (db : Trees) (ref : Reference) (place : ℕ) (row : Row) (id : ℕ) → ref.columns ≡ place ∷ [] → parent_key room_schema.tables ref ≡ Some (1, 0 ∷ [], plain)
+    → has_parent room_schema.tables db row ref ≡ true → has place id row ≡ true → (p : Row) × Has (db 1) p × (has 0 id p ≡ true)
+unfolding first_key
+has_its_node db ref place row id columns key fits mine =
+    let there = subst₂ (λ c k. (has_null c row || is_held db c row k) ≡ true) columns key fits in
+    let held = held_by _ _ there (not_null _ (has_not_null place id row mine)) in
+    let p = some_has (λ parent. agree plain (0 ∷ []) parent (place ∷ []) row) (db 1) held in
+    let tie = equal_tied (column p.0 0) (column row place) (first_of_both _ _ p.2) in
+    let same : value_cmp (column p.0 0) (Int (pos id)) ≡ Equal = sym (alike_right value_cmp_total (column row place) (Int (pos id)) (column p.0 0) (has_value place id row mine)) ∙ tie in
+    (p.0, p.1, has_is 0 id p.0 ∙ ap is_eq same)
+
+none_of : (db : Trees) (ref : Reference) (table : Table) (place id : ℕ) → ref.columns ≡ place ∷ [] → parent_key room_schema.tables ref ≡ Some (1, 0 ∷ [], plain)
+    → AllByRecursion (λ r. has_parent room_schema.tables db r ref ≡ true) (db table.tree) → filter (has 0 id) (db 1) ≡ [] → without (has place id) (db table.tree) ≡ db table.tree
+none_of db ref table place id columns key fit none =
+    filter_all _ (db table.tree) (all_from (λ r. not (has place id r) ≡ true) (db table.tree) (λ r h. elim (cases_Bool (has place id r)) [
+      | inl mine ↦
+          let p = has_its_node db ref place r id columns key (all_has _ (db table.tree) r fit h) mine in
+          absurd (subst (λ l. Has l p.0) none (has_kept (has 0 id) (db 1) p.0 p.1 p.2))
+      | inr other ↦ ap not other
+    ]))
+
+none_taken : works room_schema Enforced 0 1 [] [] ≡ []
+unfolding everything
+none_taken = refl
+
+-- no row has the number, or one has
+pub found_or_none : (rows : List Row) (id : ℕ) → IsKeyed rows → (filter (has 0 id) rows ≡ []) ⊎ ((r : Row) × (filter (has 0 id) rows ≡ r ∷ []))
+found_or_none rows id keyed = go (filter (has 0 id) rows) refl
+  where
+    go : (l : List Row) → filter (has 0 id) rows ≡ l → (l ≡ []) ⊎ ((r : Row) × (l ≡ r ∷ []))
+    go [] e = inl refl
+    go (x ∷ more) e =
+        let h = has_filtered (has 0 id) rows x (subst (λ l. Has l x) (sym e) (inl refl)) in
+        inr (x, sym e ∙ one_row (has 0 id) rows x keyed.table h.0 h.1 (λ a b _ _ p q. has_tied 0 id a b p q))
+
+drops : (old new : State) (id count : ℕ) → IsRoomDatabase old.now → Executes drop_node_text (Int (pos id) ∷ []) old new (Ok count) → (new.now.schema ≡ room_schema) × Dropped old.now.trees new.now.trees id
+drops old new id count room h =
+    let params = Int (pos id) ∷ [] in
+    let db = old.now.trees in
+    let ran = runs_as drop_node_text params old new room_schema room.schema (command.Delete 1 (record { lets = []; body = drop_node_query })) drop_node_is drop_node_plain count h in
+    let w = deletes old new 1 node_table _ _ params count refl room.schema ran in
+    let given = went w.written in
+    let edited_to = went given.2 in
+    let trees : w.rows.trees ≡ edited_to.0 = ap (λ (it : Written). it.trees) (same_value edited_to.2) in
+    let now : new.now.trees ≡ edited_to.0 = ap (λ (d : Database). d.trees) w.now ∙ trees in
+    let schema = ap (λ (d : Database). d.schema) w.now in
+    let k = answer_is 1 _ _ [] (overlay db []) params given.0 (given.1.answer Null) in
+    let same = found drop_node_query params (db 1) given.0 (has 0 id) (λ r. rowid r ∷ []) (λ r. and_true (has 0 id r)) (λ r. refl) k in (
+      schema,
+      elim (found_or_none (db 1) id room.keyed.1.0) [
+        | inl none ↦
+            let rows : given.0 ≡ [] = nothing _ (subst (λ l. IsPermutation (map (λ r. rowid r ∷ []) l) given.0) none same) in
+            let edit = edit_of db node_table (ids_of given.0) Given 0 [] in
+            let quiet = subst (λ l. works room_schema Enforced 0 1 (taken_by db (edit_of db node_table (ids_of l) Given 0 [])) [] ≡ []) (sym rows) none_taken in
+            let one = one_step room_schema Enforced db edited_to.0 edit quiet edited_to.1 in
+            let nodes : new.now.trees 1 ≡ db 1 = ap (λ (t : Trees). t 1) now ∙ one.rows ∙ ap (λ l. without_all (db 1) (ids_of l)) rows in
+            let entries : new.now.trees 3 ≡ db 3 = ap (λ (t : Trees). t 3) now ∙ one.tables.1.1.0 (omega arith) in
+            let docs : new.now.trees 5 ≡ db 5 = ap (λ (t : Trees). t 5) now ∙ one.tables.1.1.1.0 (omega arith) in
+            let keeps = subst (λ s. Keeps ForeignKey s new.now.trees) schema (ran.sound.obeys.rules ForeignKey) in
+            let none_now : filter (has 0 id) (new.now.trees 1) ≡ [] = ap (filter (has 0 id)) nodes ∙ none in
+            let no_entry = none_of new.now.trees entry_ref entry_table 1 id refl entry_parent (all_weaker _ _ (λ r e. first_of_both _ _ e) (new.now.trees 3) keeps.1.1.0) none_now in
+            let no_doc = none_of new.now.trees doc_ref doc_table 0 id refl doc_parent (all_weaker _ _ (λ r e. first_of_both _ _ e) (new.now.trees 5) keeps.1.1.1.0) none_now in
+            record {
+              nodes = nodes ∙ sym (filter_all _ (db 1) (all_from (λ r. not (has 0 id r) ≡ true) (db 1) (λ r j. kept_apart r j none)));
+              entries = sym no_entry ∙ ap (without (has 1 id)) entries;
+              docs = sym no_doc ∙ ap (without (has 0 id)) docs;
+              room = ap (λ (t : Trees). t 0) now ∙ one.tables.0 (omega arith);
+              sessions = ap (λ (t : Trees). t 6) now ∙ one.tables.1.1.1.1.0 (omega arith);
+              slots = ap (λ (t : Trees). t 8) now ∙ one.tables.1.1.1.1.1.0 (omega arith);
+            }
+        | inr there ↦
+            let key = keyed_there there.0 there.1 in
+            let rows = one_permutation (Int (pos id) ∷ []) given.0 (subst (λ l. IsPermutation l given.0) (ap (map (λ r. rowid r ∷ [])) there.1 ∙ ap (λ v. (v ∷ []) ∷ []) key) same) in
+            subst (λ t. Dropped db t id) (sym now) (drops_there db edited_to.0 id there.0 given.0 room.keyed.1.0 room.keyed.1.1.0 room.keyed.1.1.1.0 there.1 rows edited_to.1)
+      ],
+    )
+  where
+    nothing : (l : List Row) → IsPermutation [] l → l ≡ []
+    nothing [] same = refl
+    nothing (x ∷ l) same = absurd (omega (arith, length_permutation _ _ same))
+
+    kept_apart : (r : Row) → Has (old.now.trees 1) r → filter (has 0 id) (old.now.trees 1) ≡ [] → not (has 0 id r) ≡ true
+    kept_apart r k none = elim (cases_Bool (has 0 id r)) [
+      | inl mine ↦ absurd (subst (λ l. Has l r) none (has_kept (has 0 id) (old.now.trees 1) r k mine))
+      | inr other ↦ ap not other
+    ]
+
+    keyed_there : (r : Row) → filter (has 0 id) (old.now.trees 1) ≡ r ∷ [] → rowid r ≡ Int (pos id)
+    keyed_there r only =
+        let kept = has_filtered (has 0 id) (old.now.trees 1) r (subst (λ l. Has l r) (sym only) (inl refl)) in
+        has_int id r (all_has _ (old.now.trees 1) r room.keyed.1.0.ints kept.0) kept.1
+
+-- ---- the records
+
+-- the rows with a number are gone, and those with another stay
+rows_gone : (place id q : ℕ) (was is : List Row) → is ≡ without (has place id) was → filter (has place q) is ≡ cond (q == id) [] (filter (has place q) was)
+rows_gone place id q was is e = elim (cases_eq q id) [
+  | inl same ↦
+      let test : (q == id) ≡ true = eq-eqb q id same in
+      rw (test, same) (ap (filter (has place id)) e ∙ none_left (has place id) (has place id) was (λ r h. h))
+  | inr apart ↦
+      let test : (q == id) ≡ false = grind (arith, nat_tests) in
+      rw test (ap (filter (has place q)) e ∙ others_left (has place id) (has place q) was (λ r h. not_both place id q r apart h))
+]
+
+through : {X Y : Type 0} (f : X → Y) (b : Bool) (x y : X) → f (cond b x y) ≡ cond b (f x) (f y)
+through f true x y = refl
+through f false x y = refl
+
+pub steps_drop : (old new : State) (id count : ℕ) → IsRoomDatabase old.now → ExecutesInside 0 drop_node_text (Int (pos id) ∷ []) old new (Ok count) → Steps old new (apply_change (DropNode id))
+steps_drop old new id count room h =
+    let done = drops old new id count room (executes_inside drop_node_text _ old new count h).0 in
+    let it = done.1 in
+    let db = old.now.trees in
+    record {
+      room = record {
+        schema = done.0;
+        keyed = (
+          subst IsKeyed (sym it.room) room.keyed.0,
+          (
+            subst IsKeyed (sym it.nodes) (keyed_filter (λ r. not (has 0 id r)) (db 1) room.keyed.1.0),
+            (
+              subst IsKeyed (sym it.entries) (keyed_filter (λ r. not (has 1 id r)) (db 3) room.keyed.1.1.0),
+              (
+                subst IsKeyed (sym it.docs) (keyed_filter (λ r. not (has 0 id r)) (db 5) room.keyed.1.1.1.0),
+                (
+                  subst IsKeyed (sym it.sessions) room.keyed.1.1.1.1.0,
+                  (subst IsKeyed (sym it.slots) room.keyed.1.1.1.1.1.0, tt),
+                ),
+              ),
+            ),
+          ),
+        );
+        numbered = subst (AllByRecursion IsNumbered) (sym it.nodes) (all-filter IsNumbered (λ r. not (has 0 id r)) (db 1) room.numbered);
+      };
+      records = same_records _ _
+          (λ q. ap (λ rows. option_map node_of (only (map shown_node rows))) (rows_gone 0 id q (db 1) (new.now.trees 1) it.nodes) ∙ through (λ rows. option_map node_of (only (map shown_node rows))) (q == id) [] (filter (has 0 q) (db 1)))
+          (λ q. ap (λ rows. map entry_of (in_order rows)) (rows_gone 1 id q (db 3) (new.now.trees 3) it.entries) ∙ through (λ rows. map entry_of (in_order rows)) (q == id) [] (filter (has 1 q) (db 3)))
+          (λ q. ap (λ rows. option_map doc_of (only (map shown_doc rows))) (rows_gone 0 id q (db 5) (new.now.trees 5) it.docs) ∙ through (λ rows. option_map doc_of (only (map shown_doc rows))) (q == id) [] (filter (has 0 q) (db 5)))
+          (ap next_in it.room)
+          (λ q. ap (λ rows. sessions_in rows q) it.sessions)
+          (λ q n. ap (λ rows. slots_in rows q n) it.slots);
+    }

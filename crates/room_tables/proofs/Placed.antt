@@ -1,0 +1,176 @@
+-- Entries in their order, and entries that are put in one after another.
+use Rattle.std.proofs.Common.{◌≡◌, ◌≢◌, ℕ, suc, ℤ, ◌+◌, ◌<◌, ◌≤◌, pos, not, Bool, List, [], ◌∷◌, ◌++◌, length, map, filter, Ok, refl, sym, ap, ap₂, subst, ◌∙◌, arith, true, false, ◌==◌, Less, is_eq, is_gt, cond, inl, inr, eq-eqb, int_cmp, IsPermutation, Equal}
+use Rattle.std.specs.List.{AllByRecursion}
+use Rattle.std.proofs.lemmas.Int.{ints}
+use Rattle.std.proofs.lemmas.Bool.{cases_eq}
+use Rattle.std.proofs.lemmas.Bool.Decides.{nat_tests}
+use Rattle.std.proofs.lemmas.Map.Lookups.{exact_signed, exact_bytes}
+use Rattle.std.proofs.lemmas.List.Sorted.{IsPermutation-map, IsPermutation-trans, IsPermutation-cons, IsPermutation-sym, IsPermutation-to_front}
+use Rattle.sqlite_value.specs.declared.value.Value.TheVariants.{Int, Text}
+use Rattle.sqlite_value.specs.Order.{Row, value_cmp}
+use Rattle.sqlite_value.proofs.OrderLemmas.{value_cmp-Int, value_cmp-Text}
+use Rattle.sqlite_trees.specs.Tree.{IsAscending, Trees}
+use Rattle.sqlite_sql.specs.Query.{key_cmp}
+use Rattle.sqlite_sql.proofs.QueryLemmas.{key_cmp_total}
+use Rattle.sqlite_keyed.specs.Lists.{sort_by}
+use Rattle.sqlite_keyed.proofs.ListLemmas.{IsPermutation-filter, all-append}
+use Rattle.sqlite_keyed.proofs.SortLemmas.{IsPermutation-sort_by}
+use Rattle.sqlite.specs.Effect.{Database}
+use Rattle.sqlite.specs.State.{State, ExecutesInside}
+use Rattle.room_acl.specs.Entries.{EntryModel}
+use Rattle.room_records.specs.Records.{Records}
+use Rattle.room_tables.specs.Texts.{add_entry_text, drop_entries_text}
+use Rattle.room_tables.specs.Rows.{has, shown_entry, entry_of, entry_keys, in_order, nodes_in, documents_in, next_in, sessions_in, slots_in, records_of, IsEntryRow}
+use Rattle.room_tables.specs.Layout.{IsKeyed, IsRoomDatabase}
+use Rattle.room_tables.specs.Steps.{type_of, text_of_who, IsReadBack, shown_as, placed, Lists}
+use Rattle.room_tables.proofs.Sorted.{AtMost, ascending-sort_by, same_ascending}
+use Rattle.room_tables.proofs.Queries.{first_tie}
+use Rattle.room_tables.proofs.Values.{int_has}
+use Rattle.room_tables.proofs.Changes.{executes_inside, without}
+use Rattle.room_tables.proofs.Takes.{entry_values, drops_entries, adds_entry}
+use Rattle.room_tables.proofs.Filters.{put_is_one_more, put_passed_over, none_left, others_left, not_both, keyed_put, keyed_filter, still_room, still_numbered}
+use Rattle.room_tables.proofs.Effects.{same_records}
+
+-- two rows of entries that tie are one
+exact_values : (p k f m q l g n : ℕ) (v w : List ℕ)
+    → key_cmp 0 entry_keys (Int (pos p) ∷ Int (pos k) ∷ Int (pos f) ∷ Int (pos m) ∷ Text v ∷ []) (Int (pos q) ∷ Int (pos l) ∷ Int (pos g) ∷ Int (pos n) ∷ Text w ∷ []) ≡ Equal
+    → ◌≡◌ {A = Row} (Int (pos p) ∷ Int (pos k) ∷ Int (pos f) ∷ Int (pos m) ∷ Text v ∷ []) (Int (pos q) ∷ Int (pos l) ∷ Int (pos g) ∷ Int (pos n) ∷ Text w ∷ [])
+exact_values p k f m q l g n v w h =
+    let one = first_tie _ _ h in
+    let two = first_tie _ _ one.1 in
+    let three = first_tie _ _ two.1 in
+    let four = first_tie _ _ three.1 in
+    let five = first_tie _ _ four.1 in
+    let a : pos p ≡ pos q = exact_signed _ _ (sym (value_cmp-Int (pos p) (pos q)) ∙ one.0) in
+    let b : pos k ≡ pos l = exact_signed _ _ (sym (value_cmp-Int (pos k) (pos l)) ∙ two.0) in
+    let c : pos f ≡ pos g = exact_signed _ _ (sym (value_cmp-Int (pos f) (pos g)) ∙ three.0) in
+    let d : pos m ≡ pos n = exact_signed _ _ (sym (value_cmp-Int (pos m) (pos n)) ∙ four.0) in
+    let e : v ≡ w = exact_bytes _ _ (sym (value_cmp-Text v w) ∙ five.0) in
+    cc
+
+pub exact_entries : (a b : Row) → IsEntryRow a → IsEntryRow b → key_cmp 0 entry_keys a b ≡ Equal → a ≡ b
+exact_entries a b p q tie = p.is ∙ exact_values p.place p.kind p.flags p.mask q.place q.kind q.flags q.mask p.who q.who (rw (p.is, q.is) at tie) ∙ sym q.is
+
+abbrev below : Row → Row → Type 0
+below = AtMost (key_cmp 0 entry_keys) (key_cmp_total entry_keys 0)
+
+first_less : (a b : ℕ) (e f : EntryModel) → a < b → below (shown_as a e) (shown_as b f)
+first_less a b e f low =
+    let less : int_cmp (pos a) (pos b) ≡ Less = grind (arith, ints, nat_tests) in
+    let first : value_cmp (Int (pos a)) (Int (pos b)) ≡ Less = value_cmp-Int (pos a) (pos b) ∙ less in
+    rw first refl
+
+later : (a at : ℕ) (e : EntryModel) (es : List EntryModel) → a < at → AllByRecursion (below (shown_as a e)) (placed at es)
+later a at e [] low = tt
+later a at e (f ∷ es) low = (first_less a at e f low, later a (suc at) e es (omega arith))
+
+placed_up : (at : ℕ) (es : List EntryModel) → IsAscending below (placed at es)
+placed_up at [] = tt
+placed_up at (e ∷ es) = (later at (suc at) e es (omega arith), placed_up (suc at) es)
+
+placed_rows : (at : ℕ) (es : List EntryModel) → AllByRecursion IsEntryRow (placed at es)
+placed_rows at [] = tt
+placed_rows at (e ∷ es) = (record { place = at; kind = type_of e.allow; flags = e.flags; mask = e.mask; who = text_of_who e.who; is = refl }, placed_rows (suc at) es)
+
+placed_push : (at : ℕ) (es : List EntryModel) (e : EntryModel) → placed at (es ++ e ∷ []) ≡ placed at es ++ shown_as (at + length es) e ∷ []
+placed_push at [] e = rw Rattle.std.proofs.Common.add-zero refl
+placed_push at (x ∷ es) e =
+    let n : suc at + length es ≡ at + suc (length es) = omega arith in
+    ap (λ l. shown_as at x ∷ l) (placed_push (suc at) es e ∙ ap (λ k. placed (suc at) es ++ shown_as k e ∷ []) n)
+
+type_back : (allow : Bool) → (type_of allow == 0) ≡ allow
+type_back true = refl
+type_back false = refl
+
+one_back : (at : ℕ) (e : EntryModel) → IsReadBack e → entry_of (shown_as at e) ≡ e
+one_back at e back = ap₂ (λ allow who. record { allow = allow; flags = e.flags; mask = e.mask; who = who }) (type_back e.allow) back
+
+pub read_back : (at : ℕ) (es : List EntryModel) → AllByRecursion IsReadBack es → map entry_of (placed at es) ≡ es
+read_back at [] back = refl
+read_back at (e ∷ es) back = ap₂ (λ x l. x ∷ l) (one_back at e back.0) (read_back (suc at) es back.1)
+
+-- a row that goes in at the next place is the last
+one_placed : (old new : List Row) (es : List EntryModel) (e : EntryModel) → sort_by (key_cmp 0 entry_keys) old ≡ placed 0 es
+    → IsPermutation new (shown_as (length es) e ∷ old) → sort_by (key_cmp 0 entry_keys) new ≡ placed 0 (es ++ e ∷ [])
+one_placed old new es e was more =
+    let cmp = key_cmp 0 entry_keys in
+    let total = key_cmp_total entry_keys 0 in
+    let row = shown_as (length es) e in
+    let pushed : placed 0 (es ++ e ∷ []) ≡ placed 0 es ++ row ∷ [] = placed_push 0 es e ∙ rw Rattle.std.proofs.Common.zero-add refl in
+    let whole = IsPermutation-trans _ _ _ (IsPermutation-sort_by cmp total new) (IsPermutation-trans _ _ _ more (IsPermutation-cons row _ _ (IsPermutation-sym _ _ (IsPermutation-sort_by cmp total old)))) in
+    let end = subst (λ l. IsPermutation (sort_by cmp new) (row ∷ l)) was whole in
+    let moved = IsPermutation-trans _ _ _ (IsPermutation-to_front (placed 0 es) row) (IsPermutation-sym _ _ end) in
+    same_ascending cmp total IsEntryRow exact_entries (placed 0 (es ++ e ∷ [])) (sort_by cmp new) (placed_rows 0 (es ++ e ∷ [])) (placed_up 0 (es ++ e ∷ [])) (ascending-sort_by cmp total new)
+    (subst (λ l. IsPermutation l (sort_by cmp new)) (sym pushed) moved)
+
+-- ---- the statements
+
+-- the rows of the entries of an object go
+pub cleared_rows : (db next : Trees) (id q : ℕ) → next 3 ≡ without (has 1 id) (db 3) → filter (has 1 q) (next 3) ≡ cond (q == id) [] (filter (has 1 q) (db 3))
+cleared_rows db next id q is = elim (cases_eq q id) [
+  | inl same ↦
+      let test : (q == id) ≡ true = eq-eqb q id same in
+      rw (test, same) (ap (filter (has 1 id)) is ∙ none_left (has 1 id) (has 1 id) (db 3) (λ r h. h))
+  | inr apart ↦
+      let test : (q == id) ≡ false = grind (arith, nat_tests) in
+      rw test (ap (filter (has 1 q)) is ∙ others_left (has 1 id) (has 1 q) (db 3) (λ r h. not_both 1 id q r apart h))
+]
+
+-- no entry of the object is left, and all else is as it was
+pub lists_none : (old new : State) (id count : ℕ) → IsRoomDatabase old.now → ExecutesInside 0 drop_entries_text (Int (pos id) ∷ []) old new (Ok count) → Lists (records_of old.now.trees) id [] new.now
+lists_none old new id count room h =
+    let it = drops_entries old new id count room.schema room.keyed.1.1.0 (executes_inside drop_entries_text _ old new count h).0 in
+    let o = it.others in
+    let rows = λ (q : ℕ). cleared_rows old.now.trees new.now.trees id q it.rows_are in
+    let here : (id == id) ≡ true = eq-eqb id id refl in
+    record {
+      room = still_room 3 old.now new.now room it.schema o (subst IsKeyed (sym it.rows_are) (keyed_filter (λ r. not (has 1 id r)) (old.now.trees 3) room.keyed.1.1.0)) (still_numbered 3 old.now new.now room (omega arith) o);
+      mine = ap in_order (rows id ∙ ap (λ b. cond b [] (filter (has 1 id) (old.now.trees 3))) here);
+      back = tt;
+      others = λ q apart. let other : (q == id) ≡ false = grind (arith, nat_tests) in ap (λ l. map entry_of (in_order l)) (rows q ∙ ap (λ b. cond b [] (filter (has 1 q) (old.now.trees 3))) other);
+      nodes = λ q. ap (λ l. nodes_in l q) (o.1.0 (omega arith));
+      documents = λ q. ap (λ l. documents_in l q) (o.1.1.1.0 (omega arith));
+      next = ap next_in (o.0 (omega arith));
+      sessions = λ q. ap (λ l. sessions_in l q) (o.1.1.1.1.0 (omega arith));
+      slots = λ q n. ap (λ l. slots_in l q n) (o.1.1.1.1.1.0 (omega arith));
+    }
+
+-- the entries of the object after one more is put in
+pub lists_more : (old new : State) (id count : ℕ) (e : EntryModel) (es : List EntryModel) (records : Records) → IsReadBack e → Lists records id es old.now
+    → ExecutesInside 0 add_entry_text (entry_values id (length es) (type_of e.allow) e.flags e.mask (text_of_who e.who)) old new (Ok count) → Lists records id (es ++ e ∷ []) new.now
+lists_more old new id count e es records back was h =
+    let it = adds_entry old new id (length es) (type_of e.allow) e.flags e.mask (text_of_who e.who) count was.room.schema (executes_inside add_entry_text _ old new count h).0 in
+    let more = it.1 in
+    let o = it.2 in
+    let row : Row = Int more.rowid ∷ entry_values id (length es) (type_of e.allow) e.flags e.mask (text_of_who e.who) in
+    let rows = old.now.trees 3 in
+    let moved = put_is_one_more row rows more.free in
+    let mine : has 1 id row ≡ true = int_has 1 id row refl in
+    let found : IsPermutation (filter (has 1 id) (new.now.trees 3)) (row ∷ filter (has 1 id) rows) =
+    subst (λ b. IsPermutation (filter (has 1 id) (new.now.trees 3)) (cond b (row ∷ filter (has 1 id) rows) (filter (has 1 id) rows))) mine
+    (subst (λ l. IsPermutation (filter (has 1 id) l) (filter (has 1 id) (row ∷ rows))) (sym more.is) (IsPermutation-filter (has 1 id) _ _ moved)) in
+    record {
+      room = still_room 3 old.now new.now was.room it.0 o (subst IsKeyed (sym more.is) (keyed_put row rows refl was.room.keyed.1.1.0)) (still_numbered 3 old.now new.now was.room (omega arith) o);
+      mine = one_placed (map shown_entry (filter (has 1 id) rows)) (map shown_entry (filter (has 1 id) (new.now.trees 3))) es e was.mine (IsPermutation-map shown_entry _ _ found);
+      back = all-append IsReadBack es (e ∷ []) was.back (back, tt);
+      others = λ q apart.
+          let lacks = not_both 1 q id row (λ x. apart (sym x)) mine in
+          ap (λ l. map entry_of (in_order l)) (ap (filter (has 1 q)) more.is ∙ put_passed_over (has 1 q) row rows lacks more.free) ∙ was.others q apart;
+      nodes = λ q. ap (λ l. nodes_in l q) (o.1.0 (omega arith)) ∙ was.nodes q;
+      documents = λ q. ap (λ l. documents_in l q) (o.1.1.1.0 (omega arith)) ∙ was.documents q;
+      next = ap next_in (o.0 (omega arith)) ∙ was.next;
+      sessions = λ q. ap (λ l. sessions_in l q) (o.1.1.1.1.0 (omega arith)) ∙ was.sessions q;
+      slots = λ q n. ap (λ l. slots_in l q n) (o.1.1.1.1.1.0 (omega arith)) ∙ was.slots q n;
+    }
+
+-- what the records are then
+pub lists_records : (records : Records) (id : ℕ) (es : List EntryModel) (db : Database) → Lists records id es db
+    → records_of db.trees ≡ record records { objects = record records.objects { entries = λ q. cond (q == id) es (records.objects.entries q) } }
+lists_records records id es db it = same_records _ _ it.nodes (λ q. elim (cases_eq q id) [
+  | inl same ↦
+      let test : (q == id) ≡ true = eq-eqb q id same in
+      rw (test, same) (ap (map entry_of) it.mine ∙ read_back 0 es it.back)
+  | inr apart ↦
+      let test : (q == id) ≡ false = grind (arith, nat_tests) in
+      rw test (it.others q apart)
+]) it.documents it.next it.sessions it.slots

@@ -1,0 +1,46 @@
+-- The queries' texts are SELECTs, whatever the schema.
+use Rattle.std.proofs.Common.{◌≡◌, true, refl}
+use Rattle.sqlite_tied.specs.Compute.{everything}
+use Rattle.sqlite_resolve.specs.Compile.{first}
+use Rattle.room_tables.specs.Texts.{find_version_text, find_node_text, find_child_text, list_children_text, count_children_text, list_entries_text, find_doc_text, find_session_text, find_slot_text, find_next_text}
+use Rattle.room_tables.proofs.Queries.{is_query_text}
+
+pub find_node_selects : is_query_text (first find_node_text) ≡ true
+unfolding everything
+find_node_selects = refl
+
+pub find_child_selects : is_query_text (first find_child_text) ≡ true
+unfolding everything
+find_child_selects = refl
+
+pub list_children_selects : is_query_text (first list_children_text) ≡ true
+unfolding everything
+list_children_selects = refl
+
+pub count_children_selects : is_query_text (first count_children_text) ≡ true
+unfolding everything
+count_children_selects = refl
+
+pub list_entries_selects : is_query_text (first list_entries_text) ≡ true
+unfolding everything
+list_entries_selects = refl
+
+pub find_doc_selects : is_query_text (first find_doc_text) ≡ true
+unfolding everything
+find_doc_selects = refl
+
+pub find_session_selects : is_query_text (first find_session_text) ≡ true
+unfolding everything
+find_session_selects = refl
+
+pub find_slot_selects : is_query_text (first find_slot_text) ≡ true
+unfolding everything
+find_slot_selects = refl
+
+pub find_next_selects : is_query_text (first find_next_text) ≡ true
+unfolding everything
+find_next_selects = refl
+
+pub find_version_selects : is_query_text (first find_version_text) ≡ true
+unfolding everything
+find_version_selects = refl

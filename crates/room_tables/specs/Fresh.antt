@@ -1,0 +1,46 @@
+-- Tables that were just made, and a fresh room in them.
+use Rattle.std.specs.Prelude.{◌≡◌, ℕ, List, [], None, Vec}
+use Rattle.std.specs.declared.alloc.Global.{Global}
+use Rattle.std.specs.List.{AllByRecursion}
+use Rattle.sqlite_trees.specs.Tree.{Trees}
+use Rattle.sqlite.specs.Table.{Table}
+use Rattle.sqlite.specs.Schema.{Schema}
+use Rattle.sqlite.specs.Effect.{Database}
+use Rattle.room_acl.specs.Entries.{EntryModel}
+use Rattle.room_records.specs.declared.node.Node.{Node}
+use Rattle.room_records.specs.Records.{Records}
+use Rattle.room_records.specs.Changes.{apply_change}
+use Rattle.room_records.specs.declared.change.Change.TheVariants.{PutNode, PutEntries, PutNext}
+use Rattle.room_records.specs.Room.{fresh_room}
+use Rattle.room_records.specs.Representation.{RepresentsRoom}
+use Rattle.room_tables.specs.Tables.{schema_0}
+use Rattle.room_tables.specs.Rows.{records_of}
+
+-- the tables are there, and have no row
+pub record IsMade (wanted : Schema) (db : Database) : Type 0 where
+  pub schema : db.schema ≡ wanted
+  pub empty : AllByRecursion (λ (t : Table). db.trees t.tree ≡ []) wanted.tables
+
+abbrev pub no_records : Records
+no_records = record {
+  objects = record { node = λ _. None; entries = λ _. []; document = λ _. None; next = 0 };
+  session = λ _. None;
+  slot = λ _ _. None;
+}
+
+-- a room with its root alone, which has these entries, and no session
+pub record IsFresh (owner group : List ℕ) (r : Records) : Type 0 where
+  pub room : RepresentsRoom r.objects (fresh_room owner group)
+  pub sessions : (sid : List ℕ) → r.session sid ≡ None
+  pub slots : (sid : List ℕ) (slot : ℕ) → r.slot sid slot ≡ None
+
+-- the records after a root and its entries are put into tables that were just made
+abbrev pub filled : Node → Vec EntryModel Global → Records
+filled root entries = apply_change (PutNext 2) (apply_change (PutEntries 1 entries) (apply_change (PutNode root) no_records))
+
+abbrev pub MayBeFilled : Node → Vec EntryModel Global → Database → Trees → Type 0
+MayBeFilled root entries db trees = db.schema ≡ schema_0 → records_of trees ≡ filled root entries
+
+-- a commit leaves such trees where there was no table before
+abbrev pub MayBeMade : List ℕ → List ℕ → Database → Trees → Type 0
+MayBeMade owner group db trees = db.schema ≡ schema_0 → IsFresh owner group (records_of trees)

@@ -1,0 +1,34 @@
+-- A database that is laid out for the records of a room.
+use Rattle.std.specs.Prelude.{◌≡◌, ℕ, pos, true, List, Option}
+use Rattle.std.specs.List.{AllByRecursion}
+use Rattle.sqlite_value.specs.declared.value.Value.{Value}
+use Rattle.sqlite_value.specs.declared.value.Value.TheVariants.{Int}
+use Rattle.sqlite_value.specs.Order.{Row, column}
+use Rattle.sqlite_trees.specs.Tree.{rowid, IsTable}
+use Rattle.sqlite_trees.specs.View.{is_int}
+use Rattle.sqlite.specs.Table.{Table}
+use Rattle.sqlite.specs.Values.{or_null}
+use Rattle.sqlite.specs.Effect.{Database}
+use Rattle.room_tables.specs.Tables.{room_schema}
+
+-- the rowids are integers and rise, so none comes twice
+pub record IsKeyed (rows : List Row) : Type 0 where
+  pub table : IsTable rows
+  pub ints : AllByRecursion (λ r. is_int (rowid r) ≡ true) rows
+
+-- a parent's number as it is stored
+abbrev pub parent_value : Option ℕ → Value
+parent_value = or_null (λ n. Int (pos n))
+
+-- the number of a node and that of its parent are natural numbers
+pub record IsNumbered (row : Row) : Type 0 where
+  pub id : ℕ
+  pub has_id : column row 0 ≡ Int (pos id)
+  pub parent : Option ℕ
+  pub has_parent : column row 2 ≡ parent_value parent
+
+-- the six tables and their indexes, and nothing else
+pub record IsRoomDatabase (db : Database) : Type 0 where
+  pub schema : db.schema ≡ room_schema
+  pub keyed : AllByRecursion (λ (t : Table). IsKeyed (db.trees t.tree)) room_schema.tables
+  pub numbered : AllByRecursion IsNumbered (db.trees 1)

@@ -1,0 +1,27 @@
+-- The order of rows of nodes, and a count as a row.
+use Rattle.std.specs.Prelude.{◌≡◌, ℕ, pos, false, min, List, [], ◌∷◌}
+use Rattle.std.specs.Ordering.{is_gt}
+use Rattle.sqlite_value.specs.declared.value.Value.TheVariants.{Int}
+use Rattle.sqlite_value.specs.declared.keys.Key.{Key}
+use Rattle.sqlite_value.specs.declared.keys.Collation.TheVariants.{Binary}
+use Rattle.sqlite_value.specs.Keys.{ascending}
+use Rattle.sqlite_value.specs.Order.{Row, column}
+use Rattle.sqlite_sql.specs.Query.{key_cmp}
+
+abbrev pub name_keys : List Key
+name_keys = ascending Binary ∷ []
+
+-- what rows of nodes are sorted by, as they are shown
+abbrev pub name_key : Row → Row
+name_key r = column r 2 ∷ []
+
+-- the name of the one is not above that of the other
+abbrev pub ByName : Row → Row → Type 0
+ByName a b = is_gt (key_cmp 0 name_keys (name_key a) (name_key b)) ≡ false
+
+-- the greatest count that is told
+abbrev pub most : ℕ
+most = 9223372036854775807
+
+abbrev pub counted_row : ℕ → Row
+counted_row n = Int (pos (min n most)) ∷ []

@@ -1,0 +1,234 @@
+-- The rows of the six tables, as records. A value of another type than its column's has a meaning too, so that each row has one.
+use Rattle.std.specs.Prelude.{◌≡◌, ℕ, pos, Bool, ◌&&◌, ◌==◌, List, [], ◌∷◌, map, filter, Option, Some, None, option_map, unwrap_or, if◌then◌else◌, codes}
+use Rattle.std.specs.Str.{bytes_eq}
+use Rattle.sqlite_value.specs.declared.keys.Collation.TheVariants.{Binary}
+use Rattle.sqlite_value.specs.declared.keys.Key.{Key}
+use Rattle.sqlite_value.specs.declared.value.Value.{Value}
+use Rattle.sqlite_value.specs.declared.value.Value.TheVariants.{Int, Text, Blob}
+use Rattle.sqlite_value.specs.Keys.{ascending}
+use Rattle.sqlite_value.specs.Order.{Row, column}
+use Rattle.sqlite_trees.specs.Tree.{Trees}
+use Rattle.sqlite_sql.specs.Query.{key_cmp}
+use Rattle.sqlite_schema.specs.Rules.{equal}
+use Rattle.sqlite_keyed.specs.Lists.{sort_by}
+use Rattle.room_acl.specs.declared.subject.Kind.{Kind}
+use Rattle.room_acl.specs.declared.subject.Kind.TheVariants.{File, Folder}
+use Rattle.room_acl.specs.declared.who.Who.{Who}
+use Rattle.room_acl.specs.declared.who.Who.TheVariants.{Owner, Group, Everyone, User, Members}
+use Rattle.room_acl.specs.Bits.{identifier_group}
+use Rattle.room_acl.specs.Entries.{EntryModel}
+use Rattle.room_slots.specs.KeptModel.{KeptModel}
+use Rattle.room_records.specs.declared.node.Node.{Node}
+use Rattle.room_records.specs.declared.session.SessionRow.{SessionRow}
+use Rattle.room_records.specs.Records.{Records}
+
+-- ---- values
+
+-- the number in a value, and 0 in one that has none
+abbrev pub number_in : Value → ℕ
+number_in (Int (pos n)) = n
+number_in _ = 0
+
+abbrev pub text_in : Value → List ℕ
+text_in (Text t) = t
+text_in _ = []
+
+abbrev pub bytes_in : Value → List ℕ
+bytes_in (Blob b) = b
+bytes_in _ = []
+
+-- NULL is no parent
+abbrev pub parent_in : Value → Option ℕ
+parent_in (Int (pos n)) = Some n
+parent_in _ = None
+
+-- the empty text is no name
+abbrev pub name_of_text : List ℕ → Option (List ℕ)
+name_of_text [] = None
+name_of_text (b ∷ bytes) = Some (b ∷ bytes)
+
+abbrev pub name_in : Value → Option (List ℕ)
+name_in v = name_of_text (text_in v)
+
+abbrev pub kind_of : ℕ → Kind
+kind_of n = if n == 1 then Folder else File
+
+abbrev pub owner_text : List ℕ
+owner_text = codes "OWNER@"
+
+abbrev pub group_text : List ℕ
+group_text = codes "GROUP@"
+
+abbrev pub everyone_text : List ℕ
+everyone_text = codes "EVERYONE@"
+
+-- the flag tells a group's name from a user's
+abbrev pub named_who : ℕ → List ℕ → Who
+named_who flags text = if identifier_group flags then Members text else User text
+
+abbrev pub who_of : ℕ → List ℕ → Who
+who_of flags text =
+    if bytes_eq text owner_text then Owner
+    else (if bytes_eq text group_text then Group
+    else (if bytes_eq text everyone_text then Everyone else named_who flags text))
+
+-- the one element of a list that has one
+abbrev pub only : {X : Type 0} → List X → Option X
+only [] = None
+only (x ∷ []) = Some x
+only (x ∷ y ∷ more) = None
+
+-- the column has this number, as SQL's = says
+abbrev pub has : ℕ → ℕ → Row → Bool
+has place number row = equal Binary (column row place) (Int (pos number))
+
+abbrev pub has_text : ℕ → List ℕ → Row → Bool
+has_text place text row = equal Binary (column row place) (Text text)
+
+-- A row of a table is its rowid and then its columns, so column i has place i + 1. An INTEGER PRIMARY KEY is the rowid, and its own column holds NULL.
+
+-- ---- node: tree 1, whose rowid is the number
+
+abbrev pub shown_node : Row → Row
+shown_node row = column row 0 ∷ column row 2 ∷ column row 3 ∷ column row 4 ∷ column row 5 ∷ column row 6 ∷ column row 7 ∷ []
+
+abbrev pub node_of : Row → Node
+node_of row = record {
+  id = number_in (column row 0);
+  parent = parent_in (column row 1);
+  name = name_in (column row 2);
+  kind = kind_of (number_in (column row 3));
+  owner = text_in (column row 4);
+  group = text_in (column row 5);
+  aclflag = number_in (column row 6);
+}
+
+abbrev pub node_rows : Trees → ℕ → List Row
+node_rows db id = map shown_node (filter (has 0 id) (db 1))
+
+-- the row is in this folder, and has this name
+abbrev pub is_child_named : ℕ → List ℕ → Row → Bool
+is_child_named parent name row = has 2 parent row && has_text 3 name row
+
+abbrev pub named_rows : Trees → ℕ → List ℕ → List Row
+named_rows db parent name = map shown_node (filter (is_child_named parent name) (db 1))
+
+abbrev pub child_rows : Trees → ℕ → List Row
+child_rows db parent = map shown_node (filter (has 2 parent) (db 1))
+
+abbrev pub nodes_in : List Row → ℕ → Option Node
+nodes_in rows id = option_map node_of (only (map shown_node (filter (has 0 id) rows)))
+
+-- ---- entry: tree 3
+
+abbrev pub shown_entry : Row → Row
+shown_entry row = column row 2 ∷ column row 3 ∷ column row 4 ∷ column row 5 ∷ column row 6 ∷ []
+
+abbrev pub entry_of : Row → EntryModel
+entry_of row = record {
+  allow = number_in (column row 1) == 0;
+  flags = number_in (column row 2);
+  mask = number_in (column row 3);
+  who = who_of (number_in (column row 2)) (text_in (column row 4));
+}
+
+-- what ORDER BY goes by: each column that is shown, so that it leaves no choice
+abbrev pub entry_keys : List Key
+entry_keys = ascending Binary ∷ ascending Binary ∷ ascending Binary ∷ ascending Binary ∷ ascending Binary ∷ []
+
+-- rows of entries as they are shown, in order
+abbrev pub in_order : List Row → List Row
+in_order rows = sort_by (key_cmp 0 entry_keys) (map shown_entry rows)
+
+abbrev pub entry_rows : Trees → ℕ → List Row
+entry_rows db id = in_order (filter (has 1 id) (db 3))
+
+abbrev pub entries_in : List Row → ℕ → List EntryModel
+entries_in rows id = map entry_of (in_order (filter (has 1 id) rows))
+
+-- ---- doc: tree 5, whose rowid is the node's number
+
+abbrev pub shown_doc : Row → Row
+shown_doc row = column row 2 ∷ []
+
+abbrev pub doc_rows : Trees → ℕ → List Row
+doc_rows db id = map shown_doc (filter (has 0 id) (db 5))
+
+abbrev pub doc_of : Row → List ℕ
+doc_of row = bytes_in (column row 0)
+
+abbrev pub documents_in : List Row → ℕ → Option (List ℕ)
+documents_in rows id = option_map doc_of (only (map shown_doc (filter (has 0 id) rows)))
+
+-- ---- session: tree 6
+
+abbrev pub shown_session : Row → Row
+shown_session row = column row 2 ∷ column row 3 ∷ column row 4 ∷ []
+
+abbrev pub session_of : List ℕ → Row → SessionRow
+session_of sid row = record { sid = sid; owner = text_in (column row 0); slots = number_in (column row 1); is_open = number_in (column row 2) == 1 }
+
+abbrev pub session_rows : Trees → List ℕ → List Row
+session_rows db sid = map shown_session (filter (has_text 1 sid) (db 6))
+
+abbrev pub sessions_in : List Row → List ℕ → Option SessionRow
+sessions_in rows sid = option_map (session_of sid) (only (map shown_session (filter (has_text 1 sid) rows)))
+
+-- ---- slot: tree 8
+
+abbrev pub shown_slot : Row → Row
+shown_slot row = column row 3 ∷ column row 4 ∷ column row 5 ∷ []
+
+abbrev pub kept_of : Row → KeptModel
+kept_of row = record { seq = number_in (column row 0); request = bytes_in (column row 1); reply = bytes_in (column row 2) }
+
+abbrev pub is_slot : List ℕ → ℕ → Row → Bool
+is_slot sid slot row = has_text 1 sid row && has 2 slot row
+
+abbrev pub slot_rows : Trees → List ℕ → ℕ → List Row
+slot_rows db sid slot = map shown_slot (filter (is_slot sid slot) (db 8))
+
+abbrev pub slots_in : List Row → List ℕ → ℕ → Option KeptModel
+slots_in rows sid slot = option_map kept_of (only (map shown_slot (filter (is_slot sid slot) rows)))
+
+-- ---- room: tree 0, with one row
+
+abbrev pub shown_next : Row → Row
+shown_next row = column row 3 ∷ []
+
+abbrev pub next_rows : Trees → List Row
+next_rows db = map shown_next (filter (has 0 1) (db 0))
+
+abbrev pub next_in : List Row → ℕ
+next_in rows = unwrap_or (option_map (λ row. number_in (column row 0)) (only (map shown_next (filter (has 0 1) rows)))) 0
+
+-- ---- all of them
+
+abbrev pub records_of : Trees → Records
+records_of db = record {
+  objects = record { node = nodes_in (db 1); entries = entries_in (db 3); document = documents_in (db 5); next = next_in (db 0) };
+  session = sessions_in (db 6);
+  slot = slots_in (db 8);
+}
+
+-- a row of entries as it is shown: its place, type, flags, mask and text
+pub record IsEntryRow (row : Row) : Type 0 where
+  pub place : ℕ
+  pub kind : ℕ
+  pub flags : ℕ
+  pub mask : ℕ
+  pub who : List ℕ
+  pub is : row ≡ Int (pos place) ∷ Int (pos kind) ∷ Int (pos flags) ∷ Int (pos mask) ∷ Text who ∷ []
+
+-- the same of its columns alone
+pub record HasEntryColumns (row : Row) : Type 0 where
+  pub place : ℕ
+  pub has_place : column row 0 ≡ Int (pos place)
+  pub kind : ℕ
+  pub has_kind : column row 1 ≡ Int (pos kind)
+  pub flags : ℕ
+  pub has_flags : column row 2 ≡ Int (pos flags)
+  pub mask : ℕ
+  pub has_mask : column row 3 ≡ Int (pos mask)
+  pub who : List ℕ
+  pub has_who : column row 4 ≡ Text who

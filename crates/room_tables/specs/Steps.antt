@@ -1,0 +1,82 @@
+-- Steps of a transaction on the records.
+use Rattle.std.specs.Prelude.{◌≡◌, ◌≢◌, ◌==◌, ◌&&◌, ℕ, suc, pos, Bool, filter, List, [], ◌∷◌, None, if◌then◌else◌}
+use Rattle.std.specs.List.{AllByRecursion}
+use Rattle.std.specs.Str.{bytes_eq}
+use Rattle.sqlite_value.specs.declared.value.Value.TheVariants.{Int, Text}
+use Rattle.sqlite_value.specs.Order.{Row}
+use Rattle.sqlite_trees.specs.Tree.{Trees}
+use Rattle.sqlite.specs.Effect.{Database}
+use Rattle.sqlite.specs.State.{State}
+use Rattle.room_acl.specs.declared.subject.Kind.{Kind}
+use Rattle.room_acl.specs.declared.subject.Kind.TheVariants.{File, Folder}
+use Rattle.room_acl.specs.declared.who.Who.{Who}
+use Rattle.room_acl.specs.declared.who.Who.TheVariants.{Owner, Group, Everyone, User, Members}
+use Rattle.room_acl.specs.Entries.{EntryModel}
+use Rattle.room_records.specs.declared.change.Change.{Change}
+use Rattle.room_records.specs.Records.{Records}
+use Rattle.room_records.specs.Changes.{apply_changes}
+use Rattle.room_tables.specs.Rows.{records_of, entry_rows, who_of, owner_text, group_text, everyone_text, is_slot}
+use Rattle.room_tables.specs.Layout.{IsRoomDatabase}
+
+-- ---- values as they are stored
+
+abbrev pub kind_number : Kind → ℕ
+kind_number File = 0
+kind_number Folder = 1
+
+abbrev pub flag_of : Bool → ℕ
+flag_of b = if b then 1 else 0
+
+-- 0 is ALLOW and 1 is DENY (RFC 8881, section 6.2.1.1)
+abbrev pub type_of : Bool → ℕ
+type_of allow = if allow then 0 else 1
+
+abbrev pub text_of_who : Who → List ℕ
+text_of_who Owner = owner_text
+text_of_who Group = group_text
+text_of_who Everyone = everyone_text
+text_of_who (User name) = name
+text_of_who (Members name) = name
+
+-- the entry is read as it was written
+abbrev pub IsReadBack : EntryModel → Type 0
+IsReadBack e = who_of e.flags (text_of_who e.who) ≡ e.who
+
+abbrev pub shown_as : ℕ → EntryModel → Row
+shown_as place e = Int (pos place) ∷ Int (pos (type_of e.allow)) ∷ Int (pos e.flags) ∷ Int (pos e.mask) ∷ Text (text_of_who e.who) ∷ []
+
+-- entries as they are shown, at places from a number on
+abbrev pub placed : ℕ → List EntryModel → List Row
+placed at [] = []
+placed at (e ∷ es) = shown_as at e ∷ placed (suc at) es
+
+-- ---- steps
+
+-- inside a transaction the records were changed so
+pub record Steps (old new : State) (change : Records → Records) : Type 0 where
+  pub room : IsRoomDatabase new.now
+  pub records : records_of new.now.trees ≡ change (records_of old.now.trees)
+
+-- a commit of these changes leaves such trees, where there was a room before
+abbrev pub MayBecome : List Change → Database → Trees → Type 0
+MayBecome changes db trees = IsRoomDatabase db → records_of trees ≡ apply_changes changes (records_of db.trees)
+
+-- the object's entries are these, and all else is as in the records
+pub record Lists (records : Records) (id : ℕ) (entries : List EntryModel) (db : Database) : Type 0 where
+  pub room : IsRoomDatabase db
+  pub mine : entry_rows db.trees id ≡ placed 0 entries
+  pub back : AllByRecursion IsReadBack entries
+  pub others : (q : ℕ) → q ≢ id → (records_of db.trees).objects.entries q ≡ records.objects.entries q
+  pub nodes : (q : ℕ) → (records_of db.trees).objects.node q ≡ records.objects.node q
+  pub documents : (q : ℕ) → (records_of db.trees).objects.document q ≡ records.objects.document q
+  pub next : (records_of db.trees).objects.next ≡ records.objects.next
+  pub sessions : (sid : List ℕ) → (records_of db.trees).session sid ≡ records.session sid
+  pub slots : (sid : List ℕ) (slot : ℕ) → (records_of db.trees).slot sid slot ≡ records.slot sid slot
+
+-- no row is kept of this slot
+abbrev pub HasNoSlot : List ℕ → ℕ → Trees → Type 0
+HasNoSlot sid slot db = filter (is_slot sid slot) (db 8) ≡ []
+
+-- the records without what this slot keeps
+abbrev pub without_slot : List ℕ → ℕ → Records → Records
+without_slot sid slot r = record r { slot = λ s n. if bytes_eq s sid && (n == slot) then None else r.slot s n }

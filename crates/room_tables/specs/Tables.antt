@@ -1,0 +1,193 @@
+-- The six tables of a room.
+use Rattle.std.specs.Prelude.{true, false, Bool, ◌||◌, is_some, [], ◌∷◌, Some, None, codes, List, ℕ, pos}
+use Rattle.sqlite_schema.specs.Names.{table_named}
+use Rattle.sqlite.specs.Collation.TheVariants.{Binary}
+use Rattle.sqlite.specs.declared.types.Value.TheVariants.{Null, Int}
+use Rattle.sqlite.specs.Table.{Table}
+use Rattle.sqlite.specs.Schema.{Schema}
+use Rattle.sqlite.specs.Kind.{Kind}
+use Rattle.sqlite.specs.Kind.TheVariants.{Integer, Text, Blob}
+use Rattle.sqlite_sql.specs.Term.{Term, lit, col, op2}
+use Rattle.sqlite_sql.specs.declared.ops.BinaryOp.TheVariants.{Compare, And, Or}
+use Rattle.sqlite_sql.specs.declared.ops.CompareOp.TheVariants.{Eq, Ge, Le}
+use Rattle.sqlite_schema.specs.declared.schema.Column.{Column}
+use Rattle.sqlite_schema.specs.declared.schema.Index.{Index}
+use Rattle.sqlite_schema.specs.declared.schema.Reference.{Reference}
+use Rattle.sqlite_schema.specs.declared.schema.Stamps.{Stamps}
+use Rattle.sqlite_schema.specs.declared.schema.Action.{Action}
+use Rattle.sqlite_schema.specs.declared.schema.Action.TheVariants.{NoAction, Cascade}
+use Rattle.sqlite_value.specs.Keys.{plain}
+
+abbrev pub filled : List ℕ → Kind → Column
+filled name kind = record { name = name; kind = kind; is_strict = true; not_null = true; default = Null; collation = Binary }
+
+-- a column that may be NULL, or is the INTEGER PRIMARY KEY
+abbrev pub loose : List ℕ → Kind → Column
+loose name kind = record { name = name; kind = kind; is_strict = true; not_null = false; default = Null; collation = Binary }
+
+abbrev pub no_stamps : Stamps
+no_stamps = record { places = []; terms = []; formats = [] }
+
+abbrev pub equals : ℕ → ℕ → Term
+equals place n = op2 (Compare Eq Binary) (col 1 place) (lit (Int (pos n)))
+
+abbrev pub zero_or_one : ℕ → Term
+zero_or_one place = op2 Or (equals place 0) (equals place 1)
+
+abbrev pub refers : ℕ → List ℕ → List ℕ → Action → Reference
+refers place parent name how = record { columns = place ∷ []; parent = parent; parent_columns = name ∷ []; on_delete = how; on_update = NoAction; is_deferred = false }
+
+abbrev pub room_text : List ℕ
+room_text = codes "CREATE TABLE room (one INTEGER PRIMARY KEY CHECK (one = 1), version INTEGER NOT NULL, next INTEGER NOT NULL) STRICT"
+
+abbrev pub room_table : Table
+room_table = record {
+  name = codes "room";
+  tree = 0;
+  columns = loose (codes "one") Integer ∷ filled (codes "version") Integer ∷ filled (codes "next") Integer ∷ [];
+  key = Some 0;
+  primary = 0 ∷ [];
+  uniques = [];
+  orders = [];
+  checks = equals 0 1 ∷ [];
+  references = [];
+  computed = [];
+  stamps = no_stamps;
+  is_counted = false;
+}
+
+abbrev pub node_text : List ℕ
+node_text = codes "CREATE TABLE node (id INTEGER PRIMARY KEY, parent INTEGER REFERENCES node(id), name TEXT NOT NULL, kind INTEGER NOT NULL CHECK (kind = 0 OR kind = 1), owner TEXT NOT NULL, grp TEXT NOT NULL, aclflag INTEGER NOT NULL CHECK (aclflag >= 0 AND aclflag <= 7), UNIQUE (parent, name)) STRICT"
+
+abbrev pub node_table : Table
+node_table = record {
+  name = codes "node";
+  tree = 1;
+  columns = loose (codes "id") Integer ∷ loose (codes "parent") Integer ∷ filled (codes "name") Text ∷ filled (codes "kind") Integer ∷ filled (codes "owner") Text ∷ filled (codes "grp") Text ∷ filled (codes "aclflag") Integer ∷ [];
+  key = Some 0;
+  primary = 0 ∷ [];
+  uniques = (2 ∷ 3 ∷ []) ∷ [];
+  orders = plain ∷ [];
+  checks = zero_or_one 4 ∷ op2 And (op2 (Compare Ge Binary) (col 1 7) (lit (Int (pos 0)))) (op2 (Compare Le Binary) (col 1 7) (lit (Int (pos 7)))) ∷ [];
+  references = refers 2 (codes "node") (codes "id") NoAction ∷ [];
+  computed = [];
+  stamps = no_stamps;
+  is_counted = false;
+}
+
+abbrev pub entry_text : List ℕ
+entry_text = codes "CREATE TABLE entry (node INTEGER NOT NULL REFERENCES node(id) ON DELETE CASCADE, place INTEGER NOT NULL, type INTEGER NOT NULL CHECK (type = 0 OR type = 1), flag INTEGER NOT NULL, mask INTEGER NOT NULL, who TEXT NOT NULL, PRIMARY KEY (node, place)) STRICT"
+
+abbrev pub entry_table : Table
+entry_table = record {
+  name = codes "entry";
+  tree = 3;
+  columns = filled (codes "node") Integer ∷ filled (codes "place") Integer ∷ filled (codes "type") Integer ∷ filled (codes "flag") Integer ∷ filled (codes "mask") Integer ∷ filled (codes "who") Text ∷ [];
+  key = None;
+  primary = 1 ∷ 2 ∷ [];
+  uniques = (1 ∷ 2 ∷ []) ∷ [];
+  orders = plain ∷ [];
+  checks = zero_or_one 3 ∷ [];
+  references = refers 1 (codes "node") (codes "id") Cascade ∷ [];
+  computed = [];
+  stamps = no_stamps;
+  is_counted = false;
+}
+
+abbrev pub doc_text : List ℕ
+doc_text = codes "CREATE TABLE doc (node INTEGER PRIMARY KEY REFERENCES node(id) ON DELETE CASCADE, bytes BLOB NOT NULL) STRICT"
+
+abbrev pub doc_table : Table
+doc_table = record {
+  name = codes "doc";
+  tree = 5;
+  columns = loose (codes "node") Integer ∷ filled (codes "bytes") Blob ∷ [];
+  key = Some 0;
+  primary = 0 ∷ [];
+  uniques = [];
+  orders = [];
+  checks = [];
+  references = refers 0 (codes "node") (codes "id") Cascade ∷ [];
+  computed = [];
+  stamps = no_stamps;
+  is_counted = false;
+}
+
+abbrev pub session_text : List ℕ
+session_text = codes "CREATE TABLE session (sid TEXT PRIMARY KEY NOT NULL, owner TEXT NOT NULL, slots INTEGER NOT NULL, open INTEGER NOT NULL CHECK (open = 0 OR open = 1)) STRICT"
+
+abbrev pub session_table : Table
+session_table = record {
+  name = codes "session";
+  tree = 6;
+  columns = filled (codes "sid") Text ∷ filled (codes "owner") Text ∷ filled (codes "slots") Integer ∷ filled (codes "open") Integer ∷ [];
+  key = None;
+  primary = 1 ∷ [];
+  uniques = (1 ∷ []) ∷ [];
+  orders = plain ∷ [];
+  checks = zero_or_one 4 ∷ [];
+  references = [];
+  computed = [];
+  stamps = no_stamps;
+  is_counted = false;
+}
+
+abbrev pub slot_text : List ℕ
+slot_text = codes "CREATE TABLE slot (sid TEXT NOT NULL REFERENCES session(sid), slot INTEGER NOT NULL, seq INTEGER NOT NULL, request BLOB NOT NULL, reply BLOB NOT NULL, PRIMARY KEY (sid, slot)) STRICT"
+
+abbrev pub slot_table : Table
+slot_table = record {
+  name = codes "slot";
+  tree = 8;
+  columns = filled (codes "sid") Text ∷ filled (codes "slot") Integer ∷ filled (codes "seq") Integer ∷ filled (codes "request") Blob ∷ filled (codes "reply") Blob ∷ [];
+  key = None;
+  primary = 1 ∷ 2 ∷ [];
+  uniques = (1 ∷ 2 ∷ []) ∷ [];
+  orders = plain ∷ [];
+  checks = [];
+  references = refers 1 (codes "session") (codes "sid") NoAction ∷ [];
+  computed = [];
+  stamps = no_stamps;
+  is_counted = false;
+}
+
+abbrev pub node_index : Index
+node_index = record { name = codes "sqlite_autoindex_node_1"; tree = 2; table = 1; columns = 2 ∷ 3 ∷ []; order = plain; is_unique = true }
+
+abbrev pub entry_index : Index
+entry_index = record { name = codes "sqlite_autoindex_entry_1"; tree = 4; table = 3; columns = 1 ∷ 2 ∷ []; order = plain; is_unique = true }
+
+abbrev pub session_index : Index
+session_index = record { name = codes "sqlite_autoindex_session_1"; tree = 7; table = 6; columns = 1 ∷ []; order = plain; is_unique = true }
+
+abbrev pub slot_index : Index
+slot_index = record { name = codes "sqlite_autoindex_slot_1"; tree = 9; table = 8; columns = 1 ∷ 2 ∷ []; order = plain; is_unique = true }
+
+abbrev pub schema_0 : Schema
+schema_0 = record { tables = []; indexes = []; views = [] }
+
+abbrev pub schema_1 : Schema
+schema_1 = record { tables = room_table ∷ []; indexes = []; views = [] }
+
+abbrev pub schema_2 : Schema
+schema_2 = record { tables = room_table ∷ node_table ∷ []; indexes = node_index ∷ []; views = [] }
+
+abbrev pub schema_3 : Schema
+schema_3 = record { tables = room_table ∷ node_table ∷ entry_table ∷ []; indexes = node_index ∷ entry_index ∷ []; views = [] }
+
+abbrev pub schema_4 : Schema
+schema_4 = record { tables = room_table ∷ node_table ∷ entry_table ∷ doc_table ∷ []; indexes = node_index ∷ entry_index ∷ []; views = [] }
+
+abbrev pub schema_5 : Schema
+schema_5 = record { tables = room_table ∷ node_table ∷ entry_table ∷ doc_table ∷ session_table ∷ []; indexes = node_index ∷ entry_index ∷ session_index ∷ []; views = [] }
+
+abbrev pub room_schema : Schema
+room_schema = record { tables = room_table ∷ node_table ∷ entry_table ∷ doc_table ∷ session_table ∷ slot_table ∷ []; indexes = node_index ∷ entry_index ∷ session_index ∷ slot_index ∷ []; views = [] }
+
+abbrev pub has_table : Schema → List ℕ → Bool
+has_table schema name = is_some (table_named schema name)
+
+-- one of the six names is a table's
+abbrev pub has_a_table : Schema → Bool
+has_a_table schema =
+    has_table schema (codes "room") || has_table schema (codes "node") || has_table schema (codes "entry") || has_table schema (codes "doc") || has_table schema (codes "session") || has_table schema (codes "slot")

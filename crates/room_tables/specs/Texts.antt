@@ -1,0 +1,188 @@
+-- The statements on the tables, and what they mean under `room_schema`.
+use Rattle.std.specs.Prelude.{ℕ, List, [], ◌∷◌, false, pos, negsuc, codes, Some, None}
+use Rattle.sqlite_value.specs.declared.value.Value.TheVariants.{Null, Int}
+use Rattle.sqlite_value.specs.declared.keys.Collation.TheVariants.{Binary}
+use Rattle.sqlite_value.specs.declared.keys.Key.{Key}
+use Rattle.sqlite_value.specs.Keys.{ascending}
+use Rattle.sqlite_sql.specs.Term.{Term, lit, col, op2}
+use Rattle.sqlite_sql.specs.Query.{Query, inner, end}
+use Rattle.sqlite_sql.specs.declared.ops.BinaryOp.TheVariants.{Compare}
+use Rattle.sqlite_sql.specs.declared.ops.CompareOp.TheVariants.{Eq}
+use Rattle.sqlite_schema.specs.declared.command.Upsert.{Upsert}
+use Rattle.sqlite_sql.specs.Group.{Aggregate, Grouping}
+use Rattle.sqlite_sql.specs.declared.aggregate.AggregateOp.TheVariants.{CountRows}
+
+abbrev pub equals : Term → Term → Term
+equals a b = op2 (Compare Eq Binary) a b
+
+-- the rows of one table that pass the terms
+abbrev pub over_table : ℕ → List Term → List Term → List (Term × Key) → Query
+over_table tree filter project order = record {
+  from = inner tree end;
+  filter = filter;
+  group = None;
+  project = project;
+  distinct = false;
+  collations = [];
+  order = order;
+  limit = lit (Int (negsuc 0));
+  offset = lit (Int (pos 0));
+}
+
+abbrev pub by : Term → Term × Key
+by t = (t, ascending Binary)
+
+abbrev pub find_next_text : List ℕ
+find_next_text = codes "SELECT next FROM room WHERE one = 1"
+
+abbrev pub find_next_query : Query
+find_next_query = over_table 0 (equals (col 1 0) (lit (Int (pos 1))) ∷ []) (col 1 3 ∷ []) ([])
+
+abbrev pub find_version_text : List ℕ
+find_version_text = codes "SELECT version FROM room WHERE one = 1"
+
+abbrev pub find_version_query : Query
+find_version_query = over_table 0 (equals (col 1 0) (lit (Int (pos 1))) ∷ []) (col 1 2 ∷ []) ([])
+
+abbrev pub find_node_text : List ℕ
+find_node_text = codes "SELECT id, parent, name, kind, owner, grp, aclflag FROM node WHERE id = ?1"
+
+abbrev pub find_node_query : Query
+find_node_query = over_table 1 (equals (col 1 0) (col 0 0) ∷ []) (col 1 0 ∷ col 1 2 ∷ col 1 3 ∷ col 1 4 ∷ col 1 5 ∷ col 1 6 ∷ col 1 7 ∷ []) ([])
+
+abbrev pub find_child_text : List ℕ
+find_child_text = codes "SELECT id, parent, name, kind, owner, grp, aclflag FROM node WHERE parent = ?1 AND name = ?2"
+
+abbrev pub find_child_query : Query
+find_child_query = over_table 1 (equals (col 1 2) (col 0 0) ∷ equals (col 1 3) (col 0 1) ∷ []) (col 1 0 ∷ col 1 2 ∷ col 1 3 ∷ col 1 4 ∷ col 1 5 ∷ col 1 6 ∷ col 1 7 ∷ []) ([])
+
+abbrev pub list_children_text : List ℕ
+list_children_text = codes "SELECT id, parent, name, kind, owner, grp, aclflag FROM node WHERE parent = ?1 ORDER BY name"
+
+abbrev pub list_children_query : Query
+list_children_query = over_table 1 (equals (col 1 2) (col 0 0) ∷ []) (col 1 0 ∷ col 1 2 ∷ col 1 3 ∷ col 1 4 ∷ col 1 5 ∷ col 1 6 ∷ col 1 7 ∷ []) (by (col 1 3) ∷ [])
+
+abbrev pub list_entries_text : List ℕ
+list_entries_text = codes "SELECT place, type, flag, mask, who FROM entry WHERE node = ?1 ORDER BY place, type, flag, mask, who"
+
+abbrev pub list_entries_query : Query
+list_entries_query = over_table 3 (equals (col 1 1) (col 0 0) ∷ []) (col 1 2 ∷ col 1 3 ∷ col 1 4 ∷ col 1 5 ∷ col 1 6 ∷ []) (by (col 1 2) ∷ by (col 1 3) ∷ by (col 1 4) ∷ by (col 1 5) ∷ by (col 1 6) ∷ [])
+
+abbrev pub find_doc_text : List ℕ
+find_doc_text = codes "SELECT bytes FROM doc WHERE node = ?1"
+
+abbrev pub find_doc_query : Query
+find_doc_query = over_table 5 (equals (col 1 0) (col 0 0) ∷ []) (col 1 2 ∷ []) ([])
+
+abbrev pub find_session_text : List ℕ
+find_session_text = codes "SELECT owner, slots, open FROM session WHERE sid = ?1"
+
+abbrev pub find_session_query : Query
+find_session_query = over_table 6 (equals (col 1 1) (col 0 0) ∷ []) (col 1 2 ∷ col 1 3 ∷ col 1 4 ∷ []) ([])
+
+abbrev pub find_slot_text : List ℕ
+find_slot_text = codes "SELECT seq, request, reply FROM slot WHERE sid = ?1 AND slot = ?2"
+
+abbrev pub find_slot_query : Query
+find_slot_query = over_table 8 (equals (col 1 1) (col 0 0) ∷ equals (col 1 2) (col 0 1) ∷ []) (col 1 3 ∷ col 1 4 ∷ col 1 5 ∷ []) ([])
+
+abbrev pub drop_node_text : List ℕ
+drop_node_text = codes "DELETE FROM node WHERE id = ?1"
+
+abbrev pub drop_node_query : Query
+drop_node_query = over_table 1 (equals (col 1 0) (col 0 0) ∷ []) (col 1 0 ∷ []) []
+
+abbrev pub drop_entries_text : List ℕ
+drop_entries_text = codes "DELETE FROM entry WHERE node = ?1"
+
+abbrev pub drop_entries_query : Query
+drop_entries_query = over_table 3 (equals (col 1 1) (col 0 0) ∷ []) (col 1 0 ∷ []) []
+
+abbrev pub drop_slots_text : List ℕ
+drop_slots_text = codes "DELETE FROM slot WHERE sid = ?1"
+
+abbrev pub drop_slots_query : Query
+drop_slots_query = over_table 8 (equals (col 1 1) (col 0 0) ∷ []) (col 1 0 ∷ []) []
+
+abbrev pub drop_slot_text : List ℕ
+drop_slot_text = codes "DELETE FROM slot WHERE sid = ?1 AND slot = ?2"
+
+abbrev pub drop_slot_query : Query
+drop_slot_query = over_table 8 (equals (col 1 1) (col 0 0) ∷ equals (col 1 2) (col 0 1) ∷ []) (col 1 0 ∷ []) []
+
+abbrev pub add_entry_text : List ℕ
+add_entry_text = codes "INSERT INTO entry (node, place, type, flag, mask, who) VALUES (?1, ?2, ?3, ?4, ?5, ?6)"
+
+abbrev pub add_entry_terms : List Term
+add_entry_terms = lit Null ∷ col 0 0 ∷ col 0 1 ∷ col 0 2 ∷ col 0 3 ∷ col 0 4 ∷ col 0 5 ∷ []
+
+abbrev pub add_slot_text : List ℕ
+add_slot_text = codes "INSERT INTO slot (sid, slot, seq, request, reply) VALUES (?1, ?2, ?3, ?4, ?5)"
+
+abbrev pub add_slot_terms : List Term
+add_slot_terms = lit Null ∷ col 0 0 ∷ col 0 1 ∷ col 0 2 ∷ col 0 3 ∷ col 0 4 ∷ []
+
+abbrev pub put_next_text : List ℕ
+put_next_text = codes "INSERT INTO room (one, version, next) VALUES (1, 1, ?1) ON CONFLICT (one) DO UPDATE SET next = excluded.next"
+
+abbrev pub put_next_terms : List Term
+put_next_terms = lit (Int (pos 1)) ∷ lit Null ∷ lit (Int (pos 1)) ∷ col 0 0 ∷ []
+
+-- the update reads the parameters, then the rowid that is there in column 1, and the new row from column 2 on
+abbrev pub put_next_query : Query
+put_next_query = over_table 0 (equals (col 1 0) (col 0 1) ∷ []) (col 1 0 ∷ col 1 0 ∷ lit Null ∷ col 1 2 ∷ col 0 5 ∷ []) []
+
+abbrev pub put_next_clause : Upsert
+put_next_clause = record { target = Some (0 ∷ []); update = Some (record { lets = []; body = put_next_query }) }
+
+abbrev pub put_node_text : List ℕ
+put_node_text = codes "INSERT INTO node (id, parent, name, kind, owner, grp, aclflag) VALUES (?1, ?2, ?3, ?4, ?5, ?6, ?7) ON CONFLICT (id) DO UPDATE SET parent = excluded.parent, name = excluded.name, kind = excluded.kind, owner = excluded.owner, grp = excluded.grp, aclflag = excluded.aclflag"
+
+abbrev pub put_node_terms : List Term
+put_node_terms = col 0 0 ∷ lit Null ∷ col 0 1 ∷ col 0 2 ∷ col 0 3 ∷ col 0 4 ∷ col 0 5 ∷ col 0 6 ∷ []
+
+-- the update reads the parameters, then the rowid that is there in column 7, and the new row from column 8 on
+abbrev pub put_node_query : Query
+put_node_query = over_table 1 (equals (col 1 0) (col 0 7) ∷ []) (col 1 0 ∷ col 1 0 ∷ lit Null ∷ col 0 10 ∷ col 0 11 ∷ col 0 12 ∷ col 0 13 ∷ col 0 14 ∷ col 0 15 ∷ []) []
+
+abbrev pub put_node_clause : Upsert
+put_node_clause = record { target = Some (0 ∷ []); update = Some (record { lets = []; body = put_node_query }) }
+
+abbrev pub put_doc_text : List ℕ
+put_doc_text = codes "INSERT INTO doc (node, bytes) VALUES (?1, ?2) ON CONFLICT (node) DO UPDATE SET bytes = excluded.bytes"
+
+abbrev pub put_doc_terms : List Term
+put_doc_terms = col 0 0 ∷ lit Null ∷ col 0 1 ∷ []
+
+-- the update reads the parameters, then the rowid that is there in column 2, and the new row from column 3 on
+abbrev pub put_doc_query : Query
+put_doc_query = over_table 5 (equals (col 1 0) (col 0 2) ∷ []) (col 1 0 ∷ col 1 0 ∷ lit Null ∷ col 0 5 ∷ []) []
+
+abbrev pub put_doc_clause : Upsert
+put_doc_clause = record { target = Some (0 ∷ []); update = Some (record { lets = []; body = put_doc_query }) }
+
+abbrev pub put_session_text : List ℕ
+put_session_text = codes "INSERT INTO session (sid, owner, slots, open) VALUES (?1, ?2, ?3, ?4) ON CONFLICT (sid) DO UPDATE SET owner = excluded.owner, slots = excluded.slots, open = excluded.open"
+
+abbrev pub put_session_terms : List Term
+put_session_terms = lit Null ∷ col 0 0 ∷ col 0 1 ∷ col 0 2 ∷ col 0 3 ∷ []
+
+-- the update reads the parameters, then the rowid that is there in column 4, and the new row from column 5 on
+abbrev pub put_session_query : Query
+put_session_query = over_table 6 (equals (col 1 0) (col 0 4) ∷ []) (col 1 0 ∷ col 1 0 ∷ col 1 1 ∷ col 0 7 ∷ col 0 8 ∷ col 0 9 ∷ []) []
+
+abbrev pub put_session_clause : Upsert
+put_session_clause = record { target = Some (1 ∷ []); update = Some (record { lets = []; body = put_session_query }) }
+
+abbrev pub count_children_text : List ℕ
+count_children_text = codes "SELECT count(*) FROM node WHERE parent = ?1"
+
+abbrev pub all_rows : Aggregate
+all_rows = record { op = CountRows; distinct = false; collation = Binary; argument = lit Null }
+
+-- one group of all rows that pass
+abbrev pub counted : Grouping
+counted = record { keys = []; collations = []; aggregates = all_rows ∷ []; having = [] }
+
+abbrev pub count_children_query : Query
+count_children_query = record (over_table 1 (equals (col 1 2) (col 0 0) ∷ []) (col 1 0 ∷ []) []) { group = Some counted }

@@ -1,0 +1,115 @@
+-- Checks at a found object.
+use Rattle.std.proofs.Common.{◌≡◌, ℕ, false, ◌≤◌, arith, length, Result, Ok, Err, IfOk, refl, ap, sym, ◌∙◌, Option, None, Some, List, [], ◌∷◌, ◌++◌}
+use Rattle.std.specs.Prelude.{not, is_some, nat_lt}
+use borrow.Author.Tests.{ltb-false}
+use Rattle.room_tree.proofs.ChecksTell.{not_refused}
+use Rattle.room_acl.specs.declared.subject.Kind.{Kind}
+use Rattle.room_acl.specs.declared.subject.Kind.TheVariants.{File, Folder}
+use Rattle.room_acl.specs.SubjectModel.{SubjectModel}
+use Rattle.room_acl.specs.Access.{decision}
+use Rattle.room_records.specs.Names.{Path}
+use Rattle.room_records.specs.Records.{ObjectRecords}
+use Rattle.room_records.specs.Limits.{max_document}
+use Rattle.room_records.specs.Representation.{RepresentsRoom}
+use Rattle.room_records.proofs.RoomsMap.{object_there_is_lawful}
+use Rattle.room_records.specs.Room.{Object, Room, object_at, standing_of}
+use Rattle.room_tree.specs.declared.place.Place.{Place}
+use Rattle.room_tree.specs.declared.reply.Fault.TheVariants.{NoEnt, Exist, IsDir, NotDir, FBig}
+use Rattle.room_tree.specs.ReplyModel.{Refusal}
+use Rattle.room_tree.specs.Checks.{refuse_if, refusal_without_place, is_kind, denied_at, right_on, check_exists, check_absent, check_right, check_folder, check_file, prefix_fault, first_refusal, is_root, bytes_at, check_size}
+use Rattle.room_tree.specs.Places.{IsPlace}
+
+pub first_alone : (o : Option Refusal) → first_refusal (o ∷ []) ≡ o
+first_alone None = refl
+first_alone (Some r) = refl
+
+pub skip : (o : Option Refusal) (others : List (Option Refusal)) → o ≡ None → first_refusal (o ∷ others) ≡ first_refusal others
+skip o others none = ap (λ first. first_refusal (first ∷ others)) none
+
+pub stop : (o : Option Refusal) (others : List (Option Refusal)) (r : Refusal) → o ≡ Some r → first_refusal (o ∷ others) ≡ Some r
+stop o others r some = ap (λ first. first_refusal (first ∷ others)) some
+
+pub off_root : (path : Path) → (length path ≡ 0 → ⊥) → is_root path ≡ false
+off_root [] h = absurd (h refl)
+off_root (name ∷ path) h = refl
+
+pub is_absent : (room : Room) (path : Path) → object_at room path ≡ None → check_absent room path ≡ None
+is_absent room path nothing = ap (λ (o : Option Object). refuse_if (is_some o) Exist) nothing
+
+module _ (t : ObjectRecords) (room : Room) (path : Path) (place : Place) (found : IsPlace t room path place) where
+  pub there : object_at room path ≡ Some found.object
+  there = found.is_there.object_stands
+
+  pub exists_there : check_exists room path ≡ None
+  exists_there = ap (λ (o : Option Object). refuse_if (not (is_some o)) NoEnt) there
+
+  pub not_absent : check_absent room path ≡ Some (refusal_without_place Exist)
+  not_absent = ap (λ (o : Option Object). refuse_if (is_some o) Exist) there
+
+  pub kind_there : place.kind ≡ found.object.kind
+  kind_there = found.is_there.shows.kind
+
+  pub folder_check : check_folder room path ≡ refuse_if (is_kind File (Some (record found.object { kind = place.kind }))) NotDir
+  folder_check =
+      ap (λ (o : Option Object). refuse_if (is_kind File o) NotDir) there
+      ∙ ap (λ (k : Kind). refuse_if (is_kind File (Some (record found.object { kind = k }))) NotDir) (sym kind_there)
+
+  pub file_check : check_file room path ≡ refuse_if (is_kind Folder (Some (record found.object { kind = place.kind }))) IsDir
+  file_check =
+      ap (λ (o : Option Object). refuse_if (is_kind Folder o) IsDir) there
+      ∙ ap (λ (k : Kind). refuse_if (is_kind Folder (Some (record found.object { kind = k }))) IsDir) (sym kind_there)
+
+  pub right_check : (caller : SubjectModel) (wanted : ℕ) → check_right room caller path wanted ≡ denied_at path (decision place.list.items caller place.standing wanted)
+  right_check caller wanted =
+      ap (right_on room caller path wanted) there
+      ∙ ap (λ list. denied_at path (decision list caller (standing_of found.object) wanted)) (sym found.list)
+      ∙ ap (λ owner. denied_at path (decision place.list.items caller (record { owner = owner; group = found.object.group }) wanted)) (sym found.is_there.shows.owner)
+      ∙ ap (λ group. denied_at path (decision place.list.items caller (record { owner = place.standing.owner; group = group }) wanted)) (sym found.is_there.shows.group)
+
+  -- a folder on the way
+  pub way_check : (caller : SubjectModel) → prefix_fault room caller path ≡ first_refusal (check_folder room path ∷ check_right room caller path 0x20 ∷ [])
+  way_check caller = ap (λ o. first_refusal (o ∷ check_folder room path ∷ check_right room caller path 0x20 ∷ [])) exists_there
+
+  -- nothing is refused at an object that is there
+  pub passes_to : (way : Option Refusal) → way ≡ None → first_refusal (way ∷ check_exists room path ∷ []) ≡ None
+  passes_to way none = ap (λ (o : Option Refusal). first_refusal (o ∷ check_exists room path ∷ [])) none ∙ ap (λ (o : Option Refusal). first_refusal (o ∷ [])) exists_there
+
+-- the checks before others decide, where they refuse
+pub some_stays : (done others : List (Option Refusal)) (r : Refusal) → first_refusal done ≡ Some r → first_refusal (done ++ others) ≡ Some r
+some_stays [] others r h = cc
+some_stays (None ∷ done) others r h = some_stays done others r h
+some_stays (Some x ∷ done) others r h = h
+
+-- and else the others do
+pub none_passes : (done others : List (Option Refusal)) → first_refusal done ≡ None → first_refusal (done ++ others) ≡ first_refusal others
+none_passes [] others h = refl
+none_passes (None ∷ done) others h = none_passes done others h
+none_passes (Some x ∷ done) others h = cc
+
+-- nothing is there
+pub missing : (room : Room) (path : Path) (way : Option Refusal) → way ≡ None → object_at room path ≡ None
+    → first_refusal (way ∷ check_exists room path ∷ []) ≡ Some (refusal_without_place NoEnt)
+missing room path way none nothing =
+    ap (λ (o : Option Refusal). first_refusal (o ∷ check_exists room path ∷ [])) none
+    ∙ ap (λ (o : Option Object). first_refusal (refuse_if (not (is_some o)) NoEnt ∷ [])) nothing
+
+pub if_ok_map : {T E : Type 0} (P Q : T → Type 0) → ((x : T) → P x → Q x) → (r : Result T E) → IfOk r P → IfOk r Q
+if_ok_map P Q weaker (Ok x) h = weaker x h
+if_ok_map P Q weaker (Err e) h = tt
+
+module _ (t : ObjectRecords) (room : Room) (stand : RepresentsRoom t room) (path : Path) (place : Place) (found : IsPlace t room path place) where
+  pub bytes_there : bytes_at room path ≡ found.object.bytes
+  bytes_there = ap (λ (o : Option Object). bytes_in o) (there t room path place found)
+    where
+      bytes_in : Option Object → List ℕ
+      bytes_in None = []
+      bytes_in (Some o) = o.bytes
+
+  pub few_bytes : length (bytes_at room path) ≤ max_document
+  few_bytes =
+      let small = (object_there_is_lawful room stand.lawful path found.object (there t room path place found)).small in
+      omega (arith, ap length bytes_there, small)
+
+-- what passes is not too large
+pub small_by_check : (n : ℕ) → check_size n ≡ None → n ≤ max_document
+small_by_check n h = ltb-false max_document n (not_refused (nat_lt max_document n) FBig h)

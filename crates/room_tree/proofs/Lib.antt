@@ -1,0 +1,27 @@
+pub mod Rights
+pub mod Renaming
+pub mod RoomsNew
+pub mod RoomsObject
+pub mod RoomsWithout
+pub mod RoomsRenamed
+pub mod RenamedIsRoom
+pub mod ChecksTell
+pub mod SetListKept
+pub mod EffectIsRoom
+pub mod RoomLaws
+pub mod Places
+pub mod Checking
+pub mod Walks
+pub mod Outcomes
+pub mod Replies
+pub mod RowsReplaced
+pub mod Changed
+pub mod RowsAdded
+pub mod Made
+pub mod RowsRemoved
+pub mod Marks
+pub mod RowsMoved
+mod Rows
+pub mod Depths
+pub mod Renamed
+pub mod ListsUpwards

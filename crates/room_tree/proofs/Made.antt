@@ -1,0 +1,241 @@
+-- A new object: what is planned is the effect.
+use Rattle.std.proofs.Common.{◌≡◌, ◌≢◌, ℕ, ◌+◌, ◌<◌, ◌≤◌, refl, ap, sym, ◌∙◌, subst, arith, true, false, inl, inr, List, [], ◌∷◌, ◌++◌, length, Option, None, Some, IsSome, IsNone, unwrap_or}
+use Rattle.std.specs.Prelude.{nat_lt, nat_le, Vec}
+use Rattle.std.specs.declared.alloc.Global.{Global}
+use Rattle.std.proofs.lemmas.Bool.Decides.{nat_tests}
+use Rattle.room_acl.specs.declared.subject.Kind.{Kind}
+use Rattle.room_acl.specs.declared.subject.Kind.TheVariants.{File, Folder}
+use Rattle.room_acl.specs.SubjectModel.{SubjectModel}
+use Rattle.room_records.specs.declared.change.Change.TheVariants.{PutNext, PutNode, PutDoc}
+use Rattle.room_records.specs.declared.node.Node.{Node}
+use Rattle.room_records.specs.Limits.{max_objects}
+use Rattle.room_records.specs.Names.{Path, IsPath}
+use Rattle.room_records.specs.Records.{ObjectRecords}
+use Rattle.room_records.specs.Rules.{ObjectRules}
+use Rattle.room_records.specs.Changes.{apply_to_objects}
+use Rattle.room_records.specs.Room.{Object, Room, IsRoom, object_at, parent_of}
+use Rattle.room_records.specs.Representation.{RepresentsRoom, HasPath}
+use Rattle.room_records.proofs.Paths.{object_at_node, child_is_at}
+use Rattle.room_records.proofs.RoomsMap.{some_is, none_is_some, Ends, ends, parent_of_end}
+use Rattle.room_records.proofs.RulesKept.{same_or_other, some_or_none, if_same, if_other, rules_put_next, rules_put_doc}
+use Rattle.room_tree.specs.CommandModel as C
+use Rattle.room_tree.specs.declared.place.Place.{Place}
+use Rattle.room_tree.specs.declared.planning.Outcome.{Outcome}
+use Rattle.room_tree.specs.declared.reply.Fault.TheVariants.{Exist, RoomFull}
+use Rattle.room_tree.specs.Checks.{first_refusal, checks, refuse_if, is_root, walk, check_absent, check_right, check_size, check_folder_full, check_room_full}
+use Rattle.room_acl.specs.Entries.{EntryModel}
+use Rattle.room_tree.specs.Effect.{object_or_default, with_new, new_object}
+use Rattle.room_tree.specs.Places.{IsPlace, IsNewNode, node_of}
+use Rattle.room_tree.specs.Plans.{PlansEffect}
+use Rattle.room_tree.specs.ReplyModel.{Done, Size, reply_model}
+use Rattle.room_tree.proofs.Changed.{none_and_some}
+use Rattle.room_tree.proofs.Checking.{none_passes}
+use Rattle.room_tree.proofs.ChecksTell.{not_refused, none_there}
+use Rattle.room_tree.proofs.EffectIsRoom.{changed_is_room, created_is_room}
+use Rattle.room_tree.proofs.Outcomes.{success_plans}
+use Rattle.room_tree.proofs.Replies.{object_is}
+use Rattle.room_tree.proofs.Rights.{all_none}
+use Rattle.room_tree.proofs.RoomsNew.{new_there, old_stays, new_or_old}
+use Rattle.room_tree.proofs.RowsAdded.{IsFree, rules_put_new, Adds, added, added_keeps, last_is_name}
+
+-- the group that a new object gets
+abbrev object_group : Room → Path → List ℕ
+object_group room path = (object_or_default room (parent_of path)).group
+
+-- the next number is past a bound where as many were made
+pub before_next : (m n : ℕ) → nat_lt m (n + 1) ≡ nat_le m n
+before_next m n = grind (arith, nat_tests)
+
+pub some_test : (n : ℕ) → 0 < n → nat_lt 0 n ≡ true
+some_test n h = grind (arith, nat_tests)
+
+pub none_test : (n : ℕ) → n ≤ 0 → nat_lt 0 n ≡ false
+none_test n h = grind (arith, nat_tests)
+
+below_by_test : (m n : ℕ) → nat_le m n ≡ false → n < m
+below_by_test m n h = grind (arith, nat_tests)
+
+pub ends_of : (path : Path) → is_root path ≡ false → Ends path
+ends_of [] h = cc
+ends_of (first ∷ rest) h = ends first rest
+
+module _ (t : ObjectRecords) (room : Room) (caller : SubjectModel) (path : Path) (above : Place) (kind : Kind) (id : ℕ) (node : Node) (stand : RepresentsRoom t room)
+    (is_path : IsPath path) (root_off : is_root path ≡ false) (absent : object_at room path ≡ None) (found : IsPlace t room (parent_of path) above) (number : id ≡ t.next)
+    (few : t.next ≤ max_objects) (new : IsNewNode caller path above kind id node) (o : Object) (lawful : IsRoom (with_new room path o)) where
+  end : Ends path
+  end = ends_of path root_off
+
+  in_folder : parent_of path ≡ end.folder
+  in_folder = ap parent_of end.is ∙ parent_of_end end.folder end.name
+
+  numbered : node.id ≡ t.next
+  numbered = new.number ∙ number
+
+  fresh : t.node node.id ≡ None
+  fresh = elim (some_or_none (t.node node.id)) [
+    | inl none ↦ none
+    | inr some ↦ absurd (let below = (stand.rules.numbered node.id some.0 some.1).2 in omega (arith, below, numbered))
+  ]
+
+  no_document : unwrap_or (t.document node.id) [] ≡ []
+  no_document = elim (some_or_none (t.document node.id)) [
+    | inl none ↦ ap (λ (d : Option (List ℕ)). unwrap_or d []) none
+    | inr some ↦ absurd (
+        let There : Option (List ℕ) → Type 0 = λ d. IsSome d in
+        let owner = stand.rules.documents node.id (subst There (sym some.1) refl) in
+        none_is_some owner.0 (sym fresh ∙ owner.1))
+  ]
+
+  pub rules_bumped : ObjectRules (apply_to_objects (PutNext (id + 1)) t)
+  rules_bumped = rules_put_next t stand.rules (id + 1) (omega (arith, number)) (omega (arith, number, few))
+
+  folder_is : above.kind ≡ Folder
+  folder_is =
+      let At : Path → Type 0 = λ p. object_at (with_new room path o) p ≡ Some o in
+      let parent = lawful.parents end.folder end.name o (subst At end.is (new_there room path o)) in
+      let still : object_at (with_new room path o) (parent_of path) ≡ Some found.object = old_stays room path o absent (parent_of path) found.object found.is_there.object_stands in
+      let same : found.object ≡ parent.0 = some_is found.object parent.0 (sym still ∙ ap (object_at (with_new room path o)) in_folder ∙ parent.1) in
+      found.is_there.shows.kind ∙ ap (λ (p : Object). p.kind) same ∙ parent.2
+
+  folder_at : HasPath t end.folder above.id
+  folder_at = let At : Path → Type 0 = λ p. HasPath t p above.id in subst At in_folder found.is_there.at
+
+  free : IsFree (apply_to_objects (PutNext (id + 1)) t) node above.id end.name
+  free = record {
+    fresh = fresh;
+    positive = (let first = is_there (t.node 1) stand.rules.has_root in let one = stand.rules.numbered 1 first.0 first.1 in omega (arith, one.2, numbered));
+    below = omega (arith, new.number);
+    parent = node_of above;
+    stands = found.is_there.node_stands;
+    folder = folder_is;
+    inside = new.parent;
+    named = new.name end.folder end.name end.is;
+    lawful = (let P : Path → Type 0 = λ p. IsPath p in last_is_name end.folder end.name (subst P end.is is_path).names);
+    alone = λ other child named.
+        let at = child_is_at t stand.rules end.folder end.name above.id other folder_at (record { stands = child.stands; inside = child.inside }) named in
+        let there = object_at_node t room stand (end.folder ++ end.name ∷ []) other.id other at child.stands in
+        none_is_some there.0 (sym absent ∙ ap (object_at room) end.is ∙ there.1);
+  }
+    where
+      is_there : (found : Option Node) → IsSome found → (n : Node) × (found ≡ Some n)
+      is_there None h = let f = h in cc
+      is_there (Some n) h = (n, refl)
+
+  pub rules_made : ObjectRules (apply_to_objects (PutNode node) (apply_to_objects (PutNext (id + 1)) t))
+  rules_made = rules_put_new (apply_to_objects (PutNext (id + 1)) t) rules_bumped node above.id end.name free
+
+  pub new_stands : (k : ℕ) → k ≡ node.id → (apply_to_objects (PutNode node) (apply_to_objects (PutNext (id + 1)) t)).node k ≡ Some node
+  new_stands k same = if_same k node.id (Some node) (t.node k) same
+
+  group_is : node.group ≡ (object_group room path)
+  group_is = new.group ∙ found.is_there.shows.group ∙ ap (λ (p : Object). p.group) (sym (object_is t room (parent_of path) above found))
+
+  pub adds : (later : ObjectRecords) → later.node ≡ (apply_to_objects (PutNode node) (apply_to_objects (PutNext (id + 1)) t)).node → later.entries ≡ t.entries
+      → ((k : ℕ) → k ≢ node.id → later.document k ≡ t.document k) → later.next ≡ id + 1 → ObjectRules later
+      → o.kind ≡ kind → o.owner ≡ caller.name → o.group ≡ object_group room path → o.aclflag ≡ 1 → o.own ≡ [] → unwrap_or (later.document node.id) [] ≡ o.bytes
+      → Adds t later room (with_new room path o) path o node
+  adds later nodes entries documents next rules kind_is owner group aclflag own bytes = record {
+    fresh = fresh;
+    rules = rules;
+    stands = ap (λ (f : ℕ → Option Node). f node.id) nodes ∙ new_stands node.id refl;
+    nodes_away = λ k other. ap (λ (f : ℕ → Option Node). f k) nodes ∙ if_other k node.id (Some node) (t.node k) other;
+    entries_away = λ k other. ap (λ (f : ℕ → List EntryModel). f k) entries;
+    documents_away = documents;
+    folder = end.folder;
+    name = end.name;
+    path_is = end.is;
+    above = above.id;
+    folder_at = folder_at;
+    inside = new.parent;
+    named = new.name end.folder end.name end.is;
+    shows = record {
+      kind = new.kind_is ∙ sym kind_is;
+      owner = new.owner ∙ sym owner;
+      group = group_is ∙ sym group;
+      aclflag = new.aclflag ∙ sym aclflag;
+      entries = ap (λ (f : ℕ → List EntryModel). f node.id) entries ∙ stand.rules.entries node.id fresh ∙ sym own;
+      bytes = bytes;
+    };
+    next = next ∙ ap (λ n. n + 1) (number ∙ stand.next);
+    lawful = lawful;
+    at_path = new_there room path o;
+    old = old_stays room path o absent;
+    new_or_old = new_or_old room path o;
+  }
+
+  pub only_next : (later : ObjectRecords) → later.node ≡ (apply_to_objects (PutNode node) (apply_to_objects (PutNext (id + 1)) t)).node
+      → (k : ℕ) → IsNone (t.node k) → IsSome (later.node k) → k ≡ t.next
+  only_next later nodes k none some = elim (same_or_other k node.id) [
+    | inl same ↦ same ∙ numbered
+    | inr other ↦ absurd (
+        let There : Option Node → Type 0 = λ n. IsSome n in
+        none_and_some (t.node k) none (subst There (ap (λ (f : ℕ → Option Node). f k) nodes ∙ if_other k node.id (Some node) (t.node k) other) some))
+  ]
+
+few_made : (t : ObjectRecords) (room : Room) → RepresentsRoom t room → check_room_full room ≡ None → t.next ≤ max_objects
+few_made t room stand passed =
+    let below = below_by_test max_objects room.made (not_refused (nat_le max_objects room.made) RoomFull passed) in
+    omega (arith, below, stand.next)
+
+-- MKDIR
+pub mkdir_plans : (t : ObjectRecords) (room : Room) (caller : SubjectModel) (path : Path) (above : Place) (id : ℕ) (node : Node) (outcome : Outcome) → RepresentsRoom t room → IsPath path
+    → first_refusal (refuse_if (is_root path) Exist ∷ walk room caller path ∷ check_absent room path ∷ check_right room caller (parent_of path) 0x4 ∷ []) ≡ None
+    → IsPlace t room (parent_of path) above → (first_refusal (check_folder_full room (parent_of path) ∷ check_room_full room ∷ []) ≡ None) × (id ≡ t.next)
+    → IsNewNode caller path above Folder id node → outcome.changes.items ≡ PutNext (id + 1) ∷ PutNode node ∷ [] → reply_model outcome.reply ≡ Done
+    → PlansEffect t room caller (C.Mkdir path) outcome
+mkdir_plans t room caller path above id node outcome stand is_path before found number new planned replied =
+    let command = C.Mkdir path in
+    let passed : first_refusal (checks room caller command) ≡ None =
+    none_passes (refuse_if (is_root path) Exist ∷ walk room caller path ∷ check_absent room path ∷ check_right room caller (parent_of path) 0x4 ∷ [])
+    (check_folder_full room (parent_of path) ∷ check_room_full room ∷ []) before ∙ number.0 in
+    let a = all_none (checks room caller command) passed in
+    let root_off = not_refused (is_root path) Exist a.0 in
+    let absent = none_there (object_at room path) (not_refused _ Exist a.1.1.0) in
+    let few = few_made t room stand a.1.1.1.1.1.0 in
+    let o = new_object room caller path Folder [] in
+    let lawful = changed_is_room room caller command is_path stand.lawful passed in
+    let first = apply_to_objects (PutNext (id + 1)) t in
+    let later = apply_to_objects (PutNode node) first in
+    let rules = rules_made t room caller path above Folder id node stand is_path root_off absent found number.1 few new o lawful in
+    let r = adds t room caller path above Folder id node stand is_path root_off absent found number.1 few new o lawful later refl refl (λ k other. refl) refl rules refl refl refl refl refl
+    (no_document t room caller path above Folder id node stand is_path root_off absent found number.1 few new o lawful) in
+    success_plans t room caller command outcome stand (PutNext (id + 1) ∷ PutNode node ∷ []) passed replied planned (tt, (tt, tt))
+    (rules_bumped t room caller path above Folder id node stand is_path root_off absent found number.1 few new o lawful, (rules, tt))
+    (added t later room (with_new room path o) path o node stand r)
+    (λ q k at stands there. added_keeps t later room (with_new room path o) path o node stand r q k at)
+    (only_next t room caller path above Folder id node stand is_path root_off absent found number.1 few new o lawful later refl)
+
+-- CREATE
+pub create_plans : (t : ObjectRecords) (room : Room) (caller : SubjectModel) (bytes : List ℕ) (path : Path) (above : Place) (id : ℕ) (node : Node) (copy : Vec ℕ Global) (outcome : Outcome)
+    → RepresentsRoom t room → IsPath path
+    → first_refusal (refuse_if (is_root path) Exist ∷ walk room caller path ∷ check_absent room path ∷ check_right room caller (parent_of path) 0x2 ∷ []) ≡ None
+    → check_size (length bytes) ≡ None
+    → IsPlace t room (parent_of path) above → (first_refusal (check_folder_full room (parent_of path) ∷ check_room_full room ∷ []) ≡ None) × (id ≡ t.next)
+    → IsNewNode caller path above File id node → copy.items ≡ bytes → outcome.changes.items ≡ PutNext (id + 1) ∷ PutNode node ∷ PutDoc id copy ∷ []
+    → reply_model outcome.reply ≡ Size (length bytes) → PlansEffect t room caller (C.Create bytes path) outcome
+create_plans t room caller bytes path above id node copy outcome stand is_path before small found number new same planned replied =
+    let command = C.Create bytes path in
+    let passed : first_refusal (checks room caller command) ≡ None =
+    none_passes (refuse_if (is_root path) Exist ∷ walk room caller path ∷ check_absent room path ∷ check_right room caller (parent_of path) 0x2 ∷ [])
+    (check_size (length bytes) ∷ check_folder_full room (parent_of path) ∷ check_room_full room ∷ []) before
+    ∙ ap (λ o. first_refusal (o ∷ check_folder_full room (parent_of path) ∷ check_room_full room ∷ [])) small ∙ number.0 in
+    let a = all_none (checks room caller command) passed in
+    let root_off = not_refused (is_root path) Exist a.0 in
+    let absent = none_there (object_at room path) (not_refused _ Exist a.1.1.0) in
+    let few = few_made t room stand a.1.1.1.1.1.1.0 in
+    let o = new_object room caller path File bytes in
+    let lawful = created_is_room room caller bytes path is_path stand.lawful passed in
+    let first = apply_to_objects (PutNext (id + 1)) t in
+    let second = apply_to_objects (PutNode node) first in
+    let later = apply_to_objects (PutDoc id copy) second in
+    let rules = rules_made t room caller path above File id node stand is_path root_off absent found number.1 few new o lawful in
+    let stands = new_stands t room caller path above File id node stand is_path root_off absent found number.1 few new o lawful id (sym new.number) in
+    let last = rules_put_doc second rules id node stands new.kind_is copy in
+    let r = adds t room caller path above File id node stand is_path root_off absent found number.1 few new o lawful later refl refl
+    (λ k other. if_other k id (Some copy.items) (t.document k) (λ is. other (is ∙ sym new.number))) refl last refl refl refl refl refl
+    (ap (λ (d : Option (List ℕ)). unwrap_or d []) (if_same node.id id (Some copy.items) (t.document node.id) new.number) ∙ same) in
+    success_plans t room caller command outcome stand (PutNext (id + 1) ∷ PutNode node ∷ PutDoc id copy ∷ []) passed replied planned (tt, (tt, (tt, tt)))
+    (rules_bumped t room caller path above File id node stand is_path root_off absent found number.1 few new o lawful, (rules, (last, tt)))
+    (added t later room (with_new room path o) path o node stand r)
+    (λ q k at stands there. added_keeps t later room (with_new room path o) path o node stand r q k at)
+    (only_next t room caller path above File id node stand is_path root_off absent found number.1 few new o lawful later refl)

@@ -1,0 +1,83 @@
+-- Entries that are sent, with the mark cleared.
+use Rattle.std.proofs.Common.{◌≡◌, ℕ, ◌-◌, ◌*◌, ◌/◌, ◌%◌, ◌<◌, refl, ap, sym, ◌∙◌, arith, Bool, true, false, not, cond, List, [], ◌∷◌, map, filter, bit_and, ◌==◌, IsTrue, None, Some, length}
+use Rattle.std.specs.List.{filter_map, cons_option}
+use Rattle.std.specs.Int.{bit_at}
+use Rattle.std.proofs.lemmas.Nat.{and_assoc, and_mask}
+use Rattle.std.proofs.lemmas.Nat.Bits.{and_pow}
+use Rattle.room_acl.specs.declared.who.Who.{Who}
+use Rattle.room_acl.specs.declared.who.Who.TheVariants.{Owner, Group, Everyone, User, Members}
+use Rattle.room_acl.specs.Bits.{IsFlags, is_inherited, identifier_group}
+use Rattle.room_acl.specs.Entries.{EntryModel, names_its_kind}
+use Rattle.room_records.specs.Names.{Path}
+use Rattle.room_tree.specs.SetList.{clear_inherited, follows_at, own_entries_of_setlist}
+use Rattle.room_tree.specs.Places.{kept_entry}
+
+-- the flags without the mark
+pub cleared_flags : (f : ℕ) → f < 256 → f - bit_and f 0x80 ≡ bit_and f 0x7F
+cleared_flags f small =
+    let mark : bit_and f 0x80 ≡ f / 128 % 2 * 128 = and_pow f 7 in
+    let rest : bit_and f 0x7F ≡ f % 128 = and_mask f 7 in
+    omega (arith, mark, rest)
+
+-- are flags
+pub cleared_are_flags : (f : ℕ) → IsFlags f → IsFlags (bit_and f 0x7F)
+cleared_are_flags f lawful =
+    let one : bit_and (bit_and f 0x7F) 0xCF ≡ bit_and f 0x4F = and_assoc 0xCF f 0x7F in
+    let two : bit_and (bit_and f 0xCF) 0x7F ≡ bit_and f 0x4F = and_assoc 0x7F f 0xCF in
+    one ∙ sym two ∙ ap (λ n. bit_and n 0x7F) lawful
+
+-- and keep IDENTIFIER_GROUP
+pub cleared_group : (f : ℕ) → identifier_group (bit_and f 0x7F) ≡ identifier_group f
+cleared_group f =
+    let rest : bit_and f 0x7F ≡ f % 128 = and_mask f 7 in
+    let bit : f % 128 / 64 % 2 ≡ f / 64 % 2 = omega arith in
+    ap identifier_group rest ∙ ap (λ b. b == 1) bit
+
+pub kind_kept : (f g : ℕ) (who : Who) → identifier_group g ≡ identifier_group f → IsTrue (names_its_kind f who) → IsTrue (names_its_kind g who)
+kind_kept f g Owner same h = refl
+kind_kept f g Group same h = refl
+kind_kept f g Everyone same h = refl
+kind_kept f g (User name) same h = ap not same ∙ h
+kind_kept f g (Members name) same h = same ∙ h
+
+-- an entry without the mark stays
+unmarked : (entry : EntryModel) → is_inherited entry.flags ≡ false → clear_inherited entry ≡ entry
+unmarked entry none =
+    let mark : bit_and entry.flags 0x80 ≡ bit_at entry.flags 7 * 128 = and_pow entry.flags 7 in
+    let zero_bit : bit_at entry.flags 7 ≡ 0 = bit_zero (bit_at entry.flags 7) (omega arith) none in
+    let same : entry.flags - bit_and entry.flags 0x80 ≡ entry.flags = omega (arith, mark, zero_bit) in
+    ap (λ f. record entry { flags = f }) same
+  where
+    bit_zero : (b : ℕ) → b < 2 → (b == 1) ≡ false → b ≡ 0
+    bit_zero b small h = grind arith
+
+following : (sent : List EntryModel) → filter_map (kept_entry true) sent ≡ filter (λ entry. not (is_inherited entry.flags)) sent
+following [] = refl
+following (entry ∷ sent) = by_test (is_inherited entry.flags) refl (following sent)
+  where
+    by_test : (b : Bool) → is_inherited entry.flags ≡ b → filter_map (kept_entry true) sent ≡ filter (λ (other : EntryModel). not (is_inherited other.flags)) sent
+        → cons_option (cond (is_inherited entry.flags) None (Some (clear_inherited entry))) (filter_map (kept_entry true) sent)
+        ≡ cond (not (is_inherited entry.flags)) (entry ∷ filter (λ (other : EntryModel). not (is_inherited other.flags)) sent) (filter (λ (other : EntryModel). not (is_inherited other.flags)) sent)
+    by_test true is rest =
+        ap (λ b. cons_option (cond b None (Some (clear_inherited entry))) (filter_map (kept_entry true) sent)) is ∙ rest
+        ∙ ap (λ b. cond (not b) (entry ∷ filter (λ (other : EntryModel). not (is_inherited other.flags)) sent) (filter (λ (other : EntryModel). not (is_inherited other.flags)) sent)) (sym is)
+    by_test false is rest =
+        ap (λ b. cons_option (cond b None (Some (clear_inherited entry))) (filter_map (kept_entry true) sent)) is
+        ∙ ap (λ e. e ∷ filter_map (kept_entry true) sent) (unmarked entry is) ∙ ap (λ es. entry ∷ es) rest
+        ∙ ap (λ b. cond (not b) (entry ∷ filter (λ (other : EntryModel). not (is_inherited other.flags)) sent) (filter (λ (other : EntryModel). not (is_inherited other.flags)) sent)) (sym is)
+
+cleared_all : (sent : List EntryModel) → filter_map (kept_entry false) sent ≡ map clear_inherited sent
+cleared_all [] = refl
+cleared_all (entry ∷ sent) = ap (λ es. clear_inherited entry ∷ es) (cleared_all sent)
+
+-- what is kept is what SETLIST leaves
+pub kept_is : (path : Path) (aclflag : ℕ) (sent : List EntryModel) → filter_map (kept_entry (follows_at path aclflag)) sent ≡ own_entries_of_setlist path aclflag sent
+kept_is path aclflag sent = by_test (follows_at path aclflag)
+  where
+    by_test : (b : Bool) → filter_map (kept_entry b) sent ≡ cond b (filter (λ (entry : EntryModel). not (is_inherited entry.flags)) sent) (map clear_inherited sent)
+    by_test true = following sent
+    by_test false = cleared_all sent
+
+pub root_follows_not : (path : Path) (aclflag : ℕ) → length path ≡ 0 → follows_at path aclflag ≡ false
+root_follows_not [] aclflag h = refl
+root_follows_not (name ∷ path) aclflag h = absurd (omega (arith, h))

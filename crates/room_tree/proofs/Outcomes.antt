@@ -1,0 +1,98 @@
+-- Outcomes that plan the effect of a command.
+use Rattle.std.proofs.Common.{◌≡◌, ℕ, ap, sym, ◌∙◌, subst, List, [], Option, None, Some, IsSome, IsNone}
+use Rattle.std.specs.List.{AllByRecursion}
+use Rattle.room_acl.specs.SubjectModel.{SubjectModel}
+use Rattle.room_records.specs.declared.change.Change.{Change}
+use Rattle.room_records.specs.Names.{Path}
+use Rattle.room_records.specs.Records.{ObjectRecords}
+use Rattle.room_records.specs.Changes.{apply_all_to_objects, IsOfObjects, ObjectRulesHoldAfterEach}
+use Rattle.room_records.specs.Room.{Room, object_at}
+use Rattle.room_records.specs.Representation.{RepresentsRoom, HasPath}
+use Rattle.room_tree.specs.CommandModel.{CommandModel}
+use Rattle.room_tree.specs.CommandModel as C
+use Rattle.room_tree.specs.declared.planning.Outcome.{Outcome}
+use Rattle.room_tree.specs.Checks.{first_refusal, checks}
+use Rattle.room_tree.specs.ReplyModel.{Refused, reply_model, IsRefused, Refusal}
+use Rattle.room_tree.specs.Effect.{effect, effect_by, changed, reply}
+use Rattle.room_tree.specs.Plans.{PlansEffect, KeepsNumbers, place_after}
+use Rattle.room_tree.proofs.Rights.{rights_of_success}
+
+absent_present : {X : Type 0} (o : Option X) → IsNone o → IsSome o → ⊥
+absent_present None a b = let f = b in cc
+absent_present (Some x) a b = let f = a in cc
+
+module _ (t : ObjectRecords) (room : Room) (caller : SubjectModel) (command : CommandModel) (outcome : Outcome) (stand : RepresentsRoom t room) where
+  -- a refusal plans nothing
+  pub refusal_plans : (refusal : Refusal) → first_refusal (checks room caller command) ≡ Some refusal
+      → reply_model outcome.reply ≡ Refused refusal → outcome.changes.items ≡ [] → PlansEffect t room caller command outcome
+  refusal_plans refusal is replied none =
+      let Objects : List Change → Type 0 = λ changes. AllByRecursion IsOfObjects changes in
+      let Rules : List Change → Type 0 = λ changes. ObjectRulesHoldAfterEach changes t in
+      let Leads : List Change → Type 0 = λ changes. RepresentsRoom (apply_all_to_objects changes t) (effect room caller command).room in
+      let Stays : Option Refusal → Type 0 = λ found. RepresentsRoom t (effect_by room caller command found).room in
+      let Keeps : Option Refusal → Type 0 = λ found. (path : Path) (id : ℕ) → HasPath t path id → IsSome (t.node id)
+      → IsSome (object_at (effect_by room caller command found).room (place_after command found path)) → HasPath t (place_after command found path) id in
+      let Numbers : List Change → Type 0 = λ changes. KeepsNumbers t (apply_all_to_objects changes t) room caller command in
+      let kept : Keeps (Some refusal) = (λ path id at stands there. at) in
+      record {
+        reply = replied ∙ sym (ap (λ found. (effect_by room caller command found).reply) is);
+        of_tree = subst Objects (sym none) tt;
+        rules = subst Rules (sym none) tt;
+        leads = subst Leads (sym none) (subst Stays (sym is) stand);
+        numbers = subst Numbers (sym none) (record {
+          kept = subst Keeps (sym is) kept;
+          new = λ id absent present. absurd (absent_present (t.node id) absent present);
+        });
+        refusal = λ refused. none;
+        allowed = λ allowed. absurd (allowed (subst IsRefused (sym replied) tt));
+      }
+
+  -- what succeeds is not refused
+  not_refused : (asked : CommandModel) → IsRefused (reply room caller asked) → ⊥
+  not_refused (C.Stat path) h = h
+  not_refused (C.ListNames path) h = h
+  not_refused (C.Mkdir path) h = h
+  not_refused (C.Create bytes path) h = h
+  not_refused (C.Read path) h = h
+  not_refused (C.Write bytes path) h = h
+  not_refused (C.Append bytes path) h = h
+  not_refused (C.Remove path) h = h
+  not_refused (C.Rename path to) h = h
+  not_refused (C.GetList path) h = h
+  not_refused (C.SetList aclflag entries path) h = h
+  not_refused (C.Chown group owner path) h = h
+  not_refused (C.Access mask path) h = h
+
+  -- and what no check refuses plans what the command leaves
+  pub success_plans : (changes : List Change) → first_refusal (checks room caller command) ≡ None → reply_model outcome.reply ≡ reply room caller command → outcome.changes.items ≡ changes
+      → AllByRecursion IsOfObjects changes → ObjectRulesHoldAfterEach changes t → RepresentsRoom (apply_all_to_objects changes t) (changed room caller command)
+      → ((path : Path) (id : ℕ) → HasPath t path id → IsSome (t.node id) → IsSome (object_at (changed room caller command) (place_after command None path))
+      → HasPath (apply_all_to_objects changes t) (place_after command None path) id)
+      → ((id : ℕ) → IsNone (t.node id) → IsSome ((apply_all_to_objects changes t).node id) → id ≡ t.next)
+      → PlansEffect t room caller command outcome
+  success_plans changes is replied planned of_objects rules leads kept new =
+      let Objects : List Change → Type 0 = λ planned. AllByRecursion IsOfObjects planned in
+      let Rules : List Change → Type 0 = λ planned. ObjectRulesHoldAfterEach planned t in
+      let Leads : List Change → Type 0 = λ planned. RepresentsRoom (apply_all_to_objects planned t) (effect room caller command).room in
+      let Stays : Option Refusal → Type 0 = λ found. RepresentsRoom (apply_all_to_objects changes t) (effect_by room caller command found).room in
+      let Keeps : Option Refusal → Type 0 = λ found. (path : Path) (id : ℕ) → HasPath t path id → IsSome (t.node id)
+      → IsSome (object_at (effect_by room caller command found).room (place_after command found path)) → HasPath (apply_all_to_objects changes t) (place_after command found path) id in
+      let Numbers : List Change → Type 0 = λ planned. KeepsNumbers t (apply_all_to_objects planned t) room caller command in
+      record {
+        reply = replied ∙ sym (ap (λ found. (effect_by room caller command found).reply) is);
+        of_tree = subst Objects (sym planned) of_objects;
+        rules = subst Rules (sym planned) rules;
+        leads = subst Leads (sym planned) (subst Stays (sym is) leads);
+        numbers = subst Numbers (sym planned) (record { kept = subst Keeps (sym is) kept; new = new });
+        refusal = λ refused. absurd (not_refused command (subst IsRefused replied refused));
+        allowed = λ allowed. rights_of_success room caller command is;
+      }
+
+  -- a command that only reads
+  pub reading_plans : ((path : Path) → place_after command None path ≡ path) → changed room caller command ≡ room → first_refusal (checks room caller command) ≡ None
+      → reply_model outcome.reply ≡ reply room caller command → outcome.changes.items ≡ [] → PlansEffect t room caller command outcome
+  reading_plans stays same is replied none =
+      let Stands : Room → Type 0 = λ r. RepresentsRoom t r in
+      success_plans [] is replied none tt tt (subst Stands (sym same) stand)
+      (λ path id at stands there. let At : Path → Type 0 = λ p. HasPath t p id in subst At (sym (stays path)) at)
+      (λ id absent present. absurd (absent_present (t.node id) absent present))

@@ -1,0 +1,70 @@
+-- Replies that tell of a found object.
+use Rattle.std.proofs.Common.{◌≡◌, ℕ, refl, ap, sym, ◌∙◌, List, [], ◌∷◌, map, Option, None, Some}
+use Rattle.std.specs.Prelude.{bit_and}
+use Rattle.std.specs.List.{AllByRecursion, filter_map, cons_option}
+use Rattle.std.specs.Option.{option_map}
+use Rattle.std.proofs.lemmas.Nat.{and_assoc, and_comm}
+use Rattle.room_acl.specs.Bits.{IsMask}
+use Rattle.room_acl.specs.SubjectModel.{SubjectModel}
+use Rattle.room_acl.specs.Access.{allowed_mask}
+use Rattle.room_records.specs.declared.node.Node.{Node}
+use Rattle.room_records.specs.Names.{Name, Path}
+use Rattle.room_records.specs.Records.{ObjectRecords, IsChild}
+use Rattle.room_records.specs.Room.{Object, Room, list_of, standing_of}
+use Rattle.room_records.specs.Rules.{ObjectRules}
+use Rattle.room_records.proofs.Folders.{pair_of, child_named}
+use Rattle.room_tree.specs.declared.place.Place.{Place}
+use Rattle.room_tree.specs.ReplyModel.{ReplyModel, Stat, Entries, Allowed}
+use Rattle.room_tree.specs.Effect.{object_or_default, attributes_of, size_of, no_object}
+use Rattle.room_tree.specs.Places.{IsPlace, node_of, listed}
+use Rattle.room_tree.proofs.Checking.{there}
+
+or_default : Option Object → Object
+or_default None = no_object
+or_default (Some o) = o
+
+abbrev pub stat_of : Node → ℕ → ReplyModel
+stat_of node size = Stat (record { aclflag = node.aclflag; group = node.group; kind = node.kind; owner = node.owner; size = size })
+
+module _ (t : ObjectRecords) (room : Room) (path : Path) (place : Place) (found : IsPlace t room path place) where
+  pub object_is : object_or_default room path ≡ found.object
+  object_is = ap (λ (o : Option Object). object_from o) (there t room path place found)
+    where
+      object_from : Option Object → Object
+      object_from None = no_object
+      object_from (Some o) = o
+
+  pub stat_reply : (node : Node) (size : ℕ) → node ≡ node_of place → size ≡ size_of room path place.kind → stat_of node size ≡ Stat (attributes_of room path (object_or_default room path))
+  stat_reply node size is sized =
+      let shows = found.is_there.shows in
+      let size_is : size ≡ size_of room path found.object.kind = sized ∙ ap (size_of room path) shows.kind in
+      let shown : stat_of (node_of place) size ≡ Stat (attributes_of room path found.object) =
+      (λ i. Stat (record { aclflag = shows.aclflag i; group = shows.group i; kind = shows.kind i; owner = shows.owner i; size = size_is i })) in
+      ap (λ n. stat_of n size) is ∙ shown ∙ ap (λ o. Stat (attributes_of room path o)) (sym object_is)
+
+  pub entries_reply : Entries place.aclflag place.list.items ≡ Entries (object_or_default room path).aclflag (list_of room path)
+  entries_reply =
+      let flags : place.aclflag ≡ (object_or_default room path).aclflag = found.is_there.shows.aclflag ∙ ap (λ (o : Object). o.aclflag) (sym object_is) in
+      (λ i. Entries (flags i) (found.list i))
+
+  pub access_reply : (caller : SubjectModel) (mask : ℕ) → Allowed (bit_and mask (allowed_mask place.list.items caller place.standing))
+      ≡ Allowed (bit_and mask (allowed_mask (list_of room path) caller (standing_of (object_or_default room path))))
+  access_reply caller mask =
+      let shows = found.is_there.shows in
+      let shown : Allowed (bit_and mask (allowed_mask place.list.items caller place.standing))
+      ≡ Allowed (bit_and mask (allowed_mask (list_of room path) caller (standing_of found.object))) =
+      (λ i. Allowed (bit_and mask (allowed_mask (found.list i) caller (record { owner = shows.owner i; group = shows.group i })))) in
+      shown ∙ ap (λ o. Allowed (bit_and mask (allowed_mask (list_of room path) caller (standing_of o)))) (sym object_is)
+
+pub common_is_mask : (a b : ℕ) → IsMask a → IsMask (bit_and a b)
+common_is_mask a b mask =
+    let turned : bit_and (bit_and b a) 0x1F07FF ≡ bit_and b a = and_assoc 0x1F07FF b a ∙ ap (bit_and b) mask in
+    let P : ℕ → Type 0 = λ n. bit_and n 0x1F07FF ≡ n in
+    rw (and_comm a b) turned
+
+-- the nodes in a folder have names
+pub all_listed : (t : ObjectRecords) (rules : ObjectRules t) (id : ℕ) (nodes : List Node) → AllByRecursion (IsChild t id) nodes → filter_map listed nodes ≡ map pair_of nodes
+all_listed t rules id [] all = refl
+all_listed t rules id (node ∷ nodes) all =
+    ap (λ name. cons_option (option_map (λ (n : Name). (n, node.kind)) name) (filter_map listed nodes)) (child_named t rules id node all.0)
+    ∙ ap (λ rest. pair_of node ∷ rest) (all_listed t rules id nodes all.1)

@@ -1,0 +1,178 @@
+-- Rows without one node stand for the room without its object.
+use Rattle.std.proofs.Common.{◌≡◌, ◌≢◌, ℕ, refl, ap, sym, ◌∙◌, subst, inl, inr, List, [], ◌∷◌, ◌++◌, reverse, length, Option, None, Some, IsSome, IsNone, IfSome, false, unwrap_or}
+use Rattle.std.proofs.lemmas.List.{reverse-append}
+use Rattle.room_records.specs.declared.node.Node.{Node}
+use Rattle.room_records.specs.declared.change.Change.TheVariants.{DropNode}
+use Rattle.room_records.specs.Names.{Name, Path, IsPath}
+use Rattle.room_records.specs.Records.{ObjectRecords, IsChild}
+use Rattle.room_records.specs.Rules.{ObjectRules, IsRoot}
+use Rattle.room_records.specs.Changes.{apply_to_objects}
+use Rattle.room_records.specs.Shelf.{name_of}
+use Rattle.room_records.specs.Room.{Object, Room, IsRoom, object_at, children}
+use Rattle.room_records.specs.Representation.{RepresentsRoom, NodeIsObject, HasPath, NamesUpwards}
+use Rattle.room_records.proofs.Folders.{child_named}
+use Rattle.room_records.proofs.Paths.{root_only, reads_one, child_is_at, object_at_node}
+use Rattle.room_records.proofs.RoomsMap.{none_is_some, Ends}
+use Rattle.room_records.proofs.RoomsChildren.{nothing_in_empty}
+use Rattle.room_records.proofs.RulesKept.{same_or_other, if_same, if_other, some_or_none}
+use Rattle.room_tree.specs.CommandModel as C
+use Rattle.room_tree.specs.declared.place.Place.{Place}
+use Rattle.room_tree.specs.declared.planning.Outcome.{Outcome}
+use Rattle.room_tree.specs.Checks.{first_refusal, checks, is_root}
+use Rattle.room_tree.specs.Effect.{without}
+use Rattle.room_tree.specs.Places.{IsPlace, node_of}
+use Rattle.room_tree.specs.Plans.{PlansEffect}
+use Rattle.room_tree.specs.ReplyModel.{Done, reply_model}
+use Rattle.room_acl.specs.SubjectModel.{SubjectModel}
+use Rattle.room_tree.proofs.Changed.{none_and_some}
+use Rattle.room_tree.proofs.EffectIsRoom.{changed_is_room}
+use Rattle.room_tree.proofs.Made.{ends_of}
+use Rattle.room_tree.proofs.Outcomes.{success_plans}
+use Rattle.room_tree.proofs.RoomsWithout.{at_removed, elsewhere_left, left_was_there}
+use Rattle.room_tree.proofs.RowsReplaced.{path_of_node}
+
+module _ (t : ObjectRecords) (room : Room) (stand : RepresentsRoom t room) (path : Path) (id : ℕ) (node : Node) (o : Object) (is : NodeIsObject t room id node path o)
+    (end : Ends path) (empty : (name : Name) → object_at room (path ++ name ∷ []) ≡ None) (lawful : IsRoom (without room path)) where
+  abbrev later : ObjectRecords
+  later = apply_to_objects (DropNode id) t
+
+  childless : (k : ℕ) (found : Node) → t.node k ≡ Some found → found.parent ≡ Some id → ⊥
+  childless k found stands inside =
+      let number = (stand.rules.numbered k found stands).0 in
+      let child : IsChild t id found = record { stands = ap t.node number ∙ stands; inside = inside } in
+      let at = child_is_at t stand.rules path (name_of found) id found is.at child (child_named t stand.rules id found child) in
+      let there = object_at_node t room stand (path ++ name_of found ∷ []) found.id found at child.stands in
+      none_is_some there.0 (sym (empty (name_of found)) ∙ there.1)
+
+  not_first : id ≢ 1
+  not_first same =
+      let Up : List Name → Type 0 = λ names. NamesUpwards t names id in
+      let up = subst Up (ap reverse end.is ∙ reverse-append end.folder (end.name ∷ [])) is.at in
+      root_only t stand.rules up.0 up.1 (ap t.node (sym same) ∙ up.2) up.4
+
+  forth : (k : ℕ) (found : Node) → t.node k ≡ Some found → k ≢ id → later.node k ≡ Some found
+  forth k found stands other = if_other k id None (t.node k) other ∙ stands
+
+  back : (k : ℕ) (found : Node) → later.node k ≡ Some found → (k ≢ id) × (t.node k ≡ Some found)
+  back k found stands = elim (same_or_other k id) [
+    | inl same ↦ absurd (none_is_some found (sym (if_same k id None (t.node k) same) ∙ stands))
+    | inr other ↦ (other, sym (if_other k id None (t.node k) other) ∙ stands)
+  ]
+
+  rules_dropped : ObjectRules (apply_to_objects (DropNode id) t)
+  rules_dropped = record {
+    numbered = λ k found stands. stand.rules.numbered k found (back k found stands).1;
+    root =
+        let Root : Option Node → Type 0 = λ n. IfSome n IsRoot in
+        subst Root (sym (if_other 1 id None (t.node 1) (λ same. not_first (sym same)))) stand.rules.root;
+    has_root =
+        let There : Option Node → Type 0 = λ n. IsSome n in
+        subst There (sym (if_other 1 id None (t.node 1) (λ same. not_first (sym same)))) stand.rules.has_root;
+    below = λ k found stands other.
+        let before = back k found stands in
+        let under = stand.rules.below k found before.1 other in
+        record {
+          above = under.above;
+          parent = under.parent;
+          has_parent = under.has_parent;
+          stands = forth under.above under.parent under.stands (λ same. childless k found before.1 (under.has_parent ∙ ap Some same));
+          folder = under.folder;
+          name = under.name;
+          named = under.named;
+          lawful = under.lawful;
+        };
+    once = λ a b a_stands b_stands parents names. stand.rules.once a b (back a.id a a_stands).1 (back b.id b b_stands).1 parents names;
+    entries = λ k gone. elim (same_or_other k id) [
+      | inl same ↦ if_same k id [] (t.entries k) same
+      | inr other ↦ if_other k id [] (t.entries k) other ∙ stand.rules.entries k (sym (if_other k id None (t.node k) other) ∙ gone)
+    ];
+    documents = λ k there. elim (same_or_other k id) [
+      | inl same ↦ absurd (let There : Option (List ℕ) → Type 0 = λ d. IsSome d in none_and_some {X = List ℕ} None refl (subst There (if_same k id None (t.document k) same) there))
+      | inr other ↦ (let There : Option (List ℕ) → Type 0 = λ d. IsSome d in
+          let owner = stand.rules.documents k (subst There (if_other k id None (t.document k) other) there) in
+          (owner.0, forth k owner.0 owner.1 other, owner.2))
+    ];
+    next = stand.rules.next;
+  }
+
+  names_stay : (names : List Name) (k : ℕ) → NamesUpwards t names k → k ≢ id → NamesUpwards later names k
+  names_stay [] k up other = up
+  names_stay (name ∷ above) k (found, parent, stands, named, inside, up) other = (
+    found,
+    parent,
+    forth k found stands other,
+    named,
+    inside,
+    names_stay above parent up (λ same. childless k found stands (inside ∙ ap Some same)),
+  )
+
+  still : (k : ℕ) (found : Node) (q : Path) (p : Object) → k ≢ id → NodeIsObject t room k found q p → NodeIsObject later (without room path) k found q p
+  still k found q p other at =
+      let number : found.id ≡ k = (stand.rules.numbered k found at.node_stands).0 in
+      let apart : found.id ≢ id = (λ same. other (sym number ∙ same)) in
+      let away : q ≡ path → ⊥ = (λ same. other (
+      let At : Path → Type 0 = λ x. HasPath t x k in
+      reads_same path k id (subst At same at.at) is.at)) in
+      record {
+        at = names_stay (reverse q) k at.at other;
+        node_stands = forth k found at.node_stands other;
+        object_stands = elsewhere_left room path q away ∙ at.object_stands;
+        shows = record {
+          kind = at.shows.kind;
+          owner = at.shows.owner;
+          group = at.shows.group;
+          aclflag = at.shows.aclflag;
+          entries = if_other found.id id [] (t.entries found.id) apart ∙ at.shows.entries;
+          bytes = ap (λ (d : Option (List ℕ)). unwrap_or d []) (if_other found.id id None (t.document found.id) apart) ∙ at.shows.bytes;
+        };
+      }
+    where
+      reads_same : (q : Path) (a b : ℕ) → HasPath t q a → HasPath t q b → a ≡ b
+      reads_same q a b = reads_one t stand.rules (reverse q) a b
+
+  pub removed : RepresentsRoom (apply_to_objects (DropNode id) t) (without room path)
+  removed = record {
+    rules = rules_dropped;
+    lawful = lawful;
+    nodes = λ k found stands.
+        let before = back k found stands in
+        let at = stand.nodes k found before.1 in
+        (at.0, at.1, still k found at.0 at.1 before.0 at.2);
+    objects = λ q p stands.
+        let was = left_was_there room path q p stands in
+        let at = stand.objects q p was.1 in
+        let other : at.0 ≢ id = (λ same.
+        let At : ℕ → Type 0 = λ k. HasPath t q k in
+        was.0 (path_of_node t stand.rules q path id (subst At same at.2.at) is.at)) in
+        (at.0, at.1, still at.0 at.1 q p other at.2);
+    next = stand.next;
+  }
+
+  pub removed_keeps : (q : Path) (k : ℕ) → HasPath t q k → IsSome (object_at (without room path) q) → HasPath later q k
+  removed_keeps q k at there = names_stay (reverse q) k at (λ same.
+      let At : ℕ → Type 0 = λ x. HasPath t q x in
+      let here = path_of_node t stand.rules q path id (subst At same at) is.at in
+      let There : Option Object → Type 0 = λ x. IsSome x in
+      none_and_some {X = Object} None refl (subst There (ap (object_at (without room path)) here ∙ at_removed room path) there))
+
+  pub none_made : (k : ℕ) → IsNone (t.node k) → IsSome (later.node k) → ⊥
+  none_made k none some = elim (some_or_none (later.node k)) [
+    | inl gone ↦ (let There : Option Node → Type 0 = λ x. IsSome x in none_and_some {X = Node} None refl (subst There gone some))
+    | inr found ↦ (let There : Option Node → Type 0 = λ x. IsSome x in
+        none_and_some (t.node k) none (subst There (sym (back k found.0 found.1).1) refl))
+  ]
+
+-- REMOVE
+pub remove_plans : (t : ObjectRecords) (room : Room) (caller : SubjectModel) (path : Path) (place : Place) (outcome : Outcome) → RepresentsRoom t room → IsPlace t room path place
+    → first_refusal (checks room caller (C.Remove path)) ≡ None → is_root path ≡ false → IsPath path → length (children room path) ≡ 0
+    → outcome.changes.items ≡ DropNode place.id ∷ [] → reply_model outcome.reply ≡ Done → PlansEffect t room caller (C.Remove path) outcome
+remove_plans t room caller path place outcome stand found passed root_off is_path none planned replied =
+    let end = ends_of path root_off in
+    let empty = nothing_in_empty room path none in
+    let lawful = changed_is_room room caller (C.Remove path) is_path stand.lawful passed in
+    let node = node_of place in
+    success_plans t room caller (C.Remove path) outcome stand (DropNode place.id ∷ []) passed replied planned (tt, tt)
+    (rules_dropped t room stand path place.id node found.object found.is_there end empty lawful, tt)
+    (removed t room stand path place.id node found.object found.is_there end empty lawful)
+    (λ q k at stands there. removed_keeps t room stand path place.id node found.object found.is_there end empty lawful q k at there)
+    (λ k absent present. absurd (none_made t room stand path place.id node found.object found.is_there end empty lawful k absent present))

@@ -1,0 +1,113 @@
+-- Rows where one object changed stand for the room with that object changed.
+use Rattle.std.proofs.Common.{◌≡◌, ◌≢◌, ℕ, ◌+◌, refl, ap, sym, ◌∙◌, subst, Bool, true, false, ◌⊎◌, inl, inr, List, [], reverse, Option, Some, option_map, unwrap_or}
+use Rattle.std.proofs.lemmas.List.{reverse-reverse}
+use Rattle.room_records.specs.declared.node.Node.{Node}
+use Rattle.room_records.specs.Names.{Path, path_eq}
+use Rattle.room_records.specs.Records.{ObjectRecords}
+use Rattle.room_records.specs.Rules.{ObjectRules}
+use Rattle.room_records.specs.Room.{Object, Room, IsRoom, object_at}
+use Rattle.room_records.specs.Representation.{RepresentsRoom, NodeIsObject, RowsShowObject, HasPath}
+use Rattle.room_records.proofs.Paths.{reads_one, one_path}
+use Rattle.room_records.proofs.RoomsMap.{some_is, same_path, path_itself}
+use Rattle.room_records.proofs.RulesKept.{same_or_other, SameShape, names_by_shape}
+use Rattle.room_tree.specs.Effect.{with_object}
+use Rattle.room_tree.proofs.RoomsObject.{at_changed}
+
+-- a node has one path
+pub path_of_node : (t : ObjectRecords) → ObjectRules t → (a b : Path) (id : ℕ) → HasPath t a id → HasPath t b id → a ≡ b
+path_of_node t rules a b id at also = sym (reverse-reverse a) ∙ ap reverse (one_path t rules (reverse a) (reverse b) id at also) ∙ reverse-reverse b
+
+pub path_same_or_other : (a b : Path) → (a ≡ b) ⊎ (a ≡ b → ⊥)
+path_same_or_other a b = by_test (path_eq a b) refl
+  where
+    by_test : (test : Bool) → path_eq a b ≡ test → (a ≡ b) ⊎ (a ≡ b → ⊥)
+    by_test true e = inl (same_path a b e)
+    by_test false e = inr (λ same. let f : true ≡ false = sym (ap (path_eq a) (sym same) ∙ path_itself a) ∙ e in cc)
+
+-- one node of the rows changed, and stays where it is
+pub record Replaces (t later : ObjectRecords) (room after : Room) (path : Path) (o now_is : Object) (node now : Node) : Type 0 where
+  pub is_there : NodeIsObject t room node.id node path o
+  pub shape : SameShape t later
+  pub rules : ObjectRules later
+  pub stands : later.node node.id ≡ Some now
+  pub shows : RowsShowObject later now after path now_is
+  pub nodes_away : (id : ℕ) → id ≢ node.id → later.node id ≡ t.node id
+  pub entries_away : (id : ℕ) → id ≢ node.id → later.entries id ≡ t.entries id
+  pub documents_away : (id : ℕ) → id ≢ node.id → later.document id ≡ t.document id
+  pub next : later.next ≡ t.next
+  pub made : after.made ≡ room.made
+  pub lawful : IsRoom after
+  pub at_path : object_at after path ≡ Some now_is
+  pub away : (q : Path) → (q ≡ path → ⊥) → object_at after q ≡ object_at room q
+
+module _ (t later : ObjectRecords) (room after : Room) (path : Path) (o now_is : Object) (node now : Node)
+    (stand : RepresentsRoom t room) (r : Replaces t later room after path o now_is node now) where
+  stays_at : (q : Path) (id : ℕ) → HasPath t q id → HasPath later q id
+  stays_at q id at = names_by_shape t later r.shape (reverse q) id at
+
+  here_is : (id : ℕ) → id ≡ node.id → (found : Node) → later.node id ≡ Some found → NodeIsObject later after id found path now_is
+  here_is id same found stands =
+      let is : now ≡ found = some_is now found (sym r.stands ∙ ap later.node (sym same) ∙ stands) in
+      let At : ℕ → Type 0 = λ k. HasPath later path k in
+      let Shown : Node → Type 0 = λ n. RowsShowObject later n after path now_is in
+      record {
+        at = subst At (sym same) (stays_at path node.id r.is_there.at);
+        node_stands = stands;
+        object_stands = r.at_path;
+        shows = subst Shown is r.shows;
+      }
+
+  away_is : (id : ℕ) → id ≢ node.id → (found : Node) (q : Path) (p : Object) → NodeIsObject t room id found q p → NodeIsObject later after id found q p
+  away_is id other found q p is =
+      let number : found.id ≡ id = (stand.rules.numbered id found is.node_stands).0 in
+      let apart : found.id ≢ node.id = (λ same. other (sym number ∙ same)) in
+      let At : Path → Type 0 = λ a. HasPath t a id in
+      let moved : q ≡ path → ⊥ = (λ same. other (reads_one t stand.rules (reverse path) id node.id (subst At same is.at) r.is_there.at)) in
+      record {
+        at = stays_at q id is.at;
+        node_stands = r.nodes_away id other ∙ is.node_stands;
+        object_stands = r.away q moved ∙ is.object_stands;
+        shows = record {
+          kind = is.shows.kind;
+          owner = is.shows.owner;
+          group = is.shows.group;
+          aclflag = is.shows.aclflag;
+          entries = r.entries_away found.id apart ∙ is.shows.entries;
+          bytes = ap (λ (d : Option (List ℕ)). unwrap_or d []) (r.documents_away found.id apart) ∙ is.shows.bytes;
+        };
+      }
+
+  pub replaced : RepresentsRoom later after
+  replaced = record {
+    rules = r.rules;
+    lawful = r.lawful;
+    nodes = λ id found stands. elim (same_or_other id node.id) [
+      | inl same ↦ (path, now_is, here_is id same found stands)
+      | inr other ↦
+          let before = stand.nodes id found (sym (r.nodes_away id other) ∙ stands) in
+          (before.0, before.1, away_is id other found before.0 before.1 before.2)
+    ];
+    objects = λ q p stands. elim (path_same_or_other q path) [
+      | inl same ↦
+          let is : now_is ≡ p = some_is now_is p (sym r.at_path ∙ ap (object_at after) (sym same) ∙ stands) in
+          let P : Path → Object → Type 0 = λ a b. (id : ℕ) × (found : Node) × NodeIsObject later after id found a b in
+          let Q : Path → Type 0 = λ a. P a p in
+          let R : Object → Type 0 = λ b. P path b in
+          subst Q (sym same) (subst R is (node.id, now, here_is node.id refl now r.stands))
+      | inr other ↦
+          let before = stand.objects q p (sym (r.away q other) ∙ stands) in
+          let apart : before.0 ≢ node.id = (λ same.
+          let At : ℕ → Type 0 = λ k. HasPath t q k in
+          other (path_of_node t stand.rules q path node.id (subst At same before.2.at) r.is_there.at)) in
+          (before.0, before.1, away_is before.0 apart before.1 q p before.2)
+    ];
+    next = r.next ∙ stand.next ∙ ap (λ (made : ℕ). made + 1) (sym r.made);
+  }
+
+  -- all keep their numbers, and none is new
+  pub replaced_keeps : (q : Path) (id : ℕ) → HasPath t q id → HasPath later q id
+  replaced_keeps q id at = stays_at q id at
+
+-- the room with the object at one path changed
+pub changed_at : (room : Room) (path : Path) (change : Object → Object) (o : Object) → object_at room path ≡ Some o → object_at (with_object room path change) path ≡ Some (change o)
+changed_at room path change o there = at_changed room path change ∙ ap (option_map change) there

@@ -1,0 +1,43 @@
+use Rattle.std.proofs.Common.{ap, sym, ◌∙◌, [], ◌∷◌}
+use Rattle.std.specs.Prelude.{nat_le, nat_lt}
+use Rattle.room_records.specs.Limits.{max_children, max_objects}
+use Rattle.room_records.specs.Records.{Records, ObjectRecords}
+use Rattle.room_tree.specs.declared.reply.Fault.TheVariants.{FolderFull, RoomFull}
+use Rattle.room_tree.specs.Checks.{refuse_if, check_folder_full, check_room_full}
+use Rattle.room_tree.proofs.Checking.{skip, stop, first_alone}
+use Rattle.room_tree.proofs.Made.{before_next}
+use Rattle.room_tree.proofs.making.number_for_new.Goals as goal
+
+pub returns-in-Some-clause-value : goal.returns-in-Some-clause-value
+returns-in-Some-clause-value g c = λ is_honest is_declared t e room stand folder found.
+    let count = c.in_ok-count.ensures.value is_honest is_declared t e room stand folder found in
+    stop (check_folder_full room folder) (check_room_full room ∷ []) c.in-Some.refusal
+    (ap (λ n. refuse_if (nat_le max_children n) FolderFull) (sym count) ∙ sym c.check_children.ensures ∙ c.in-Some.is)
+
+pub returns-in-Some-check_number-clause-value : goal.returns-in-Some-check_number-clause-value
+returns-in-Some-check_number-clause-value g c = λ is_honest is_declared t e room stand folder found.
+    let before = c.next_id.ensures.unchanged.was_honest is_honest in
+    let declared = c.count_children.ensures.unchanged.declared before is_declared in
+    let same = ap (λ (r : Records). r.objects) (c.count_children.ensures.unchanged.same before is_declared) ∙ e in
+    let count = c.in_ok-count.ensures.value before is_declared t e room stand folder found in
+    let next = c.in_ok-next.ensures.value is_honest declared ∙ ap (λ (r : ObjectRecords). r.next) same in
+    skip (check_folder_full room folder) (check_room_full room ∷ [])
+    (ap (λ n. refuse_if (nat_le max_children n) FolderFull) (sym count) ∙ sym c.check_children.ensures ∙ c.in_default.is)
+    ∙ first_alone (check_room_full room)
+    ∙ ap (λ b. refuse_if b RoomFull) (sym (before_next max_objects room.made)) ∙ ap (λ n. refuse_if (nat_lt max_objects n) RoomFull) (sym (next ∙ stand.next))
+    ∙ sym c.check_number.ensures ∙ c.in-Some-check_number.is
+
+pub returns-clause-value : goal.returns-clause-value
+returns-clause-value g c = λ is_honest is_declared t e room stand folder found.
+    let before = c.next_id.ensures.unchanged.was_honest is_honest in
+    let declared = c.count_children.ensures.unchanged.declared before is_declared in
+    let same = ap (λ (r : Records). r.objects) (c.count_children.ensures.unchanged.same before is_declared) ∙ e in
+    let count = c.in_ok-count.ensures.value before is_declared t e room stand folder found in
+    let next = c.in_ok-next.ensures.value is_honest declared ∙ ap (λ (r : ObjectRecords). r.next) same in (
+      skip (check_folder_full room folder) (check_room_full room ∷ [])
+          (ap (λ n. refuse_if (nat_le max_children n) FolderFull) (sym count) ∙ sym c.check_children.ensures ∙ c.in_default.is)
+          ∙ first_alone (check_room_full room)
+          ∙ ap (λ b. refuse_if b RoomFull) (sym (before_next max_objects room.made)) ∙ ap (λ n. refuse_if (nat_lt max_objects n) RoomFull) (sym (next ∙ stand.next))
+          ∙ sym c.check_number.ensures ∙ c.in_default-check_number.is,
+      next,
+    )

@@ -1,0 +1,41 @@
+use Rattle.std.proofs.Common.{ap, sym, ◌∙◌, cond, [], ◌∷◌, None}
+use Rattle.std.specs.Prelude.{nat_le}
+use Rattle.room_records.specs.Limits.{max_children}
+use Rattle.room_records.specs.Names.{path_eq}
+use Rattle.room_records.specs.Records.{Records}
+use Rattle.room_records.specs.Room.{parent_of}
+use Rattle.room_tree.specs.declared.reply.Fault.TheVariants.{FolderFull}
+use Rattle.room_tree.specs.Checks.{refuse_if, check_depth, check_folder_full}
+use Rattle.room_tree.proofs.Checking.{skip, stop, first_alone}
+use Rattle.room_tree.proofs.Renamed.{same_folder, other_folder}
+use Rattle.room_tree.proofs.moving.Move.check_limits.Goals as goal
+
+pub returns-in-Some-clause-value : goal.returns-in-Some-clause-value
+returns-in-Some-clause-value g c = λ is_honest is_declared t e room stand path move.
+    let to = c.args.to.now in
+    let depth = c.in_ok-deep.ensures.value is_honest is_declared t e room stand path move.place in
+    sym (stop (check_depth room path to) (cond (path_eq (parent_of path) (parent_of to)) None (check_folder_full room (parent_of to)) ∷ []) c.in-Some.deep
+    (sym depth ∙ c.in-Some.is))
+
+pub returns-then-self-clause-value : goal.returns-then-self-clause-value
+returns-then-self-clause-value g c = λ is_honest is_declared t e room stand path move.
+    let to = c.args.to.now in
+    let depth = c.in_ok-deep.ensures.value is_honest is_declared t e room stand path move.place in
+    let full = cond (path_eq (parent_of path) (parent_of to)) None (check_folder_full room (parent_of to)) in
+    let one = same_folder t room stand (parent_of path) (parent_of to) c.args.self.now.from c.args.self.now.into move.from move.into c.if-self.true in
+    sym (skip (check_depth room path to) (full ∷ []) (sym depth ∙ c.in_default.is) ∙ first_alone full
+    ∙ ap (λ b. cond b None (check_folder_full room (parent_of to))) one)
+
+pub returns-clause-value : goal.returns-clause-value
+returns-clause-value g c = λ is_honest is_declared t e room stand path move.
+    let to = c.args.to.now in
+    let before = c.count_children.ensures.unchanged.was_honest is_honest in
+    let declared = c.check_depth.ensures.unchanged.declared before is_declared in
+    let same = ap (λ (r : Records). r.objects) (c.check_depth.ensures.unchanged.same before is_declared) ∙ e in
+    let depth = c.in_ok-deep.ensures.value before is_declared t e room stand path move.place in
+    let count = c.in_ok-count.ensures.value is_honest declared t same room stand (parent_of to) move.into in
+    let full = cond (path_eq (parent_of path) (parent_of to)) None (check_folder_full room (parent_of to)) in
+    let two = other_folder t room stand (parent_of path) (parent_of to) c.args.self.now.from c.args.self.now.into move.from move.into c.if-self.false in
+    c.check_children.ensures ∙ ap (λ n. refuse_if (nat_le max_children n) FolderFull) count
+    ∙ sym (skip (check_depth room path to) (full ∷ []) (sym depth ∙ c.in_default.is) ∙ first_alone full
+    ∙ ap (λ b. cond b None (check_folder_full room (parent_of to))) two)

@@ -1,0 +1,17 @@
+use Rattle.std.proofs.Common.{◌≡◌, ℕ, sym, subst, length}
+use Rattle.room_records.specs.Records.{ObjectRecords}
+use Rattle.room_records.specs.Rules.{ObjectRules}
+use Rattle.room_records.specs.Room.{children}
+use Rattle.room_records.specs.Shelf.{IsChildCount}
+use Rattle.room_records.proofs.Folders.{child_count_is}
+use Rattle.room_tree.proofs.Checking.{if_ok_map}
+use Rattle.room_tree.proofs.reaching.count_children.Goals as goal
+
+pub returns-clause-value : goal.returns-clause-value
+returns-clause-value g c = λ is_honest is_declared t e room stand path found.
+    let Rules : ObjectRecords → Type 0 = λ r. ObjectRules r in
+    let Counted : ℕ → Type 0 = λ count. IsChildCount (g.S.Shelf.records c.args.shelf.now).objects c.args.place.now.id count in
+    let Count : ObjectRecords → ℕ → Type 0 = λ r count. IsChildCount r c.args.place.now.id count in
+    if_ok_map Counted (λ count. count ≡ length (children room path))
+    (λ count counted. let P : ObjectRecords → Type 0 = λ r. Count r count in child_count_is t room stand path c.args.place.now.id found.is_there.at count (subst P e counted))
+    c.child_count.result (c.child_count.ensures.value is_honest is_declared (subst Rules (sym e) stand.rules))

@@ -1,0 +1,114 @@
+use Rattle.std.proofs.Common.{◌≡◌, ℕ, ◌+◌, ◌<◌, ◌≤◌, refl, ap, sym, ◌∙◌, subst, Some, take, length, get_or, arith, []}
+use Rattle.std.proofs.lemmas.List.{get_or_default, take_all}
+use Rattle.room_records.specs.Names.{Path}
+use Rattle.room_records.proofs.Paths.{unchanged_then}
+use Rattle.room_records.specs.Records.{Records}
+use Rattle.room_tree.specs.Places.{IsPlace, IsAbove}
+use Rattle.room_tree.proofs.Walks.{walk_stops, walk_goes_on, walk_ends, walk_is_cut, last_is_absent, next_is_there, last_folder, walk_done}
+use Rattle.room_tree.proofs.walking.walk_path.Goals as goal
+
+pub returns-in_default-clause-value : goal.returns-in_default-clause-value
+returns-in_default-clause-value g c = λ is_honest is_declared t e room stand.
+    absurd (rw c.in_default.is at (c.in_ok-here.ensures.value is_honest is_declared t e room stand))
+
+pub loop-index-init : goal.loop-index-init
+loop-index-init g c = record {
+  unchanged = c.root_place.ensures.unchanged;
+  never_falls = c.root_place.ensures.never_falls;
+  names = c.names-names.ensures.value;
+  walked = λ is_honest is_declared t e room stand.
+      (refl, rw c.in-Some.is at (c.in_ok-here.ensures.value is_honest is_declared t e room stand), refl);
+}
+
+pub returns-in-Some-checked-clause-value : goal.returns-in-Some-checked-clause-value
+returns-in-Some-checked-clause-value g c = λ is_honest is_declared t e room stand.
+    let path = c.args.path.now in
+    let i = c.loop-index.index in
+    let so = c.loop-index.invariant.walked is_honest is_declared t e room stand in
+    let Below : Path → Type 0 = λ p. i < length p in
+    let below = subst Below c.names-names.ensures.value c.loop-index-test.true in
+    walk_stops room c.args.subject.now path i (get_or path i []) below (get_or_default path i [] (get_or path i []) below) c.in-Some-checked.refusal so.0
+    (sym (c.in-Ok.ensures t room (take i path) refl so.1) ∙ c.in-Some-checked.is)
+
+pub returns-then-index-names-clause-value : goal.returns-then-index-names-clause-value
+returns-then-index-names-clause-value g c = λ is_honest is_declared t e room stand.
+    let path = c.args.path.now in
+    let i = c.loop-index.index in
+    let name = c.index-names-index.result in
+    let before = c.child_place.ensures.unchanged.was_honest is_honest in
+    let declared = c.loop-index.invariant.unchanged.declared before is_declared in
+    let same = c.loop-index.invariant.unchanged.same before is_declared in
+    let so = c.loop-index.invariant.walked before is_declared t e room stand in
+    let Below : Path → Type 0 = λ p. i < length p in
+    let More : Path → Type 0 = λ p. i + 1 < length p in
+    let At : Path → Type 0 = λ p. name ≡ get_or p i name in
+    let below = subst Below c.names-names.ensures.value c.loop-index-test.true in
+    walk_is_cut room c.args.subject.now path i name below (subst At c.names-names.ensures.value c.index-names-index.is) so.0
+    (sym (c.in-Ok.ensures t room (take i path) refl so.1) ∙ c.in_default-checked.is)
+    (rw c.in_default-2.is at (c.in_ok-next.ensures.value is_honest declared t (ap (λ (r : Records). r.objects) same ∙ e) room stand (take i path) so.1))
+    (subst More c.names-names.ensures.value c.if-index-names.true)
+    ∙ ap Some (sym c.of-then-index-names.ensures)
+
+pub loop-index-preserved : goal.loop-index-preserved
+loop-index-preserved g c =
+    let path = c.args.path.now in
+    let i = c.loop-index.index in
+    let name = c.index-names-index.result in
+    let Below : Path → Type 0 = λ p. i < length p in
+    let At : Path → Type 0 = λ p. name ≡ get_or p i name in
+    let below = subst Below c.names-names.ensures.value c.loop-index-test.true in
+    let is = subst At c.names-names.ensures.value c.index-names-index.is in
+    record {
+      unchanged = unchanged_then _ _ _ _ _ _ _ c.child_place.ensures.unchanged c.loop-index.invariant.unchanged;
+      never_falls = omega (arith, c.child_place.ensures.never_falls, c.loop-index.invariant.never_falls);
+      names = c.loop-index.invariant.names;
+      walked = λ is_honest is_declared t e room stand.
+          let before = c.child_place.ensures.unchanged.was_honest is_honest in
+          let declared = c.loop-index.invariant.unchanged.declared before is_declared in
+          let same = c.loop-index.invariant.unchanged.same before is_declared in
+          let so = c.loop-index.invariant.walked before is_declared t e room stand in
+          let At : ℕ → Type 0 = λ n. IsPlace t room (take n path) c.loop-index.here in (
+            walk_goes_on room c.args.subject.now path i name below is so.0 (sym (c.in-Ok.ensures t room (take i path) refl so.1) ∙ c.in_default-checked.is),
+            next_is_there room c.args.subject.now path i name below is (λ p. IsPlace t room p c.in-Some-2.next)
+                (rw c.in-Some-2.is at (c.in_ok-next.ensures.value is_honest declared t (ap (λ (r : Records). r.objects) same ∙ e) room stand (take i path) so.1)),
+            (omega arith, subst At (omega arith) so.1),
+          );
+    }
+
+pub returns-clause-value : goal.returns-clause-value
+returns-clause-value g c = λ is_honest is_declared t e room stand.
+    let path = c.args.path.now in
+    let so = c.loop-index.invariant.walked is_honest is_declared t e room stand in
+    let Above : Path → Type 0 = λ p. length p ≤ c.loop-index.index in
+    let all = subst Above c.names-names.ensures.value c.loop-index-test.false in
+    let Within : Path → Type 0 = λ p. c.loop-index.index ≤ length p in
+    let within = subst Within c.names-names.ensures.value c.loop-index.auto.index-end in
+    let last : c.loop-index.index ≡ length path = omega (arith, all, within) in
+    let Here : Path → Type 0 = λ p. IsPlace t room p c.loop-index.here in
+    let Count : ℕ → Type 0 = λ n. IsAbove t room path n c.loop-index.above in (
+      walk_done room c.args.subject.now path c.loop-index.index so.0 all,
+      subst Here (take_all c.loop-index.index path all) so.1,
+      subst Count last so.2,
+    )
+
+pub returns-in_default-2-clause-value : goal.returns-in_default-2-clause-value
+returns-in_default-2-clause-value g c = λ is_honest is_declared t e room stand.
+    let path = c.args.path.now in
+    let i = c.loop-index.index in
+    let name = c.index-names-index.result in
+    let before = c.child_place.ensures.unchanged.was_honest is_honest in
+    let declared = c.loop-index.invariant.unchanged.declared before is_declared in
+    let same = c.loop-index.invariant.unchanged.same before is_declared in
+    let so = c.loop-index.invariant.walked before is_declared t e room stand in
+    let Below : Path → Type 0 = λ p. i < length p in
+    let Last : Path → Type 0 = λ p. length p ≤ i + 1 in
+    let At : Path → Type 0 = λ p. name ≡ get_or p i name in
+    let Here : Path → Type 0 = λ p. IsPlace t room p c.loop-index.here in
+    let below = subst Below c.names-names.ensures.value c.loop-index-test.true in
+    let is = subst At c.names-names.ensures.value c.index-names-index.is in
+    let last = subst Last c.names-names.ensures.value c.if-index-names.false in
+    let nothing = rw c.in_default-2.is at (c.in_ok-next.ensures.value is_honest declared t (ap (λ (r : Records). r.objects) same ∙ e) room stand (take i path) so.1) in (
+      walk_ends room c.args.subject.now path i name below is so.0 (sym (c.in-Ok.ensures t room (take i path) refl so.1) ∙ c.in_default-checked.is) last,
+      last_is_absent room c.args.subject.now path i name below is nothing last,
+      subst Here (last_folder room c.args.subject.now path i name below is last) so.1,
+    )

@@ -1,0 +1,88 @@
+-- What the calls that read a room for a command say.
+use Rattle.std.specs.Prelude.{◌≡◌, ℕ, ◌-◌, ◌≤◌, List, [], ◌∷◌, ◌++◌, take, length, Option, None, Some, Bool, ◌&&◌, if◌then◌else◌}
+use Rattle.room_acl.specs.Bits.{is_inherited}
+use Rattle.room_acl.specs.Entries.{EntryModel}
+use Rattle.room_tree.specs.SetList.{clear_inherited}
+use Rattle.room_acl.specs.SubjectModel.{SubjectModel}
+use Rattle.room_records.specs.declared.node.Node.{Node}
+use Rattle.std.specs.Option.{option_map}
+use Rattle.room_records.specs.Names.{Name, Path}
+use Rattle.room_records.specs.Records.{Records, ObjectRecords}
+use Rattle.room_records.specs.Room.{Object, Room, object_at, list_of, parent_of}
+use Rattle.room_records.specs.Representation.{RepresentsRoom, NodeIsObject}
+use Rattle.room_tree.specs.declared.place.Place.{Place}
+use Rattle.room_acl.specs.declared.subject.Kind.{Kind}
+use Rattle.room_acl.specs.declared.subject.Kind.TheVariants.{File, Folder}
+use Rattle.room_tree.specs.declared.reaching.Reached.{Reached}
+use Rattle.room_tree.specs.declared.reaching.Reached.TheVariants as R
+use Rattle.room_tree.specs.declared.walking.Walk.{Walk}
+use Rattle.room_tree.specs.declared.walking.Walk.TheVariants.{Refused, Absent, Found}
+use Rattle.room_tree.specs.ReplyModel.{Refusal}
+use Rattle.room_tree.specs.Checks.{walk, check_file, check_folder, check_right, first_refusal}
+
+-- what a call says of each room that the rows stand for as it begins
+abbrev pub OfRoom : {S : Type 0} → (S → Records) → (S → Type 0) → (S → Type 0) → S → S → (ObjectRecords → Room → Type 0) → Type 0
+OfRoom records is_honest is_declared old new P =
+    is_honest new → is_declared old → (t : ObjectRecords) → (records old).objects ≡ t → (room : Room) → RepresentsRoom t room → P t room
+
+-- the row of a found object
+abbrev pub node_of : Place → Node
+node_of place = record {
+  id = place.id;
+  parent = place.parent;
+  name = place.name;
+  kind = place.kind;
+  owner = place.standing.owner;
+  group = place.standing.group;
+  aclflag = place.aclflag;
+}
+
+-- the row of the object at a path, and its whole list
+pub record IsPlace (t : ObjectRecords) (room : Room) (path : Path) (place : Place) : Type 0 where
+  pub object : Object
+  pub is_there : NodeIsObject t room place.id (node_of place) path object
+  pub list : place.list.items ≡ list_of room path
+
+-- the folder above the first names of a path
+abbrev pub IsAbove : ObjectRecords → Room → Path → ℕ → Option Place → Type 0
+IsAbove t room path count None = count ≡ 0
+IsAbove t room path count (Some place) = (1 ≤ count) × IsPlace t room (take (count - 1) path) place
+
+-- where the walk of a path ends
+abbrev pub IsWalk : ObjectRecords → Room → SubjectModel → Path → Walk → Type 0
+IsWalk t room caller path (Refused refusal) = walk room caller path ≡ Some refusal
+IsWalk t room caller path (Absent above) = (walk room caller path ≡ None) × (object_at room path ≡ None) × IsPlace t room (parent_of path) above
+IsWalk t room caller path (Found here above) = (walk room caller path ≡ None) × IsPlace t room path here × IsAbove t room path (length path) above
+
+-- which kind alone is asked for
+abbrev pub kind_checks : Room → Path → Option Kind → List (Option Refusal)
+kind_checks room path None = []
+kind_checks room path (Some File) = check_file room path ∷ []
+kind_checks room path (Some Folder) = check_folder room path ∷ []
+
+-- the kind and a right
+abbrev pub use_checks : Room → SubjectModel → Path → Option Kind → ℕ → List (Option Refusal)
+use_checks room caller path kind wanted = kind_checks room path kind ++ check_right room caller path wanted ∷ []
+
+-- what checks on the object at a path come to
+abbrev pub IsReached : ObjectRecords → Room → Path → List (Option Refusal) → Reached → Type 0
+IsReached t room path checked (R.Refused refusal) = first_refusal checked ≡ Some refusal
+IsReached t room path checked (R.Object place) = (first_refusal checked ≡ None) × IsPlace t room path place
+
+-- what a listing shows of a node with a name
+abbrev pub listed : Node → Option (Name × Kind)
+listed node = option_map (λ (name : Name). (name, node.kind)) node.name
+
+-- the row of an object that is made at a path: the caller's, with the folder's group, and it follows
+pub record IsNewNode (caller : SubjectModel) (path : Path) (above : Place) (kind : Kind) (id : ℕ) (node : Node) : Type 0 where
+  pub number : node.id ≡ id
+  pub parent : node.parent ≡ Some above.id
+  pub name : (folder : Path) (name : Name) → path ≡ folder ++ name ∷ [] → node.name ≡ Some name
+  pub kind_is : node.kind ≡ kind
+  pub owner : node.owner ≡ caller.name
+  pub group : node.group ≡ above.standing.group
+  pub aclflag : node.aclflag ≡ 1
+
+-- what becomes of an entry that is sent, where the object follows or not
+abbrev pub kept_entry : Bool → EntryModel → Option EntryModel
+kept_entry follows entry = if follows && is_inherited entry.flags then None else Some (clear_inherited entry)

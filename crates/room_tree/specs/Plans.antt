@@ -1,0 +1,39 @@
+-- What is planned for a command, over rows that stand for a room (our own rule).
+use Rattle.std.specs.Prelude.{◌≡◌, ℕ, [], Option, None, Some, IsSome, IsNone}
+use Rattle.std.specs.List.{AllByRecursion}
+use Rattle.room_acl.specs.SubjectModel.{SubjectModel}
+use Rattle.room_records.specs.Records.{ObjectRecords}
+use Rattle.room_records.specs.Changes.{apply_all_to_objects, IsOfObjects, ObjectRulesHoldAfterEach}
+use Rattle.room_tree.specs.CommandModel.{CommandModel}
+use Rattle.room_tree.specs.declared.planning.Outcome.{Outcome}
+use Rattle.room_records.specs.Room.{Room, object_at}
+use Rattle.room_tree.specs.CommandModel as C
+use Rattle.room_records.specs.Names.{Path}
+use Rattle.room_tree.specs.Checks.{first_refusal, checks}
+use Rattle.room_tree.specs.ReplyModel.{reply_model, IsRefused, Refusal}
+use Rattle.room_tree.specs.Effect.{effect, moved}
+use Rattle.room_tree.specs.Needs.{NeedsAllowed}
+use Rattle.room_records.specs.Representation.{RepresentsRoom, HasPath}
+
+-- where an object that stays stands afterwards
+abbrev pub place_after : CommandModel → Option Refusal → Path → Path
+place_after command (Some refusal) path = path
+place_after (C.Rename from to) None path = moved from to path
+place_after command None path = path
+
+-- an object that stays keeps its number, and a new one takes the next
+pub record KeepsNumbers (t after : ObjectRecords) (room : Room) (caller : SubjectModel) (command : CommandModel) : Type 0 where
+  pub kept : (path : Path) (id : ℕ) → HasPath t path id → IsSome (t.node id)
+      → IsSome (object_at (effect room caller command).room (place_after command (first_refusal (checks room caller command)) path))
+      → HasPath after (place_after command (first_refusal (checks room caller command)) path) id
+  pub new : (id : ℕ) → IsNone (t.node id) → IsSome (after.node id) → id ≡ t.next
+
+-- the reply is the effect's, and the changes lead to rows that stand for the effect's room
+pub record PlansEffect (t : ObjectRecords) (room : Room) (caller : SubjectModel) (command : CommandModel) (outcome : Outcome) : Type 0 where
+  pub reply : reply_model outcome.reply ≡ (effect room caller command).reply
+  pub of_tree : AllByRecursion IsOfObjects outcome.changes.items
+  pub rules : ObjectRulesHoldAfterEach outcome.changes.items t
+  pub leads : RepresentsRoom (apply_all_to_objects outcome.changes.items t) (effect room caller command).room
+  pub numbers : KeepsNumbers t (apply_all_to_objects outcome.changes.items t) room caller command
+  pub refusal : IsRefused (reply_model outcome.reply) → outcome.changes.items ≡ []
+  pub allowed : (IsRefused (reply_model outcome.reply) → ⊥) → NeedsAllowed room caller command

@@ -1,0 +1,40 @@
+-- What the calls that read a room for RENAME say.
+use Rattle.std.specs.Prelude.{◌≡◌, List, [], ◌∷◌, Option, None, Some, Result, Ok, Err, if◌then◌else◌}
+use Rattle.room_acl.specs.SubjectModel.{SubjectModel}
+use Rattle.room_records.specs.Names.{Path, path_eq}
+use Rattle.room_records.specs.Records.{ObjectRecords}
+use Rattle.room_records.specs.Room.{Room, parent_of}
+use Rattle.room_tree.specs.declared.place.Place.{Place}
+use Rattle.room_tree.specs.declared.moving.Move.{Move}
+use Rattle.room_tree.specs.ReplyModel.{Refusal}
+use Rattle.room_tree.specs.Checks.{first_refusal, walk, check_exists, check_absent, check_removal, check_right, right_to_add, check_depth, check_folder_full}
+use Rattle.room_tree.specs.Places.{IsPlace}
+
+-- what is there, and what is not
+abbrev pub end_checks : Room → SubjectModel → Path → Path → List (Option Refusal)
+end_checks room caller path to = walk room caller path ∷ check_exists room path ∷ walk room caller to ∷ check_absent room to ∷ []
+
+-- the rights on an object that goes to another folder
+abbrev pub move_rights : Room → SubjectModel → Path → Path → List (Option Refusal)
+move_rights room caller path to = check_removal room caller path ∷ check_right room caller (parent_of to) (right_to_add room path) ∷ []
+
+-- the limits that a move keeps
+abbrev pub move_limits : Room → Path → Path → List (Option Refusal)
+move_limits room path to =
+    check_depth room path to ∷ (if path_eq (parent_of path) (parent_of to) then None else check_folder_full room (parent_of to)) ∷ []
+
+-- the object that is moved, its folder, and the folder where it goes
+pub record IsMove (t : ObjectRecords) (room : Room) (path to : Path) (move : Move) : Type 0 where
+  pub place : IsPlace t room path move.place
+  pub from : IsPlace t room (parent_of path) move.from
+  pub into : IsPlace t room (parent_of to) move.into
+
+-- what checks on a move come to
+abbrev pub IsChecked : ObjectRecords → Room → Path → Path → List (Option Refusal) → Result Move Refusal → Type 0
+IsChecked t room path to checked (Ok move) = (first_refusal checked ≡ None) × IsMove t room path to move
+IsChecked t room path to checked (Err refusal) = first_refusal checked ≡ Some refusal
+
+-- what checks on an object below the root come to: it and its folder
+abbrev pub IsFoundWithFolder : ObjectRecords → Room → Path → List (Option Refusal) → Result (Place × Place) Refusal → Type 0
+IsFoundWithFolder t room path checked (Ok found) = (first_refusal checked ≡ None) × IsPlace t room path found.0 × IsPlace t room (parent_of path) found.1
+IsFoundWithFolder t room path checked (Err refusal) = first_refusal checked ≡ Some refusal

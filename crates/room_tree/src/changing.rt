@@ -1,0 +1,168 @@
+//! Commands that change one object where it stands.
+ghost use Rattle.std.specs.Prelude.{◌≡◌, ◌+◌, ◌≤◌, ◌<◌, ◌^◌, ◌++◌, [], ◌∷◌, length, IfOk, MatchResult, Err};
+ghost use Rattle.room_records.specs.Shelf.{FailureCounted, Unchanged};
+ghost use Rattle.room_tree.specs.Checks.{check_size};
+ghost use Rattle.room_tree.specs.CommandModel as C;
+ghost use Rattle.room_tree.specs.Places.{OfRoom, node_of};
+ghost use Rattle.room_tree.specs.Plans.{PlansEffect};
+ghost use Rattle.room_tree.specs.ReplyModel.{reply_model, Size, Done};
+
+use crate::masks::{APPEND_DATA, WRITE_DATA, WRITE_OWNER};
+use crate::place::Place;
+use crate::planning::Outcome;
+use crate::reaching::{Reached, as_size, bytes_of, reach_to_use};
+use crate::refusal::Refusal;
+use crate::reply::{Fault, Reply};
+use room_acl::{Kind, Principal, Subject};
+use room_records::{Change, Node, Path, Shelf, ShelfFault};
+use std::alloc::{AllocError, Global};
+
+/// Bytes in a document (our own rule).
+const MAX_DOCUMENT: u64 = 65536;
+
+/// Whether a document would have too many bytes.
+pub(crate) fn check_size(size: u64) -> Option<Refusal>
+    ensures { result ≡ check_size size }
+{
+    if size > MAX_DOCUMENT {
+        Some(Refusal::of(Fault::FBig))
+    } else {
+        None
+    }
+}
+
+/// One change, and what it replies.
+pub(crate) fn one_change(alloc: Global, change: Change, reply: Reply) -> Result<Outcome, AllocError>
+    ensures changes { IfOk result (λ outcome. outcome.changes.items ≡ change ∷ []) }
+    ensures reply { IfOk result (λ outcome. outcome.reply ≡ reply) }
+{
+    let mut changes = Vec::new(alloc);
+    changes.push(change)?;
+    Ok(Outcome { changes, reply })
+}
+
+/// A document with these bytes.
+fn with_document(alloc: Global, id: u32, bytes: Vec<u8>) -> Result<Outcome, AllocError>
+    ensures changes { IfOk result (λ outcome. outcome.changes.items ≡ Change.PutDoc id bytes ∷ []) }
+    ensures reply { IfOk result (λ outcome. length bytes.items < 2 ^ 32 → reply_model outcome.reply ≡ Size (length bytes.items)) }
+{
+    let size = as_size(bytes.len() as u64);
+    one_change(alloc, Change::PutDoc(id, bytes), Reply::Size(size))
+}
+
+/// WRITE: the whole document becomes these bytes.
+pub(crate) fn plan_write<S: Shelf>(
+    alloc: Global,
+    shelf: &mut S,
+    subject: &Subject,
+    bytes: &[u8],
+    path: &Path,
+) -> Result<Outcome, ShelfFault>
+    ensures effect { OfRoom S.records S.is_honest S.is_declared shelf.old shelf.new (λ t room. IfOk result (PlansEffect t room subject.now (C.Write bytes.now path.now))) }
+    ensures unchanged { Unchanged S.records S.is_honest S.is_declared S.crash_may_leave shelf.old shelf.new }
+    ensures never_falls { S.failures shelf.old ≤ S.failures shelf.new }
+    ensures store { result ≡ Err ShelfFault.Store → FailureCounted (S.failures shelf.old) (S.failures shelf.new) }
+{
+    let place = match reach_to_use(alloc, shelf, subject, path, Some(Kind::File), WRITE_DATA)? {
+        Reached::Refused(refusal) => return Ok(Outcome::refused(alloc, refusal)),
+        Reached::Object(place) => place,
+    };
+    if let Some(refusal) = check_size(bytes.len() as u64) {
+        return Ok(Outcome::refused(alloc, refusal));
+    }
+    let Ok(copy) = bytes.to_vec(alloc) else {
+        return Err(ShelfFault::Memory);
+    };
+    let Ok(outcome) = with_document(alloc, place.id, copy) else {
+        return Err(ShelfFault::Memory);
+    };
+    Ok(outcome)
+}
+
+/// The bytes of both, where they are not too many for a document.
+fn appended(mut old: Vec<u8>, more: &[u8]) -> Result<Result<Vec<u8>, Refusal>, AllocError>
+    ensures { IfOk result (λ joined. MatchResult joined
+        (λ all. (check_size (length old.items + length more.now) ≡ None) × (all.items ≡ old.items ++ more.now))
+        (λ refusal. check_size (length old.items + length more.now) ≡ Some refusal)) }
+{
+    if let Some(refusal) = check_size(old.len() as u64 + more.len() as u64) {
+        return Ok(Err(refusal));
+    }
+    old.extend_from_slice(more)?;
+    Ok(Ok(old))
+}
+
+/// APPEND: these bytes come behind those of the document.
+pub(crate) fn plan_append<S: Shelf>(
+    alloc: Global,
+    shelf: &mut S,
+    subject: &Subject,
+    bytes: &[u8],
+    path: &Path,
+) -> Result<Outcome, ShelfFault>
+    ensures effect { OfRoom S.records S.is_honest S.is_declared shelf.old shelf.new (λ t room. IfOk result (PlansEffect t room subject.now (C.Append bytes.now path.now))) }
+    ensures unchanged { Unchanged S.records S.is_honest S.is_declared S.crash_may_leave shelf.old shelf.new }
+    ensures never_falls { S.failures shelf.old ≤ S.failures shelf.new }
+    ensures store { result ≡ Err ShelfFault.Store → FailureCounted (S.failures shelf.old) (S.failures shelf.new) }
+{
+    let place = match reach_to_use(alloc, shelf, subject, path, Some(Kind::File), APPEND_DATA)? {
+        Reached::Refused(refusal) => return Ok(Outcome::refused(alloc, refusal)),
+        Reached::Object(place) => place,
+    };
+    let old = bytes_of(shelf, &place)?;
+    let Ok(joined) = appended(old, bytes) else {
+        return Err(ShelfFault::Memory);
+    };
+    let all = match joined {
+        Err(refusal) => return Ok(Outcome::refused(alloc, refusal)),
+        Ok(all) => all,
+    };
+    let Ok(outcome) = with_document(alloc, place.id, all) else {
+        return Err(ShelfFault::Memory);
+    };
+    Ok(outcome)
+}
+
+/// The row of a found object with another owner and group.
+fn with_standing(place: Place, owner: &Principal, group: &Principal) -> Result<Node, AllocError>
+    ensures { IfOk result (λ node. node ≡ record (node_of place) { owner = owner.now; group = group.now }) }
+{
+    let owner = owner.clone()?;
+    let group = group.clone()?;
+    Ok(Node {
+        id: place.id,
+        parent: place.parent,
+        name: place.name,
+        kind: place.kind,
+        owner,
+        group,
+        aclflag: place.aclflag,
+    })
+}
+
+/// CHOWN: another owner and group. No entry changes.
+pub(crate) fn plan_chown<S: Shelf>(
+    alloc: Global,
+    shelf: &mut S,
+    subject: &Subject,
+    group: &Principal,
+    owner: &Principal,
+    path: &Path,
+) -> Result<Outcome, ShelfFault>
+    ensures effect { OfRoom S.records S.is_honest S.is_declared shelf.old shelf.new (λ t room. IfOk result (PlansEffect t room subject.now (C.Chown group.now owner.now path.now))) }
+    ensures unchanged { Unchanged S.records S.is_honest S.is_declared S.crash_may_leave shelf.old shelf.new }
+    ensures never_falls { S.failures shelf.old ≤ S.failures shelf.new }
+    ensures store { result ≡ Err ShelfFault.Store → FailureCounted (S.failures shelf.old) (S.failures shelf.new) }
+{
+    let place = match reach_to_use(alloc, shelf, subject, path, None, WRITE_OWNER)? {
+        Reached::Refused(refusal) => return Ok(Outcome::refused(alloc, refusal)),
+        Reached::Object(place) => place,
+    };
+    let Ok(node) = with_standing(place, owner, group) else {
+        return Err(ShelfFault::Memory);
+    };
+    let Ok(outcome) = one_change(alloc, Change::PutNode(node), Reply::Done) else {
+        return Err(ShelfFault::Memory);
+    };
+    Ok(outcome)
+}

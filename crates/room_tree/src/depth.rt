@@ -1,0 +1,70 @@
+//! How far down a subtree reaches.
+ghost use Rattle.std.specs.Prelude.{◌≡◌, ◌≤◌, Some, IfOk, Err};
+ghost use Rattle.room_records.specs.declared.node.Node.{Node};
+ghost use Rattle.room_records.specs.Names.{Path as PathModel};
+ghost use Rattle.room_records.specs.Representation.{HasPath};
+ghost use Rattle.room_records.specs.Shelf.{FailureCounted, Unchanged};
+ghost use Rattle.room_tree.specs.Checks.{check_depth};
+ghost use Rattle.room_tree.specs.Depths.{TellsBelow};
+ghost use Rattle.room_tree.specs.Places.{OfRoom, IsPlace};
+
+use crate::place::Place;
+use crate::refusal::Refusal;
+use crate::reply::Fault;
+use room_acl::Kind;
+use room_records::{Path, Shelf, ShelfFault};
+
+/// Names on a path (our own rule).
+const MAX_NAMES: usize = 16;
+
+/// Whether something stands this many levels below the node of this number and kind: 0 is the node itself.
+/// It reads the folders above that level, and stops at the first node that it finds there. However the rows
+/// are, it goes no further down.
+fn reaches_down<S: Shelf>(
+    shelf: &mut S,
+    id: u32,
+    kind: Kind,
+    levels: usize,
+) -> Result<bool, ShelfFault>
+    ensures value { OfRoom S.records S.is_honest S.is_declared shelf.old shelf.new (λ t room. (path : PathModel) (node : Node) →
+        HasPath t path id → t.node id ≡ Some node → node.kind ≡ kind → IfOk result (TellsBelow room path levels)) }
+    ensures unchanged { Unchanged S.records S.is_honest S.is_declared S.crash_may_leave shelf.old shelf.new }
+    ensures never_falls { S.failures shelf.old ≤ S.failures shelf.new }
+    ensures store { result ≡ Err ShelfFault.Store → FailureCounted (S.failures shelf.old) (S.failures shelf.new) }
+{
+    if levels == 0 {
+        return Ok(true);
+    }
+    if let Kind::File = kind {
+        return Ok(false);
+    }
+    let nodes = shelf.children(id)?;
+    for node in &nodes {
+        let deep = reaches_down(shelf, node.id, node.kind, levels - 1)?;
+        if deep {
+            return Ok(true);
+        }
+    }
+    Ok(false)
+}
+
+/// Whether an object of the subtree at this place would have too many names where it goes to `to`.
+pub(crate) fn check_depth<S: Shelf>(
+    shelf: &mut S,
+    place: &Place,
+    to: &Path,
+) -> Result<Option<Refusal>, ShelfFault>
+    ensures value { OfRoom S.records S.is_honest S.is_declared shelf.old shelf.new (λ t room. (path : PathModel) → IsPlace t room path place.now →
+        IfOk result (λ checked. checked ≡ check_depth room path to.now)) }
+    ensures unchanged { Unchanged S.records S.is_honest S.is_declared S.crash_may_leave shelf.old shelf.new }
+    ensures never_falls { S.failures shelf.old ≤ S.failures shelf.new }
+    ensures store { result ≡ Err ShelfFault.Store → FailureCounted (S.failures shelf.old) (S.failures shelf.new) }
+{
+    let too_deep = MAX_NAMES + 1 - to.names().len();
+    let deep = reaches_down(shelf, place.id, place.kind, too_deep)?;
+    if deep {
+        Ok(Some(Refusal::of(Fault::TooDeep)))
+    } else {
+        Ok(None)
+    }
+}

@@ -1,0 +1,97 @@
+//! What a command changes and replies.
+ghost use Rattle.std.specs.Prelude.{◌≡◌, ◌≤◌, [], IfOk, Err};
+ghost use Rattle.room_records.specs.Shelf.{FailureCounted, Unchanged};
+ghost use Rattle.room_tree.specs.CommandModel.{command_model};
+ghost use Rattle.room_records.specs.Room.{Room};
+ghost use Rattle.room_records.specs.Representation.{RepresentsRoom};
+ghost use Rattle.room_tree.specs.Plans.{PlansEffect};
+ghost use Rattle.room_tree.specs.ReplyModel.{reply_model, Refused};
+
+use crate::changing::{plan_append, plan_chown, plan_write};
+use crate::command::Command;
+use crate::making::{plan_create, plan_mkdir};
+use crate::moving::plan_rename;
+use crate::reading::{plan_access, plan_getlist, plan_list, plan_read, plan_stat};
+use crate::refusal::Refusal;
+use crate::removing::plan_remove;
+use crate::reply::Reply;
+use crate::setlist::plan_setlist;
+use room_acl::Subject;
+use room_records::{Change, Shelf, ShelfFault};
+use std::alloc::Global;
+
+/// What a command comes to.
+#[derive(Debug, Drop)]
+pub struct Outcome {
+    pub changes: Vec<Change>,
+    pub reply: Reply,
+}
+
+impl Outcome {
+    /// A refusal changes nothing.
+    pub(crate) fn refused(alloc: Global, refusal: Refusal) -> Outcome
+        ensures none { result.changes.items ≡ [] }
+        ensures reply { reply_model result.reply ≡ Refused refusal }
+    {
+        Outcome {
+            changes: Vec::new(alloc),
+            reply: Reply::Refused {
+                code: refusal.code,
+                place: refusal.place,
+            },
+        }
+    }
+
+    /// A command that only reads changes nothing.
+    pub(crate) fn reading(alloc: Global, reply: Reply) -> Outcome
+        ensures none { result.changes.items ≡ [] }
+        ensures reply { reply_model result.reply ≡ reply_model reply }
+    {
+        Outcome {
+            changes: Vec::new(alloc),
+            reply,
+        }
+    }
+}
+
+/// Plans a command over the rows of a room, and leaves them as they are.
+pub fn plan<S: Shelf>(
+    alloc: Global,
+    shelf: &mut S,
+    subject: &Subject,
+    command: &Command,
+) -> Result<Outcome, ShelfFault>
+    ensures effect { S.is_honest shelf.new → S.is_declared shelf.old → (room : Room) → RepresentsRoom (S.records shelf.old).objects room →
+        IfOk result (PlansEffect (S.records shelf.old).objects room subject.now (command_model command.now)) }
+    ensures unchanged { Unchanged S.records S.is_honest S.is_declared S.crash_may_leave shelf.old shelf.new }
+    ensures never_falls { S.failures shelf.old ≤ S.failures shelf.new }
+    ensures store { result ≡ Err ShelfFault.Store → FailureCounted (S.failures shelf.old) (S.failures shelf.new) }
+{
+    match command {
+        Command::Stat { path } => plan_stat(alloc, shelf, subject, path),
+        Command::List { path } => plan_list(alloc, shelf, subject, path),
+        Command::Mkdir { path } => plan_mkdir(alloc, shelf, subject, path),
+        Command::Create { bytes, path } => {
+            plan_create(alloc, shelf, subject, bytes.as_slice(), path)
+        }
+        Command::Read { path } => plan_read(alloc, shelf, subject, path),
+        Command::Write { bytes, path } => {
+            plan_write(alloc, shelf, subject, bytes.as_slice(), path)
+        }
+        Command::Append { bytes, path } => {
+            plan_append(alloc, shelf, subject, bytes.as_slice(), path)
+        }
+        Command::Remove { path } => plan_remove(alloc, shelf, subject, path),
+        Command::Rename { path, to } => plan_rename(alloc, shelf, subject, path, to),
+        Command::GetList { path } => plan_getlist(alloc, shelf, subject, path),
+        Command::SetList {
+            aclflag,
+            entries,
+            path,
+        } => plan_setlist(alloc, shelf, subject, *aclflag, entries.as_slice(), path),
+        Command::Chown { group, owner, path } => {
+            plan_chown(alloc, shelf, subject, group, owner, path)
+        }
+        Command::Access { mask, path } => plan_access(alloc, shelf, subject, *mask, path),
+    }
+}

@@ -1,0 +1,183 @@
+//! Commands that only read.
+ghost use Rattle.std.specs.Prelude.{◌≡◌, ◌≤◌, IfOk, Err, bit_and};
+ghost use Rattle.std.specs.List.{filter_map};
+ghost use Rattle.room_records.specs.Room.{children};
+ghost use Rattle.room_records.specs.Names.{Path as PathModel};
+ghost use Rattle.room_records.specs.Shelf.{FailureCounted, Unchanged};
+ghost use Rattle.room_tree.specs.CommandModel as C;
+ghost use Rattle.room_tree.specs.Plans.{PlansEffect};
+ghost use Rattle.room_tree.specs.Places.{OfRoom, IsPlace, listed};
+
+use crate::masks::{LIST_DIRECTORY, READ_ACL, READ_ATTRIBUTES, READ_DATA};
+use crate::place::Place;
+use crate::planning::Outcome;
+use crate::reaching::{Reached, bytes_of, reach, reach_to_use, size_of};
+use crate::reply::Reply;
+use room_acl::{Kind, Mask, Subject, allowed_bits};
+use room_records::{FileName, Node, Path, Shelf, ShelfFault};
+use std::alloc::{AllocError, Global};
+
+/// STAT: owner, group, list flags and size.
+pub(crate) fn plan_stat<S: Shelf>(
+    alloc: Global,
+    shelf: &mut S,
+    subject: &Subject,
+    path: &Path,
+) -> Result<Outcome, ShelfFault>
+    ensures effect { OfRoom S.records S.is_honest S.is_declared shelf.old shelf.new (λ t room. IfOk result (PlansEffect t room subject.now (C.Stat path.now))) }
+    ensures unchanged { Unchanged S.records S.is_honest S.is_declared S.crash_may_leave shelf.old shelf.new }
+    ensures never_falls { S.failures shelf.old ≤ S.failures shelf.new }
+    ensures store { result ≡ Err ShelfFault.Store → FailureCounted (S.failures shelf.old) (S.failures shelf.new) }
+{
+    let place = match reach_to_use(alloc, shelf, subject, path, None, READ_ATTRIBUTES)? {
+        Reached::Refused(refusal) => return Ok(Outcome::refused(alloc, refusal)),
+        Reached::Object(place) => place,
+    };
+    let size = size_of(shelf, &place)?;
+    let node = place.into_node();
+    Ok(Outcome::reading(
+        alloc,
+        Reply::Stat {
+            aclflag: node.aclflag,
+            group: node.group,
+            kind: node.kind,
+            owner: node.owner,
+            size,
+        },
+    ))
+}
+
+/// LIST: what is in a folder, by name.
+pub(crate) fn plan_list<S: Shelf>(
+    alloc: Global,
+    shelf: &mut S,
+    subject: &Subject,
+    path: &Path,
+) -> Result<Outcome, ShelfFault>
+    ensures effect { OfRoom S.records S.is_honest S.is_declared shelf.old shelf.new (λ t room. IfOk result (PlansEffect t room subject.now (C.ListNames path.now))) }
+    ensures unchanged { Unchanged S.records S.is_honest S.is_declared S.crash_may_leave shelf.old shelf.new }
+    ensures never_falls { S.failures shelf.old ≤ S.failures shelf.new }
+    ensures store { result ≡ Err ShelfFault.Store → FailureCounted (S.failures shelf.old) (S.failures shelf.new) }
+{
+    let place = match reach_to_use(
+        alloc,
+        shelf,
+        subject,
+        path,
+        Some(Kind::Folder),
+        LIST_DIRECTORY,
+    )? {
+        Reached::Refused(refusal) => return Ok(Outcome::refused(alloc, refusal)),
+        Reached::Object(place) => place,
+    };
+    let names = names_in(alloc, shelf, &place)?;
+    Ok(Outcome::reading(alloc, Reply::Names(names)))
+}
+
+/// What is in a folder, by name.
+fn names_in<S: Shelf>(
+    alloc: Global,
+    shelf: &mut S,
+    place: &Place,
+) -> Result<Vec<(FileName, Kind)>, ShelfFault>
+    ensures value { OfRoom S.records S.is_honest S.is_declared shelf.old shelf.new (λ t room. (path : PathModel) → IsPlace t room path place.now →
+        IfOk result (λ names. names.items ≡ children room path)) }
+    ensures unchanged { Unchanged S.records S.is_honest S.is_declared S.crash_may_leave shelf.old shelf.new }
+    ensures never_falls { S.failures shelf.old ≤ S.failures shelf.new }
+    ensures store { result ≡ Err ShelfFault.Store → FailureCounted (S.failures shelf.old) (S.failures shelf.new) }
+{
+    let nodes = shelf.children(place.id)?;
+    let Ok(names) = listing(alloc, nodes) else {
+        return Err(ShelfFault::Memory);
+    };
+    Ok(names)
+}
+
+fn listing(alloc: Global, nodes: Vec<Node>) -> Result<Vec<(FileName, Kind)>, AllocError>
+    ensures { IfOk result (λ names. names.items ≡ filter_map listed nodes.items) }
+{
+    let mut names = Vec::new(alloc);
+    for node in nodes {
+        let Node { name, kind, .. } = node;
+        if let Some(name) = name {
+            names.push((name, kind))?;
+        }
+    }
+    Ok(names)
+}
+
+/// READ: the bytes of a document.
+pub(crate) fn plan_read<S: Shelf>(
+    alloc: Global,
+    shelf: &mut S,
+    subject: &Subject,
+    path: &Path,
+) -> Result<Outcome, ShelfFault>
+    ensures effect { OfRoom S.records S.is_honest S.is_declared shelf.old shelf.new (λ t room. IfOk result (PlansEffect t room subject.now (C.Read path.now))) }
+    ensures unchanged { Unchanged S.records S.is_honest S.is_declared S.crash_may_leave shelf.old shelf.new }
+    ensures never_falls { S.failures shelf.old ≤ S.failures shelf.new }
+    ensures store { result ≡ Err ShelfFault.Store → FailureCounted (S.failures shelf.old) (S.failures shelf.new) }
+{
+    let place = match reach_to_use(alloc, shelf, subject, path, Some(Kind::File), READ_DATA)? {
+        Reached::Refused(refusal) => return Ok(Outcome::refused(alloc, refusal)),
+        Reached::Object(place) => place,
+    };
+    let bytes = bytes_of(shelf, &place)?;
+    Ok(Outcome::reading(alloc, Reply::Bytes(bytes)))
+}
+
+/// GETLIST: the list flags and the whole list.
+pub(crate) fn plan_getlist<S: Shelf>(
+    alloc: Global,
+    shelf: &mut S,
+    subject: &Subject,
+    path: &Path,
+) -> Result<Outcome, ShelfFault>
+    ensures effect { OfRoom S.records S.is_honest S.is_declared shelf.old shelf.new (λ t room. IfOk result (PlansEffect t room subject.now (C.GetList path.now))) }
+    ensures unchanged { Unchanged S.records S.is_honest S.is_declared S.crash_may_leave shelf.old shelf.new }
+    ensures never_falls { S.failures shelf.old ≤ S.failures shelf.new }
+    ensures store { result ≡ Err ShelfFault.Store → FailureCounted (S.failures shelf.old) (S.failures shelf.new) }
+{
+    let place = match reach_to_use(alloc, shelf, subject, path, None, READ_ACL)? {
+        Reached::Refused(refusal) => return Ok(Outcome::refused(alloc, refusal)),
+        Reached::Object(place) => place,
+    };
+    Ok(Outcome::reading(
+        alloc,
+        Reply::Entries {
+            aclflag: place.aclflag,
+            entries: place.list,
+        },
+    ))
+}
+
+/// ACCESS: which of these bits the list of the object allows the caller.
+pub(crate) fn plan_access<S: Shelf>(
+    alloc: Global,
+    shelf: &mut S,
+    subject: &Subject,
+    mask: Mask,
+    path: &Path,
+) -> Result<Outcome, ShelfFault>
+    ensures effect { OfRoom S.records S.is_honest S.is_declared shelf.old shelf.new (λ t room. IfOk result (PlansEffect t room subject.now (C.Access mask path.now))) }
+    ensures unchanged { Unchanged S.records S.is_honest S.is_declared S.crash_may_leave shelf.old shelf.new }
+    ensures never_falls { S.failures shelf.old ≤ S.failures shelf.new }
+    ensures store { result ≡ Err ShelfFault.Store → FailureCounted (S.failures shelf.old) (S.failures shelf.new) }
+{
+    let place = match reach(alloc, shelf, subject, path)? {
+        Reached::Refused(refusal) => return Ok(Outcome::refused(alloc, refusal)),
+        Reached::Object(place) => place,
+    };
+    let allowed = allowed_bits(&place.list, subject, &place.standing);
+    Ok(Outcome::reading(alloc, Reply::Allowed(common_bits(mask, allowed))))
+}
+
+/// The bits of both masks.
+fn common_bits(a: Mask, b: Mask) -> Mask
+    ensures { result ≡ bit_and a b }
+{
+    match Mask::new(a.bits() & b.bits()) {
+        Some(mask) => mask,
+        None => unreachable!(),
+    }
+}

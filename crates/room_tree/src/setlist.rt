@@ -1,0 +1,142 @@
+//! SETLIST.
+ghost use Rattle.std.specs.Prelude.{◌≡◌, ◌≤◌, [], ◌∷◌, IfOk, Err};
+ghost use Rattle.std.specs.List.{filter_map};
+ghost use Rattle.room_acl.specs.Bits.{is_inherited};
+ghost use Rattle.room_acl.specs.Inheritance.{own_entries_fault};
+ghost use Rattle.room_records.specs.Shelf.{FailureCounted, Unchanged};
+ghost use Rattle.room_tree.specs.Checks.{check_lawful};
+ghost use Rattle.room_tree.specs.CommandModel as C;
+ghost use Rattle.room_tree.specs.Places.{OfRoom, node_of, kept_entry};
+ghost use Rattle.room_tree.specs.Plans.{PlansEffect};
+ghost use Rattle.room_tree.specs.SetList.{clear_inherited, follows_at};
+
+use crate::masks::WRITE_ACL;
+use crate::place::{Place, follows};
+use crate::planning::Outcome;
+use crate::reaching::{Reached, reach_to_use};
+use crate::refusal::Refusal;
+use crate::reply::{Fault, Reply};
+use room_acl::{Entry, Flags, Kind, ListFault, ListFlags, Subject, check_own};
+use room_records::{Change, Path, Shelf, ShelfFault};
+use std::alloc::{AllocError, Global};
+
+/// Whether an object at this path follows its folder with these list flags. The root never does.
+fn follows_at(path: &Path, aclflag: ListFlags) -> bool
+    ensures { result ≡ follows_at path.now aclflag }
+{
+    if path.names().len() == 0 {
+        false
+    } else {
+        follows(aclflag)
+    }
+}
+
+/// Whether the entry has the mark of a handed down one.
+#[tactic(auto, using(std::proofs::lemmas::Nat::Bits::shr_and_one))]
+fn is_marked(entry: &Entry) -> bool
+    ensures { result ≡ is_inherited entry.now.flags }
+{
+    (entry.flags().bits() >> 7) & 1 == 1
+}
+
+/// The entry without the mark.
+fn without_mark(entry: &Entry) -> Result<Entry, AllocError>
+    ensures { IfOk result (λ own. own ≡ clear_inherited entry.now) }
+{
+    let Some(flags) = Flags::new(entry.flags().bits() & 0x7F) else {
+        unreachable!()
+    };
+    let who = entry.who().clone()?;
+    match Entry::new(entry.allow(), flags, entry.mask(), who) {
+        Some(own) => Ok(own),
+        None => unreachable!(),
+    }
+}
+
+/// What becomes of an entry that is sent: with the mark it is dropped where the object follows, and an own entry elsewhere.
+fn own_entry(entry: &Entry, follows: bool) -> Result<Option<Entry>, AllocError>
+    ensures { IfOk result (λ own. own ≡ kept_entry follows entry.now) }
+{
+    if follows && is_marked(entry) {
+        return Ok(None);
+    }
+    let own = without_mark(entry)?;
+    Ok(Some(own))
+}
+
+/// The own entries that a list that is sent leaves.
+fn own_entries(alloc: Global, follows: bool, sent: &[Entry]) -> Result<Vec<Entry>, AllocError>
+    ensures { IfOk result (λ own. own.items ≡ filter_map (kept_entry follows) sent.now) }
+{
+    let mut own = Vec::new(alloc);
+    for entry in sent {
+        if let Some(kept) = own_entry(entry, follows)? {
+            own.push(kept)?;
+        }
+    }
+    Ok(own)
+}
+
+/// Whether these may be own entries of an object of this kind.
+fn check_lawful(entries: &[Entry], kind: Kind) -> Option<Refusal>
+    ensures { result ≡ check_lawful (own_entries_fault entries.now kind) }
+{
+    match check_own(entries, kind) {
+        Ok(()) => None,
+        Err(fault) => match fault {
+            ListFault::Inval => Some(Refusal::of(Fault::Inval)),
+            ListFault::AttrNotSupp => Some(Refusal::of(Fault::AttrNotSupp)),
+        },
+    }
+}
+
+/// The row with other list flags, and the own entries.
+fn with_list(
+    alloc: Global,
+    place: Place,
+    aclflag: ListFlags,
+    own: Vec<Entry>,
+) -> Result<Vec<Change>, AllocError>
+    ensures { IfOk result (λ changes. changes.items
+        ≡ Change.PutNode (record (node_of place) { aclflag = aclflag }) ∷ Change.PutEntries place.id own ∷ []) }
+{
+    let id = place.id;
+    let node = place.with_flags(aclflag);
+    let mut changes = Vec::new(alloc);
+    changes.push(Change::PutNode(node))?;
+    changes.push(Change::PutEntries(id, own))?;
+    Ok(changes)
+}
+
+/// SETLIST: other list flags and other own entries.
+pub(crate) fn plan_setlist<S: Shelf>(
+    alloc: Global,
+    shelf: &mut S,
+    subject: &Subject,
+    aclflag: ListFlags,
+    entries: &[Entry],
+    path: &Path,
+) -> Result<Outcome, ShelfFault>
+    ensures effect { OfRoom S.records S.is_honest S.is_declared shelf.old shelf.new (λ t room. IfOk result (PlansEffect t room subject.now (C.SetList aclflag entries.now path.now))) }
+    ensures unchanged { Unchanged S.records S.is_honest S.is_declared S.crash_may_leave shelf.old shelf.new }
+    ensures never_falls { S.failures shelf.old ≤ S.failures shelf.new }
+    ensures store { result ≡ Err ShelfFault.Store → FailureCounted (S.failures shelf.old) (S.failures shelf.new) }
+{
+    let place = match reach_to_use(alloc, shelf, subject, path, None, WRITE_ACL)? {
+        Reached::Refused(refusal) => return Ok(Outcome::refused(alloc, refusal)),
+        Reached::Object(place) => place,
+    };
+    let Ok(own) = own_entries(alloc, follows_at(path, aclflag), entries) else {
+        return Err(ShelfFault::Memory);
+    };
+    if let Some(unlawful) = check_lawful(own.as_slice(), place.kind) {
+        return Ok(Outcome::refused(alloc, unlawful));
+    }
+    let Ok(changes) = with_list(alloc, place, aclflag, own) else {
+        return Err(ShelfFault::Memory);
+    };
+    Ok(Outcome {
+        changes,
+        reply: Reply::Done,
+    })
+}

@@ -1,0 +1,78 @@
+//! Lists, found from below.
+ghost use Rattle.std.specs.Prelude.{◌≡◌, ◌≤◌, [], length, None, Some, IfOk, Err, if◌then◌else◌};
+ghost use Rattle.room_records.specs.Names.{Path as PathModel};
+ghost use Rattle.room_records.specs.Representation.{HasPath, RepresentsRoom};
+ghost use Rattle.room_records.specs.Room.{Room, list_of, follows};
+ghost use Rattle.room_records.specs.Shelf.{FailureCounted, Unchanged};
+ghost use Rattle.room_tree.specs.Places.{OfRoom};
+
+use crate::place::{follows, with_inherited};
+use room_acl::Entry;
+use room_records::{Node, Shelf, ShelfFault};
+use std::alloc::Global;
+
+/// Names on a path (our own rule).
+const MAX_NAMES: u32 = 16;
+
+/// The folder whose list an object with this row goes on with, if there is one.
+fn folder_followed(node: &Node) -> Option<u32>
+    ensures { result ≡ (if follows node.now.aclflag then node.now.parent else None) }
+{
+    if follows(node.aclflag) {
+        node.parent
+    } else {
+        None
+    }
+}
+
+/// The list of the object with this row, by at most `levels` folders above it. It reads no folder that the list does
+/// not go on with.
+fn list_within<S: Shelf>(
+    alloc: Global,
+    shelf: &mut S,
+    node: &Node,
+    levels: u32,
+) -> Result<Vec<Entry>, ShelfFault>
+    ensures value { OfRoom S.records S.is_honest S.is_declared shelf.old shelf.new (λ t room. (path : PathModel) → HasPath t path node.now.id →
+        t.node node.now.id ≡ Some node.now → length path ≤ levels → IfOk result (λ list. list.items ≡ list_of room path)) }
+    ensures unchanged { Unchanged S.records S.is_honest S.is_declared S.crash_may_leave shelf.old shelf.new }
+    ensures never_falls { S.failures shelf.old ≤ S.failures shelf.new }
+    ensures store { result ≡ Err ShelfFault.Store → FailureCounted (S.failures shelf.old) (S.failures shelf.new) }
+{
+    let own = shelf.entries(node.id)?;
+    let Some(folder) = folder_followed(node) else {
+        return Ok(own);
+    };
+    if levels == 0 {
+        return Ok(own);
+    }
+    let Some(above) = shelf.node(folder)? else {
+        return Ok(own);
+    };
+    let given = list_within(alloc, shelf, &above, levels - 1)?;
+    let Ok(list) = with_inherited(alloc, own, node.aclflag, node.kind, given.as_slice()) else {
+        return Err(ShelfFault::Memory);
+    };
+    Ok(list)
+}
+
+/// The whole list of the object of this number: its own entries, then, where it follows, what its folder's list hands
+/// down. It reads at most 17 objects, whatever the rows are: the object and the folders above it. Where no object has
+/// the number, the list is empty.
+pub fn list_upwards<S: Shelf>(
+    alloc: Global,
+    shelf: &mut S,
+    id: u32,
+) -> Result<Vec<Entry>, ShelfFault>
+    ensures value { S.is_honest shelf.new → S.is_declared shelf.old → (room : Room) → RepresentsRoom (S.records shelf.old).objects room →
+        (path : PathModel) → HasPath (S.records shelf.old).objects path id → IfOk result (λ list. list.items ≡ list_of room path) }
+    ensures absent { S.is_honest shelf.new → S.is_declared shelf.old → (S.records shelf.old).objects.node id ≡ None → IfOk result (λ list. list.items ≡ []) }
+    ensures unchanged { Unchanged S.records S.is_honest S.is_declared S.crash_may_leave shelf.old shelf.new }
+    ensures never_falls { S.failures shelf.old ≤ S.failures shelf.new }
+    ensures store { result ≡ Err ShelfFault.Store → FailureCounted (S.failures shelf.old) (S.failures shelf.new) }
+{
+    let Some(node) = shelf.node(id)? else {
+        return Ok(Vec::new(alloc));
+    };
+    list_within(alloc, shelf, &node, MAX_NAMES)
+}

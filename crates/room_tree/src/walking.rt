@@ -1,0 +1,118 @@
+//! The walk of a path, from the root down.
+ghost use Rattle.std.specs.Prelude.{◌≡◌, ◌≤◌, ◌++◌, [], ◌∷◌, take, IfOk, MatchOption, Err, if◌then◌else◌};
+ghost use Rattle.room_acl.specs.Inheritance.{handed_down};
+ghost use Rattle.room_records.specs.Names.{Path as PathModel};
+ghost use Rattle.room_records.specs.Room.{follows, object_at};
+ghost use Rattle.room_records.specs.Shelf.{FailureCounted, Unchanged};
+ghost use Rattle.room_tree.specs.Checks.{first_refusal, denied_at, refuse_if};
+ghost use Rattle.room_tree.specs.Places.{OfRoom, IsPlace, IsWalk, node_of};
+
+use crate::place::{Place, with_inherited};
+use crate::refusal::Refusal;
+use crate::reply::Fault;
+use room_acl::{Entry, Kind, Mask, Subject};
+use room_records::{FileName, Node, Path, Shelf, ShelfFault};
+use std::alloc::{AllocError, Global};
+
+/// Where the walk of a path ends.
+#[derive(Debug, Drop)]
+pub(crate) enum Walk {
+    /// A folder on the way is not there, is none, or does not let the caller through.
+    Refused(Refusal),
+    /// Nothing is there: the folder where it would stand.
+    Absent(Place),
+    /// The object, and but for the root its folder.
+    Found(Place, Option<Place>),
+}
+
+/// The node with its list, under a folder with this list.
+fn place_under<S: Shelf>(
+    alloc: Global,
+    shelf: &mut S,
+    node: Node,
+    above: &[Entry],
+) -> Result<Place, ShelfFault>
+    ensures value { S.is_honest shelf.new → S.is_declared shelf.old → IfOk result (λ place. (node_of place ≡ node)
+        × (place.list.items ≡ (S.records shelf.old).objects.entries node.id ++ (if follows node.aclflag then handed_down above.now node.kind else []))) }
+    ensures unchanged { Unchanged S.records S.is_honest S.is_declared S.crash_may_leave shelf.old shelf.new }
+    ensures never_falls { S.failures shelf.old ≤ S.failures shelf.new }
+    ensures store { result ≡ Err ShelfFault.Store → FailureCounted (S.failures shelf.old) (S.failures shelf.new) }
+{
+    let own = shelf.entries(node.id)?;
+    let Ok(list) = with_inherited(alloc, own, node.aclflag, node.kind, above) else {
+        return Err(ShelfFault::Memory);
+    };
+    Ok(Place::of(node, list))
+}
+
+/// The root, where the rows stand for a room.
+fn root_place<S: Shelf>(shelf: &mut S) -> Result<Option<Place>, ShelfFault>
+    ensures value { OfRoom S.records S.is_honest S.is_declared shelf.old shelf.new (λ t room. IfOk result (λ found.
+        MatchOption found ⊥ (IsPlace t room []))) }
+    ensures unchanged { Unchanged S.records S.is_honest S.is_declared S.crash_may_leave shelf.old shelf.new }
+    ensures never_falls { S.failures shelf.old ≤ S.failures shelf.new }
+    ensures store { result ≡ Err ShelfFault.Store → FailureCounted (S.failures shelf.old) (S.failures shelf.new) }
+{
+    let Some(root) = shelf.node(1)? else {
+        return Ok(None);
+    };
+    let own = shelf.entries(1)?;
+    Ok(Some(Place::of(root, own)))
+}
+
+/// The child of this name, with its list.
+fn child_place<S: Shelf>(
+    alloc: Global,
+    shelf: &mut S,
+    here: &Place,
+    name: &FileName,
+) -> Result<Option<Place>, ShelfFault>
+    ensures value { OfRoom S.records S.is_honest S.is_declared shelf.old shelf.new (λ t room. (path : PathModel) → IsPlace t room path here.now →
+        IfOk result (λ found. MatchOption found (object_at room (path ++ name.now ∷ []) ≡ None) (IsPlace t room (path ++ name.now ∷ [])))) }
+    ensures unchanged { Unchanged S.records S.is_honest S.is_declared S.crash_may_leave shelf.old shelf.new }
+    ensures never_falls { S.failures shelf.old ≤ S.failures shelf.new }
+    ensures store { result ≡ Err ShelfFault.Store → FailureCounted (S.failures shelf.old) (S.failures shelf.new) }
+{
+    let Some(node) = shelf.child(here.id, name)? else {
+        return Ok(None);
+    };
+    let place = place_under(alloc, shelf, node, &here.list)?;
+    Ok(Some(place))
+}
+
+/// Walks a path from the root down, with EXECUTE on each folder on the way. It carries the list of the folder with it,
+/// so each row is read once.
+pub(crate) fn walk_path<S: Shelf>(
+    alloc: Global,
+    shelf: &mut S,
+    subject: &Subject,
+    path: &Path,
+) -> Result<Walk, ShelfFault>
+    ensures value { OfRoom S.records S.is_honest S.is_declared shelf.old shelf.new (λ t room. IfOk result (IsWalk t room subject.now path.now)) }
+    ensures unchanged { Unchanged S.records S.is_honest S.is_declared S.crash_may_leave shelf.old shelf.new }
+    ensures never_falls { S.failures shelf.old ≤ S.failures shelf.new }
+    ensures store { result ≡ Err ShelfFault.Store → FailureCounted (S.failures shelf.old) (S.failures shelf.new) }
+{
+    let Some(mut here) = root_place(shelf)? else {
+        return Ok(Walk::Refused(Refusal::of(Fault::NoEnt)));
+    };
+    let names = path.names();
+    let mut above: Option<Place> = None;
+    for index in 0..names.len() {
+        let Ok(checked) = here.check_way(alloc, subject, path, index) else {
+            return Err(ShelfFault::Memory);
+        };
+        if let Some(refusal) = checked {
+            return Ok(Walk::Refused(refusal));
+        }
+        let Some(next) = child_place(alloc, shelf, &here, &names[index])? else {
+            if index + 1 < names.len() {
+                return Ok(Walk::Refused(Refusal::of(Fault::NoEnt)));
+            }
+            return Ok(Walk::Absent(here));
+        };
+        above = Some(here);
+        here = next;
+    }
+    Ok(Walk::Found(here, above))
+}

@@ -1,0 +1,122 @@
+-- Readers of the members of JSON values: numbers, texts, principals, masks, flags, kinds and entries.
+use Rattle.std.specs.Prelude.{ℕ, ◌+◌, ◌^◌, Bool, true, false, ◌&&◌, ◌==◌, nat_le, nat_lt, length, List, [], ◌∷◌, Option, None, Some, if◌then◌else◌, option_and_then, option_map, codes, bit_and, bytes_eq}
+use Rattle.std.specs.List.{list_all}
+use Rattle.std.specs.Str.{is_utf8}
+use Rattle.serde_json.specs.Data.{Data, Items, Members, null, boolean, number, string, array, object, no_items, item, no_members, member}
+use Rattle.serde_json.specs.Find.{get, as_number, as_u64, as_str, as_array}
+use Rattle.serde_json.specs.Read.{read}
+use Rattle.room_acl.specs.declared.subject.Kind.{Kind}
+use Rattle.room_acl.specs.declared.subject.Kind.TheVariants.{File, Folder}
+use Rattle.room_acl.specs.declared.who.Who.{Who}
+use Rattle.room_acl.specs.declared.who.Who.TheVariants.{Owner, Group, Everyone, User, Members as GroupNamed}
+use Rattle.room_acl.specs.Bits.{identifier_group}
+use Rattle.room_acl.specs.Principals.{is_principal_byte}
+use Rattle.room_acl.specs.Entries.{EntryModel}
+
+-- the JSON value of a body: it is UTF-8, and one value
+abbrev pub json_of : List ℕ → Option Data
+json_of body = if is_utf8 body then read body else None
+
+-- how many members an object has
+abbrev pub count : Members → ℕ
+count no_members = 0
+count (member name value members) = count members + 1
+
+-- an object with so many members: with each listed one there, exactly those
+abbrev pub has_count : ℕ → Data → Bool
+has_count n null = false
+has_count n (boolean b) = false
+has_count n (number x) = false
+has_count n (string s) = false
+has_count n (array ds) = false
+has_count n (object members) = count members == n
+
+abbrev pub number_at : List ℕ → Data → Option ℕ
+number_at name d = option_and_then as_u64 (option_and_then as_number (get name d))
+
+abbrev pub text_at : List ℕ → Data → Option (List ℕ)
+text_at name d = option_and_then as_str (get name d)
+
+abbrev pub mask_from : ℕ → Option ℕ
+mask_from n = if nat_lt n (2 ^ 32) && (bit_and n 0x1F07FF == n) then Some n else None
+
+abbrev pub flags_from : ℕ → Option ℕ
+flags_from n = if nat_lt n 256 && (bit_and n 0xCF == n) then Some n else None
+
+abbrev pub is_principal : List ℕ → Bool
+is_principal text = nat_le 1 (length text) && (nat_le (length text) 32 && list_all is_principal_byte text)
+
+abbrev pub principal_from : List ℕ → Option (List ℕ)
+principal_from text = if is_principal text then Some text else None
+
+abbrev pub mask_at : List ℕ → Data → Option ℕ
+mask_at name d = option_and_then mask_from (number_at name d)
+
+abbrev pub flags_at : List ℕ → Data → Option ℕ
+flags_at name d = option_and_then flags_from (number_at name d)
+
+abbrev pub principal_at : List ℕ → Data → Option (List ℕ)
+principal_at name d = option_and_then principal_from (text_at name d)
+
+-- the kind of an object
+abbrev pub kind_from : List ℕ → Option Kind
+kind_from text = if bytes_eq text (codes "file") then Some File else (if bytes_eq text (codes "folder") then Some Folder else None)
+
+abbrev pub kind_at : List ℕ → Data → Option Kind
+kind_at name d = option_and_then kind_from (text_at name d)
+
+-- type 0 allows, and type 1 denies
+abbrev pub allow_from : ℕ → Option Bool
+allow_from n = if n == 0 then Some true else (if n == 1 then Some false else None)
+
+abbrev pub allow_at : List ℕ → Data → Option Bool
+allow_at name d = option_and_then allow_from (number_at name d)
+
+-- a principal's name stands for a group where the flags say so
+abbrev pub named_who : Bool → Option (List ℕ) → Option Who
+named_who group None = None
+named_who true (Some name) = Some (GroupNamed name)
+named_who false (Some name) = Some (User name)
+
+abbrev pub who_from : ℕ → List ℕ → Option Who
+who_from flags text =
+    if bytes_eq text (codes "OWNER@") then Some Owner
+    else (if bytes_eq text (codes "GROUP@") then Some Group
+    else (if bytes_eq text (codes "EVERYONE@") then Some Everyone
+    else named_who (identifier_group flags) (principal_from text)))
+
+abbrev pub entry_of : Option ℕ → Option ℕ → Option Bool → Option (List ℕ) → Option EntryModel
+entry_of None mask allow text = None
+entry_of (Some flags) None allow text = None
+entry_of (Some flags) (Some mask) None text = None
+entry_of (Some flags) (Some mask) (Some allow) None = None
+entry_of (Some flags) (Some mask) (Some allow) (Some text) =
+    option_map (λ who. record { allow = allow; flags = flags; mask = mask; who = who }) (who_from flags text)
+
+-- four members, exactly
+abbrev pub entry_in : Data → Option EntryModel
+entry_in d =
+    if has_count 4 d then entry_of (flags_at (codes "flag") d) (mask_at (codes "mask") d) (allow_at (codes "type") d) (text_at (codes "who") d)
+    else None
+
+abbrev pub cons : {A : Type 0} → Option A → Option (List A) → Option (List A)
+cons None rest = None
+cons (Some x) None = None
+cons (Some x) (Some xs) = Some (x ∷ xs)
+
+abbrev pub entries_in : Items → Option (List EntryModel)
+entries_in no_items = Some []
+entries_in (item d ds) = cons (entry_in d) (entries_in ds)
+
+abbrev pub principal_in : Data → Option (List ℕ)
+principal_in d = option_and_then principal_from (as_str d)
+
+abbrev pub principals_in : Items → Option (List (List ℕ))
+principals_in no_items = Some []
+principals_in (item d ds) = cons (principal_in d) (principals_in ds)
+
+abbrev pub entries_at : List ℕ → Data → Option (List EntryModel)
+entries_at name d = option_and_then entries_in (option_and_then as_array (get name d))
+
+abbrev pub principals_at : List ℕ → Data → Option (List (List ℕ))
+principals_at name d = option_and_then principals_in (option_and_then as_array (get name d))

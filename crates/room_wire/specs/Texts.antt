@@ -1,0 +1,144 @@
+-- The texts of commands and replies: compact JSON, with members in byte order of their names.
+use Rattle.std.specs.Prelude.{ℕ, Bool, true, false, List, [], ◌∷◌, Option, None, Some, codes}
+use Rattle.serde_json.specs.Data.{Data, Items, Members, number, string, array, object, no_items, item, no_members, member, unsigned}
+use Rattle.serde_json.specs.Written.{compact_text}
+use Rattle.base64.specs.Engines.{standard}
+use Rattle.base64.specs.GeneralPurpose.{encode_of}
+use Rattle.room_acl.specs.declared.subject.Kind.{Kind}
+use Rattle.room_acl.specs.declared.subject.Kind.TheVariants.{File, Folder}
+use Rattle.room_acl.specs.declared.who.Who.{Who}
+use Rattle.room_acl.specs.declared.who.Who.TheVariants.{Owner, Group, Everyone, User, Members as GroupNamed}
+use Rattle.room_acl.specs.Entries.{EntryModel}
+use Rattle.room_records.specs.Names.{Name, Path, path_text}
+use Rattle.room_tree.specs.declared.reply.Fault.{Fault}
+use Rattle.room_tree.specs.declared.reply.Fault.TheVariants as F
+use Rattle.room_tree.specs.CommandModel.{CommandModel}
+use Rattle.room_tree.specs.CommandModel as C
+use Rattle.room_tree.specs.ReplyModel.{ReplyModel, Refusal}
+use Rattle.room_tree.specs.ReplyModel as T
+
+abbrev pub num : ℕ → Data
+num n = number (unsigned n)
+
+abbrev pub path : Path → Data
+path p = string (path_text p)
+
+abbrev pub bytes : List ℕ → Data
+bytes b = string (encode_of standard b)
+
+abbrev pub kind : Kind → Data
+kind File = string (codes "file")
+kind Folder = string (codes "folder")
+
+abbrev pub who_text : Who → List ℕ
+who_text Owner = codes "OWNER@"
+who_text Group = codes "GROUP@"
+who_text Everyone = codes "EVERYONE@"
+who_text (User name) = name
+who_text (GroupNamed name) = name
+
+-- members in byte order of their names
+abbrev pub members : List (List ℕ × Data) → Members
+members [] = no_members
+members (m ∷ ms) = member m.0 m.1 (members ms)
+
+abbrev pub obj : List (List ℕ × Data) → Data
+obj ms = object (members ms)
+
+abbrev pub list : List Data → Items
+list [] = no_items
+list (d ∷ ds) = item d (list ds)
+
+abbrev pub entry_type : Bool → Data
+entry_type true = num 0
+entry_type false = num 1
+
+abbrev pub entry : EntryModel → Data
+entry e = obj ((codes "flag", num e.flags) ∷ (codes "mask", num e.mask) ∷ (codes "type", entry_type e.allow) ∷ (codes "who", string (who_text e.who)) ∷ [])
+
+abbrev pub entries : List EntryModel → Items
+entries [] = no_items
+entries (e ∷ es) = item (entry e) (entries es)
+
+abbrev pub named_child : Name × Kind → Data
+named_child n = array (item (string n.0) (item (kind n.1) no_items))
+
+abbrev pub named : List (Name × Kind) → Items
+named [] = no_items
+named (n ∷ ns) = item (named_child n) (named ns)
+
+abbrev pub cmd : List ℕ → List ℕ × Data
+cmd name = (codes "cmd", string name)
+
+abbrev pub at : Path → List ℕ × Data
+at p = (codes "path", path p)
+
+abbrev pub command_data : CommandModel → Data
+command_data (C.Stat p) = obj (cmd (codes "STAT") ∷ at p ∷ [])
+command_data (C.ListNames p) = obj (cmd (codes "LIST") ∷ at p ∷ [])
+command_data (C.Mkdir p) = obj (cmd (codes "MKDIR") ∷ at p ∷ [])
+command_data (C.Create b p) = obj (cmd (codes "CREATE") ∷ (codes "data", bytes b) ∷ at p ∷ [])
+command_data (C.Read p) = obj (cmd (codes "READ") ∷ at p ∷ [])
+command_data (C.Write b p) = obj (cmd (codes "WRITE") ∷ (codes "data", bytes b) ∷ at p ∷ [])
+command_data (C.Append b p) = obj (cmd (codes "APPEND") ∷ (codes "data", bytes b) ∷ at p ∷ [])
+command_data (C.Remove p) = obj (cmd (codes "REMOVE") ∷ at p ∷ [])
+command_data (C.Rename p to) = obj (cmd (codes "RENAME") ∷ at p ∷ (codes "to", path to) ∷ [])
+command_data (C.GetList p) = obj (cmd (codes "GETLIST") ∷ at p ∷ [])
+command_data (C.SetList flags es p) = obj ((codes "aclflag", num flags) ∷ cmd (codes "SETLIST") ∷ (codes "entries", array (entries es)) ∷ at p ∷ [])
+command_data (C.Chown group owner p) = obj (cmd (codes "CHOWN") ∷ (codes "group", string group) ∷ (codes "owner", string owner) ∷ at p ∷ [])
+command_data (C.Access mask p) = obj (cmd (codes "ACCESS") ∷ (codes "mask", num mask) ∷ at p ∷ [])
+
+abbrev pub command_text : CommandModel → List ℕ
+command_text c = compact_text (command_data c)
+
+abbrev pub fault_number : Fault → ℕ
+fault_number F.NoEnt = 1
+fault_number F.NotDir = 2
+fault_number F.IsDir = 3
+fault_number F.Exist = 4
+fault_number F.Access = 5
+fault_number F.NotEmpty = 6
+fault_number F.Inval = 7
+fault_number F.AttrNotSupp = 8
+fault_number F.FBig = 9
+fault_number F.TooDeep = 10
+fault_number F.FolderFull = 11
+fault_number F.RoomFull = 12
+
+abbrev pub fault_name : Fault → List ℕ
+fault_name F.NoEnt = codes "NOENT"
+fault_name F.NotDir = codes "NOTDIR"
+fault_name F.IsDir = codes "ISDIR"
+fault_name F.Exist = codes "EXIST"
+fault_name F.Access = codes "ACCESS"
+fault_name F.NotEmpty = codes "NOTEMPTY"
+fault_name F.Inval = codes "INVAL"
+fault_name F.AttrNotSupp = codes "ATTRNOTSUPP"
+fault_name F.FBig = codes "FBIG"
+fault_name F.TooDeep = codes "TOO_DEEP"
+fault_name F.FolderFull = codes "FOLDER_FULL"
+fault_name F.RoomFull = codes "ROOM_FULL"
+
+abbrev pub refusal_data : Fault → Option (Path × ℕ) → Data
+refusal_data f None = obj ((codes "code", num (fault_number f)) ∷ (codes "error", string (fault_name f)) ∷ [])
+refusal_data f (Some place) =
+    obj ((codes "bit", num place.1) ∷ (codes "code", num (fault_number f)) ∷ (codes "error", string (fault_name f)) ∷ at place.0 ∷ [])
+
+abbrev pub ok : List ℕ × Data
+ok = (codes "code", num 0)
+
+abbrev pub reply_data : ReplyModel → Data
+reply_data T.Done = obj (ok ∷ [])
+reply_data (T.Opened slots) = obj (ok ∷ (codes "slots", num slots) ∷ [])
+reply_data (T.Stat f) =
+    obj ((codes "aclflag", num f.aclflag) ∷ ok ∷ (codes "group", string f.group) ∷ (codes "kind", kind f.kind)
+    ∷ (codes "owner", string f.owner) ∷ (codes "size", num f.size) ∷ [])
+reply_data (T.Names ns) = obj (ok ∷ (codes "names", array (named ns)) ∷ [])
+reply_data (T.Size n) = obj (ok ∷ (codes "size", num n) ∷ [])
+reply_data (T.Bytes b) = obj (ok ∷ (codes "data", bytes b) ∷ [])
+reply_data (T.Entries flags es) = obj ((codes "aclflag", num flags) ∷ ok ∷ (codes "entries", array (entries es)) ∷ [])
+reply_data (T.Allowed mask) = obj ((codes "allowed", num mask) ∷ ok ∷ [])
+reply_data (T.Refused r) = refusal_data r.code r.place
+
+abbrev pub reply_text : ReplyModel → List ℕ
+reply_text t = compact_text (reply_data t)
