@@ -1,9 +1,11 @@
 //! A trial slot: the smallest thing that shows why a retry must act once.
-ghost use Rattle.std.specs.Prelude.{◌≡◌, [], IfOk, IfSome};
-ghost use Rattle.room_slots.specs.Trials.{answer_model};
+ghost use Rattle.std.specs.Prelude.{◌≡◌, [], ◌++◌, map, IsSome, IfOk, OnOk, OnErr};
+ghost use Rattle.room_slots.specs.Slots.{verdict};
+ghost use Rattle.room_slots.specs.Trials.{answer_model, answer_by_verdict, appended, kept_reply, trial_after, trial_answer};
 ghost use Rattle.room_slots.specs.TrialModel.{Reply};
+ghost use Rattle.room_slots.specs.Accepted.{accepted, bytes_of};
 
-use crate::verdict::Kept;
+use crate::verdict::{Kept, Verdict, classify};
 use std::alloc::{AllocError, Global};
 use std::marker::Model;
 
@@ -50,39 +52,73 @@ impl Trial {
         }
     }
 
-    /// Appends a piece that is sent with this number.
+    /// Appends a piece that is sent with this number, once however often it is sent.
     ///
-    /// Where something is kept and the number is the kept one, the answer is the kept reply.
+    /// What the piece is to the slot, [`classify`] says. A new one is appended
+    /// and kept, with the whole document as its reply. A repeat gets the reply
+    /// that is kept. A repeat, a false retry and a misordered piece change nothing.
     ///
     /// # Errors
     ///
-    /// `AllocError` where memory is refused.
+    /// `AllocError` where memory is refused. Nothing is changed then, and the
+    /// same piece may be sent again.
     pub fn append(&mut self, seq: u32, bytes: &[u8]) -> Result<TrialAnswer, AllocError>
-        ensures { IfOk result (λ answer. IfSome self.old.kept (λ last. seq ≡ last.seq → answer_model answer ≡ Reply last.reply)) }
+        ensures answer { IfOk result (λ answer. answer_model answer ≡ trial_answer self.old seq bytes.now) }
+        ensures done { OnOk result (self.new ≡ trial_after self.old seq bytes.now) }
+        ensures err { OnErr result (self.new ≡ self.old) }
     {
-        let kept_reply = match &self.kept {
-            Some(kept) if kept.seq == seq => Some(kept.reply.clone()?),
-            _ => None,
-        };
-        self.doc.extend_from_slice(bytes)?;
-        if let Some(reply) = kept_reply {
-            return Ok(TrialAnswer::Reply(reply));
+        match classify(self.kept.as_ref(), seq, bytes) {
+            Verdict::New => self.append_new(seq, bytes),
+            Verdict::Repeat => self.reply_again(),
+            Verdict::FalseRetry => Ok(TrialAnswer::FalseRetry),
+            Verdict::Misordered => Ok(TrialAnswer::Misordered),
         }
-        self.kept = Some(Kept {
+    }
+
+    // Appends a new piece, and keeps it with its reply.
+    fn append_new(&mut self, seq: u32, bytes: &[u8]) -> Result<TrialAnswer, AllocError>
+        ensures answer { IfOk result (λ answer. answer_model answer ≡ Reply (self.old.doc ++ bytes.now)) }
+        ensures done { OnOk result (self.new ≡ appended self.old seq bytes.now) }
+        ensures err { OnErr result (self.new ≡ self.old) }
+    {
+        let mut reply = self.doc.clone()?;
+        reply.extend_from_slice(bytes)?;
+        let kept = Kept {
             seq,
             request: bytes.to_vec(*self.doc.allocator())?,
-            reply: self.doc.clone()?,
-        });
-        Ok(TrialAnswer::Reply(self.doc.clone()?))
+            reply: reply.clone()?,
+        };
+        // The last growth that may be refused: up to here nothing has changed.
+        self.doc.extend_from_slice(bytes)?;
+        self.kept = Some(kept);
+        Ok(TrialAnswer::Reply(reply))
+    }
+
+    // The reply that is kept, again.
+    fn reply_again(&self) -> Result<TrialAnswer, AllocError>
+        requires { IsSome self.now.kept }
+        ensures { IfOk result (λ answer. answer_model answer ≡ Reply (kept_reply self.now.kept)) }
+    {
+        let Some(kept) = &self.kept else {
+            unreachable!();
+        };
+        Ok(TrialAnswer::Reply(kept.reply.clone()?))
     }
 }
 
 /// The document after pieces that are sent to a fresh slot, one after another.
 ///
+/// It is the bytes of the accepted pieces, each once, in their order. A piece is
+/// accepted after the pieces before it where its number is one more than how many
+/// of those were accepted, modulo 2^32.
+///
 /// # Errors
 ///
 /// `AllocError` where memory is refused.
-pub fn run_trial(alloc: Global, pieces: &[(u32, Vec<u8>)]) -> Result<Vec<u8>, AllocError> {
+pub fn run_trial(alloc: Global, pieces: &[(u32, Vec<u8>)]) -> Result<Vec<u8>, AllocError>
+    ensures { IfOk result
+        (λ doc. doc.items ≡ bytes_of (accepted (map (λ p. record { seq = p.0; bytes = p.1.items }) pieces.now))) }
+{
     let mut trial = Trial::fresh(alloc);
     for (seq, bytes) in pieces {
         trial.append(*seq, bytes)?;
