@@ -76,10 +76,6 @@ ServeEnds (Err Memory) = Unit {0}
 ServeEnds (Err NetworkFailed) = Unit {0}
 ServeEnds (Err other) = ⊥
 
--- `replay` may end with any fault; `Replays` says with which
-abbrev pub ReplayEnds : Result (Unit {0}) Fault → Type 0
-ReplayEnds done = Unit {0}
-
 -- the faults of `selftest`
 abbrev pub SelftestEnds : Result (Unit {0}) Fault → Type 0
 SelftestEnds (Ok done) = Unit {0}

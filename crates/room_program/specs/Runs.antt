@@ -12,7 +12,7 @@ use Rattle.room_words.specs.declared.job.Job.TheVariants.{Check, Init, Replay, S
 use Rattle.room_words.specs.declared.fault.WordsFault.{WordsFault}
 use Rattle.room_words.specs.declared.fault.WordsFault.TheVariants.{Usage, Help, Memory}
 use Rattle.room_words.specs.CommandLine.{ReadsAs}
-use Rattle.room_program.specs.Ends.{InitEnds, ReportEnds, ServeEnds, SelftestEnds, fault_in, ReplayEnds}
+use Rattle.room_program.specs.Ends.{InitEnds, ReportEnds, ServeEnds, SelftestEnds, fault_in}
 use Rattle.room_program.specs.Replays.{Replays}
 use Rattle.room_program.specs.Faults.{fault_line, fault_of}
 use Rattle.room_wire.specs.Writers.{AppendsFront}
@@ -62,8 +62,8 @@ RunsJob (Init db owner group) old new status =
     (new.input ≡ old.input) × (new.output ≡ old.output) × Ends (InitEnds (string_bytes owner) (string_bytes group)) old.errors new.errors status
 -- nothing is read, and the output is the report's
 RunsJob (Report db roster kind) old new status = (new.input ≡ old.input) × Ends ReportEnds old.errors new.errors status
--- messages from the input are answered to the output: `run_replay` says which answers
-RunsJob (Replay roster owner group) old new status = Ends ReplayEnds old.errors new.errors status
+-- messages from the input are answered to the output
+RunsJob (Replay roster owner group) old new status = RunsReplay (string_bytes owner) (string_bytes group) old new status
 -- neither stream is touched
 RunsJob (Serve db roster port count) old new status = (new.input ≡ old.input) × (new.output ≡ old.output) × Ends ServeEnds old.errors new.errors status
 RunsJob Selftest old new status = (new.input ≡ old.input) × Tries old new status

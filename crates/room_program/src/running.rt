@@ -1,7 +1,7 @@
 //! A run of the program, from its words to its exit status.
 ghost use Rattle.std.specs.Prelude.{◌≡◌};
 ghost use Rattle.room_words.specs.CommandLine.{texts_of};
-ghost use Rattle.room_program.specs.Ends.{InitEnds, ReplayEnds, ReportEnds, ServeEnds, fault_in};
+ghost use Rattle.room_program.specs.Ends.{InitEnds, ReportEnds, ServeEnds, fault_in};
 ghost use Rattle.room_program.specs.Runs.{Checks, Ends, EndsWith, RefusesWords, Runs, RunsJob, RunsReplay, Shows, Tries, streams};
 
 use crate::fault::Fault;
@@ -116,10 +116,9 @@ fn run_replay<R: Read, W: Write, E: Write>(
     output: &mut W,
     errors: &mut E,
 ) -> u8
-    ensures run { RunsReplay owner.now group.now
+    ensures { RunsReplay owner.now group.now
         (streams (R.remaining input.old) (W.contents output.old) (E.contents errors.old))
         (streams (R.remaining input.new) (W.contents output.new) (E.contents errors.new)) result }
-    ensures told { Ends ReplayEnds (E.contents errors.old) (E.contents errors.new) result }
 {
     let done = replay(rt, roster, owner, group, input, output);
     tell(done, errors)

@@ -218,3 +218,20 @@ fn each_call_trips_in_turn(rt: HostRuntime) -> Result<(), Fail> {
     }
     Ok(())
 }
+
+// `rt try --test --fail-alloc N` refuses growth N. Where it is one of the commit's own, nothing
+// has changed, and the same commit made again is whole.
+#[test]
+fn each_growth_of_a_commit_refused_in_turn(rt: HostRuntime) -> Result<(), Fail> {
+    let alloc = rt.alloc();
+    let name = file_name(alloc, "a")?;
+    let sid = session_name(alloc)?;
+    let changes = one_of_each(alloc)?;
+    let mut shelf = MemShelf::fresh(alloc, principal(alloc, "ann")?, principal(alloc, "eng")?)?;
+    if shelf.commit(changes.as_slice()).is_err() {
+        assert!(rt; read_back(&mut shelf, &name, &sid)? == (0, 0, 0, 0, 2));
+        shelf.commit(changes.as_slice())?;
+    }
+    assert!(rt; read_back(&mut shelf, &name, &sid)? == (2, 2, 1, 2, 4));
+    Ok(())
+}

@@ -67,7 +67,7 @@ fn run_of_five_pieces(rt: HostRuntime) -> Result<(), Fail> {
     Ok(())
 }
 
-// `rt try --test --fail-alloc 1..` refuses one growth in each run. Only the slot allocates
+// `rt try --test --fail-alloc N` refuses growth N. Only the slot allocates
 // here, so a refusal is one of its own: it leaves the slot as it was, and the same piece
 // sent again acts once.
 #[test]
