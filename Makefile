@@ -2,7 +2,7 @@
 # Only `make test` is a verdict.
 RT ?= rt
 
-.PHONY: demo build test growth bench
+.PHONY: demo build test growth wire tables crash bench
 
 # Answers the questions of examples/, and walks through a served room with curl where `make build` made the program.
 demo:
@@ -15,14 +15,29 @@ build:
 	mkdir -p build
 	cp crates/fileroom/out/fileroom build/fileroom
 
-# Proves and tests everything. Nothing else is a verdict.
-test:
+# Walks through a served room, and then proves and tests everything. Nothing else is a verdict.
+test: build
+	examples/walk
 	$(RT) ci
 
 # Refuses each growth of memory in turn over one question.
 growth: build
 	tests/growth/run
 
-# Times `check`.
+# Asks a served room everything over sockets, and compares each answer with docs/.
+wire: build
+	tests/wire/run
+
+# Reads a served room with the sqlite3 program, and serves a room that it made. Needs sqlite3.
+tables: build
+	tests/tables/run
+
+# Kills the server in the middle of writes: each request acts once.
+crash: build
+	tests/crash/run
+
+# Times `check`, a served room, `replay` and the reports. Needs sqlite3.
 bench: build
 	bench/check
+	bench/serve
+	bench/report

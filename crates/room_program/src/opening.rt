@@ -8,6 +8,7 @@ use sqlite::{Connection, Error, ErrorCode};
 use sqlite_std_file::File;
 use sqlite_store::FileStore;
 use std::fs;
+use std::io::ErrorKind;
 
 /// A connection to a file.
 pub(crate) type FileConnection = Connection<FileStore<File>>;
@@ -24,14 +25,25 @@ pub(crate) fn open(rt: &HostRuntime, path: &str) -> Result<FileConnection, Fault
     }
 }
 
-/// Takes the room in the file at this path. A file that is not there is no room, and is not made.
+/// Whether a file with bytes in it is at this path. To open an empty one would begin a database in it.
+fn is_begun(rt: &HostRuntime, path: &str) -> Result<bool, Fault>
+    ensures { IfErr result IsStoreFault }
+{
+    match fs::metadata(rt, path) {
+        Ok(found) => Ok(found.len() > 0),
+        Err(error) if error.kind() == ErrorKind::NotFound => Ok(false),
+        Err(error) if error.kind() == ErrorKind::OutOfMemory => Err(Fault::Memory),
+        Err(_) => Err(Fault::StoreFailed),
+    }
+}
+
+/// Takes the room in the file at this path. A file that is not there is no room and is not made, and
+/// an empty one is no room and stays empty.
 pub(crate) fn take_room(rt: &HostRuntime, path: &str) -> Result<SqlShelf<FileStore<File>>, Fault>
     ensures { IfErr result IsTakingFault }
 {
-    match fs::exists(rt, path) {
-        Ok(true) => {}
-        Ok(false) => return Err(Fault::NotARoom),
-        Err(_) => return Err(Fault::StoreFailed),
+    if !is_begun(rt, path)? {
+        return Err(Fault::NotARoom);
     }
     let connection = open(rt, path)?;
     match SqlShelf::adopt(rt.alloc(), connection) {
