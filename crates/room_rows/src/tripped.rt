@@ -60,16 +60,20 @@ fn append_with(alloc: Global, k: u64) -> Result<bool, Fail> {
     Ok(tripped)
 }
 
+/// How many calls an APPEND makes: with each of them failing it was played.
+fn count_failing_calls(alloc: Global) -> Result<u64, Fail> {
+    for k in 1..100u64 {
+        if !append_with(alloc, k)? {
+            return Ok(k - 1);
+        }
+    }
+    Err(Fail::new("every call fails"))
+}
+
 #[test]
 fn an_append_after_each_failing_call(rt: HostRuntime) -> Result<(), Fail> {
-    let mut failed = 0u32;
-    for k in 1..100u64 {
-        if !append_with(rt.alloc(), k)? {
-            break;
-        }
-        failed += 1;
-    }
-    // Reading the session, the slot, the rows on the path, and the commit: more than a few, and not all.
-    assert!(rt; 5 < failed && failed < 99, "{failed} calls");
+    let failed = count_failing_calls(rt.alloc())?;
+    // Reading the session, the slot, the rows on the path, and the commit: more than a few.
+    assert!(rt; 5 < failed, "{failed} calls");
     Ok(())
 }

@@ -13,7 +13,7 @@ use std::test::Fail;
 pub struct Step<'a>(pub &'a str, pub Ask<'a>, pub &'a str);
 
 /// How a desk takes steps.
-#[derive(Clone, Copy, Debug, PartialEq, Eq)]
+#[derive(Clone, Copy)]
 pub enum Way {
     OneByOne,
     AsRun,

@@ -11,9 +11,11 @@ use sqlite_disk::{Files, Memory};
 use std::alloc::Global;
 use std::test::Fail;
 
-type InFiles = Connection<FileStore<Memory>>;
+type FileConn = Connection<FileStore<Memory>>;
 
-fn opened(alloc: Global, log: Memory, db: Memory) -> Result<InFiles, Fail>
+type FileRoom = SqlShelf<FileStore<Memory>>;
+
+fn opened(alloc: Global, log: Memory, db: Memory) -> Result<FileConn, Fail>
     requires { IsTrue (memory_is_usable log) × IsTrue (memory_is_usable db) }
     ensures { IfOk result (λ conn. conn.in_transaction ≡ false) }
 {
@@ -23,7 +25,7 @@ fn opened(alloc: Global, log: Memory, db: Memory) -> Result<InFiles, Fail>
     }
 }
 
-fn closed(conn: InFiles) -> Result<Files<Memory>, Fail>
+fn closed(conn: FileConn) -> Result<Files<Memory>, Fail>
     ensures { IfOk result (λ files. IsTrue (memory_is_usable files.log) × IsTrue (memory_is_usable files.db)) }
 {
     match conn.close_files() {
@@ -33,7 +35,7 @@ fn closed(conn: InFiles) -> Result<Files<Memory>, Fail>
 }
 
 /// The files closed and opened again.
-fn reopened(alloc: Global, conn: InFiles) -> Result<InFiles, Fail>
+fn reopened(alloc: Global, conn: FileConn) -> Result<FileConn, Fail>
     ensures { IfOk result (λ conn. conn.in_transaction ≡ false) }
 {
     let Files { log, db } = closed(conn)?;
@@ -41,7 +43,7 @@ fn reopened(alloc: Global, conn: InFiles) -> Result<InFiles, Fail>
 }
 
 /// A fresh room in new files, which were no room before.
-fn room_in_files(alloc: Global) -> Result<SqlShelf<FileStore<Memory>>, Fail> {
+fn room_in_files(alloc: Global) -> Result<FileRoom, Fail> {
     let ann = named(alloc, "ann")?;
     let eng = named(alloc, "eng")?;
     let conn = opened(alloc, Memory::new(alloc), Memory::new(alloc))?;
@@ -55,7 +57,7 @@ fn room_in_files(alloc: Global) -> Result<SqlShelf<FileStore<Memory>>, Fail> {
 }
 
 /// The room that is there, after a second `init` was refused.
-fn room_found(alloc: Global, conn: InFiles) -> Result<SqlShelf<FileStore<Memory>>, Fail>
+fn room_found(alloc: Global, conn: FileConn) -> Result<FileRoom, Fail>
     requires { conn.in_transaction ≡ false }
 {
     let bob = named(alloc, "bob")?;
@@ -68,17 +70,25 @@ fn room_found(alloc: Global, conn: InFiles) -> Result<SqlShelf<FileStore<Memory>
     }
 }
 
-#[test]
-fn a_kept_reply_outlives_its_connection(rt: HostRuntime) -> Result<(), Fail> {
-    let alloc = rt.alloc();
+/// A room in files, with a document that was read.
+fn played(alloc: Global) -> Result<FileRoom, Fail> {
     let player = Player::over(alloc, room_in_files(alloc)?, Way::OneByOne);
-    let player = append_acts_once(player)?;
-    let conn = reopened(alloc, player.into_shelf().into_connection())?;
-    let player = Player::over(alloc, room_found(alloc, conn)?, Way::OneByOne);
-    let _ = player.play(&[
+    Ok(append_acts_once(player)?.into_shelf())
+}
+
+/// The latest reply is there, and the next request is accepted.
+fn goes_on(alloc: Global, shelf: FileRoom) -> Result<(), Fail> {
+    let _ = Player::over(alloc, shelf, Way::OneByOne).play(&[
         ann(0, 4, Order::Read("/plans/a"), PLAN),
         ann(0, 4, Order::Stat("/"), FALSE_RETRY),
         ann(0, 5, Order::Stat("/"), ROOT),
     ])?;
     Ok(())
+}
+
+#[test]
+fn a_kept_reply_outlives_its_connection(rt: HostRuntime) -> Result<(), Fail> {
+    let alloc = rt.alloc();
+    let conn = reopened(alloc, played(alloc)?.into_connection())?;
+    goes_on(alloc, room_found(alloc, conn)?)
 }
