@@ -1,7 +1,7 @@
 //! RENAME and lists from below, over the shelf in memory.
-use crate::{Command, Fault, Reply, list_upwards, node_at, plan};
 use room_acl::{Principal, Subject};
 use room_records::{MemShelf, Path, Shelf};
+use room_tree::{Command, Fault, Reply, list_upwards, node_at, plan};
 use std::alloc::Global;
 use std::test::Fail;
 
@@ -58,6 +58,32 @@ impl Play {
         self.run(Command::Rename { path, to })
     }
 
+    /// Folders that are made in turn, and no refusal.
+    fn make_all(&mut self, paths: &[&str]) -> Result<(), Fail> {
+        for path in paths {
+            must(is_done(&self.mkdir(path)?), path)?;
+        }
+        Ok(())
+    }
+
+    /// RENAME is done.
+    fn move_to(&mut self, path: &str, to: &str) -> Result<(), Fail> {
+        must(is_done(&self.rename(path, to)?), path)
+    }
+
+    /// RENAME is refused with this fault.
+    fn cannot_move(&mut self, path: &str, to: &str, fault: Fault) -> Result<(), Fail> {
+        must(refused_with(&self.rename(path, to)?, fault), path)
+    }
+
+    /// Whether each of these objects is there.
+    fn expect_there(&mut self, paths: &[&str], wanted: bool) -> Result<(), Fail> {
+        for path in paths {
+            must(self.is_there(path)? == wanted, path)?;
+        }
+        Ok(())
+    }
+
     fn is_there(&mut self, path: &str) -> Result<bool, Fail> {
         let path = self.at(path)?;
         let Ok(found) = node_at(&mut self.shelf, &path) else {
@@ -80,7 +106,10 @@ impl Play {
     fn list_by_command(&mut self, path: &str) -> Result<usize, Fail> {
         let path = self.at(path)?;
         match self.run(Command::GetList { path })? {
-            Reply::Entries { aclflag: _, entries } => Ok(entries.len()),
+            Reply::Entries {
+                aclflag: _,
+                entries,
+            } => Ok(entries.len()),
             _ => Err(Fail::from("no list")),
         }
     }
@@ -100,70 +129,88 @@ fn is_done(reply: &Reply) -> bool {
     }
 }
 
+/// Fails with the path that was asked for where a fact does not hold.
+fn must(holds: bool, path: &str) -> Result<(), Fail> {
+    if holds {
+        Ok(())
+    } else {
+        Err(Fail::new(format_args!("another answer at {path}")))
+    }
+}
+
 #[test]
 fn rename_moves_a_subtree(rt: HostRuntime) -> Result<(), Fail> {
     let mut play = Play::new(rt.alloc())?;
-    for path in ["/a", "/a/b", "/a/b/c", "/d"] {
-        assert!(rt; is_done(&play.mkdir(path)?));
-    }
+    play.make_all(&["/a", "/a/b", "/a/b/c", "/d"])?;
     let _ = play.create("/a/b/f")?;
-    assert!(rt; is_done(&play.rename("/a/b", "/d/e")?));
-    assert!(rt; play.is_there("/d/e")?);
-    assert!(rt; play.is_there("/d/e/c")?);
-    assert!(rt; play.is_there("/d/e/f")?);
-    assert!(rt; !play.is_there("/a/b")?);
-    assert!(rt; !play.is_there("/a/b/c")?);
-    assert!(rt; play.is_there("/a")?);
-    assert!(rt; is_done(&play.rename("/d/e/f", "/d/e/g")?));
-    assert!(rt; play.is_there("/d/e/g")?);
-    Ok(())
+    play.move_to("/a/b", "/d/e")?;
+    play.expect_there(&["/d/e", "/d/e/c", "/d/e/f", "/a"], true)?;
+    play.expect_there(&["/a/b", "/a/b/c"], false)?;
+    play.move_to("/d/e/f", "/d/e/g")?;
+    play.expect_there(&["/d/e/g"], true)
 }
+
+const REFUSED: [(&str, &str, Fault); 7] = [
+    ("/", "/x", Fault::Inval),
+    ("/a", "/", Fault::Inval),
+    ("/a", "/a", Fault::Inval),
+    ("/a", "/a/b/c", Fault::Inval),
+    ("/x", "/y", Fault::NoEnt),
+    ("/a", "/d", Fault::Exist),
+    ("/a", "/x/y", Fault::NoEnt),
+];
 
 #[test]
 fn rename_is_refused(rt: HostRuntime) -> Result<(), Fail> {
     let mut play = Play::new(rt.alloc())?;
-    for path in ["/a", "/a/b", "/d"] {
-        assert!(rt; is_done(&play.mkdir(path)?));
+    play.make_all(&["/a", "/a/b", "/d"])?;
+    for (path, to, fault) in REFUSED {
+        play.cannot_move(path, to, fault)?;
     }
-    assert!(rt; refused_with(&play.rename("/", "/x")?, Fault::Inval));
-    assert!(rt; refused_with(&play.rename("/a", "/")?, Fault::Inval));
-    assert!(rt; refused_with(&play.rename("/a", "/a")?, Fault::Inval));
-    assert!(rt; refused_with(&play.rename("/a", "/a/b/c")?, Fault::Inval));
-    assert!(rt; refused_with(&play.rename("/x", "/y")?, Fault::NoEnt));
-    assert!(rt; refused_with(&play.rename("/a", "/d")?, Fault::Exist));
-    assert!(rt; refused_with(&play.rename("/a", "/x/y")?, Fault::NoEnt));
-    assert!(rt; is_done(&play.rename("/a", "/ab")?));
-    Ok(())
+    play.move_to("/a", "/ab")
 }
+
+const DEEP: [&str; 19] = [
+    "/a",
+    "/a/b",
+    "/a/b/c",
+    "/a/b/c/d",
+    "/a/b/c/d/e",
+    "/a/b/c/d/e/f",
+    "/a/b/c/d/e/f/g",
+    "/a/b/c/d/e/f/g/h",
+    "/a/b/c/d/e/f/g/h/i",
+    "/a/b/c/d/e/f/g/h/i/j",
+    "/a/b/c/d/e/f/g/h/i/j/k",
+    "/a/b/c/d/e/f/g/h/i/j/k/l",
+    "/a/b/c/d/e/f/g/h/i/j/k/l/m",
+    "/a/b/c/d/e/f/g/h/i/j/k/l/m/n",
+    "/x",
+    "/x/y",
+    "/z",
+    "/z/y",
+    "/z/y/y",
+];
 
 #[test]
 fn rename_keeps_to_sixteen_names(rt: HostRuntime) -> Result<(), Fail> {
     let mut play = Play::new(rt.alloc())?;
-    let deep = "/a/b/c/d/e/f/g/h/i/j/k/l/m/n";
-    for path in [
-        "/a", "/a/b", "/a/b/c", "/a/b/c/d", "/a/b/c/d/e", "/a/b/c/d/e/f", "/a/b/c/d/e/f/g",
-        "/a/b/c/d/e/f/g/h", "/a/b/c/d/e/f/g/h/i", "/a/b/c/d/e/f/g/h/i/j", "/a/b/c/d/e/f/g/h/i/j/k",
-        "/a/b/c/d/e/f/g/h/i/j/k/l", "/a/b/c/d/e/f/g/h/i/j/k/l/m", deep, "/x", "/x/y", "/z", "/z/y", "/z/y/y",
-    ] {
-        assert!(rt; is_done(&play.mkdir(path)?));
-    }
-    assert!(rt; refused_with(&play.rename("/z", "/a/b/c/d/e/f/g/h/i/j/k/l/m/n/z")?, Fault::TooDeep));
-    assert!(rt; is_done(&play.rename("/x", "/a/b/c/d/e/f/g/h/i/j/k/l/m/n/x")?));
-    assert!(rt; play.is_there("/a/b/c/d/e/f/g/h/i/j/k/l/m/n/x/y")?);
-    assert!(rt; is_done(&play.mkdir("/w")?));
-    assert!(rt; refused_with(&play.rename("/a", "/w/a")?, Fault::TooDeep));
-    Ok(())
+    play.make_all(&DEEP)?;
+    play.cannot_move("/z", "/a/b/c/d/e/f/g/h/i/j/k/l/m/n/z", Fault::TooDeep)?;
+    play.move_to("/x", "/a/b/c/d/e/f/g/h/i/j/k/l/m/n/x")?;
+    play.expect_there(&["/a/b/c/d/e/f/g/h/i/j/k/l/m/n/x/y"], true)?;
+    play.make_all(&["/w"])?;
+    play.cannot_move("/a", "/w/a", Fault::TooDeep)
 }
 
 #[test]
 fn lists_from_below(rt: HostRuntime) -> Result<(), Fail> {
     let mut play = Play::new(rt.alloc())?;
-    for path in ["/a", "/a/b", "/a/b/c", "/d"] {
-        assert!(rt; is_done(&play.mkdir(path)?));
-    }
+    play.make_all(&["/a", "/a/b", "/a/b/c", "/d"])?;
     for path in ["/", "/a", "/a/b/c", "/d"] {
-        assert_eq!(rt; play.list_from_below(path)?, play.list_by_command(path)?);
-        assert_eq!(rt; play.list_from_below(path)?, 2);
+        let from_below = play.list_from_below(path)?;
+        must(from_below == play.list_by_command(path)?, path)?;
+        must(from_below == 2, path)?;
     }
     Ok(())
 }
