@@ -20,7 +20,7 @@ test: build
 	examples/walk
 	$(RT) ci
 
-# Refuses each growth of memory in turn over one question.
+# Refuses each growth of memory in turn, over questions and over a room.
 growth: build
 	tests/growth/run
 
@@ -36,8 +36,9 @@ tables: build
 crash: build
 	tests/crash/run
 
-# Times `check`, a served room, `replay` and the reports. Needs sqlite3.
+# Times `check`, a room in memory, a served room, `replay` and the reports. Needs sqlite3.
 bench: build
 	bench/check
+	bench/room
 	bench/serve
 	bench/report
