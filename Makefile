@@ -4,10 +4,12 @@ RT ?= rt
 
 .PHONY: demo build test growth wire tables crash bench
 
-# Answers the questions of examples/, and walks through a served room with curl where `make build` made the program.
+# Answers the questions of examples/, and walks through a served room with curl: with build/fileroom where `make build`
+# made it, and else with the toolchain's quick build, which proves nothing.
 demo:
 	@RT='$(RT)' examples/demo
-	@if [ -x build/fileroom ]; then examples/walk; else echo "demo: make build makes the program with which examples/walk serves a room"; fi
+	@if [ -x build/fileroom ]; then echo "demo: a walk with build/fileroom, proved and optimised"; examples/walk; \
+	else echo "demo: a walk with the quick build, which proves nothing (some minutes)"; RT='$(RT)' FILEROOM=examples/quick examples/walk; fi
 
 # Leaves the program, proved and optimised, at build/fileroom. The first time it takes some minutes.
 build:
