@@ -1,5 +1,5 @@
 -- Answers to the messages of a stream, one after another, by a history.
-use Rattle.std.proofs.Common.{◌≡◌, ◌≤◌, ℕ, List, [], ◌∷◌, refl, sym, subst, arith, map, take, Result, Ok, Err, Option, inl, inr}
+use Rattle.std.proofs.Common.{◌≡◌, ◌≤◌, ℕ, List, [], ◌∷◌, ◌++◌, refl, sym, ap, ◌∙◌, subst, arith, map, take, Result, Ok, Err, Option, inl, inr}
 use Rattle.matchit.specs.Router.{RouteOf}
 use Rattle.matchit.specs.Rows.{RowsOf}
 use Rattle.room_acl.specs.SubjectModel.{SubjectModel}
@@ -14,7 +14,9 @@ use Rattle.room_wire.specs.declared.routing.Route.{Route}
 use Rattle.room_wire.specs.declared.stop.Why.{Why}
 use Rattle.room_wire.specs.declared.stop.Why.TheVariants as W
 use Rattle.std.proofs.KnownBytes.{Appends-nil, Consumes-nil}
-use Rattle.room_wire.specs.AskOf.{AskModel, Check, ask_of, DecodesAsk}
+use Rattle.std.proofs.lemmas.List.{append_assoc}
+use Rattle.room_wire.specs.AskOf.{AskModel, Check, Event, ask_of, DecodesAsk}
+use Rattle.room_wire.specs.EventModel.{EventModel}
 use Rattle.room_wire.specs.CheckService.{fault_code, IsCheckAnswer}
 use Rattle.room_wire.specs.Ends.{Serves}
 use Rattle.room_wire.specs.Messages.{MessageModel}
@@ -35,6 +37,7 @@ module _ {S : Type 0} (is_honest is_declared : S → Type 0) (records : S → Re
     declared = λ h d. d;
     never_falls = omega arith;
     step = λ h d start past stand. (past, says start past, stand);
+    refused = λ h d away. refl;
   }
 
   pub question_stays : (q : QuestionModel) (s : S) (answered : AnswerModel) → IsCheckAnswer (Ok q) answered → Answered is_honest is_declared records failures (Ok (Check q)) s answered s
@@ -118,6 +121,33 @@ module _ {S : Type 0} (is_honest is_declared : S → Type 0) (records : S → Re
             (ran.0, (y.0, y.1, y.2, y.3, y.4, ran.1, y.6, y.7), ran.2);
       }
 
+  pub by_room_rows : (rows : RowsOf (RouteOf Route)) (users : List SubjectModel) (before after : S) (left later old new : Option (List ℕ)) (why : Why) (count : ℕ)
+      → rows ≡ room_rows → Serves (MayAnswer is_honest is_declared records failures rows users) before after left later old new why count
+      → Serves (MayAnswer is_honest is_declared records failures room_rows users) before after left later old new why count
+  by_room_rows rows users before after left later old new why count e x =
+      subst (λ r. Serves (MayAnswer is_honest is_declared records failures r users) before after left later old new why count) e x
+
 -- the end before the first read
+pub nothing_served : {S : Type 0} (may_answer : S → MessageModel → AnswerModel → S → Type 0) (s : S) (left old : Option (List ℕ)) → Serves may_answer s s left left old old W.Memory 0
+nothing_served may_answer s left old = ([], [], [], [], Consumes-nil left, (refl, refl), omega arith, (refl, refl, Appends-nil old))
+
 pub memory_end : (users : List SubjectModel) (start : Room) (past : History) (left old : Option (List ℕ)) → Serves (AnswersMessage users start) past past left left old old W.Memory 0
-memory_end users start past left old = ([], [], [], [], Consumes-nil left, (refl, refl), omega arith, (refl, refl, Appends-nil old))
+memory_end users start past left old = nothing_served (AnswersMessage users start) past left old
+
+-- an answer leaves the history or puts one event before it
+one_step : (start : Room) (past next : History) (ask : Result AskModel WireFault) (answered : AnswerModel) → AnswersOrDelays start past ask answered next → (events : List EventModel) × (next ≡ events ++ past)
+one_step start past next (Ok (Check q)) answered (inl h) = ([], h.1)
+one_step start past next (Ok (Event e)) answered (inl h) = (e ∷ [], h.1)
+one_step start past next (Err f) answered (inl h) = ([], h.1)
+one_step start past next (Ok (Check q)) answered (inr h) = ([], h.1)
+one_step start past next (Ok (Event e)) answered (inr h) = ([], h.1)
+one_step start past next (Err f) answered (inr h) = ([], h.1)
+
+-- a stream that was served goes on with the history
+pub goes_on : (users : List SubjectModel) (start : Room) (past : History) (ms : List MessageModel) (out : List ℕ) (next : History) → Outputs (AnswersMessage users start) past ms out next
+    → (events : List EventModel) × (next ≡ events ++ past)
+goes_on users start past [] out next h = ([], h.1)
+goes_on users start past (m ∷ ms) out next h =
+    let first = one_step start past h.1 (ask_by room_rows users m) h.0 h.3 in
+    let rest = goes_on users start h.1 ms h.2 next h.4 in
+    (rest.0 ++ first.0, rest.1 ∙ ap (λ b. rest.0 ++ b) first.1 ∙ sym (append_assoc rest.0 first.0 past))

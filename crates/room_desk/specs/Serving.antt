@@ -14,7 +14,7 @@ use Rattle.room_wire.specs.CheckService.{fault_code}
 use Rattle.room_wire.specs.Messages.{MessageModel, fields_of}
 use Rattle.room_wire.specs.Routing.{room_rows}
 use Rattle.room_wire.specs.Serving.{Outputs}
-use Rattle.room_desk.specs.AnswerModel.{AnswerModel, Reply, Refused}
+use Rattle.room_desk.specs.AnswerModel.{AnswerModel, Reply, Refused, IsTurnedAway}
 use Rattle.room_desk.specs.History.{History, answer_to}
 use Rattle.room_desk.specs.Representation.{RepresentsHistory}
 
@@ -40,13 +40,14 @@ AnswersMessage users start past m answered next = AnswersOrDelays start past (as
 abbrev pub IsRun : List SubjectModel → Room → History → List MessageModel → (out : List ℕ) → History → Type 0
 IsRun users start past ms out next = Outputs (AnswersMessage users start) past ms out next
 
--- what a shelf is after an answer: the rows stand for the history before it, or for one event more
+-- what a shelf is after an answer: the rows stand for the history before it, or for one event more; after a refusal they are the same rows
 pub record Answered {S : Type 0} (is_honest is_declared : S → Type 0) (records : S → Records) (failures : S → ℕ) (ask : Result AskModel WireFault) (before : S) (answered : AnswerModel) (after : S) : Type 0 where
   pub was_honest : is_honest after → is_honest before
   pub declared : is_honest after → is_declared before → is_declared after
   pub never_falls : failures before ≤ failures after
   pub step : is_honest after → is_declared before → (start : Room) (past : History) → RepresentsHistory start (records before) past →
       (next : History) × AnswersOrDelays start past ask answered next × RepresentsHistory start (records after) next
+  pub refused : is_honest after → is_declared before → IsTurnedAway answered → records after ≡ records before
 
 -- what a message may be answered over a shelf
 abbrev pub MayAnswer : {S : Type 0} (is_honest is_declared : S → Type 0) (records : S → Records) (failures : S → ℕ) → RowsOf (RouteOf Route) → List SubjectModel → S → MessageModel → AnswerModel → S → Type 0

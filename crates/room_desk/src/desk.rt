@@ -103,6 +103,7 @@ impl<S: Shelf> Desk<S> {
     pub fn run(&mut self, events: &[Event]) -> Result<Vec<Answer>, AllocError>
         ensures was_honest { S.is_honest self.new → S.is_honest self.old }
         ensures declared { S.is_honest self.new → S.is_declared self.old → S.is_declared self.new }
+        ensures never_falls { S.failures self.old ≤ S.failures self.new }
         ensures run { S.is_honest self.new → S.is_declared self.old → (start : Room) (past : History) → RepresentsHistory start (S.records self.old) past →
             IfOk result (λ answers. (next : History)
             × Run start past (map event_model events.now) (map answer_model answers.items) next

@@ -5,7 +5,7 @@ ghost use Rattle.room_wire.specs.Ends.{Serves};
 ghost use Rattle.room_wire.specs.Routing.{room_rows};
 ghost use Rattle.room_desk.specs.History.{History};
 ghost use Rattle.room_desk.specs.Representation.{RepresentsHistory};
-ghost use Rattle.room_desk.specs.Serving.{AnswersMessage};
+ghost use Rattle.room_desk.specs.Serving.{AnswersMessage, MayAnswer};
 
 use crate::desk::Desk;
 use crate::service::Lookup;
@@ -29,6 +29,8 @@ impl<S: Shelf> Desk<S> {
         ensures was_honest { S.is_honest self.new → S.is_honest self.old }
         ensures declared { S.is_honest self.new → S.is_declared self.old → S.is_declared self.new }
         ensures never_falls { S.failures self.old ≤ S.failures self.new }
+        ensures messages { Serves (MayAnswer S.is_honest S.is_declared S.records S.failures room_rows roster.now) self.old self.new
+            (R.remaining reader.old) (R.remaining reader.new) (W.contents writer.old) (W.contents writer.new) result.why result.count }
         ensures run { S.is_honest self.new → S.is_declared self.old → (start : Room) (past : History) → RepresentsHistory start (S.records self.old) past →
             (next : History) × Serves (AnswersMessage roster.now start) past next (R.remaining reader.old) (R.remaining reader.new)
             (W.contents writer.old) (W.contents writer.new) result.why result.count
@@ -57,6 +59,8 @@ impl<S: Shelf> Desk<S> {
         ensures was_honest { S.is_honest self.new → S.is_honest self.old }
         ensures declared { S.is_honest self.new → S.is_declared self.old → S.is_declared self.new }
         ensures never_falls { S.failures self.old ≤ S.failures self.new }
+        ensures messages { Serves (MayAnswer S.is_honest S.is_declared S.records S.failures room_rows lookup.now.roster.now) self.old self.new
+            (R.remaining reader.old) (R.remaining reader.new) (W.contents writer.old) (W.contents writer.new) result.why result.count }
         ensures run { S.is_honest self.new → S.is_declared self.old → (start : Room) (past : History) → RepresentsHistory start (S.records self.old) past →
             (next : History) × Serves (AnswersMessage lookup.now.roster.now start) past next (R.remaining reader.old) (R.remaining reader.new)
             (W.contents writer.old) (W.contents writer.new) result.why result.count

@@ -1,6 +1,7 @@
 //! Serving a room over connections.
-ghost use Rattle.std.specs.Prelude.{◌≤◌};
+ghost use Rattle.std.specs.Prelude.{◌≡◌, ◌≤◌, ◌++◌, List};
 ghost use Rattle.room_records.specs.Room.{Room};
+ghost use Rattle.room_wire.specs.EventModel.{EventModel};
 ghost use Rattle.room_desk.specs.History.{History};
 ghost use Rattle.room_desk.specs.Representation.{RepresentsHistory};
 
@@ -36,13 +37,13 @@ fn finish(stream: &TcpStream) {
     }
 }
 
-/// Serves one connection. However it ends, the room is left with a history.
+/// Serves one connection. However it ends, the room's history has gone on.
 fn serve_stream<S: Shelf>(stream: &TcpStream, desk: &mut Desk<S>, roster: &Roster)
     ensures was_honest { S.is_honest desk.new → S.is_honest desk.old }
     ensures declared { S.is_honest desk.new → S.is_declared desk.old → S.is_declared desk.new }
     ensures never_falls { S.failures desk.old ≤ S.failures desk.new }
     ensures run { S.is_honest desk.new → S.is_declared desk.old → (start : Room) (past : History) → RepresentsHistory start (S.records desk.old) past →
-        (next : History) × RepresentsHistory start (S.records desk.new) next }
+        (next : History) × (events : List EventModel) × (next ≡ events ++ past) × RepresentsHistory start (S.records desk.new) next }
 {
     // An answer goes out at once, not with the next one.
     let _ = stream.set_nodelay(true);
@@ -53,7 +54,7 @@ fn serve_stream<S: Shelf>(stream: &TcpStream, desk: &mut Desk<S>, roster: &Roste
 }
 
 /// Serves `count` connections, one after another. One that ends badly does not end it: an error
-/// comes only where a connection can't be accepted. However it ends, the room is left with a history.
+/// comes only where a connection can't be accepted. However it ends, the room's history has gone on.
 pub fn serve_listener<S: Shelf>(
     listener: &TcpListener,
     desk: &mut Desk<S>,
@@ -64,7 +65,7 @@ pub fn serve_listener<S: Shelf>(
     ensures declared { S.is_honest desk.new → S.is_declared desk.old → S.is_declared desk.new }
     ensures never_falls { S.failures desk.old ≤ S.failures desk.new }
     ensures run { S.is_honest desk.new → S.is_declared desk.old → (start : Room) (past : History) → RepresentsHistory start (S.records desk.old) past →
-        (next : History) × RepresentsHistory start (S.records desk.new) next }
+        (next : History) × (events : List EventModel) × (next ≡ events ++ past) × RepresentsHistory start (S.records desk.new) next }
 {
     for _ in 0..count {
         let (stream, _) = listener.accept()?;

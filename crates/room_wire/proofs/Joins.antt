@@ -35,7 +35,7 @@ never_none bytes never m rest x = never [] m rest (record { lawful = x.lawful; w
 pub refused_ends : (bytes rest : List ℕ) (ms : List MessageModel) (out : List ℕ) (after a b c : Option (List ℕ)) (why : Why) → Appends a b out → Follows bytes ms rest → NoMessage rest
     → 0 < length rest → IsAtEnd after ⊎ NeverMessage rest → Refused b c why → Wrote bytes rest ms out after a c why
 refused_ends bytes rest ms out after a b c BadMessage x y z some end h = (Appends-trans a b c out bad_answer x h, y, z, some, end)
-refused_ends bytes rest ms out after a b c WriteFailed x y z some end h = inr (y, z, some, breaks a b c out bad_answer x h)
+refused_ends bytes rest ms out after a b c WriteFailed x y z some end h = inr (y, z, some, end, breaks a b c out bad_answer x h)
 refused_ends bytes rest ms out after a b c Closed x y z some end h = absurd h
 refused_ends bytes rest ms out after a b c ReadFailed x y z some end h = absurd h
 refused_ends bytes rest ms out after a b c Memory x y z some end h = absurd h

@@ -23,7 +23,7 @@ Wrote bytes rest ms out after old new ReadFailed = Appends old new out × Follow
 -- a beginning of the answers so far or, where the answer 40 was due, of all of them and that
 Wrote bytes rest ms out after old new WriteFailed =
     ((Follows bytes ms rest ⊎ Ended bytes ms rest) × AppendsFront old new out)
-    ⊎ (Follows bytes ms rest × NoMessage rest × (0 < length rest) × AppendsFront old new (out ++ bad_answer))
+    ⊎ (Follows bytes ms rest × NoMessage rest × (0 < length rest) × (IsAtEnd after ⊎ NeverMessage rest) × AppendsFront old new (out ++ bad_answer))
 -- nothing
 Wrote bytes rest ms out after old new Memory = (bytes ≡ []) × (ms ≡ []) × Appends old new []
 

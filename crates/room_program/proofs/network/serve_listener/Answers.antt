@@ -1,4 +1,5 @@
-use Rattle.std.proofs.Common.{arith}
+use Rattle.std.proofs.Common.{List, [], ◌++◌, refl, sym, ap, ◌∙◌, arith}
+use Rattle.std.proofs.lemmas.List.{append_assoc}
 use Rattle.room_program.proofs.network.serve_listener.Goals as goal
 
 pub loop-init : goal.loop-init
@@ -6,7 +7,7 @@ loop-init g c = record {
   was_honest = λ h. h;
   declared = λ h d. d;
   never_falls = omega (arith);
-  run = λ h d start past stand. (past, stand);
+  run = λ h d start past stand. (past, [], refl, stand);
 }
 
 pub loop-preserved : goal.loop-preserved
@@ -17,7 +18,8 @@ loop-preserved g c = record {
   run = λ h d start past stand.
       let before = c.serve_stream.ensures.was_honest h in
       let so_far = c.loop.invariant.run before d start past stand in
-      c.serve_stream.ensures.run h (c.loop.invariant.declared before d) start so_far.0 so_far.1;
+      let more = c.serve_stream.ensures.run h (c.loop.invariant.declared before d) start so_far.0 so_far.3 in
+      (more.0, more.1 ++ so_far.1, more.2 ∙ ap (λ b. more.1 ++ b) so_far.2 ∙ sym (append_assoc more.1 so_far.1 past), more.3);
 }
 
 pub returns-in_err-stream-clause-was_honest : goal.returns-in_err-stream-clause-was_honest

@@ -8,6 +8,7 @@ loop-event-preserved g c = record {
   count = omega (arith, c.loop-event.invariant.count, c.in-Ok.ensures.len);
   was_honest = λ h. c.loop-event.invariant.was_honest (c.handle.ensures.was_honest h);
   declared = λ h d. c.handle.ensures.declared h (c.loop-event.invariant.declared (c.handle.ensures.was_honest h) d);
+  never_falls = omega (arith, c.loop-event.invariant.never_falls, c.handle.ensures.never_falls);
   run = λ h d start past stand.
       let before = c.handle.ensures.was_honest h in
       let so_far = c.loop-event.invariant.run before d start past stand in

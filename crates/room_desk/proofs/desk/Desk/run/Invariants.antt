@@ -13,6 +13,7 @@ invariant-loop-event g l = record {
   count : vec_len l.answers ≡ l.event-index;
   was_honest : g.S.Shelf.is_honest l.self → g.S.Shelf.is_honest l.fn.self;
   declared : g.S.Shelf.is_honest l.self → g.S.Shelf.is_declared l.fn.self → g.S.Shelf.is_declared l.self;
+  never_falls : g.S.Shelf.failures l.fn.self ≤ g.S.Shelf.failures l.self;
   run : g.S.Shelf.is_honest l.self → g.S.Shelf.is_declared l.fn.self → (start : Room) (past : History) → RepresentsHistory start (g.S.Shelf.records l.fn.self) past →
       (next : History) × Run start past (map event_model (take l.event-index l.events)) (map answer_model l.answers.items) next × RepresentsHistory start (g.S.Shelf.records l.self) next;
 }

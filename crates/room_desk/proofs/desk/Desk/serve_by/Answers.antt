@@ -1,4 +1,4 @@
-use Rattle.room_desk.proofs.Messages.{served_stream}
+use Rattle.room_desk.proofs.Messages.{served_stream, by_room_rows}
 use Rattle.room_desk.proofs.desk.Desk.serve_by.Goals as goal
 
 pub returns-clause-was_honest : goal.returns-clause-was_honest
@@ -16,3 +16,7 @@ returns-clause-never_falls g c =
 pub returns-clause-run : goal.returns-clause-run
 returns-clause-run g c =
     (served_stream g.S.Shelf.is_honest g.S.Shelf.is_declared g.S.Shelf.records g.S.Shelf.failures c.args.lookup.now.routes c.args.lookup.now.roster.now _ _ _ _ _ _ _ _ c.requires.rows c.serve_messages.ensures).run
+
+pub returns-clause-messages : goal.returns-clause-messages
+returns-clause-messages g c =
+    by_room_rows g.S.Shelf.is_honest g.S.Shelf.is_declared g.S.Shelf.records g.S.Shelf.failures c.args.lookup.now.routes c.args.lookup.now.roster.now _ _ _ _ _ _ _ _ c.requires.rows c.serve_messages.ensures

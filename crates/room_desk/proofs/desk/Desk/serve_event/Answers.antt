@@ -6,4 +6,5 @@ returns g c = record {
   declared = c.handle.ensures.declared;
   never_falls = c.handle.ensures.never_falls;
   step = c.handle.ensures.step;
+  refused = c.handle.ensures.refused;
 }
