@@ -1,7 +1,7 @@
 //! What messages to a room ask: which targets are routes, and which refusal comes first.
 use room_acl::Principal;
 use room_records::Roster;
-use room_wire::{Ask, Event, Routes, Take, WireFault, decode, take_message};
+use room_wire::{Ask, Event, Message, Routes, Take, WireFault, decode, take_message};
 use std::alloc::Global;
 use std::test::Fail;
 
@@ -32,39 +32,46 @@ pub fn roster(alloc: Global) -> Result<Roster, Fail> {
 
 /// What the message at the front of these bytes asks, in short.
 fn asked(alloc: Global, bytes: &str) -> Result<String, Fail> {
+    match take_message(bytes.as_bytes()) {
+        Take::Whole(message) => told(alloc, &message),
+        _ => Err(Fail::new("no message")),
+    }
+}
+
+fn told(alloc: Global, message: &Message<'_>) -> Result<String, Fail> {
     let routes = Routes::new(alloc)?;
     let roster = roster(alloc)?;
-    let Take::Whole(message) = take_message(bytes.as_bytes()) else {
-        return Err(Fail::new("no message"));
-    };
-    Ok(match decode(alloc, &message, &routes, &roster) {
-        Ok(Ask::Check(_)) => format!(in alloc; "check")?,
-        Ok(Ask::Event(Event::Open { subject, slots, .. })) => {
-            format!(in alloc;
-                "open {} {} {}",
-                subject.name.text(),
-                subject.groups.len(),
-                slots.get()
-            )?
+    match decode(alloc, message, &routes, &roster) {
+        Ok(Ask::Check(_question)) => Ok(String::from_str(alloc, "check")?),
+        Ok(Ask::Event(event)) => event_told(alloc, &event),
+        Err(fault) => fault_told(alloc, fault),
+    }
+}
+
+fn event_told(alloc: Global, event: &Event) -> Result<String, Fail> {
+    Ok(match event {
+        Event::Open { subject, slots, .. } => {
+            let name = subject.name.text();
+            format!(in alloc; "open {name} {} {}", subject.groups.len(), slots.get())?
         }
-        Ok(Ask::Event(Event::Close { subject, .. })) => {
-            format!(in alloc; "close {}", subject.name.text())?
-        }
-        Ok(
-            Ask::Event(
-                Event::Slot {
-                    subject,
-                    slot,
-                    seq,
-                    ..
-                },
-            ),
-        ) => format!(in alloc; "slot {} {slot} {seq}", subject.name.text())?,
-        Err(WireFault::BadRoute) => format!(in alloc; "41")?,
-        Err(WireFault::UnknownUser) => format!(in alloc; "42")?,
-        Err(WireFault::BadRequest) => format!(in alloc; "43")?,
-        Err(WireFault::Memory) => format!(in alloc; "30")?,
+        Event::Close { subject, .. } => format!(in alloc; "close {}", subject.name.text())?,
+        Event::Slot {
+            subject,
+            slot,
+            seq,
+            ..
+        } => format!(in alloc; "slot {} {slot} {seq}", subject.name.text())?,
     })
+}
+
+fn fault_told(alloc: Global, fault: WireFault) -> Result<String, Fail> {
+    let code = match fault {
+        WireFault::BadRoute => "41",
+        WireFault::UnknownUser => "42",
+        WireFault::BadRequest => "43",
+        WireFault::Memory => "30",
+    };
+    Ok(String::from_str(alloc, code)?)
 }
 
 /// A message of this line, with these fields and this body; `@` stands for a session's name.

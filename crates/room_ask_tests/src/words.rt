@@ -1,5 +1,5 @@
-//! The command line, and the faults that need no room in a file.
-use room_program::{Job, ReportKind, WordsFault, read_words, run_program};
+//! The command line.
+use room_words::{Job, ReportKind, WordsFault, read_words};
 use std::alloc::{AllocError, Global};
 use std::test::Fail;
 
@@ -95,64 +95,6 @@ fn no_rows_of_the_table(rt: HostRuntime) -> Result<(), Fail> {
             ),
             "{texts:?}"
         );
-    }
-    Ok(())
-}
-
-/// Faults in the order in which they are looked for: a name before a roster, a roster before a store.
-/// Nothing is read or written but the line.
-#[test]
-fn faults_without_a_room(rt: HostRuntime) -> Result<(), Fail> {
-    let alloc = rt.alloc();
-    let none = "/no/such/folder/file";
-    for (texts, fault) in [
-        (
-            ["init", none, "a b", "eng"].as_slice(),
-            "fileroom: bad name\n",
-        ),
-        (["init", none, "ann", ""].as_slice(), "fileroom: bad name\n"),
-        (
-            ["init", none, "ann", "eng"].as_slice(),
-            "fileroom: store failed\n",
-        ),
-        (
-            ["replay", none, "ann", "a b"].as_slice(),
-            "fileroom: bad name\n",
-        ),
-        (
-            ["replay", none, "ann", "eng"].as_slice(),
-            "fileroom: cannot read roster\n",
-        ),
-        (
-            ["report", none, none, "access"].as_slice(),
-            "fileroom: cannot read roster\n",
-        ),
-        (
-            ["serve", none, none, "1", "1"].as_slice(),
-            "fileroom: cannot read roster\n",
-        ),
-        (
-            ["report", none, "/proc/version", "lists"].as_slice(),
-            "fileroom: bad roster\n",
-        ),
-        (
-            ["report", none, "/dev/null", "lists"].as_slice(),
-            "fileroom: bad roster\n",
-        ),
-    ] {
-        let words = words_of(alloc, texts)?;
-        let mut output = Vec::new(alloc);
-        let mut errors = Vec::new(alloc);
-        let ended = run_program(
-            &rt,
-            words.as_slice(),
-            &mut "".as_bytes(),
-            &mut output,
-            &mut errors,
-        );
-        assert_eq!(rt; ended, 1, "{texts:?}");
-        assert_eq!(rt; output.len(), 0, "{texts:?}");
-        assert_eq!(rt; errors.as_slice(), fault.as_bytes(), "{texts:?}");
     }
     Ok(())
 }
