@@ -1,4 +1,5 @@
-//! Worked examples of a room, as events: over the shelf in memory and over tables in memory, one by one and as a run.
+//! Worked examples of a room, as events: over the shelf in memory and over tables in memory, one by one,
+//! as a run and as a stream of bytes, and by the plain body of histories.
 #![tactic(auto)]
 
 #[cfg(test)]
@@ -13,6 +14,8 @@ mod refusals;
 mod reopened;
 #[cfg(test)]
 mod rows;
+#[cfg(test)]
+mod streams;
 #[cfg(test)]
 mod tests;
 #[cfg(test)]

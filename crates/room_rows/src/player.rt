@@ -1,6 +1,9 @@
 //! Desks over each shelf, and steps that are played on them.
 use crate::orders::{Ask, event, named};
+use crate::streams::as_stream;
 use room_desk::{Answer, Desk};
+use room_history::answer_to;
+use room_model::PlainRoom;
 use room_records::{MemShelf, Shelf};
 use room_sql::SqlShelf;
 use room_wire::{Event, refusal_text};
@@ -12,19 +15,22 @@ use std::test::Fail;
 #[derive(Clone, Copy)]
 pub struct Step<'a>(pub &'a str, pub Ask<'a>, pub &'a str);
 
-/// How a desk takes steps.
+/// How steps are taken: by a desk, or by the plain body of histories, which has no shelf.
 #[derive(Clone, Copy)]
 pub enum Way {
     OneByOne,
     AsRun,
+    AsStream,
+    AsHistory,
 }
 
-/// A shelf that has a room, and how a desk over it takes steps.
+/// A shelf that has a room, and how steps are taken. The past has the plain body's events, the latest first.
 #[derive(Drop)]
 pub struct Player<S: Shelf> {
     alloc: Global,
     shelf: S,
     way: Way,
+    past: Vec<Event>,
 }
 
 /// The shelf in memory, of a fresh room of `ann` and the group `eng`.
@@ -93,9 +99,25 @@ fn as_run<S: Shelf>(alloc: Global, desk: &mut Desk<S>, steps: &[Step]) -> Result
     Ok(())
 }
 
+fn as_history(alloc: Global, past: &mut Vec<Event>, steps: &[Step]) -> Result<(), Fail> {
+    let start = PlainRoom::fresh(alloc, named(alloc, "ann")?, named(alloc, "eng")?)?;
+    for step in steps {
+        let Step(caller, ask, _) = step;
+        let event = event(alloc, caller, ask)?;
+        expect(step, &answer_to(alloc, &start, past.as_slice(), &event)?)?;
+        past.insert(0, event)?;
+    }
+    Ok(())
+}
+
 impl<S: Shelf + Drop> Player<S> {
     pub fn over(alloc: Global, shelf: S, way: Way) -> Player<S> {
-        Player { alloc, shelf, way }
+        Player {
+            alloc,
+            shelf,
+            way,
+            past: Vec::new(alloc),
+        }
     }
 
     pub fn into_shelf(self) -> S {
@@ -103,21 +125,35 @@ impl<S: Shelf + Drop> Player<S> {
             alloc: _,
             shelf,
             way: _,
+            past: _,
         } = self;
         shelf
     }
 
-    /// A new desk takes the steps in turn, and fails at the first answer that is not the wanted one.
+    /// A new desk takes the steps in turn, or the plain body does, and the first answer that is not the wanted one fails.
     pub fn play(self, steps: &[Step]) -> Result<Player<S>, Fail> {
-        let Player { alloc, shelf, way } = self;
+        let Player {
+            alloc,
+            shelf,
+            way,
+            past,
+        } = self;
+        let mut past = past;
         let mut desk = Desk::new(alloc, shelf);
         let end = match way {
             Way::OneByOne => one_by_one(alloc, &mut desk, steps),
             Way::AsRun => as_run(alloc, &mut desk, steps),
+            Way::AsStream => as_stream(alloc, &mut desk, steps),
+            Way::AsHistory => as_history(alloc, &mut past, steps),
         };
         let shelf = desk.into_shelf();
         match end {
-            Ok(()) => Ok(Player { alloc, shelf, way }),
+            Ok(()) => Ok(Player {
+                alloc,
+                shelf,
+                way,
+                past,
+            }),
             Err(fail) => Err(fail),
         }
     }

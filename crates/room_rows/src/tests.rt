@@ -1,9 +1,9 @@
-//! Each row over each shelf, one by one and as a run.
+//! Each row over each shelf, one by one, as a run and as a stream of bytes; and each computed by the plain body.
 use crate::player::{Way, over_memory, over_tables};
 use crate::rows;
 use std::test::Fail;
 
-const WAYS: [Way; 2] = [Way::OneByOne, Way::AsRun];
+const WAYS: [Way; 4] = [Way::OneByOne, Way::AsRun, Way::AsStream, Way::AsHistory];
 
 #[test]
 fn open_and_make_a_folder(rt: HostRuntime) -> Result<(), Fail> {
