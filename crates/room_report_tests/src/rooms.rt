@@ -1,6 +1,8 @@
 //! Rooms and rosters for the tests.
 use room_acl::{Entry, Flags, Kind, ListFlags, Mask, Principal, Who};
 use room_records::{Change, FileName, MemShelf, Node, Roster, Shelf};
+use room_sql::SqlShelf;
+use sqlite::{Connection, MemStore};
 use std::alloc::Global;
 use std::test::Fail;
 
@@ -11,6 +13,16 @@ pub fn principal(alloc: Global, text: &str) -> Result<Principal, Fail> {
 /// The room of owner `ann` and group `eng`, as it is made.
 pub fn fresh(alloc: Global) -> Result<MemShelf, Fail> {
     Ok(MemShelf::fresh(alloc, principal(alloc, "ann")?, principal(alloc, "eng")?)?)
+}
+
+/// The same room in tables in memory.
+pub fn fresh_tables(alloc: Global) -> Result<SqlShelf<MemStore>, Fail> {
+    let ann = principal(alloc, "ann")?;
+    let eng = principal(alloc, "eng")?;
+    match SqlShelf::init(alloc, Connection::open_in_memory(alloc)?, &ann, &eng) {
+        Ok(shelf) => Ok(shelf),
+        Err((fault, _)) => Err(Fail::new(format_args!("no room: {fault:?}"))),
+    }
 }
 
 /// `ann` in `eng`, `bob` in `eng` and `staff`, `eng` in none; added out of order.
@@ -56,13 +68,19 @@ pub fn entry(allow: bool, flags: u8, mask: u32, who: Who) -> Result<Entry, Fail>
     Ok(Entry::new(allow, flags, mask, who).ok_or("no entry")?)
 }
 
-/// The fresh room with a folder `/plans`.
-pub fn with_plans(alloc: Global) -> Result<MemShelf, Fail> {
-    let mut shelf = fresh(alloc)?;
+/// A folder `/plans` in a fresh room.
+pub fn make_plans<S: Shelf>(alloc: Global, shelf: &mut S) -> Result<(), Fail> {
     let changes = vec![in alloc;
         Change::PutNext(3),
         object(alloc, 2, 1, "plans", Kind::Folder, 1)?,
     ]?;
     shelf.commit(changes.as_slice())?;
+    Ok(())
+}
+
+/// The fresh room with a folder `/plans`.
+pub fn with_plans(alloc: Global) -> Result<MemShelf, Fail> {
+    let mut shelf = fresh(alloc)?;
+    make_plans(alloc, &mut shelf)?;
     Ok(shelf)
 }

@@ -1,21 +1,36 @@
-//! The reports, byte for byte.
-use crate::rooms::{entry, fresh, object, principal, roster, with_plans};
+//! The reports over both shelves, byte for byte.
+use crate::rooms::{entry, fresh, fresh_tables, make_plans, object, principal, roster};
 use room_acl::{Entry, Kind, Who};
-use room_records::{Change, MemShelf, Roster, Shelf};
+use room_records::{Change, Roster, Shelf};
 use room_report::{access_report, list_report};
 use std::alloc::Global;
 use std::test::Fail;
 
-fn access_of(alloc: Global, shelf: &mut MemShelf, roster: &Roster) -> Result<Vec<u8>, Fail> {
-    let mut written = Vec::new(alloc);
-    access_report(alloc, shelf, roster, &mut written)?;
-    Ok(written)
+fn is_written(written: &[u8], wanted: &str) -> Result<(), Fail> {
+    if written == wanted.as_bytes() {
+        return Ok(());
+    }
+    match str::from_utf8(written) {
+        Ok(written) => Err(Fail::new(format_args!("{written} and not {wanted}"))),
+        Err(_) => Err(Fail::new("a report that is no text")),
+    }
 }
 
-fn lists_of(alloc: Global, shelf: &mut MemShelf) -> Result<Vec<u8>, Fail> {
+fn has_access<S: Shelf>(
+    alloc: Global,
+    shelf: &mut S,
+    roster: &Roster,
+    wanted: &str,
+) -> Result<(), Fail> {
+    let mut written = Vec::new(alloc);
+    access_report(alloc, shelf, roster, &mut written)?;
+    is_written(written.as_slice(), wanted)
+}
+
+fn has_lists<S: Shelf>(alloc: Global, shelf: &mut S, wanted: &str) -> Result<(), Fail> {
     let mut written = Vec::new(alloc);
     list_report(alloc, shelf, &mut written)?;
-    Ok(written)
+    is_written(written.as_slice(), wanted)
 }
 
 pub const PLANS: &str = "\
@@ -27,17 +42,17 @@ pub const PLANS: &str = "\
 00000000 eng                              /plans
 ";
 
+fn access_of_plans<S: Shelf>(alloc: Global, shelf: &mut S) -> Result<(), Fail> {
+    make_plans(alloc, shelf)?;
+    has_access(alloc, shelf, &roster(alloc)?, PLANS)?;
+    has_access(alloc, shelf, &roster(alloc)?, PLANS)?;
+    has_access(alloc, shelf, &Roster::empty(alloc), "")
+}
+
 #[test]
 fn access_report_of_a_folder(rt: HostRuntime) -> Result<(), Fail> {
-    let alloc = rt.alloc();
-    let mut shelf = with_plans(alloc)?;
-    let written = access_of(alloc, &mut shelf, &roster(alloc)?)?;
-    assert_eq!(rt; written.as_slice(), PLANS.as_bytes());
-    let again = access_of(alloc, &mut shelf, &roster(alloc)?)?;
-    assert_eq!(rt; again.as_slice(), PLANS.as_bytes());
-    let none = access_of(alloc, &mut shelf, &Roster::empty(alloc))?;
-    assert!(rt; none.is_empty());
-    Ok(())
+    access_of_plans(rt.alloc(), &mut fresh(rt.alloc())?)?;
+    access_of_plans(rt.alloc(), &mut fresh_tables(rt.alloc())?)
 }
 
 pub const PLANS_LISTS: &str = "\
@@ -49,19 +64,21 @@ d 1 ann                              eng                              /plans
   A 83 001200a9 GROUP@
 ";
 
+fn lists_of_plans<S: Shelf>(alloc: Global, shelf: &mut S) -> Result<(), Fail> {
+    make_plans(alloc, shelf)?;
+    has_lists(alloc, shelf, PLANS_LISTS)
+}
+
 #[test]
 fn list_report_of_a_folder(rt: HostRuntime) -> Result<(), Fail> {
-    let alloc = rt.alloc();
-    let written = lists_of(alloc, &mut with_plans(alloc)?)?;
-    assert_eq!(rt; written.as_slice(), PLANS_LISTS.as_bytes());
-    Ok(())
+    lists_of_plans(rt.alloc(), &mut fresh(rt.alloc())?)?;
+    lists_of_plans(rt.alloc(), &mut fresh_tables(rt.alloc())?)
 }
 
 /// A folder `/a` that nobody may read or go through, with what is in it, between a name that stands
 /// before `/` by its byte and one that stands behind it. The file `/a/b` has an entry that counts for its
 /// children alone, a denial and a group's entry; `/a/c` follows a folder that has nothing to hand down.
-fn hidden(alloc: Global) -> Result<MemShelf, Fail> {
-    let mut shelf = fresh(alloc)?;
+fn hide<S: Shelf>(alloc: Global, shelf: &mut S) -> Result<(), Fail> {
     let mut changes = vec![in alloc; Change::PutNext(7)]?;
     for (id, parent, name, kind, aclflag) in [
         (2u32, 1u32, "a0", Kind::File, 1u8),
@@ -75,7 +92,7 @@ fn hidden(alloc: Global) -> Result<MemShelf, Fail> {
     changes.push(Change::PutEntries(6, entries_of_b(alloc)?))?;
     changes.push(Change::PutEntries(5, entries_of_c(alloc)?))?;
     shelf.commit(changes.as_slice())?;
-    Ok(shelf)
+    Ok(())
 }
 
 fn entries_of_b(alloc: Global) -> Result<Vec<Entry>, Fail> {
@@ -93,12 +110,7 @@ fn entries_of_c(alloc: Global) -> Result<Vec<Entry>, Fail> {
     Ok(entries)
 }
 
-#[test]
-fn an_unreadable_folders_contents_are_there(rt: HostRuntime) -> Result<(), Fail> {
-    let alloc = rt.alloc();
-    let mut shelf = hidden(alloc)?;
-    let written = access_of(alloc, &mut shelf, &roster(alloc)?)?;
-    let want = "\
+const HIDDEN: &str = "\
 001f07ff ann                              /
 001200a9 bob                              /
 00000000 eng                              /
@@ -118,9 +130,8 @@ fn an_unreadable_folders_contents_are_there(rt: HostRuntime) -> Result<(), Fail>
 001200a9 bob                              /a0
 00000000 eng                              /a0
 ";
-    assert_eq!(rt; written.as_slice(), want.as_bytes());
-    let lists = lists_of(alloc, &mut shelf)?;
-    let want = "\
+
+const HIDDEN_LISTS: &str = "\
 d 0 ann                              eng                              /
   A 03 001f07ff OWNER@
   A 03 001200a9 GROUP@
@@ -139,8 +150,17 @@ f 1 ann                              eng                              /a0
   A 80 001f07ff OWNER@
   A 80 001200a9 GROUP@
 ";
-    assert_eq!(rt; lists.as_slice(), want.as_bytes());
-    Ok(())
+
+fn hidden_is_reported<S: Shelf>(alloc: Global, shelf: &mut S) -> Result<(), Fail> {
+    hide(alloc, shelf)?;
+    has_access(alloc, shelf, &roster(alloc)?, HIDDEN)?;
+    has_lists(alloc, shelf, HIDDEN_LISTS)
+}
+
+#[test]
+fn an_unreadable_folders_contents_are_there(rt: HostRuntime) -> Result<(), Fail> {
+    hidden_is_reported(rt.alloc(), &mut fresh(rt.alloc())?)?;
+    hidden_is_reported(rt.alloc(), &mut fresh_tables(rt.alloc())?)
 }
 
 /// The longest path has 16 names.
@@ -160,9 +180,7 @@ fn the_longest_path(rt: HostRuntime) -> Result<(), Fail> {
     shelf.commit(changes.as_slice())?;
     let mut one = Roster::empty(alloc);
     assert!(rt; one.add(principal(alloc, "ann")?, Vec::new(alloc))?);
-    let written = access_of(alloc, &mut shelf, &one)?;
-    assert_eq!(rt; written.as_slice(), want.as_bytes());
-    Ok(())
+    has_access(alloc, &mut shelf, &one, want.as_str())
 }
 
 #[test]
@@ -185,7 +203,6 @@ fn a_roster_of_a_thousand_users(rt: HostRuntime) -> Result<(), Fail> {
         let line = format!(in alloc; "{mask} {name}                             /\n")?;
         want.push_str(line.as_str())?;
     }
-    let written = access_of(alloc, &mut fresh(alloc)?, &roster)?;
-    assert_eq!(rt; written.as_slice(), want.as_bytes());
-    Ok(())
+    has_access(alloc, &mut fresh(alloc)?, &roster, want.as_str())?;
+    has_access(alloc, &mut fresh_tables(alloc)?, &roster, want.as_str())
 }
