@@ -4,6 +4,8 @@
 #[cfg(test)]
 mod asks;
 #[cfg(test)]
+mod drips;
+#[cfg(test)]
 mod rooms;
 #[cfg(test)]
 mod rosters;
