@@ -38,9 +38,10 @@ tables: build
 crash: build
 	tests/crash/run
 
-# Times `check`, a room in memory, a served room, `replay` and the reports. Needs sqlite3.
+# Times `check`, a room in memory, a served room, its tables, `replay` and the reports. Needs sqlite3 and strace.
 bench: build
 	bench/check
 	bench/room
 	bench/serve
+	bench/tables
 	bench/report

@@ -50,6 +50,10 @@ pub record RepresentsHistory (start : Room) (r : Records) (past : History) : Typ
   pub sessions : (sid : List ℕ) → r.session sid ≡ option_map (session_row_of sid) (session_of past sid)
   pub slots : (sid : List ℕ) (slot : ℕ) → r.slot sid slot ≡ slot_row_of start past sid slot
 
+-- while a shelf is honest, its rows stand for a history that began with this room
+abbrev pub StandsFor : {S : Type 0} (is_honest is_declared : S → Type 0) (records : S → Records) → Room → History → S → Type 0
+StandsFor is_honest is_declared records start past s = is_honest s → is_declared s × RepresentsHistory start (records s) past
+
 -- an event is answered as the history says and joins it, or is answered DELAY and does not
 abbrev pub Step : Room → History → EventModel → AnswerModel → History → Type 0
 Step start past event answered next =

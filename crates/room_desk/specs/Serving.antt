@@ -1,5 +1,5 @@
 -- Runs of messages over a room (our own rules).
-use Rattle.std.specs.Prelude.{◌≡◌, ℕ, ◌≤◌, ◌⊎◌, List, ◌∷◌, Result, Ok, Err}
+use Rattle.std.specs.Prelude.{◌≡◌, ◌≢◌, ℕ, ◌≤◌, ◌⊎◌, List, ◌∷◌, Result, Ok, Err}
 use Rattle.matchit.specs.Router.{RouteOf}
 use Rattle.matchit.specs.Rows.{RowsOf}
 use Rattle.room_acl.specs.SubjectModel.{SubjectModel}
@@ -8,6 +8,7 @@ use Rattle.room_records.specs.Room.{Room}
 use Rattle.room_wire.specs.declared.code.Code.TheVariants.{Delay}
 use Rattle.room_wire.specs.declared.fault.WireFault.{WireFault}
 use Rattle.room_wire.specs.declared.routing.Route.{Route}
+use Rattle.room_wire.specs.EventModel.{EventModel}
 use Rattle.room_wire.specs.AskOf.{AskModel, Check, Event, ask_of}
 use Rattle.room_wire.specs.CheckAnswers.{answer_text}
 use Rattle.room_wire.specs.CheckService.{fault_code}
@@ -16,7 +17,7 @@ use Rattle.room_wire.specs.Routing.{room_rows}
 use Rattle.room_wire.specs.Serving.{Outputs}
 use Rattle.room_desk.specs.AnswerModel.{AnswerModel, Reply, Refused, IsTurnedAway}
 use Rattle.room_desk.specs.History.{History, answer_to}
-use Rattle.room_desk.specs.Representation.{RepresentsHistory}
+use Rattle.room_desk.specs.Representation.{StandsFor}
 
 -- what was asked is answered: a question and a refusal change nothing, and an event joins the history
 abbrev pub AnswersAsk : Room → History → Result AskModel WireFault → AnswerModel → History → Type 0
@@ -41,15 +42,17 @@ abbrev pub IsRun : List SubjectModel → Room → History → List MessageModel 
 IsRun users start past ms out next = Outputs (AnswersMessage users start) past ms out next
 
 -- what a shelf is after an answer: the rows stand for the history before it, or for one event more; after a refusal they are the same rows
-pub record Answered {S : Type 0} (is_honest is_declared : S → Type 0) (records : S → Records) (failures : S → ℕ) (ask : Result AskModel WireFault) (before : S) (answered : AnswerModel) (after : S) : Type 0 where
+pub record Answered {S : Type 0} (is_honest is_clean is_declared : S → Type 0) (records : S → Records) (failures : S → ℕ) (ask : Result AskModel WireFault) (before : S) (answered : AnswerModel) (after : S) : Type 0 where
   pub was_honest : is_honest after → is_honest before
+  pub was_clean : is_clean after → is_clean before
   pub declared : is_honest after → is_declared before → is_declared after
   pub never_falls : failures before ≤ failures after
-  pub step : is_honest after → is_declared before → (start : Room) (past : History) → RepresentsHistory start (records before) past →
-      (next : History) × AnswersOrDelays start past ask answered next × RepresentsHistory start (records after) next
+  pub alive : is_clean after → (event : EventModel) → ask ≡ Ok (Event event) → answered ≢ Refused Delay → is_honest after
+  pub step : is_clean after → (start : Room) (past : History) → StandsFor is_honest is_declared records start past before →
+      (next : History) × AnswersOrDelays start past ask answered next × StandsFor is_honest is_declared records start next after
   pub refused : is_honest after → is_declared before → IsTurnedAway answered → records after ≡ records before
 
 -- what a message may be answered over a shelf
-abbrev pub MayAnswer : {S : Type 0} (is_honest is_declared : S → Type 0) (records : S → Records) (failures : S → ℕ) → RowsOf (RouteOf Route) → List SubjectModel → S → MessageModel → AnswerModel → S → Type 0
-MayAnswer is_honest is_declared records failures rows users before m answered after =
-    Answered is_honest is_declared records failures (ask_by rows users m) before answered after
+abbrev pub MayAnswer : {S : Type 0} (is_honest is_clean is_declared : S → Type 0) (records : S → Records) (failures : S → ℕ) → RowsOf (RouteOf Route) → List SubjectModel → S → MessageModel → AnswerModel → S → Type 0
+MayAnswer is_honest is_clean is_declared records failures rows users before m answered after =
+    Answered is_honest is_clean is_declared records failures (ask_by rows users m) before answered after

@@ -1,11 +1,12 @@
 //! The desk: takes events, and answers each.
-ghost use Rattle.std.specs.Prelude.{◌≡◌, ◌≤◌, ℕ, List, ◌∷◌, map, IfOk, OnErr, Err, false};
+ghost use Rattle.std.specs.Prelude.{◌≡◌, ◌≢◌, ◌≤◌, ℕ, List, [], ◌∷◌, ◌++◌, map, IfOk, OnOk, OnErr, Err, false};
 ghost use Rattle.room_records.specs.Room.{Room};
 ghost use Rattle.room_records.specs.Shelf.{FailureCounted};
 ghost use Rattle.room_wire.specs.EventModel.{event_model};
-ghost use Rattle.room_desk.specs.AnswerModel.{answer_model, IsTurnedAway};
+ghost use Rattle.room_wire.specs.declared.code.Code.TheVariants.{Delay};
+ghost use Rattle.room_desk.specs.AnswerModel.{AnswerModel, Refused, answer_model, IsTurnedAway};
 ghost use Rattle.room_desk.specs.History.{History, answer_to, changes_rows};
-ghost use Rattle.room_desk.specs.Representation.{RepresentsHistory, WasAllowed, Step, Run};
+ghost use Rattle.room_desk.specs.Representation.{RepresentsHistory, StandsFor, WasAllowed, Step, Run};
 
 use crate::requests::request;
 use crate::sessions::{close, open};
@@ -40,9 +41,11 @@ impl<S: Shelf> Desk<S> {
         shelf
     }
 
-    /// Answers one event as the history says, or gives up with nothing changed.
+    /// Answers one event as the history says, or gives up with nothing changed while the store is there.
     fn answer(&mut self, event: &Event) -> Result<Answer, ShelfFault>
         ensures was_honest { S.is_honest self.new → S.is_honest self.old }
+        ensures was_clean { S.is_clean self.new → S.is_clean self.old }
+        ensures alive { S.is_clean self.new → OnOk result (S.is_honest self.new) }
         ensures declared { S.is_honest self.new → S.is_declared self.old → S.is_declared self.new }
         ensures never_falls { S.failures self.old ≤ S.failures self.new }
         ensures store { result ≡ Err ShelfFault.Store → FailureCounted (S.failures self.old) (S.failures self.new) }
@@ -81,12 +84,16 @@ impl<S: Shelf> Desk<S> {
     }
 
     /// Answers one event: as the history says, or DELAY with nothing changed. DELAY comes where
-    /// memory was refused, or where the shelf failed and counted it.
+    /// memory was refused, or where the shelf failed and counted it. Over a clean disk any other answer
+    /// means that the store is still there; of a store that a fault has shut no records are told, and
+    /// each event is answered DELAY.
     pub fn handle(&mut self, event: &Event) -> Answer
         ensures was_honest { S.is_honest self.new → S.is_honest self.old }
+        ensures was_clean { S.is_clean self.new → S.is_clean self.old }
+        ensures alive { S.is_clean self.new → answer_model result ≢ Refused Delay → S.is_honest self.new }
         ensures declared { S.is_honest self.new → S.is_declared self.old → S.is_declared self.new }
-        ensures step { S.is_honest self.new → S.is_declared self.old → (start : Room) (past : History) → RepresentsHistory start (S.records self.old) past →
-            (next : History) × Step start past (event_model event.now) (answer_model result) next × RepresentsHistory start (S.records self.new) next }
+        ensures step { S.is_clean self.new → (start : Room) (past : History) → StandsFor S.is_honest S.is_declared S.records start past self.old →
+            (next : History) × Step start past (event_model event.now) (answer_model result) next × StandsFor S.is_honest S.is_declared S.records start next self.new }
         ensures allowed { (start : Room) (past : History) → WasAllowed start past (event_model event.now) }
         ensures never_falls { S.failures self.old ≤ S.failures self.new }
         ensures refused { S.is_honest self.new → S.is_declared self.old → IsTurnedAway (answer_model result) → S.records self.new ≡ S.records self.old }
@@ -99,15 +106,19 @@ impl<S: Shelf> Desk<S> {
         }
     }
 
-    /// Answers events in turn. An `Err` changes nothing.
+    /// Answers events in turn. An `Err` changes nothing. Where the last answer is not DELAY, the store is
+    /// still there.
     pub fn run(&mut self, events: &[Event]) -> Result<Vec<Answer>, AllocError>
         ensures was_honest { S.is_honest self.new → S.is_honest self.old }
+        ensures was_clean { S.is_clean self.new → S.is_clean self.old }
         ensures declared { S.is_honest self.new → S.is_declared self.old → S.is_declared self.new }
         ensures never_falls { S.failures self.old ≤ S.failures self.new }
-        ensures run { S.is_honest self.new → S.is_declared self.old → (start : Room) (past : History) → RepresentsHistory start (S.records self.old) past →
+        ensures alive { S.is_clean self.new → IfOk result (λ answers. (before : List AnswerModel) (last : AnswerModel) →
+            map answer_model answers.items ≡ before ++ last ∷ [] → last ≢ Refused Delay → S.is_honest self.new) }
+        ensures run { S.is_clean self.new → (start : Room) (past : History) → StandsFor S.is_honest S.is_declared S.records start past self.old →
             IfOk result (λ answers. (next : History)
             × Run start past (map event_model events.now) (map answer_model answers.items) next
-            × RepresentsHistory start (S.records self.new) next) }
+            × StandsFor S.is_honest S.is_declared S.records start next self.new) }
         ensures err { OnErr result (self.new ≡ self.old) }
     {
         let mut answers = Vec::with_capacity(self.alloc, events.len())?;

@@ -1,5 +1,5 @@
 //! Requests in a slot.
-ghost use Rattle.std.specs.Prelude.{◌≡◌, ◌≤◌, ◌++◌, IfOk, OnErr, Err, [], ◌∷◌, true, false};
+ghost use Rattle.std.specs.Prelude.{◌≡◌, ◌≤◌, ◌++◌, IfOk, OnOk, OnErr, Err, [], ◌∷◌, true, false};
 ghost use Rattle.room_slots.specs.Slots.{verdict};
 ghost use Rattle.room_slots.specs.declared.verdict.Verdict.TheVariants.{New};
 ghost use Rattle.room_records.specs.Records.{Records};
@@ -59,6 +59,8 @@ fn run_new<S: Shelf>(
 ) -> Result<Answer, ShelfFault>
     requires { request.items ≡ command_text (command_model command.now) }
     ensures was_honest { S.is_honest shelf.new → S.is_honest shelf.old }
+    ensures was_clean { S.is_clean shelf.new → S.is_clean shelf.old }
+    ensures alive { S.is_clean shelf.new → OnOk result (S.is_honest shelf.new) }
     ensures declared { S.is_honest shelf.new → S.is_declared shelf.old → S.is_declared shelf.new }
     ensures never_falls { S.failures shelf.old ≤ S.failures shelf.new }
     ensures store { result ≡ Err ShelfFault.Store → FailureCounted (S.failures shelf.old) (S.failures shelf.new) }
@@ -122,6 +124,8 @@ fn in_slot<S: Shelf>(
     command: &Command,
 ) -> Result<Answer, ShelfFault>
     ensures was_honest { S.is_honest shelf.new → S.is_honest shelf.old }
+    ensures was_clean { S.is_clean shelf.new → S.is_clean shelf.old }
+    ensures alive { S.is_clean shelf.new → OnOk result (S.is_honest shelf.new) }
     ensures declared { S.is_honest shelf.new → S.is_declared shelf.old → S.is_declared shelf.new }
     ensures never_falls { S.failures shelf.old ≤ S.failures shelf.new }
     ensures store { result ≡ Err ShelfFault.Store → FailureCounted (S.failures shelf.old) (S.failures shelf.new) }
@@ -157,6 +161,8 @@ pub(crate) fn request<S: Shelf>(
     command: &Command,
 ) -> Result<Answer, ShelfFault>
     ensures was_honest { S.is_honest shelf.new → S.is_honest shelf.old }
+    ensures was_clean { S.is_clean shelf.new → S.is_clean shelf.old }
+    ensures alive { S.is_clean shelf.new → OnOk result (S.is_honest shelf.new) }
     ensures declared { S.is_honest shelf.new → S.is_declared shelf.old → S.is_declared shelf.new }
     ensures never_falls { S.failures shelf.old ≤ S.failures shelf.new }
     ensures store { result ≡ Err ShelfFault.Store → FailureCounted (S.failures shelf.old) (S.failures shelf.new) }

@@ -23,14 +23,14 @@ pub(crate) struct Lookup<'r> {
 
 impl<S: Shelf> Desk<S> {
     fn serve_question(&mut self, question: &Question) -> Answer
-        ensures { Answered S.is_honest S.is_declared S.records S.failures (Ok (A.Check (question_model question.now)))
+        ensures { Answered S.is_honest S.is_clean S.is_declared S.records S.failures (Ok (A.Check (question_model question.now)))
             self.old (answer_model result) self.new }
     {
         answer_question(self.alloc, question)
     }
 
     fn serve_event(&mut self, event: &Event) -> Answer
-        ensures { Answered S.is_honest S.is_declared S.records S.failures (Ok (A.Event (event_model event.now)))
+        ensures { Answered S.is_honest S.is_clean S.is_declared S.records S.failures (Ok (A.Event (event_model event.now)))
             self.old (answer_model result) self.new }
     {
         self.handle(event)
@@ -38,7 +38,7 @@ impl<S: Shelf> Desk<S> {
 
     /// Answers what a message asks.
     fn serve_message(&mut self, lookup: &Lookup<'_>, message: &Message<'_>) -> Answer
-        ensures { Answered S.is_honest S.is_declared S.records S.failures
+        ensures { Answered S.is_honest S.is_clean S.is_declared S.records S.failures
             (ask_of lookup.now.routes lookup.now.roster.now message.now.method.now message.now.target.now
             (map (header_bytes message.now.window.now) (take message.now.count message.now.spans)) message.now.body.now)
             self.old (answer_model result) self.new }
@@ -52,7 +52,7 @@ impl<S: Shelf> Desk<S> {
 }
 
 impl<'r, S: Shelf> Service<Lookup<'r>> for Desk<S> {
-    ghost may_answer = { λ lookup. MayAnswer S.is_honest S.is_declared S.records S.failures lookup.routes lookup.roster.now };
+    ghost may_answer = { λ lookup. MayAnswer S.is_honest S.is_clean S.is_declared S.records S.failures lookup.routes lookup.roster.now };
 
     fn answer(&mut self, lookup: &Lookup<'r>, message: &Message<'_>) -> Answer {
         self.serve_message(lookup, message)

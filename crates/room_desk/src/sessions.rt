@@ -79,6 +79,8 @@ fn open_first<S: Shelf>(
     slots: SlotCount,
 ) -> Result<Answer, ShelfFault>
     ensures was_honest { S.is_honest shelf.new → S.is_honest shelf.old }
+    ensures was_clean { S.is_clean shelf.new → S.is_clean shelf.old }
+    ensures alive { S.is_clean shelf.new → OnOk result (S.is_honest shelf.new) }
     ensures declared { S.is_honest shelf.new → S.is_declared shelf.old → S.is_declared shelf.new }
     ensures never_falls { S.failures shelf.old ≤ S.failures shelf.new }
     ensures store { result ≡ Err ShelfFault.Store → FailureCounted (S.failures shelf.old) (S.failures shelf.new) }
@@ -104,6 +106,8 @@ pub(crate) fn open<S: Shelf>(
     slots: SlotCount,
 ) -> Result<Answer, ShelfFault>
     ensures was_honest { S.is_honest shelf.new → S.is_honest shelf.old }
+    ensures was_clean { S.is_clean shelf.new → S.is_clean shelf.old }
+    ensures alive { S.is_clean shelf.new → OnOk result (S.is_honest shelf.new) }
     ensures declared { S.is_honest shelf.new → S.is_declared shelf.old → S.is_declared shelf.new }
     ensures never_falls { S.failures shelf.old ≤ S.failures shelf.new }
     ensures store { result ≡ Err ShelfFault.Store → FailureCounted (S.failures shelf.old) (S.failures shelf.new) }
@@ -125,6 +129,8 @@ pub(crate) fn open<S: Shelf>(
 /// Ends an open session in one commit: its row is closed, and what its slots kept is dropped.
 fn end_session<S: Shelf>(shelf: &mut S, sid: &Sid, row: SessionRow) -> Result<(), ShelfFault>
     ensures was_honest { S.is_honest shelf.new → S.is_honest shelf.old }
+    ensures was_clean { S.is_clean shelf.new → S.is_clean shelf.old }
+    ensures alive { S.is_clean shelf.new → OnOk result (S.is_honest shelf.new) }
     ensures declared { S.is_honest shelf.new → S.is_declared shelf.old → S.is_declared shelf.new }
     ensures never_falls { S.failures shelf.old ≤ S.failures shelf.new }
     ensures store { result ≡ Err ShelfFault.Store → FailureCounted (S.failures shelf.old) (S.failures shelf.new) }
@@ -152,6 +158,8 @@ fn close_owned<S: Shelf>(
     row: SessionRow,
 ) -> Result<Answer, ShelfFault>
     ensures was_honest { S.is_honest shelf.new → S.is_honest shelf.old }
+    ensures was_clean { S.is_clean shelf.new → S.is_clean shelf.old }
+    ensures alive { S.is_clean shelf.new → S.is_honest shelf.old → OnOk result (S.is_honest shelf.new) }
     ensures declared { S.is_honest shelf.new → S.is_declared shelf.old → S.is_declared shelf.new }
     ensures never_falls { S.failures shelf.old ≤ S.failures shelf.new }
     ensures store { result ≡ Err ShelfFault.Store → FailureCounted (S.failures shelf.old) (S.failures shelf.new) }
@@ -178,6 +186,8 @@ pub(crate) fn close<S: Shelf>(
     sid: &Sid,
 ) -> Result<Answer, ShelfFault>
     ensures was_honest { S.is_honest shelf.new → S.is_honest shelf.old }
+    ensures was_clean { S.is_clean shelf.new → S.is_clean shelf.old }
+    ensures alive { S.is_clean shelf.new → OnOk result (S.is_honest shelf.new) }
     ensures declared { S.is_honest shelf.new → S.is_declared shelf.old → S.is_declared shelf.new }
     ensures never_falls { S.failures shelf.old ≤ S.failures shelf.new }
     ensures store { result ≡ Err ShelfFault.Store → FailureCounted (S.failures shelf.old) (S.failures shelf.new) }

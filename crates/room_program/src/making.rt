@@ -3,9 +3,8 @@ ghost use Rattle.std.specs.Prelude.{◌≡◌, false, IfOk, IfErr, IsTrue};
 ghost use Rattle.sqlite.specs.State.{HasCleanDisk};
 ghost use Rattle.sqlite.specs.Held.{state};
 ghost use Rattle.room_tables.specs.Tables.{schema_0, has_a_table};
-ghost use Rattle.room_tables.specs.Rows.{records_of};
 ghost use Rattle.room_tables.specs.Layout.{IsRoomDatabase};
-ghost use Rattle.room_tables.specs.Fresh.{IsFresh};
+ghost use Rattle.room_tables.specs.Fresh.{IsFreshRoom};
 ghost use Rattle.room_program.specs.Ends.{InitEnds, IsMakingFault};
 
 use crate::fault::Fault;
@@ -24,7 +23,7 @@ fn make_room<S: Alter + Drop>(
 ) -> Result<SqlShelf<S>, Fault>
     requires { connection.in_transaction ≡ false }
     ensures fresh { IfOk result (λ shelf. HasCleanDisk (state S.Store shelf.conn) → IsTrue (state S.Store shelf.conn).is_open × (connection.schema ≡ schema_0 →
-        IsRoomDatabase (state S.Store shelf.conn).now × IsFresh standing.now.owner standing.now.group (records_of (state S.Store shelf.conn).now.trees))) }
+        IsRoomDatabase (state S.Store shelf.conn).now × IsFreshRoom standing.now.owner standing.now.group (state S.Store shelf.conn).now.trees)) }
     ensures absent { IfOk result (λ shelf. has_a_table connection.schema ≡ false) }
     ensures fault { IfErr result IsMakingFault }
 {

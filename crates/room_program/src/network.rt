@@ -37,7 +37,7 @@ fn finish(stream: &TcpStream) {
     }
 }
 
-/// Serves one connection. However it ends, the room's history has gone on.
+/// Serves one connection. However it ends, the room's history has gone on while the store is there.
 fn serve_stream<S: Shelf>(stream: &TcpStream, desk: &mut Desk<S>, roster: &Roster)
     ensures was_honest { S.is_honest desk.new → S.is_honest desk.old }
     ensures declared { S.is_honest desk.new → S.is_declared desk.old → S.is_declared desk.new }
@@ -54,7 +54,8 @@ fn serve_stream<S: Shelf>(stream: &TcpStream, desk: &mut Desk<S>, roster: &Roste
 }
 
 /// Serves `count` connections, one after another. One that ends badly does not end it: an error
-/// comes only where a connection can't be accepted. However it ends, the room's history has gone on.
+/// comes only where a connection can't be accepted. However it ends, the room's history has gone on
+/// while the store is there.
 pub fn serve_listener<S: Shelf>(
     listener: &TcpListener,
     desk: &mut Desk<S>,

@@ -1,15 +1,15 @@
 -- The nodes in a folder, read off the index by place.
-use Rattle.std.proofs.Common.{◌≡◌, ℕ, ◌+◌, ◌<◌, ◌≤◌, refl, ap, sym, ◌∙◌, subst, true, false, Bool, cond, List, [], ◌∷◌, length, Option, None, Some, IsSome, suc, zero, arith, nat_cmp, inl, inr, ◌⊎◌}
+use Rattle.std.proofs.Common.{◌≡◌, ℕ, ◌+◌, ◌<◌, refl, ap, sym, ◌∙◌, subst, true, false, Bool, cond, List, [], ◌∷◌, Option, None, Some, arith, nat_cmp, inl, inr, ◌⊎◌}
 use Rattle.std.specs.Prelude.{not, ◌&&◌, IfSome, unwrap_or}
-use Rattle.std.specs.List.{AllByRecursion, All, Contains, filter, filter_map, cons_option}
+use Rattle.std.specs.List.{AllByRecursion, Contains, filter_map, cons_option}
 use Rattle.std.specs.List.Sorted.{IsStrictlySortedBy}
 use Rattle.std.specs.Map.{keys_of, lookup}
 use Rattle.std.specs.Option.{option_map, option_and_then, option_cmp}
-use Rattle.std.specs.Ordering.{MatchOrdering, is_eq, is_le, is_lt, is_gt, ordering_then, ordering_reverse}
+use Rattle.std.specs.Ordering.{MatchOrdering, is_eq, is_le, ordering_then}
 use Rattle.std.specs.declared.cmp.Ordering.{Ordering}
 use Rattle.std.specs.declared.cmp.Ordering.TheVariants.{Less, Equal, Greater}
 use Rattle.std.specs.declared.ops.Bound.TheVariants.{Included, Excluded}
-use Rattle.std.specs.BTreeMap.{BTreeMap, IsOrdered, get, is_at}
+use Rattle.std.specs.BTreeMap.{IsOrdered, get, is_at}
 use Rattle.std.specs.BTreeMap.Range.{range_contains, entries_between}
 use Rattle.std.proofs.lemmas.Cmp.{tied_itself, nat_cmp_total, ranked}
 use Rattle.std.proofs.lemmas.List.Elements.{All-contains}
@@ -18,10 +18,10 @@ use Rattle.std.proofs.lemmas.Map.Views.{All-found}
 use Rattle.room_records.specs.declared.node.Node.{Node}
 use Rattle.room_records.specs.Names.{Name, name_cmp}
 use Rattle.room_records.specs.Records.{ObjectRecords, IsChild}
-use Rattle.room_records.specs.Rules.{ObjectRules, IsRoot, IsBelow}
-use Rattle.room_records.specs.Shelf.{AreChildren, IsChildNamed, IsChildCount, InNameOrder, name_of}
+use Rattle.room_records.specs.Rules.{ObjectRules, IsRoot}
+use Rattle.room_records.specs.Shelf.{AreChildren, IsChildNamed, InNameOrder, name_of}
 use Rattle.room_records.specs.Table.{value_in}
-use Rattle.room_records.specs.NodeIndex.{PlaceKey, Places, place_cmp, place_of, id_at, node_in}
+use Rattle.room_records.specs.NodeIndex.{PlaceKey, Places, place_cmp, place_of, id_at}
 use Rattle.room_records.proofs.Keys.{place_total, exact_places, same_number}
 use Rattle.room_records.proofs.Lists.{all_of_contained, contains_later, contains_first}
 use Rattle.room_records.proofs.NodePlaces.{IsIndex}

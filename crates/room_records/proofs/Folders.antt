@@ -1,17 +1,16 @@
 -- The nodes in a folder, by name, are what the room has there.
 use Rattle.std.proofs.Common.{◌≡◌, ◌≢◌, ℕ, zero, suc, ◌<◌, ◌≤◌, refl, ap, sym, ◌∙◌, subst, arith, Bool, true, false, cond, ◌⊎◌, inl, inr, List, [], ◌∷◌, ◌++◌, reverse, map, length, Option, None, Some, option_map, Less, eqb, unwrap_or}
 use Rattle.std.specs.Map.{lookup, keys_of}
-use Rattle.std.specs.List.{AllByRecursion, Contains, slice_index_or}
+use Rattle.std.specs.List.{AllByRecursion, slice_index_or}
 use Rattle.std.specs.List.Sorted.{IsStrictlySortedBy}
-use Rattle.std.proofs.lemmas.Bool.{true≢false}
 use Rattle.std.proofs.lemmas.Cmp.{nat_list_cmp_total}
 use Rattle.std.proofs.lemmas.List.{length-map, reverse-append}
 use Rattle.room_acl.specs.declared.subject.Kind.{Kind}
 use Rattle.room_records.specs.declared.node.Node.{Node}
 use Rattle.room_records.specs.Limits.{max_children}
-use Rattle.room_records.specs.Names.{Name, Path, name_cmp, name_eq, path_eq}
+use Rattle.room_records.specs.Names.{Name, Path, name_cmp, name_eq}
 use Rattle.room_records.specs.Records.{ObjectRecords, IsChild}
-use Rattle.room_records.specs.Rules.{ObjectRules, IsBelow}
+use Rattle.room_records.specs.Rules.{ObjectRules}
 use Rattle.room_records.specs.Room.{Object, Room, object_at, children}
 use Rattle.room_records.specs.Representation.{HasPath, NamesUpwards, RepresentsRoom}
 use Rattle.room_records.specs.Shelf.{name_of, InNameOrder, AreChildren, IsChildCount}

@@ -1,13 +1,12 @@
 -- The rows of a fresh room keep the record rules, and stand for the fresh room.
-use Rattle.std.proofs.Common.{◌≡◌, ℕ, refl, ap, sym, ◌∙◌, subst, cond, List, [], Option, None, Some, IsSome}
-use Rattle.std.specs.Prelude.{◌==◌}
+use Rattle.std.proofs.Common.{◌≡◌, ℕ, sym, ◌∙◌, subst, List, Option, None, Some}
 use Rattle.room_records.specs.declared.node.Node.{Node}
 use Rattle.room_records.specs.Records.{Records}
 use Rattle.room_records.specs.Rules.{RulesHold}
 use Rattle.room_records.specs.Room.{fresh_room}
 use Rattle.room_records.specs.Representation.{RepresentsRoom}
 use Rattle.room_records.specs.NodeIndex.{IsFreeFor}
-use Rattle.room_records.specs.Fresh.{fresh_records, no_records}
+use Rattle.room_records.specs.Fresh.{fresh_records}
 use Rattle.room_records.proofs.FreshRoom.{fresh_stands, rules}
 
 pub fresh_rules : (owner group : List ℕ) → RulesHold (fresh_records owner group)

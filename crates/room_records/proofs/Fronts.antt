@@ -1,5 +1,5 @@
 -- Fronts of paths.
-use Rattle.std.proofs.Common.{◌≡◌, ℕ, zero, suc, List, [], ◌∷◌, take, length, ◌≤◌, arith, min}
+use Rattle.std.proofs.Common.{ℕ, zero, suc, [], ◌∷◌, take, arith}
 use Rattle.std.specs.List.{AllByRecursion}
 use Rattle.std.proofs.lemmas.List.{length-take}
 use Rattle.room_records.specs.Names.{Path, IsPath, IsFileName}

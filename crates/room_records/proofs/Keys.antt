@@ -1,5 +1,5 @@
 -- A function that changes at one key.
-use Rattle.std.proofs.Common.{◌≡◌, ℕ, refl, ap, sym, ◌∙◌, true, false, Bool, cond, inl, inr, ◌⊎◌, Option, None, Some, List}
+use Rattle.std.proofs.Common.{◌≡◌, ℕ, refl, ap, sym, ◌∙◌, true, false, cond, inl, inr, ◌⊎◌, Option, None, Some}
 use Rattle.std.specs.Cmp.{IsTotalOrder}
 use Rattle.std.specs.Option.{option_cmp}
 use Rattle.std.specs.Ordering.{is_eq, eq_by_cmp, nat_cmp, ordering_then}
@@ -8,7 +8,7 @@ use Rattle.std.specs.declared.cmp.Ordering.TheVariants.{Less, Equal, Greater}
 use Rattle.std.proofs.lemmas.Cmp.{tied_itself, nat_cmp_total, nat_list_cmp_total, then_total, on_total}
 use Rattle.std.specs.Cmp.Lexicographic.{options_total}
 use Rattle.std.proofs.lemmas.Map.Lookups.{CmpEqualImpliesEq, exact_unsigned, exact_bytes}
-use Rattle.room_records.specs.Names.{Name, name_cmp}
+use Rattle.room_records.specs.Names.{name_cmp}
 use Rattle.room_records.specs.NodeIndex.{PlaceKey, place_cmp}
 
 pub record Updated {K X : Type 0} (new old : K → Option X) (key : K) (value : Option X) : Type 0 where

@@ -1,5 +1,5 @@
 -- Facts on options.
-use Rattle.std.proofs.Common.{◌≡◌, refl, sym, subst, Option, None, Some, IsSome, Result, Ok, Err}
+use Rattle.std.proofs.Common.{◌≡◌, sym, subst, Option, None, Some, IsSome, Result, Ok, Err}
 use Rattle.std.specs.Prelude.{IfOk}
 
 pub none_is_not_some : {X : Type 0} (o : Option X) → o ≡ None → IsSome o → ⊥

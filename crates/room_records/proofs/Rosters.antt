@@ -1,9 +1,9 @@
 -- Users in name order.
-use Rattle.std.proofs.Common.{◌≡◌, ℕ, ◌+◌, ◌<◌, ◌≤◌, refl, ap, sym, ◌∙◌, subst, true, false, Bool, cond, List, [], ◌∷◌, ◌++◌, length, get_or, take, drop, suc, zero, Option, None, Some, Ok, Err, arith, append_assoc}
+use Rattle.std.proofs.Common.{◌≡◌, ℕ, ◌+◌, ◌<◌, ◌≤◌, refl, ap, sym, ◌∙◌, subst, true, false, Bool, cond, List, [], ◌∷◌, ◌++◌, length, Option, None, Some, Ok, Err, arith}
 use Rattle.std.specs.Prelude.{not, ◌&&◌, nat_le, nat_lt}
-use Rattle.std.specs.List.{AllByRecursion, find, insert, slice_get}
+use Rattle.std.specs.List.{AllByRecursion, insert, slice_get}
 use Rattle.std.specs.Option.{is_some}
-use Rattle.std.specs.Ordering.{ordering_reverse, is_eq, nat_cmp, match_ordering}
+use Rattle.std.specs.Ordering.{ordering_reverse, is_eq, match_ordering}
 use Rattle.std.specs.declared.cmp.Ordering.{Ordering}
 use Rattle.std.specs.declared.cmp.Ordering.TheVariants.{Less, Equal, Greater}
 use Rattle.std.specs.Str.{bytes_eq}
@@ -12,8 +12,7 @@ use Rattle.std.proofs.lemmas.Cmp.{nat_list_cmp_total}
 use Rattle.std.proofs.lemmas.Map.Text.{is_eq-slice_cmp}
 use Rattle.room_acl.specs.SubjectModel.{SubjectModel}
 use Rattle.room_records.specs.Names.{Name, name_cmp}
-use Rattle.room_records.specs.Roster.{AreInNameOrder, IsRoster, user_named, groups_of, may_join, with_user, AreBefore, StartsBehind, IsPlaceOf}
-use Rattle.room_records.proofs.Lists.{all_append}
+use Rattle.room_records.specs.Roster.{AreInNameOrder, IsRoster, user_named, may_join, with_user, AreBefore, StartsBehind, IsPlaceOf}
 
 pub less_back : (a b : Name) → name_cmp a b ≡ Greater → name_cmp b a ≡ Less
 less_back a b h = nat_list_cmp_total.antisymm b a ∙ ap ordering_reverse h

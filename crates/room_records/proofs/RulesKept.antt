@@ -1,13 +1,13 @@
 -- The record rules after one change.
-use Rattle.std.proofs.Common.{◌≡◌, ◌≢◌, ℕ, ◌+◌, ◌<◌, ◌≤◌, refl, ap, sym, ◌∙◌, subst, arith, Bool, true, false, cond, eqb, ◌⊎◌, inl, inr, List, [], ◌∷◌, Option, None, Some, IsSome, IsNone, IfSome, eq-eqb}
+use Rattle.std.proofs.Common.{◌≡◌, ◌≢◌, ℕ, ◌+◌, ◌≤◌, refl, ap, sym, ◌∙◌, subst, arith, Bool, true, false, cond, eqb, ◌⊎◌, inl, inr, List, [], ◌∷◌, Option, None, Some, IsSome, IfSome, eq-eqb}
 use Rattle.std.proofs.lemmas.Bool.{eqb-true, false_from_ne_true}
-use Rattle.room_acl.specs.declared.subject.Kind.TheVariants.{File, Folder}
-use Rattle.room_records.specs.declared.change.Change.TheVariants.{PutNode, DropNode, PutEntries, PutDoc, PutNext}
+use Rattle.room_acl.specs.declared.subject.Kind.TheVariants.{File}
+use Rattle.room_records.specs.declared.change.Change.TheVariants.{PutNode, PutEntries, PutDoc, PutNext}
 use Rattle.room_records.specs.declared.node.Node.{Node}
 use Rattle.room_records.specs.Limits.{max_objects}
-use Rattle.room_records.specs.Names.{Name, IsFileName}
-use Rattle.room_records.specs.Records.{ObjectRecords, IsChild}
-use Rattle.room_records.specs.Rules.{ObjectRules, IsRoot, IsBelow}
+use Rattle.room_records.specs.Names.{Name}
+use Rattle.room_records.specs.Records.{ObjectRecords}
+use Rattle.room_records.specs.Rules.{ObjectRules, IsRoot}
 use Rattle.room_records.specs.Changes.{apply_to_objects}
 use Rattle.room_records.specs.Representation.{NamesUpwards}
 use Rattle.room_records.proofs.RoomsMap.{some_is, none_is_some}

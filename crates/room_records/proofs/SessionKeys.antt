@@ -1,9 +1,9 @@
 -- Rows by session name and slot, after one of them changes.
-use Rattle.std.proofs.Common.{◌≡◌, ℕ, ◌+◌, ◌<◌, ◌≤◌, refl, ap, sym, ◌∙◌, subst, true, false, Bool, cond, inl, inr, ◌⊎◌, Option, None, Some, IsSome, arith, eqb, nat_cmp}
+use Rattle.std.proofs.Common.{◌≡◌, ℕ, ◌+◌, ◌<◌, ◌≤◌, refl, ap, sym, ◌∙◌, subst, true, false, Bool, cond, inl, inr, ◌⊎◌, Option, None, Some, IsSome, arith, nat_cmp}
 use Rattle.std.specs.Prelude.{◌&&◌, ◌==◌, nat_lt}
 use Rattle.std.specs.Cmp.{IsTotalOrder}
 use Rattle.std.specs.Option.{option_map}
-use Rattle.std.specs.Ordering.{is_eq, eq_by_cmp, ordering_then}
+use Rattle.std.specs.Ordering.{is_eq, eq_by_cmp}
 use Rattle.std.specs.Str.{bytes_eq}
 use Rattle.std.specs.declared.cmp.Ordering.{Ordering}
 use Rattle.std.specs.declared.cmp.Ordering.TheVariants.{Less, Equal, Greater}
@@ -16,7 +16,7 @@ use Rattle.room_records.specs.declared.session.SessionRow.{SessionRow}
 use Rattle.room_records.specs.declared.mem.sessions.SessionCell.{SessionCell}
 use Rattle.room_records.specs.Names.{Name, name_cmp}
 use Rattle.room_records.specs.Sessions.{slot_cmp, session_row, AreFewSlots, HaveSlotCounts}
-use Rattle.room_records.proofs.Keys.{Updated, updated, same_key, same_number}
+use Rattle.room_records.proofs.Keys.{Updated, updated, same_key}
 
 pub slot_total : IsTotalOrder slot_cmp
 slot_total = then_total (on_total (λ (k : Name × ℕ). k.0) nat_list_cmp_total) (on_total (λ (k : Name × ℕ). k.1) nat_cmp_total)

@@ -5,7 +5,7 @@ use Rattle.room_acl.specs.declared.who.Who.{Who}
 use Rattle.room_acl.specs.declared.who.Who.TheVariants.{Owner, Group}
 use Rattle.room_acl.specs.Entries.{EntryModel}
 use Rattle.room_records.specs.declared.node.Node.{Node}
-use Rattle.room_records.specs.Records.{ObjectRecords, Records}
+use Rattle.room_records.specs.Records.{Records}
 
 -- it allows these rights, and is handed down to files and folders
 abbrev pub own_entry : Who → ℕ → EntryModel

@@ -11,8 +11,9 @@ abbrev pub FailureCounted : ℕ → ℕ → Type 0
 FailureCounted old new = (old < new) ⊎ (2 ^ 64 - 1 ≤ new)
 
 -- a call that only reads: the records are as they were, and a crash may leave no more than before
-pub record Unchanged {S : Type 0} (records : S → Records) (is_honest is_declared : S → Type 0) (crash_may_leave : S → Records → Type 0) (old new : S) : Type 0 where
+pub record Unchanged {S : Type 0} (records : S → Records) (is_honest is_clean is_declared : S → Type 0) (crash_may_leave : S → Records → Type 0) (old new : S) : Type 0 where
   pub was_honest : is_honest new → is_honest old
+  pub was_clean : is_clean new → is_clean old
   pub declared : is_honest new → is_declared old → is_declared new
   pub same : is_honest new → is_declared old → records new ≡ records old
   pub crash : (left : Records) → crash_may_leave new left → crash_may_leave old left

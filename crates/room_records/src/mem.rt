@@ -40,6 +40,10 @@ impl Shelf for MemShelf {
 
     ghost is_honest = { λ _. Unit {0} };
 
+    ghost is_clean = { λ _. Unit {0} };
+
+    ghost honest_is_clean = { λ s h. h };
+
     ghost is_declared = { λ _. Unit {0} };
 
     ghost crash_may_leave = { λ s r. r ≡ mem_records s };

@@ -79,6 +79,10 @@ impl<S: Shelf> Shelf for TripShelf<S> {
 
     ghost is_honest = { λ s. S.is_honest s.inner };
 
+    ghost is_clean = { λ s. S.is_clean s.inner };
+
+    ghost honest_is_clean = { λ s h. S.honest_is_clean s.inner h };
+
     ghost is_declared = { λ s. S.is_declared s.inner };
 
     ghost crash_may_leave = { λ s r. S.crash_may_leave s.inner r };

@@ -82,7 +82,8 @@ pub fn access_report<S: Shelf, W: Write>(
     ensures beginning { S.is_honest shelf.new → S.is_declared shelf.old → (room : Room) → RepresentsRoom (S.records shelf.old).objects room →
         (written : List ℕ) × IsBeginningOf written (access_text room roster.now)
         × Appends (W.contents writer.old) (W.contents writer.new) written }
-    ensures unchanged { Unchanged S.records S.is_honest S.is_declared S.crash_may_leave shelf.old shelf.new }
+    ensures alive { S.is_clean shelf.new → OnOk result (S.is_honest shelf.new) }
+    ensures unchanged { Unchanged S.records S.is_honest S.is_clean S.is_declared S.crash_may_leave shelf.old shelf.new }
     ensures never_falls { S.failures shelf.old ≤ S.failures shelf.new }
     ensures store { result ≡ Err ReportFault.Store → FailureCounted (S.failures shelf.old) (S.failures shelf.new) }
 {
@@ -110,7 +111,8 @@ pub fn list_report<S: Shelf, W: Write>(
     ensures beginning { S.is_honest shelf.new → S.is_declared shelf.old → (room : Room) → RepresentsRoom (S.records shelf.old).objects room →
         (written : List ℕ) × IsBeginningOf written (list_text room)
         × Appends (W.contents writer.old) (W.contents writer.new) written }
-    ensures unchanged { Unchanged S.records S.is_honest S.is_declared S.crash_may_leave shelf.old shelf.new }
+    ensures alive { S.is_clean shelf.new → OnOk result (S.is_honest shelf.new) }
+    ensures unchanged { Unchanged S.records S.is_honest S.is_clean S.is_declared S.crash_may_leave shelf.old shelf.new }
     ensures never_falls { S.failures shelf.old ≤ S.failures shelf.new }
     ensures store { result ≡ Err ReportFault.Store → FailureCounted (S.failures shelf.old) (S.failures shelf.new) }
 {

@@ -1,5 +1,5 @@
 //! The walk of a whole room, a folder before what is in it.
-ghost use Rattle.std.specs.Prelude.{◌≡◌, ◌≢◌, ◌≤◌, ◌+◌, [], Err, true, false, length};
+ghost use Rattle.std.specs.Prelude.{◌≡◌, ◌≢◌, ◌≤◌, ◌+◌, [], Err, true, false, length, OnOk};
 ghost use Rattle.room_records.specs.Names.{Path as PathModel};
 ghost use Rattle.room_records.specs.Records.{ObjectRecords};
 ghost use Rattle.room_records.specs.Representation.{RepresentsRoom};
@@ -28,7 +28,8 @@ pub(crate) fn report_room<S: Shelf, W: Write>(
 ) -> Result<(), ReportFault>
     ensures value { OfRoom S.records S.is_honest S.is_declared shelf.old shelf.new (λ t room.
         Writes (W.contents writer.old) (W.contents writer.new) (text_below report.now room []) result) }
-    ensures unchanged { Unchanged S.records S.is_honest S.is_declared S.crash_may_leave shelf.old shelf.new }
+    ensures alive { S.is_clean shelf.new → OnOk result (S.is_honest shelf.new) }
+    ensures unchanged { Unchanged S.records S.is_honest S.is_clean S.is_declared S.crash_may_leave shelf.old shelf.new }
     ensures never_falls { S.failures shelf.old ≤ S.failures shelf.new }
     ensures store { result ≡ Err ReportFault.Store → FailureCounted (S.failures shelf.old) (S.failures shelf.new) }
 {
@@ -50,7 +51,8 @@ fn report_below<S: Shelf, W: Write>(
 ) -> Result<(), ReportFault>
     ensures value { OfRoom S.records S.is_honest S.is_declared shelf.old shelf.new (λ t room. (path : PathModel) → IsItem t room path item.now → length path + depth ≡ 16 →
         Writes (W.contents writer.old) (W.contents writer.new) (text_below report.now room path) result) }
-    ensures unchanged { Unchanged S.records S.is_honest S.is_declared S.crash_may_leave shelf.old shelf.new }
+    ensures alive { S.is_clean shelf.new → S.is_honest shelf.old → OnOk result (S.is_honest shelf.new) }
+    ensures unchanged { Unchanged S.records S.is_honest S.is_clean S.is_declared S.crash_may_leave shelf.old shelf.new }
     ensures never_falls { S.failures shelf.old ≤ S.failures shelf.new }
     ensures store { result ≡ Err ReportFault.Store → FailureCounted (S.failures shelf.old) (S.failures shelf.new) }
 {

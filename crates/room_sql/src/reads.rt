@@ -1,6 +1,6 @@
 //! The queries, outside a transaction.
 
-ghost use Rattle.std.specs.Prelude.{◌≡◌, [], ◌∷◌, length, false, IfOk, IsTrue, IsPermutation};
+ghost use Rattle.std.specs.Prelude.{◌≡◌, [], ◌∷◌, length, false, IfOk, OnOk, IsTrue, IsPermutation};
 ghost use Rattle.std.specs.List.{AllByRecursion};
 ghost use Rattle.sqlite_trees.specs.Tree.{IsAscending};
 ghost use Rattle.sqlite.specs.State.{HasCleanDisk, Survives};
@@ -16,6 +16,7 @@ pub(crate) fn node_rows<S: Alter>(conn: &mut Connection<S>, id: u32) -> Result<V
     ensures rows { HasCleanDisk (state S.Store conn.new) → conn.old.schema ≡ room_schema → IfOk result (λ rows. IsPermutation (node_rows (state S.Store conn.old).now.trees id) rows.items) }
     ensures same { HasCleanDisk (state S.Store conn.new) → conn.old.schema ≡ room_schema → IsTrue (state S.Store conn.new).is_open → (state S.Store conn.old).now ≡ (state S.Store conn.old).committed
         → (state S.Store conn.new).now ≡ (state S.Store conn.old).now }
+    ensures alive { HasCleanDisk (state S.Store conn.new) → OnOk result (IsTrue (state S.Store conn.new).is_open) }
     ensures open { HasCleanDisk (state S.Store conn.new) → IsTrue (state S.Store conn.new).is_open → IsTrue (state S.Store conn.old).is_open }
     ensures mode { conn.old.in_transaction ≡ false → conn.new.in_transaction ≡ false }
     ensures clean { HasCleanDisk (state S.Store conn.new) → HasCleanDisk (state S.Store conn.old) }
@@ -36,6 +37,7 @@ pub(crate) fn named_rows<S: Alter>(
     ensures rows { HasCleanDisk (state S.Store conn.new) → conn.old.schema ≡ room_schema → IfOk result (λ rows. IsPermutation (named_rows (state S.Store conn.old).now.trees parent name.now) rows.items) }
     ensures same { HasCleanDisk (state S.Store conn.new) → conn.old.schema ≡ room_schema → IsTrue (state S.Store conn.new).is_open → (state S.Store conn.old).now ≡ (state S.Store conn.old).committed
         → (state S.Store conn.new).now ≡ (state S.Store conn.old).now }
+    ensures alive { HasCleanDisk (state S.Store conn.new) → OnOk result (IsTrue (state S.Store conn.new).is_open) }
     ensures open { HasCleanDisk (state S.Store conn.new) → IsTrue (state S.Store conn.new).is_open → IsTrue (state S.Store conn.old).is_open }
     ensures mode { conn.old.in_transaction ≡ false → conn.new.in_transaction ≡ false }
     ensures clean { HasCleanDisk (state S.Store conn.new) → HasCleanDisk (state S.Store conn.old) }
@@ -52,6 +54,7 @@ pub(crate) fn child_rows<S: Alter>(conn: &mut Connection<S>, parent: u32) -> Res
     ensures rows { HasCleanDisk (state S.Store conn.new) → conn.old.schema ≡ room_schema → IfOk result (λ rows. IsPermutation (child_rows (state S.Store conn.old).now.trees parent) rows.items × IsAscending ByName rows.items) }
     ensures same { HasCleanDisk (state S.Store conn.new) → conn.old.schema ≡ room_schema → IsTrue (state S.Store conn.new).is_open → (state S.Store conn.old).now ≡ (state S.Store conn.old).committed
         → (state S.Store conn.new).now ≡ (state S.Store conn.old).now }
+    ensures alive { HasCleanDisk (state S.Store conn.new) → OnOk result (IsTrue (state S.Store conn.new).is_open) }
     ensures open { HasCleanDisk (state S.Store conn.new) → IsTrue (state S.Store conn.new).is_open → IsTrue (state S.Store conn.old).is_open }
     ensures mode { conn.old.in_transaction ≡ false → conn.new.in_transaction ≡ false }
     ensures clean { HasCleanDisk (state S.Store conn.new) → HasCleanDisk (state S.Store conn.old) }
@@ -68,6 +71,7 @@ pub(crate) fn count_rows<S: Alter>(conn: &mut Connection<S>, parent: u32) -> Res
     ensures rows { HasCleanDisk (state S.Store conn.new) → conn.old.schema ≡ room_schema → IfOk result (λ rows. rows.items ≡ counted_row (length (child_rows (state S.Store conn.old).now.trees parent)) ∷ []) }
     ensures same { HasCleanDisk (state S.Store conn.new) → conn.old.schema ≡ room_schema → IsTrue (state S.Store conn.new).is_open → (state S.Store conn.old).now ≡ (state S.Store conn.old).committed
         → (state S.Store conn.new).now ≡ (state S.Store conn.old).now }
+    ensures alive { HasCleanDisk (state S.Store conn.new) → OnOk result (IsTrue (state S.Store conn.new).is_open) }
     ensures open { HasCleanDisk (state S.Store conn.new) → IsTrue (state S.Store conn.new).is_open → IsTrue (state S.Store conn.old).is_open }
     ensures mode { conn.old.in_transaction ≡ false → conn.new.in_transaction ≡ false }
     ensures clean { HasCleanDisk (state S.Store conn.new) → HasCleanDisk (state S.Store conn.old) }
@@ -84,6 +88,7 @@ pub(crate) fn entry_rows<S: Alter>(conn: &mut Connection<S>, id: u32) -> Result<
     ensures rows { HasCleanDisk (state S.Store conn.new) → conn.old.schema ≡ room_schema → IfOk result (λ rows. AllByRecursion HasEntryColumns rows.items → rows.items ≡ entry_rows (state S.Store conn.old).now.trees id) }
     ensures same { HasCleanDisk (state S.Store conn.new) → conn.old.schema ≡ room_schema → IsTrue (state S.Store conn.new).is_open → (state S.Store conn.old).now ≡ (state S.Store conn.old).committed
         → (state S.Store conn.new).now ≡ (state S.Store conn.old).now }
+    ensures alive { HasCleanDisk (state S.Store conn.new) → OnOk result (IsTrue (state S.Store conn.new).is_open) }
     ensures open { HasCleanDisk (state S.Store conn.new) → IsTrue (state S.Store conn.new).is_open → IsTrue (state S.Store conn.old).is_open }
     ensures mode { conn.old.in_transaction ≡ false → conn.new.in_transaction ≡ false }
     ensures clean { HasCleanDisk (state S.Store conn.new) → HasCleanDisk (state S.Store conn.old) }
@@ -100,6 +105,7 @@ pub(crate) fn doc_rows<S: Alter>(conn: &mut Connection<S>, id: u32) -> Result<Ve
     ensures rows { HasCleanDisk (state S.Store conn.new) → conn.old.schema ≡ room_schema → IfOk result (λ rows. IsPermutation (doc_rows (state S.Store conn.old).now.trees id) rows.items) }
     ensures same { HasCleanDisk (state S.Store conn.new) → conn.old.schema ≡ room_schema → IsTrue (state S.Store conn.new).is_open → (state S.Store conn.old).now ≡ (state S.Store conn.old).committed
         → (state S.Store conn.new).now ≡ (state S.Store conn.old).now }
+    ensures alive { HasCleanDisk (state S.Store conn.new) → OnOk result (IsTrue (state S.Store conn.new).is_open) }
     ensures open { HasCleanDisk (state S.Store conn.new) → IsTrue (state S.Store conn.new).is_open → IsTrue (state S.Store conn.old).is_open }
     ensures mode { conn.old.in_transaction ≡ false → conn.new.in_transaction ≡ false }
     ensures clean { HasCleanDisk (state S.Store conn.new) → HasCleanDisk (state S.Store conn.old) }
@@ -113,6 +119,7 @@ pub(crate) fn session_rows<S: Alter>(conn: &mut Connection<S>, sid: &str) -> Res
     ensures rows { HasCleanDisk (state S.Store conn.new) → conn.old.schema ≡ room_schema → IfOk result (λ rows. IsPermutation (session_rows (state S.Store conn.old).now.trees sid.now) rows.items) }
     ensures same { HasCleanDisk (state S.Store conn.new) → conn.old.schema ≡ room_schema → IsTrue (state S.Store conn.new).is_open → (state S.Store conn.old).now ≡ (state S.Store conn.old).committed
         → (state S.Store conn.new).now ≡ (state S.Store conn.old).now }
+    ensures alive { HasCleanDisk (state S.Store conn.new) → OnOk result (IsTrue (state S.Store conn.new).is_open) }
     ensures open { HasCleanDisk (state S.Store conn.new) → IsTrue (state S.Store conn.new).is_open → IsTrue (state S.Store conn.old).is_open }
     ensures mode { conn.old.in_transaction ≡ false → conn.new.in_transaction ≡ false }
     ensures clean { HasCleanDisk (state S.Store conn.new) → HasCleanDisk (state S.Store conn.old) }
@@ -133,6 +140,7 @@ pub(crate) fn slot_rows<S: Alter>(
     ensures rows { HasCleanDisk (state S.Store conn.new) → conn.old.schema ≡ room_schema → IfOk result (λ rows. IsPermutation (slot_rows (state S.Store conn.old).now.trees sid.now slot) rows.items) }
     ensures same { HasCleanDisk (state S.Store conn.new) → conn.old.schema ≡ room_schema → IsTrue (state S.Store conn.new).is_open → (state S.Store conn.old).now ≡ (state S.Store conn.old).committed
         → (state S.Store conn.new).now ≡ (state S.Store conn.old).now }
+    ensures alive { HasCleanDisk (state S.Store conn.new) → OnOk result (IsTrue (state S.Store conn.new).is_open) }
     ensures open { HasCleanDisk (state S.Store conn.new) → IsTrue (state S.Store conn.new).is_open → IsTrue (state S.Store conn.old).is_open }
     ensures mode { conn.old.in_transaction ≡ false → conn.new.in_transaction ≡ false }
     ensures clean { HasCleanDisk (state S.Store conn.new) → HasCleanDisk (state S.Store conn.old) }
@@ -149,6 +157,7 @@ pub(crate) fn next_rows<S: Alter>(conn: &mut Connection<S>) -> Result<Vec<Row>, 
     ensures rows { HasCleanDisk (state S.Store conn.new) → conn.old.schema ≡ room_schema → IfOk result (λ rows. IsPermutation (next_rows (state S.Store conn.old).now.trees) rows.items) }
     ensures same { HasCleanDisk (state S.Store conn.new) → conn.old.schema ≡ room_schema → IsTrue (state S.Store conn.new).is_open → (state S.Store conn.old).now ≡ (state S.Store conn.old).committed
         → (state S.Store conn.new).now ≡ (state S.Store conn.old).now }
+    ensures alive { HasCleanDisk (state S.Store conn.new) → OnOk result (IsTrue (state S.Store conn.new).is_open) }
     ensures open { HasCleanDisk (state S.Store conn.new) → IsTrue (state S.Store conn.new).is_open → IsTrue (state S.Store conn.old).is_open }
     ensures mode { conn.old.in_transaction ≡ false → conn.new.in_transaction ≡ false }
     ensures clean { HasCleanDisk (state S.Store conn.new) → HasCleanDisk (state S.Store conn.old) }

@@ -1,6 +1,6 @@
 //! The shelf.
 
-ghost use Rattle.std.specs.Prelude.{◌≡◌, ◌≤◌, false, Err};
+ghost use Rattle.std.specs.Prelude.{◌≡◌, ◌≢◌, ◌≤◌, false, Err};
 ghost use Rattle.room_records.specs.Shelf.{FailureCounted};
 
 use crate::rows::{
@@ -54,6 +54,7 @@ impl<S: Alter> SqlShelf<S> {
 fn fault(failures: &mut u64, error: Error) -> ShelfFault
     ensures counted { result ≡ ShelfFault.Store → FailureCounted failures.old failures.new }
     ensures never_falls { failures.old ≤ failures.new }
+    ensures quiet { result ≢ ShelfFault.Store → failures.new ≡ failures.old }
 {
     match error {
         Error::SqliteFailure(ErrorCode::OutOfMemory) => ShelfFault::Memory,
@@ -69,7 +70,7 @@ impl<S: Alter> Shelf for SqlShelf<S> {
     ghost use Rattle.sqlite_trees.specs.Tree.{Trees};
     ghost use Rattle.sqlite.specs.State.{HasCleanDisk};
     ghost use Rattle.sqlite.specs.Held.{state};
-    ghost use Rattle.room_tables.specs.Layout.{IsRoomDatabase};
+    ghost use Rattle.room_tables.specs.Layout.{IsRoomOfVersion1};
     ghost use Rattle.room_tables.specs.Rows.{records_of};
 
     ghost records = { λ s. records_of (state S.Store s.conn).now.trees };
@@ -78,7 +79,11 @@ impl<S: Alter> Shelf for SqlShelf<S> {
 
     ghost is_honest = { λ s. HasCleanDisk (state S.Store s.conn) × IsTrue (state S.Store s.conn).is_open };
 
-    ghost is_declared = { λ s. IsRoomDatabase (state S.Store s.conn).now };
+    ghost is_clean = { λ s. HasCleanDisk (state S.Store s.conn) };
+
+    ghost honest_is_clean = { λ s h. h.0 };
+
+    ghost is_declared = { λ s. IsRoomOfVersion1 (state S.Store s.conn).now };
 
     ghost crash_may_leave = { λ s left. HasCleanDisk (state S.Store s.conn) × ((trees : Trees) × (state S.Store s.conn).may_leave trees × (left ≡ records_of trees)) };
 

@@ -9,10 +9,10 @@ ghost use Rattle.room_records.specs.Records.{Records};
 ghost use Rattle.room_records.specs.Changes.{apply_change};
 ghost use Rattle.room_records.specs.declared.change.Change.TheVariants.{PutNode, PutEntries, PutNext};
 ghost use Rattle.room_tables.specs.Tables.{schema_0, schema_1, schema_2, schema_3, schema_4, schema_5, room_schema};
-ghost use Rattle.room_tables.specs.Rows.{records_of};
+ghost use Rattle.room_tables.specs.Rows.{version_rows, IsVersion1};
 ghost use Rattle.room_tables.specs.Layout.{IsRoomDatabase};
 ghost use Rattle.room_tables.specs.Steps.{Steps};
-ghost use Rattle.room_tables.specs.Fresh.{IsMade, IsFresh, MayBeFilled, MayBeMade, filled};
+ghost use Rattle.room_tables.specs.Fresh.{IsMade, IsFilled, IsFreshRoom, MayBeFilled, MayBeMade};
 
 use crate::rows::bad_value;
 use crate::writes::{put_entries, put_next, put_node};
@@ -182,7 +182,8 @@ fn fill<S: Alter>(
 ) -> Result<(), Error>
     ensures same_reference { tx.new.conn.ghost_name ≡ tx.old.conn.ghost_name }
     ensures ok { HasCleanDisk (state S.Store tx.new.conn.now) → OnOk result (IsRoomDatabase (state S.Store tx.old.conn.now).now →
-        Steps (state S.Store tx.old.conn.now) (state S.Store tx.new.conn.now) (λ r. apply_change (PutNext 2) (apply_change (PutEntries 1 entries.now) (apply_change (PutNode root.now) r)))) }
+        Steps (state S.Store tx.old.conn.now) (state S.Store tx.new.conn.now) (λ r. apply_change (PutNext 2) (apply_change (PutEntries 1 entries.now) (apply_change (PutNode root.now) r)))
+        × IsVersion1 (version_rows (state S.Store tx.new.conn.now).now.trees)) }
     ensures inside { HasCleanDisk (state S.Store tx.new.conn.now) → OnOk result (tx.new.conn.now.in_transaction ≡ true) }
     ensures kept { HasCleanDisk (state S.Store tx.new.conn.now) → KeepsCommit (state S.Store tx.old.conn.now) (state S.Store tx.new.conn.now) }
     ensures crash { Survives (state S.Store tx.old.conn.now) (state S.Store tx.new.conn.now) (λ _. ⊥) }
@@ -199,7 +200,7 @@ fn make_fresh<S: Alter>(
 ) -> Result<(), Error>
     ensures same_reference { tx.new.conn.ghost_name ≡ tx.old.conn.ghost_name }
     ensures ok { HasCleanDisk (state S.Store tx.new.conn.now) → OnOk result (tx.old.conn.now.schema ≡ schema_0 → IsRoomDatabase (state S.Store tx.new.conn.now).now ×
-        (records_of (state S.Store tx.new.conn.now).now.trees ≡ filled root.now entries.now)) }
+        IsFilled root.now entries.now (state S.Store tx.new.conn.now).now.trees) }
     ensures inside { HasCleanDisk (state S.Store tx.new.conn.now) → OnOk result (tx.new.conn.now.in_transaction ≡ true) }
     ensures kept { HasCleanDisk (state S.Store tx.new.conn.now) → KeepsCommit (state S.Store tx.old.conn.now) (state S.Store tx.new.conn.now) }
     ensures crash { Survives (state S.Store tx.old.conn.now) (state S.Store tx.new.conn.now) (λ _. ⊥) }
@@ -216,7 +217,7 @@ fn commit_fresh<S: Alter>(
     requires { conn.old.in_transaction ≡ false }
     ensures mode { conn.new.in_transaction ≡ false }
     ensures ok { HasCleanDisk (state S.Store conn.new) → OnOk result (IsTrue (state S.Store conn.new).is_open × (conn.old.schema ≡ schema_0 →
-        IsRoomDatabase (state S.Store conn.new).now × (records_of (state S.Store conn.new).now.trees ≡ filled root.now entries.now))) }
+        IsRoomDatabase (state S.Store conn.new).now × IsFilled root.now entries.now (state S.Store conn.new).now.trees)) }
     ensures err { HasCleanDisk (state S.Store conn.new) → IsTrue (state S.Store conn.new).is_open → OnErr result ((state S.Store conn.new).now ≡ (state S.Store conn.old).committed) }
     ensures settled { HasCleanDisk (state S.Store conn.new) → OnOk result ((state S.Store conn.new).committed ≡ (state S.Store conn.new).now) }
     ensures kept { HasCleanDisk (state S.Store conn.new) → IsTrue (state S.Store conn.new).is_open → IsTrue (state S.Store conn.old).is_open }
@@ -237,8 +238,11 @@ pub(crate) fn make<S: Alter>(
     requires { conn.old.in_transaction ≡ false }
     ensures mode { conn.new.in_transaction ≡ false }
     ensures ok { HasCleanDisk (state S.Store conn.new) → OnOk result (IsTrue (state S.Store conn.new).is_open × (conn.old.schema ≡ schema_0 →
-        IsRoomDatabase (state S.Store conn.new).now × IsFresh owner.now group.now (records_of (state S.Store conn.new).now.trees))) }
+        IsRoomDatabase (state S.Store conn.new).now × IsFreshRoom owner.now group.now (state S.Store conn.new).now.trees)) }
+    ensures err { HasCleanDisk (state S.Store conn.new) → IsTrue (state S.Store conn.new).is_open → (state S.Store conn.old).now ≡ (state S.Store conn.old).committed
+        → OnErr result ((state S.Store conn.new).now ≡ (state S.Store conn.old).now) }
     ensures settled { HasCleanDisk (state S.Store conn.new) → OnOk result ((state S.Store conn.new).committed ≡ (state S.Store conn.new).now) }
+    ensures kept { HasCleanDisk (state S.Store conn.new) → IsTrue (state S.Store conn.new).is_open → IsTrue (state S.Store conn.old).is_open }
     ensures crash { Survives (state S.Store conn.old) (state S.Store conn.new) (MayBeMade owner.now group.now (state S.Store conn.old).now) }
 {
     let root = fresh_root(owner, group)?;

@@ -1,14 +1,15 @@
 //! Values of a room as the tables hold them.
 
-ghost use Rattle.std.specs.Prelude.{◌≡◌};
+ghost use Rattle.std.specs.Prelude.{◌≡◌, [], ◌∷◌};
+ghost use Rattle.sqlite.specs.Values.{bound};
 ghost use Rattle.room_tables.specs.Rows.{name_of_text, who_of};
 ghost use Rattle.room_tables.specs.Layout.{parent_value};
-ghost use Rattle.room_tables.specs.Steps.{kind_number, flag_of, type_of, text_of_who};
+ghost use Rattle.room_tables.specs.Steps.{kind_number, flag_of, type_of, text_of_who, shown_as, IsReadBack};
 
 use room_acl::{Entry, Kind, Who};
 use room_records::Node;
 use room_slots::Kept;
-use sqlite::types::Value;
+use sqlite::types::{ToSql, Value, ValueRef};
 
 /// The name of a node, and the empty text for the root's.
 pub(crate) fn name_text(node: &Node) -> &str
@@ -70,25 +71,6 @@ pub(crate) fn flag_number(flag: bool) -> u32
     if flag { 1 } else { 0 }
 }
 
-/// 0 is ALLOW and 1 is DENY.
-pub(crate) fn type_number(entry: &Entry) -> u32
-    ensures { result ≡ type_of entry.now.allow }
-{
-    if entry.allow() { 0 } else { 1 }
-}
-
-pub(crate) fn entry_flags(entry: &Entry) -> u32
-    ensures { result ≡ entry.now.flags }
-{
-    u32::from(entry.flags().bits())
-}
-
-pub(crate) fn entry_mask(entry: &Entry) -> u32
-    ensures { result ≡ entry.now.mask }
-{
-    entry.mask().bits()
-}
-
 pub(crate) fn kept_number(kept: &Kept) -> u32
     ensures { result ≡ kept.now.seq }
 {
@@ -107,8 +89,27 @@ pub(crate) fn kept_reply(kept: &Kept) -> &[u8]
     kept.reply.as_slice()
 }
 
+/// 0 is ALLOW and 1 is DENY.
+fn type_number(entry: &Entry) -> u32
+    ensures { result ≡ type_of entry.now.allow }
+{
+    if entry.allow() { 0 } else { 1 }
+}
+
+fn entry_flags(entry: &Entry) -> u32
+    ensures { result ≡ entry.now.flags }
+{
+    u32::from(entry.flags().bits())
+}
+
+fn entry_mask(entry: &Entry) -> u32
+    ensures { result ≡ entry.now.mask }
+{
+    entry.mask().bits()
+}
+
 /// Whom the entry names, as text that is read back as the same.
-pub(crate) fn who_text(entry: &Entry) -> &str
+fn who_text(entry: &Entry) -> &str
     ensures value { result.now ≡ text_of_who entry.now.who }
     ensures back { who_of entry.now.flags result.now ≡ entry.now.who }
 {
@@ -118,5 +119,28 @@ pub(crate) fn who_text(entry: &Entry) -> &str
         Who::Everyone => "EVERYONE@",
         Who::User(name) => name.text(),
         Who::Members(name) => name.text(),
+    }
+}
+
+/// The columns of an entry behind its node's number.
+#[derive(Clone, Copy)]
+pub(crate) struct EntryRow<'a> {
+    pub(crate) place: ValueRef<'a>,
+    pub(crate) kind: ValueRef<'a>,
+    pub(crate) flags: ValueRef<'a>,
+    pub(crate) mask: ValueRef<'a>,
+    pub(crate) who: ValueRef<'a>,
+}
+
+pub(crate) fn entry_row(place: u32, entry: &Entry) -> EntryRow<'_>
+    ensures row { bound (result.place ∷ result.kind ∷ result.flags ∷ result.mask ∷ result.who ∷ []) ≡ shown_as place entry.now }
+    ensures back { IsReadBack entry.now }
+{
+    EntryRow {
+        place: place.to_sql(),
+        kind: type_number(entry).to_sql(),
+        flags: entry_flags(entry).to_sql(),
+        mask: entry_mask(entry).to_sql(),
+        who: who_text(entry).to_sql(),
     }
 }

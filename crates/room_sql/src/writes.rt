@@ -1,23 +1,23 @@
 //! The changes, each inside a transaction.
 
-ghost use Rattle.std.specs.Prelude.{◌≡◌, [], ◌∷◌, ◌++◌, length, OnOk, OnErr, true, false, IsTrue};
+ghost use Rattle.std.specs.Prelude.{◌≡◌, ◌+◌, ◌^◌, ◌<◌, ◌≤◌, [], ◌∷◌, ◌++◌, length, OnOk, OnErr, true, false, IsTrue};
 ghost use Rattle.sqlite.specs.State.{HasCleanDisk, KeepsCommit, Survives};
 ghost use Rattle.sqlite.specs.Held.{state};
-ghost use Rattle.room_records.specs.Records.{Records};
+ghost use Rattle.sqlite_trees.specs.Tree.{Trees};
 ghost use Rattle.room_records.specs.Changes.{apply_change, apply_changes};
 ghost use Rattle.room_records.specs.declared.change.Change.TheVariants.{PutNode, DropNode, PutEntries, PutDoc, PutSession, PutSlot, DropSlots, PutNext};
-ghost use Rattle.room_tables.specs.Rows.{records_of};
+ghost use Rattle.room_tables.specs.Rows.{records_of, version_rows, IsVersion1};
 ghost use Rattle.room_tables.specs.Layout.{IsRoomDatabase};
 ghost use Rattle.room_tables.specs.Steps.{Steps, Lists, MayBecome, HasNoSlot, without_slot};
 
 use crate::values::{
-    entry_flags, entry_mask, flag_number, group_text, kept_number, kept_reply, kept_request,
-    kind_number, list_flags, name_text, node_number, owner_text, parent_value, type_number,
-    who_text,
+    entry_row, flag_number, group_text, kept_number, kept_reply, kept_request, kind_number,
+    list_flags, name_text, node_number, owner_text, parent_value,
 };
 use room_acl::Entry;
 use room_records::{Change, Node, SessionRow, Sid, SlotRow};
 use room_slots::Kept;
+use sqlite::types::ToSql;
 use sqlite::{Alter, Connection, Error, ErrorCode, Transaction, params};
 
 /// Adds or replaces the row of the node's number. Entries and document stay.
@@ -60,7 +60,7 @@ fn drop_node<S: Alter>(tx: &mut Transaction<'_, S>, id: u32) -> Result<(), Error
 fn clear_entries<S: Alter>(tx: &mut Transaction<'_, S>, id: u32) -> Result<(), Error>
     ensures same_reference { tx.new.conn.ghost_name ≡ tx.old.conn.ghost_name }
     ensures ok { HasCleanDisk (state S.Store tx.new.conn.now) → OnOk result (IsRoomDatabase (state S.Store tx.old.conn.now).now →
-        Lists (records_of (state S.Store tx.old.conn.now).now.trees) id [] (state S.Store tx.new.conn.now).now) }
+        Lists (state S.Store tx.old.conn.now).now.trees id [] (state S.Store tx.new.conn.now).now) }
     ensures inside { HasCleanDisk (state S.Store tx.new.conn.now) → OnOk result (tx.new.conn.now.in_transaction ≡ true) }
     ensures kept { HasCleanDisk (state S.Store tx.new.conn.now) → KeepsCommit (state S.Store tx.old.conn.now) (state S.Store tx.new.conn.now) }
     ensures crash { Survives (state S.Store tx.old.conn.now) (state S.Store tx.new.conn.now) (λ _. ⊥) }
@@ -69,48 +69,210 @@ fn clear_entries<S: Alter>(tx: &mut Transaction<'_, S>, id: u32) -> Result<(), E
     Ok(())
 }
 
-/// Puts one more entry at the end of the object's.
-fn add_entry<S: Alter>(
+/// Puts one more entry behind the object's.
+fn add_one<S: Alter>(
     tx: &mut Transaction<'_, S>,
     id: u32,
     place: u32,
-    entry: &Entry,
+    a: &Entry,
 ) -> Result<(), Error>
     ensures same_reference { tx.new.conn.ghost_name ≡ tx.old.conn.ghost_name }
-    ensures ok { HasCleanDisk (state S.Store tx.new.conn.now) → OnOk result ((records : Records) (before : _) → length before ≡ place →
-        Lists records id before (state S.Store tx.old.conn.now).now → Lists records id (before ++ entry.now ∷ []) (state S.Store tx.new.conn.now).now) }
+    ensures ok { HasCleanDisk (state S.Store tx.new.conn.now) → OnOk result ((was : Trees) (before : _) → length before ≡ place →
+        Lists was id before (state S.Store tx.old.conn.now).now → Lists was id (before ++ a.now ∷ []) (state S.Store tx.new.conn.now).now) }
     ensures inside { HasCleanDisk (state S.Store tx.new.conn.now) → OnOk result (tx.new.conn.now.in_transaction ≡ true) }
     ensures kept { HasCleanDisk (state S.Store tx.new.conn.now) → KeepsCommit (state S.Store tx.old.conn.now) (state S.Store tx.new.conn.now) }
     ensures crash { Survives (state S.Store tx.old.conn.now) (state S.Store tx.new.conn.now) (λ _. ⊥) }
 {
-    let kind = type_number(entry);
-    let flags = entry_flags(entry);
-    let mask = entry_mask(entry);
-    let who = who_text(entry);
+    let a = entry_row(place, a);
     tx.execute(
         "INSERT INTO entry (node, place, type, flag, mask, who) VALUES (?1, ?2, ?3, ?4, ?5, ?6)",
-        params![id, place, kind, flags, mask, who],
+        &[id.to_sql(), a.place, a.kind, a.flags, a.mask, a.who],
     )?;
     Ok(())
 }
 
+/// Puts two more entries behind the object's, in their order.
+fn add_two<S: Alter>(
+    tx: &mut Transaction<'_, S>,
+    id: u32,
+    place: u32,
+    a: &Entry,
+    b: &Entry,
+) -> Result<(), Error>
+    requires { place + 1 < 2 ^ 32 }
+    ensures same_reference { tx.new.conn.ghost_name ≡ tx.old.conn.ghost_name }
+    ensures ok { HasCleanDisk (state S.Store tx.new.conn.now) → OnOk result ((was : Trees) (before : _) → length before ≡ place →
+        Lists was id before (state S.Store tx.old.conn.now).now → Lists was id (before ++ a.now ∷ b.now ∷ []) (state S.Store tx.new.conn.now).now) }
+    ensures inside { HasCleanDisk (state S.Store tx.new.conn.now) → OnOk result (tx.new.conn.now.in_transaction ≡ true) }
+    ensures kept { HasCleanDisk (state S.Store tx.new.conn.now) → KeepsCommit (state S.Store tx.old.conn.now) (state S.Store tx.new.conn.now) }
+    ensures crash { Survives (state S.Store tx.old.conn.now) (state S.Store tx.new.conn.now) (λ _. ⊥) }
+{
+    let a = entry_row(place, a);
+    let b = entry_row(place + 1, b);
+    tx.execute(
+        "INSERT INTO entry (node, place, type, flag, mask, who) VALUES (?1, ?2, ?3, ?4, ?5, ?6), (?1, ?7, ?8, ?9, ?10, ?11)",
+        &[
+            id.to_sql(),
+            a.place,
+            a.kind,
+            a.flags,
+            a.mask,
+            a.who,
+            b.place,
+            b.kind,
+            b.flags,
+            b.mask,
+            b.who,
+        ],
+    )?;
+    Ok(())
+}
+
+/// Puts three more entries behind the object's, in their order.
+fn add_three<S: Alter>(
+    tx: &mut Transaction<'_, S>,
+    id: u32,
+    place: u32,
+    a: &Entry,
+    b: &Entry,
+    c: &Entry,
+) -> Result<(), Error>
+    requires { place + 2 < 2 ^ 32 }
+    ensures same_reference { tx.new.conn.ghost_name ≡ tx.old.conn.ghost_name }
+    ensures ok { HasCleanDisk (state S.Store tx.new.conn.now) → OnOk result ((was : Trees) (before : _) → length before ≡ place →
+        Lists was id before (state S.Store tx.old.conn.now).now → Lists was id (before ++ a.now ∷ b.now ∷ c.now ∷ []) (state S.Store tx.new.conn.now).now) }
+    ensures inside { HasCleanDisk (state S.Store tx.new.conn.now) → OnOk result (tx.new.conn.now.in_transaction ≡ true) }
+    ensures kept { HasCleanDisk (state S.Store tx.new.conn.now) → KeepsCommit (state S.Store tx.old.conn.now) (state S.Store tx.new.conn.now) }
+    ensures crash { Survives (state S.Store tx.old.conn.now) (state S.Store tx.new.conn.now) (λ _. ⊥) }
+{
+    let a = entry_row(place, a);
+    let b = entry_row(place + 1, b);
+    let c = entry_row(place + 2, c);
+    tx.execute(
+        "INSERT INTO entry (node, place, type, flag, mask, who) VALUES (?1, ?2, ?3, ?4, ?5, ?6), (?1, ?7, ?8, ?9, ?10, ?11), (?1, ?12, ?13, ?14, ?15, ?16)",
+        &[
+            id.to_sql(),
+            a.place,
+            a.kind,
+            a.flags,
+            a.mask,
+            a.who,
+            b.place,
+            b.kind,
+            b.flags,
+            b.mask,
+            b.who,
+            c.place,
+            c.kind,
+            c.flags,
+            c.mask,
+            c.who,
+        ],
+    )?;
+    Ok(())
+}
+
+/// Puts four more entries behind the object's, in their order.
+fn add_four<S: Alter>(
+    tx: &mut Transaction<'_, S>,
+    id: u32,
+    place: u32,
+    a: &Entry,
+    b: &Entry,
+    c: &Entry,
+    d: &Entry,
+) -> Result<(), Error>
+    requires { place + 3 < 2 ^ 32 }
+    ensures same_reference { tx.new.conn.ghost_name ≡ tx.old.conn.ghost_name }
+    ensures ok { HasCleanDisk (state S.Store tx.new.conn.now) → OnOk result ((was : Trees) (before : _) → length before ≡ place →
+        Lists was id before (state S.Store tx.old.conn.now).now → Lists was id (before ++ a.now ∷ b.now ∷ c.now ∷ d.now ∷ []) (state S.Store tx.new.conn.now).now) }
+    ensures inside { HasCleanDisk (state S.Store tx.new.conn.now) → OnOk result (tx.new.conn.now.in_transaction ≡ true) }
+    ensures kept { HasCleanDisk (state S.Store tx.new.conn.now) → KeepsCommit (state S.Store tx.old.conn.now) (state S.Store tx.new.conn.now) }
+    ensures crash { Survives (state S.Store tx.old.conn.now) (state S.Store tx.new.conn.now) (λ _. ⊥) }
+{
+    let a = entry_row(place, a);
+    let b = entry_row(place + 1, b);
+    let c = entry_row(place + 2, c);
+    let d = entry_row(place + 3, d);
+    tx.execute(
+        "INSERT INTO entry (node, place, type, flag, mask, who) VALUES (?1, ?2, ?3, ?4, ?5, ?6), (?1, ?7, ?8, ?9, ?10, ?11), (?1, ?12, ?13, ?14, ?15, ?16), (?1, ?17, ?18, ?19, ?20, ?21)",
+        &[
+            id.to_sql(),
+            a.place,
+            a.kind,
+            a.flags,
+            a.mask,
+            a.who,
+            b.place,
+            b.kind,
+            b.flags,
+            b.mask,
+            b.who,
+            c.place,
+            c.kind,
+            c.flags,
+            c.mask,
+            c.who,
+            d.place,
+            d.kind,
+            d.flags,
+            d.mask,
+            d.who,
+        ],
+    )?;
+    Ok(())
+}
+
+/// The most entries that one statement puts. Each number of them up to this has a text of its own,
+/// and the connection keeps the plans of so few texts.
+const BATCH: usize = 4;
+
+/// Puts up to four more entries behind the object's, in their order and by one statement.
+fn add_batch<S: Alter>(
+    tx: &mut Transaction<'_, S>,
+    id: u32,
+    place: u32,
+    batch: &[Entry],
+) -> Result<(), Error>
+    requires few { length batch.now ≤ 4 }
+    requires small { place + length batch.now < 2 ^ 32 }
+    ensures same_reference { tx.new.conn.ghost_name ≡ tx.old.conn.ghost_name }
+    ensures ok { HasCleanDisk (state S.Store tx.new.conn.now) → OnOk result ((was : Trees) (before : _) → length before ≡ place →
+        Lists was id before (state S.Store tx.old.conn.now).now → Lists was id (before ++ batch.now) (state S.Store tx.new.conn.now).now) }
+    ensures inside { HasCleanDisk (state S.Store tx.new.conn.now) → OnOk result (tx.old.conn.now.in_transaction ≡ true → tx.new.conn.now.in_transaction ≡ true) }
+    ensures kept { HasCleanDisk (state S.Store tx.new.conn.now) → KeepsCommit (state S.Store tx.old.conn.now) (state S.Store tx.new.conn.now) }
+    ensures crash { Survives (state S.Store tx.old.conn.now) (state S.Store tx.new.conn.now) (λ _. ⊥) }
+{
+    match batch {
+        [] => Ok(()),
+        [a] => add_one(tx, id, place, a),
+        [a, b] => add_two(tx, id, place, a, b),
+        [a, b, c] => add_three(tx, id, place, a, b, c),
+        [a, b, c, d] => add_four(tx, id, place, a, b, c, d),
+        _ => unreachable!(),
+    }
+}
+
+/// Puts the entries of an object that has none, in batches.
 fn add_entries<S: Alter>(
     tx: &mut Transaction<'_, S>,
     id: u32,
     entries: &[Entry],
 ) -> Result<(), Error>
     ensures same_reference { tx.new.conn.ghost_name ≡ tx.old.conn.ghost_name }
-    ensures ok { HasCleanDisk (state S.Store tx.new.conn.now) → OnOk result ((records : Records) → Lists records id [] (state S.Store tx.old.conn.now).now →
-        Lists records id entries.now (state S.Store tx.new.conn.now).now) }
+    ensures ok { HasCleanDisk (state S.Store tx.new.conn.now) → OnOk result ((was : Trees) → Lists was id [] (state S.Store tx.old.conn.now).now →
+        Lists was id entries.now (state S.Store tx.new.conn.now).now) }
     ensures inside { HasCleanDisk (state S.Store tx.new.conn.now) → OnOk result (tx.old.conn.now.in_transaction ≡ true → tx.new.conn.now.in_transaction ≡ true) }
     ensures kept { HasCleanDisk (state S.Store tx.new.conn.now) → KeepsCommit (state S.Store tx.old.conn.now) (state S.Store tx.new.conn.now) }
     ensures crash { Survives (state S.Store tx.old.conn.now) (state S.Store tx.new.conn.now) (λ _. ⊥) }
 {
-    for (index, entry) in entries.iter().enumerate() {
-        let Ok(place) = u32::try_from(index) else {
-            return Err(Error::SqliteFailure(ErrorCode::TooBig));
-        };
-        add_entry(tx, id, place, entry)?;
+    if u32::try_from(entries.len()).is_err() {
+        return Err(Error::SqliteFailure(ErrorCode::TooBig));
+    }
+    let mut place: u32 = 0;
+    for batch in entries.chunks(BATCH) {
+        add_batch(tx, id, place, batch)?;
+        place += batch.len() as u32;
     }
     Ok(())
 }
@@ -237,17 +399,17 @@ fn drop_slots<S: Alter>(tx: &mut Transaction<'_, S>, sid: &Sid) -> Result<(), Er
     Ok(())
 }
 
-/// Sets the next number.
+/// Sets the next number, in a row of version 1.
 pub(crate) fn put_next<S: Alter>(tx: &mut Transaction<'_, S>, next: u32) -> Result<(), Error>
     ensures same_reference { tx.new.conn.ghost_name ≡ tx.old.conn.ghost_name }
     ensures ok { HasCleanDisk (state S.Store tx.new.conn.now) → OnOk result (IsRoomDatabase (state S.Store tx.old.conn.now).now →
-        Steps (state S.Store tx.old.conn.now) (state S.Store tx.new.conn.now) (apply_change (PutNext next))) }
+        Steps (state S.Store tx.old.conn.now) (state S.Store tx.new.conn.now) (apply_change (PutNext next)) × IsVersion1 (version_rows (state S.Store tx.new.conn.now).now.trees)) }
     ensures inside { HasCleanDisk (state S.Store tx.new.conn.now) → OnOk result (tx.new.conn.now.in_transaction ≡ true) }
     ensures kept { HasCleanDisk (state S.Store tx.new.conn.now) → KeepsCommit (state S.Store tx.old.conn.now) (state S.Store tx.new.conn.now) }
     ensures crash { Survives (state S.Store tx.old.conn.now) (state S.Store tx.new.conn.now) (λ _. ⊥) }
 {
     tx.execute(
-        "INSERT INTO room (one, version, next) VALUES (1, 1, ?1) ON CONFLICT (one) DO UPDATE SET next = excluded.next",
+        "INSERT INTO room (one, version, next) VALUES (1, 1, ?1) ON CONFLICT (one) DO UPDATE SET version = excluded.version, next = excluded.next",
         params![next],
     )?;
     Ok(())
@@ -294,6 +456,8 @@ pub(crate) fn commit<S: Alter>(conn: &mut Connection<S>, changes: &[Change]) -> 
     ensures mode { conn.new.in_transaction ≡ false }
     ensures ok { HasCleanDisk (state S.Store conn.new) → OnOk result (IsTrue (state S.Store conn.new).is_open × (IsRoomDatabase (state S.Store conn.old).now →
         IsRoomDatabase (state S.Store conn.new).now × MayBecome changes.now (state S.Store conn.old).now (state S.Store conn.new).now.trees)) }
+    ensures version { HasCleanDisk (state S.Store conn.new) → OnOk result (IsRoomDatabase (state S.Store conn.old).now → IsVersion1 (version_rows (state S.Store conn.old).now.trees) →
+        IsVersion1 (version_rows (state S.Store conn.new).now.trees)) }
     ensures err { HasCleanDisk (state S.Store conn.new) → IsTrue (state S.Store conn.new).is_open → OnErr result ((state S.Store conn.new).now ≡ (state S.Store conn.old).committed) }
     ensures settled { HasCleanDisk (state S.Store conn.new) → OnOk result ((state S.Store conn.new).committed ≡ (state S.Store conn.new).now) }
     ensures kept { HasCleanDisk (state S.Store conn.new) → IsTrue (state S.Store conn.new).is_open → IsTrue (state S.Store conn.old).is_open }

@@ -15,9 +15,9 @@ use Rattle.sqlite_keyed.proofs.ListLemmas.{filter_same, ascending_from_map}
 use Rattle.sqlite.specs.State.{State, Shown}
 use Rattle.sqlite.proofs.Callers.{reads_as, one_permutation}
 use Rattle.room_tables.specs.Tables.{room_schema}
-use Rattle.room_tables.specs.Texts.{find_node_text, find_node_query, find_child_text, find_child_query, list_children_text, list_children_query, count_children_text, count_children_query, counted, all_rows, list_entries_text, list_entries_query, find_doc_text, find_doc_query, find_session_text, find_session_query, find_slot_text, find_slot_query, find_next_text, find_next_query}
-use Rattle.room_tables.specs.Rows.{has, has_text, is_child_named, is_slot, shown_node, node_rows, named_rows, child_rows, shown_entry, entry_rows, IsEntryRow, HasEntryColumns, shown_doc, doc_rows, shown_session, session_rows, shown_slot, slot_rows, shown_next, next_rows}
-use Rattle.room_tables.proofs.Meaning.{find_node_is, find_node_plain, find_child_is, find_child_plain, list_children_is, list_children_plain, count_children_is, count_children_plain, list_entries_is, list_entries_plain, find_doc_is, find_doc_plain, find_session_is, find_session_plain, find_slot_is, find_slot_plain, find_next_is, find_next_plain}
+use Rattle.room_tables.specs.Texts.{find_node_text, find_node_query, find_child_text, find_child_query, list_children_text, list_children_query, count_children_text, count_children_query, counted, all_rows, list_entries_text, list_entries_query, find_doc_text, find_doc_query, find_session_text, find_session_query, find_slot_text, find_slot_query, find_next_text, find_next_query, find_version_text, find_version_query}
+use Rattle.room_tables.specs.Rows.{has, has_text, is_child_named, is_slot, shown_node, node_rows, named_rows, child_rows, shown_entry, entry_rows, IsEntryRow, HasEntryColumns, shown_doc, doc_rows, shown_session, session_rows, shown_slot, slot_rows, shown_next, next_rows, shown_version, version_rows}
+use Rattle.room_tables.proofs.Meaning.{find_node_is, find_node_plain, find_child_is, find_child_plain, list_children_is, list_children_plain, count_children_is, count_children_plain, list_entries_is, list_entries_plain, find_doc_is, find_doc_plain, find_session_is, find_session_plain, find_slot_is, find_slot_plain, find_next_is, find_next_plain, find_version_is, find_version_plain}
 use Rattle.room_tables.specs.Names.{name_keys, name_key, ByName, counted_row}
 use Rattle.room_tables.proofs.Queries.{passing, and_true, picked, found, listed, envs_are, sorted_keys}
 use Rattle.sqlite_rules.proofs.ListLemmas.{all_has, all_from}
@@ -96,6 +96,11 @@ pub asks_next : (old new : State) (rows : List Row) → old.now.schema ≡ room_
 asks_next old new rows schema h =
     found find_next_query [] (old.now.trees 0) rows (has 0 1) shown_next (λ r. and_true (has 0 1 r)) (λ r. refl)
     (picked old new find_next_text _ 0 _ _ [] _ rows schema find_next_is find_next_plain refl h)
+
+pub asks_version : (old new : State) (rows : List Row) → old.now.schema ≡ room_schema → Shown find_version_text [] old new rows → IsPermutation (version_rows old.now.trees) rows
+asks_version old new rows schema h =
+    found find_version_query [] (old.now.trees 0) rows (has 0 1) shown_version (λ r. and_true (has 0 1 r)) (λ r. refl)
+    (picked old new find_version_text _ 0 _ _ [] _ rows schema find_version_is find_version_plain refl h)
 
 -- ---- the count
 

@@ -1,12 +1,13 @@
 -- What the statements that write do to the tables.
-use Rattle.std.proofs.Common.{◌≡◌, ◌≢◌, ◌⊎◌, length, ◌/◌, MatchBool, is_lt, int_cmp, inl, inr, ℕ, ℤ, Bool, true, false, not, cond, List, [], ◌∷◌, filter, slice_get, Option, None, Some, Ok, Err, Result, IfErr, OnErr, refl, sym, ap, subst, true≢false, ◌∙◌}
+use Rattle.std.proofs.Common.{◌≡◌, ◌≢◌, ◌⊎◌, length, ◌/◌, MatchBool, is_lt, int_cmp, inl, inr, ℕ, ℤ, Bool, true, false, not, cond, List, [], ◌∷◌, map, drop, filter, slice_get, Option, None, Some, Ok, Err, Result, IfErr, OnErr, refl, sym, ap, subst, true≢false, ◌∙◌}
 use Rattle.std.proofs.lemmas.Bool.{cases_Bool}
 use Rattle.sqlite_value.specs.declared.value.Value.TheVariants.{Null, Int}
 use Rattle.sqlite_value.specs.Order.{Row}
 use Rattle.sqlite_trees.specs.Tree.{Trees, rowid, put_row}
 use Rattle.sqlite_sql.specs.Program.{overlay}
-use Rattle.sqlite_keyed.proofs.RuleLemmas.{first_of_both}
-use Rattle.sqlite_rules.specs.Edit.{edit_of, next_rowid, is_taken, are_fresh, put_all}
+use Rattle.sqlite_keyed.proofs.RuleLemmas.{first_of_both, second_of_both}
+use Rattle.sqlite_rules.specs.Edit.{edit_of, next_rowid, is_taken, are_fresh, numbered, put_all}
+use Rattle.sqlite_rules.specs.Cast.{cast_row}
 use Rattle.sqlite_rules.specs.Calls.{ids_of}
 use Rattle.sqlite_rules.specs.Action.{works}
 use Rattle.sqlite.specs.Rowids.TheVariants.{Chosen, Given, Above}
@@ -139,21 +140,30 @@ pub not_counted : (task : Task) (db next : Trees) (counter : Option Row) (top : 
 not_counted task db next counter top plain h =
     same_value (subst (λ b. MatchBool (cond b (is_lt (int_cmp (count_of counter) top)) false) (CountsIn task db counter top (sequence task.schema) (Ok next)) (Gives db (Ok next))) plain h)
 
--- the rows with one more, whose rowid was free
-pub record HasMore (rows new : List Row) (tail : Row) : Type 0 where
-  pub rowid : ℤ
-  pub free : is_taken rows (Int rowid ∷ tail) ≡ false
-  pub is : new ≡ put_row (Int rowid ∷ tail) rows
+-- the rows with some more, which went in one after another, each at a rowid that was free
+abbrev pub HasAll : List Row → List Row → List Row → Type 0
+HasAll rows new [] = new ≡ rows
+HasAll rows new (tail ∷ tails) = (rowid : ℤ) × (is_taken rows (Int rowid ∷ tail) ≡ false) × HasAll (put_row (Int rowid ∷ tail) rows) new tails
 
--- an INSERT of one row whose rowid is chosen
-pub inserted : (old new : State) (at : ℕ) (table : Table) (sql : List ℕ) (params tail : Row) (terms : List Term) (width count : ℕ)
+-- rows before their rowids are chosen
+abbrev pub unnumbered : List Row → List Row
+unnumbered tails = map (λ tail. Null ∷ tail) tails
+
+all_chosen : (rows tails : List Row) → are_fresh rows (numbered Chosen rows (unnumbered tails)) ≡ true → HasAll rows (put_all rows (numbered Chosen rows (unnumbered tails))) tails
+all_chosen rows [] fresh = refl
+all_chosen rows (tail ∷ tails) fresh =
+    let id = next_rowid rows in
+    (id, not_true _ (first_of_both _ _ fresh), all_chosen (put_row (Int id ∷ tail) rows) tails (second_of_both _ _ fresh))
+
+-- an INSERT of some rows whose rowids are chosen
+pub inserted_all : (old new : State) (at : ℕ) (table : Table) (sql : List ℕ) (params : Row) (tails : List Row) (terms : List Term) (width count : ℕ)
     → slice_get room_schema.tables at ≡ Some table → old.now.schema ≡ room_schema → table.is_counted ≡ false
     → command_of (understood room_schema sql) ≡ Insert at (Values terms width) → IsPlain (understood room_schema sql)
-    → ((new : Row) → works room_schema Enforced 0 table.tree [] (new ∷ []) ≡ [])
-    → (edit_of old.now.trees table [] Chosen 0 (value_rows (stamped table params) width (length terms / width) terms)).news ≡ (Int (next_rowid (old.now.trees table.tree)) ∷ tail) ∷ []
+    → ((news : List Row) → works room_schema Enforced 0 table.tree [] news ≡ [])
+    → map (λ row. cast_row table (drop 0 row)) (value_rows (stamped table params) width (length terms / width) terms) ≡ unnumbered tails
     → Executes sql params old new (Ok count)
-    → (new.now.schema ≡ room_schema) × HasMore (old.now.trees table.tree) (new.now.trees table.tree) tail × Others table.tree old.now.trees new.now.trees
-inserted old new at table sql params tail terms width count place schema uncounted is plain quiet news_are h =
+    → (new.now.schema ≡ room_schema) × HasAll (old.now.trees table.tree) (new.now.trees table.tree) tails × Others table.tree old.now.trees new.now.trees
+inserted_all old new at table sql params tails terms width count place schema uncounted is plain quiet cast_are h =
     let db = old.now.trees in
     let w = inserts old new at table (Values terms width) _ params count place schema (runs_as sql params old new room_schema schema _ is plain count h) in
     let given = went w.written in
@@ -163,17 +173,13 @@ inserted old new at table sql params tail terms width count place schema uncount
     let counted = went mid.2 in
     let edit = edit_of db table [] Chosen 0 given.0 in
     let trees : w.rows.trees ≡ mid.0 = ap (λ (it : Written). it.trees) (same_value counted.2) ∙ not_counted (task_on old table params) mid.0 counted.0 counter.0 _ uncounted counted.1 in
-    let row = Int (next_rowid (db table.tree)) ∷ tail in
-    let news : edit.news ≡ row ∷ [] = ap (λ all. (edit_of db table [] Chosen 0 all).news) given.1.1 ∙ news_are in
-    let quiet_here = subst (λ n. works room_schema Enforced 0 table.tree [] n ≡ []) (sym news) (quiet row) in
-    let one = one_step room_schema Enforced db mid.0 edit quiet_here (subst (λ c. Edited room_schema Enforced db (edit_of db table [] c 0 given.0) (Ok mid.0)) (by_choice (count_of counter.0)) mid.1) in
-    let to = ap (λ (d : Database). d.trees) w.now ∙ trees in (
+    let rows : map (λ row. cast_row table (drop 0 row)) given.0 ≡ unnumbered tails = ap (map (λ row. cast_row table (drop 0 row))) given.1.1 ∙ cast_are in
+    let news : edit.news ≡ numbered Chosen (db table.tree) (unnumbered tails) = ap (numbered Chosen (db table.tree)) rows in
+    let one = one_step room_schema Enforced db mid.0 edit (quiet edit.news) (subst (λ c. Edited room_schema Enforced db (edit_of db table [] c 0 given.0) (Ok mid.0)) (by_choice (count_of counter.0)) mid.1) in
+    let to = ap (λ (d : Database). d.trees) w.now ∙ trees in
+    let is : new.now.trees table.tree ≡ put_all (db table.tree) (numbered Chosen (db table.tree) (unnumbered tails)) = ap (λ (t : Trees). t table.tree) to ∙ one.rows ∙ ap (put_all (db table.tree)) news in (
       ap (λ (d : Database). d.schema) w.now,
-      record {
-        rowid = next_rowid (db table.tree);
-        free = not_true _ (first_of_both _ _ (subst (λ n. are_fresh (db table.tree) n ≡ true) news one.fresh));
-        is = ap (λ (t : Trees). t table.tree) to ∙ one.rows ∙ ap (put_all (db table.tree)) news;
-      },
+      subst (λ l. HasAll (db table.tree) l tails) (sym is) (all_chosen (db table.tree) tails (subst (λ n. are_fresh (db table.tree) n ≡ true) news one.fresh)),
       subst (λ t. Others table.tree db t) (sym to) one.tables,
     )
 

@@ -46,7 +46,7 @@ use Rattle.room_tables.proofs.Queries.{answer_is, found, and_true}
 use Rattle.room_tables.proofs.Values.{has_is, has_int, has_value, has_tied, has_not_null, equal_tied}
 use Rattle.room_tables.proofs.Removed.{one_row, removed_ids}
 use Rattle.room_tables.proofs.Changes.{Others, without, deletes, went, same_value, executes_inside}
-use Rattle.room_tables.proofs.Filters.{none_left, others_left, not_both, keyed_filter}
+use Rattle.room_tables.proofs.Filters.{none_left, others_left, not_both, keyed_filter, version_stays}
 use Rattle.room_tables.proofs.Effects.{same_records}
 
 -- ---- what the delete of one node sets off
@@ -376,6 +376,7 @@ steps_drop old new id count room h =
         );
         numbered = subst (AllByRecursion IsNumbered) (sym it.nodes) (all-filter IsNumbered (λ r. not (has 0 id r)) (db 1) room.numbered);
       };
+      version = version_stays _ _ it.room;
       records = same_records _ _
           (λ q. ap (λ rows. option_map node_of (only (map shown_node rows))) (rows_gone 0 id q (db 1) (new.now.trees 1) it.nodes) ∙ through (λ rows. option_map node_of (only (map shown_node rows))) (q == id) [] (filter (has 0 q) (db 1)))
           (λ q. ap (λ rows. map entry_of (in_order rows)) (rows_gone 1 id q (db 3) (new.now.trees 3) it.entries) ∙ through (λ rows. map entry_of (in_order rows)) (q == id) [] (filter (has 1 q) (db 3)))

@@ -17,12 +17,12 @@ use Rattle.room_records.specs.declared.change.Change.TheVariants.{PutNode, PutNe
 use Rattle.room_records.specs.Records.{Records}
 use Rattle.room_records.specs.Changes.{apply_change, apply_changes}
 use Rattle.room_tables.specs.Texts.{put_node_text, put_next_text, put_doc_text}
-use Rattle.room_tables.specs.Rows.{has, only, parent_in, name_of_text, kind_of, shown_node, node_of, nodes_in, entries_in, shown_doc, doc_of, documents_in, number_in, shown_next, next_in, sessions_in, slots_in, records_of}
+use Rattle.room_tables.specs.Rows.{has, only, parent_in, name_of_text, kind_of, shown_node, node_of, nodes_in, entries_in, shown_doc, doc_of, documents_in, number_in, shown_next, next_in, shown_version, version_rows, IsVersion1, sessions_in, slots_in, records_of}
 use Rattle.room_tables.specs.Layout.{IsNumbered, IsRoomDatabase, parent_value}
 use Rattle.room_tables.specs.Steps.{Steps, kind_number}
 use Rattle.room_tables.proofs.Changes.{executes_inside}
 use Rattle.room_tables.proofs.Puts.{stored_node, node_params, puts_node, puts_next, puts_doc}
-use Rattle.room_tables.proofs.Filters.{filter_put, keyed_after, still_room, still_numbered}
+use Rattle.room_tables.proofs.Filters.{filter_put, keyed_after, still_room, still_numbered, version_stays}
 
 -- two records that agree at each key are one
 pub same_records : (a b : Records) → ((q : ℕ) → a.objects.node q ≡ b.objects.node q) → ((q : ℕ) → a.objects.entries q ≡ b.objects.entries q) → ((q : ℕ) → a.objects.document q ≡ b.objects.document q)
@@ -76,6 +76,7 @@ steps_node old new node name count room named h =
     record {
       room = still_room 1 old.now new.now room done.0 o (keyed_after 1 _ _ _ _ it room.keyed.1.0)
           (subst (AllByRecursion IsNumbered) (sym it.rows) (all-put_row IsNumbered it.row _ is_numbered (all-filter IsNumbered (λ r. not (has_rowid it.id r)) (old.now.trees 1) room.numbered)));
+      version = version_stays _ _ (o.0 (omega arith));
       records = same_records _ _
           (λ q. ap (λ rows. option_map node_of (only (map shown_node rows))) (filter_put 1 node.id q _ _ _ _ it id)
           ∙ through (λ rows. option_map node_of (only (map shown_node rows))) (q == node.id) (it.row ∷ []) (filter (has 0 q) (old.now.trees 1))
@@ -99,6 +100,7 @@ steps_doc old new id bytes count room h =
     let o = it.others in
     record {
       room = still_room 5 old.now new.now room done.0 o (keyed_after 5 _ _ _ _ it room.keyed.1.1.1.0) (still_numbered 5 old.now new.now room (omega arith) o);
+      version = version_stays _ _ (o.0 (omega arith));
       records = same_records _ _
           (λ q. ap (λ rows. nodes_in rows q) (o.1.0 (omega arith)))
           (λ q. ap (λ rows. entries_in rows q) (o.1.1.0 (omega arith)))
@@ -110,20 +112,29 @@ steps_doc old new id bytes count room h =
           (λ sid slot. ap (λ rows. slots_in rows sid slot) (o.1.1.1.1.1.0 (omega arith)));
     }
 
+-- the next number is put into a row of version 1
+pub version_put : (old new : State) (n count : ℕ) → IsRoomDatabase old.now → ExecutesInside 0 put_next_text (Int (pos n) ∷ []) old new (Ok count) → IsVersion1 (version_rows new.now.trees)
+version_put old new n count room h =
+    let ran = executes_inside put_next_text _ old new count h in
+    let it = (puts_next old new n count room.schema room.keyed.0 ran.0).2 in
+    let is : it.id ≡ pos 1 = id_is (sym it.has_id ∙ ap rowid it.fits) in
+    ap (λ rows. option_map (λ row. column row 0) (only (map shown_version rows))) (filter_put 0 1 1 _ _ _ _ it is) ∙ ap (λ r. Some (column (shown_version r) 0)) it.fits
+
 pub steps_next : (old new : State) (n count : ℕ) → IsRoomDatabase old.now → ExecutesInside 0 put_next_text (Int (pos n) ∷ []) old new (Ok count) → Steps old new (apply_change (PutNext n))
 steps_next old new n count room h =
     let ran = executes_inside put_next_text _ old new count h in
     let done = puts_next old new n count room.schema room.keyed.0 ran.0 in
     let it = done.2 in
-    let is : it.id ≡ pos 1 = id_is (sym it.has_id ∙ ap rowid it.fits.1) in
+    let is : it.id ≡ pos 1 = id_is (sym it.has_id ∙ ap rowid it.fits) in
     let o = it.others in
     record {
       room = still_room 0 old.now new.now room done.0 o (keyed_after 0 _ _ _ _ it room.keyed.0) (still_numbered 0 old.now new.now room (omega arith) o);
+      version = λ _. version_put old new n count room h;
       records = same_records _ _
           (λ q. ap (λ rows. nodes_in rows q) (o.1.0 (omega arith)))
           (λ q. ap (λ rows. entries_in rows q) (o.1.1.0 (omega arith)))
           (λ q. ap (λ rows. documents_in rows q) (o.1.1.1.0 (omega arith)))
-          (ap (λ rows. unwrap_or (option_map (λ row. number_in (column row 0)) (only (map shown_next rows))) 0) (filter_put 0 1 1 _ _ _ _ it is) ∙ ap (λ r. number_in (column (shown_next r) 0)) it.fits.1)
+          (ap (λ rows. unwrap_or (option_map (λ row. number_in (column row 0)) (only (map shown_next rows))) 0) (filter_put 0 1 1 _ _ _ _ it is) ∙ ap (λ r. number_in (column (shown_next r) 0)) it.fits)
           (λ sid. ap (λ rows. sessions_in rows sid) (o.1.1.1.1.0 (omega arith)))
           (λ sid slot. ap (λ rows. slots_in rows sid slot) (o.1.1.1.1.1.0 (omega arith)));
     }
@@ -132,7 +143,7 @@ steps_next old new n count room h =
 
 -- before any change
 pub steps_none : (s : State) → IsRoomDatabase s.now → Steps s s (λ r. r)
-steps_none s room = record { room = room; records = refl }
+steps_none s room = record { room = room; records = refl; version = λ v. v }
 
 all_pushed : (changes : List Change) (change : Change) (r : Records) → apply_changes (changes ++ change ∷ []) r ≡ apply_change change (apply_changes changes r)
 all_pushed [] change r = refl
@@ -143,6 +154,7 @@ pub steps_more : (old mid new : State) (changes more : List Change) (change : Ch
 steps_more old mid new changes more change is a b = record {
   room = b.room;
   records = b.records ∙ ap (apply_change change) a.records ∙ sym (all_pushed changes change (records_of old.now.trees)) ∙ ap (λ cs. apply_changes cs (records_of old.now.trees)) (sym is);
+  version = λ v. b.version (a.version v);
 }
 
 -- the same, with the text and the parameters as they are given

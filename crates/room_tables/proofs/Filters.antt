@@ -18,7 +18,7 @@ use Rattle.sqlite.proofs.Callers.{one_permutation}
 use Rattle.sqlite.specs.Table.{Table}
 use Rattle.sqlite.specs.Effect.{Database}
 use Rattle.room_tables.specs.Tables.{room_schema}
-use Rattle.room_tables.specs.Rows.{has}
+use Rattle.room_tables.specs.Rows.{has, versions_in, IsVersion1}
 use Rattle.room_tables.specs.Layout.{IsKeyed, IsNumbered, IsRoomDatabase}
 use Rattle.room_tables.proofs.Values.{has_is, has_one, int_has}
 use Rattle.room_tables.proofs.Changes.{not_true, without, Others}
@@ -102,6 +102,12 @@ filter_put tree id q db next Fits Met it is = elim (cases_eq q id) [
 
     stay : q ≢ id → filter (has 0 q) left ≡ filter (has 0 q) (db tree)
     stay apart = others_left (has_rowid it.id) (has 0 q) (db tree) (λ r h. ap (λ i. has_rowid i r) is ∙ same_test id r ∙ not_both 0 id q r apart h)
+
+-- ---- the version
+
+-- where the one row of room is as it was
+pub version_stays : (before after : List Row) → after ≡ before → IsVersion1 (versions_in before) → IsVersion1 (versions_in after)
+version_stays before after same = subst (λ rows. IsVersion1 (versions_in rows)) (sym same)
 
 -- ---- keys
 

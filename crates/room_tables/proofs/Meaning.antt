@@ -1,13 +1,14 @@
 -- What the statements mean under the schema of the six tables, by running the resolver on their texts.
-use Rattle.std.proofs.Common.{◌≡◌, [], ◌∷◌, false, codes, refl}
+use Rattle.std.proofs.Common.{◌≡◌, [], ◌∷◌, true, false, codes, refl}
 use Rattle.sqlite_tied.specs.Compute.{everything}
 use Rattle.sqlite.specs.Source.TheVariants.{Values}
 use Rattle.sqlite.specs.Command.TheVariants.{InsertOr, Insert, Select, Delete}
 use Rattle.sqlite_schema.specs.declared.command.Conflict.TheVariants.{Abort}
 use Rattle.sqlite.specs.Listing.{understood, reads_listing}
 use Rattle.sqlite.proofs.Callers.{IsPlain, command_of}
-use Rattle.room_tables.specs.Tables.{room_schema}
-use Rattle.room_tables.specs.Texts.{count_children_text, count_children_query, add_entry_terms, add_entry_text, add_slot_terms, add_slot_text, drop_entries_query, drop_entries_text, drop_node_query, drop_node_text, drop_slot_query, drop_slot_text, drop_slots_query, drop_slots_text, find_child_query, find_child_text, find_doc_query, find_doc_text, find_next_query, find_next_text, find_node_query, find_node_text, find_session_query, find_session_text, find_slot_query, find_slot_text, find_version_query, find_version_text, list_children_query, list_children_text, list_entries_query, list_entries_text, put_doc_clause, put_doc_terms, put_doc_text, put_next_clause, put_next_terms, put_next_text, put_node_clause, put_node_terms, put_node_text, put_session_clause, put_session_terms, put_session_text}
+use Rattle.sqlite_schema.specs.Names.{same_name}
+use Rattle.room_tables.specs.Tables.{room_schema, has_room}
+use Rattle.room_tables.specs.Texts.{count_children_text, count_children_query, add_entry_terms, add_entry_text, add_two_terms, add_two_text, add_three_terms, add_three_text, add_four_terms, add_four_text, add_slot_terms, add_slot_text, drop_entries_query, drop_entries_text, drop_node_query, drop_node_text, drop_slot_query, drop_slot_text, drop_slots_query, drop_slots_text, find_child_query, find_child_text, find_doc_query, find_doc_text, find_next_query, find_next_text, find_node_query, find_node_text, find_session_query, find_session_text, find_slot_query, find_slot_text, find_version_query, find_version_text, list_children_query, list_children_text, list_entries_query, list_entries_text, put_doc_clause, put_doc_terms, put_doc_text, put_next_clause, put_next_terms, put_next_text, put_node_clause, put_node_terms, put_node_text, put_session_clause, put_session_terms, put_session_text}
 
 pub find_next_is : command_of (understood room_schema find_next_text) ≡ Select (record { lets = []; body = find_next_query }) (codes "next" ∷ [])
 unfolding understood everything
@@ -121,6 +122,30 @@ pub add_entry_plain : IsPlain (understood room_schema add_entry_text)
 unfolding understood everything
 add_entry_plain = (refl, refl)
 
+pub add_two_is : command_of (understood room_schema add_two_text) ≡ Insert 2 (Values add_two_terms 7)
+unfolding understood everything
+add_two_is = refl
+
+pub add_two_plain : IsPlain (understood room_schema add_two_text)
+unfolding understood everything
+add_two_plain = (refl, refl)
+
+pub add_three_is : command_of (understood room_schema add_three_text) ≡ Insert 2 (Values add_three_terms 7)
+unfolding understood everything
+add_three_is = refl
+
+pub add_three_plain : IsPlain (understood room_schema add_three_text)
+unfolding understood everything
+add_three_plain = (refl, refl)
+
+pub add_four_is : command_of (understood room_schema add_four_text) ≡ Insert 2 (Values add_four_terms 7)
+unfolding understood everything
+add_four_is = refl
+
+pub add_four_plain : IsPlain (understood room_schema add_four_text)
+unfolding understood everything
+add_four_plain = (refl, refl)
+
 pub add_slot_is : command_of (understood room_schema add_slot_text) ≡ Insert 5 (Values add_slot_terms 6)
 unfolding understood everything
 add_slot_is = refl
@@ -168,3 +193,7 @@ count_children_is = refl
 pub count_children_plain : IsPlain (understood room_schema count_children_text) × (reads_listing room_schema count_children_text ≡ false)
 unfolding understood everything
 count_children_plain = ((refl, refl), refl)
+
+pub room_has_room : has_room room_schema ≡ true
+unfolding everything same_name
+room_has_room = refl

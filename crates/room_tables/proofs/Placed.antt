@@ -2,6 +2,7 @@
 use Rattle.std.proofs.Common.{◌≡◌, ◌≢◌, ℕ, suc, ℤ, ◌+◌, ◌<◌, ◌≤◌, pos, not, Bool, List, [], ◌∷◌, ◌++◌, length, map, filter, Ok, refl, sym, ap, ap₂, subst, ◌∙◌, arith, true, false, ◌==◌, Less, is_eq, is_gt, cond, inl, inr, eq-eqb, int_cmp, IsPermutation, Equal}
 use Rattle.std.specs.List.{AllByRecursion}
 use Rattle.std.proofs.lemmas.Int.{ints}
+use Rattle.std.proofs.lemmas.List.{append-nil, append_assoc, length-append}
 use Rattle.std.proofs.lemmas.Bool.{cases_eq}
 use Rattle.std.proofs.lemmas.Bool.Decides.{nat_tests}
 use Rattle.std.proofs.lemmas.Map.Lookups.{exact_signed, exact_bytes}
@@ -9,25 +10,25 @@ use Rattle.std.proofs.lemmas.List.Sorted.{IsPermutation-map, IsPermutation-trans
 use Rattle.sqlite_value.specs.declared.value.Value.TheVariants.{Int, Text}
 use Rattle.sqlite_value.specs.Order.{Row, value_cmp}
 use Rattle.sqlite_value.proofs.OrderLemmas.{value_cmp-Int, value_cmp-Text}
-use Rattle.sqlite_trees.specs.Tree.{IsAscending, Trees}
+use Rattle.sqlite_trees.specs.Tree.{IsAscending, Trees, put_row}
 use Rattle.sqlite_sql.specs.Query.{key_cmp}
 use Rattle.sqlite_sql.proofs.QueryLemmas.{key_cmp_total}
 use Rattle.sqlite_keyed.specs.Lists.{sort_by}
 use Rattle.sqlite_keyed.proofs.ListLemmas.{IsPermutation-filter, all-append}
 use Rattle.sqlite_keyed.proofs.SortLemmas.{IsPermutation-sort_by}
+use Rattle.sqlite_rules.specs.Edit.{is_taken}
 use Rattle.sqlite.specs.Effect.{Database}
 use Rattle.sqlite.specs.State.{State, ExecutesInside}
 use Rattle.room_acl.specs.Entries.{EntryModel}
-use Rattle.room_records.specs.Records.{Records}
-use Rattle.room_tables.specs.Texts.{add_entry_text, drop_entries_text}
-use Rattle.room_tables.specs.Rows.{has, shown_entry, entry_of, entry_keys, in_order, nodes_in, documents_in, next_in, sessions_in, slots_in, records_of, IsEntryRow}
+use Rattle.room_tables.specs.Texts.{drop_entries_text}
+use Rattle.room_tables.specs.Rows.{has, shown_entry, entry_of, entry_keys, in_order, nodes_in, documents_in, next_in, sessions_in, slots_in, records_of, versions_in, IsEntryRow}
 use Rattle.room_tables.specs.Layout.{IsKeyed, IsRoomDatabase}
 use Rattle.room_tables.specs.Steps.{type_of, text_of_who, IsReadBack, shown_as, placed, Lists}
 use Rattle.room_tables.proofs.Sorted.{AtMost, ascending-sort_by, same_ascending}
 use Rattle.room_tables.proofs.Queries.{first_tie}
 use Rattle.room_tables.proofs.Values.{int_has}
-use Rattle.room_tables.proofs.Changes.{executes_inside, without}
-use Rattle.room_tables.proofs.Takes.{entry_values, drops_entries, adds_entry}
+use Rattle.room_tables.proofs.Changes.{HasAll, executes_inside, without}
+use Rattle.room_tables.proofs.Takes.{stored, bound_entries, AddsEntries, drops_entries}
 use Rattle.room_tables.proofs.Filters.{put_is_one_more, put_passed_over, none_left, others_left, not_both, keyed_put, keyed_filter, still_room, still_numbered}
 use Rattle.room_tables.proofs.Effects.{same_records}
 
@@ -117,7 +118,7 @@ cleared_rows db next id q is = elim (cases_eq q id) [
 ]
 
 -- no entry of the object is left, and all else is as it was
-pub lists_none : (old new : State) (id count : ℕ) → IsRoomDatabase old.now → ExecutesInside 0 drop_entries_text (Int (pos id) ∷ []) old new (Ok count) → Lists (records_of old.now.trees) id [] new.now
+pub lists_none : (old new : State) (id count : ℕ) → IsRoomDatabase old.now → ExecutesInside 0 drop_entries_text (Int (pos id) ∷ []) old new (Ok count) → Lists old.now.trees id [] new.now
 lists_none old new id count room h =
     let it = drops_entries old new id count room.schema room.keyed.1.1.0 (executes_inside drop_entries_text _ old new count h).0 in
     let o = it.others in
@@ -133,40 +134,75 @@ lists_none old new id count room h =
       next = ap next_in (o.0 (omega arith));
       sessions = λ q. ap (λ l. sessions_in l q) (o.1.1.1.1.0 (omega arith));
       slots = λ q n. ap (λ l. slots_in l q n) (o.1.1.1.1.1.0 (omega arith));
+      version = ap versions_in (o.0 (omega arith));
     }
 
--- the entries of the object after one more is put in
-pub lists_more : (old new : State) (id count : ℕ) (e : EntryModel) (es : List EntryModel) (records : Records) → IsReadBack e → Lists records id es old.now
-    → ExecutesInside 0 add_entry_text (entry_values id (length es) (type_of e.allow) e.flags e.mask (text_of_who e.who)) old new (Ok count) → Lists records id (es ++ e ∷ []) new.now
-lists_more old new id count e es records back was h =
-    let it = adds_entry old new id (length es) (type_of e.allow) e.flags e.mask (text_of_who e.who) count was.room.schema (executes_inside add_entry_text _ old new count h).0 in
-    let more = it.1 in
-    let o = it.2 in
-    let row : Row = Int more.rowid ∷ entry_values id (length es) (type_of e.allow) e.flags e.mask (text_of_who e.who) in
-    let rows = old.now.trees 3 in
-    let moved = put_is_one_more row rows more.free in
-    let mine : has 1 id row ≡ true = int_has 1 id row refl in
-    let found : IsPermutation (filter (has 1 id) (new.now.trees 3)) (row ∷ filter (has 1 id) rows) =
-    subst (λ b. IsPermutation (filter (has 1 id) (new.now.trees 3)) (cond b (row ∷ filter (has 1 id) rows) (filter (has 1 id) rows))) mine
-    (subst (λ l. IsPermutation (filter (has 1 id) l) (filter (has 1 id) (row ∷ rows))) (sym more.is) (IsPermutation-filter (has 1 id) _ _ moved)) in
+-- one row more of the object, at the next place: those of the object are in order, and those of the others as before
+record Grown (id : ℕ) (es : List EntryModel) (rows new : List Row) : Type 0 where
+  pub keyed : IsKeyed new
+  pub mine : in_order (filter (has 1 id) new) ≡ placed 0 es
+  pub others : (q : ℕ) → q ≢ id → filter (has 1 q) new ≡ filter (has 1 q) rows
+
+grown : (id : ℕ) (es : List EntryModel) (e : EntryModel) (rowid : ℤ) (rows : List Row) → is_taken rows (Int rowid ∷ Int (pos id) ∷ shown_as (length es) e) ≡ false → IsKeyed rows → in_order (filter (has 1 id) rows) ≡ placed 0 es
+    → Grown id (es ++ e ∷ []) rows (put_row (Int rowid ∷ Int (pos id) ∷ shown_as (length es) e) rows)
+grown id es e rowid rows free keyed was = record {
+  keyed = keyed_put row rows refl keyed;
+  mine = one_placed (map shown_entry (filter (has 1 id) rows)) (map shown_entry (filter (has 1 id) (put_row row rows))) es e was (IsPermutation-map shown_entry _ _ found);
+  others = λ q apart. put_passed_over (has 1 q) row rows (not_both 1 q id row (λ x. apart (sym x)) mine) free;
+}
+  where
+    row : Row
+    row = Int rowid ∷ Int (pos id) ∷ shown_as (length es) e
+
+    mine : has 1 id row ≡ true
+    mine = int_has 1 id row refl
+
+    found : IsPermutation (filter (has 1 id) (put_row row rows)) (row ∷ filter (has 1 id) rows)
+    found =
+        subst (λ b. IsPermutation (filter (has 1 id) (put_row row rows)) (cond b (row ∷ filter (has 1 id) rows) (filter (has 1 id) rows))) mine (IsPermutation-filter (has 1 id) _ _ (put_is_one_more row rows free))
+
+-- the same of some rows, at the places that follow
+all_grown : (id at : ℕ) (es batch : List EntryModel) (rows new : List Row) → at ≡ length es → IsKeyed rows → in_order (filter (has 1 id) rows) ≡ placed 0 es → HasAll rows new (stored id at batch) → Grown id (es ++ batch) rows new
+all_grown id at es [] rows new place keyed was all = record {
+  keyed = subst IsKeyed (sym all) keyed;
+  mine = ap (λ l. in_order (filter (has 1 id) l)) all ∙ was ∙ ap (placed 0) (sym (append-nil es));
+  others = λ q apart. ap (filter (has 1 q)) all;
+}
+all_grown id at es (e ∷ batch) rows new place keyed was all =
+    let row : Row = Int all.0 ∷ Int (pos id) ∷ shown_as at e in
+    let one = subst (λ n. is_taken rows (Int all.0 ∷ Int (pos id) ∷ shown_as n e) ≡ false → Grown id (es ++ e ∷ []) rows (put_row (Int all.0 ∷ Int (pos id) ∷ shown_as n e) rows)) (sym place) (λ free. grown id es e all.0 rows free keyed was) all.1 in
+    let next : suc at ≡ length (es ++ e ∷ []) = omega (arith, length-append es (e ∷ []), place) in
+    let more = all_grown id (suc at) (es ++ e ∷ []) batch (put_row row rows) new next one.keyed one.mine all.2 in
     record {
-      room = still_room 3 old.now new.now was.room it.0 o (subst IsKeyed (sym more.is) (keyed_put row rows refl was.room.keyed.1.1.0)) (still_numbered 3 old.now new.now was.room (omega arith) o);
-      mine = one_placed (map shown_entry (filter (has 1 id) rows)) (map shown_entry (filter (has 1 id) (new.now.trees 3))) es e was.mine (IsPermutation-map shown_entry _ _ found);
-      back = all-append IsReadBack es (e ∷ []) was.back (back, tt);
-      others = λ q apart.
-          let lacks = not_both 1 q id row (λ x. apart (sym x)) mine in
-          ap (λ l. map entry_of (in_order l)) (ap (filter (has 1 q)) more.is ∙ put_passed_over (has 1 q) row rows lacks more.free) ∙ was.others q apart;
+      keyed = more.keyed;
+      mine = more.mine ∙ ap (placed 0) (append_assoc es (e ∷ []) batch);
+      others = λ q apart. more.others q apart ∙ one.others q apart;
+    }
+
+-- the entries of the object after some more are put in behind them
+pub lists_more : (text : List ℕ) (old new : State) (id at count : ℕ) (es batch : List EntryModel) (before : Trees) → AddsEntries text id at batch → at ≡ length es → AllByRecursion IsReadBack batch → Lists before id es old.now
+    → ExecutesInside 0 text (Int (pos id) ∷ bound_entries at batch) old new (Ok count) → Lists before id (es ++ batch) new.now
+lists_more text old new id at count es batch before adds place back was h =
+    let it = adds old new count was.room.schema (executes_inside text _ old new count h).0 in
+    let o = it.2 in
+    let more = all_grown id at es batch (old.now.trees 3) (new.now.trees 3) place was.room.keyed.1.1.0 was.mine it.1 in
+    record {
+      room = still_room 3 old.now new.now was.room it.0 o more.keyed (still_numbered 3 old.now new.now was.room (omega arith) o);
+      mine = more.mine;
+      back = all-append IsReadBack es batch was.back back;
+      others = λ q apart. ap (λ l. map entry_of (in_order l)) (more.others q apart) ∙ was.others q apart;
       nodes = λ q. ap (λ l. nodes_in l q) (o.1.0 (omega arith)) ∙ was.nodes q;
       documents = λ q. ap (λ l. documents_in l q) (o.1.1.1.0 (omega arith)) ∙ was.documents q;
       next = ap next_in (o.0 (omega arith)) ∙ was.next;
       sessions = λ q. ap (λ l. sessions_in l q) (o.1.1.1.1.0 (omega arith)) ∙ was.sessions q;
       slots = λ q n. ap (λ l. slots_in l q n) (o.1.1.1.1.1.0 (omega arith)) ∙ was.slots q n;
+      version = ap versions_in (o.0 (omega arith)) ∙ was.version;
     }
 
 -- what the records are then
-pub lists_records : (records : Records) (id : ℕ) (es : List EntryModel) (db : Database) → Lists records id es db
-    → records_of db.trees ≡ record records { objects = record records.objects { entries = λ q. cond (q == id) es (records.objects.entries q) } }
-lists_records records id es db it = same_records _ _ it.nodes (λ q. elim (cases_eq q id) [
+pub lists_records : (before : Trees) (id : ℕ) (es : List EntryModel) (db : Database) → Lists before id es db
+    → records_of db.trees ≡ record (records_of before) { objects = record (records_of before).objects { entries = λ q. cond (q == id) es ((records_of before).objects.entries q) } }
+lists_records before id es db it = same_records _ _ it.nodes (λ q. elim (cases_eq q id) [
   | inl same ↦
       let test : (q == id) ≡ true = eq-eqb q id same in
       rw (test, same) (ap (map entry_of) it.mine ∙ read_back 0 es it.back)

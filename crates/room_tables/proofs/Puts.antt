@@ -1,6 +1,5 @@
 -- The four upserts.
 use Rattle.std.proofs.Common.{◌≡◌, ℕ, ℤ, pos, Bool, true, false, ◌&&◌, ◌||◌, List, [], ◌∷◌, Option, None, Some, Ok, refl, sym, ap, ap₂, subst}
-use Rattle.sqlite_value.specs.declared.value.Value.{Value}
 use Rattle.sqlite_value.specs.declared.value.Value.TheVariants.{Null, Int, Text, Blob}
 use Rattle.sqlite_value.specs.Order.{Row, column}
 use Rattle.sqlite_value.specs.Keys.{first_key}
@@ -140,12 +139,9 @@ puts_doc old new id bytes count schema keyed h =
 
 -- ---- the one row of room
 
-abbrev pub stored_next : Value → ℕ → Row
-stored_next version n = Int (pos 1) ∷ Null ∷ version ∷ Int (pos n) ∷ []
-
--- the row with this next number, whatever its version
-abbrev pub IsNext : ℕ → Row → Type 0
-IsNext n r = (version : Value) × (r ≡ stored_next version n)
+-- of version 1, with this next number
+abbrev pub stored_next : ℕ → Row
+stored_next n = Int (pos 1) ∷ Null ∷ Int (pos 1) ∷ Int (pos n) ∷ []
 
 next_quiet : (row : Row) → works room_schema Enforced 0 0 [] (row ∷ []) ≡ []
 unfolding everything
@@ -155,14 +151,14 @@ next_quiet_change : (olds : List Row) (row : Row) → works room_schema Enforced
 unfolding everything
 next_quiet_change olds row = refl
 
-next_conflict : (n : ℕ) (r : Row) → conflicts (Some (0 ∷ [])) room_schema.indexes room_table (stored_next (Int (pos 1)) n) r ≡ true → has 0 1 r ≡ true
+next_conflict : (n : ℕ) (r : Row) → conflicts (Some (0 ∷ [])) room_schema.indexes room_table (stored_next n) r ≡ true → has 0 1 r ≡ true
 unfolding first_key
 next_conflict n r h = with_truth (has 0 1 r) h
 
-cast_next : (n : ℕ) → cast_row room_table (stored_next (Int (pos 1)) n) ≡ stored_next (Int (pos 1)) n
+cast_next : (n : ℕ) → cast_row room_table (stored_next n) ≡ stored_next n
 cast_next n = rw (cast_int (pos 1), cast_null, cast_int (pos n))
 
-next_upsert : (n : ℕ) → IsUpsert room_table (0 ∷ []) 1 put_next_query.project (Int (pos n) ∷ []) (stored_next (Int (pos 1)) n) (IsNext n) (λ r. has 0 1 r ≡ true)
+next_upsert : (n : ℕ) → IsUpsert room_table (0 ∷ []) 1 put_next_query.project (Int (pos n) ∷ []) (stored_next n) (λ r. r ≡ stored_next n) (λ r. has 0 1 r ≡ true)
 next_upsert n = record {
   uncounted = refl;
   quiet_put = next_quiet;
@@ -171,21 +167,21 @@ next_upsert n = record {
   id = pos 1;
   has_id = refl;
   cast = cast_next n;
-  fits = (Int (pos 1), refl);
+  fits = refl;
   met = next_conflict n;
   there_at = λ v. refl;
-  raw = λ there. rowid there ∷ Null ∷ column there 2 ∷ Int (pos n) ∷ [];
+  raw = λ there. rowid there ∷ Null ∷ Int (pos 1) ∷ Int (pos n) ∷ [];
   reads = λ there. refl;
-  renewed = λ there. rowid there ∷ Null ∷ cast Integer (column there 2) ∷ Int (pos n) ∷ [];
-  casts = λ there i is. rw (is, cast_int i, cast_null, cast_int (pos n));
+  renewed = λ there. rowid there ∷ Null ∷ Int (pos 1) ∷ Int (pos n) ∷ [];
+  casts = λ there i is. rw (is, cast_int i, cast_null, cast_int (pos 1), cast_int (pos n));
   same_id = λ there. refl;
-  refits = λ there i is met. (cast Integer (column there 2), ap (λ v. v ∷ Null ∷ cast Integer (column there 2) ∷ Int (pos n) ∷ []) (its_number 1 there i is met));
+  refits = λ there i is met. ap (λ v. v ∷ Null ∷ Int (pos 1) ∷ Int (pos n) ∷ []) (its_number 1 there i is met);
 }
 
 pub puts_next : (old new : State) (n count : ℕ) → old.now.schema ≡ room_schema → IsKeyed (old.now.trees 0) → Executes put_next_text (Int (pos n) ∷ []) old new (Ok count)
-    → (new.now.schema ≡ room_schema) × IsDatabase new.now × Put 0 old.now.trees new.now.trees (IsNext n) (λ r. has 0 1 r ≡ true)
+    → (new.now.schema ≡ room_schema) × IsDatabase new.now × Put 0 old.now.trees new.now.trees (λ r. r ≡ stored_next n) (λ r. has 0 1 r ≡ true)
 puts_next old new n count schema keyed h =
-    put old new 0 room_table (0 ∷ []) 1 put_next_query.project put_next_terms 4 count put_next_text (Int (pos n) ∷ []) (stored_next (Int (pos 1)) n) (stored_next (Int (pos 1)) n) _ _
+    put old new 0 room_table (0 ∷ []) 1 put_next_query.project put_next_terms 4 count put_next_text (Int (pos n) ∷ []) (stored_next n) (stored_next n) _ _
     (next_upsert n) refl schema keyed put_next_is put_next_plain refl (ap (λ r. with_rowid Chosen (old.now.trees 0) r) (cast_next n)) h
 
 -- ---- session

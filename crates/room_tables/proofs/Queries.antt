@@ -1,5 +1,5 @@
 -- What a query over one table answers, and that it changes nothing.
-use Rattle.std.proofs.Common.{◌≡◌, ℕ, ◌+◌, ◌<◌, arith, length, is_lt, Bool, true, false, ◌&&◌, cond, List, [], ◌∷◌, ◌++◌, map, filter, flat_map, Option, None, Some, Ok, Err, Result, IfOk, IfErr, ◌⊎◌, inl, inr, refl, Ordering, Less, Equal, Greater, sym, ap, ap₂, subst, subst₂, ◌∙◌, IsPermutation, IsSorted}
+use Rattle.std.proofs.Common.{◌≡◌, ℕ, ◌+◌, ◌<◌, arith, length, is_lt, Bool, true, false, ◌&&◌, cond, List, [], ◌∷◌, ◌++◌, map, filter, flat_map, Option, None, Some, Ok, Err, Result, IfOk, IfErr, OnOk, ◌⊎◌, inl, inr, refl, Ordering, Less, Equal, Greater, sym, ap, ap₂, subst, subst₂, ◌∙◌, IsPermutation, IsSorted}
 use Rattle.std.specs.List.{list_all}
 use Rattle.std.proofs.lemmas.List.Sorted.{IsPermutation-map, length_permutation}
 use Rattle.sqlite_value.specs.declared.value.Value.TheVariants.{Null}
@@ -200,6 +200,13 @@ query_same sql params old new rows schema plain h =
     let none = (subst IsPlain h.1.is (subst (λ s. IsPlain (understood s sql)) (sym schema) plain)).0 in
     (subst (ShowsRows old new sql h.0 (timed params h.0.formats h.1.now) rows) none h.2).3
 
+-- and so does any query, whatever the schema
+pub query_leaves : (sql : List ℕ) (params : Row) (old new : State) (rows : List Row) → is_query_text (first sql) ≡ true → Shown sql params old new rows → IsUnchanged old new
+unfolding Shown
+query_leaves sql params old new rows text h =
+    let none = subst IsUnreturned h.1.is (unreturned old.now.schema sql text) in
+    (subst (ShowsRows old new sql h.0 (timed params h.0.formats h.1.now) rows) none h.2).3
+
 -- a query that failed outside a transaction
 pub fails_leaves : (sql : List ℕ) (params : Row) (old new : State) (e : Error) → FailsToQuery sql params old new e → IsUnchanged old new ⊎ IsRolledBack old new
 unfolding FailsToQuery IsNotRun
@@ -229,6 +236,19 @@ shown_open sql params old new rows h = shown h.0.returning h.2
     shown None it = it.3.0.was_open
     shown (Some what) it = it.1.shown.was_open
 
+-- and it shows an open connection still
+pub shown_alive : (sql : List ℕ) (params : Row) (old new : State) (rows : List Row) → Shown sql params old new rows → new.is_open ≡ true
+unfolding Shown
+shown_alive sql params old new rows h = shown h.0.returning h.2
+  where
+    shown : (o : Option Returning) → ShowsRows old new sql h.0 (timed params h.0.formats h.1.now) rows o → new.is_open ≡ true
+    shown None it = it.3.0.is_open
+    shown (Some what) it = it.1.shown.is_open
+
+pub query_alive : {V : Type 0} (items : V → List Row) (sql : List ℕ) (params : Row) (old new : State) (r : Result V Error) → IfOk r (λ rows. Shown sql params old new (items rows)) → OnOk r (new.is_open ≡ true)
+query_alive items sql params old new (Ok rows) ok = shown_alive sql params old new (items rows) ok
+query_alive items sql params old new (Err e) ok = tt
+
 pub query_open : {V : Type 0} (items : V → List Row) (sql : List ℕ) (params : Row) (old new : State) (r : Result V Error) → IfOk r (λ rows. Shown sql params old new (items rows)) → IfErr r (FailsToQuery sql params old new)
     → new.is_open ≡ true → old.is_open ≡ true
 query_open items sql params old new (Ok rows) ok err is = shown_open sql params old new (items rows) ok
@@ -238,6 +258,17 @@ pub query_now : {V : Type 0} (items : V → List Row) (sql : List ℕ) (params :
     → IfOk r (λ rows. Shown sql params old new (items rows)) → IfErr r (FailsToQuery sql params old new) → new.is_open ≡ true → old.now ≡ old.committed → new.now ≡ old.now
 query_now items sql params old new (Ok rows) schema plain ok err is settled = (query_same sql params old new (items rows) schema plain ok).0.now_is
 query_now items sql params old new (Err e) schema plain ok err is settled = left_now old new settled (fails_leaves sql params old new e err) is
+
+pub query_left : {V : Type 0} (items : V → List Row) (sql : List ℕ) (params : Row) (old new : State) (r : Result V Error) → is_query_text (first sql) ≡ true
+    → IfOk r (λ rows. Shown sql params old new (items rows)) → IfErr r (FailsToQuery sql params old new) → new.is_open ≡ true → old.now ≡ old.committed → new.now ≡ old.now
+query_left items sql params old new (Ok rows) text ok err is settled = (query_leaves sql params old new (items rows) text ok).0.now_is
+query_left items sql params old new (Err e) text ok err is settled = left_now old new settled (fails_leaves sql params old new e err) is
+
+-- one that answered left an open connection, and the database as it was
+pub query_answered : {V : Type 0} (items : V → List Row) (sql : List ℕ) (params : Row) (old new : State) (r : Result V Error) → is_query_text (first sql) ≡ true
+    → IfOk r (λ rows. Shown sql params old new (items rows)) → OnOk r ((new.is_open ≡ true) × (new.now ≡ old.now))
+query_answered items sql params old new (Ok rows) text ok = let it = query_leaves sql params old new (items rows) text ok in (it.0.is_open, it.0.now_is)
+query_answered items sql params old new (Err e) text ok = tt
 
 pub only_permuted : {X : Type 0} (xs ys : List X) → IsPermutation xs ys → only ys ≡ only xs
 only_permuted [] [] same = refl

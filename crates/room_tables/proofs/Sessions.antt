@@ -29,7 +29,7 @@ use Rattle.room_tables.proofs.Queries.{and_true}
 use Rattle.room_tables.proofs.Changes.{executes_inside}
 use Rattle.room_tables.proofs.Upserts.{Put}
 use Rattle.room_tables.proofs.Puts.{IsSession, stored_session, puts_session}
-use Rattle.room_tables.proofs.Filters.{put_passed_over, others_left_on, keyed_after, still_room, still_numbered}
+use Rattle.room_tables.proofs.Filters.{put_passed_over, others_left_on, keyed_after, still_room, still_numbered, version_stays}
 use Rattle.room_tables.proofs.Effects.{same_records}
 
 not_false : (b : Bool) → not b ≡ true → b ≡ false
@@ -115,6 +115,7 @@ steps_session old new row count room h =
     let mine : has_text 1 row.sid it.row ≡ true = text_has 1 row.sid it.row (ap (λ (r : Row). column r 1) it.fits.1) in
     record {
       room = still_room 6 old.now new.now room done.0 o (keyed_after 6 _ _ _ _ it room.keyed.1.1.1.1.0) (still_numbered 6 old.now new.now room (omega arith) o);
+      version = version_stays _ _ (o.0 (omega arith));
       records = same_records _ _
           (λ q. ap (λ rows. nodes_in rows q) (o.1.0 (omega arith)))
           (λ q. ap (λ rows. entries_in rows q) (o.1.1.0 (omega arith)))

@@ -20,7 +20,7 @@ use Rattle.room_tables.specs.Steps.{Steps, HasNoSlot, without_slot}
 use Rattle.room_tables.proofs.Values.{has_one, has_text_one, int_has, text_has}
 use Rattle.room_tables.proofs.Changes.{without, executes_inside}
 use Rattle.room_tables.proofs.Takes.{drops_slots, drops_slot, adds_slot, slot_values}
-use Rattle.room_tables.proofs.Filters.{put_alone, put_passed_over, none_left, others_left, keyed_filter, keyed_put, still_room, still_numbered}
+use Rattle.room_tables.proofs.Filters.{put_alone, put_passed_over, none_left, others_left, keyed_filter, keyed_put, still_room, still_numbered, version_stays}
 use Rattle.room_tables.proofs.Effects.{same_records}
 
 -- where one of two tests of a slot fails, the rows of the two are apart
@@ -61,6 +61,7 @@ steps_drop_slot old new sid slot count room h =
     let keyed = subst IsKeyed (sym it.rows_are) (keyed_filter (λ r. not (is_slot sid slot r)) (old.now.trees 8) room.keyed.1.1.1.1.1.0) in (
       record {
         room = still_room 8 old.now new.now room it.schema o keyed (still_numbered 8 old.now new.now room (omega arith) o);
+        version = version_stays _ _ (o.0 (omega arith));
         records = same_records _ _
             (λ q. ap (λ rows. nodes_in rows q) (o.1.0 (omega arith)))
             (λ q. ap (λ rows. entries_in rows q) (o.1.1.0 (omega arith)))
@@ -95,6 +96,7 @@ steps_drop_slots old new sid count room h =
     let keyed = subst IsKeyed (sym it.rows_are) (keyed_filter (λ r. not (has_text 1 sid r)) (old.now.trees 8) room.keyed.1.1.1.1.1.0) in
     record {
       room = still_room 8 old.now new.now room it.schema o keyed (still_numbered 8 old.now new.now room (omega arith) o);
+      version = version_stays _ _ (o.0 (omega arith));
       records = same_records _ _
           (λ q. ap (λ rows. nodes_in rows q) (o.1.0 (omega arith)))
           (λ q. ap (λ rows. entries_in rows q) (o.1.1.0 (omega arith)))
@@ -112,11 +114,14 @@ steps_add_slot old new row count room none h =
     let it = adds_slot old new row.sid row.slot row.kept.seq row.kept.request row.kept.reply count room.schema (executes_inside add_slot_text _ old new count h).0 in
     let o = it.2 in
     let more = it.1 in
+    let free = more.1 in
+    let is = more.2 in
     let rows = old.now.trees 8 in
-    let stored : Row = Int more.rowid ∷ slot_values row.sid row.slot row.kept.seq row.kept.request row.kept.reply in
+    let stored : Row = Int more.0 ∷ slot_values row.sid row.slot row.kept.seq row.kept.request row.kept.reply in
     let mine : is_slot row.sid row.slot stored ≡ true = both _ _ (text_has 1 row.sid stored refl) (int_has 2 row.slot stored refl) in
     record {
-      room = still_room 8 old.now new.now room it.0 o (subst IsKeyed (sym more.is) (keyed_put stored rows refl room.keyed.1.1.1.1.1.0)) (still_numbered 8 old.now new.now room (omega arith) o);
+      room = still_room 8 old.now new.now room it.0 o (subst IsKeyed (sym is) (keyed_put stored rows refl room.keyed.1.1.1.1.1.0)) (still_numbered 8 old.now new.now room (omega arith) o);
+      version = version_stays _ _ (o.0 (omega arith));
       records = same_records _ _
           (λ q. ap (λ rows. nodes_in rows q) (o.1.0 (omega arith)))
           (λ q. ap (λ rows. entries_in rows q) (o.1.1.0 (omega arith)))
@@ -126,8 +131,8 @@ steps_add_slot old new row count room none h =
           (λ q n. elim (cases_Bool (bytes_eq q row.sid && (n == row.slot))) [
             | inl same ↦
                 let names = names_same row.sid q row.slot n same in
-                rw same (ap₂ (λ s m. kept_in (filter (is_slot s m) (new.now.trees 8))) names.0 names.1 ∙ ap kept_in (ap (filter (is_slot row.sid row.slot)) more.is ∙ put_alone (is_slot row.sid row.slot) stored rows mine none more.free))
-            | inr differs ↦ rw differs (ap kept_in (ap (filter (is_slot q n)) more.is ∙ put_passed_over (is_slot q n) stored rows (fails q n stored differs mine) more.free))
+                rw same (ap₂ (λ s m. kept_in (filter (is_slot s m) (new.now.trees 8))) names.0 names.1 ∙ ap kept_in (ap (filter (is_slot row.sid row.slot)) is ∙ put_alone (is_slot row.sid row.slot) stored rows mine none free))
+            | inr differs ↦ rw differs (ap kept_in (ap (filter (is_slot q n)) is ∙ put_passed_over (is_slot q n) stored rows (fails q n stored differs mine) free))
           ]);
     }
   where

@@ -14,7 +14,7 @@ use Rattle.room_records.specs.declared.change.Change.TheVariants.{PutNode, PutEn
 use Rattle.room_records.specs.Room.{fresh_room}
 use Rattle.room_records.specs.Representation.{RepresentsRoom}
 use Rattle.room_tables.specs.Tables.{schema_0}
-use Rattle.room_tables.specs.Rows.{records_of}
+use Rattle.room_tables.specs.Rows.{records_of, version_rows, IsVersion1}
 
 -- the tables are there, and have no row
 pub record IsMade (wanted : Schema) (db : Database) : Type 0 where
@@ -38,9 +38,17 @@ pub record IsFresh (owner group : List ℕ) (r : Records) : Type 0 where
 abbrev pub filled : Node → Vec EntryModel Global → Records
 filled root entries = apply_change (PutNext 2) (apply_change (PutEntries 1 entries) (apply_change (PutNode root) no_records))
 
+-- these are the records, in tables of version 1
+abbrev pub IsFilled : Node → Vec EntryModel Global → Trees → Type 0
+IsFilled root entries trees = (records_of trees ≡ filled root entries) × IsVersion1 (version_rows trees)
+
 abbrev pub MayBeFilled : Node → Vec EntryModel Global → Database → Trees → Type 0
-MayBeFilled root entries db trees = db.schema ≡ schema_0 → records_of trees ≡ filled root entries
+MayBeFilled root entries db trees = db.schema ≡ schema_0 → IsFilled root entries trees
+
+-- a fresh room, in tables of version 1
+abbrev pub IsFreshRoom : List ℕ → List ℕ → Trees → Type 0
+IsFreshRoom owner group trees = IsFresh owner group (records_of trees) × IsVersion1 (version_rows trees)
 
 -- a commit leaves such trees where there was no table before
 abbrev pub MayBeMade : List ℕ → List ℕ → Database → Trees → Type 0
-MayBeMade owner group db trees = db.schema ≡ schema_0 → IsFresh owner group (records_of trees)
+MayBeMade owner group db trees = db.schema ≡ schema_0 → IsFreshRoom owner group trees

@@ -10,6 +10,7 @@ use Rattle.sqlite.specs.Table.{Table}
 use Rattle.sqlite.specs.Values.{or_null}
 use Rattle.sqlite.specs.Effect.{Database}
 use Rattle.room_tables.specs.Tables.{room_schema}
+use Rattle.room_tables.specs.Rows.{version_rows, IsVersion1}
 
 -- the rowids are integers and rise, so none comes twice
 pub record IsKeyed (rows : List Row) : Type 0 where
@@ -32,3 +33,8 @@ pub record IsRoomDatabase (db : Database) : Type 0 where
   pub schema : db.schema ≡ room_schema
   pub keyed : AllByRecursion (λ (t : Table). IsKeyed (db.trees t.tree)) room_schema.tables
   pub numbered : AllByRecursion IsNumbered (db.trees 1)
+
+-- a database that `adopt` takes: laid out for the records of a room, and of version 1
+pub record IsRoomOfVersion1 (db : Database) : Type 0 where
+  pub room : IsRoomDatabase db
+  pub version : IsVersion1 (version_rows db.trees)

@@ -5,3 +5,4 @@ pub mod Layout
 pub mod Steps
 pub mod Names
 pub mod Fresh
+pub mod Versions

@@ -202,6 +202,19 @@ next_rows db = map shown_next (filter (has 0 1) (db 0))
 abbrev pub next_in : List Row → ℕ
 next_in rows = unwrap_or (option_map (λ row. number_in (column row 0)) (only (map shown_next (filter (has 0 1) rows)))) 0
 
+abbrev pub shown_version : Row → Row
+shown_version row = column row 2 ∷ []
+
+abbrev pub versions_in : List Row → List Row
+versions_in rows = map shown_version (filter (has 0 1) rows)
+
+abbrev pub version_rows : Trees → List Row
+version_rows db = versions_in (db 0)
+
+-- there is one row, and its version is 1
+abbrev pub IsVersion1 : List Row → Type 0
+IsVersion1 rows = option_map (λ row. column row 0) (only rows) ≡ Some (Int (pos 1))
+
 -- ---- all of them
 
 abbrev pub records_of : Trees → Records

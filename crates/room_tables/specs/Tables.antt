@@ -1,6 +1,7 @@
 -- The six tables of a room.
-use Rattle.std.specs.Prelude.{true, false, Bool, ◌||◌, is_some, [], ◌∷◌, Some, None, codes, List, ℕ, pos}
-use Rattle.sqlite_schema.specs.Names.{table_named}
+use Rattle.std.specs.Prelude.{true, false, Bool, ◌||◌, ◌&&◌, is_some, [], ◌∷◌, Some, None, option_and_then, slice_get, codes, List, ℕ, pos}
+use Rattle.std.specs.List.{list_all}
+use Rattle.sqlite_schema.specs.Names.{table_named, column_named}
 use Rattle.sqlite.specs.Collation.TheVariants.{Binary}
 use Rattle.sqlite.specs.declared.types.Value.TheVariants.{Null, Int}
 use Rattle.sqlite.specs.Table.{Table}
@@ -191,3 +192,20 @@ has_table schema name = is_some (table_named schema name)
 abbrev pub has_a_table : Schema → Bool
 has_a_table schema =
     has_table schema (codes "room") || has_table schema (codes "node") || has_table schema (codes "entry") || has_table schema (codes "doc") || has_table schema (codes "session") || has_table schema (codes "slot")
+
+-- the table is there, and has the column
+abbrev pub has_column : Schema → List ℕ → List ℕ → Bool
+has_column schema table column = is_some (option_and_then (λ (t : Table). column_named t column) (option_and_then (slice_get schema.tables) (table_named schema table)))
+
+abbrev pub has_columns : Schema → List ℕ → List (List ℕ) → Bool
+has_columns schema table columns = list_all (has_column schema table) columns
+
+-- the six tables are there, with each of their columns
+abbrev pub has_room : Schema → Bool
+has_room schema =
+    has_columns schema (codes "room") (codes "one" ∷ codes "version" ∷ codes "next" ∷ [])
+    && has_columns schema (codes "node") (codes "id" ∷ codes "parent" ∷ codes "name" ∷ codes "kind" ∷ codes "owner" ∷ codes "grp" ∷ codes "aclflag" ∷ [])
+    && has_columns schema (codes "entry") (codes "node" ∷ codes "place" ∷ codes "type" ∷ codes "flag" ∷ codes "mask" ∷ codes "who" ∷ [])
+    && has_columns schema (codes "doc") (codes "node" ∷ codes "bytes" ∷ [])
+    && has_columns schema (codes "session") (codes "sid" ∷ codes "owner" ∷ codes "slots" ∷ codes "open" ∷ [])
+    && has_columns schema (codes "slot") (codes "sid" ∷ codes "slot" ∷ codes "seq" ∷ codes "request" ∷ codes "reply" ∷ [])

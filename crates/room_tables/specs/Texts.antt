@@ -1,5 +1,5 @@
 -- The statements on the tables, and what they mean under `room_schema`.
-use Rattle.std.specs.Prelude.{ℕ, List, [], ◌∷◌, false, pos, negsuc, codes, Some, None}
+use Rattle.std.specs.Prelude.{ℕ, ◌+◌, List, [], ◌∷◌, ◌++◌, false, pos, negsuc, codes, Some, None}
 use Rattle.sqlite_value.specs.declared.value.Value.TheVariants.{Null, Int}
 use Rattle.sqlite_value.specs.declared.keys.Collation.TheVariants.{Binary}
 use Rattle.sqlite_value.specs.declared.keys.Key.{Key}
@@ -113,8 +113,30 @@ drop_slot_query = over_table 8 (equals (col 1 1) (col 0 0) ∷ equals (col 1 2) 
 abbrev pub add_entry_text : List ℕ
 add_entry_text = codes "INSERT INTO entry (node, place, type, flag, mask, who) VALUES (?1, ?2, ?3, ?4, ?5, ?6)"
 
+-- one row of entries, whose parameters stand from a place on, and the node's number at place 0
+abbrev pub entry_terms : ℕ → List Term
+entry_terms from = lit Null ∷ col 0 0 ∷ col 0 from ∷ col 0 (from + 1) ∷ col 0 (from + 2) ∷ col 0 (from + 3) ∷ col 0 (from + 4) ∷ []
+
 abbrev pub add_entry_terms : List Term
-add_entry_terms = lit Null ∷ col 0 0 ∷ col 0 1 ∷ col 0 2 ∷ col 0 3 ∷ col 0 4 ∷ col 0 5 ∷ []
+add_entry_terms = entry_terms 1
+
+abbrev pub add_two_text : List ℕ
+add_two_text = codes "INSERT INTO entry (node, place, type, flag, mask, who) VALUES (?1, ?2, ?3, ?4, ?5, ?6), (?1, ?7, ?8, ?9, ?10, ?11)"
+
+abbrev pub add_two_terms : List Term
+add_two_terms = entry_terms 1 ++ entry_terms 6
+
+abbrev pub add_three_text : List ℕ
+add_three_text = codes "INSERT INTO entry (node, place, type, flag, mask, who) VALUES (?1, ?2, ?3, ?4, ?5, ?6), (?1, ?7, ?8, ?9, ?10, ?11), (?1, ?12, ?13, ?14, ?15, ?16)"
+
+abbrev pub add_three_terms : List Term
+add_three_terms = entry_terms 1 ++ entry_terms 6 ++ entry_terms 11
+
+abbrev pub add_four_text : List ℕ
+add_four_text = codes "INSERT INTO entry (node, place, type, flag, mask, who) VALUES (?1, ?2, ?3, ?4, ?5, ?6), (?1, ?7, ?8, ?9, ?10, ?11), (?1, ?12, ?13, ?14, ?15, ?16), (?1, ?17, ?18, ?19, ?20, ?21)"
+
+abbrev pub add_four_terms : List Term
+add_four_terms = entry_terms 1 ++ entry_terms 6 ++ entry_terms 11 ++ entry_terms 16
 
 abbrev pub add_slot_text : List ℕ
 add_slot_text = codes "INSERT INTO slot (sid, slot, seq, request, reply) VALUES (?1, ?2, ?3, ?4, ?5)"
@@ -123,14 +145,14 @@ abbrev pub add_slot_terms : List Term
 add_slot_terms = lit Null ∷ col 0 0 ∷ col 0 1 ∷ col 0 2 ∷ col 0 3 ∷ col 0 4 ∷ []
 
 abbrev pub put_next_text : List ℕ
-put_next_text = codes "INSERT INTO room (one, version, next) VALUES (1, 1, ?1) ON CONFLICT (one) DO UPDATE SET next = excluded.next"
+put_next_text = codes "INSERT INTO room (one, version, next) VALUES (1, 1, ?1) ON CONFLICT (one) DO UPDATE SET version = excluded.version, next = excluded.next"
 
 abbrev pub put_next_terms : List Term
 put_next_terms = lit (Int (pos 1)) ∷ lit Null ∷ lit (Int (pos 1)) ∷ col 0 0 ∷ []
 
 -- the update reads the parameters, then the rowid that is there in column 1, and the new row from column 2 on
 abbrev pub put_next_query : Query
-put_next_query = over_table 0 (equals (col 1 0) (col 0 1) ∷ []) (col 1 0 ∷ col 1 0 ∷ lit Null ∷ col 1 2 ∷ col 0 5 ∷ []) []
+put_next_query = over_table 0 (equals (col 1 0) (col 0 1) ∷ []) (col 1 0 ∷ col 1 0 ∷ lit Null ∷ col 0 4 ∷ col 0 5 ∷ []) []
 
 abbrev pub put_next_clause : Upsert
 put_next_clause = record { target = Some (0 ∷ []); update = Some (record { lets = []; body = put_next_query }) }

@@ -1,5 +1,5 @@
 //! How far down a subtree reaches.
-ghost use Rattle.std.specs.Prelude.{◌≡◌, ◌≤◌, Some, IfOk, Err};
+ghost use Rattle.std.specs.Prelude.{◌≡◌, ◌≤◌, Some, IfOk, OnOk, Err};
 ghost use Rattle.room_records.specs.declared.node.Node.{Node};
 ghost use Rattle.room_records.specs.Names.{Path as PathModel};
 ghost use Rattle.room_records.specs.Representation.{HasPath};
@@ -28,7 +28,8 @@ fn reaches_down<S: Shelf>(
 ) -> Result<bool, ShelfFault>
     ensures value { OfRoom S.records S.is_honest S.is_declared shelf.old shelf.new (λ t room. (path : PathModel) (node : Node) →
         HasPath t path id → t.node id ≡ Some node → node.kind ≡ kind → IfOk result (TellsBelow room path levels)) }
-    ensures unchanged { Unchanged S.records S.is_honest S.is_declared S.crash_may_leave shelf.old shelf.new }
+    ensures alive { S.is_clean shelf.new → S.is_honest shelf.old → OnOk result (S.is_honest shelf.new) }
+    ensures unchanged { Unchanged S.records S.is_honest S.is_clean S.is_declared S.crash_may_leave shelf.old shelf.new }
     ensures never_falls { S.failures shelf.old ≤ S.failures shelf.new }
     ensures store { result ≡ Err ShelfFault.Store → FailureCounted (S.failures shelf.old) (S.failures shelf.new) }
 {
@@ -56,7 +57,8 @@ pub(crate) fn check_depth<S: Shelf>(
 ) -> Result<Option<Refusal>, ShelfFault>
     ensures value { OfRoom S.records S.is_honest S.is_declared shelf.old shelf.new (λ t room. (path : PathModel) → IsPlace t room path place.now →
         IfOk result (λ checked. checked ≡ check_depth room path to.now)) }
-    ensures unchanged { Unchanged S.records S.is_honest S.is_declared S.crash_may_leave shelf.old shelf.new }
+    ensures alive { S.is_clean shelf.new → S.is_honest shelf.old → OnOk result (S.is_honest shelf.new) }
+    ensures unchanged { Unchanged S.records S.is_honest S.is_clean S.is_declared S.crash_may_leave shelf.old shelf.new }
     ensures never_falls { S.failures shelf.old ≤ S.failures shelf.new }
     ensures store { result ≡ Err ShelfFault.Store → FailureCounted (S.failures shelf.old) (S.failures shelf.new) }
 {

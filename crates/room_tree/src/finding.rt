@@ -1,5 +1,5 @@
 //! Finding nodes by their paths.
-ghost use Rattle.std.specs.Prelude.{◌≡◌, ◌≤◌, IfOk, Err};
+ghost use Rattle.std.specs.Prelude.{◌≡◌, ◌≤◌, IfOk, OnOk, Err};
 ghost use Rattle.room_records.specs.Shelf.{FailureCounted, Unchanged};
 ghost use Rattle.room_records.specs.Room.{Room};
 ghost use Rattle.room_records.specs.Representation.{RepresentsRoom, IsNodeAt};
@@ -10,7 +10,8 @@ use room_records::{Node, Path, Shelf, ShelfFault};
 pub fn node_at<S: Shelf>(shelf: &mut S, path: &Path) -> Result<Option<Node>, ShelfFault>
     ensures value { S.is_honest shelf.new → S.is_declared shelf.old → (room : Room) → RepresentsRoom (S.records shelf.old).objects room →
         IfOk result (IsNodeAt (S.records shelf.old).objects room path.now) }
-    ensures unchanged { Unchanged S.records S.is_honest S.is_declared S.crash_may_leave shelf.old shelf.new }
+    ensures alive { S.is_clean shelf.new → OnOk result (S.is_honest shelf.new) }
+    ensures unchanged { Unchanged S.records S.is_honest S.is_clean S.is_declared S.crash_may_leave shelf.old shelf.new }
     ensures never_falls { S.failures shelf.old ≤ S.failures shelf.new }
     ensures store { result ≡ Err ShelfFault.Store → FailureCounted (S.failures shelf.old) (S.failures shelf.new) }
 {

@@ -1,5 +1,5 @@
 //! Commands that make an object.
-ghost use Rattle.std.specs.Prelude.{◌≡◌, ℕ, List, ◌+◌, ◌-◌, ◌≤◌, ◌<◌, ◌^◌, [], ◌∷◌, ◌++◌, length, Some, None, IfOk, MatchResult, Err, nat_lt, nat_le};
+ghost use Rattle.std.specs.Prelude.{◌≡◌, ℕ, List, ◌+◌, ◌-◌, ◌≤◌, ◌<◌, ◌^◌, [], ◌∷◌, ◌++◌, length, Some, None, IfOk, OnOk, MatchResult, Err, nat_lt, nat_le};
 ghost use Rattle.room_acl.specs.Bits.{IsMask};
 ghost use Rattle.room_records.specs.Limits.{max_children, max_objects};
 ghost use Rattle.room_records.specs.Names.{IsPath, Path as PathModel};
@@ -41,7 +41,8 @@ fn folder_for_new<S: Shelf>(
     ensures value { OfRoom S.records S.is_honest S.is_declared shelf.old shelf.new (λ t room. IfOk result
         (IsReached t room (parent_of path.now) (refuse_if (is_root path.now) Fault.Exist ∷ walk room subject.now path.now
         ∷ check_absent room path.now ∷ check_right room subject.now (parent_of path.now) wanted ∷ []))) }
-    ensures unchanged { Unchanged S.records S.is_honest S.is_declared S.crash_may_leave shelf.old shelf.new }
+    ensures alive { S.is_clean shelf.new → S.is_honest shelf.old → OnOk result (S.is_honest shelf.new) }
+    ensures unchanged { Unchanged S.records S.is_honest S.is_clean S.is_declared S.crash_may_leave shelf.old shelf.new }
     ensures never_falls { S.failures shelf.old ≤ S.failures shelf.new }
     ensures store { result ≡ Err ShelfFault.Store → FailureCounted (S.failures shelf.old) (S.failures shelf.new) }
 {
@@ -95,7 +96,8 @@ fn number_for_new<S: Shelf>(
         IfOk result (λ number. MatchResult number
         (λ id. (first_refusal (check_folder_full room folder ∷ check_room_full room ∷ []) ≡ None) × (id ≡ t.next))
         (λ refusal. first_refusal (check_folder_full room folder ∷ check_room_full room ∷ []) ≡ Some refusal))) }
-    ensures unchanged { Unchanged S.records S.is_honest S.is_declared S.crash_may_leave shelf.old shelf.new }
+    ensures alive { S.is_clean shelf.new → S.is_honest shelf.old → OnOk result (S.is_honest shelf.new) }
+    ensures unchanged { Unchanged S.records S.is_honest S.is_clean S.is_declared S.crash_may_leave shelf.old shelf.new }
     ensures never_falls { S.failures shelf.old ≤ S.failures shelf.new }
     ensures store { result ≡ Err ShelfFault.Store → FailureCounted (S.failures shelf.old) (S.failures shelf.new) }
 {
@@ -191,7 +193,8 @@ pub(crate) fn plan_mkdir<S: Shelf>(
     path: &Path,
 ) -> Result<Outcome, ShelfFault>
     ensures effect { OfRoom S.records S.is_honest S.is_declared shelf.old shelf.new (λ t room. IfOk result (PlansEffect t room subject.now (C.Mkdir path.now))) }
-    ensures unchanged { Unchanged S.records S.is_honest S.is_declared S.crash_may_leave shelf.old shelf.new }
+    ensures alive { S.is_clean shelf.new → S.is_honest shelf.old → OnOk result (S.is_honest shelf.new) }
+    ensures unchanged { Unchanged S.records S.is_honest S.is_clean S.is_declared S.crash_may_leave shelf.old shelf.new }
     ensures never_falls { S.failures shelf.old ≤ S.failures shelf.new }
     ensures store { result ≡ Err ShelfFault.Store → FailureCounted (S.failures shelf.old) (S.failures shelf.new) }
 {
@@ -224,7 +227,8 @@ pub(crate) fn plan_create<S: Shelf>(
     path: &Path,
 ) -> Result<Outcome, ShelfFault>
     ensures effect { OfRoom S.records S.is_honest S.is_declared shelf.old shelf.new (λ t room. IfOk result (PlansEffect t room subject.now (C.Create bytes.now path.now))) }
-    ensures unchanged { Unchanged S.records S.is_honest S.is_declared S.crash_may_leave shelf.old shelf.new }
+    ensures alive { S.is_clean shelf.new → S.is_honest shelf.old → OnOk result (S.is_honest shelf.new) }
+    ensures unchanged { Unchanged S.records S.is_honest S.is_clean S.is_declared S.crash_may_leave shelf.old shelf.new }
     ensures never_falls { S.failures shelf.old ≤ S.failures shelf.new }
     ensures store { result ≡ Err ShelfFault.Store → FailureCounted (S.failures shelf.old) (S.failures shelf.new) }
 {

@@ -1,5 +1,5 @@
 //! RENAME.
-ghost use Rattle.std.specs.Prelude.{◌≡◌, ℕ, false, List, ◌≤◌, ◌∷◌, [], ◌++◌, ◌||◌, Some, IfOk, Err, if◌then◌else◌};
+ghost use Rattle.std.specs.Prelude.{◌≡◌, ℕ, false, List, ◌≤◌, ◌∷◌, [], ◌++◌, ◌||◌, Some, IfOk, OnOk, Err, if◌then◌else◌};
 ghost use Rattle.room_acl.specs.Bits.{IsMask, add_file, add_subdirectory};
 ghost use Rattle.room_records.specs.Names.{IsPath, Path as PathModel};
 ghost use Rattle.room_records.specs.Records.{ObjectRecords};
@@ -72,7 +72,8 @@ fn found_with_folder<S: Shelf>(
 ) -> Result<Result<(Place, Place), Refusal>, ShelfFault>
     ensures value { OfRoom S.records S.is_honest S.is_declared shelf.old shelf.new (λ t room. is_root path.now ≡ false → IfOk result
         (IsFoundWithFolder t room path.now (walk room subject.now path.now ∷ check_exists room path.now ∷ []))) }
-    ensures unchanged { Unchanged S.records S.is_honest S.is_declared S.crash_may_leave shelf.old shelf.new }
+    ensures alive { S.is_clean shelf.new → S.is_honest shelf.old → OnOk result (S.is_honest shelf.new) }
+    ensures unchanged { Unchanged S.records S.is_honest S.is_clean S.is_declared S.crash_may_leave shelf.old shelf.new }
     ensures never_falls { S.failures shelf.old ≤ S.failures shelf.new }
     ensures store { result ≡ Err ShelfFault.Store → FailureCounted (S.failures shelf.old) (S.failures shelf.new) }
 {
@@ -96,7 +97,8 @@ fn folder_of_free<S: Shelf>(
 ) -> Result<Reached, ShelfFault>
     ensures value { OfRoom S.records S.is_honest S.is_declared shelf.old shelf.new (λ t room. IfOk result
         (IsReached t room (parent_of path.now) (walk room subject.now path.now ∷ check_absent room path.now ∷ []))) }
-    ensures unchanged { Unchanged S.records S.is_honest S.is_declared S.crash_may_leave shelf.old shelf.new }
+    ensures alive { S.is_clean shelf.new → S.is_honest shelf.old → OnOk result (S.is_honest shelf.new) }
+    ensures unchanged { Unchanged S.records S.is_honest S.is_clean S.is_declared S.crash_may_leave shelf.old shelf.new }
     ensures never_falls { S.failures shelf.old ≤ S.failures shelf.new }
     ensures store { result ≡ Err ShelfFault.Store → FailureCounted (S.failures shelf.old) (S.failures shelf.new) }
 {
@@ -117,7 +119,8 @@ fn ends_of_move<S: Shelf>(
 ) -> Result<Result<Move, Refusal>, ShelfFault>
     ensures value { OfRoom S.records S.is_honest S.is_declared shelf.old shelf.new (λ t room. is_root path.now ≡ false → IfOk result
         (IsChecked t room path.now to.now (end_checks room subject.now path.now to.now))) }
-    ensures unchanged { Unchanged S.records S.is_honest S.is_declared S.crash_may_leave shelf.old shelf.new }
+    ensures alive { S.is_clean shelf.new → S.is_honest shelf.old → OnOk result (S.is_honest shelf.new) }
+    ensures unchanged { Unchanged S.records S.is_honest S.is_clean S.is_declared S.crash_may_leave shelf.old shelf.new }
     ensures never_falls { S.failures shelf.old ≤ S.failures shelf.new }
     ensures store { result ≡ Err ShelfFault.Store → FailureCounted (S.failures shelf.old) (S.failures shelf.new) }
 {
@@ -170,7 +173,8 @@ impl Move {
     ) -> Result<Option<Refusal>, ShelfFault>
         ensures value { OfRoom S.records S.is_honest S.is_declared shelf.old shelf.new (λ t room. (path : PathModel) → IsMove t room path to.now self.now →
             IfOk result (λ checked. checked ≡ first_refusal (move_limits room path to.now))) }
-        ensures unchanged { Unchanged S.records S.is_honest S.is_declared S.crash_may_leave shelf.old shelf.new }
+        ensures alive { S.is_clean shelf.new → S.is_honest shelf.old → OnOk result (S.is_honest shelf.new) }
+        ensures unchanged { Unchanged S.records S.is_honest S.is_clean S.is_declared S.crash_may_leave shelf.old shelf.new }
         ensures never_falls { S.failures shelf.old ≤ S.failures shelf.new }
         ensures store { result ≡ Err ShelfFault.Store → FailureCounted (S.failures shelf.old) (S.failures shelf.new) }
     {
@@ -197,7 +201,8 @@ fn allowed_move<S: Shelf>(
     ensures value { OfRoom S.records S.is_honest S.is_declared shelf.old shelf.new (λ t room. IfOk result
         (IsChecked t room path.now to.now (refuse_if (is_root path.now || is_root to.now || is_at_or_below to.now path.now) Fault.Inval
         ∷ (end_checks room subject.now path.now to.now ++ move_rights room subject.now path.now to.now)))) }
-    ensures unchanged { Unchanged S.records S.is_honest S.is_declared S.crash_may_leave shelf.old shelf.new }
+    ensures alive { S.is_clean shelf.new → S.is_honest shelf.old → OnOk result (S.is_honest shelf.new) }
+    ensures unchanged { Unchanged S.records S.is_honest S.is_clean S.is_declared S.crash_may_leave shelf.old shelf.new }
     ensures never_falls { S.failures shelf.old ≤ S.failures shelf.new }
     ensures store { result ≡ Err ShelfFault.Store → FailureCounted (S.failures shelf.old) (S.failures shelf.new) }
 {
@@ -244,7 +249,8 @@ pub(crate) fn plan_rename<S: Shelf>(
     to: &Path,
 ) -> Result<Outcome, ShelfFault>
     ensures effect { OfRoom S.records S.is_honest S.is_declared shelf.old shelf.new (λ t room. IfOk result (PlansEffect t room subject.now (C.Rename path.now to.now))) }
-    ensures unchanged { Unchanged S.records S.is_honest S.is_declared S.crash_may_leave shelf.old shelf.new }
+    ensures alive { S.is_clean shelf.new → S.is_honest shelf.old → OnOk result (S.is_honest shelf.new) }
+    ensures unchanged { Unchanged S.records S.is_honest S.is_clean S.is_declared S.crash_may_leave shelf.old shelf.new }
     ensures never_falls { S.failures shelf.old ≤ S.failures shelf.new }
     ensures store { result ≡ Err ShelfFault.Store → FailureCounted (S.failures shelf.old) (S.failures shelf.new) }
 {

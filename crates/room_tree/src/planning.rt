@@ -1,5 +1,5 @@
 //! What a command changes and replies.
-ghost use Rattle.std.specs.Prelude.{◌≡◌, ◌≤◌, [], IfOk, Err};
+ghost use Rattle.std.specs.Prelude.{◌≡◌, ◌≤◌, [], IfOk, OnOk, Err};
 ghost use Rattle.room_records.specs.Shelf.{FailureCounted, Unchanged};
 ghost use Rattle.room_tree.specs.CommandModel.{command_model};
 ghost use Rattle.room_records.specs.Room.{Room};
@@ -63,7 +63,8 @@ pub fn plan<S: Shelf>(
 ) -> Result<Outcome, ShelfFault>
     ensures effect { S.is_honest shelf.new → S.is_declared shelf.old → (room : Room) → RepresentsRoom (S.records shelf.old).objects room →
         IfOk result (PlansEffect (S.records shelf.old).objects room subject.now (command_model command.now)) }
-    ensures unchanged { Unchanged S.records S.is_honest S.is_declared S.crash_may_leave shelf.old shelf.new }
+    ensures alive { S.is_clean shelf.new → S.is_honest shelf.old → OnOk result (S.is_honest shelf.new) }
+    ensures unchanged { Unchanged S.records S.is_honest S.is_clean S.is_declared S.crash_may_leave shelf.old shelf.new }
     ensures never_falls { S.failures shelf.old ≤ S.failures shelf.new }
     ensures store { result ≡ Err ShelfFault.Store → FailureCounted (S.failures shelf.old) (S.failures shelf.new) }
 {

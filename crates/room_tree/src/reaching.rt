@@ -1,5 +1,5 @@
 //! The object that a command is about.
-ghost use Rattle.std.specs.Prelude.{◌≡◌, ◌≤◌, ◌<◌, ◌^◌, [], ◌∷◌, length, IfOk, Err};
+ghost use Rattle.std.specs.Prelude.{◌≡◌, ◌≤◌, ◌<◌, ◌^◌, [], ◌∷◌, length, IfOk, OnOk, Err};
 ghost use Rattle.room_acl.specs.Bits.{IsMask};
 ghost use Rattle.room_records.specs.Names.{Path as PathModel};
 ghost use Rattle.room_records.specs.Shelf.{FailureCounted, Unchanged};
@@ -32,7 +32,8 @@ pub(crate) fn reach<S: Shelf>(
 ) -> Result<Reached, ShelfFault>
     ensures value { OfRoom S.records S.is_honest S.is_declared shelf.old shelf.new (λ t room. IfOk result
         (IsReached t room path.now (walk room subject.now path.now ∷ check_exists room path.now ∷ []))) }
-    ensures unchanged { Unchanged S.records S.is_honest S.is_declared S.crash_may_leave shelf.old shelf.new }
+    ensures alive { S.is_clean shelf.new → S.is_honest shelf.old → OnOk result (S.is_honest shelf.new) }
+    ensures unchanged { Unchanged S.records S.is_honest S.is_clean S.is_declared S.crash_may_leave shelf.old shelf.new }
     ensures never_falls { S.failures shelf.old ≤ S.failures shelf.new }
     ensures store { result ≡ Err ShelfFault.Store → FailureCounted (S.failures shelf.old) (S.failures shelf.new) }
 {
@@ -55,7 +56,8 @@ pub(crate) fn reach_to_use<S: Shelf>(
     requires { IsMask wanted }
     ensures value { OfRoom S.records S.is_honest S.is_declared shelf.old shelf.new (λ t room. IfOk result
         (IsReached t room path.now (walk room subject.now path.now ∷ check_exists room path.now ∷ use_checks room subject.now path.now only wanted))) }
-    ensures unchanged { Unchanged S.records S.is_honest S.is_declared S.crash_may_leave shelf.old shelf.new }
+    ensures alive { S.is_clean shelf.new → S.is_honest shelf.old → OnOk result (S.is_honest shelf.new) }
+    ensures unchanged { Unchanged S.records S.is_honest S.is_clean S.is_declared S.crash_may_leave shelf.old shelf.new }
     ensures never_falls { S.failures shelf.old ≤ S.failures shelf.new }
     ensures store { result ≡ Err ShelfFault.Store → FailureCounted (S.failures shelf.old) (S.failures shelf.new) }
 {
@@ -76,7 +78,8 @@ pub(crate) fn reach_to_use<S: Shelf>(
 pub(crate) fn count_children<S: Shelf>(shelf: &mut S, place: &Place) -> Result<u64, ShelfFault>
     ensures value { OfRoom S.records S.is_honest S.is_declared shelf.old shelf.new (λ t room. (path : PathModel) → IsPlace t room path place.now →
         IfOk result (λ count. count ≡ length (children room path))) }
-    ensures unchanged { Unchanged S.records S.is_honest S.is_declared S.crash_may_leave shelf.old shelf.new }
+    ensures alive { S.is_clean shelf.new → S.is_honest shelf.old → OnOk result (S.is_honest shelf.new) }
+    ensures unchanged { Unchanged S.records S.is_honest S.is_clean S.is_declared S.crash_may_leave shelf.old shelf.new }
     ensures never_falls { S.failures shelf.old ≤ S.failures shelf.new }
     ensures store { result ≡ Err ShelfFault.Store → FailureCounted (S.failures shelf.old) (S.failures shelf.new) }
 {
@@ -87,7 +90,8 @@ pub(crate) fn count_children<S: Shelf>(shelf: &mut S, place: &Place) -> Result<u
 pub(crate) fn bytes_of<S: Shelf>(shelf: &mut S, place: &Place) -> Result<Vec<u8>, ShelfFault>
     ensures value { OfRoom S.records S.is_honest S.is_declared shelf.old shelf.new (λ t room. (path : PathModel) → IsPlace t room path place.now →
         IfOk result (λ bytes. bytes.items ≡ bytes_at room path)) }
-    ensures unchanged { Unchanged S.records S.is_honest S.is_declared S.crash_may_leave shelf.old shelf.new }
+    ensures alive { S.is_clean shelf.new → S.is_honest shelf.old → OnOk result (S.is_honest shelf.new) }
+    ensures unchanged { Unchanged S.records S.is_honest S.is_clean S.is_declared S.crash_may_leave shelf.old shelf.new }
     ensures never_falls { S.failures shelf.old ≤ S.failures shelf.new }
     ensures store { result ≡ Err ShelfFault.Store → FailureCounted (S.failures shelf.old) (S.failures shelf.new) }
 {
@@ -98,7 +102,8 @@ pub(crate) fn bytes_of<S: Shelf>(shelf: &mut S, place: &Place) -> Result<Vec<u8>
 pub(crate) fn size_of<S: Shelf>(shelf: &mut S, place: &Place) -> Result<u32, ShelfFault>
     ensures value { OfRoom S.records S.is_honest S.is_declared shelf.old shelf.new (λ t room. (path : PathModel) → IsPlace t room path place.now →
         IfOk result (λ size. size ≡ size_of room path place.now.kind)) }
-    ensures unchanged { Unchanged S.records S.is_honest S.is_declared S.crash_may_leave shelf.old shelf.new }
+    ensures alive { S.is_clean shelf.new → S.is_honest shelf.old → OnOk result (S.is_honest shelf.new) }
+    ensures unchanged { Unchanged S.records S.is_honest S.is_clean S.is_declared S.crash_may_leave shelf.old shelf.new }
     ensures never_falls { S.failures shelf.old ≤ S.failures shelf.new }
     ensures store { result ≡ Err ShelfFault.Store → FailureCounted (S.failures shelf.old) (S.failures shelf.new) }
 {

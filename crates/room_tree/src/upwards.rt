@@ -1,5 +1,5 @@
 //! Lists, found from below.
-ghost use Rattle.std.specs.Prelude.{◌≡◌, ◌≤◌, [], length, None, Some, IfOk, Err, if◌then◌else◌};
+ghost use Rattle.std.specs.Prelude.{◌≡◌, ◌≤◌, [], length, None, Some, IfOk, OnOk, Err, if◌then◌else◌};
 ghost use Rattle.room_records.specs.Names.{Path as PathModel};
 ghost use Rattle.room_records.specs.Representation.{HasPath, RepresentsRoom};
 ghost use Rattle.room_records.specs.Room.{Room, list_of, follows};
@@ -35,7 +35,8 @@ fn list_within<S: Shelf>(
 ) -> Result<Vec<Entry>, ShelfFault>
     ensures value { OfRoom S.records S.is_honest S.is_declared shelf.old shelf.new (λ t room. (path : PathModel) → HasPath t path node.now.id →
         t.node node.now.id ≡ Some node.now → length path ≤ levels → IfOk result (λ list. list.items ≡ list_of room path)) }
-    ensures unchanged { Unchanged S.records S.is_honest S.is_declared S.crash_may_leave shelf.old shelf.new }
+    ensures alive { S.is_clean shelf.new → OnOk result (S.is_honest shelf.new) }
+    ensures unchanged { Unchanged S.records S.is_honest S.is_clean S.is_declared S.crash_may_leave shelf.old shelf.new }
     ensures never_falls { S.failures shelf.old ≤ S.failures shelf.new }
     ensures store { result ≡ Err ShelfFault.Store → FailureCounted (S.failures shelf.old) (S.failures shelf.new) }
 {
@@ -67,7 +68,8 @@ pub fn list_upwards<S: Shelf>(
     ensures value { S.is_honest shelf.new → S.is_declared shelf.old → (room : Room) → RepresentsRoom (S.records shelf.old).objects room →
         (path : PathModel) → HasPath (S.records shelf.old).objects path id → IfOk result (λ list. list.items ≡ list_of room path) }
     ensures absent { S.is_honest shelf.new → S.is_declared shelf.old → (S.records shelf.old).objects.node id ≡ None → IfOk result (λ list. list.items ≡ []) }
-    ensures unchanged { Unchanged S.records S.is_honest S.is_declared S.crash_may_leave shelf.old shelf.new }
+    ensures alive { S.is_clean shelf.new → OnOk result (S.is_honest shelf.new) }
+    ensures unchanged { Unchanged S.records S.is_honest S.is_clean S.is_declared S.crash_may_leave shelf.old shelf.new }
     ensures never_falls { S.failures shelf.old ≤ S.failures shelf.new }
     ensures store { result ≡ Err ShelfFault.Store → FailureCounted (S.failures shelf.old) (S.failures shelf.new) }
 {

@@ -1,5 +1,5 @@
 //! The walk of a path, from the root down.
-ghost use Rattle.std.specs.Prelude.{◌≡◌, ◌≤◌, ◌++◌, [], ◌∷◌, take, IfOk, MatchOption, Err, if◌then◌else◌};
+ghost use Rattle.std.specs.Prelude.{◌≡◌, ◌≤◌, ◌++◌, [], ◌∷◌, take, IfOk, OnOk, MatchOption, Err, if◌then◌else◌};
 ghost use Rattle.room_acl.specs.Inheritance.{handed_down};
 ghost use Rattle.room_records.specs.Names.{Path as PathModel};
 ghost use Rattle.room_records.specs.Room.{follows, object_at};
@@ -34,7 +34,8 @@ fn place_under<S: Shelf>(
 ) -> Result<Place, ShelfFault>
     ensures value { S.is_honest shelf.new → S.is_declared shelf.old → IfOk result (λ place. (node_of place ≡ node)
         × (place.list.items ≡ (S.records shelf.old).objects.entries node.id ++ (if follows node.aclflag then handed_down above.now node.kind else []))) }
-    ensures unchanged { Unchanged S.records S.is_honest S.is_declared S.crash_may_leave shelf.old shelf.new }
+    ensures alive { S.is_clean shelf.new → S.is_honest shelf.old → OnOk result (S.is_honest shelf.new) }
+    ensures unchanged { Unchanged S.records S.is_honest S.is_clean S.is_declared S.crash_may_leave shelf.old shelf.new }
     ensures never_falls { S.failures shelf.old ≤ S.failures shelf.new }
     ensures store { result ≡ Err ShelfFault.Store → FailureCounted (S.failures shelf.old) (S.failures shelf.new) }
 {
@@ -49,7 +50,8 @@ fn place_under<S: Shelf>(
 fn root_place<S: Shelf>(shelf: &mut S) -> Result<Option<Place>, ShelfFault>
     ensures value { OfRoom S.records S.is_honest S.is_declared shelf.old shelf.new (λ t room. IfOk result (λ found.
         MatchOption found ⊥ (IsPlace t room []))) }
-    ensures unchanged { Unchanged S.records S.is_honest S.is_declared S.crash_may_leave shelf.old shelf.new }
+    ensures alive { S.is_clean shelf.new → S.is_honest shelf.old → OnOk result (S.is_honest shelf.new) }
+    ensures unchanged { Unchanged S.records S.is_honest S.is_clean S.is_declared S.crash_may_leave shelf.old shelf.new }
     ensures never_falls { S.failures shelf.old ≤ S.failures shelf.new }
     ensures store { result ≡ Err ShelfFault.Store → FailureCounted (S.failures shelf.old) (S.failures shelf.new) }
 {
@@ -69,7 +71,8 @@ fn child_place<S: Shelf>(
 ) -> Result<Option<Place>, ShelfFault>
     ensures value { OfRoom S.records S.is_honest S.is_declared shelf.old shelf.new (λ t room. (path : PathModel) → IsPlace t room path here.now →
         IfOk result (λ found. MatchOption found (object_at room (path ++ name.now ∷ []) ≡ None) (IsPlace t room (path ++ name.now ∷ [])))) }
-    ensures unchanged { Unchanged S.records S.is_honest S.is_declared S.crash_may_leave shelf.old shelf.new }
+    ensures alive { S.is_clean shelf.new → S.is_honest shelf.old → OnOk result (S.is_honest shelf.new) }
+    ensures unchanged { Unchanged S.records S.is_honest S.is_clean S.is_declared S.crash_may_leave shelf.old shelf.new }
     ensures never_falls { S.failures shelf.old ≤ S.failures shelf.new }
     ensures store { result ≡ Err ShelfFault.Store → FailureCounted (S.failures shelf.old) (S.failures shelf.new) }
 {
@@ -89,7 +92,8 @@ pub(crate) fn walk_path<S: Shelf>(
     path: &Path,
 ) -> Result<Walk, ShelfFault>
     ensures value { OfRoom S.records S.is_honest S.is_declared shelf.old shelf.new (λ t room. IfOk result (IsWalk t room subject.now path.now)) }
-    ensures unchanged { Unchanged S.records S.is_honest S.is_declared S.crash_may_leave shelf.old shelf.new }
+    ensures alive { S.is_clean shelf.new → S.is_honest shelf.old → OnOk result (S.is_honest shelf.new) }
+    ensures unchanged { Unchanged S.records S.is_honest S.is_clean S.is_declared S.crash_may_leave shelf.old shelf.new }
     ensures never_falls { S.failures shelf.old ≤ S.failures shelf.new }
     ensures store { result ≡ Err ShelfFault.Store → FailureCounted (S.failures shelf.old) (S.failures shelf.new) }
 {

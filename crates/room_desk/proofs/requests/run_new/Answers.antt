@@ -28,7 +28,7 @@ returns-clause-ok g c = λ h d room stand slots has.
     let Made : List Change → Records → Type 0 = λ cs r. S.records c.commit.new.self ≡ apply_changes cs r in
     let rules : Hold all old = planned_rules old room caller command outcome sid c.args.slot c.args.seq plans stand slots has in
     let rules_there : Hold c.deref.result.now (S.records c.plan.new.shelf) = rw (items, same) rules in
-    let made : Made c.deref.result.now (S.records c.plan.new.shelf) = c.in_ok-commit.ensures.ok h (c.plan.ensures.unchanged.declared read d) rules_there in
+    let made : Made c.deref.result.now (S.records c.plan.new.shelf) = c.in_ok-commit.ensures.ok (g.met.S.Shelf.honest_is_clean c.commit.new.self h) (c.plan.ensures.unchanged.declared read d) rules_there in
     let after : Made all old = subst (λ cs. Made cs old) items (subst (λ r. Made c.deref.result.now r) same made) in
     ran old room caller command outcome sid c.args.slot c.args.seq plans stand slots has
     (Reply c.in_ok-reply.reply.items) (S.records c.commit.new.self) (ap (λ text. Reply text) c.in_ok-reply.ensures) after

@@ -1,4 +1,4 @@
-use Rattle.std.proofs.Common.{◌≡◌, ℕ, List, ◌∷◌, [], map, get_or, length, ◌<◌, Bor, suc, zero, arith}
+use Rattle.std.proofs.Common.{ℕ, List, ◌∷◌, [], map, get_or, length, ◌<◌, Bor, suc, zero, arith}
 use Rattle.std.specs.List.{AllByRecursion}
 use Rattle.room_records.specs.Names.{IsFileName}
 use Rattle.room_records.proofs.Options.{none_is_not_some}

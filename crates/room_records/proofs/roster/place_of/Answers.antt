@@ -1,7 +1,6 @@
-use Rattle.std.proofs.Common.{◌≡◌, ℕ, ◌<◌, length, refl, sym, take, drop, get_or, suc, ◌∷◌, ◌++◌, ◌+◌, ap, ◌∙◌, drop-cons, length-take, arith, List, subst}
-use Rattle.std.specs.declared.cmp.Ordering.TheVariants.{Less, Equal, Greater}
+use Rattle.std.proofs.Common.{◌≡◌, sym, take, drop, get_or, suc, ◌∷◌, ◌++◌, ap, ◌∙◌, drop-cons, length-take, arith, subst}
+use Rattle.std.specs.declared.cmp.Ordering.TheVariants.{Less, Equal}
 use Rattle.std.proofs.lemmas.List.{take-append-drop}
-use Rattle.room_acl.specs.SubjectModel.{SubjectModel}
 use Rattle.room_records.specs.Names.{name_cmp}
 use Rattle.room_records.specs.Roster.{StartsBehind}
 use Rattle.room_records.proofs.roster.place_of.Goals as goal

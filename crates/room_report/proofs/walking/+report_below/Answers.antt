@@ -82,8 +82,9 @@ returns-in_err-report_below-clause-value g t c = λ is_honest is_declared r e ro
 
 pub loop-node-preserved : goal.loop-node-preserved
 loop-node-preserved g t c = record {
-  unchanged = unchanged_then _ _ _ _ _ _ _ c.report_below.ensures.unchanged
-      (unchanged_then _ _ _ _ _ _ _ c.item_below.ensures.unchanged c.loop-node.invariant.unchanged);
+  alive = λ clean honest. c.in_ok-report_below.ensures.alive clean (c.in_ok-below.ensures.alive (c.report_below.ensures.unchanged.was_clean clean));
+  unchanged = unchanged_then _ _ _ _ _ _ _ _ c.report_below.ensures.unchanged
+      (unchanged_then _ _ _ _ _ _ _ _ c.item_below.ensures.unchanged c.loop-node.invariant.unchanged);
   never_falls = omega (arith, c.report_below.ensures.never_falls, c.item_below.ensures.never_falls, c.loop-node.invariant.never_falls);
   written = λ is_honest is_declared r e room stand path is long.
       let report = c.args.report.now in

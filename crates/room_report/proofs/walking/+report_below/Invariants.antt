@@ -13,7 +13,8 @@ decreases-report_below g l = l.depth
 -- the shelf is as it was, and what is below the nodes so far is written
 abbrev pub invariant-loop-node : goal.invariant-loop-node
 invariant-loop-node g l = let s = g.S.Shelf in record {
-  unchanged : Unchanged s.records s.is_honest s.is_declared s.crash_may_leave l.fn.shelf l.shelf;
+  alive : s.is_clean l.shelf → s.is_honest l.fn.shelf → s.is_honest l.shelf;
+  unchanged : Unchanged s.records s.is_honest s.is_clean s.is_declared s.crash_may_leave l.fn.shelf l.shelf;
   never_falls : s.failures l.fn.shelf ≤ s.failures l.shelf;
   written : OfRoom s.records s.is_honest s.is_declared l.fn.shelf l.shelf (λ t room. (path : Path) → IsItem t room path l.item → length path + l.depth ≡ 16 →
       AreChildren t l.item.id l.node-items

@@ -7,7 +7,7 @@ use Rattle.room_tables.specs.Texts.{find_doc_text}
 use Rattle.room_tables.proofs.Meaning.{find_doc_plain}
 use Rattle.room_tables.proofs.Selects.{find_doc_selects}
 use Rattle.room_tables.proofs.Asks.{asks_doc}
-use Rattle.room_tables.proofs.Queries.{query_keeps, query_now, query_open}
+use Rattle.room_tables.proofs.Queries.{query_keeps, query_now, query_open, query_alive}
 use Rattle.room_sql.proofs.reads.doc_rows.Goals as goal
 
 pub returns-clause-rows : goal.returns-clause-rows
@@ -18,6 +18,10 @@ returns-clause-rows g c clean schema =
 pub returns-clause-same : goal.returns-clause-same
 returns-clause-same g c clean schema is settled =
     query_now (λ (v : Vec Row Global). v.items) find_doc_text _ (state g.S.Store c.args.conn.now) (state g.S.Store c.query_all.new.self) c.query_all.result schema find_doc_plain.0 (c.query_all.ensures.ok clean) (c.query_all.ensures.err clean) is settled
+
+pub returns-clause-alive : goal.returns-clause-alive
+returns-clause-alive g c clean =
+    query_alive (λ (v : Vec Row Global). v.items) find_doc_text _ (state g.S.Store c.args.conn.now) (state g.S.Store c.query_all.new.self) c.query_all.result (c.query_all.ensures.ok clean)
 
 pub returns-clause-open : goal.returns-clause-open
 returns-clause-open g c clean is =

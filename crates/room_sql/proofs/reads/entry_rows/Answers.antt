@@ -7,7 +7,7 @@ use Rattle.room_tables.specs.Texts.{list_entries_text}
 use Rattle.room_tables.proofs.Meaning.{list_entries_plain}
 use Rattle.room_tables.proofs.Selects.{list_entries_selects}
 use Rattle.room_tables.proofs.Asks.{asks_entries}
-use Rattle.room_tables.proofs.Queries.{query_keeps, query_now, query_open}
+use Rattle.room_tables.proofs.Queries.{query_keeps, query_now, query_open, query_alive}
 use Rattle.room_sql.proofs.reads.entry_rows.Goals as goal
 
 pub returns-clause-rows : goal.returns-clause-rows
@@ -18,6 +18,10 @@ returns-clause-rows g c clean schema =
 pub returns-clause-same : goal.returns-clause-same
 returns-clause-same g c clean schema is settled =
     query_now (λ (v : Vec Row Global). v.items) list_entries_text _ (state g.S.Store c.args.conn.now) (state g.S.Store c.query_all.new.self) c.query_all.result schema list_entries_plain.0 (c.query_all.ensures.ok clean) (c.query_all.ensures.err clean) is settled
+
+pub returns-clause-alive : goal.returns-clause-alive
+returns-clause-alive g c clean =
+    query_alive (λ (v : Vec Row Global). v.items) list_entries_text _ (state g.S.Store c.args.conn.now) (state g.S.Store c.query_all.new.self) c.query_all.result (c.query_all.ensures.ok clean)
 
 pub returns-clause-open : goal.returns-clause-open
 returns-clause-open g c clean is =

@@ -16,4 +16,4 @@ returns-clause-ok g c clean =
     let one = c.in_ok-put_node.ensures.ok early room in
     let two = c.in_ok-put_entries.ensures.ok late one.room in
     let three = all two.room in
-    record { room = three.room; records = three.records ∙ ap (apply_change (PutNext 2)) two.records ∙ ap (λ r. apply_change (PutNext 2) (apply_change (PutEntries 1 c.args.entries.now) r)) one.records }) (c.put_next.ensures.ok clean)
+    (record { room = three.0.room; records = three.0.records ∙ ap (apply_change (PutNext 2)) two.records ∙ ap (λ r. apply_change (PutNext 2) (apply_change (PutEntries 1 c.args.entries.now) r)) one.records; version = λ _. three.1 }, three.1)) (c.put_next.ensures.ok clean)

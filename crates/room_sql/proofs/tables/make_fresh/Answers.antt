@@ -14,4 +14,4 @@ returns-clause-ok g c clean =
     IfOk-weaker c.fill.result _ _ (λ _ all none.
     let made = made_room mid.now (c.in_ok-make_tables.ensures.ok early none) in
     let last = all made.0 in
-    (last.room, last.records ∙ ap (λ r. apply_change (PutNext 2) (apply_change (PutEntries 1 c.args.entries.now) (apply_change (PutNode c.args.root.now) r))) made.1)) (c.fill.ensures.ok clean)
+    (last.0.room, (last.0.records ∙ ap (λ r. apply_change (PutNext 2) (apply_change (PutEntries 1 c.args.entries.now) (apply_change (PutNode c.args.root.now) r))) made.1, last.1))) (c.fill.ensures.ok clean)

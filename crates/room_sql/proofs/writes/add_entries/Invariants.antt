@@ -1,17 +1,20 @@
-use Rattle.std.proofs.Common.{◌≡◌, [], take, true}
+use Rattle.std.proofs.Common.{◌≡◌, ◌≤◌, [], take, drop, length, true}
 use Rattle.sqlite.specs.State.{HasCleanDisk, KeepsCommit, Survives}
 use Rattle.sqlite.specs.Held.{state}
-use Rattle.room_records.specs.Records.{Records}
+use Rattle.sqlite_trees.specs.Tree.{Trees}
 use Rattle.room_tables.specs.Steps.{Lists}
 use Rattle.room_sql.proofs.writes.add_entries.Given as goal
 
-abbrev pub invariant-loop-index : goal.invariant-loop-index
-invariant-loop-index g l =
+abbrev pub invariant-loop-batch : goal.invariant-loop-batch
+invariant-loop-batch g l =
     let old = state g.S.Store l.fn.tx.conn.now in
     let now = state g.S.Store l.tx.conn.now in
     record {
       same_reference : l.tx.conn.ghost_name ≡ l.fn.tx.conn.ghost_name;
-      done : HasCleanDisk now → (records : Records) → Lists records l.id [] old.now → Lists records l.id (take l.index l.entries) now.now;
+      size : l.batch-iterator.size ≡ 4;
+      rest : l.batch-iterator.rest.now ≡ drop l.place l.entries;
+      within : l.place ≤ length l.entries;
+      done : HasCleanDisk now → (was : Trees) → Lists was l.id [] old.now → Lists was l.id (take l.place l.entries) now.now;
       inside : HasCleanDisk now → l.fn.tx.conn.now.in_transaction ≡ true → l.tx.conn.now.in_transaction ≡ true;
       kept : HasCleanDisk now → KeepsCommit old now;
       crash : Survives old now (λ _. ⊥);

@@ -16,4 +16,4 @@ returns-clause-ok g c clean =
     IfOk-weaker c.add_slot.result _ _ (λ _ all room.
     let first = c.in_ok-drop_slot.ensures.ok early room in
     let last = all first.0.room first.1 in
-    record { room = last.room; records = last.records ∙ ap (apply_change (PutSlot c.args.row.now)) first.0.records ∙ slot_renewed c.args.row.now (records_of old.now.trees) }) (c.add_slot.ensures.ok clean)
+    record { room = last.room; records = last.records ∙ ap (apply_change (PutSlot c.args.row.now)) first.0.records ∙ slot_renewed c.args.row.now (records_of old.now.trees); version = λ v. last.version (first.0.version v) }) (c.add_slot.ensures.ok clean)

@@ -21,6 +21,7 @@ returns-in-File-clause-value g m c = λ is_honest is_declared t e room stand pat
 
 pub loop-node-init : goal.loop-node-init
 loop-node-init g m c = record {
+  alive = λ clean honest. c.in_ok-nodes.ensures.alive clean;
   unchanged = c.children.ensures.unchanged;
   never_falls = c.children.ensures.never_falls;
   children = λ is_honest is_declared t e room stand.
@@ -51,7 +52,8 @@ loop-node-preserved g m c =
     let i = c.loop-node.node-index in
     let child = c.node-item.result in
     record {
-      unchanged = unchanged_then _ _ _ _ _ _ _ c.reaches_down.ensures.unchanged c.loop-node.invariant.unchanged;
+      alive = λ clean honest. c.in_ok-deep.ensures.alive clean (c.loop-node.invariant.alive (c.reaches_down.ensures.unchanged.was_clean clean) honest);
+      unchanged = unchanged_then _ _ _ _ _ _ _ _ c.reaches_down.ensures.unchanged c.loop-node.invariant.unchanged;
       never_falls = omega (arith, c.reaches_down.ensures.never_falls, c.loop-node.invariant.never_falls);
       children = λ is_honest is_declared t e room stand.
           c.loop-node.invariant.children (c.reaches_down.ensures.unchanged.was_honest is_honest) is_declared t e room stand;

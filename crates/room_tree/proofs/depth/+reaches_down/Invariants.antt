@@ -13,7 +13,8 @@ decreases-reaches_down g l = l.levels
 -- the shelf is as it was, and nothing was found below the children so far
 abbrev pub invariant-loop-node : goal.invariant-loop-node
 invariant-loop-node g l = let s = g.S.Shelf in record {
-  unchanged : Unchanged s.records s.is_honest s.is_declared s.crash_may_leave l.fn.shelf l.shelf;
+  alive : s.is_clean l.shelf → s.is_honest l.fn.shelf → s.is_honest l.shelf;
+  unchanged : Unchanged s.records s.is_honest s.is_clean s.is_declared s.crash_may_leave l.fn.shelf l.shelf;
   never_falls : s.failures l.fn.shelf ≤ s.failures l.shelf;
   children : OfRoom s.records s.is_honest s.is_declared l.fn.shelf l.shelf (λ t room. AreChildren t l.fn.id l.node-items);
   none : OfRoom s.records s.is_honest s.is_declared l.fn.shelf l.shelf (λ t room. (path : Path) (node : Node) → HasPath t path l.fn.id

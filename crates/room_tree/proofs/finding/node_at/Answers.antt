@@ -25,7 +25,8 @@ loop-name-preserved g c =
     let Below : Path → Type 0 = λ p. c.loop-name.name-index < length p in
     let At : Path → Type 0 = λ p. c.name-item.result ≡ get_or p c.loop-name.name-index c.name-item.result in
     record {
-      unchanged = unchanged_then _ _ _ _ _ _ _ c.child.ensures.unchanged c.loop-name.invariant.unchanged;
+      alive = c.in_ok-next.ensures.alive;
+      unchanged = unchanged_then _ _ _ _ _ _ _ _ c.child.ensures.unchanged c.loop-name.invariant.unchanged;
       never_falls = omega (arith, c.child.ensures.never_falls, c.loop-name.invariant.never_falls);
       names = c.loop-name.invariant.names;
       at = λ is_honest is_declared room stand.

@@ -13,6 +13,7 @@ returns-in_default-clause-value g c = λ is_honest is_declared t e room stand.
 
 pub loop-index-init : goal.loop-index-init
 loop-index-init g c = record {
+  alive = c.in_ok-here.ensures.alive;
   unchanged = c.root_place.ensures.unchanged;
   never_falls = c.root_place.ensures.never_falls;
   names = c.names-names.ensures.value;
@@ -59,7 +60,8 @@ loop-index-preserved g c =
     let below = subst Below c.names-names.ensures.value c.loop-index-test.true in
     let is = subst At c.names-names.ensures.value c.index-names-index.is in
     record {
-      unchanged = unchanged_then _ _ _ _ _ _ _ c.child_place.ensures.unchanged c.loop-index.invariant.unchanged;
+      alive = λ clean honest. c.in_ok-next.ensures.alive clean (c.loop-index.invariant.alive (c.child_place.ensures.unchanged.was_clean clean) honest);
+      unchanged = unchanged_then _ _ _ _ _ _ _ _ c.child_place.ensures.unchanged c.loop-index.invariant.unchanged;
       never_falls = omega (arith, c.child_place.ensures.never_falls, c.loop-index.invariant.never_falls);
       names = c.loop-index.invariant.names;
       walked = λ is_honest is_declared t e room stand.

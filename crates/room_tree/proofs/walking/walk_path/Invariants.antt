@@ -8,7 +8,8 @@ use Rattle.room_tree.proofs.walking.walk_path.Given as goal
 -- the shelf is as it was, and `here` is at the names so far, under `above`
 abbrev pub invariant-loop-index : goal.invariant-loop-index
 invariant-loop-index g l = let s = g.S.Shelf in record {
-  unchanged : Unchanged s.records s.is_honest s.is_declared s.crash_may_leave l.fn.shelf l.shelf;
+  alive : s.is_clean l.shelf → s.is_honest l.fn.shelf → s.is_honest l.shelf;
+  unchanged : Unchanged s.records s.is_honest s.is_clean s.is_declared s.crash_may_leave l.fn.shelf l.shelf;
   never_falls : s.failures l.fn.shelf ≤ s.failures l.shelf;
   names : l.names ≡ l.path;
   walked : OfRoom s.records s.is_honest s.is_declared l.fn.shelf l.shelf (λ t room.

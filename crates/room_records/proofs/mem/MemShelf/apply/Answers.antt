@@ -1,7 +1,6 @@
-use Rattle.std.proofs.Common.{◌≡◌, ℕ, ap, sym, ◌∙◌, [], Some, nat_cmp}
+use Rattle.std.proofs.Common.{ap, sym, ◌∙◌, [], Some, nat_cmp}
 use Rattle.std.specs.Prelude.{unwrap_or}
 use Rattle.std.specs.Option.{option_map}
-use Rattle.room_records.specs.Records.{Records}
 use Rattle.room_records.specs.Changes.{apply_change}
 use Rattle.room_records.specs.Table.{held}
 use Rattle.room_records.specs.Mem.{mem_records}

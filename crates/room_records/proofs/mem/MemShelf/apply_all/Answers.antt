@@ -1,10 +1,10 @@
-use Rattle.std.proofs.Common.{◌≡◌, ◌∷◌, [], List, refl, ap, sym, ◌∙◌, subst, rules, arith, length}
+use Rattle.std.proofs.Common.{◌≡◌, ◌∷◌, [], List, ap, sym, ◌∙◌, subst, arith, length}
 use Rattle.std.specs.List.{AllByRecursion}
 use Rattle.std.proofs.lemmas.List.{nil_from_length}
 use Rattle.std.specs.Vec.Iter.{into_iter_items}
 use Rattle.room_records.specs.declared.change.Change.{Change}
 use Rattle.room_records.specs.Records.{Records}
-use Rattle.room_records.specs.Changes.{apply_change, apply_changes, RulesHoldAfterEach}
+use Rattle.room_records.specs.Changes.{apply_changes, RulesHoldAfterEach}
 use Rattle.room_records.specs.Mem.{mem_records, HasRoomFor}
 use Rattle.room_records.proofs.MemRecords.{rooms_kept}
 use Rattle.room_records.proofs.mem.MemShelf.apply_all.Goals as goal

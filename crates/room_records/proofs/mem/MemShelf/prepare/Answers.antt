@@ -1,8 +1,8 @@
-use Rattle.std.proofs.Common.{◌≡◌, ◌∷◌, ◌++◌, ◌+◌, [], List, refl, ap, sym, ◌∙◌, subst, rules, take, get_or}
+use Rattle.std.proofs.Common.{◌≡◌, ◌∷◌, ◌++◌, ◌+◌, [], List, ap, sym, ◌∙◌, subst, rules, take}
 use Rattle.std.specs.List.{AllByRecursion}
 use Rattle.std.proofs.lemmas.List.{take_more}
 use Rattle.room_records.specs.declared.change.Change.{Change}
-use Rattle.room_records.specs.Mem.{mem_records, HasRoomFor, AreSameChanges}
+use Rattle.room_records.specs.Mem.{HasRoomFor, AreSameChanges}
 use Rattle.room_records.proofs.Lists.{all_append}
 use Rattle.room_records.proofs.MemRecords.{rooms_kept, same_push}
 use Rattle.room_records.proofs.mem.MemShelf.prepare.Goals as goal

@@ -1,4 +1,3 @@
-use Rattle.std.proofs.Common.{◌≡◌, ℕ}
 use Rattle.room_records.specs.Sessions.{session_in}
 use Rattle.room_records.specs.Mem.{mem_records}
 use Rattle.room_records.proofs.MemRecords.{low_slot}

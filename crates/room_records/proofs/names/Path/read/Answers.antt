@@ -1,10 +1,10 @@
-use Rattle.std.proofs.Common.{◌≡◌, ℕ, List, map, length, ◌∷◌, [], rules, subst, sym, ap, ◌∙◌, Some, Bor}
+use Rattle.std.proofs.Common.{◌≡◌, ℕ, List, map, length, ◌∷◌, rules, subst, sym, ap, ◌∙◌, Some, Bor}
 use Rattle.std.proofs.lemmas.List.{length-map}
 use Rattle.std.specs.List.{slice_split}
 use Rattle.std.specs.Prelude.{◌==◌}
 use Rattle.room_records.specs.Names.{IsPath, path_text}
 use Rattle.room_records.proofs.Options.{none_is_not_some}
-use Rattle.room_records.proofs.PathTexts.{parts_are_path, text_of_names, ArePathParts}
+use Rattle.room_records.proofs.PathTexts.{parts_are_path, text_of_names}
 use Rattle.room_records.proofs.names.Path.read.Goals as goal
 use Rattle.room_records.proofs.names.Path.read.Goals.{then-not-is_empty-via-then-not-is_empty, then-not-is_empty-via-else-not-is_empty+then-is_empty}
 

@@ -1,7 +1,7 @@
-use Rattle.std.proofs.Common.{◌≡◌, ℕ, ◌<◌, refl, ap, sym, ◌∙◌, subst, arith, rules, List, length, Ok, Err}
+use Rattle.std.proofs.Common.{◌≡◌, ◌<◌, ap, sym, ◌∙◌, subst, arith, rules, List, length, Ok, Err}
 use Rattle.std.specs.List.{insert}
 use Rattle.room_acl.specs.SubjectModel.{SubjectModel}
-use Rattle.room_records.specs.Roster.{IsRoster, with_user, user_named, IsPlaceOf}
+use Rattle.room_records.specs.Roster.{IsRoster, IsPlaceOf}
 use Rattle.room_records.proofs.Rosters.{present, absent, inserted, roster_with, joins, joins_not}
 use Rattle.room_records.proofs.roster.Roster.add.Goals as goal
 

@@ -1,4 +1,4 @@
-use Rattle.std.proofs.Common.{◌≡◌, ap, sym, ◌∙◌, subst, List, Ok, Err, Some, get_or, rules}
+use Rattle.std.proofs.Common.{◌≡◌, ap, sym, ◌∙◌, subst, List, Ok, Err, Some, get_or}
 use Rattle.std.specs.Option.{option_map}
 use Rattle.room_acl.specs.SubjectModel.{SubjectModel}
 use Rattle.room_records.specs.Roster.{IsRoster, IsPlaceOf}

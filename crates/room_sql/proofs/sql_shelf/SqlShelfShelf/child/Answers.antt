@@ -6,5 +6,5 @@ use Rattle.room_sql.proofs.sql_shelf.SqlShelfShelf.child.Goals as goal
 pub returns-in-Ok-first_node-clause-value : goal.returns-in-Ok-first_node-clause-value
 returns-in-Ok-first_node-clause-value g c honest declared =
     let name = c.text.ensures.lawful in
-    named_found _ c.args.parent c.args.name.now _ _ declared name.some (rw c.text.ensures.value at (c.in-Ok.ensures.rows honest.0 declared.schema))
+    named_found _ c.args.parent c.args.name.now _ _ declared.room name.some (rw c.text.ensures.value at (c.in-Ok.ensures.rows honest.0 declared.room.schema))
     (c.in-Ok-first_node.ensures ∙ ap (λ l. option_map node_of (slice_get l 0)) c.as_slice.ensures.value)

@@ -1,10 +1,10 @@
-use Rattle.std.proofs.Common.{◌≡◌, ap, None, Some, nat_cmp}
+use Rattle.std.proofs.Common.{ap, Some, nat_cmp}
 use Rattle.std.specs.Option.{option_map}
 use Rattle.std.proofs.lemmas.Cmp.{nat_cmp_total}
 use Rattle.std.proofs.lemmas.Map.Lookups.{exact_unsigned}
 use Rattle.room_records.specs.NodeIndex.{node_in, id_at}
 use Rattle.room_records.proofs.Keys.{updated}
-use Rattle.room_records.proofs.NodePlaces.{IsIndex, index_with}
+use Rattle.room_records.proofs.NodePlaces.{index_with}
 use Rattle.room_records.proofs.mem.nodes.NodeIndex.add.Goals as goal
 
 pub invariant_of-self : goal.invariant_of-self

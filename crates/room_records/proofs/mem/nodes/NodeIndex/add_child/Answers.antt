@@ -1,13 +1,12 @@
-use Rattle.std.proofs.Common.{◌≡◌, ap, sym, ◌∙◌, None, Some, nat_cmp, rules, subst, Option, ℕ, IsSome, List, cond, Bor, refl, true, false}
+use Rattle.std.proofs.Common.{◌≡◌, ap, sym, ◌∙◌, None, Some, nat_cmp, Option, ℕ, List, cond, Bor, refl, true, false}
 use Rattle.std.specs.Ordering.{eq_by_cmp}
 use Rattle.std.specs.Option.{option_map, option_copied, is_some}
 use Rattle.std.proofs.lemmas.Cmp.{nat_cmp_total}
 use Rattle.std.proofs.lemmas.Map.Lookups.{exact_unsigned}
-use Rattle.room_records.specs.Table.{HasRoom}
 use Rattle.room_records.specs.declared.node.Node.{Node}
 use Rattle.room_records.specs.NodeIndex.{node_in, id_at, place_of, place_cmp, PlaceKey}
 use Rattle.room_records.proofs.Keys.{updated, place_total, exact_places}
-use Rattle.room_records.proofs.NodePlaces.{IsIndex, index_with_child, taken_is_not_free}
+use Rattle.room_records.proofs.NodePlaces.{index_with_child, taken_is_not_free}
 use Rattle.room_records.proofs.mem.nodes.NodeIndex.add_child.Goals as goal
 
 -- the place that the code makes is that of the node

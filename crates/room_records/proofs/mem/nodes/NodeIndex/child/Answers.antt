@@ -1,10 +1,9 @@
-use Rattle.std.proofs.Common.{◌≡◌, ℕ, refl, ap, sym, ◌∙◌, subst, Option, None, Some, List, rules}
-use Rattle.std.specs.Prelude.{IfOk}
+use Rattle.std.proofs.Common.{◌≡◌, ℕ, sym, ◌∙◌, subst, Option, None, Some, List}
 use Rattle.std.specs.Option.{option_and_then}
 use Rattle.room_records.specs.declared.node.Node.{Node}
 use Rattle.room_records.specs.Records.{ObjectRecords}
 use Rattle.room_records.specs.Shelf.{IsChildNamed}
-use Rattle.room_records.specs.NodeIndex.{node_in, id_at, PlaceKey, Nodes, Places, IsNumbered, ArePlaced, AreAtPlace}
+use Rattle.room_records.specs.NodeIndex.{node_in, id_at, Nodes, Places, IsNumbered, ArePlaced, AreAtPlace}
 use Rattle.room_records.proofs.Children.{named_child}
 use Rattle.room_records.proofs.Options.{ok_of_value}
 use Rattle.room_records.proofs.NodePlaces.{IsIndex}

@@ -1,5 +1,4 @@
-use Rattle.std.proofs.Common.{◌≡◌, ◌++◌, ℕ, refl, ap, sym, ◌∙◌, subst, Option, List, length, rules, [], arith, ◌+◌}
-use Rattle.std.proofs.lemmas.List.{append-nil}
+use Rattle.std.proofs.Common.{◌≡◌, ℕ, ap, sym, subst, Option, List, length, [], arith}
 use Rattle.room_records.specs.declared.node.Node.{Node}
 use Rattle.room_records.specs.Shelf.{AreChildren}
 use Rattle.room_records.specs.NodeIndex.{node_in, id_at}

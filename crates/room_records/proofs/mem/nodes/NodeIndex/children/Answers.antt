@@ -1,4 +1,4 @@
-use Rattle.std.proofs.Common.{◌≡◌, ◌++◌, ℕ, refl, ap, sym, ◌∙◌, subst, Option, List, length, rules, [], arith, ◌+◌}
+use Rattle.std.proofs.Common.{◌≡◌, ◌++◌, ℕ, ap, sym, ◌∙◌, subst, Option, List, []}
 use Rattle.std.proofs.lemmas.List.{append-nil}
 use Rattle.room_records.specs.declared.node.Node.{Node}
 use Rattle.room_records.specs.Shelf.{AreChildren}

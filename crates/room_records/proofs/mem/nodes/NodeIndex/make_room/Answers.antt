@@ -1,6 +1,5 @@
-use Rattle.std.proofs.Common.{◌≡◌, refl, ap, sym, ◌∙◌}
 use Rattle.room_records.specs.NodeIndex.{node_in, id_at}
-use Rattle.room_records.proofs.NodePlaces.{IsIndex, index_same}
+use Rattle.room_records.proofs.NodePlaces.{index_same}
 use Rattle.room_records.proofs.mem.nodes.NodeIndex.make_room.Goals as goal
 
 pub invariant_of-self-2 : goal.invariant_of-self-2

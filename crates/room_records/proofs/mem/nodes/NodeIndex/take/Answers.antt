@@ -1,10 +1,10 @@
-use Rattle.std.proofs.Common.{◌≡◌, refl, ap, sym, ◌∙◌, None, Some, nat_cmp, rules}
+use Rattle.std.proofs.Common.{◌≡◌, ap, sym, ◌∙◌, None, Some, nat_cmp, rules}
 use Rattle.std.specs.Option.{option_map, option_and_then}
 use Rattle.std.proofs.lemmas.Cmp.{nat_cmp_total}
 use Rattle.std.proofs.lemmas.Map.Lookups.{exact_unsigned}
 use Rattle.room_records.specs.NodeIndex.{node_in, id_at, place_of, place_cmp}
 use Rattle.room_records.proofs.Keys.{updated, place_total, exact_places}
-use Rattle.room_records.proofs.NodePlaces.{IsIndex, index_without, index_without_child}
+use Rattle.room_records.proofs.NodePlaces.{index_without, index_without_child}
 use Rattle.room_records.proofs.mem.nodes.NodeIndex.take.Goals as goal
 
 pub invariant_of-self-in-Break-branch-2 : goal.invariant_of-self-in-Break-branch-2

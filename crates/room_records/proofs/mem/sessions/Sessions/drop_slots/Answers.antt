@@ -1,4 +1,3 @@
-use Rattle.std.proofs.Common.{◌≡◌}
 use Rattle.room_records.specs.Table.{held}
 use Rattle.room_records.specs.Sessions.{slot_cmp}
 use Rattle.room_records.proofs.SessionKeys.{none_left, few_left}

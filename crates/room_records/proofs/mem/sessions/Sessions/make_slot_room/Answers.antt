@@ -1,4 +1,4 @@
-use Rattle.std.proofs.Common.{◌≡◌, Option, IsSome, subst}
+use Rattle.std.proofs.Common.{Option, IsSome, subst}
 use Rattle.room_slots.specs.KeptModel.{KeptModel}
 use Rattle.room_records.proofs.mem.sessions.Sessions.make_slot_room.Goals as goal
 

@@ -1,4 +1,4 @@
-use Rattle.std.proofs.Common.{◌≡◌, refl}
+use Rattle.std.proofs.Common.{refl}
 use Rattle.room_records.specs.Table.{held}
 use Rattle.room_records.specs.Names.{name_cmp}
 use Rattle.room_records.specs.Sessions.{session_in}

@@ -1,4 +1,4 @@
-use Rattle.std.proofs.Common.{◌≡◌, Some, arith}
+use Rattle.std.proofs.Common.{Some, arith}
 use Rattle.room_records.specs.Table.{held}
 use Rattle.room_records.specs.Sessions.{slot_cmp}
 use Rattle.room_records.proofs.SessionKeys.{put_slot_row, still_few}

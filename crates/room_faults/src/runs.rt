@@ -1,0 +1,141 @@
+//! The story, played over the files of a room.
+use crate::disks::opened;
+use crate::story::{Played, STEPS, play_over_failing};
+use room_desk::Desk;
+use room_sql::{OpenFault, SqlShelf};
+use sqlite::{Connection, FileStore, Options};
+use sqlite_disk::{Disk, Files};
+use std::alloc::Global;
+use std::test::Fail;
+
+/// The files after a run, and how far it came.
+#[derive(Drop)]
+pub struct Run<D: Disk> {
+    pub files: Files<D>,
+    pub went: Went,
+}
+
+/// How far a run came.
+#[derive(Clone, Copy)]
+pub enum Went {
+    NotOpened,
+    /// The files were opened, and `adopt` answered `Store`.
+    NotTaken,
+    Played(Played),
+}
+
+impl Went {
+    /// How many steps were answered.
+    pub fn answered(self) -> usize {
+        match self {
+            Went::NotOpened | Went::NotTaken => 0,
+            Went::Played(played) => played.answered,
+        }
+    }
+
+    /// Each step was answered at once.
+    pub fn is_whole(self) -> bool {
+        matches!(self, Went::Played(played) if played.first == STEPS)
+    }
+
+    /// Each step was answered, after one was answered DELAY.
+    pub fn is_healed(self) -> bool {
+        matches!(self, Went::Played(played) if played.first < STEPS && played.answered == STEPS)
+    }
+}
+
+/// The files of a connection, with no IO.
+pub fn files_of<D: Disk + Drop>(conn: Connection<FileStore<D>>) -> Files<D> {
+    conn.into_store().close()
+}
+
+/// The story over a room.
+fn play_in<D: Disk + Drop>(
+    alloc: Global,
+    shelf: SqlShelf<FileStore<D>>,
+) -> Result<(Played, SqlShelf<FileStore<D>>), Fail> {
+    let mut desk = Desk::new(alloc, shelf);
+    let end = play_over_failing(alloc, &mut desk);
+    let shelf = desk.into_shelf();
+    Ok((end?, shelf))
+}
+
+fn play_to_files<D: Disk + Drop>(
+    alloc: Global,
+    shelf: SqlShelf<FileStore<D>>,
+) -> Result<Run<D>, Fail> {
+    let (played, shelf) = play_in(alloc, shelf)?;
+    Ok(Run {
+        files: files_of(shelf.into_connection()),
+        went: Went::Played(played),
+    })
+}
+
+/// What `adopt` answers: a room, or that the store failed.
+fn take<D: Disk + Drop>(
+    alloc: Global,
+    conn: Connection<FileStore<D>>,
+) -> Result<Result<SqlShelf<FileStore<D>>, Files<D>>, Fail> {
+    if !conn.is_autocommit() {
+        return Err(Fail::new("in a transaction"));
+    }
+    match SqlShelf::adopt(alloc, conn) {
+        Ok(shelf) => Ok(Ok(shelf)),
+        Err((OpenFault::Store, conn)) => Ok(Err(files_of(conn))),
+        Err((fault, _)) => Err(Fail::new(format_args!("not taken: {fault:?}"))),
+    }
+}
+
+/// The story over the files of a room.
+pub fn play_over<D: Disk + Drop>(
+    alloc: Global,
+    files: Files<D>,
+    options: Options,
+) -> Result<Run<D>, Fail> {
+    let conn = match opened(alloc, files, options) {
+        Ok(conn) => conn,
+        Err(files) => {
+            return Ok(Run {
+                files,
+                went: Went::NotOpened,
+            });
+        },
+    };
+    match take(alloc, conn)? {
+        Ok(shelf) => play_to_files(alloc, shelf),
+        Err(files) => Ok(Run {
+            files,
+            went: Went::NotTaken,
+        }),
+    }
+}
+
+/// `adopt` over the files of a room, and nothing more.
+pub fn open_and_take<D: Disk + Drop>(
+    alloc: Global,
+    files: Files<D>,
+    options: Options,
+) -> Result<Run<D>, Fail> {
+    let conn = match opened(alloc, files, options) {
+        Ok(conn) => conn,
+        Err(files) => {
+            return Ok(Run {
+                files,
+                went: Went::NotOpened,
+            });
+        },
+    };
+    match take(alloc, conn)? {
+        Ok(shelf) => Ok(Run {
+            files: files_of(shelf.into_connection()),
+            went: Went::Played(Played {
+                first: 0,
+                answered: 0,
+            }),
+        }),
+        Err(files) => Ok(Run {
+            files,
+            went: Went::NotTaken,
+        }),
+    }
+}

@@ -1,0 +1,9 @@
+-- What a database answers when it is asked for its version.
+use Rattle.std.specs.Prelude.{List, []}
+use Rattle.sqlite_value.specs.Order.{Row}
+use Rattle.sqlite.specs.State.{State, Shown}
+use Rattle.room_tables.specs.Texts.{find_version_text}
+
+-- the rows that it answered have this property
+abbrev pub TellsVersion : State → State → (List Row → Type 0) → Type 0
+TellsVersion old new P = (rows : List Row) × Shown find_version_text [] old new rows × P rows
