@@ -17,10 +17,11 @@ build:
 	mkdir -p build
 	cp crates/fileroom/out/fileroom build/fileroom
 
-# Walks through a served room, and then proves and tests everything. Nothing else is a verdict.
-test: build
-	examples/walk
-	$(RT) ci
+# Walks through a served room with the quick build, and then proves and tests everything, one task a processor. Nothing
+# else is a verdict.
+test:
+	RT='$(RT)' FILEROOM=examples/quick examples/walk
+	RT_JOBS=$$(nproc) $(RT) ci
 
 # Refuses each growth of memory in turn, over questions and over a room.
 growth: build

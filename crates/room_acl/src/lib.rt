@@ -12,8 +12,6 @@ mod list_flags;
 mod mask;
 mod principal;
 mod subject;
-#[cfg(test)]
-mod tests;
 mod who;
 
 pub use access::{Decision, allowed_bits, decide};

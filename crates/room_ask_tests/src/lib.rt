@@ -1,8 +1,12 @@
-//! What messages ask, rosters, command lines, and a room on two streams.
+//! What messages ask, questions and commands, rosters, command lines, and a room on two streams.
 #![tactic(auto)]
 
 #[cfg(test)]
 mod asks;
+#[cfg(test)]
+mod checks;
+#[cfg(test)]
+mod commands;
 #[cfg(test)]
 mod drips;
 #[cfg(test)]

@@ -12,8 +12,6 @@ mod refusal;
 mod rights;
 mod room;
 mod setlist;
-#[cfg(test)]
-mod tests;
 
 pub use effect::Outcome;
 pub use names::Names;

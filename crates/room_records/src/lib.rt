@@ -10,8 +10,6 @@ mod roster;
 mod session;
 mod shelf;
 mod table;
-#[cfg(test)]
-mod tests;
 mod trip;
 
 pub use change::Change;

@@ -7,8 +7,6 @@
 //! appended through such a slot, each of them once.
 #![tactic(auto)]
 
-#[cfg(test)]
-mod tests;
 mod trial;
 mod verdict;
 

@@ -12,8 +12,6 @@ mod checks;
 mod code;
 mod commands;
 mod commands_laws;
-#[cfg(test)]
-mod commands_tests;
 mod decoding;
 mod event;
 mod fault;
@@ -33,8 +31,6 @@ mod splitting;
 mod stop;
 mod taking;
 mod target_parts;
-#[cfg(test)]
-mod tests;
 mod texts;
 mod writing;
 

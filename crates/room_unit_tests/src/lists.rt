@@ -1,5 +1,5 @@
 //! Each call that takes memory succeeds where there is memory.
-use crate::{Entry, Flags, Kind, Mask, Principal, Standing, Subject, Who, hand_down};
+use room_acl::{Entry, Flags, Kind, Mask, Principal, Standing, Subject, Who, hand_down};
 use std::test::Fail;
 
 #[test]

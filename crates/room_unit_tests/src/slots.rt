@@ -1,5 +1,5 @@
 //! Worked examples, and growths that are refused.
-use crate::{Kept, Trial, TrialAnswer, Verdict, classify, run_trial};
+use room_slots::{Kept, Trial, TrialAnswer, Verdict, classify, run_trial};
 use std::process::Abort;
 use std::test::Fail;
 

@@ -1,9 +1,9 @@
 //! Each public call once, the limits, and generic code over two shelves.
-use crate::{
+use room_acl::{Entry, Flags, Kind, ListFlags, Mask, Principal, Who};
+use room_records::{
     Change, FileName, MemShelf, Node, Path, Roster, SessionRow, Shelf, ShelfFault, Sid, SlotCount,
     SlotRow, TripShelf,
 };
-use room_acl::{Entry, Flags, Kind, ListFlags, Mask, Principal, Who};
 use room_slots::Kept;
 use std::alloc::{AllocError, Global};
 use std::test::Fail;

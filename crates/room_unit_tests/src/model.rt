@@ -1,6 +1,6 @@
 //! Worked examples, whose replies are known from outside.
-use crate::PlainRoom;
 use room_acl::{Principal, Subject};
+use room_model::PlainRoom;
 use room_records::Path;
 use room_tree::{Command, Fault, Reply};
 use std::alloc::Global;

@@ -1,5 +1,5 @@
 //! Bodies of slot requests: which command each asks, shown by its text.
-use crate::{WireFault, command_text, read_command};
+use room_wire::{WireFault, command_text, read_command};
 use std::test::Fail;
 
 #[test]

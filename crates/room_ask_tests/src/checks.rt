@@ -1,4 +1,4 @@
-use crate::{Why, rest_of_stream, serve_checks};
+use room_wire::{Why, rest_of_stream, serve_checks};
 use std::test::Fail;
 
 const QUESTION: &str =

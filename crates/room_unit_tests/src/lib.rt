@@ -1,0 +1,13 @@
+//! Each public call of the lower crates once, their limits, growths that are refused, and plans of RENAME.
+#![tactic(auto)]
+
+#[cfg(test)]
+mod lists;
+#[cfg(test)]
+mod model;
+#[cfg(test)]
+mod plans;
+#[cfg(test)]
+mod records;
+#[cfg(test)]
+mod slots;
