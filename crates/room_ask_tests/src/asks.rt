@@ -1,19 +1,11 @@
 //! What messages to a room ask: which targets are routes, and which refusal comes first.
-use room_acl::Principal;
 use room_records::Roster;
+use room_scenes::named;
 use room_wire::{Ask, Event, Message, Routes, Take, WireFault, decode, take_message};
 use std::alloc::Global;
 use std::test::Fail;
 
 pub const SID: &str = "0123456789abcdef0123456789abcdef";
-
-/// The principal of this name.
-pub fn principal(alloc: Global, name: &str) -> Result<Principal, Fail> {
-    match Principal::new(alloc, name)? {
-        Some(name) => Ok(name),
-        None => Err(Fail::new("no principal")),
-    }
-}
 
 /// `ann` in `eng`, `bob` in `eng` and `staff`.
 pub fn roster(alloc: Global) -> Result<Roster, Fail> {
@@ -21,9 +13,9 @@ pub fn roster(alloc: Global) -> Result<Roster, Fail> {
     for (name, groups) in [("bob", "eng staff"), ("ann", "eng")] {
         let mut names = Vec::new(alloc);
         for group in groups.split(' ') {
-            names.push(principal(alloc, group)?)?;
+            names.push(named(alloc, group)?)?;
         }
-        if !roster.add(principal(alloc, name)?, names)? {
+        if !roster.add(named(alloc, name)?, names)? {
             return Err(Fail::new("not added"));
         }
     }

@@ -8,8 +8,6 @@ mod checks;
 #[cfg(test)]
 mod commands;
 #[cfg(test)]
-mod drips;
-#[cfg(test)]
 mod rooms;
 #[cfg(test)]
 mod rosters;

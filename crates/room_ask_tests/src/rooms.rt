@@ -1,8 +1,8 @@
 //! A room over a shelf in memory, served from bytes in to bytes out: in whole reads, and a byte a call.
-use crate::asks::{SID, principal, roster};
-use crate::drips::Dripping;
+use crate::asks::{SID, roster};
 use room_desk::Desk;
 use room_records::{MemShelf, Shelf};
+use room_scenes::{Dripping, in_memory};
 use room_wire::{ServeEnd, Why};
 use std::alloc::Global;
 use std::test::Fail;
@@ -25,9 +25,7 @@ fn answer(alloc: Global, status: &str, end: &str, body: &str) -> Result<String, 
 }
 
 fn fresh_desk(alloc: Global) -> Result<Desk<MemShelf>, Fail> {
-    let ann = principal(alloc, "ann")?;
-    let eng = principal(alloc, "eng")?;
-    Ok(Desk::new(alloc, MemShelf::fresh(alloc, ann, eng)?))
+    Ok(Desk::new(alloc, in_memory(alloc)?))
 }
 
 /// The desk answers a stream, read whole or a byte a call, with these bytes and this end.

@@ -1,8 +1,8 @@
 //! A disk that fails from one of its calls on, while a room is made in new files.
 use crate::disks::{Held, flushed, held_by, opened, opened_again, small};
-use crate::rooms::{contents, made, stages};
+use crate::rooms::{contents, stages};
 use crate::runs::files_of;
-use crate::story::named;
+use room_scenes::{made, named};
 use room_sql::{OpenFault, SqlShelf};
 use sqlite::{Connection, FileStore, Options};
 use sqlite_disk::{Disk, Files, Fuse, Memory};

@@ -1,9 +1,10 @@
 //! Rows that are no values, under the desk: a request that meets one is answered DELAY, and acts once when the row is
 //! mended.
-use crate::rooms::{contents, taken};
-use crate::story::{Ask, STEPS, has_answer, is_answered};
+use crate::rooms::contents;
+use crate::story::{S, STEPS, has_answer, is_answered};
 use room_desk::Desk;
 use room_records::Shelf;
+use room_scenes::{Ask, Order, taken};
 use sqlite::{Connection, MemStore};
 use std::alloc::Global;
 use std::test::Fail;
@@ -23,15 +24,15 @@ INSERT INTO entry VALUES (1, 0, 0, 3, 2033663, 'OWNER@'), (1, 1, 0, 3, 1179817, 
 /// requests were answered.
 const BEFORE: usize = 4;
 
-const READ: Ask = Ask::Read("/d/a");
+const READ: Ask = Ask::Run(S, 0, 4, Order::Read("/d/a"));
 
-const LIST: Ask = Ask::List("/d");
+const LIST: Ask = Ask::Run(S, 0, 4, Order::List("/d"));
 
-const MKDIR: Ask = Ask::Mkdir("/e");
+const MKDIR: Ask = Ask::Run(S, 0, 4, Order::Mkdir("/e"));
 
 /// What another program does to the rows, what mends them, and a request that meets them.
 #[derive(Clone, Copy)]
-struct Odd(&'static str, &'static str, Ask);
+struct Odd(&'static str, &'static str, Ask<'static>);
 
 static ODDS: [Odd; 27] = [
     Odd(
@@ -167,16 +168,16 @@ static ODDS: [Odd; 27] = [
     ),
 ];
 
-fn wanted(ask: Ask) -> &'static str {
+fn wanted(ask: &Ask) -> &'static str {
     match ask {
-        Ask::Read(_) => "{\"code\":0,\"data\":\"aGkh\"}",
-        Ask::List(_) => "{\"code\":0,\"names\":[[\"a\",\"file\"]]}",
+        Ask::Run(_, _, _, Order::Read(_)) => "{\"code\":0,\"data\":\"aGkh\"}",
+        Ask::Run(_, _, _, Order::List(_)) => "{\"code\":0,\"names\":[[\"a\",\"file\"]]}",
         _ => "{\"code\":0}",
     }
 }
 
 /// Plays the steps from a place up to another.
-fn play<S: Shelf>(alloc: Global, desk: &mut Desk<S>, from: usize, to: usize) -> Result<(), Fail> {
+fn play<P: Shelf>(alloc: Global, desk: &mut Desk<P>, from: usize, to: usize) -> Result<(), Fail> {
     for at in from..to {
         if !is_answered(alloc, desk, at)? {
             return Err(Fail::new("DELAY over memory"));
@@ -197,9 +198,9 @@ fn played(alloc: Global) -> Result<Connection<MemStore>, Fail> {
 }
 
 /// Whether the request is answered, each of two times.
-fn ask_twice<S: Shelf>(alloc: Global, desk: &mut Desk<S>, ask: Ask) -> Result<(bool, bool), Fail> {
-    let first = has_answer(alloc, desk, ask, BEFORE, wanted(ask))?;
-    let again = has_answer(alloc, desk, ask, BEFORE, wanted(ask))?;
+fn ask_twice<P: Shelf>(alloc: Global, desk: &mut Desk<P>, ask: &Ask) -> Result<(bool, bool), Fail> {
+    let first = has_answer(alloc, desk, ask, wanted(ask))?;
+    let again = has_answer(alloc, desk, ask, wanted(ask))?;
     Ok((first, again))
 }
 
@@ -207,7 +208,7 @@ fn ask_twice<S: Shelf>(alloc: Global, desk: &mut Desk<S>, ask: Ask) -> Result<(b
 fn asked_twice(
     alloc: Global,
     conn: Connection<MemStore>,
-    ask: Ask,
+    ask: &Ask,
 ) -> Result<(bool, bool, Connection<MemStore>), Fail> {
     let mut desk = Desk::new(alloc, taken(alloc, conn)?);
     let end = ask_twice(alloc, &mut desk, ask);
@@ -223,7 +224,7 @@ fn waits(alloc: Global, odd: &Odd) -> Result<(), Fail> {
     let sound = contents(alloc, &mut conn)?;
     conn.execute(sql, &[])?;
     let before = contents(alloc, &mut conn)?;
-    let (first, again, conn) = asked_twice(alloc, conn, ask)?;
+    let (first, again, conn) = asked_twice(alloc, conn, &ask)?;
     let mut conn = conn;
     if first || again {
         return Err(Fail::new(format_args!("{sql}: answered")));
@@ -235,7 +236,7 @@ fn waits(alloc: Global, odd: &Odd) -> Result<(), Fail> {
     if contents(alloc, &mut conn)?.as_str() != sound.as_str() {
         return Err(Fail::new(format_args!("{sql}: not mended")));
     }
-    let (first, again, _) = asked_twice(alloc, conn, ask)?;
+    let (first, again, _) = asked_twice(alloc, conn, &ask)?;
     if !first || !again {
         return Err(Fail::new(format_args!("{sql}: DELAY after it was mended")));
     }

@@ -1,9 +1,9 @@
 //! Rooms in tables, and all that is in them after each step of the story.
 use crate::disks::{Held, held_by, opened, opened_again};
-use crate::story::{STEPS, is_answered, named, play_to_end};
+use crate::story::{STEPS, is_answered, play_to_end};
 use room_desk::Desk;
 use room_records::Shelf;
-use room_sql::SqlShelf;
+use room_scenes::{in_tables, made, taken};
 use sqlite::{Alter, Connection, FileStore, Options, Row};
 use sqlite_disk::{Files, Memory};
 use std::alloc::Global;
@@ -47,30 +47,6 @@ pub fn contents<S: Alter>(alloc: Global, conn: &mut Connection<S>) -> Result<Str
     Ok(text)
 }
 
-/// The room in a database.
-pub fn taken<S: Alter + Drop>(alloc: Global, conn: Connection<S>) -> Result<SqlShelf<S>, Fail> {
-    if !conn.is_autocommit() {
-        return Err(Fail::new("in a transaction"));
-    }
-    match SqlShelf::adopt(alloc, conn) {
-        Ok(shelf) => Ok(shelf),
-        Err((fault, _)) => Err(Fail::new(format_args!("not taken: {fault:?}"))),
-    }
-}
-
-/// A fresh room in a database.
-pub fn made<S: Alter + Drop>(alloc: Global, conn: Connection<S>) -> Result<SqlShelf<S>, Fail> {
-    let ann = named(alloc, "ann")?;
-    let eng = named(alloc, "eng")?;
-    if !conn.is_autocommit() {
-        return Err(Fail::new("in a transaction"));
-    }
-    match SqlShelf::init(alloc, conn, &ann, &eng) {
-        Ok(shelf) => Ok(shelf),
-        Err((fault, _)) => Err(Fail::new(format_args!("not made: {fault:?}"))),
-    }
-}
-
 /// What the files hold once they are closed: the log is copied into the database file.
 fn closed(alloc: Global, conn: Connection<FileStore<Memory>>) -> Result<Held, Fail> {
     match conn.close_files() {
@@ -98,7 +74,7 @@ pub fn fresh_room(alloc: Global, in_log: bool) -> Result<Held, Fail> {
 /// What a fresh room is after no step, after one, and so on.
 pub fn stages(alloc: Global) -> Result<Vec<String>, Fail> {
     let mut stages = Vec::new(alloc);
-    let mut shelf = made(alloc, Connection::open_in_memory(alloc)?)?;
+    let mut shelf = in_tables(alloc)?;
     for at in 0..STEPS {
         let mut conn = shelf.into_connection();
         stages.push(contents(alloc, &mut conn)?)?;

@@ -1,7 +1,8 @@
 //! Events, made from few numbers so that they can be made again.
 use crate::dice::Dice;
-use room_acl::{Entry, Flags, ListFlags, Mask, Principal, Subject, Who};
+use room_acl::{Entry, Flags, ListFlags, Mask, Principal, Who};
 use room_records::{Path, Sid, SlotCount};
+use room_scenes::{named, path_of, session_name, subject};
 use room_tree::Command;
 use room_wire::Event;
 use std::alloc::Global;
@@ -38,12 +39,8 @@ pub enum What {
     Run(u32, u32),
 }
 
-pub fn named(alloc: Global, text: &str) -> Result<Principal, Fail> {
-    Ok(Principal::new(alloc, text)?.ok_or("no principal")?)
-}
-
 fn path(alloc: Global, dice: &mut Dice) -> Result<Path, Fail> {
-    Ok(Path::read(alloc, dice.one_of(&PATHS))?.ok_or("no path")?)
+    path_of(alloc, dice.one_of(&PATHS))
 }
 
 fn bytes(alloc: Global, dice: &mut Dice) -> Result<Vec<u8>, Fail> {
@@ -176,30 +173,14 @@ fn command(alloc: Global, seed: u32) -> Result<Command, Fail> {
     }
 }
 
-/// A user: `ann` is in `eng`, `bob` in `eng` and `staff`, `eng` in none.
-fn subject(alloc: Global, user: u32) -> Result<Subject, Fail> {
-    let mut groups = Vec::new(alloc);
-    if user < 2 {
-        groups.push(named(alloc, "eng")?)?;
-    }
-    if user == 1 {
-        groups.push(named(alloc, "staff")?)?;
-    }
-    let name = USERS.get(user as usize).ok_or("no user")?;
-    Ok(Subject {
-        name: named(alloc, name)?,
-        groups,
-    })
-}
-
-pub fn session_name(alloc: Global, session: u32) -> Result<Sid, Fail> {
-    let text = SESSIONS.get(session as usize).ok_or("no session")?;
-    Ok(Sid::new(alloc, text)?.ok_or("no session name")?)
+/// The name of a session's number.
+pub fn session_at(alloc: Global, session: u32) -> Result<Sid, Fail> {
+    session_name(alloc, SESSIONS.get(session as usize).ok_or("no session")?)
 }
 
 pub fn event(alloc: Global, draft: &Draft) -> Result<Event, Fail> {
-    let subject = subject(alloc, draft.user)?;
-    let sid = session_name(alloc, draft.session)?;
+    let subject = subject(alloc, USERS.get(draft.user as usize).ok_or("no user")?)?;
+    let sid = session_at(alloc, draft.session)?;
     match draft.what {
         What::Open => Ok(Event::Open {
             subject,

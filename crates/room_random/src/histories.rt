@@ -1,26 +1,20 @@
 //! Random histories: the same answers and the same rooms from the plain body and from the desk over each shelf.
 use crate::dice::Dice;
-use crate::drafts::{Draft, What, event, named, session_name};
+use crate::drafts::{Draft, What, event, session_at};
 use crate::rooms::is_same_room;
 use room_desk::{Answer, Desk};
 use room_history::{answer_to, count_accepted, state_after};
 use room_model::PlainRoom;
 use room_records::{MemShelf, Shelf};
+use room_scenes::{in_memory, in_tables, named};
 use room_sql::SqlShelf;
-use room_wire::{Event, refusal_text};
-use sqlite::{Connection, MemStore};
+use room_wire::Event;
+use sqlite::MemStore;
 use std::alloc::Global;
 use std::test::Fail;
 
 /// How many events a history has.
 const EVENTS: u32 = 200;
-
-fn body(answer: &Answer) -> &[u8] {
-    match answer {
-        Answer::Reply(bytes) => bytes.as_slice(),
-        Answer::Refused(code) => refusal_text(*code).as_bytes(),
-    }
-}
 
 /// A session's opener mostly, and else anyone.
 fn user_of(dice: &mut Dice, session: u32) -> u32 {
@@ -34,7 +28,7 @@ fn user_of(dice: &mut Dice, session: u32) -> u32 {
 fn fresh(alloc: Global, dice: &mut Dice, past: &[Event]) -> Result<Draft, Fail> {
     let session = dice.roll(4);
     let slot = dice.roll(3);
-    let sid = session_name(alloc, session)?;
+    let sid = session_at(alloc, session)?;
     let count = count_accepted(past, &sid, slot) % 1000;
     let seq = match dice.roll(10) {
         0 => count as u32 + 2,
@@ -84,15 +78,6 @@ struct Trio {
     refusals: u32,
 }
 
-fn tables(alloc: Global) -> Result<SqlShelf<MemStore>, Fail> {
-    let ann = named(alloc, "ann")?;
-    let eng = named(alloc, "eng")?;
-    match SqlShelf::init(alloc, Connection::open_in_memory(alloc)?, &ann, &eng) {
-        Ok(shelf) => Ok(shelf),
-        Err((fault, _)) => Err(Fail::new(format_args!("no room: {fault:?}"))),
-    }
-}
-
 /// What a desk over a shelf answers.
 fn handled<S: Shelf>(alloc: Global, shelf: S, event: &Event) -> (Answer, S) {
     let mut desk = Desk::new(alloc, shelf);
@@ -106,8 +91,8 @@ impl Trio {
             alloc,
             start: PlainRoom::fresh(alloc, named(alloc, "ann")?, named(alloc, "eng")?)?,
             past: Vec::new(alloc),
-            memory: MemShelf::fresh(alloc, named(alloc, "ann")?, named(alloc, "eng")?)?,
-            tables: tables(alloc)?,
+            memory: in_memory(alloc)?,
+            tables: in_tables(alloc)?,
             replies: 0,
             refusals: 0,
         })
@@ -131,7 +116,7 @@ impl Trio {
         trio.tables = tables;
         trio.past.insert(0, event)?;
         trio.count(&plain);
-        if body(&plain) == body(&from_memory) && body(&plain) == body(&from_tables) {
+        if plain.body() == from_memory.body() && plain.body() == from_tables.body() {
             Ok(trio)
         } else {
             Err(Fail::new("another answer"))

@@ -1,29 +1,9 @@
 //! Rooms and rosters for the tests.
-use room_acl::{Entry, Flags, Kind, ListFlags, Mask, Principal, Who};
+use room_acl::{Entry, Flags, Kind, ListFlags, Mask, Who};
 use room_records::{Change, FileName, MemShelf, Node, Roster, Shelf};
-use room_sql::SqlShelf;
-use sqlite::{Connection, MemStore};
+use room_scenes::{in_memory, named};
 use std::alloc::Global;
 use std::test::Fail;
-
-pub fn principal(alloc: Global, text: &str) -> Result<Principal, Fail> {
-    Ok(Principal::new(alloc, text)?.ok_or("no principal")?)
-}
-
-/// The room of owner `ann` and group `eng`, as it is made.
-pub fn fresh(alloc: Global) -> Result<MemShelf, Fail> {
-    Ok(MemShelf::fresh(alloc, principal(alloc, "ann")?, principal(alloc, "eng")?)?)
-}
-
-/// The same room in tables in memory.
-pub fn fresh_tables(alloc: Global) -> Result<SqlShelf<MemStore>, Fail> {
-    let ann = principal(alloc, "ann")?;
-    let eng = principal(alloc, "eng")?;
-    match SqlShelf::init(alloc, Connection::open_in_memory(alloc)?, &ann, &eng) {
-        Ok(shelf) => Ok(shelf),
-        Err((fault, _)) => Err(Fail::new(format_args!("no room: {fault:?}"))),
-    }
-}
 
 /// `ann` in `eng`, `bob` in `eng` and `staff`, `eng` in none; added out of order.
 pub fn roster(alloc: Global) -> Result<Roster, Fail> {
@@ -32,10 +12,10 @@ pub fn roster(alloc: Global) -> Result<Roster, Fail> {
         let mut members = Vec::new(alloc);
         for group in groups.split(' ') {
             if !group.is_empty() {
-                members.push(principal(alloc, group)?)?;
+                members.push(named(alloc, group)?)?;
             }
         }
-        if !roster.add(principal(alloc, name)?, members)? {
+        if !roster.add(named(alloc, name)?, members)? {
             return Err(Fail::from("not added"));
         }
     }
@@ -56,8 +36,8 @@ pub fn object(
         parent: Some(parent),
         name: Some(FileName::new(alloc, name)?.ok_or("no name")?),
         kind,
-        owner: principal(alloc, "ann")?,
-        group: principal(alloc, "eng")?,
+        owner: named(alloc, "ann")?,
+        group: named(alloc, "eng")?,
         aclflag: ListFlags::new(aclflag).ok_or("no list flags")?,
     }))
 }
@@ -80,7 +60,7 @@ pub fn make_plans<S: Shelf>(alloc: Global, shelf: &mut S) -> Result<(), Fail> {
 
 /// The fresh room with a folder `/plans`.
 pub fn with_plans(alloc: Global) -> Result<MemShelf, Fail> {
-    let mut shelf = fresh(alloc)?;
+    let mut shelf = in_memory(alloc)?;
     make_plans(alloc, &mut shelf)?;
     Ok(shelf)
 }

@@ -1,8 +1,9 @@
 //! The reports over both shelves, byte for byte.
-use crate::rooms::{entry, fresh, fresh_tables, make_plans, object, principal, roster};
+use crate::rooms::{entry, make_plans, object, roster};
 use room_acl::{Entry, Kind, Who};
 use room_records::{Change, Roster, Shelf};
 use room_report::{access_report, list_report};
+use room_scenes::{in_memory, in_tables, named};
 use std::alloc::Global;
 use std::test::Fail;
 
@@ -51,8 +52,8 @@ fn access_of_plans<S: Shelf>(alloc: Global, shelf: &mut S) -> Result<(), Fail> {
 
 #[test]
 fn access_report_of_a_folder(rt: HostRuntime) -> Result<(), Fail> {
-    access_of_plans(rt.alloc(), &mut fresh(rt.alloc())?)?;
-    access_of_plans(rt.alloc(), &mut fresh_tables(rt.alloc())?)
+    access_of_plans(rt.alloc(), &mut in_memory(rt.alloc())?)?;
+    access_of_plans(rt.alloc(), &mut in_tables(rt.alloc())?)
 }
 
 pub const PLANS_LISTS: &str = "\
@@ -71,8 +72,8 @@ fn lists_of_plans<S: Shelf>(alloc: Global, shelf: &mut S) -> Result<(), Fail> {
 
 #[test]
 fn list_report_of_a_folder(rt: HostRuntime) -> Result<(), Fail> {
-    lists_of_plans(rt.alloc(), &mut fresh(rt.alloc())?)?;
-    lists_of_plans(rt.alloc(), &mut fresh_tables(rt.alloc())?)
+    lists_of_plans(rt.alloc(), &mut in_memory(rt.alloc())?)?;
+    lists_of_plans(rt.alloc(), &mut in_tables(rt.alloc())?)
 }
 
 /// A folder `/a` that nobody may read or go through, with what is in it, between a name that stands
@@ -97,8 +98,8 @@ fn hide<S: Shelf>(alloc: Global, shelf: &mut S) -> Result<(), Fail> {
 
 fn entries_of_b(alloc: Global) -> Result<Vec<Entry>, Fail> {
     let mut entries = Vec::new(alloc);
-    entries.push(entry(false, 0, 0x4, Who::User(principal(alloc, "bob")?))?)?;
-    entries.push(entry(true, 0x40, 0x7, Who::Members(principal(alloc, "staff")?))?)?;
+    entries.push(entry(false, 0, 0x4, Who::User(named(alloc, "bob")?))?)?;
+    entries.push(entry(true, 0x40, 0x7, Who::Members(named(alloc, "staff")?))?)?;
     entries.push(entry(true, 0, 0x20, Who::Everyone)?)?;
     Ok(entries)
 }
@@ -159,15 +160,15 @@ fn hidden_is_reported<S: Shelf>(alloc: Global, shelf: &mut S) -> Result<(), Fail
 
 #[test]
 fn an_unreadable_folders_contents_are_there(rt: HostRuntime) -> Result<(), Fail> {
-    hidden_is_reported(rt.alloc(), &mut fresh(rt.alloc())?)?;
-    hidden_is_reported(rt.alloc(), &mut fresh_tables(rt.alloc())?)
+    hidden_is_reported(rt.alloc(), &mut in_memory(rt.alloc())?)?;
+    hidden_is_reported(rt.alloc(), &mut in_tables(rt.alloc())?)
 }
 
 /// The longest path has 16 names.
 #[test]
 fn the_longest_path(rt: HostRuntime) -> Result<(), Fail> {
     let alloc = rt.alloc();
-    let mut shelf = fresh(alloc)?;
+    let mut shelf = in_memory(alloc)?;
     let mut changes = vec![in alloc; Change::PutNext(18)]?;
     let mut want = format!(in alloc; "001f07ff ann                              /\n")?;
     let mut path = String::new(alloc);
@@ -179,7 +180,7 @@ fn the_longest_path(rt: HostRuntime) -> Result<(), Fail> {
     }
     shelf.commit(changes.as_slice())?;
     let mut one = Roster::empty(alloc);
-    assert!(rt; one.add(principal(alloc, "ann")?, Vec::new(alloc))?);
+    assert!(rt; one.add(named(alloc, "ann")?, Vec::new(alloc))?);
     has_access(alloc, &mut shelf, &one, want.as_str())
 }
 
@@ -192,9 +193,9 @@ fn a_roster_of_a_thousand_users(rt: HostRuntime) -> Result<(), Fail> {
         let name = format!(in alloc; "u{:03}", place)?;
         let mut groups = Vec::new(alloc);
         if place % 2 == 0 {
-            groups.push(principal(alloc, "eng")?)?;
+            groups.push(named(alloc, "eng")?)?;
         }
-        assert!(rt; roster.add(principal(alloc, name.as_str())?, groups)?);
+        assert!(rt; roster.add(named(alloc, name.as_str())?, groups)?);
         let mask = if place % 2 == 0 {
             "001200a9"
         } else {
@@ -203,6 +204,6 @@ fn a_roster_of_a_thousand_users(rt: HostRuntime) -> Result<(), Fail> {
         let line = format!(in alloc; "{mask} {name}                             /\n")?;
         want.push_str(line.as_str())?;
     }
-    has_access(alloc, &mut fresh(alloc)?, &roster, want.as_str())?;
-    has_access(alloc, &mut fresh_tables(alloc)?, &roster, want.as_str())
+    has_access(alloc, &mut in_memory(alloc)?, &roster, want.as_str())?;
+    has_access(alloc, &mut in_tables(alloc)?, &roster, want.as_str())
 }

@@ -5,8 +5,6 @@
 #[cfg(test)]
 mod limits;
 #[cfg(test)]
-mod orders;
-#[cfg(test)]
 mod player;
 #[cfg(test)]
 mod refusals;

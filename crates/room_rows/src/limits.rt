@@ -1,8 +1,8 @@
 //! Full folders, a room whose numbers are used up, and marks that SETLIST is sent.
-use crate::orders::{Listed, Order};
 use crate::player::{Player, Way, over_memory, over_tables};
 use crate::rows::{DONE, S, ann, open};
 use room_records::{Change, Shelf};
+use room_scenes::{Listed, Order};
 use std::alloc::Global;
 use std::test::Fail;
 

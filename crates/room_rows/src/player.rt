@@ -1,13 +1,13 @@
 //! Desks over each shelf, and steps that are played on them.
-use crate::orders::{Ask, event, named};
 use crate::streams::as_stream;
 use room_desk::{Answer, Desk};
 use room_history::answer_to;
 use room_model::PlainRoom;
 use room_records::{MemShelf, Shelf};
+use room_scenes::{Ask, event, in_memory, in_tables, named};
 use room_sql::SqlShelf;
-use room_wire::{Event, refusal_text};
-use sqlite::{Connection, MemStore};
+use room_wire::Event;
+use sqlite::MemStore;
 use std::alloc::Global;
 use std::test::Fail;
 
@@ -33,34 +33,19 @@ pub struct Player<S: Shelf> {
     past: Vec<Event>,
 }
 
-/// The shelf in memory, of a fresh room of `ann` and the group `eng`.
+/// A fresh room in memory.
 pub fn over_memory(alloc: Global, way: Way) -> Result<Player<MemShelf>, Fail> {
-    let shelf = MemShelf::fresh(alloc, named(alloc, "ann")?, named(alloc, "eng")?)?;
-    Ok(Player::over(alloc, shelf, way))
+    Ok(Player::over(alloc, in_memory(alloc)?, way))
 }
 
-/// The same in tables in memory.
+/// A fresh room in tables in memory.
 pub fn over_tables(alloc: Global, way: Way) -> Result<Player<SqlShelf<MemStore>>, Fail> {
-    let ann = named(alloc, "ann")?;
-    let eng = named(alloc, "eng")?;
-    let conn = Connection::open_in_memory(alloc)?;
-    match SqlShelf::init(alloc, conn, &ann, &eng) {
-        Ok(shelf) => Ok(Player::over(alloc, shelf, way)),
-        Err((fault, _)) => Err(Fail::new(format_args!("no room: {fault:?}"))),
-    }
-}
-
-/// The body of an answer.
-pub fn body(answer: &Answer) -> &[u8] {
-    match answer {
-        Answer::Reply(bytes) => bytes.as_slice(),
-        Answer::Refused(code) => refusal_text(*code).as_bytes(),
-    }
+    Ok(Player::over(alloc, in_tables(alloc)?, way))
 }
 
 fn expect(step: &Step, answer: &Answer) -> Result<(), Fail> {
     let Step(caller, _, wanted) = *step;
-    let got = body(answer);
+    let got = answer.body();
     if got == wanted.as_bytes() {
         return Ok(());
     }

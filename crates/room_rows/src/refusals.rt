@@ -1,8 +1,8 @@
 //! Every command against each of its refusals, in the order of its checks: where several checks fail, the first answers.
-use crate::orders::{Listed, Order};
 use crate::player::{Player, Way, over_memory, over_tables};
 use crate::rows::{ALL, DONE, EMPTY, ann, bob, both_open};
 use room_records::Shelf;
+use room_scenes::{Listed, Order};
 use std::alloc::Global;
 use std::test::Fail;
 

@@ -2,9 +2,9 @@
 ghost use Rattle.std.specs.Prelude.{◌≡◌, IsTrue, IfOk, false};
 ghost use Rattle.sqlite_disk.specs.Memory.{memory_is_usable};
 
-use crate::orders::{Order, named};
 use crate::player::{Player, Way};
 use crate::rows::{FALSE_RETRY, PLAN, ROOT, ann, append_acts_once};
+use room_scenes::{Order, made, named, taken};
 use room_sql::{OpenFault, SqlShelf};
 use sqlite::{Connection, FileStore, Options};
 use sqlite_disk::{Files, Memory};
@@ -44,16 +44,11 @@ fn reopened(alloc: Global, conn: FileConn) -> Result<FileConn, Fail>
 
 /// A fresh room in new files, which were no room before.
 fn room_in_files(alloc: Global) -> Result<FileRoom, Fail> {
-    let ann = named(alloc, "ann")?;
-    let eng = named(alloc, "eng")?;
     let conn = opened(alloc, Memory::new(alloc), Memory::new(alloc))?;
     let Err((OpenFault::NotARoom, conn)) = SqlShelf::adopt(alloc, conn) else {
         return Err(Fail::new("files without a room were taken for one"));
     };
-    match SqlShelf::init(alloc, conn, &ann, &eng) {
-        Ok(shelf) => Ok(shelf),
-        Err((fault, _)) => Err(Fail::new(format_args!("no room: {fault:?}"))),
-    }
+    made(alloc, conn)
 }
 
 /// The room that is there, after a second `init` was refused.
@@ -64,10 +59,7 @@ fn room_found(alloc: Global, conn: FileConn) -> Result<FileRoom, Fail>
     let Err((OpenFault::RoomExists, conn)) = SqlShelf::init(alloc, conn, &bob, &bob) else {
         return Err(Fail::new("a second room"));
     };
-    match SqlShelf::adopt(alloc, conn) {
-        Ok(shelf) => Ok(shelf),
-        Err((fault, _)) => Err(Fail::new(format_args!("not taken: {fault:?}"))),
-    }
+    taken(alloc, conn)
 }
 
 /// A room in files, with a document that was read.

@@ -1,7 +1,7 @@
 //! The rows: each plays those that it goes on from.
-use crate::orders::{Ask, Listed, Order};
 use crate::player::{Player, Step};
 use room_records::Shelf;
+use room_scenes::{Ask, Listed, Order};
 use std::alloc::Global;
 use std::test::Fail;
 

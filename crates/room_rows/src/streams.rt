@@ -1,8 +1,8 @@
 //! Steps as messages on one stream, and what must be written.
-use crate::orders::{Ask, command, subject};
 use crate::player::Step;
 use room_desk::Desk;
 use room_records::{Roster, Shelf};
+use room_scenes::{Ask, command, subject};
 use room_wire::{Why, command_text};
 use std::alloc::Global;
 use std::test::Fail;

@@ -1,9 +1,9 @@
 //! A shelf whose k-th call fails.
-use crate::orders::{Ask, Order, event};
-use crate::player::{Player, Way, body, over_memory};
+use crate::player::{Player, Way, over_memory};
 use crate::rows::{PLAN, S, ann, open_and_make_a_folder};
 use room_desk::{Answer, Desk};
 use room_records::{MemShelf, TripShelf};
+use room_scenes::{Ask, Order, event};
 use room_wire::{Code, Event};
 use std::alloc::Global;
 use std::test::Fail;
@@ -53,7 +53,7 @@ fn append_with(alloc: Global, k: u64) -> Result<bool, Fail> {
     if is_delayed != tripped {
         return Err(Fail::new(format_args!("call {k}: DELAY is {is_delayed}")));
     }
-    if !tripped && body(&answer) != SIZE_3.as_bytes() {
+    if !tripped && answer.body() != SIZE_3.as_bytes() {
         return Err(Fail::new("another answer"));
     }
     acts_once(alloc, shelf)?;

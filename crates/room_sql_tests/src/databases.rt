@@ -1,5 +1,5 @@
 //! Databases, made by texts, and all that is in them.
-use room_acl::Principal;
+use room_scenes::named;
 use room_sql::{OpenFault, SqlShelf};
 use sqlite::{Alter, Connection, MemStore, Row};
 use std::alloc::Global;
@@ -16,10 +16,6 @@ const ALL: [&str; 7] = [
     "SELECT * FROM session",
     "SELECT * FROM slot",
 ];
-
-pub fn principal(alloc: Global, text: &str) -> Result<Principal, Fail> {
-    Ok(Principal::new(alloc, text)?.ok_or("no principal")?)
-}
 
 fn push_row(text: &mut String, row: &Row) -> Result<(), Fail> {
     for at in 0..row.column_count() {
@@ -79,28 +75,14 @@ pub fn made<S: Alter + Drop>(
     alloc: Global,
     conn: Connection<S>,
 ) -> Result<(Option<OpenFault>, Connection<S>), Fail> {
-    let ann = principal(alloc, "ann")?;
-    let eng = principal(alloc, "eng")?;
+    let ann = named(alloc, "ann")?;
+    let eng = named(alloc, "eng")?;
     if !conn.is_autocommit() {
         return Err(Fail::new("in a transaction"));
     }
     match SqlShelf::init(alloc, conn, &ann, &eng) {
         Ok(shelf) => Ok((None, shelf.into_connection())),
         Err((fault, conn)) => Ok((Some(fault), conn)),
-    }
-}
-
-/// The room in a database.
-pub fn shelf_over<S: Alter + Drop>(
-    alloc: Global,
-    conn: Connection<S>,
-) -> Result<SqlShelf<S>, Fail> {
-    if !conn.is_autocommit() {
-        return Err(Fail::new("in a transaction"));
-    }
-    match SqlShelf::adopt(alloc, conn) {
-        Ok(shelf) => Ok(shelf),
-        Err((fault, _)) => Err(Fail::new(format_args!("not taken: {fault:?}"))),
     }
 }
 

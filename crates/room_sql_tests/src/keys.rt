@@ -1,10 +1,10 @@
 //! Names and session names at their limits, as keys of the tables.
-use crate::databases::{principal, shelf_over};
 use room_acl::{Kind, ListFlags};
 use room_records::{Change, FileName, Node, SessionRow, Shelf, Sid, SlotCount, SlotRow};
+use room_scenes::{in_tables, named, session_name, taken};
 use room_slots::Kept;
 use room_sql::SqlShelf;
-use sqlite::{Connection, MemStore};
+use sqlite::MemStore;
 use std::alloc::Global;
 use std::test::Fail;
 
@@ -55,19 +55,6 @@ fn file_name(alloc: Global, text: &str) -> Result<FileName, Fail> {
     Ok(FileName::new(alloc, text)?.ok_or("no name")?)
 }
 
-fn sid(alloc: Global, text: &str) -> Result<Sid, Fail> {
-    Ok(Sid::new(alloc, text)?.ok_or("no session name")?)
-}
-
-fn room(alloc: Global) -> Result<SqlShelf<MemStore>, Fail> {
-    let ann = principal(alloc, "ann")?;
-    let eng = principal(alloc, "eng")?;
-    match SqlShelf::init(alloc, Connection::open_in_memory(alloc)?, &ann, &eng) {
-        Ok(shelf) => Ok(shelf),
-        Err((fault, _)) => Err(Fail::new(format_args!("no room: {fault:?}"))),
-    }
-}
-
 /// A folder of this name in the root, of the longest principal.
 fn folder(alloc: Global, id: u32, name: &str) -> Result<Node, Fail> {
     Ok(Node {
@@ -75,8 +62,8 @@ fn folder(alloc: Global, id: u32, name: &str) -> Result<Node, Fail> {
         parent: Some(1),
         name: Some(file_name(alloc, name)?),
         kind: Kind::Folder,
-        owner: principal(alloc, "12345678901234567890123456789012")?,
-        group: principal(alloc, "eng")?,
+        owner: named(alloc, "12345678901234567890123456789012")?,
+        group: named(alloc, "eng")?,
         aclflag: ListFlags::new(7).ok_or("no list flags")?,
     })
 }
@@ -134,9 +121,9 @@ fn names_at_their_limits(rt: HostRuntime) -> Result<(), Fail> {
     let alloc = rt.alloc();
     // Two of them have as many bytes as a name may have.
     assert_eq!(rt; (NAMES[14].len(), NAMES[18].len()), (64, 64));
-    let mut shelf = room(alloc)?;
+    let mut shelf = in_tables(alloc)?;
     shelf.commit(all_folders(alloc)?.as_slice())?;
-    let mut shelf = shelf_over(alloc, shelf.into_connection())?;
+    let mut shelf = taken(alloc, shelf.into_connection())?;
     finds_each(alloc, &mut shelf)?;
     finds_no_other(alloc, &mut shelf)?;
     lists_in_order(&mut shelf)?;
@@ -146,8 +133,8 @@ fn names_at_their_limits(rt: HostRuntime) -> Result<(), Fail> {
 
 fn session(alloc: Global, text: &str, slots: u32) -> Result<Change, Fail> {
     Ok(Change::PutSession(SessionRow {
-        sid: sid(alloc, text)?,
-        owner: principal(alloc, "ann")?,
+        sid: session_name(alloc, text)?,
+        owner: named(alloc, "ann")?,
         slots: SlotCount::new(slots).ok_or("no number of slots")?,
         is_open: slots < 3,
     }))
@@ -156,7 +143,7 @@ fn session(alloc: Global, text: &str, slots: u32) -> Result<Change, Fail> {
 /// What a slot keeps: the number, and it as bytes.
 fn kept(alloc: Global, text: &str, slot: u32, seq: u32) -> Result<Change, Fail> {
     Ok(Change::PutSlot(SlotRow {
-        sid: sid(alloc, text)?,
+        sid: session_name(alloc, text)?,
         slot,
         kept: Kept {
             seq,
@@ -189,7 +176,7 @@ fn is_kept(shelf: &mut SqlShelf<MemStore>, sid: &Sid, slot: u32, seq: u32) -> Re
 fn finds_sessions(alloc: Global, shelf: &mut SqlShelf<MemStore>) -> Result<(), Fail> {
     for (at, text) in SIDS.iter().enumerate() {
         let at = (at % 1000) as u32;
-        let sid = sid(alloc, text)?;
+        let sid = session_name(alloc, text)?;
         let found = shelf.session(&sid)?;
         let is_found =
             matches!(&found, Some(row) if row.slots.get() == at + 1 && row.is_open == (at < 2) && row.sid.text() == *text);
@@ -208,7 +195,7 @@ fn finds_sessions(alloc: Global, shelf: &mut SqlShelf<MemStore>) -> Result<(), F
 fn count_slots(alloc: Global, shelf: &mut SqlShelf<MemStore>) -> Result<usize, Fail> {
     let mut count = 0usize;
     for text in SIDS {
-        if shelf.slot(&sid(alloc, text)?, 0)?.is_some() {
+        if shelf.slot(&session_name(alloc, text)?, 0)?.is_some() {
             count = count.saturating_add(1);
         }
     }
@@ -218,15 +205,15 @@ fn count_slots(alloc: Global, shelf: &mut SqlShelf<MemStore>) -> Result<usize, F
 #[test]
 fn sessions_at_their_limits(rt: HostRuntime) -> Result<(), Fail> {
     let alloc = rt.alloc();
-    let mut shelf = room(alloc)?;
+    let mut shelf = in_tables(alloc)?;
     shelf.commit(all_sessions(alloc)?.as_slice())?;
-    let mut shelf = shelf_over(alloc, shelf.into_connection())?;
+    let mut shelf = taken(alloc, shelf.into_connection())?;
     finds_sessions(alloc, &mut shelf)?;
-    let absent = sid(alloc, "00000000000000000000000000000002")?;
+    let absent = session_name(alloc, "00000000000000000000000000000002")?;
     assert!(rt; shelf.session(&absent)?.is_none());
     assert!(rt; shelf.slot(&absent, 0)?.is_none());
     // The slots of one session go, and no other's.
-    let gone = vec![in alloc; Change::DropSlots(sid(alloc, SIDS[1])?)]?;
+    let gone = vec![in alloc; Change::DropSlots(session_name(alloc, SIDS[1])?)]?;
     shelf.commit(gone.as_slice())?;
     assert_eq!(rt; count_slots(alloc, &mut shelf)?, 4);
     Ok(())

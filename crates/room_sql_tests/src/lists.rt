@@ -1,23 +1,20 @@
 //! Lists of entries of each length about that of a batch are read back in order, and replaced by others.
-use room_acl::{Entry, Flags, Kind, ListFlags, Mask, Principal, Who};
+use room_acl::{Entry, Flags, Kind, ListFlags, Mask, Who};
 use room_records::{Change, FileName, Node, Shelf};
+use room_scenes::{in_tables, named};
 use room_sql::SqlShelf;
-use sqlite::{Connection, MemStore};
+use sqlite::MemStore;
 use std::alloc::Global;
 use std::test::Fail;
 
 const RIGHTS: [u32; 4] = [0x1, 0x2, 0x20, 0x1200A9];
 
-fn principal(alloc: Global, text: &str) -> Result<Principal, Fail> {
-    Ok(Principal::new(alloc, text)?.ok_or("no principal")?)
-}
-
 /// A user or a group of this number, or everyone.
 fn who(alloc: Global, number: usize) -> Result<Who, Fail> {
     let name = format!(in alloc; "name{number}")?;
     match number % 4 {
-        0 => Ok(Who::User(principal(alloc, name.as_str())?)),
-        1 => Ok(Who::Members(principal(alloc, name.as_str())?)),
+        0 => Ok(Who::User(named(alloc, name.as_str())?)),
+        1 => Ok(Who::Members(named(alloc, name.as_str())?)),
         2 => Ok(Who::Everyone),
         _ => Ok(Who::Owner),
     }
@@ -76,19 +73,14 @@ fn are_same_entries(a: &[Entry], b: &[Entry]) -> bool {
 
 /// A room with a folder of three entries beside the root.
 fn room(alloc: Global) -> Result<SqlShelf<MemStore>, Fail> {
-    let conn = Connection::open_in_memory(alloc)?;
-    let ann = principal(alloc, "ann")?;
-    let eng = principal(alloc, "eng")?;
-    let Ok(mut shelf) = SqlShelf::init(alloc, conn, &ann, &eng) else {
-        return Err("no room".into());
-    };
+    let mut shelf = in_tables(alloc)?;
     let folder = Node {
         id: 2,
         parent: Some(1),
         name: FileName::new(alloc, "home")?,
         kind: Kind::Folder,
-        owner: ann,
-        group: eng,
+        owner: named(alloc, "ann")?,
+        group: named(alloc, "eng")?,
         aclflag: ListFlags::new(0).ok_or("no flags")?,
     };
     let changes = vec![in alloc;

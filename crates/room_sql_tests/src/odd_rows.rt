@@ -1,7 +1,8 @@
 //! Rows that another program may have written: each read that meets one answers that the store failed, and the
 //! others answer as before.
-use crate::databases::{contents, database, principal, shelf_over};
+use crate::databases::{contents, database};
 use room_records::{FileName, Shelf, ShelfFault, Sid};
+use room_scenes::{in_tables, taken};
 use room_sql::SqlShelf;
 use sqlite::{Alter, Connection, MemStore};
 use std::alloc::Global;
@@ -217,7 +218,7 @@ fn reads_as(alloc: Global, conn: Connection<MemStore>, odd: &Odd) -> Result<(), 
     let Odd(sql, wanted) = *odd;
     let mut conn = conn;
     let before = contents(alloc, &mut conn)?;
-    let mut shelf = shelf_over(alloc, conn)?;
+    let mut shelf = taken(alloc, conn)?;
     let got = reads(alloc, &mut shelf)?;
     if got.as_str() != wanted {
         return Err(Fail::new(format_args!("{sql}: {got} and not {wanted}")));
@@ -237,16 +238,9 @@ fn loose(alloc: Global) -> Result<Connection<MemStore>, Fail> {
 
 /// The same rows in the tables that `init` makes.
 fn declared(alloc: Global) -> Result<Connection<MemStore>, Fail> {
-    let ann = principal(alloc, "ann")?;
-    let eng = principal(alloc, "eng")?;
-    match SqlShelf::init(alloc, Connection::open_in_memory(alloc)?, &ann, &eng) {
-        Ok(shelf) => {
-            let mut conn = shelf.into_connection();
-            conn.execute_batch(ROWS)?;
-            Ok(conn)
-        },
-        Err((fault, _)) => Err(Fail::new(format_args!("no room: {fault:?}"))),
-    }
+    let mut conn = in_tables(alloc)?.into_connection();
+    conn.execute_batch(ROWS)?;
+    Ok(conn)
 }
 
 /// Whether the tables that `init` makes take the statement; where they do, the reads answer in the same way, and

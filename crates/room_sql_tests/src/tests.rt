@@ -1,15 +1,10 @@
 ghost use Rattle.std.specs.Prelude.{◌≡◌, false, IfOk};
 
-use room_acl::Principal;
 use room_records::{Change, Shelf};
+use room_scenes::{in_tables, made, named, taken};
 use room_sql::{OpenFault, SqlShelf};
 use sqlite::{Alter, Connection};
-use std::alloc::Global;
 use std::test::Fail;
-
-fn principal(alloc: Global, text: &str) -> Result<Option<Principal>, Fail> {
-    Ok(Principal::new(alloc, text)?)
-}
 
 fn number<S: Alter>(conn: &mut Connection<S>, sql: &str) -> Result<i64, Fail>
     ensures { conn.old.in_transaction ≡ false → conn.new.in_transaction ≡ false }
@@ -32,10 +27,8 @@ fn is_fresh<S: Alter>(shelf: &mut SqlShelf<S>) -> bool {
 #[test]
 fn a_fresh_room(rt: HostRuntime) -> Result<(), Fail> {
     let alloc = rt.alloc();
-    let (Some(ann), Some(eng)) = (principal(alloc, "ann")?, principal(alloc, "eng")?) else {
-        assert!(rt; false);
-        return Ok(());
-    };
+    let ann = named(alloc, "ann")?;
+    let eng = named(alloc, "eng")?;
     let conn = Connection::open_in_memory(alloc)?;
     // An empty database is no room, and a room can be made in it.
     let Err((fault, conn)) = SqlShelf::adopt(alloc, conn) else {
@@ -43,10 +36,7 @@ fn a_fresh_room(rt: HostRuntime) -> Result<(), Fail> {
         return Ok(());
     };
     assert!(rt; fault == OpenFault::NotARoom);
-    let Ok(mut shelf) = SqlShelf::init(alloc, conn, &ann, &eng) else {
-        assert!(rt; false);
-        return Ok(());
-    };
+    let mut shelf = made(alloc, conn)?;
     assert!(rt; is_fresh(&mut shelf));
     let children = shelf.children(1);
     assert!(rt; matches!(&children, Ok(nodes) if nodes.len() == 0));
@@ -57,10 +47,7 @@ fn a_fresh_room(rt: HostRuntime) -> Result<(), Fail> {
         return Ok(());
     };
     assert!(rt; fault == OpenFault::RoomExists);
-    let Ok(mut shelf) = SqlShelf::adopt(alloc, conn) else {
-        assert!(rt; false);
-        return Ok(());
-    };
+    let mut shelf = taken(alloc, conn)?;
     assert!(rt; is_fresh(&mut shelf));
     Ok(())
 }
@@ -68,14 +55,7 @@ fn a_fresh_room(rt: HostRuntime) -> Result<(), Fail> {
 #[test]
 fn all_changes_or_none(rt: HostRuntime) -> Result<(), Fail> {
     let alloc = rt.alloc();
-    let (Some(ann), Some(eng)) = (principal(alloc, "ann")?, principal(alloc, "eng")?) else {
-        assert!(rt; false);
-        return Ok(());
-    };
-    let Ok(mut shelf) = SqlShelf::init(alloc, Connection::open_in_memory(alloc)?, &ann, &eng) else {
-        assert!(rt; false);
-        return Ok(());
-    };
+    let mut shelf = in_tables(alloc)?;
     let kept = vec![in alloc; Change::PutNext(7), Change::PutEntries(1, Vec::new(alloc))]?;
     assert!(rt; shelf.commit(kept.as_slice()).is_ok());
     assert!(rt; matches!(&shelf.next_id(), Ok(7)));
@@ -100,28 +80,14 @@ fn all_changes_or_none(rt: HostRuntime) -> Result<(), Fail> {
 #[test]
 fn a_row_of_another_value_is_a_failure(rt: HostRuntime) -> Result<(), Fail> {
     let alloc = rt.alloc();
-    let (Some(ann), Some(eng)) = (principal(alloc, "ann")?, principal(alloc, "eng")?) else {
-        assert!(rt; false);
-        return Ok(());
-    };
-    let Ok(shelf) = SqlShelf::init(alloc, Connection::open_in_memory(alloc)?, &ann, &eng) else {
-        assert!(rt; false);
-        return Ok(());
-    };
-    let mut conn = shelf.into_connection();
+    let mut conn = in_tables(alloc)?.into_connection();
     conn.execute("UPDATE node SET owner = 'a/b'", &[])?;
-    if !conn.is_autocommit() {
-        return Ok(());
-    }
-    let Ok(mut shelf) = SqlShelf::adopt(alloc, conn) else {
-        assert!(rt; false);
-        return Ok(());
-    };
+    let mut shelf = taken(alloc, conn)?;
     assert!(rt; shelf.node(1).is_err());
     let mut conn = shelf.into_connection();
     conn.execute("UPDATE room SET version = 2", &[])?;
     if !conn.is_autocommit() {
-        return Ok(());
+        return Err(Fail::new("in a transaction"));
     }
     let Err((fault, _)) = SqlShelf::adopt(alloc, conn) else {
         assert!(rt; false);

@@ -1,6 +1,7 @@
 //! Streams that are cut in other places, and streams that fail.
-use crate::streams::{Dripping, Full, Narrow, Pieces};
+use crate::streams::{Full, Narrow, Pieces};
 use crate::wire::{ANSWER, BAD_HTTP, BAD_REQUEST, BAD_ROUTE, QUESTION, message};
+use room_scenes::Dripping;
 use room_wire::{Why, serve_checks};
 use std::test::Fail;
 
@@ -9,7 +10,7 @@ fn one_byte_a_read(rt: HostRuntime) -> Result<(), Fail> {
     let alloc = rt.alloc();
     let twice = format!(in alloc; "{QUESTION}{QUESTION}")?;
     let want = format!(in alloc; "{ANSWER}{ANSWER}")?;
-    let mut reader = Dripping::new(twice.as_str());
+    let mut reader = Dripping::new(twice.as_bytes());
     let mut output = Vec::new(alloc);
     let end = serve_checks(alloc, &mut reader, &mut output);
     assert_eq!(rt; output.as_slice(), want.as_bytes());

@@ -48,31 +48,6 @@ impl Read for Pieces<'_> {
     }
 }
 
-/// Gives one byte a call.
-#[derive(Drop)]
-pub struct Dripping<'a> {
-    rest: &'a [u8],
-}
-
-impl<'a> Dripping<'a> {
-    pub fn new(text: &'a str) -> Dripping<'a> {
-        Dripping {
-            rest: text.as_bytes(),
-        }
-    }
-}
-
-impl Read for Dripping<'_> {
-    fn read(&mut self, buf: &mut [u8]) -> Result<usize> {
-        let (Some((byte, rest)), Some(place)) = (self.rest.split_first(), buf.first_mut()) else {
-            return Ok(0);
-        };
-        *place = *byte;
-        self.rest = rest;
-        Ok(1)
-    }
-}
-
 /// What a `Narrow` writer does once it is full.
 #[derive(Clone, Copy, Debug, PartialEq, Eq)]
 pub enum Full {

@@ -6,6 +6,8 @@ mod lists;
 #[cfg(test)]
 mod model;
 #[cfg(test)]
+mod names;
+#[cfg(test)]
 mod plans;
 #[cfg(test)]
 mod records;

@@ -1,16 +1,17 @@
 //! Each call that takes memory succeeds where there is memory.
+use crate::names::named;
 use room_acl::{Entry, Flags, Kind, Mask, Principal, Standing, Subject, Who, hand_down};
 use std::test::Fail;
 
 #[test]
 fn copies_with_memory(rt: HostRuntime) -> Result<(), Fail> {
     let alloc = rt.alloc();
-    let eng = Principal::new(alloc, "eng")?.ok_or("a name was refused")?;
+    let eng = named(alloc, "eng")?;
     assert!(rt; Principal::new(alloc, "a b")?.is_none());
     let mut groups = Vec::new(alloc);
     groups.push(eng.clone()?)?;
     let subject = Subject {
-        name: Principal::new(alloc, "ann")?.ok_or("a name was refused")?,
+        name: named(alloc, "ann")?,
         groups,
     };
     let subject = subject.clone()?;
@@ -29,7 +30,7 @@ fn copies_with_memory(rt: HostRuntime) -> Result<(), Fail> {
 #[test]
 fn hands_down_with_memory(rt: HostRuntime) -> Result<(), Fail> {
     let alloc = rt.alloc();
-    let eng = Principal::new(alloc, "eng")?.ok_or("a name was refused")?;
+    let eng = named(alloc, "eng")?;
     let flags = Flags::new(67).ok_or("flags were refused")?;
     let mask = Mask::new(1).ok_or("a mask was refused")?;
     let who = Who::Members(eng).clone()?;

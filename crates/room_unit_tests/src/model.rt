@@ -1,5 +1,6 @@
 //! Worked examples, whose replies are known from outside.
-use room_acl::{Principal, Subject};
+use crate::names::{named, path_of};
+use room_acl::Subject;
 use room_model::PlainRoom;
 use room_records::Path;
 use room_tree::{Command, Fault, Reply};
@@ -27,7 +28,7 @@ impl Play {
     }
 
     fn at(&self, text: &str) -> Result<Path, Fail> {
-        Ok(Path::read(self.alloc, text)?.ok_or("no path")?)
+        path_of(self.alloc, text)
     }
 
     fn create(&mut self, caller: &Subject, path: &str, bytes: &[u8]) -> Result<Reply, Fail> {
@@ -35,10 +36,6 @@ impl Play {
         let bytes = bytes.to_vec(self.alloc)?;
         self.run(caller, Command::Create { bytes, path })
     }
-}
-
-fn named(alloc: Global, text: &str) -> Result<Principal, Fail> {
-    Ok(Principal::new(alloc, text)?.ok_or("no principal")?)
 }
 
 fn ann(alloc: Global) -> Result<Subject, Fail> {

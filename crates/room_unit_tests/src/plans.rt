@@ -1,13 +1,10 @@
 //! RENAME and lists from below, over the shelf in memory.
-use room_acl::{Principal, Subject};
+use crate::names::{named, path_of};
+use room_acl::Subject;
 use room_records::{MemShelf, Path, Shelf};
 use room_tree::{Command, Fault, Reply, list_upwards, node_at, plan};
 use std::alloc::Global;
 use std::test::Fail;
-
-fn named(alloc: Global, text: &str) -> Result<Principal, Fail> {
-    Ok(Principal::new(alloc, text)?.ok_or("no principal")?)
-}
 
 /// A room in memory, and its owner.
 #[derive(Drop)]
@@ -28,7 +25,7 @@ impl Play {
     }
 
     fn at(&self, text: &str) -> Result<Path, Fail> {
-        Ok(Path::read(self.alloc, text)?.ok_or("no path")?)
+        path_of(self.alloc, text)
     }
 
     fn run(&mut self, command: Command) -> Result<Reply, Fail> {

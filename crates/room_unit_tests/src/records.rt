@@ -1,4 +1,5 @@
 //! Each public call once, the limits, and generic code over two shelves.
+use crate::names::{named, path_of};
 use room_acl::{Entry, Flags, Kind, ListFlags, Mask, Principal, Who};
 use room_records::{
     Change, FileName, MemShelf, Node, Path, Roster, SessionRow, Shelf, ShelfFault, Sid, SlotCount,
@@ -16,10 +17,6 @@ fn repeated(alloc: Global, part: &str, times: usize) -> Result<String, AllocErro
         text.push_str(part)?;
     }
     Ok(text)
-}
-
-fn principal(alloc: Global, text: &str) -> Result<Principal, Fail> {
-    Ok(Principal::new(alloc, text)?.ok_or("no principal")?)
 }
 
 fn file_name(alloc: Global, text: &str) -> Result<FileName, Fail> {
@@ -58,14 +55,14 @@ fn paths_within_their_limits(rt: HostRuntime) -> Result<(), Fail> {
     let alloc = rt.alloc();
     let deepest = repeated(alloc, "/a", 16)?;
     let too_deep = repeated(alloc, "/a", 17)?;
-    let path = Path::read(alloc, deepest.as_str())?.ok_or("16 names")?;
+    let path = path_of(alloc, deepest.as_str())?;
     assert_eq!(rt; path.names().len(), 16);
     assert_eq!(rt; path.clone()?.text(alloc)?.as_str(), deepest.as_str());
     assert!(rt; Path::read(alloc, too_deep.as_str())?.is_none());
     for text in ["", "a", "//", "/a/", "/a//b", "/.", "/a/.."] {
         assert!(rt; Path::read(alloc, text)?.is_none());
     }
-    let root = Path::read(alloc, "/")?.ok_or("the root")?;
+    let root = path_of(alloc, "/")?;
     assert_eq!(rt; root.text(alloc)?.as_str(), "/");
     Ok(())
 }
@@ -73,7 +70,7 @@ fn paths_within_their_limits(rt: HostRuntime) -> Result<(), Fail> {
 fn groups(alloc: Global, count: usize) -> Result<Vec<Principal>, Fail> {
     let mut groups = Vec::new(alloc);
     for _ in 0..count {
-        groups.push(principal(alloc, "eng")?)?;
+        groups.push(named(alloc, "eng")?)?;
     }
     Ok(groups)
 }
@@ -82,22 +79,22 @@ fn groups(alloc: Global, count: usize) -> Result<Vec<Principal>, Fail> {
 fn roster_within_its_limits(rt: HostRuntime) -> Result<(), Fail> {
     let alloc = rt.alloc();
     let mut roster = Roster::empty(alloc);
-    assert!(rt; !roster.add(principal(alloc, "ann")?, groups(alloc, 17)?)?);
-    assert!(rt; roster.add(principal(alloc, "bob")?, groups(alloc, 16)?)?);
-    assert!(rt; roster.add(principal(alloc, "ann")?, groups(alloc, 1)?)?);
-    assert!(rt; !roster.add(principal(alloc, "bob")?, groups(alloc, 0)?)?);
+    assert!(rt; !roster.add(named(alloc, "ann")?, groups(alloc, 17)?)?);
+    assert!(rt; roster.add(named(alloc, "bob")?, groups(alloc, 16)?)?);
+    assert!(rt; roster.add(named(alloc, "ann")?, groups(alloc, 1)?)?);
+    assert!(rt; !roster.add(named(alloc, "bob")?, groups(alloc, 0)?)?);
     let (first, of_first) = roster.user(0).ok_or("a first user")?;
     assert_eq!(rt; first.text(), "ann");
     assert_eq!(rt; of_first.len(), 1);
-    let of_bob = roster.groups(&principal(alloc, "bob")?).ok_or("bob")?;
+    let of_bob = roster.groups(&named(alloc, "bob")?).ok_or("bob")?;
     assert_eq!(rt; of_bob.len(), 16);
-    assert!(rt; roster.groups(&principal(alloc, "cy")?).is_none());
+    assert!(rt; roster.groups(&named(alloc, "cy")?).is_none());
     for i in 0..998u32 {
         let name = format!(in alloc; "u{i}")?;
-        assert!(rt; roster.add(principal(alloc, name.as_str())?, groups(alloc, 0)?)?);
+        assert!(rt; roster.add(named(alloc, name.as_str())?, groups(alloc, 0)?)?);
     }
     assert_eq!(rt; roster.len(), 1000);
-    assert!(rt; !roster.add(principal(alloc, "zoe")?, groups(alloc, 0)?)?);
+    assert!(rt; !roster.add(named(alloc, "zoe")?, groups(alloc, 0)?)?);
     Ok(())
 }
 
@@ -107,8 +104,8 @@ fn folder(alloc: Global, id: u32, name: &str, kind: Kind) -> Result<Node, Fail> 
         parent: Some(1),
         name: Some(file_name(alloc, name)?),
         kind,
-        owner: principal(alloc, "ann")?,
-        group: principal(alloc, "eng")?,
+        owner: named(alloc, "ann")?,
+        group: named(alloc, "eng")?,
         aclflag: ListFlags::new(1).ok_or("list flags")?,
     })
 }
@@ -122,7 +119,7 @@ fn entry() -> Result<Entry, Fail> {
 fn session_row(alloc: Global) -> Result<SessionRow, Fail> {
     Ok(SessionRow {
         sid: session_name(alloc)?,
-        owner: principal(alloc, "ann")?,
+        owner: named(alloc, "ann")?,
         slots: SlotCount::new(2).ok_or("2 slots")?,
         is_open: true,
     })
@@ -177,7 +174,7 @@ fn read_back<S: Shelf>(
 #[test]
 fn rows_are_read_back(rt: HostRuntime) -> Result<(), Fail> {
     let alloc = rt.alloc();
-    let mut shelf = MemShelf::fresh(alloc, principal(alloc, "ann")?, principal(alloc, "eng")?)?;
+    let mut shelf = MemShelf::fresh(alloc, named(alloc, "ann")?, named(alloc, "eng")?)?;
     let name = file_name(alloc, "a")?;
     let sid = session_name(alloc)?;
     assert!(rt; read_back(&mut shelf, &name, &sid)? == (0, 0, 0, 0, 2));
@@ -206,7 +203,7 @@ fn each_call_trips_in_turn(rt: HostRuntime) -> Result<(), Fail> {
     let sid = session_name(alloc)?;
     let changes = one_of_each(alloc)?;
     for k in 1..12u64 {
-        let fresh = MemShelf::fresh(alloc, principal(alloc, "ann")?, principal(alloc, "eng")?)?;
+        let fresh = MemShelf::fresh(alloc, named(alloc, "ann")?, named(alloc, "eng")?)?;
         let mut shelf = TripShelf::new(fresh, k);
         let committed = shelf.commit(changes.as_slice());
         assert_eq!(rt; committed.is_err(), k == 1);
@@ -227,7 +224,7 @@ fn each_growth_of_a_commit_refused_in_turn(rt: HostRuntime) -> Result<(), Fail> 
     let name = file_name(alloc, "a")?;
     let sid = session_name(alloc)?;
     let changes = one_of_each(alloc)?;
-    let mut shelf = MemShelf::fresh(alloc, principal(alloc, "ann")?, principal(alloc, "eng")?)?;
+    let mut shelf = MemShelf::fresh(alloc, named(alloc, "ann")?, named(alloc, "eng")?)?;
     if shelf.commit(changes.as_slice()).is_err() {
         assert!(rt; read_back(&mut shelf, &name, &sid)? == (0, 0, 0, 0, 2));
         shelf.commit(changes.as_slice())?;

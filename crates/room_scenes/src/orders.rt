@@ -38,11 +38,13 @@ pub enum Ask<'a> {
     Run(&'a str, u32, u32, Order<'a>),
 }
 
+/// The principal of this name.
 pub fn named(alloc: Global, text: &str) -> Result<Principal, Fail> {
     Ok(Principal::new(alloc, text)?.ok_or("no principal")?)
 }
 
-fn at(alloc: Global, text: &str) -> Result<Path, Fail> {
+/// The path of this text.
+pub fn path_of(alloc: Global, text: &str) -> Result<Path, Fail> {
     Ok(Path::read(alloc, text)?.ok_or("no path")?)
 }
 
@@ -73,7 +75,7 @@ fn set_list(alloc: Global, path: &str, aclflag: u8, list: &[Listed]) -> Result<C
     Ok(Command::SetList {
         aclflag: ListFlags::new(aclflag).ok_or("no list flags")?,
         entries: entries(alloc, list)?,
-        path: at(alloc, path)?,
+        path: path_of(alloc, path)?,
     })
 }
 
@@ -81,21 +83,21 @@ fn chown(alloc: Global, path: &str, owner: &str, group: &str) -> Result<Command,
     Ok(Command::Chown {
         group: named(alloc, group)?,
         owner: named(alloc, owner)?,
-        path: at(alloc, path)?,
+        path: path_of(alloc, path)?,
     })
 }
 
 fn access(alloc: Global, path: &str, mask: u32) -> Result<Command, Fail> {
     Ok(Command::Access {
         mask: Mask::new(mask).ok_or("no mask")?,
-        path: at(alloc, path)?,
+        path: path_of(alloc, path)?,
     })
 }
 
 fn rename(alloc: Global, path: &str, to: &str) -> Result<Command, Fail> {
     Ok(Command::Rename {
-        path: at(alloc, path)?,
-        to: at(alloc, to)?,
+        path: path_of(alloc, path)?,
+        to: path_of(alloc, to)?,
     })
 }
 
@@ -122,6 +124,7 @@ fn with_bytes(path: Path, bytes: Vec<u8>, order: &Order) -> Result<Command, Fail
     }
 }
 
+/// The command that an order gives.
 pub fn command(alloc: Global, order: &Order) -> Result<Command, Fail> {
     match order {
         Order::Stat(path)
@@ -129,9 +132,9 @@ pub fn command(alloc: Global, order: &Order) -> Result<Command, Fail> {
         | Order::Mkdir(path)
         | Order::Read(path)
         | Order::Remove(path)
-        | Order::GetList(path) => on_path(at(alloc, path)?, order),
+        | Order::GetList(path) => on_path(path_of(alloc, path)?, order),
         Order::Create(path, bytes) | Order::Write(path, bytes) | Order::Append(path, bytes) => {
-            with_bytes(at(alloc, path)?, bytes.to_vec(alloc)?, order)
+            with_bytes(path_of(alloc, path)?, bytes.to_vec(alloc)?, order)
         }
         Order::Rename(path, to) => rename(alloc, path, to),
         Order::SetList(path, aclflag, list) => set_list(alloc, path, *aclflag, list),
@@ -153,10 +156,12 @@ pub fn subject(alloc: Global, name: &str) -> Result<Subject, Fail> {
     Ok(Subject { name, groups })
 }
 
+/// The session's name of this text.
 pub fn session_name(alloc: Global, text: &str) -> Result<Sid, Fail> {
     Ok(Sid::new(alloc, text)?.ok_or("no session name")?)
 }
 
+/// The event of what a caller asks.
 pub fn event(alloc: Global, caller: &str, ask: &Ask) -> Result<Event, Fail> {
     let subject = subject(alloc, caller)?;
     match ask {

@@ -1,6 +1,7 @@
-//! A reader that gives one byte a call.
+//! A slow reader.
 use std::io::{Read, Result};
 
+/// Gives one byte a call.
 #[derive(Drop)]
 pub struct Dripping<'a> {
     rest: &'a [u8],
