@@ -2,7 +2,7 @@
 # Only `make test` is a verdict.
 RT ?= rt
 
-.PHONY: demo build test growth wire tables crash bench
+.PHONY: demo build test wrong growth wire tables crash bench
 
 # Answers the questions of examples/, and walks through a served room with curl: with build/fileroom where `make build`
 # made it, and else with the toolchain's quick build, which proves nothing.
@@ -22,6 +22,10 @@ build:
 test:
 	RT='$(RT)' FILEROOM=examples/quick examples/walk
 	RT_JOBS=$$(nproc) $(RT) ci
+
+# Tries more wrong bodies than the gate does: the prover must refuse each.
+wrong:
+	@RT='$(RT)' tests/wrong/run
 
 # Refuses each growth of memory in turn, over questions and over a room.
 growth: build

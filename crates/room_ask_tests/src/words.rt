@@ -1,5 +1,5 @@
 //! The command line.
-use room_words::{Job, ReportKind, WordsFault, read_words};
+use room_words::read_words;
 use std::alloc::{AllocError, Global};
 use std::test::Fail;
 
@@ -11,59 +11,43 @@ fn words_of(alloc: Global, texts: &[&str]) -> Result<Vec<String>, AllocError> {
     Ok(words)
 }
 
+/// What words are read as, as it is shown.
+fn read_as(alloc: Global, texts: &[&str]) -> Result<String, Fail> {
+    let words = words_of(alloc, texts)?;
+    let read = read_words(alloc, words.as_slice());
+    Ok(format!(in alloc; "{read:?}")?)
+}
+
 #[test]
 fn rows_of_the_table(rt: HostRuntime) -> Result<(), Fail> {
     let alloc = rt.alloc();
-    let words = words_of(alloc, &["init", "room.db", "ann", "eng"])?;
-    match read_words(alloc, words.as_slice()) {
-        Ok(Job::Init { db, owner, group }) => {
-            assert_eq!(rt; db.as_str(), "room.db");
-            assert_eq!(rt; owner.as_str(), "ann");
-            assert_eq!(rt; group.as_str(), "eng");
-        }
-        other => assert!(rt; false, "{other:?}"),
+    for (texts, wanted) in [
+        (
+            ["init", "room.db", "ann", "eng"].as_slice(),
+            "Ok(Init { db: \"room.db\", owner: \"ann\", group: \"eng\" })",
+        ),
+        (
+            ["replay", "roster.toml", "--", "-ann", "eng"].as_slice(),
+            "Ok(Replay { roster: \"roster.toml\", owner: \"-ann\", group: \"eng\" })",
+        ),
+        (
+            ["serve", "a", "b", "65535", "4294967295"].as_slice(),
+            "Ok(Serve { db: \"a\", roster: \"b\", port: 65535, count: 4294967295 })",
+        ),
+        (
+            ["report", "a", "b", "access"].as_slice(),
+            "Ok(Report { db: \"a\", roster: \"b\", kind: Access })",
+        ),
+        (
+            ["report", "a", "b", "lists"].as_slice(),
+            "Ok(Report { db: \"a\", roster: \"b\", kind: Lists })",
+        ),
+        (["selftest"].as_slice(), "Ok(Selftest)"),
+        (["check"].as_slice(), "Ok(Check)"),
+    ] {
+        let read = read_as(alloc, texts)?;
+        assert_eq!(rt; read.as_str(), wanted);
     }
-    let words = words_of(alloc, &["replay", "roster.toml", "--", "-ann", "eng"])?;
-    match read_words(alloc, words.as_slice()) {
-        Ok(
-            Job::Replay {
-                roster,
-                owner,
-                group,
-            },
-        ) => {
-            assert_eq!(rt; roster.as_str(), "roster.toml");
-            assert_eq!(rt; owner.as_str(), "-ann");
-            assert_eq!(rt; group.as_str(), "eng");
-        }
-        other => assert!(rt; false, "{other:?}"),
-    }
-    let words = words_of(alloc, &["serve", "a", "b", "65535", "4294967295"])?;
-    match read_words(alloc, words.as_slice()) {
-        Ok(
-            Job::Serve {
-                db,
-                roster,
-                port,
-                count,
-            },
-        ) => {
-            assert_eq!(rt; db.as_str(), "a");
-            assert_eq!(rt; roster.as_str(), "b");
-            assert_eq!(rt; port, 65535);
-            assert_eq!(rt; count, 4294967295);
-        }
-        other => assert!(rt; false, "{other:?}"),
-    }
-    for (word, want) in [("access", ReportKind::Access), ("lists", ReportKind::Lists)] {
-        let words = words_of(alloc, &["report", "a", "b", word])?;
-        match read_words(alloc, words.as_slice()) {
-            Ok(Job::Report { kind, .. }) => assert_eq!(rt; kind, want),
-            other => assert!(rt; false, "{other:?}"),
-        }
-    }
-    let words = words_of(alloc, &["selftest"])?;
-    assert!(rt; matches!(read_words(alloc, words.as_slice()), Ok(Job::Selftest)));
     Ok(())
 }
 
@@ -87,14 +71,8 @@ fn no_rows_of_the_table(rt: HostRuntime) -> Result<(), Fail> {
         ["report", "a", "b"].as_slice(),
         ["selftest", "more"].as_slice(),
     ] {
-        let words = words_of(alloc, texts)?;
-        assert!(rt;
-            matches!(
-                read_words(alloc, words.as_slice()),
-                Err(WordsFault::Usage(_))
-            ),
-            "{texts:?}"
-        );
+        let read = read_as(alloc, texts)?;
+        assert!(rt; read.as_str().starts_with("Err(Usage("), "{texts:?}");
     }
     Ok(())
 }

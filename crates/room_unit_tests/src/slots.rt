@@ -6,6 +6,10 @@ use std::test::Fail;
 // Pieces as they arrive: the second is a retry, the third a false retry, the fourth misordered.
 const FIVE: [(u32, &[u8]); 5] = [(1, b"a"), (1, b"a"), (1, b"b"), (3, b"b"), (2, b"b")];
 
+fn verdict(kept: Option<&Kept>, seq: u32, request: &[u8]) -> Verdict {
+    classify(kept, seq, request)
+}
+
 #[test]
 fn wrapped_number(rt: HostRuntime) -> Result<(), Fail> {
     let kept = Kept {
@@ -13,16 +17,21 @@ fn wrapped_number(rt: HostRuntime) -> Result<(), Fail> {
         request: b"a".to_vec(rt.alloc())?,
         reply: Vec::new(rt.alloc()),
     };
-    assert_eq!(rt; classify(Some(&kept), 0, b"a"), Verdict::New);
-    assert_eq!(rt; classify(Some(&kept), 4294967295, b"a"), Verdict::Repeat);
-    assert_eq!(rt;
-        classify(Some(&kept), 4294967295, b"c"),
-        Verdict::FalseRetry
-    );
-    assert_eq!(rt; classify(Some(&kept), 1, b"a"), Verdict::Misordered);
-    assert_eq!(rt; classify(None, 1, b"a"), Verdict::New);
-    assert_eq!(rt; classify(None, 0, b"a"), Verdict::Misordered);
+    for (seq, request, wanted) in [
+        (0, b"a", Verdict::New),
+        (4294967295, b"a", Verdict::Repeat),
+        (4294967295, b"c", Verdict::FalseRetry),
+        (1, b"a", Verdict::Misordered),
+    ] {
+        assert_eq!(rt; verdict(Some(&kept), seq, request.as_slice()), wanted);
+    }
     Ok(())
+}
+
+#[test]
+fn first_number(rt: HostRuntime) {
+    assert_eq!(rt; verdict(None, 1, b"a"), Verdict::New);
+    assert_eq!(rt; verdict(None, 0, b"a"), Verdict::Misordered);
 }
 
 #[test]
@@ -39,18 +48,25 @@ fn copy_of_what_is_kept(rt: HostRuntime) -> Result<(), Fail> {
     Ok(())
 }
 
+const ANSWERS: [&str; 5] = ["a", "a", "false retry", "misordered", "ab"];
+
+/// Whether a piece gets this reply, or is refused as this.
+fn is_answered(trial: &mut Trial, seq: u32, piece: &[u8], wanted: &str) -> Result<bool, Fail> {
+    match trial.append(seq, piece)? {
+        TrialAnswer::Reply(reply) => Ok(reply.as_slice() == wanted.as_bytes()),
+        TrialAnswer::FalseRetry => Ok(wanted == "false retry"),
+        TrialAnswer::Misordered => Ok(wanted == "misordered"),
+    }
+}
+
 #[test]
 fn five_pieces_append_two(rt: HostRuntime) -> Result<(), Fail> {
     let mut trial = Trial::fresh(rt.alloc());
-    let answers = [
-        TrialAnswer::Reply(b"a".to_vec(rt.alloc())?),
-        TrialAnswer::Reply(b"a".to_vec(rt.alloc())?),
-        TrialAnswer::FalseRetry,
-        TrialAnswer::Misordered,
-        TrialAnswer::Reply(b"ab".to_vec(rt.alloc())?),
-    ];
-    for ((seq, bytes), want) in FIVE.iter().zip(&answers) {
-        assert_eq!(rt; &trial.append(*seq, bytes)?, want, "number {seq}");
+    for ((seq, bytes), wanted) in FIVE.iter().zip(ANSWERS) {
+        assert!(rt;
+            is_answered(&mut trial, *seq, bytes, wanted)?,
+            "number {seq}"
+        );
     }
     assert_eq!(rt; trial.doc.as_slice(), b"ab".as_slice());
     Ok(())
