@@ -13,7 +13,7 @@ use Rattle.room_records.specs.Rules.{SlotRules}
 use Rattle.room_records.specs.declared.change.Change.TheVariants.{PutSlot}
 use Rattle.room_records.specs.Changes.{apply_change}
 use Rattle.room_records.specs.Room.{Room}
-use Rattle.room_tree.specs.Effect.{effect}
+use Rattle.room_commands.specs.Effect.{effect}
 use Rattle.room_records.specs.Representation.{RepresentsRoom}
 use Rattle.room_wire.specs.EventModel.{Request, Slot}
 use Rattle.room_wire.specs.Texts.{command_text}

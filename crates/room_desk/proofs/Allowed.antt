@@ -1,12 +1,12 @@
 -- A request that is accepted and not refused had every right.
 use Rattle.std.proofs.Common.{◌≡◌, refl, Option, None, Some}
 use Rattle.room_acl.specs.SubjectModel.{SubjectModel}
-use Rattle.room_tree.specs.CommandModel.{CommandModel}
+use Rattle.room_commands.specs.CommandModel.{CommandModel}
 use Rattle.room_records.specs.Room.{Room}
-use Rattle.room_tree.specs.ReplyModel.{Refusal, IsRefused}
-use Rattle.room_tree.specs.Checks.{first_refusal, checks}
-use Rattle.room_tree.specs.Effect.{effect_by}
-use Rattle.room_tree.proofs.Rights.{rights_of_success}
+use Rattle.room_commands.specs.ReplyModel.{Refusal, IsRefused}
+use Rattle.room_commands.specs.Checks.{first_refusal, checks}
+use Rattle.room_commands.specs.Effect.{effect_by}
+use Rattle.room_commands.proofs.Rights.{rights_of_success}
 use Rattle.room_wire.specs.EventModel.{EventModel, Open, Close, Slot}
 use Rattle.room_desk.specs.History.{History, state_after}
 use Rattle.room_desk.specs.Representation.{WasAllowed}

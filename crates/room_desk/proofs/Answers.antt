@@ -10,7 +10,7 @@ use Rattle.room_records.specs.Rules.{RulesHold}
 use Rattle.room_records.specs.declared.change.Change.TheVariants.{PutSession, DropSlots}
 use Rattle.room_records.specs.Changes.{apply_change}
 use Rattle.room_records.specs.Room.{Room}
-use Rattle.room_tree.specs.ReplyModel.{Done, Opened}
+use Rattle.room_commands.specs.ReplyModel.{Done, Opened}
 use Rattle.room_wire.specs.Texts.{reply_text}
 use Rattle.room_wire.specs.declared.code.Code.TheVariants.{BadSession}
 use Rattle.room_wire.specs.EventModel.{EventModel, Open, Close}

@@ -10,7 +10,7 @@ use Rattle.room_records.specs.declared.change.Change.TheVariants.{PutSession, Dr
 use Rattle.room_records.specs.declared.session.SessionRow.{SessionRow}
 use Rattle.room_records.specs.declared.shelf.ShelfFault.{ShelfFault}
 use Rattle.room_records.specs.Room.{Room}
-use Rattle.room_tree.specs.ReplyModel.{Done}
+use Rattle.room_commands.specs.ReplyModel.{Done}
 use Rattle.room_wire.specs.Texts.{reply_text}
 use Rattle.room_wire.specs.EventModel.{Close}
 use Rattle.room_wire.specs.declared.answer.Answer.{Answer}

@@ -6,7 +6,7 @@ use Rattle.std.specs.Str.{bytes_eq}
 use Rattle.std.proofs.lemmas.Bool.{and_parts, and_right, eqb-true, eq-eqb, ne_eqb}
 use Rattle.room_slots.specs.Slots.{next_number}
 use Rattle.room_records.specs.Room.{Room}
-use Rattle.room_tree.specs.ReplyModel.{Opened}
+use Rattle.room_commands.specs.ReplyModel.{Opened}
 use Rattle.room_wire.specs.declared.code.Code.TheVariants.{BadSession, BadSlot, SeqMisordered, SeqFalseRetry, SessionTaken}
 use Rattle.room_wire.specs.EventModel.{EventModel, Request, Open, Close, Slot}
 use Rattle.room_wire.specs.Texts.{command_text, reply_text}

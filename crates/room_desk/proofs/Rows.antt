@@ -4,8 +4,8 @@ use Rattle.std.specs.Prelude.{codes}
 use Rattle.serde_json.proofs.OnLiterals.{serde_json_on_literals}
 use Rattle.std.specs.Fmt.{digits}
 use Rattle.room_acl.specs.SubjectModel.{SubjectModel}
-use Rattle.room_tree.specs.CommandModel as C
-use Rattle.room_tree.specs.CommandModel.{CommandModel}
+use Rattle.room_commands.specs.CommandModel as C
+use Rattle.room_commands.specs.CommandModel.{CommandModel}
 use Rattle.room_records.specs.Room.{Room, fresh_room}
 use Rattle.room_wire.specs.declared.code.Code.TheVariants.{BadSession, BadSlot, SeqMisordered, SeqFalseRetry, SessionTaken}
 use Rattle.room_wire.specs.EventModel.{EventModel, Open, Close, Slot}

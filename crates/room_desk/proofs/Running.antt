@@ -16,9 +16,9 @@ use Rattle.room_records.specs.Changes.{apply_change, apply_changes, apply_to_ses
 use Rattle.room_acl.specs.SubjectModel.{SubjectModel}
 use Rattle.room_records.specs.Room.{Room}
 use Rattle.room_records.specs.Representation.{RepresentsRoom}
-use Rattle.room_tree.specs.CommandModel.{CommandModel}
-use Rattle.room_tree.specs.ReplyModel.{reply_model}
-use Rattle.room_tree.specs.Effect.{effect}
+use Rattle.room_commands.specs.CommandModel.{CommandModel}
+use Rattle.room_commands.specs.ReplyModel.{reply_model}
+use Rattle.room_commands.specs.Effect.{effect}
 use Rattle.room_tree.specs.Plans.{PlansEffect}
 use Rattle.room_tree.specs.declared.planning.Outcome.{Outcome}
 use Rattle.room_wire.specs.Texts.{command_text, reply_text}

@@ -14,7 +14,7 @@ use Rattle.room_records.specs.Room.{Room}
 use Rattle.room_wire.specs.EventModel.{Request, Slot}
 use Rattle.room_wire.specs.Texts.{command_text, reply_text}
 use Rattle.room_wire.specs.declared.code.Code.TheVariants.{BadSession, BadSlot}
-use Rattle.room_tree.specs.Effect.{effect}
+use Rattle.room_commands.specs.Effect.{effect}
 use Rattle.room_desk.specs.AnswerModel.{AnswerModel, Reply, Refused}
 use Rattle.room_desk.specs.History.{History, Session, session_of, is_open_for, slots_of, accepted, Accepted, accepts, is_accepted, answer_to, answer_unaccepted, state_after, original_reply, replay}
 use Rattle.room_desk.specs.Representation.{RepresentsHistory, is_open_session, slot_row_of, kept_after}

@@ -7,9 +7,9 @@ use Rattle.std.specs.Str.{bytes_eq}
 use Rattle.room_acl.specs.SubjectModel.{SubjectModel}
 use Rattle.room_slots.specs.Slots.{next_number}
 use Rattle.room_records.specs.Room.{Room}
-use Rattle.room_tree.specs.ReplyModel.{Done, Opened}
-use Rattle.room_tree.specs.Lawful.{IsLawful}
-use Rattle.room_tree.specs.Effect.{effect}
+use Rattle.room_commands.specs.ReplyModel.{Done, Opened}
+use Rattle.room_commands.specs.Lawful.{IsLawful}
+use Rattle.room_commands.specs.Effect.{effect}
 use Rattle.room_wire.specs.declared.code.Code.TheVariants.{BadSession, BadSlot, SeqMisordered, SeqFalseRetry, SessionTaken}
 use Rattle.room_wire.specs.EventModel.{EventModel, Request, Open, Close, Slot}
 use Rattle.room_wire.specs.Texts.{command_text, reply_text}

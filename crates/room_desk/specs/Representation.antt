@@ -7,9 +7,9 @@ use Rattle.room_records.specs.Records.{Records}
 use Rattle.room_records.specs.Rules.{SlotRules}
 use Rattle.room_records.specs.Room.{Room}
 use Rattle.room_records.specs.Representation.{RepresentsRoom}
-use Rattle.room_tree.specs.ReplyModel.{IsRefused}
-use Rattle.room_tree.specs.Effect.{effect}
-use Rattle.room_tree.specs.Needs.{NeedsAllowed}
+use Rattle.room_commands.specs.ReplyModel.{IsRefused}
+use Rattle.room_commands.specs.Effect.{effect}
+use Rattle.room_commands.specs.Needs.{NeedsAllowed}
 use Rattle.room_wire.specs.declared.code.Code.TheVariants.{Delay}
 use Rattle.room_wire.specs.EventModel.{EventModel, Open, Close, Slot}
 use Rattle.room_wire.specs.Texts.{command_text}

@@ -13,9 +13,9 @@ use Rattle.room_records.specs.Rules.{SlotRules}
 use Rattle.room_records.specs.Changes.{apply_change}
 use Rattle.room_records.specs.Room.{Room}
 use Rattle.room_records.specs.Representation.{RepresentsRoom}
-use Rattle.room_tree.specs.CommandModel.{CommandModel}
-use Rattle.room_tree.specs.Effect.{effect}
-use Rattle.room_tree.specs.ReplyModel.{Done, Opened}
+use Rattle.room_commands.specs.CommandModel.{CommandModel}
+use Rattle.room_commands.specs.Effect.{effect}
+use Rattle.room_commands.specs.ReplyModel.{Done, Opened}
 use Rattle.room_wire.specs.declared.code.Code.TheVariants.{BadSession, SeqMisordered, SeqFalseRetry, SessionTaken}
 use Rattle.room_wire.specs.Texts.{command_text, reply_text}
 use Rattle.room_desk.specs.AnswerModel.{AnswerModel, Reply, Refused}

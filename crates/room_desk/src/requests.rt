@@ -8,7 +8,7 @@ ghost use Rattle.room_records.specs.Changes.{apply_changes, RulesHoldAfterEach};
 ghost use Rattle.room_records.specs.Room.{Room};
 ghost use Rattle.room_records.specs.Representation.{RepresentsRoom};
 ghost use Rattle.room_records.specs.Shelf.{FailureCounted};
-ghost use Rattle.room_tree.specs.CommandModel.{command_model};
+ghost use Rattle.room_commands.specs.CommandModel.{command_model};
 ghost use Rattle.room_wire.specs.EventModel.{Slot};
 ghost use Rattle.room_wire.specs.Texts.{command_text};
 ghost use Rattle.room_desk.specs.AnswerModel.{answer_model, IsTurnedAway};
@@ -18,9 +18,10 @@ ghost use Rattle.room_desk.specs.Rows.{HasSlot, Ran, answer_kept};
 
 use crate::sessions::is_usable;
 use room_acl::Subject;
+use room_commands::Command;
 use room_records::{Change, Shelf, ShelfFault, Sid, SlotRow};
 use room_slots::{Kept, Verdict, classify};
-use room_tree::{Command, plan};
+use room_tree::plan;
 use room_wire::{Answer, Code, command_text, reply_text};
 use std::alloc::{AllocError, Global};
 

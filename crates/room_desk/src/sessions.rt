@@ -7,7 +7,7 @@ ghost use Rattle.room_records.specs.declared.change.Change.TheVariants.{PutSessi
 ghost use Rattle.room_records.specs.Changes.{apply_change};
 ghost use Rattle.room_records.specs.Room.{Room};
 ghost use Rattle.room_records.specs.Shelf.{FailureCounted};
-ghost use Rattle.room_tree.specs.ReplyModel.{Done, Opened};
+ghost use Rattle.room_commands.specs.ReplyModel.{Done, Opened};
 ghost use Rattle.room_wire.specs.Texts.{reply_text};
 ghost use Rattle.room_wire.specs.EventModel.{Open, Close};
 ghost use Rattle.room_desk.specs.AnswerModel.{answer_model, IsTurnedAway};
@@ -17,8 +17,8 @@ ghost use Rattle.room_desk.specs.Representation.{RepresentsHistory};
 ghost use Rattle.room_desk.specs.Rows.{answer_open_again, is_usable};
 
 use room_acl::Subject;
+use room_commands::Reply;
 use room_records::{Change, SessionRow, Shelf, ShelfFault, Sid, SlotCount};
-use room_tree::Reply;
 use room_wire::{Answer, Code, reply_text};
 use std::alloc::{AllocError, Global};
 

@@ -2,7 +2,7 @@
 use Rattle.std.proofs.Common.{◌≡◌, ℕ, ◌+◌, ◌%◌, ◌^◌, refl, ap, sym, ◌∙◌, Bool, true, false, List, [], ◌∷◌, length, Option, None, Some, add-one}
 use Rattle.std.specs.Prelude.{◌==◌, cond}
 use Rattle.room_records.specs.Room.{Room}
-use Rattle.room_tree.specs.CommandModel.{CommandModel}
+use Rattle.room_commands.specs.CommandModel.{CommandModel}
 use Rattle.room_wire.specs.declared.code.Code.TheVariants.{SeqMisordered}
 use Rattle.room_wire.specs.EventModel.{EventModel, Request, Open, Close, Slot}
 use Rattle.room_desk.specs.AnswerModel.{AnswerModel, Refused}

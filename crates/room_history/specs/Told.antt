@@ -6,8 +6,8 @@ use Rattle.room_acl.specs.SubjectModel.{SubjectModel}
 use Rattle.room_slots.specs.Slots.{next_number}
 use Rattle.room_records.specs.declared.session.SessionRow.{SessionRow}
 use Rattle.room_records.specs.Room.{Room}
-use Rattle.room_tree.specs.CommandModel.{CommandModel}
-use Rattle.room_tree.specs.ReplyModel.{Done, Opened}
+use Rattle.room_commands.specs.CommandModel.{CommandModel}
+use Rattle.room_commands.specs.ReplyModel.{Done, Opened}
 use Rattle.room_wire.specs.declared.code.Code.TheVariants.{BadSession, SeqMisordered, SeqFalseRetry, SessionTaken}
 use Rattle.room_wire.specs.EventModel.{EventModel, Open, Close, Slot}
 use Rattle.room_wire.specs.Texts.{command_text, reply_text}

@@ -2,8 +2,8 @@
 ghost use Rattle.std.specs.Prelude.{◌≡◌, IfOk, map};
 ghost use Rattle.std.specs.Str.{bytes_eq};
 ghost use Rattle.room_acl.specs.SubjectModel.{SubjectModel};
-ghost use Rattle.room_tree.specs.CommandModel.{command_model};
-ghost use Rattle.room_tree.specs.Effect.{effect};
+ghost use Rattle.room_commands.specs.CommandModel.{command_model};
+ghost use Rattle.room_commands.specs.Effect.{effect};
 ghost use Rattle.room_wire.specs.EventModel.{event_model, Slot};
 ghost use Rattle.room_wire.specs.Texts.{command_text, reply_text};
 ghost use Rattle.room_desk.specs.AnswerModel.{answer_model};
@@ -14,10 +14,10 @@ use crate::accepted::{count_accepted, is_accepted, last_accepted};
 use crate::sessions::{Told, is_open_for, session_of, slots_of};
 use crate::state::state_after;
 use room_acl::Subject;
+use room_commands::{Command, Reply};
 use room_desk::Answer;
 use room_model::PlainRoom;
 use room_records::{Sid, SlotCount};
-use room_tree::{Command, Reply};
 use room_wire::{Code, Event, command_text, reply_text};
 use std::alloc::{AllocError, Global};
 

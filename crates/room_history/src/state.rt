@@ -1,14 +1,14 @@
 //! The room after a history.
 ghost use Rattle.std.specs.Prelude.{◌≡◌, IfOk, map};
-ghost use Rattle.room_tree.specs.CommandModel.{command_model};
-ghost use Rattle.room_tree.specs.Effect.{effect};
+ghost use Rattle.room_commands.specs.CommandModel.{command_model};
+ghost use Rattle.room_commands.specs.Effect.{effect};
 ghost use Rattle.room_wire.specs.EventModel.{event_model};
 ghost use Rattle.room_desk.specs.History.{state_after};
 
 use crate::accepted::is_accepted;
 use room_acl::Subject;
+use room_commands::Command;
 use room_model::PlainRoom;
-use room_tree::Command;
 use room_wire::Event;
 use std::alloc::{AllocError, Global};
 

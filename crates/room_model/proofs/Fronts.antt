@@ -2,8 +2,8 @@
 use Rattle.std.proofs.Common.{◌≡◌, ℕ, zero, suc, ◌+◌, ◌<◌, ◌≤◌, refl, ap, sym, ◌∙◌, arith, List, [], ◌∷◌, ◌++◌, map, take, length, get_or, Option}
 use Rattle.std.proofs.lemmas.List.{map_more, take_all, length-map}
 use Rattle.room_records.specs.Names.{Name, Path}
-use Rattle.room_tree.specs.ReplyModel.{Refusal}
-use Rattle.room_tree.specs.Checks.{proper_prefixes}
+use Rattle.room_commands.specs.ReplyModel.{Refusal}
+use Rattle.room_commands.specs.Checks.{proper_prefixes}
 
 get_longer : (name : Name) (fronts : List Path) (k : ℕ) → k < length fronts → get_or (map (λ (front : Path). name ∷ front) fronts) k [] ≡ name ∷ get_or fronts k []
 get_longer name [] k below = absurd (omega arith)

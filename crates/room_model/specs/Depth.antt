@@ -4,7 +4,7 @@ use Rattle.std.specs.List.{list_any}
 use Rattle.room_records.specs.Limits.{max_names}
 use Rattle.room_records.specs.Names.{Path}
 use Rattle.room_records.specs.Room.{Object}
-use Rattle.room_tree.specs.Checks.{is_at_or_below}
+use Rattle.room_commands.specs.Checks.{is_at_or_below}
 
 -- an object of the moved subtree would have more than 16 names
 abbrev pub any_too_deep : Path → Path → List (Path × Object) → Bool

@@ -2,9 +2,9 @@
 use Rattle.std.specs.Prelude.{◌≡◌}
 use Rattle.room_acl.specs.SubjectModel.{SubjectModel}
 use Rattle.room_records.specs.Room.{Room}
-use Rattle.room_tree.specs.CommandModel.{CommandModel}
-use Rattle.room_tree.specs.ReplyModel.{reply_model}
-use Rattle.room_tree.specs.Effect.{effect}
+use Rattle.room_commands.specs.CommandModel.{CommandModel}
+use Rattle.room_commands.specs.ReplyModel.{reply_model}
+use Rattle.room_commands.specs.Effect.{effect}
 use Rattle.room_model.specs.declared.effect.Outcome.{Outcome}
 
 -- the room and the reply are those of the definition

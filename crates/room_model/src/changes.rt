@@ -3,18 +3,18 @@ ghost use Rattle.std.specs.Prelude.{◌≡◌, ◌+◌, ◌<◌, ℕ, IfOk, IsSo
 ghost use Rattle.room_records.specs.Limits.{max_objects};
 ghost use Rattle.room_records.specs.Room.{object_at, parent_of, list_of, children, standing_of};
 ghost use Rattle.room_acl.specs.Access.{allowed_mask};
-ghost use Rattle.room_tree.specs.CommandModel.{command_model};
-ghost use Rattle.room_tree.specs.ReplyModel.{reply_model, Stat, Names, Size, Bytes, Entries, Allowed};
-ghost use Rattle.room_tree.specs.Checks.{checks, first_refusal, bytes_at};
-ghost use Rattle.room_tree.specs.Effect.{with_new, new_object, changed, reply, size_of, attributes_of, object_or_default};
+ghost use Rattle.room_commands.specs.CommandModel.{command_model};
+ghost use Rattle.room_commands.specs.ReplyModel.{reply_model, Stat, Names, Size, Bytes, Entries, Allowed};
+ghost use Rattle.room_commands.specs.Checks.{checks, first_refusal, bytes_at};
+ghost use Rattle.room_commands.specs.Effect.{with_new, new_object, changed, reply, size_of, attributes_of, object_or_default};
 
 use crate::names::parent_of;
 use crate::object::{Edit, PlainObject, copy_entries};
 use crate::room::PlainRoom;
 use crate::setlist::own_entries_of_setlist;
 use room_acl::{Kind, ListFlags, Mask, Standing, Subject, allowed_bits};
+use room_commands::{Command, Reply};
 use room_records::FileName;
-use room_tree::{Command, Reply};
 use std::alloc::{AllocError, Global};
 
 impl PlainRoom {

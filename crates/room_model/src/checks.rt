@@ -7,15 +7,15 @@ ghost use Rattle.room_records.specs.Limits.{max_names};
 ghost use Rattle.room_records.specs.Names.{IsPath};
 ghost use Rattle.room_records.specs.Room.{object_at};
 ghost use Rattle.room_model.specs.Depth.{any_too_deep};
-ghost use Rattle.room_tree.specs.Checks.{check_right, check_exists, check_absent, check_folder, check_file, walk, prefix_fault, check_folder_full, check_room_full, check_size, bytes_at, check_removal, right_to_add, check_depth, check_lawful, is_kind, kind_of};
+ghost use Rattle.room_commands.specs.Checks.{check_right, check_exists, check_absent, check_folder, check_file, walk, prefix_fault, check_folder_full, check_room_full, check_size, bytes_at, check_removal, right_to_add, check_depth, check_lawful, is_kind, kind_of};
 
 use crate::names::{is_at_or_below, parent_of, path_of};
 use crate::refusal::{Refusal, first_refusal, refuse_if};
 use crate::rights::{ADD_FILE, ADD_SUBDIRECTORY, DELETE, DELETE_CHILD, EXECUTE};
 use crate::room::PlainRoom;
 use room_acl::{Decision, Entry, Kind, ListFault, Mask, Subject, check_own, decide};
+use room_commands::Fault;
 use room_records::FileName;
-use room_tree::Fault;
 use std::alloc::{AllocError, Global};
 
 /// The most bytes of a document.

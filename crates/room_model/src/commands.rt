@@ -2,9 +2,9 @@
 ghost use Rattle.std.specs.Prelude.{◌≡◌, [], None, IfOk, if◌then◌else◌};
 ghost use Rattle.room_records.specs.Names.{path_eq};
 ghost use Rattle.room_records.specs.Room.{parent_of};
-ghost use Rattle.room_tree.specs.CommandModel.{command_model};
-ghost use Rattle.room_tree.specs.CommandModel as C;
-ghost use Rattle.room_tree.specs.Checks.{checks, check_folder_full, is_root};
+ghost use Rattle.room_commands.specs.CommandModel.{command_model};
+ghost use Rattle.room_commands.specs.CommandModel as C;
+ghost use Rattle.room_commands.specs.Checks.{checks, check_folder_full, is_root};
 
 use crate::checks::{check_size, check_sizes};
 use crate::names::{is_at_or_below, is_same, parent_of};
@@ -16,8 +16,8 @@ use crate::rights::{
 use crate::room::PlainRoom;
 use crate::setlist::own_entries_of_setlist;
 use room_acl::{Entry, ListFlags, Subject};
+use room_commands::{Command, Fault};
 use room_records::{FileName, Path};
-use room_tree::{Command, Fault};
 use std::alloc::{AllocError, Global};
 
 /// Checks with what each came to.

@@ -1,13 +1,13 @@
 //! The effect of a command.
 ghost use Rattle.std.specs.Prelude.{◌≡◌, IfOk};
-ghost use Rattle.room_tree.specs.CommandModel.{command_model};
-ghost use Rattle.room_tree.specs.ReplyModel.{reply_model, Refused};
+ghost use Rattle.room_commands.specs.CommandModel.{command_model};
+ghost use Rattle.room_commands.specs.ReplyModel.{reply_model, Refused};
 ghost use Rattle.room_model.specs.Outcomes.{IsEffect};
 
 use crate::refusal::{Refusal, first_refusal};
 use crate::room::PlainRoom;
 use room_acl::Subject;
-use room_tree::{Command, Reply};
+use room_commands::{Command, Reply};
 use std::alloc::{AllocError, Global};
 
 /// What a command comes to.

@@ -4,8 +4,8 @@ ghost use Rattle.std.specs.List.{flat_map};
 ghost use Rattle.std.specs.Option.{option_map};
 ghost use Rattle.room_records.specs.Names.{IsPath, path_text, path_eq};
 ghost use Rattle.room_records.specs.Room.{name_in, parent_of};
-ghost use Rattle.room_tree.specs.Checks.{is_at_or_below};
-ghost use Rattle.room_tree.specs.Effect.{moved};
+ghost use Rattle.room_commands.specs.Checks.{is_at_or_below};
+ghost use Rattle.room_commands.specs.Effect.{moved};
 ghost use Rattle.std.specs.Prelude.{string_bytes};
 
 use room_records::{FileName, Path};

@@ -1,9 +1,9 @@
 //! Refusals.
 ghost use Rattle.std.specs.Prelude.{◌≡◌, Option, None, if◌then◌else◌};
-ghost use Rattle.room_tree.specs.Checks.{refusal_without_place, refuse_if, first_refusal};
+ghost use Rattle.room_commands.specs.Checks.{refusal_without_place, refuse_if, first_refusal};
 
+use room_commands::Fault;
 use room_records::Path;
-use room_tree::Fault;
 use std::marker::Model;
 
 /// Why a command is refused. For a denied access the place is the path whose list was asked, and the lowest bit.
@@ -14,7 +14,7 @@ pub struct Refusal {
 }
 
 impl Model for Refusal {
-    ghost use Rattle.room_tree.specs.ReplyModel.{Refusal as RefusalModel};
+    ghost use Rattle.room_commands.specs.ReplyModel.{Refusal as RefusalModel};
 
     ghost Value = { RefusalModel };
 

@@ -7,7 +7,7 @@ ghost use Rattle.room_acl.specs.Entries.{EntryModel, names_its_kind};
 ghost use Rattle.room_records.specs.Limits.{max_objects};
 ghost use Rattle.room_records.specs.Names.{Path as PathModel, path_eq};
 ghost use Rattle.room_records.specs.Room.{Object, fresh_room, object_at, list_of, list_under, root_list, follows, children, child_in, by_name};
-ghost use Rattle.room_tree.specs.Effect.{with_new, with_object, without, renamed, moved};
+ghost use Rattle.room_commands.specs.Effect.{with_new, with_object, without, renamed, moved};
 ghost use Rattle.room_model.specs.Edits.{apply_edit, edit_at};
 
 use crate::names::{Names, is_same, moved, name_in};

@@ -3,7 +3,7 @@ ghost use Rattle.std.specs.Prelude.{◌≡◌, IfOk, not, map};
 ghost use Rattle.std.specs.List.{filter};
 ghost use Rattle.room_acl.specs.Entries.{EntryModel};
 ghost use Rattle.room_acl.specs.Bits.{is_inherited};
-ghost use Rattle.room_tree.specs.SetList.{clear_inherited, follows_at, own_entries_of_setlist};
+ghost use Rattle.room_commands.specs.SetList.{clear_inherited, follows_at, own_entries_of_setlist};
 
 use crate::object::copy_entry;
 use crate::room::follows;

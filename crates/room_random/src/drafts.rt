@@ -1,9 +1,9 @@
 //! Events, made from few numbers so that they can be made again.
 use crate::dice::Dice;
 use room_acl::{Entry, Flags, ListFlags, Mask, Principal, Who};
+use room_commands::Command;
 use room_records::{Path, Sid, SlotCount};
 use room_scenes::{named, path_of, session_name, subject};
-use room_tree::Command;
 use room_wire::Event;
 use std::alloc::Global;
 use std::test::Fail;

@@ -1,7 +1,7 @@
 //! Commands and events in few words.
 use room_acl::{Entry, Flags, ListFlags, Mask, Principal, Subject, Who};
+use room_commands::Command;
 use room_records::{Path, Sid, SlotCount};
-use room_tree::Command;
 use room_wire::Event;
 use std::alloc::Global;
 use std::test::Fail;

@@ -16,18 +16,18 @@ use Rattle.room_records.specs.Changes.{apply_to_objects, apply_all_to_objects, I
 use Rattle.room_records.specs.Room.{Object, Room, IsRoom}
 use Rattle.room_records.specs.Representation.{RepresentsRoom, HasPath}
 use Rattle.room_records.proofs.RulesKept.{if_same, if_other, SamePlace, SameShape, shape_itself, shape_put, rules_put, rules_put_doc, rules_put_entries}
-use Rattle.room_tree.specs.CommandModel.{CommandModel}
+use Rattle.room_commands.specs.CommandModel.{CommandModel}
 use Rattle.room_tree.specs.declared.place.Place.{Place}
 use Rattle.room_tree.specs.declared.planning.Outcome.{Outcome}
-use Rattle.room_tree.specs.declared.reply.Fault.TheVariants.{IsDir}
-use Rattle.room_tree.specs.Checks.{first_refusal, checks, check_file, refuse_if, is_kind}
-use Rattle.room_tree.specs.Effect.{changed, reply, with_object}
+use Rattle.room_commands.specs.declared.reply.Fault.TheVariants.{IsDir}
+use Rattle.room_commands.specs.Checks.{first_refusal, checks, check_file, refuse_if, is_kind}
+use Rattle.room_commands.specs.Effect.{changed, reply, with_object}
 use Rattle.room_tree.specs.Places.{IsPlace, node_of}
 use Rattle.room_tree.specs.Plans.{PlansEffect, place_after}
-use Rattle.room_tree.specs.ReplyModel.{reply_model}
+use Rattle.room_commands.specs.ReplyModel.{reply_model}
 use Rattle.room_tree.proofs.Checking.{file_check, there}
 use Rattle.room_tree.proofs.Outcomes.{success_plans}
-use Rattle.room_tree.proofs.RoomsObject.{elsewhere_unchanged}
+use Rattle.room_commands.proofs.RoomsObject.{elsewhere_unchanged}
 use Rattle.room_tree.proofs.RowsReplaced.{Replaces, replaced, replaced_keeps, changed_at}
 
 pub none_and_some : {X : Type 0} (o : Option X) → IsNone o → IsSome o → ⊥

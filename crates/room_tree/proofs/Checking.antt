@@ -2,7 +2,7 @@
 use Rattle.std.proofs.Common.{◌≡◌, ℕ, false, ◌≤◌, arith, length, Result, Ok, Err, IfOk, refl, ap, sym, ◌∙◌, Option, None, Some, List, [], ◌∷◌, ◌++◌}
 use Rattle.std.specs.Prelude.{not, is_some, nat_lt}
 use borrow.Author.Tests.{ltb-false}
-use Rattle.room_tree.proofs.ChecksTell.{not_refused}
+use Rattle.room_commands.proofs.ChecksTell.{not_refused}
 use Rattle.room_acl.specs.declared.subject.Kind.{Kind}
 use Rattle.room_acl.specs.declared.subject.Kind.TheVariants.{File, Folder}
 use Rattle.room_acl.specs.SubjectModel.{SubjectModel}
@@ -14,9 +14,9 @@ use Rattle.room_records.specs.Representation.{RepresentsRoom}
 use Rattle.room_records.proofs.RoomsMap.{object_there_is_lawful}
 use Rattle.room_records.specs.Room.{Object, Room, object_at, standing_of}
 use Rattle.room_tree.specs.declared.place.Place.{Place}
-use Rattle.room_tree.specs.declared.reply.Fault.TheVariants.{NoEnt, Exist, IsDir, NotDir, FBig}
-use Rattle.room_tree.specs.ReplyModel.{Refusal}
-use Rattle.room_tree.specs.Checks.{refuse_if, refusal_without_place, is_kind, denied_at, right_on, check_exists, check_absent, check_right, check_folder, check_file, prefix_fault, first_refusal, is_root, bytes_at, check_size}
+use Rattle.room_commands.specs.declared.reply.Fault.TheVariants.{NoEnt, Exist, IsDir, NotDir, FBig}
+use Rattle.room_commands.specs.ReplyModel.{Refusal}
+use Rattle.room_commands.specs.Checks.{refuse_if, refusal_without_place, is_kind, denied_at, right_on, check_exists, check_absent, check_right, check_folder, check_file, prefix_fault, first_refusal, is_root, bytes_at, check_size}
 use Rattle.room_tree.specs.Places.{IsPlace}
 
 pub first_alone : (o : Option Refusal) → first_refusal (o ∷ []) ≡ o

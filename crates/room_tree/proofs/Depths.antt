@@ -17,11 +17,11 @@ use Rattle.room_records.proofs.Folders.{object_child, child_named}
 use Rattle.room_records.proofs.Lists.{all_at}
 use Rattle.room_records.proofs.Paths.{child_is_at, object_at_node}
 use Rattle.room_records.proofs.RoomsMap.{none_is_some, nothing_below, nothing_in_a_file, StandsIn, found_stands, standing_found}
-use Rattle.room_tree.specs.declared.reply.Fault.TheVariants.{TooDeep}
-use Rattle.room_tree.specs.Checks.{is_at_or_below, refuse_if, check_depth}
+use Rattle.room_commands.specs.declared.reply.Fault.TheVariants.{TooDeep}
+use Rattle.room_commands.specs.Checks.{is_at_or_below, refuse_if, check_depth}
 use Rattle.room_tree.specs.Depths.{StandsBelow, TellsBelow}
-use Rattle.room_tree.proofs.Renaming.{at_behind}
-use Rattle.room_tree.proofs.RoomsRenamed.{rest_below}
+use Rattle.room_commands.proofs.Renaming.{at_behind}
+use Rattle.room_commands.proofs.RoomsRenamed.{rest_below}
 
 some_there : {X : Type 0} (o : Option X) → (o ≡ None → ⊥) → (x : X) × (o ≡ Some x)
 some_there None h = absurd (h refl)

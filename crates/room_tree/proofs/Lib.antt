@@ -1,14 +1,3 @@
-pub mod Rights
-pub mod Renaming
-pub mod RoomsNew
-pub mod RoomsObject
-pub mod RoomsWithout
-pub mod RoomsRenamed
-pub mod RenamedIsRoom
-pub mod ChecksTell
-pub mod SetListKept
-pub mod EffectIsRoom
-pub mod RoomLaws
 pub mod Places
 pub mod Checking
 pub mod Walks
@@ -21,7 +10,6 @@ pub mod Made
 pub mod RowsRemoved
 pub mod Marks
 pub mod RowsMoved
-mod Rows
 pub mod Depths
 pub mod Renamed
 pub mod ListsUpwards

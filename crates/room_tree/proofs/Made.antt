@@ -18,24 +18,24 @@ use Rattle.room_records.specs.Representation.{RepresentsRoom, HasPath}
 use Rattle.room_records.proofs.Paths.{object_at_node, child_is_at}
 use Rattle.room_records.proofs.RoomsMap.{some_is, none_is_some, Ends, ends, parent_of_end}
 use Rattle.room_records.proofs.RulesKept.{same_or_other, some_or_none, if_same, if_other, rules_put_next, rules_put_doc}
-use Rattle.room_tree.specs.CommandModel as C
+use Rattle.room_commands.specs.CommandModel as C
 use Rattle.room_tree.specs.declared.place.Place.{Place}
 use Rattle.room_tree.specs.declared.planning.Outcome.{Outcome}
-use Rattle.room_tree.specs.declared.reply.Fault.TheVariants.{Exist, RoomFull}
-use Rattle.room_tree.specs.Checks.{first_refusal, checks, refuse_if, is_root, walk, check_absent, check_right, check_size, check_folder_full, check_room_full}
+use Rattle.room_commands.specs.declared.reply.Fault.TheVariants.{Exist, RoomFull}
+use Rattle.room_commands.specs.Checks.{first_refusal, checks, refuse_if, is_root, walk, check_absent, check_right, check_size, check_folder_full, check_room_full}
 use Rattle.room_acl.specs.Entries.{EntryModel}
-use Rattle.room_tree.specs.Effect.{object_or_default, with_new, new_object}
+use Rattle.room_commands.specs.Effect.{object_or_default, with_new, new_object}
 use Rattle.room_tree.specs.Places.{IsPlace, IsNewNode, node_of}
 use Rattle.room_tree.specs.Plans.{PlansEffect}
-use Rattle.room_tree.specs.ReplyModel.{Done, Size, reply_model}
+use Rattle.room_commands.specs.ReplyModel.{Done, Size, reply_model}
 use Rattle.room_tree.proofs.Changed.{none_and_some}
 use Rattle.room_tree.proofs.Checking.{none_passes}
-use Rattle.room_tree.proofs.ChecksTell.{not_refused, none_there}
-use Rattle.room_tree.proofs.EffectIsRoom.{changed_is_room, created_is_room}
+use Rattle.room_commands.proofs.ChecksTell.{not_refused, none_there}
+use Rattle.room_commands.proofs.EffectIsRoom.{changed_is_room, created_is_room}
 use Rattle.room_tree.proofs.Outcomes.{success_plans}
 use Rattle.room_tree.proofs.Replies.{object_is}
-use Rattle.room_tree.proofs.Rights.{all_none}
-use Rattle.room_tree.proofs.RoomsNew.{new_there, old_stays, new_or_old}
+use Rattle.room_commands.proofs.Rights.{all_none}
+use Rattle.room_commands.proofs.RoomsNew.{new_there, old_stays, new_or_old}
 use Rattle.room_tree.proofs.RowsAdded.{IsFree, rules_put_new, Adds, added, added_keeps, last_is_name}
 
 -- the group that a new object gets

@@ -9,7 +9,7 @@ use Rattle.room_acl.specs.declared.who.Who.TheVariants.{Owner, Group, Everyone, 
 use Rattle.room_acl.specs.Bits.{IsFlags, is_inherited, identifier_group}
 use Rattle.room_acl.specs.Entries.{EntryModel, names_its_kind}
 use Rattle.room_records.specs.Names.{Path}
-use Rattle.room_tree.specs.SetList.{clear_inherited, follows_at, own_entries_of_setlist}
+use Rattle.room_commands.specs.SetList.{clear_inherited, follows_at, own_entries_of_setlist}
 use Rattle.room_tree.specs.Places.{kept_entry}
 
 -- the flags without the mark

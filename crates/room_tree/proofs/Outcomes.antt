@@ -8,14 +8,14 @@ use Rattle.room_records.specs.Records.{ObjectRecords}
 use Rattle.room_records.specs.Changes.{apply_all_to_objects, IsOfObjects, ObjectRulesHoldAfterEach}
 use Rattle.room_records.specs.Room.{Room, object_at}
 use Rattle.room_records.specs.Representation.{RepresentsRoom, HasPath}
-use Rattle.room_tree.specs.CommandModel.{CommandModel}
-use Rattle.room_tree.specs.CommandModel as C
+use Rattle.room_commands.specs.CommandModel.{CommandModel}
+use Rattle.room_commands.specs.CommandModel as C
 use Rattle.room_tree.specs.declared.planning.Outcome.{Outcome}
-use Rattle.room_tree.specs.Checks.{first_refusal, checks}
-use Rattle.room_tree.specs.ReplyModel.{Refused, reply_model, IsRefused, Refusal}
-use Rattle.room_tree.specs.Effect.{effect, effect_by, changed, reply}
+use Rattle.room_commands.specs.Checks.{first_refusal, checks}
+use Rattle.room_commands.specs.ReplyModel.{Refused, reply_model, IsRefused, Refusal}
+use Rattle.room_commands.specs.Effect.{effect, effect_by, changed, reply}
 use Rattle.room_tree.specs.Plans.{PlansEffect, KeepsNumbers, place_after}
-use Rattle.room_tree.proofs.Rights.{rights_of_success}
+use Rattle.room_commands.proofs.Rights.{rights_of_success}
 
 absent_present : {X : Type 0} (o : Option X) → IsNone o → IsSome o → ⊥
 absent_present None a b = let f = b in cc

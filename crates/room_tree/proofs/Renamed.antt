@@ -12,22 +12,22 @@ use Rattle.room_records.specs.Representation.{RepresentsRoom, HasPath}
 use Rattle.room_records.proofs.Paths.{reads_one}
 use Rattle.room_records.proofs.RoomsMap.{some_is, path_itself, other_path, parent_of_end}
 use Rattle.room_records.proofs.RoomsChildren.{name_itself, same_name}
-use Rattle.room_tree.specs.CommandModel as C
+use Rattle.room_commands.specs.CommandModel as C
 use Rattle.room_tree.specs.declared.planning.Outcome.{Outcome}
 use Rattle.room_tree.specs.declared.place.Place.{Place}
 use Rattle.room_tree.specs.declared.moving.Move.{Move}
-use Rattle.room_tree.specs.declared.reply.Fault.TheVariants.{Inval}
-use Rattle.room_tree.specs.Checks.{first_refusal, checks, refuse_if, is_root, is_at_or_below, walk}
-use Rattle.room_tree.specs.Effect.{renamed, moved}
+use Rattle.room_commands.specs.declared.reply.Fault.TheVariants.{Inval}
+use Rattle.room_commands.specs.Checks.{first_refusal, checks, refuse_if, is_root, is_at_or_below, walk}
+use Rattle.room_commands.specs.Effect.{renamed, moved}
 use Rattle.room_tree.specs.Places.{IsPlace, node_of}
 use Rattle.room_tree.specs.Plans.{PlansEffect}
 use Rattle.room_tree.specs.Renames.{IsMove}
-use Rattle.room_tree.specs.ReplyModel.{Done, reply_model}
-use Rattle.room_tree.proofs.ChecksTell.{not_refused, absent_there, walk_ends_in_folder}
-use Rattle.room_tree.proofs.EffectIsRoom.{changed_is_room}
+use Rattle.room_commands.specs.ReplyModel.{Done, reply_model}
+use Rattle.room_commands.proofs.ChecksTell.{not_refused, absent_there, walk_ends_in_folder}
+use Rattle.room_commands.proofs.EffectIsRoom.{changed_is_room}
 use Rattle.room_tree.proofs.Made.{ends_of}
 use Rattle.room_tree.proofs.Outcomes.{success_plans}
-use Rattle.room_tree.proofs.Rights.{all_none}
+use Rattle.room_commands.proofs.Rights.{all_none}
 use Rattle.room_tree.proofs.RowsAdded.{last_is_name}
 use Rattle.room_tree.proofs.RowsMoved.{MovesNode, rules_moved, moved_represents, moved_keeps, none_new_moved}
 use Rattle.room_tree.proofs.RowsReplaced.{path_of_node}

@@ -14,8 +14,8 @@ use Rattle.room_records.specs.Room.{Object, Room, list_of, standing_of}
 use Rattle.room_records.specs.Rules.{ObjectRules}
 use Rattle.room_records.proofs.Folders.{pair_of, child_named}
 use Rattle.room_tree.specs.declared.place.Place.{Place}
-use Rattle.room_tree.specs.ReplyModel.{ReplyModel, Stat, Entries, Allowed}
-use Rattle.room_tree.specs.Effect.{object_or_default, attributes_of, size_of, no_object}
+use Rattle.room_commands.specs.ReplyModel.{ReplyModel, Stat, Entries, Allowed}
+use Rattle.room_commands.specs.Effect.{object_or_default, attributes_of, size_of, no_object}
 use Rattle.room_tree.specs.Places.{IsPlace, node_of, listed}
 use Rattle.room_tree.proofs.Checking.{there}
 

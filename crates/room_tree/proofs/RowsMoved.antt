@@ -13,11 +13,11 @@ use Rattle.room_records.specs.Representation.{RepresentsRoom, NodeIsObject, HasP
 use Rattle.room_records.proofs.Paths.{root_only, reads_one, child_is_at, object_at_node}
 use Rattle.room_records.proofs.RoomsMap.{some_is, none_is_some, Ends, ends}
 use Rattle.room_records.proofs.RulesKept.{same_or_other, if_same, if_other, some_or_none}
-use Rattle.room_tree.specs.Checks.{is_at_or_below}
-use Rattle.room_tree.specs.Effect.{renamed, moved}
+use Rattle.room_commands.specs.Checks.{is_at_or_below}
+use Rattle.room_commands.specs.Effect.{renamed, moved}
 use Rattle.room_tree.proofs.Changed.{none_and_some}
-use Rattle.room_tree.proofs.Renaming.{at_behind}
-use Rattle.room_tree.proofs.RoomsRenamed.{rest_below, below_more, not_both, at_moved, Stands, Moved, Stayed, stands_after}
+use Rattle.room_commands.proofs.Renaming.{at_behind}
+use Rattle.room_commands.proofs.RoomsRenamed.{rest_below, below_more, not_both, at_moved, Stands, Moved, Stayed, stands_after}
 use Rattle.room_tree.proofs.RowsReplaced.{path_of_node}
 
 -- an object below a path, but not at it, has its folder there too

@@ -15,20 +15,20 @@ use Rattle.room_records.proofs.Paths.{root_only, reads_one, child_is_at, object_
 use Rattle.room_records.proofs.RoomsMap.{none_is_some, Ends}
 use Rattle.room_records.proofs.RoomsChildren.{nothing_in_empty}
 use Rattle.room_records.proofs.RulesKept.{same_or_other, if_same, if_other, some_or_none}
-use Rattle.room_tree.specs.CommandModel as C
+use Rattle.room_commands.specs.CommandModel as C
 use Rattle.room_tree.specs.declared.place.Place.{Place}
 use Rattle.room_tree.specs.declared.planning.Outcome.{Outcome}
-use Rattle.room_tree.specs.Checks.{first_refusal, checks, is_root}
-use Rattle.room_tree.specs.Effect.{without}
+use Rattle.room_commands.specs.Checks.{first_refusal, checks, is_root}
+use Rattle.room_commands.specs.Effect.{without}
 use Rattle.room_tree.specs.Places.{IsPlace, node_of}
 use Rattle.room_tree.specs.Plans.{PlansEffect}
-use Rattle.room_tree.specs.ReplyModel.{Done, reply_model}
+use Rattle.room_commands.specs.ReplyModel.{Done, reply_model}
 use Rattle.room_acl.specs.SubjectModel.{SubjectModel}
 use Rattle.room_tree.proofs.Changed.{none_and_some}
-use Rattle.room_tree.proofs.EffectIsRoom.{changed_is_room}
+use Rattle.room_commands.proofs.EffectIsRoom.{changed_is_room}
 use Rattle.room_tree.proofs.Made.{ends_of}
 use Rattle.room_tree.proofs.Outcomes.{success_plans}
-use Rattle.room_tree.proofs.RoomsWithout.{at_removed, elsewhere_left, left_was_there}
+use Rattle.room_commands.proofs.RoomsWithout.{at_removed, elsewhere_left, left_was_there}
 use Rattle.room_tree.proofs.RowsReplaced.{path_of_node}
 
 module _ (t : ObjectRecords) (room : Room) (stand : RepresentsRoom t room) (path : Path) (id : ℕ) (node : Node) (o : Object) (is : NodeIsObject t room id node path o)

@@ -10,8 +10,8 @@ use Rattle.room_records.specs.Representation.{RepresentsRoom, NodeIsObject, Rows
 use Rattle.room_records.proofs.Paths.{reads_one, one_path}
 use Rattle.room_records.proofs.RoomsMap.{some_is, same_path, path_itself}
 use Rattle.room_records.proofs.RulesKept.{same_or_other, SameShape, names_by_shape}
-use Rattle.room_tree.specs.Effect.{with_object}
-use Rattle.room_tree.proofs.RoomsObject.{at_changed}
+use Rattle.room_commands.specs.Effect.{with_object}
+use Rattle.room_commands.proofs.RoomsObject.{at_changed}
 
 -- a node has one path
 pub path_of_node : (t : ObjectRecords) → ObjectRules t → (a b : Path) (id : ℕ) → HasPath t a id → HasPath t b id → a ≡ b

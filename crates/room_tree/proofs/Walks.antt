@@ -5,9 +5,9 @@ use Rattle.std.proofs.lemmas.List.{take_more, drop_more, drop_all, take_all, app
 use Rattle.room_acl.specs.SubjectModel.{SubjectModel}
 use Rattle.room_records.specs.Names.{Name, Path}
 use Rattle.room_records.specs.Room.{Object, Room, object_at, parent_of}
-use Rattle.room_tree.specs.declared.reply.Fault.TheVariants.{NoEnt}
-use Rattle.room_tree.specs.ReplyModel.{Refusal}
-use Rattle.room_tree.specs.Checks.{refuse_if, refusal_without_place, first_refusal, check_folder, check_right, prefix_fault, proper_prefixes, walk}
+use Rattle.room_commands.specs.declared.reply.Fault.TheVariants.{NoEnt}
+use Rattle.room_commands.specs.ReplyModel.{Refusal}
+use Rattle.room_commands.specs.Checks.{refuse_if, refusal_without_place, first_refusal, check_folder, check_right, prefix_fault, proper_prefixes, walk}
 
 -- the first fault from this front on
 abbrev pub walk_from : Room → SubjectModel → Path → Path → Option Refusal

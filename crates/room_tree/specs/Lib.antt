@@ -1,10 +1,3 @@
-pub mod CommandModel
-pub mod ReplyModel
-pub mod Lawful
-pub mod SetList
-pub mod Checks
-pub mod Effect
-pub mod Needs
 pub mod Plans
 pub mod Places
 pub mod Depths

@@ -2,7 +2,7 @@
 use Rattle.std.specs.Prelude.{◌≡◌, ℕ, ◌-◌, ◌≤◌, List, [], ◌∷◌, ◌++◌, take, length, Option, None, Some, Bool, ◌&&◌, if◌then◌else◌}
 use Rattle.room_acl.specs.Bits.{is_inherited}
 use Rattle.room_acl.specs.Entries.{EntryModel}
-use Rattle.room_tree.specs.SetList.{clear_inherited}
+use Rattle.room_commands.specs.SetList.{clear_inherited}
 use Rattle.room_acl.specs.SubjectModel.{SubjectModel}
 use Rattle.room_records.specs.declared.node.Node.{Node}
 use Rattle.std.specs.Option.{option_map}
@@ -17,8 +17,8 @@ use Rattle.room_tree.specs.declared.reaching.Reached.{Reached}
 use Rattle.room_tree.specs.declared.reaching.Reached.TheVariants as R
 use Rattle.room_tree.specs.declared.walking.Walk.{Walk}
 use Rattle.room_tree.specs.declared.walking.Walk.TheVariants.{Refused, Absent, Found}
-use Rattle.room_tree.specs.ReplyModel.{Refusal}
-use Rattle.room_tree.specs.Checks.{walk, check_file, check_folder, check_right, first_refusal}
+use Rattle.room_commands.specs.ReplyModel.{Refusal}
+use Rattle.room_commands.specs.Checks.{walk, check_file, check_folder, check_right, first_refusal}
 
 -- what a call says of each room that the rows stand for as it begins
 abbrev pub OfRoom : {S : Type 0} → (S → Records) → (S → Type 0) → (S → Type 0) → S → S → (ObjectRecords → Room → Type 0) → Type 0

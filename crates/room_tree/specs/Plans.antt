@@ -4,15 +4,15 @@ use Rattle.std.specs.List.{AllByRecursion}
 use Rattle.room_acl.specs.SubjectModel.{SubjectModel}
 use Rattle.room_records.specs.Records.{ObjectRecords}
 use Rattle.room_records.specs.Changes.{apply_all_to_objects, IsOfObjects, ObjectRulesHoldAfterEach}
-use Rattle.room_tree.specs.CommandModel.{CommandModel}
+use Rattle.room_commands.specs.CommandModel.{CommandModel}
 use Rattle.room_tree.specs.declared.planning.Outcome.{Outcome}
 use Rattle.room_records.specs.Room.{Room, object_at}
-use Rattle.room_tree.specs.CommandModel as C
+use Rattle.room_commands.specs.CommandModel as C
 use Rattle.room_records.specs.Names.{Path}
-use Rattle.room_tree.specs.Checks.{first_refusal, checks}
-use Rattle.room_tree.specs.ReplyModel.{reply_model, IsRefused, Refusal}
-use Rattle.room_tree.specs.Effect.{effect, moved}
-use Rattle.room_tree.specs.Needs.{NeedsAllowed}
+use Rattle.room_commands.specs.Checks.{first_refusal, checks}
+use Rattle.room_commands.specs.ReplyModel.{reply_model, IsRefused, Refusal}
+use Rattle.room_commands.specs.Effect.{effect, moved}
+use Rattle.room_commands.specs.Needs.{NeedsAllowed}
 use Rattle.room_records.specs.Representation.{RepresentsRoom, HasPath}
 
 -- where an object that stays stands afterwards

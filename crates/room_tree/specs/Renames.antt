@@ -6,8 +6,8 @@ use Rattle.room_records.specs.Records.{ObjectRecords}
 use Rattle.room_records.specs.Room.{Room, parent_of}
 use Rattle.room_tree.specs.declared.place.Place.{Place}
 use Rattle.room_tree.specs.declared.moving.Move.{Move}
-use Rattle.room_tree.specs.ReplyModel.{Refusal}
-use Rattle.room_tree.specs.Checks.{first_refusal, walk, check_exists, check_absent, check_removal, check_right, right_to_add, check_depth, check_folder_full}
+use Rattle.room_commands.specs.ReplyModel.{Refusal}
+use Rattle.room_commands.specs.Checks.{first_refusal, walk, check_exists, check_absent, check_removal, check_right, right_to_add, check_depth, check_folder_full}
 use Rattle.room_tree.specs.Places.{IsPlace}
 
 -- what is there, and what is not

@@ -1,19 +1,19 @@
 //! Commands that change one object where it stands.
 ghost use Rattle.std.specs.Prelude.{◌≡◌, ◌+◌, ◌≤◌, ◌<◌, ◌^◌, ◌++◌, [], ◌∷◌, length, IfOk, OnOk, MatchResult, Err};
 ghost use Rattle.room_records.specs.Shelf.{FailureCounted, Unchanged};
-ghost use Rattle.room_tree.specs.Checks.{check_size};
-ghost use Rattle.room_tree.specs.CommandModel as C;
+ghost use Rattle.room_commands.specs.Checks.{check_size};
+ghost use Rattle.room_commands.specs.CommandModel as C;
 ghost use Rattle.room_tree.specs.Places.{OfRoom, node_of};
 ghost use Rattle.room_tree.specs.Plans.{PlansEffect};
-ghost use Rattle.room_tree.specs.ReplyModel.{reply_model, Size, Done};
+ghost use Rattle.room_commands.specs.ReplyModel.{reply_model, Size, Done};
 
 use crate::masks::{APPEND_DATA, WRITE_DATA, WRITE_OWNER};
 use crate::place::Place;
 use crate::planning::Outcome;
 use crate::reaching::{Reached, as_size, bytes_of, reach_to_use};
 use crate::refusal::Refusal;
-use crate::reply::{Fault, Reply};
 use room_acl::{Kind, Principal, Subject};
+use room_commands::{Fault, Reply};
 use room_records::{Change, Node, Path, Shelf, ShelfFault};
 use std::alloc::{AllocError, Global};
 

@@ -4,14 +4,14 @@ ghost use Rattle.room_records.specs.declared.node.Node.{Node};
 ghost use Rattle.room_records.specs.Names.{Path as PathModel};
 ghost use Rattle.room_records.specs.Representation.{HasPath};
 ghost use Rattle.room_records.specs.Shelf.{FailureCounted, Unchanged};
-ghost use Rattle.room_tree.specs.Checks.{check_depth};
+ghost use Rattle.room_commands.specs.Checks.{check_depth};
 ghost use Rattle.room_tree.specs.Depths.{TellsBelow};
 ghost use Rattle.room_tree.specs.Places.{OfRoom, IsPlace};
 
 use crate::place::Place;
 use crate::refusal::Refusal;
-use crate::reply::Fault;
 use room_acl::Kind;
+use room_commands::Fault;
 use room_records::{Path, Shelf, ShelfFault};
 
 /// Names on a path (our own rule).

@@ -5,8 +5,8 @@ ghost use Rattle.room_records.specs.Limits.{max_children, max_objects};
 ghost use Rattle.room_records.specs.Names.{IsPath, Path as PathModel};
 ghost use Rattle.room_records.specs.Room.{parent_of};
 ghost use Rattle.room_records.specs.Shelf.{FailureCounted, Unchanged};
-ghost use Rattle.room_tree.specs.Checks.{first_refusal, refuse_if, is_root, walk, check_absent, check_right, check_folder_full, check_room_full};
-ghost use Rattle.room_tree.specs.CommandModel as C;
+ghost use Rattle.room_commands.specs.Checks.{first_refusal, refuse_if, is_root, walk, check_absent, check_right, check_folder_full, check_room_full};
+ghost use Rattle.room_commands.specs.CommandModel as C;
 ghost use Rattle.room_tree.specs.Places.{OfRoom, IsPlace, IsReached, IsNewNode};
 ghost use Rattle.room_tree.specs.Plans.{PlansEffect};
 
@@ -16,9 +16,9 @@ use crate::place::Place;
 use crate::planning::Outcome;
 use crate::reaching::{Reached, as_size, count_children};
 use crate::refusal::Refusal;
-use crate::reply::{Fault, Reply};
 use crate::walking::{Walk, walk_path};
 use room_acl::{Kind, ListFlags, Subject};
+use room_commands::{Fault, Reply};
 use room_records::{Change, FileName, Node, Path, Shelf, ShelfFault};
 use std::alloc::{AllocError, Global};
 

@@ -5,13 +5,13 @@ ghost use Rattle.room_acl.specs.Inheritance.{handed_down};
 ghost use Rattle.room_records.specs.Names.{Path as PathModel};
 ghost use Rattle.room_records.specs.Records.{ObjectRecords};
 ghost use Rattle.room_records.specs.Room.{Room, follows};
-ghost use Rattle.room_tree.specs.Checks.{check_right, check_folder, check_file, prefix_fault, first_refusal};
+ghost use Rattle.room_commands.specs.Checks.{check_right, check_folder, check_file, prefix_fault, first_refusal};
 ghost use Rattle.room_tree.specs.Places.{IsPlace, node_of, kind_checks, use_checks};
 
 use crate::masks::EXECUTE;
 use crate::refusal::Refusal;
-use crate::reply::Fault;
 use room_acl::{Decision, Entry, Kind, ListFlags, Mask, Standing, Subject, decide, hand_down};
+use room_commands::Fault;
 use room_records::{FileName, Node, Path};
 use std::alloc::{AllocError, Global};
 

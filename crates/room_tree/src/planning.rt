@@ -1,22 +1,21 @@
 //! What a command changes and replies.
 ghost use Rattle.std.specs.Prelude.{◌≡◌, ◌≤◌, [], IfOk, OnOk, Err};
 ghost use Rattle.room_records.specs.Shelf.{FailureCounted, Unchanged};
-ghost use Rattle.room_tree.specs.CommandModel.{command_model};
+ghost use Rattle.room_commands.specs.CommandModel.{command_model};
 ghost use Rattle.room_records.specs.Room.{Room};
 ghost use Rattle.room_records.specs.Representation.{RepresentsRoom};
 ghost use Rattle.room_tree.specs.Plans.{PlansEffect};
-ghost use Rattle.room_tree.specs.ReplyModel.{reply_model, Refused};
+ghost use Rattle.room_commands.specs.ReplyModel.{reply_model, Refused};
 
 use crate::changing::{plan_append, plan_chown, plan_write};
-use crate::command::Command;
 use crate::making::{plan_create, plan_mkdir};
 use crate::moving::plan_rename;
 use crate::reading::{plan_access, plan_getlist, plan_list, plan_read, plan_stat};
 use crate::refusal::Refusal;
 use crate::removing::plan_remove;
-use crate::reply::Reply;
 use crate::setlist::plan_setlist;
 use room_acl::Subject;
+use room_commands::{Command, Reply};
 use room_records::{Change, Shelf, ShelfFault};
 use std::alloc::Global;
 

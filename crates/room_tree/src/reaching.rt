@@ -3,16 +3,16 @@ ghost use Rattle.std.specs.Prelude.{◌≡◌, ◌≤◌, ◌<◌, ◌^◌, [], 
 ghost use Rattle.room_acl.specs.Bits.{IsMask};
 ghost use Rattle.room_records.specs.Names.{Path as PathModel};
 ghost use Rattle.room_records.specs.Shelf.{FailureCounted, Unchanged};
-ghost use Rattle.room_tree.specs.Checks.{walk, check_exists, bytes_at};
+ghost use Rattle.room_commands.specs.Checks.{walk, check_exists, bytes_at};
 ghost use Rattle.room_records.specs.Room.{children};
-ghost use Rattle.room_tree.specs.Effect.{size_of};
+ghost use Rattle.room_commands.specs.Effect.{size_of};
 ghost use Rattle.room_tree.specs.Places.{OfRoom, IsPlace, IsReached, use_checks};
 
 use crate::place::Place;
 use crate::refusal::Refusal;
-use crate::reply::Fault;
 use crate::walking::{Walk, walk_path};
 use room_acl::{Kind, Subject};
+use room_commands::Fault;
 use room_records::{Path, Shelf, ShelfFault};
 use std::alloc::Global;
 

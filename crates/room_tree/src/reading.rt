@@ -4,7 +4,7 @@ ghost use Rattle.std.specs.List.{filter_map};
 ghost use Rattle.room_records.specs.Room.{children};
 ghost use Rattle.room_records.specs.Names.{Path as PathModel};
 ghost use Rattle.room_records.specs.Shelf.{FailureCounted, Unchanged};
-ghost use Rattle.room_tree.specs.CommandModel as C;
+ghost use Rattle.room_commands.specs.CommandModel as C;
 ghost use Rattle.room_tree.specs.Plans.{PlansEffect};
 ghost use Rattle.room_tree.specs.Places.{OfRoom, IsPlace, listed};
 
@@ -12,8 +12,8 @@ use crate::masks::{LIST_DIRECTORY, READ_ACL, READ_ATTRIBUTES, READ_DATA};
 use crate::place::Place;
 use crate::planning::Outcome;
 use crate::reaching::{Reached, bytes_of, reach, reach_to_use, size_of};
-use crate::reply::Reply;
 use room_acl::{Kind, Mask, Subject, allowed_bits};
+use room_commands::Reply;
 use room_records::{FileName, Node, Path, Shelf, ShelfFault};
 use std::alloc::{AllocError, Global};
 

@@ -1,8 +1,8 @@
 //! Refusals.
 ghost use Rattle.std.specs.Prelude.{◌≡◌, None};
-ghost use Rattle.room_tree.specs.Checks.{refusal_without_place};
+ghost use Rattle.room_commands.specs.Checks.{refusal_without_place};
 
-use crate::reply::Fault;
+use room_commands::Fault;
 use room_records::Path;
 use std::marker::Model;
 
@@ -14,7 +14,7 @@ pub(crate) struct Refusal {
 }
 
 impl Model for Refusal {
-    ghost use Rattle.room_tree.specs.ReplyModel.{Refusal as RefusalModel};
+    ghost use Rattle.room_commands.specs.ReplyModel.{Refusal as RefusalModel};
 
     ghost Value = { RefusalModel };
 

@@ -4,8 +4,8 @@ ghost use Rattle.room_records.specs.Names.{IsPath};
 ghost use Rattle.room_records.specs.Records.{ObjectRecords};
 ghost use Rattle.room_records.specs.Room.{Room, parent_of};
 ghost use Rattle.room_records.specs.Shelf.{FailureCounted, Unchanged};
-ghost use Rattle.room_tree.specs.Checks.{refuse_if, is_root, walk, check_exists, check_removal, removal_refusal};
-ghost use Rattle.room_tree.specs.CommandModel as C;
+ghost use Rattle.room_commands.specs.Checks.{refuse_if, is_root, walk, check_exists, check_removal, removal_refusal};
+ghost use Rattle.room_commands.specs.CommandModel as C;
 ghost use Rattle.room_tree.specs.Places.{OfRoom, IsPlace, IsReached};
 ghost use Rattle.room_tree.specs.Plans.{PlansEffect};
 
@@ -15,9 +15,9 @@ use crate::place::Place;
 use crate::planning::Outcome;
 use crate::reaching::{Reached, count_children};
 use crate::refusal::Refusal;
-use crate::reply::{Fault, Reply};
 use crate::walking::{Walk, walk_path};
 use room_acl::Subject;
+use room_commands::{Fault, Reply};
 use room_records::{Change, Path, Shelf, ShelfFault};
 use std::alloc::{AllocError, Global};
 

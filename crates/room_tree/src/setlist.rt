@@ -4,19 +4,19 @@ ghost use Rattle.std.specs.List.{filter_map};
 ghost use Rattle.room_acl.specs.Bits.{is_inherited};
 ghost use Rattle.room_acl.specs.Inheritance.{own_entries_fault};
 ghost use Rattle.room_records.specs.Shelf.{FailureCounted, Unchanged};
-ghost use Rattle.room_tree.specs.Checks.{check_lawful};
-ghost use Rattle.room_tree.specs.CommandModel as C;
+ghost use Rattle.room_commands.specs.Checks.{check_lawful};
+ghost use Rattle.room_commands.specs.CommandModel as C;
 ghost use Rattle.room_tree.specs.Places.{OfRoom, node_of, kept_entry};
 ghost use Rattle.room_tree.specs.Plans.{PlansEffect};
-ghost use Rattle.room_tree.specs.SetList.{clear_inherited, follows_at};
+ghost use Rattle.room_commands.specs.SetList.{clear_inherited, follows_at};
 
 use crate::masks::WRITE_ACL;
 use crate::place::{Place, follows};
 use crate::planning::Outcome;
 use crate::reaching::{Reached, reach_to_use};
 use crate::refusal::Refusal;
-use crate::reply::{Fault, Reply};
 use room_acl::{Entry, Flags, Kind, ListFault, ListFlags, Subject, check_own};
+use room_commands::{Fault, Reply};
 use room_records::{Change, Path, Shelf, ShelfFault};
 use std::alloc::{AllocError, Global};
 

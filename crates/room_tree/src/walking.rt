@@ -4,13 +4,13 @@ ghost use Rattle.room_acl.specs.Inheritance.{handed_down};
 ghost use Rattle.room_records.specs.Names.{Path as PathModel};
 ghost use Rattle.room_records.specs.Room.{follows, object_at};
 ghost use Rattle.room_records.specs.Shelf.{FailureCounted, Unchanged};
-ghost use Rattle.room_tree.specs.Checks.{first_refusal, denied_at, refuse_if};
+ghost use Rattle.room_commands.specs.Checks.{first_refusal, denied_at, refuse_if};
 ghost use Rattle.room_tree.specs.Places.{OfRoom, IsPlace, IsWalk, node_of};
 
 use crate::place::{Place, with_inherited};
 use crate::refusal::Refusal;
-use crate::reply::Fault;
 use room_acl::{Entry, Kind, Mask, Subject};
+use room_commands::Fault;
 use room_records::{FileName, Node, Path, Shelf, ShelfFault};
 use std::alloc::{AllocError, Global};
 

@@ -1,9 +1,9 @@
 //! Worked examples, whose replies are known from outside.
 use crate::names::{named, path_of};
 use room_acl::Subject;
+use room_commands::{Command, Fault, Reply};
 use room_model::PlainRoom;
 use room_records::Path;
-use room_tree::{Command, Fault, Reply};
 use std::alloc::Global;
 use std::test::Fail;
 

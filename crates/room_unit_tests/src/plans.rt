@@ -1,8 +1,9 @@
 //! RENAME and lists from below, over the shelf in memory.
 use crate::names::{named, path_of};
 use room_acl::Subject;
+use room_commands::{Command, Fault, Reply};
 use room_records::{MemShelf, Path, Shelf};
-use room_tree::{Command, Fault, Reply, list_upwards, node_at, plan};
+use room_tree::{list_upwards, node_at, plan};
 use std::alloc::Global;
 use std::test::Fail;
 

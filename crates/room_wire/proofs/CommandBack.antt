@@ -20,9 +20,9 @@ use Rattle.room_acl.specs.declared.who.Who.TheVariants.{Owner, Group, Everyone, 
 use Rattle.room_acl.specs.Entries.{EntryModel}
 use Rattle.room_acl.specs.Principals.{IsPrincipal, is_principal_byte}
 use Rattle.room_records.specs.Names.{Path, IsFileName, IsPath, path_text}
-use Rattle.room_tree.specs.CommandModel.{CommandModel}
-use Rattle.room_tree.specs.CommandModel as C
-use Rattle.room_tree.specs.Lawful.{IsWho, IsEntry, IsLawful}
+use Rattle.room_commands.specs.CommandModel.{CommandModel}
+use Rattle.room_commands.specs.CommandModel as C
+use Rattle.room_commands.specs.Lawful.{IsWho, IsEntry, IsLawful}
 use Rattle.room_wire.specs.Texts.{who_text, entry_type, entry, entries, at, cmd, num, obj, path, bytes, members, command_data, command_text}
 use Rattle.room_wire.specs.Commands.{of_path, bytes_by, rename_by, set_list_by, chown_by, access_by, command_in, command_of_body}
 use Rattle.room_wire.specs.declared.commands.PathVerb.TheVariants as P

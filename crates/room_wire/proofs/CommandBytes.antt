@@ -7,7 +7,7 @@ use Rattle.base64.specs.declared.decode.DecodeAllocError.TheVariants.{DecodeErro
 use Rattle.base64.specs.Engines.{standard}
 use Rattle.base64.specs.GeneralPurpose.{decode_of, decoded_of, encode_of, IsBytes, IsConsistent, IsDecodeFailure}
 use Rattle.base64.proofs.EngineFacts.{decode_of-encode_of}
-use Rattle.room_tree.specs.Lawful.{AreBytes}
+use Rattle.room_commands.specs.Lawful.{AreBytes}
 
 pub decoded_some : (given text bytes : List ℕ) → given ≡ text → decode_of standard given ≡ Ok bytes → Some bytes ≡ decoded_of standard text
 unfolding decoded_of

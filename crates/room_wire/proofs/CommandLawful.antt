@@ -12,8 +12,8 @@ use Rattle.room_acl.specs.Bits.{IsFlags, IsMask, identifier_group}
 use Rattle.room_acl.specs.Entries.{EntryModel, names_its_kind}
 use Rattle.room_acl.specs.Principals.{IsPrincipal, is_principal_byte}
 use Rattle.room_records.specs.Names.{Path, IsPath}
-use Rattle.room_tree.specs.CommandModel.{CommandModel}
-use Rattle.room_tree.specs.Lawful.{AreBytes, IsWho, IsEntry, IsLawful}
+use Rattle.room_commands.specs.CommandModel.{CommandModel}
+use Rattle.room_commands.specs.Lawful.{AreBytes, IsWho, IsEntry, IsLawful}
 use Rattle.room_wire.specs.Reading.{has_count, json_of, number_at, text_at, mask_from, mask_at, flags_from, flags_at, is_principal, principal_from, principal_at, allow_at, named_who, who_from, entry_of, entry_in, cons, entries_in, entries_at}
 use Rattle.room_wire.specs.Commands.{path_from, path_at, list_flags_from, list_flags_at, verb_at, of_path, of_bytes, bytes_by, rename_by, set_list_by, chown_by, access_by, verb_command, command_by, command_in, command_of_body, bytes_in}
 use Rattle.room_wire.specs.declared.commands.PathVerb.{PathVerb}

@@ -12,7 +12,7 @@ use Rattle.room_acl.specs.Bits.{IsFlags, IsMask, identifier_group}
 use Rattle.room_acl.specs.Entries.{EntryModel, names_its_kind}
 use Rattle.room_acl.specs.Principals.{IsPrincipal, is_principal_byte}
 use Rattle.room_records.specs.Names.{Path, IsPath, path_text}
-use Rattle.room_tree.specs.Lawful.{IsWho, IsEntry}
+use Rattle.room_commands.specs.Lawful.{IsWho, IsEntry}
 use Rattle.room_wire.specs.Texts.{who_text, entry_type, entry, entries}
 use Rattle.room_wire.specs.Reading.{flags_from, mask_from, allow_from, principal_from, named_who, who_from, entry_of, entry_in, cons, entries_in}
 use Rattle.room_wire.specs.Commands.{path_from, list_flags_from}

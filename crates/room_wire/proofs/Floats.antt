@@ -6,11 +6,11 @@ use Rattle.serde_json.specs.Written.{has_float, items_have_float}
 use Rattle.room_acl.specs.declared.subject.Kind.{Kind}
 use Rattle.room_acl.specs.declared.subject.Kind.TheVariants.{File, Folder}
 use Rattle.room_records.specs.Names.{Name, Path}
-use Rattle.room_tree.specs.declared.reply.Fault.{Fault}
-use Rattle.room_tree.specs.CommandModel.{CommandModel}
-use Rattle.room_tree.specs.CommandModel as C
-use Rattle.room_tree.specs.ReplyModel.{ReplyModel}
-use Rattle.room_tree.specs.ReplyModel as R
+use Rattle.room_commands.specs.declared.reply.Fault.{Fault}
+use Rattle.room_commands.specs.CommandModel.{CommandModel}
+use Rattle.room_commands.specs.CommandModel as C
+use Rattle.room_commands.specs.ReplyModel.{ReplyModel}
+use Rattle.room_commands.specs.ReplyModel as R
 use Rattle.room_wire.specs.Texts.{kind, named_child, named, command_data, reply_data, refusal_data}
 use Rattle.room_wire.proofs.Entries.{entries_have_no_float}
 

@@ -11,7 +11,7 @@ use Rattle.room_acl.specs.SubjectModel.{SubjectModel}
 use Rattle.room_acl.specs.declared.subject.Subject.{Subject}
 use Rattle.room_records.specs.Names.{is_sid}
 use Rattle.room_records.specs.Roster.{groups_of}
-use Rattle.room_tree.specs.CommandModel.{CommandModel}
+use Rattle.room_commands.specs.CommandModel.{CommandModel}
 use Rattle.room_wire.specs.declared.ask.Ask.{Ask}
 use Rattle.room_wire.specs.declared.ask.Ask.TheVariants as A
 use Rattle.room_wire.specs.declared.fault.WireFault.{WireFault}

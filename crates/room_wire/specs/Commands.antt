@@ -8,9 +8,9 @@ use Rattle.base64.specs.GeneralPurpose.{decoded_of}
 use Rattle.room_acl.specs.Entries.{EntryModel}
 use Rattle.room_records.specs.Limits.{max_names, max_name_bytes}
 use Rattle.room_records.specs.Names.{Name, Path, is_name_byte, path_text}
-use Rattle.room_tree.specs.declared.command.Command.{Command}
-use Rattle.room_tree.specs.CommandModel.{CommandModel, command_model}
-use Rattle.room_tree.specs.CommandModel as C
+use Rattle.room_commands.specs.declared.command.Command.{Command}
+use Rattle.room_commands.specs.CommandModel.{CommandModel, command_model}
+use Rattle.room_commands.specs.CommandModel as C
 use Rattle.room_wire.specs.declared.commands.PathVerb.{PathVerb}
 use Rattle.room_wire.specs.declared.commands.PathVerb.TheVariants as P
 use Rattle.room_wire.specs.declared.commands.BytesVerb.{BytesVerb}

@@ -1,7 +1,7 @@
 -- An event, as contracts see it.
 use Rattle.std.specs.Prelude.{ℕ, List}
 use Rattle.room_acl.specs.SubjectModel.{SubjectModel}
-use Rattle.room_tree.specs.CommandModel.{CommandModel, command_model}
+use Rattle.room_commands.specs.CommandModel.{CommandModel, command_model}
 use Rattle.room_wire.specs.declared.event.Event.{Event}
 use Rattle.room_wire.specs.declared.event.Event.TheVariants as E
 

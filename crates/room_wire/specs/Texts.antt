@@ -10,12 +10,12 @@ use Rattle.room_acl.specs.declared.who.Who.{Who}
 use Rattle.room_acl.specs.declared.who.Who.TheVariants.{Owner, Group, Everyone, User, Members as GroupNamed}
 use Rattle.room_acl.specs.Entries.{EntryModel}
 use Rattle.room_records.specs.Names.{Name, Path, path_text}
-use Rattle.room_tree.specs.declared.reply.Fault.{Fault}
-use Rattle.room_tree.specs.declared.reply.Fault.TheVariants as F
-use Rattle.room_tree.specs.CommandModel.{CommandModel}
-use Rattle.room_tree.specs.CommandModel as C
-use Rattle.room_tree.specs.ReplyModel.{ReplyModel, Refusal}
-use Rattle.room_tree.specs.ReplyModel as T
+use Rattle.room_commands.specs.declared.reply.Fault.{Fault}
+use Rattle.room_commands.specs.declared.reply.Fault.TheVariants as F
+use Rattle.room_commands.specs.CommandModel.{CommandModel}
+use Rattle.room_commands.specs.CommandModel as C
+use Rattle.room_commands.specs.ReplyModel.{ReplyModel, Refusal}
+use Rattle.room_commands.specs.ReplyModel as T
 
 abbrev pub num : ℕ → Data
 num n = number (unsigned n)

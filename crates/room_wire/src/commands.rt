@@ -3,8 +3,8 @@ ghost use Rattle.std.specs.Prelude.{◌≡◌, IfOk, option_map};
 ghost use Rattle.serde_json.specs.View.{view};
 ghost use Rattle.base64.specs.Engines.{standard};
 ghost use Rattle.base64.specs.GeneralPurpose.{decoded_of};
-ghost use Rattle.room_tree.specs.CommandModel.{command_model};
-ghost use Rattle.room_tree.specs.Lawful.{AreBytes, IsLawful};
+ghost use Rattle.room_commands.specs.CommandModel.{command_model};
+ghost use Rattle.room_commands.specs.Lawful.{AreBytes, IsLawful};
 ghost use Rattle.room_wire.specs.Commands.{path_from, path_at, bytes_at, list_flags_from, list_flags_at, verb_from, verb_at, of_path, of_bytes, bytes_by, rename_by, set_list_by, chown_by, access_by, verb_command, command_in, command_of_body, bytes_in, ReadsCommand};
 ghost use Rattle.room_wire.specs.declared.commands.Verb.TheVariants as V;
 
@@ -13,8 +13,8 @@ use crate::reading::{entries_at, has_count, json_in, mask_at, number_at, princip
 use base64::DecodeAllocError;
 use base64::engine::general_purpose::STANDARD;
 use room_acl::{Entry, ListFlags, Mask, Principal};
+use room_commands::Command;
 use room_records::Path;
-use room_tree::Command;
 use serde_json::Value;
 use std::alloc::{AllocError, Global};
 

@@ -1,7 +1,7 @@
 //! Laws of commands and their texts.
 ghost use Rattle.std.specs.Prelude.{◌≡◌, Some};
-ghost use Rattle.room_tree.specs.CommandModel.{CommandModel};
-ghost use Rattle.room_tree.specs.Lawful.{IsLawful};
+ghost use Rattle.room_commands.specs.CommandModel.{CommandModel};
+ghost use Rattle.room_commands.specs.Lawful.{IsLawful};
 ghost use Rattle.room_wire.specs.Texts.{command_text};
 ghost use Rattle.room_wire.specs.Commands.{command_of_body};
 

@@ -2,15 +2,15 @@
 ghost use Rattle.std.specs.Prelude.{◌≡◌, [], ◌∷◌, IfOk, codes};
 ghost use Rattle.serde_json.specs.Data.{array, string};
 ghost use Rattle.serde_json.specs.View.{view, items_view};
-ghost use Rattle.room_tree.specs.ReplyModel.{reply_model};
+ghost use Rattle.room_commands.specs.ReplyModel.{reply_model};
 ghost use Rattle.room_wire.specs.Texts.{num, obj, ok, at, fault_number, fault_name, refusal_data, reply_data, reply_text};
 ghost use Rattle.room_wire.specs.Texts as T;
 
 use crate::writing::{array_value, entry_values};
 use base64::engine::general_purpose::STANDARD;
 use room_acl::{Entry, Kind, ListFlags, Mask, Principal};
+use room_commands::{Fault, Reply};
 use room_records::{FileName, Path};
-use room_tree::{Fault, Reply};
 use serde_json::{Value, json};
 use std::alloc::{AllocError, Global};
 

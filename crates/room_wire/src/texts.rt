@@ -2,15 +2,15 @@
 ghost use Rattle.std.specs.Prelude.{◌≡◌, [], ◌∷◌, IfOk, codes};
 ghost use Rattle.serde_json.specs.Data.{array, string};
 ghost use Rattle.serde_json.specs.View.{view};
-ghost use Rattle.room_tree.specs.CommandModel.{command_model};
+ghost use Rattle.room_commands.specs.CommandModel.{command_model};
 ghost use Rattle.room_wire.specs.Texts.{num, obj, cmd, at, command_data, command_text};
 ghost use Rattle.room_wire.specs.Texts as T;
 
 use crate::writing::{array_value, entry_values};
 use base64::engine::general_purpose::STANDARD;
 use room_acl::{Entry, ListFlags, Mask, Principal};
+use room_commands::Command;
 use room_records::Path;
-use room_tree::Command;
 use serde_json::{Value, json};
 use std::alloc::{AllocError, Global};
 

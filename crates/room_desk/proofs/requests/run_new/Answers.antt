@@ -4,7 +4,7 @@ use Rattle.room_records.specs.declared.change.Change.{Change}
 use Rattle.room_records.specs.declared.change.Change.TheVariants.{PutSlot}
 use Rattle.room_records.specs.declared.session.SlotRow.{SlotRow}
 use Rattle.room_records.specs.Changes.{apply_changes, RulesHoldAfterEach}
-use Rattle.room_tree.specs.CommandModel.{command_model}
+use Rattle.room_commands.specs.CommandModel.{command_model}
 use Rattle.room_desk.specs.AnswerModel.{AnswerModel, Reply}
 use Rattle.room_desk.proofs.Running.{planned_row, all_changes, planned_rules, ran}
 use Rattle.room_desk.proofs.requests.run_new.Goals as goal

@@ -4,7 +4,7 @@ use Rattle.room_records.specs.Rules.{RulesHold}
 use Rattle.room_records.specs.Changes.{apply_change}
 use Rattle.room_records.specs.declared.change.Change.{Change}
 use Rattle.room_records.specs.declared.change.Change.TheVariants.{PutSession}
-use Rattle.room_tree.specs.ReplyModel.{Opened}
+use Rattle.room_commands.specs.ReplyModel.{Opened}
 use Rattle.room_wire.specs.Texts.{reply_text}
 use Rattle.room_wire.specs.EventModel.{Open}
 use Rattle.room_desk.specs.AnswerModel.{answer_model}

@@ -1,6 +1,6 @@
 use Rattle.std.proofs.Common.{◌≡◌}
 use Rattle.std.specs.Vec.Iter.{into_iter_items}
-use Rattle.room_tree.specs.Checks.{first_refusal}
+use Rattle.room_commands.specs.Checks.{first_refusal}
 use Rattle.room_model.proofs.refusal.first_refusal.Given as goal
 
 abbrev pub invariant-loop-check : goal.invariant-loop-check

@@ -1,5 +1,5 @@
 use Rattle.std.proofs.Common.{◌≡◌, map, take}
-use Rattle.room_tree.specs.SetList.{clear_inherited}
+use Rattle.room_commands.specs.SetList.{clear_inherited}
 use Rattle.room_model.proofs.setlist.all_cleared.Given as goal
 
 abbrev pub invariant-loop-entry : goal.invariant-loop-entry

@@ -1,15 +1,15 @@
 use Rattle.std.proofs.Common.{◌≡◌, ℕ, ◌<◌, ◌^◌, refl, ap, sym, ◌∙◌, arith, List, [], ◌∷◌, length, None, Some}
 use Rattle.room_records.specs.declared.change.Change.TheVariants.{PutDoc}
 use Rattle.room_records.specs.Room.{Object}
-use Rattle.room_tree.specs.CommandModel as C
-use Rattle.room_tree.specs.Checks.{walk, check_exists, check_file, check_right, check_size}
+use Rattle.room_commands.specs.CommandModel as C
+use Rattle.room_commands.specs.Checks.{walk, check_exists, check_file, check_right, check_size}
 use Rattle.room_tree.specs.Places.{node_of}
-use Rattle.room_tree.specs.ReplyModel.{Size}
+use Rattle.room_commands.specs.ReplyModel.{Size}
 use Rattle.room_tree.proofs.Checking.{some_stays, none_passes, first_alone, small_by_check}
 use Rattle.room_tree.proofs.Changed.{is_document, replaced_plans, document_replaces}
-use Rattle.room_tree.proofs.EffectIsRoom.{written_is_room}
+use Rattle.room_commands.proofs.EffectIsRoom.{written_is_room}
 use Rattle.room_tree.proofs.Outcomes.{refusal_plans}
-use Rattle.room_tree.proofs.Rights.{all_none}
+use Rattle.room_commands.proofs.Rights.{all_none}
 use Rattle.room_tree.proofs.changing.plan_write.Goals as goal
 
 pub returns-in-Refused-clause-effect : goal.returns-in-Refused-clause-effect

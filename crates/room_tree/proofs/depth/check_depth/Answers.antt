@@ -1,7 +1,7 @@
 use Rattle.std.proofs.Common.{◌≡◌, ℕ, ◌-◌, refl, ap, sym, ◌∙◌, subst, length, Some}
 use Rattle.room_records.specs.Names.{Path}
-use Rattle.room_tree.specs.declared.reply.Fault.TheVariants.{TooDeep}
-use Rattle.room_tree.specs.Checks.{refuse_if}
+use Rattle.room_commands.specs.declared.reply.Fault.TheVariants.{TooDeep}
+use Rattle.room_commands.specs.Checks.{refuse_if}
 use Rattle.room_tree.specs.Depths.{TellsBelow}
 use Rattle.room_tree.specs.Places.{node_of}
 use Rattle.room_tree.proofs.Depths.{depth_check}

@@ -1,8 +1,8 @@
 use Rattle.std.proofs.Common.{◌≡◌, ◌-◌, ap, sym, ◌∙◌, subst, [], ◌∷◌, take, length, Some}
 use Rattle.room_records.specs.Names.{Path}
 use Rattle.room_records.specs.Room.{parent_of}
-use Rattle.room_tree.specs.declared.reply.Fault.TheVariants.{Exist}
-use Rattle.room_tree.specs.Checks.{refuse_if, is_root, walk, check_absent, check_right}
+use Rattle.room_commands.specs.declared.reply.Fault.TheVariants.{Exist}
+use Rattle.room_commands.specs.Checks.{refuse_if, is_root, walk, check_absent, check_right}
 use Rattle.room_tree.proofs.Checking.{skip, stop, off_root, is_absent, not_absent, first_alone}
 use Rattle.room_tree.proofs.making.folder_for_new.Goals as goal
 

@@ -2,8 +2,8 @@ use Rattle.std.proofs.Common.{ap, sym, ◌∙◌, [], ◌∷◌}
 use Rattle.std.specs.Prelude.{nat_le, nat_lt}
 use Rattle.room_records.specs.Limits.{max_children, max_objects}
 use Rattle.room_records.specs.Records.{Records, ObjectRecords}
-use Rattle.room_tree.specs.declared.reply.Fault.TheVariants.{FolderFull, RoomFull}
-use Rattle.room_tree.specs.Checks.{refuse_if, check_folder_full, check_room_full}
+use Rattle.room_commands.specs.declared.reply.Fault.TheVariants.{FolderFull, RoomFull}
+use Rattle.room_commands.specs.Checks.{refuse_if, check_folder_full, check_room_full}
 use Rattle.room_tree.proofs.Checking.{skip, stop, first_alone}
 use Rattle.room_tree.proofs.Made.{before_next}
 use Rattle.room_tree.proofs.making.number_for_new.Goals as goal

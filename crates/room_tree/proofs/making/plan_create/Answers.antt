@@ -1,10 +1,10 @@
 use Rattle.std.proofs.Common.{◌≡◌, ◌<◌, ◌^◌, arith, ap, sym, ◌∙◌, [], ◌∷◌, None, length}
 use Rattle.room_records.specs.Records.{Records}
 use Rattle.room_records.specs.Room.{parent_of}
-use Rattle.room_tree.specs.declared.reply.Fault.TheVariants.{Exist}
-use Rattle.room_tree.specs.CommandModel as C
-use Rattle.room_tree.specs.Checks.{refuse_if, is_root, walk, check_absent, check_right, check_size, check_folder_full, check_room_full}
-use Rattle.room_tree.specs.ReplyModel.{Size}
+use Rattle.room_commands.specs.declared.reply.Fault.TheVariants.{Exist}
+use Rattle.room_commands.specs.CommandModel as C
+use Rattle.room_commands.specs.Checks.{refuse_if, is_root, walk, check_absent, check_right, check_size, check_folder_full, check_room_full}
+use Rattle.room_commands.specs.ReplyModel.{Size}
 use Rattle.room_tree.proofs.Checking.{some_stays, none_passes, skip, stop, small_by_check}
 use Rattle.room_tree.proofs.Made.{create_plans}
 use Rattle.room_tree.proofs.Outcomes.{refusal_plans}

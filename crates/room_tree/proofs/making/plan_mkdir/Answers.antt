@@ -1,9 +1,9 @@
 use Rattle.std.proofs.Common.{ap, ◌∙◌, [], ◌∷◌, refl}
 use Rattle.room_records.specs.Records.{Records}
 use Rattle.room_records.specs.Room.{parent_of}
-use Rattle.room_tree.specs.declared.reply.Fault.TheVariants.{Exist}
-use Rattle.room_tree.specs.CommandModel as C
-use Rattle.room_tree.specs.Checks.{refuse_if, is_root, walk, check_absent, check_right, check_folder_full, check_room_full}
+use Rattle.room_commands.specs.declared.reply.Fault.TheVariants.{Exist}
+use Rattle.room_commands.specs.CommandModel as C
+use Rattle.room_commands.specs.Checks.{refuse_if, is_root, walk, check_absent, check_right, check_folder_full, check_room_full}
 use Rattle.room_tree.proofs.Checking.{some_stays, none_passes}
 use Rattle.room_tree.proofs.Made.{mkdir_plans}
 use Rattle.room_tree.proofs.Outcomes.{refusal_plans}

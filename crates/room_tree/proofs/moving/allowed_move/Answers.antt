@@ -1,6 +1,6 @@
 use Rattle.std.proofs.Common.{sym, ◌∙◌, ◌++◌, ◌||◌}
-use Rattle.room_tree.specs.declared.reply.Fault.TheVariants.{Inval}
-use Rattle.room_tree.specs.Checks.{refuse_if, is_root, is_at_or_below}
+use Rattle.room_commands.specs.declared.reply.Fault.TheVariants.{Inval}
+use Rattle.room_commands.specs.Checks.{refuse_if, is_root, is_at_or_below}
 use Rattle.room_tree.specs.Renames.{end_checks, move_rights}
 use Rattle.room_tree.proofs.Checking.{skip, some_stays, none_passes}
 use Rattle.room_tree.proofs.Renamed.{paths_pass}

@@ -1,6 +1,6 @@
 use Rattle.std.proofs.Common.{ap, ◌∙◌, [], ◌∷◌}
 use Rattle.room_records.specs.Records.{Records}
-use Rattle.room_tree.specs.Checks.{walk, check_exists, check_absent}
+use Rattle.room_commands.specs.Checks.{walk, check_exists, check_absent}
 use Rattle.room_tree.proofs.Checking.{some_stays, none_passes}
 use Rattle.room_tree.proofs.moving.ends_of_move.Goals as goal
 

@@ -1,5 +1,5 @@
 use Rattle.std.proofs.Common.{ap, sym, ◌∙◌, Some, [], ◌∷◌}
-use Rattle.room_tree.specs.Checks.{check_absent, walk}
+use Rattle.room_commands.specs.Checks.{check_absent, walk}
 use Rattle.room_tree.proofs.Checking.{skip, stop, first_alone, is_absent, not_absent}
 use Rattle.room_tree.proofs.moving.folder_of_free.Goals as goal
 

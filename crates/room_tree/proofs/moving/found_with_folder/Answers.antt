@@ -1,5 +1,5 @@
 use Rattle.std.proofs.Common.{ap, sym, ◌∙◌, Some, [], ◌∷◌}
-use Rattle.room_tree.specs.Checks.{check_exists, walk}
+use Rattle.room_commands.specs.Checks.{check_exists, walk}
 use Rattle.room_tree.proofs.Checking.{stop, passes_to, missing}
 use Rattle.room_tree.proofs.Renamed.{root_is_short}
 use Rattle.room_tree.proofs.moving.found_with_folder.Goals as goal

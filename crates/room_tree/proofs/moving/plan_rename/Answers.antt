@@ -1,10 +1,10 @@
 use Rattle.std.proofs.Common.{ap, sym, ◌∙◌, ◌∷◌, ◌++◌, ◌||◌}
 use Rattle.room_records.specs.Records.{Records}
-use Rattle.room_tree.specs.CommandModel as C
-use Rattle.room_tree.specs.declared.reply.Fault.TheVariants.{Inval}
-use Rattle.room_tree.specs.Checks.{refuse_if, is_root, is_at_or_below}
+use Rattle.room_commands.specs.CommandModel as C
+use Rattle.room_commands.specs.declared.reply.Fault.TheVariants.{Inval}
+use Rattle.room_commands.specs.Checks.{refuse_if, is_root, is_at_or_below}
 use Rattle.room_tree.specs.Renames.{end_checks, move_rights, move_limits}
-use Rattle.room_tree.specs.ReplyModel.{reply_model}
+use Rattle.room_commands.specs.ReplyModel.{reply_model}
 use Rattle.room_tree.proofs.Checking.{some_stays, none_passes}
 use Rattle.room_tree.proofs.Outcomes.{refusal_plans}
 use Rattle.room_tree.proofs.Renamed.{rename_plans}

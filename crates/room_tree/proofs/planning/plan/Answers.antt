@@ -1,8 +1,8 @@
 use Rattle.std.proofs.Common.{ℕ, refl, sym, subst, List, IfOk}
 use Rattle.room_acl.specs.Entries.{EntryModel}
-use Rattle.room_tree.specs.declared.command.Command.{Command}
-use Rattle.room_tree.specs.CommandModel.{command_model}
-use Rattle.room_tree.specs.CommandModel as C
+use Rattle.room_commands.specs.declared.command.Command.{Command}
+use Rattle.room_commands.specs.CommandModel.{command_model}
+use Rattle.room_commands.specs.CommandModel as C
 use Rattle.room_tree.specs.Plans.{PlansEffect}
 use Rattle.room_tree.proofs.planning.plan.Goals as goal
 

@@ -1,5 +1,5 @@
 use Rattle.std.proofs.Common.{sym, ap, ◌∙◌, Option, Some, [], ◌∷◌}
-use Rattle.room_tree.specs.Checks.{first_refusal, check_exists, walk}
+use Rattle.room_commands.specs.Checks.{first_refusal, check_exists, walk}
 use Rattle.room_tree.proofs.Checking.{some_stays, passes_to, missing}
 use Rattle.room_tree.proofs.reaching.reach.Goals as goal
 

@@ -1,5 +1,5 @@
 use Rattle.std.proofs.Common.{sym, ◌∙◌, [], ◌∷◌}
-use Rattle.room_tree.specs.Checks.{check_exists, walk}
+use Rattle.room_commands.specs.Checks.{check_exists, walk}
 use Rattle.room_tree.specs.Places.{use_checks}
 use Rattle.room_tree.proofs.Checking.{some_stays, none_passes}
 use Rattle.room_tree.proofs.reaching.reach_to_use.Goals as goal

@@ -1,6 +1,6 @@
 use Rattle.std.proofs.Common.{◌≡◌, ◌<◌, ◌^◌, sym, ap, ◌∙◌, length, arith}
-use Rattle.room_tree.specs.Checks.{bytes_at}
-use Rattle.room_tree.specs.Effect.{size_of}
+use Rattle.room_commands.specs.Checks.{bytes_at}
+use Rattle.room_commands.specs.Effect.{size_of}
 use Rattle.room_tree.proofs.Checking.{few_bytes}
 use Rattle.room_tree.proofs.reaching.size_of.Goals as goal
 

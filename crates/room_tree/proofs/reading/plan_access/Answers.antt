@@ -1,10 +1,10 @@
 use Rattle.std.proofs.Common.{refl, ap, ◌∙◌}
 use Rattle.std.specs.Prelude.{bit_and}
 use Rattle.room_acl.specs.Access.{allowed_mask}
-use Rattle.room_tree.specs.CommandModel as C
+use Rattle.room_commands.specs.CommandModel as C
 use Rattle.room_tree.proofs.Outcomes.{refusal_plans, reading_plans}
 use Rattle.room_tree.proofs.Replies.{access_reply}
-use Rattle.room_tree.specs.ReplyModel.{Allowed}
+use Rattle.room_commands.specs.ReplyModel.{Allowed}
 use Rattle.room_tree.proofs.reading.plan_access.Goals as goal
 
 pub returns-in-Refused-clause-effect : goal.returns-in-Refused-clause-effect

@@ -1,5 +1,5 @@
 use Rattle.std.proofs.Common.{refl, ◌∙◌}
-use Rattle.room_tree.specs.CommandModel as C
+use Rattle.room_commands.specs.CommandModel as C
 use Rattle.room_tree.proofs.Outcomes.{refusal_plans, reading_plans}
 use Rattle.room_tree.proofs.Replies.{entries_reply}
 use Rattle.room_tree.proofs.reading.plan_getlist.Goals as goal

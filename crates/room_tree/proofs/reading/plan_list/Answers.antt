@@ -1,8 +1,8 @@
 use Rattle.std.proofs.Common.{refl, ap, ◌∙◌}
 use Rattle.room_records.specs.Records.{Records}
-use Rattle.room_tree.specs.CommandModel as C
+use Rattle.room_commands.specs.CommandModel as C
 use Rattle.room_tree.proofs.Outcomes.{refusal_plans, reading_plans}
-use Rattle.room_tree.specs.ReplyModel.{Names}
+use Rattle.room_commands.specs.ReplyModel.{Names}
 use Rattle.room_tree.proofs.reading.plan_list.Goals as goal
 
 pub returns-in-Refused-clause-effect : goal.returns-in-Refused-clause-effect

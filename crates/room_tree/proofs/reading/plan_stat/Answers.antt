@@ -1,6 +1,6 @@
 use Rattle.std.proofs.Common.{refl, ap, ◌∙◌}
 use Rattle.room_records.specs.Records.{Records}
-use Rattle.room_tree.specs.CommandModel as C
+use Rattle.room_commands.specs.CommandModel as C
 use Rattle.room_tree.proofs.Outcomes.{refusal_plans, reading_plans}
 use Rattle.room_tree.proofs.Replies.{stat_reply}
 use Rattle.room_tree.proofs.reading.plan_stat.Goals as goal

@@ -2,8 +2,8 @@ use Rattle.std.proofs.Common.{◌≡◌, ℕ, ◌-◌, ap, ◌∙◌, subst, ari
 use Rattle.std.proofs.lemmas.List.{take_all}
 use Rattle.room_records.specs.Names.{Path}
 use Rattle.room_records.specs.Room.{parent_of}
-use Rattle.room_tree.specs.ReplyModel.{Refusal}
-use Rattle.room_tree.specs.Checks.{removal_refusal, check_right}
+use Rattle.room_commands.specs.ReplyModel.{Refusal}
+use Rattle.room_commands.specs.Checks.{removal_refusal, check_right}
 use Rattle.room_tree.proofs.removing.check_removal.Goals as goal
 
 pub returns : goal.returns

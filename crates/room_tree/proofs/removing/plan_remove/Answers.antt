@@ -2,15 +2,15 @@ use Rattle.std.proofs.Common.{◌≡◌, ap, sym, ◌∙◌, arith, [], ◌∷�
 use Rattle.room_records.specs.Records.{Records}
 use Rattle.room_records.specs.Room.{children}
 use Rattle.std.specs.Prelude.{nat_lt}
-use Rattle.room_tree.specs.declared.reply.Fault.TheVariants.{Inval, NotEmpty}
-use Rattle.room_tree.specs.CommandModel as C
-use Rattle.room_tree.specs.ReplyModel.{reply_model}
-use Rattle.room_tree.specs.Checks.{refuse_if, is_root, walk, check_exists, check_removal}
+use Rattle.room_commands.specs.declared.reply.Fault.TheVariants.{Inval, NotEmpty}
+use Rattle.room_commands.specs.CommandModel as C
+use Rattle.room_commands.specs.ReplyModel.{reply_model}
+use Rattle.room_commands.specs.Checks.{refuse_if, is_root, walk, check_exists, check_removal}
 use Rattle.room_tree.proofs.Checking.{some_stays, none_passes, first_alone}
-use Rattle.room_tree.proofs.ChecksTell.{not_refused}
+use Rattle.room_commands.proofs.ChecksTell.{not_refused}
 use Rattle.room_tree.proofs.Made.{some_test, none_test}
 use Rattle.room_tree.proofs.Outcomes.{refusal_plans}
-use Rattle.room_tree.proofs.Rights.{all_none}
+use Rattle.room_commands.proofs.Rights.{all_none}
 use Rattle.room_tree.proofs.RowsRemoved.{remove_plans}
 use Rattle.room_tree.proofs.removing.plan_remove.Goals as goal
 

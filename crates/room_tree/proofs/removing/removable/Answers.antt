@@ -1,7 +1,7 @@
 use Rattle.std.proofs.Common.{◌≡◌, ap, sym, ◌∙◌, subst, [], ◌∷◌, length, Some}
 use Rattle.room_records.specs.Names.{Path}
-use Rattle.room_tree.specs.declared.reply.Fault.TheVariants.{Inval}
-use Rattle.room_tree.specs.Checks.{refuse_if, is_root, walk, check_exists, check_removal}
+use Rattle.room_commands.specs.declared.reply.Fault.TheVariants.{Inval}
+use Rattle.room_commands.specs.Checks.{refuse_if, is_root, walk, check_exists, check_removal}
 use Rattle.room_tree.proofs.Checking.{skip, stop, off_root, passes_to, missing, some_stays, none_passes, first_alone}
 use Rattle.room_tree.proofs.removing.removable.Goals as goal
 

@@ -5,13 +5,13 @@ use Rattle.room_records.specs.declared.change.Change.TheVariants.{PutNode, PutEn
 use Rattle.room_records.specs.declared.node.Node.{Node}
 use Rattle.room_records.specs.Room.{Object, object_at}
 use Rattle.room_records.proofs.RulesKept.{rules_put}
-use Rattle.room_tree.specs.CommandModel as C
-use Rattle.room_tree.specs.SetList.{own_entries_of_setlist}
+use Rattle.room_commands.specs.CommandModel as C
+use Rattle.room_commands.specs.SetList.{own_entries_of_setlist}
 use Rattle.room_tree.specs.Places.{node_of, kept_entry}
-use Rattle.room_tree.specs.Checks.{walk, check_exists, check_right, check_lawful, kind_of}
+use Rattle.room_commands.specs.Checks.{walk, check_exists, check_right, check_lawful, kind_of}
 use Rattle.room_tree.proofs.Changed.{replaced_plans, entries_replace}
 use Rattle.room_tree.proofs.Checking.{some_stays, none_passes, first_alone, there}
-use Rattle.room_tree.proofs.EffectIsRoom.{setlist_is_room}
+use Rattle.room_commands.proofs.EffectIsRoom.{setlist_is_room}
 use Rattle.room_tree.proofs.Marks.{kept_is}
 use Rattle.room_tree.proofs.Outcomes.{refusal_plans}
 use Rattle.room_tree.proofs.setlist.plan_setlist.Goals as goal

@@ -2,7 +2,7 @@ use Rattle.std.proofs.Common.{◌≡◌, ℕ, ◌<◌, ◌-◌, ap, sym, ◌∙�
 use Rattle.room_acl.specs.declared.who.Who.{Who}
 use Rattle.room_acl.specs.Bits.{IsFlags, identifier_group}
 use Rattle.room_acl.specs.Entries.{EntryModel, names_its_kind}
-use Rattle.room_tree.specs.SetList.{clear_inherited}
+use Rattle.room_commands.specs.SetList.{clear_inherited}
 use Rattle.room_tree.proofs.Marks.{cleared_flags, cleared_are_flags, cleared_group, kind_kept}
 use Rattle.room_tree.proofs.setlist.without_mark.Goals as goal
 

@@ -1,6 +1,6 @@
 use Rattle.std.proofs.Common.{◌≡◌, ◌≤◌, take, drop}
 use Rattle.room_records.specs.Shelf.{Unchanged}
-use Rattle.room_tree.specs.Checks.{walk}
+use Rattle.room_commands.specs.Checks.{walk}
 use Rattle.room_tree.specs.Places.{OfRoom, IsPlace, IsAbove}
 use Rattle.room_tree.proofs.Walks.{walk_from}
 use Rattle.room_tree.proofs.walking.walk_path.Given as goal

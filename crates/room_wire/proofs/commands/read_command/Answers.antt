@@ -1,5 +1,5 @@
 use Rattle.std.proofs.Common.{rules, ◌≡◌, Some}
-use Rattle.room_tree.specs.CommandModel.{command_model}
+use Rattle.room_commands.specs.CommandModel.{command_model}
 use Rattle.room_wire.specs.Commands.{command_of_body}
 use Rattle.room_wire.proofs.CommandLawful.{asked_is_lawful}
 use Rattle.room_wire.proofs.commands.read_command.Goals as goal

@@ -1,7 +1,7 @@
 use Rattle.std.proofs.Common.{ap, ◌∙◌}
 use Rattle.std.proofs.lemmas.Result.{IfOk-weaker}
 use Rattle.serde_json.specs.Written.{has_float, compact_text}
-use Rattle.room_tree.specs.ReplyModel.{reply_model}
+use Rattle.room_commands.specs.ReplyModel.{reply_model}
 use Rattle.room_wire.proofs.Floats.{reply_has_no_float}
 use Rattle.room_wire.proofs.replies.reply_text.Goals as goal
 

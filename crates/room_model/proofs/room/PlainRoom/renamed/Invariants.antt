@@ -1,7 +1,7 @@
 use Rattle.std.proofs.Common.{◌≡◌, map, take}
 use Rattle.room_records.specs.Names.{Path}
 use Rattle.room_records.specs.Room.{Object}
-use Rattle.room_tree.specs.Effect.{moved}
+use Rattle.room_commands.specs.Effect.{moved}
 use Rattle.room_model.proofs.room.PlainRoom.renamed.Given as goal
 
 abbrev pub invariant-loop-entry : goal.invariant-loop-entry

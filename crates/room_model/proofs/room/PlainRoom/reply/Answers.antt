@@ -1,10 +1,10 @@
 use Rattle.std.proofs.Common.{◌≡◌, sym, subst, IfOk}
 use Rattle.room_records.specs.Names.{Path}
-use Rattle.room_tree.specs.declared.command.Command.{Command}
-use Rattle.room_tree.specs.CommandModel.{command_model}
-use Rattle.room_tree.specs.CommandModel as C
-use Rattle.room_tree.specs.ReplyModel.{reply_model}
-use Rattle.room_tree.specs.Effect.{reply}
+use Rattle.room_commands.specs.declared.command.Command.{Command}
+use Rattle.room_commands.specs.CommandModel.{command_model}
+use Rattle.room_commands.specs.CommandModel as C
+use Rattle.room_commands.specs.ReplyModel.{reply_model}
+use Rattle.room_commands.specs.Effect.{reply}
 use Rattle.room_model.proofs.room.PlainRoom.reply.Goals as goal
 
 pub returns-in-Access : goal.returns-in-Access

@@ -1,6 +1,6 @@
 use Rattle.std.proofs.Common.{◌≡◌, map, take}
 use Rattle.room_records.specs.Names.{Path}
-use Rattle.room_tree.specs.Checks.{prefix_fault, proper_prefixes}
+use Rattle.room_commands.specs.Checks.{prefix_fault, proper_prefixes}
 use Rattle.room_model.proofs.room.PlainRoom.walk.Given as goal
 
 abbrev pub invariant-loop-count : goal.invariant-loop-count

@@ -4,8 +4,8 @@ use Rattle.room_records.specs.Limits.{max_children}
 use Rattle.room_records.specs.Names.{path_eq}
 use Rattle.room_records.specs.Records.{Records}
 use Rattle.room_records.specs.Room.{parent_of}
-use Rattle.room_tree.specs.declared.reply.Fault.TheVariants.{FolderFull}
-use Rattle.room_tree.specs.Checks.{refuse_if, check_depth, check_folder_full}
+use Rattle.room_commands.specs.declared.reply.Fault.TheVariants.{FolderFull}
+use Rattle.room_commands.specs.Checks.{refuse_if, check_depth, check_folder_full}
 use Rattle.room_tree.proofs.Checking.{skip, stop, first_alone}
 use Rattle.room_tree.proofs.Renamed.{same_folder, other_folder}
 use Rattle.room_tree.proofs.moving.Move.check_limits.Goals as goal

@@ -3,8 +3,8 @@ use Rattle.room_acl.specs.Bits.{add_file, add_subdirectory}
 use Rattle.room_acl.specs.declared.subject.Kind.TheVariants.{Folder}
 use Rattle.room_records.specs.Names.{Path}
 use Rattle.room_records.specs.Room.{Object, parent_of}
-use Rattle.room_tree.specs.ReplyModel.{Refusal}
-use Rattle.room_tree.specs.Checks.{check_removal, check_right, right_to_add, is_kind}
+use Rattle.room_commands.specs.ReplyModel.{Refusal}
+use Rattle.room_commands.specs.Checks.{check_removal, check_right, right_to_add, is_kind}
 use Rattle.room_tree.proofs.Checking.{skip, stop, first_alone}
 use Rattle.room_tree.proofs.moving.Move.check_rights.Goals as goal
 

@@ -1,5 +1,5 @@
 use Rattle.std.proofs.Common.{sym, ap, ◌∙◌, Some}
-use Rattle.room_tree.specs.Checks.{first_refusal, check_file, check_folder}
+use Rattle.room_commands.specs.Checks.{first_refusal, check_file, check_folder}
 use Rattle.room_tree.specs.Places.{kind_checks}
 use Rattle.room_tree.proofs.Checking.{first_alone}
 use Rattle.room_tree.proofs.place.Place.check_kind.Goals as goal

@@ -2,7 +2,7 @@ use Rattle.std.proofs.Common.{◌≡◌, ap, sym, ◌∙◌}
 use Rattle.room_acl.specs.declared.access.Decision.TheVariants.{Allowed, Denied}
 use Rattle.room_acl.specs.Access.{decision}
 use Rattle.room_records.specs.Names.{Path}
-use Rattle.room_tree.specs.Checks.{denied_at}
+use Rattle.room_commands.specs.Checks.{denied_at}
 use Rattle.room_tree.proofs.Checking.{right_check}
 use Rattle.room_tree.proofs.place.Place.check_right.Goals as goal
 

@@ -1,8 +1,8 @@
 use Rattle.std.proofs.Common.{◌≡◌, sym, ap, ◌∙◌, subst, Option, IfOk, take, length, arith, [], ◌∷◌}
 use Rattle.std.proofs.lemmas.List.{take_all}
 use Rattle.room_records.specs.Names.{Path}
-use Rattle.room_tree.specs.ReplyModel.{Refusal}
-use Rattle.room_tree.specs.Checks.{check_right}
+use Rattle.room_commands.specs.ReplyModel.{Refusal}
+use Rattle.room_commands.specs.Checks.{check_right}
 use Rattle.room_tree.specs.Places.{kind_checks}
 use Rattle.room_tree.proofs.Checking.{first_alone, some_stays, none_passes}
 use Rattle.room_tree.proofs.place.Place.check_use.Goals as goal

@@ -1,6 +1,6 @@
 use Rattle.std.proofs.Common.{◌≡◌, ap, sym, ◌∙◌, Option, [], ◌∷◌, subst, IfOk}
-use Rattle.room_tree.specs.ReplyModel.{Refusal}
-use Rattle.room_tree.specs.Checks.{check_right, first_refusal}
+use Rattle.room_commands.specs.ReplyModel.{Refusal}
+use Rattle.room_commands.specs.Checks.{check_right, first_refusal}
 use Rattle.room_tree.proofs.Checking.{way_check, first_alone}
 use Rattle.room_tree.proofs.place.Place.check_way.Goals as goal
 

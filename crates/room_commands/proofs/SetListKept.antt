@@ -1,0 +1,43 @@
+-- Own entries that SETLIST leaves have no mark.
+use Rattle.std.proofs.Common.{◌≡◌, ℕ, ◌-◌, ◌*◌, ◌/◌, ◌%◌, refl, ap, ◌∙◌, arith, Bool, true, false, not, cond, ◌&&◌, inl, inr, List, [], ◌∷◌, map, filter, bit_and, ◌==◌}
+use Rattle.std.specs.List.{list_all}
+use Rattle.std.proofs.lemmas.Nat.Bits.{and_pow}
+use Rattle.room_acl.specs.Bits.{is_inherited}
+use Rattle.room_acl.specs.Entries.{EntryModel}
+use Rattle.room_acl.proofs.BitTests.{bit_cases}
+use Rattle.room_records.specs.Names.{Path}
+use Rattle.room_commands.specs.SetList.{clear_inherited, follows_at, own_entries_of_setlist}
+
+abbrev no_mark : EntryModel → Bool
+no_mark entry = not (is_inherited entry.flags)
+
+mark_cleared : (flags : ℕ) → is_inherited (flags - bit_and flags 0x80) ≡ false
+mark_cleared flags = elim (bit_cases flags 7) [
+  | inl clear ↦
+      let none : bit_and flags 0x80 ≡ 0 = and_pow flags 7 ∙ ap (λ b. b * 128) clear in
+      let same : flags - bit_and flags 0x80 ≡ flags = omega (arith, none) in
+      ap is_inherited same ∙ ap (λ b. b == 1) clear
+  | inr set ↦
+      let all : bit_and flags 0x80 ≡ 128 = and_pow flags 7 ∙ ap (λ b. b * 128) set in
+      let bit : (flags - 128) / 128 % 2 ≡ 0 = omega (arith, set) in
+      ap (λ n. is_inherited (flags - n)) all ∙ ap (λ b. b == 1) bit
+]
+
+all_cleared : (sent : List EntryModel) → list_all no_mark (map clear_inherited sent) ≡ true
+all_cleared [] = refl
+all_cleared (entry ∷ sent) = ap (λ b. not b && list_all no_mark (map clear_inherited sent)) (mark_cleared entry.flags) ∙ all_cleared sent
+
+all_left : (sent : List EntryModel) → list_all no_mark (filter no_mark sent) ≡ true
+all_left [] = refl
+all_left (entry ∷ sent) = by_test (no_mark entry) refl (all_left sent)
+  where
+    by_test : (b : Bool) → no_mark entry ≡ b → list_all no_mark (filter no_mark sent) ≡ true → list_all no_mark (cond b (entry ∷ filter no_mark sent) (filter no_mark sent)) ≡ true
+    by_test true is rest = ap (λ t. t && list_all no_mark (filter no_mark sent)) is ∙ rest
+    by_test false is rest = rest
+
+pub no_mark_left : (path : Path) (aclflag : ℕ) (sent : List EntryModel) → list_all (λ (entry : EntryModel). not (is_inherited entry.flags)) (own_entries_of_setlist path aclflag sent) ≡ true
+no_mark_left path aclflag sent = by_test (follows_at path aclflag)
+  where
+    by_test : (b : Bool) → list_all no_mark (cond b (filter no_mark sent) (map clear_inherited sent)) ≡ true
+    by_test true = all_left sent
+    by_test false = all_cleared sent

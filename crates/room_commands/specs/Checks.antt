@@ -1,0 +1,178 @@
+-- The checks of a command, in order. The first that fails gives the reply. Which right a command needs follows the meaning of
+-- the bits in RFC 8881, section 6.2.1.3.1; the order, the codes and the limits are our own rules.
+use Rattle.std.specs.Prelude.{ℕ, ◌+◌, ◌-◌, Bool, true, false, not, ◌&&◌, ◌||◌, List, [], ◌∷◌, map, length, Option, None, Some, if◌then◌else◌, is_some, nat_lt, nat_le}
+use Rattle.std.specs.List.{list_any, starts_with}
+use Rattle.room_acl.specs.declared.subject.Kind.{Kind}
+use Rattle.room_acl.specs.declared.subject.Kind.TheVariants.{File, Folder}
+use Rattle.room_acl.specs.declared.access.Decision.{Decision}
+use Rattle.room_acl.specs.declared.access.Decision.TheVariants.{Allowed, Denied}
+use Rattle.room_acl.specs.declared.inheritance.ListFault.{ListFault}
+use Rattle.room_acl.specs.declared.inheritance.ListFault.TheVariants as L
+use Rattle.room_acl.specs.Bits.{read_data, list_directory, write_data, add_file, append_data, add_subdirectory, execute, delete_child, read_attributes, delete_object, read_acl, write_acl, write_owner}
+use Rattle.room_acl.specs.SubjectModel.{SubjectModel}
+use Rattle.room_acl.specs.Access.{decision}
+use Rattle.room_acl.specs.Inheritance.{own_entries_fault}
+use Rattle.room_records.specs.Limits.{max_names, max_children, max_document, max_objects}
+use Rattle.room_records.specs.Names.{Path, name_eq, path_eq}
+use Rattle.room_commands.specs.CommandModel.{CommandModel}
+use Rattle.room_commands.specs.CommandModel as C
+use Rattle.room_commands.specs.declared.reply.Fault.{Fault}
+use Rattle.room_commands.specs.declared.reply.Fault.TheVariants.{NoEnt, NotDir, IsDir, Exist, Access, NotEmpty, Inval, AttrNotSupp, FBig, TooDeep, FolderFull, RoomFull}
+use Rattle.room_records.specs.Room.{Object, Room, object_at, list_of, standing_of, parent_of, children}
+use Rattle.room_commands.specs.ReplyModel.{Refusal}
+use Rattle.room_commands.specs.SetList.{own_entries_of_setlist}
+
+-- the first refusal of a list of checks, if one refuses
+abbrev pub first_refusal : {X : Type 0} → List (Option X) → Option X
+first_refusal [] = None
+first_refusal (None ∷ others) = first_refusal others
+first_refusal (Some x ∷ others) = Some x
+
+-- a refusal other than that of a right
+abbrev pub refusal_without_place : Fault → Refusal
+refusal_without_place code = record { code = code; place = None }
+
+-- refused with this code where a test holds
+abbrev pub refuse_if : Bool → Fault → Option Refusal
+refuse_if true code = Some (refusal_without_place code)
+refuse_if false code = None
+
+-- a refusal of a right names the path whose list was asked, and the bit
+abbrev pub denied_at : Path → Decision → Option Refusal
+denied_at path Allowed = None
+denied_at path (Denied bit) = Some (record { code = Access; place = Some (path, bit) })
+
+-- the wanted bits, by the list of the object (RFC 8881, section 6.2.1)
+abbrev pub right_on : Room → SubjectModel → Path → ℕ → Option Object → Option Refusal
+right_on room caller path wanted None = Some (refusal_without_place NoEnt)
+right_on room caller path wanted (Some o) = denied_at path (decision (list_of room path) caller (standing_of o) wanted)
+
+-- the caller has a right on a path
+abbrev pub check_right : Room → SubjectModel → Path → ℕ → Option Refusal
+check_right room caller path wanted = right_on room caller path wanted (object_at room path)
+
+abbrev pub is_file : Kind → Bool
+is_file File = true
+is_file Folder = false
+
+abbrev pub is_kind : Kind → Option Object → Bool
+is_kind kind None = false
+is_kind File (Some o) = is_file o.kind
+is_kind Folder (Some o) = not (is_file o.kind)
+
+-- something is there
+abbrev pub check_exists : Room → Path → Option Refusal
+check_exists room path = refuse_if (not (is_some (object_at room path))) NoEnt
+
+-- nothing is there
+abbrev pub check_absent : Room → Path → Option Refusal
+check_absent room path = refuse_if (is_some (object_at room path)) Exist
+
+-- it is no file
+abbrev pub check_folder : Room → Path → Option Refusal
+check_folder room path = refuse_if (is_kind File (object_at room path)) NotDir
+
+-- it is no folder
+abbrev pub check_file : Room → Path → Option Refusal
+check_file room path = refuse_if (is_kind Folder (object_at room path)) IsDir
+
+abbrev pub is_root : Path → Bool
+is_root [] = true
+is_root (name ∷ path) = false
+
+-- the folders on the way to a path, from the root down
+abbrev pub proper_prefixes : Path → List Path
+proper_prefixes [] = []
+proper_prefixes (name ∷ path) = [] ∷ map (λ front. name ∷ front) (proper_prefixes path)
+
+-- a folder on the way is there, is a folder, and allows EXECUTE
+abbrev pub prefix_fault : Room → SubjectModel → Path → Option Refusal
+prefix_fault room caller front = first_refusal (check_exists room front ∷ check_folder room front ∷ check_right room caller front execute ∷ [])
+
+-- the walk: the first fault on the way to a path (our own rule)
+abbrev pub walk : Room → SubjectModel → Path → Option Refusal
+walk room caller path = first_refusal (map (prefix_fault room caller) (proper_prefixes path))
+
+-- the folder has room for one child more
+abbrev pub check_folder_full : Room → Path → Option Refusal
+check_folder_full room folder = refuse_if (nat_le max_children (length (children room folder))) FolderFull
+
+-- the room has a number left
+abbrev pub check_room_full : Room → Option Refusal
+check_room_full room = refuse_if (nat_le max_objects room.made) RoomFull
+
+-- a document of this size is small enough
+abbrev pub check_size : ℕ → Option Refusal
+check_size size = refuse_if (nat_lt max_document size) FBig
+
+abbrev pub bytes_of : Option Object → List ℕ
+bytes_of None = []
+bytes_of (Some o) = o.bytes
+
+-- the document at a path
+abbrev pub bytes_at : Room → Path → List ℕ
+bytes_at room path = bytes_of (object_at room path)
+
+-- whether a path is at another one or below it
+abbrev pub is_at_or_below : Path → Path → Bool
+is_at_or_below path top = starts_with name_eq path top
+
+-- one of two rights is enough to remove an object; a refusal names the object and DELETE
+abbrev pub removal_refusal : Path → Option Refusal → Option Refusal → Option Refusal
+removal_refusal path None by_folder = None
+removal_refusal path (Some r) None = None
+removal_refusal path (Some r) (Some s) = Some (record { code = Access; place = Some (path, delete_object) })
+
+-- DELETE on the object or DELETE_CHILD on its folder (RFC 8881, section 6.2.1.3.2, without its fallback to ADD_FILE)
+abbrev pub check_removal : Room → SubjectModel → Path → Option Refusal
+check_removal room caller path = removal_refusal path (check_right room caller path delete_object) (check_right room caller (parent_of path) delete_child)
+
+-- what adding the object to another folder needs
+abbrev pub right_to_add : Room → Path → ℕ
+right_to_add room path = if is_kind Folder (object_at room path) then add_subdirectory else add_file
+
+-- no object of the moved subtree would have more than 16 names
+abbrev pub check_depth : Room → Path → Path → Option Refusal
+check_depth room path to =
+    refuse_if (list_any (λ (e : Path × Object). is_at_or_below e.0 path && nat_lt max_names (length to + (length e.0 - length path))) room.objects) TooDeep
+
+-- the own entries are lawful
+abbrev pub check_lawful : Option ListFault → Option Refusal
+check_lawful None = None
+check_lawful (Some L.Inval) = Some (refusal_without_place Inval)
+check_lawful (Some L.AttrNotSupp) = Some (refusal_without_place AttrNotSupp)
+
+abbrev pub kind_of : Option Object → Kind
+kind_of None = File
+kind_of (Some o) = o.kind
+
+-- the checks of each command (our own rule)
+abbrev pub checks : Room → SubjectModel → CommandModel → List (Option Refusal)
+checks room caller (C.Stat path) = walk room caller path ∷ check_exists room path ∷ check_right room caller path read_attributes ∷ []
+checks room caller (C.ListNames path) = walk room caller path ∷ check_exists room path ∷ check_folder room path ∷ check_right room caller path list_directory ∷ []
+checks room caller (C.Mkdir path) =
+    refuse_if (is_root path) Exist ∷ walk room caller path ∷ check_absent room path ∷ check_right room caller (parent_of path) add_subdirectory
+    ∷ check_folder_full room (parent_of path) ∷ check_room_full room ∷ []
+checks room caller (C.Create bytes path) =
+    refuse_if (is_root path) Exist ∷ walk room caller path ∷ check_absent room path ∷ check_right room caller (parent_of path) add_file
+    ∷ check_size (length bytes) ∷ check_folder_full room (parent_of path) ∷ check_room_full room ∷ []
+checks room caller (C.Read path) = walk room caller path ∷ check_exists room path ∷ check_file room path ∷ check_right room caller path read_data ∷ []
+checks room caller (C.Write bytes path) =
+    walk room caller path ∷ check_exists room path ∷ check_file room path ∷ check_right room caller path write_data ∷ check_size (length bytes) ∷ []
+checks room caller (C.Append bytes path) =
+    walk room caller path ∷ check_exists room path ∷ check_file room path ∷ check_right room caller path append_data
+    ∷ check_size (length (bytes_at room path) + length bytes) ∷ []
+checks room caller (C.Remove path) =
+    refuse_if (is_root path) Inval ∷ walk room caller path ∷ check_exists room path ∷ check_removal room caller path
+    ∷ refuse_if (nat_lt 0 (length (children room path))) NotEmpty ∷ []
+checks room caller (C.Rename path to) =
+    refuse_if (is_root path || is_root to || is_at_or_below to path) Inval
+    ∷ walk room caller path ∷ check_exists room path ∷ walk room caller to ∷ check_absent room to ∷ check_removal room caller path
+    ∷ check_right room caller (parent_of to) (right_to_add room path) ∷ check_depth room path to
+    ∷ (if path_eq (parent_of path) (parent_of to) then None else check_folder_full room (parent_of to)) ∷ []
+checks room caller (C.GetList path) = walk room caller path ∷ check_exists room path ∷ check_right room caller path read_acl ∷ []
+checks room caller (C.SetList aclflag entries path) =
+    walk room caller path ∷ check_exists room path ∷ check_right room caller path write_acl
+    ∷ check_lawful (own_entries_fault (own_entries_of_setlist path aclflag entries) (kind_of (object_at room path))) ∷ []
+checks room caller (C.Chown group owner path) = walk room caller path ∷ check_exists room path ∷ check_right room caller path write_owner ∷ []
+checks room caller (C.Access mask path) = walk room caller path ∷ check_exists room path ∷ []

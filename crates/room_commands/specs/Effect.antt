@@ -1,0 +1,113 @@
+-- The effect of a command: a room and a reply (our own rule).
+use Rattle.std.specs.Prelude.{ℕ, ◌+◌, not, List, [], ◌∷◌, ◌++◌, map, length, drop, Option, None, Some, if◌then◌else◌, bit_and}
+use Rattle.std.specs.List.{filter}
+use Rattle.room_acl.specs.declared.subject.Kind.{Kind}
+use Rattle.room_acl.specs.declared.subject.Kind.TheVariants.{File, Folder}
+use Rattle.room_acl.specs.SubjectModel.{SubjectModel}
+use Rattle.room_acl.specs.Access.{allowed_mask}
+use Rattle.room_records.specs.Names.{Path, path_eq}
+use Rattle.room_commands.specs.CommandModel.{CommandModel}
+use Rattle.room_commands.specs.CommandModel as C
+use Rattle.room_records.specs.Room.{Object, Room, object_at, list_of, standing_of, parent_of, children}
+use Rattle.room_commands.specs.ReplyModel.{ReplyModel, Done, Stat, Names, Size, Bytes, Entries, Allowed, Refused, Refusal, Attributes}
+use Rattle.room_commands.specs.SetList.{own_entries_of_setlist}
+use Rattle.room_commands.specs.Checks.{first_refusal, checks, bytes_at, is_at_or_below}
+
+pub record Effect : Type 0 where
+  pub room : Room
+  pub reply : ReplyModel
+
+-- an object that is not there, where one is asked for
+abbrev pub no_object : Object
+no_object = record { kind = File; owner = []; group = []; aclflag = 0; own = []; bytes = [] }
+
+abbrev pub or_no_object : Option Object → Object
+or_no_object None = no_object
+or_no_object (Some o) = o
+
+abbrev pub object_or_default : Room → Path → Object
+object_or_default room path = or_no_object (object_at room path)
+
+-- a new object follows its folder, has no own entries, and is the caller's, with the folder's group
+abbrev pub new_object : Room → SubjectModel → Path → Kind → List ℕ → Object
+new_object room caller path kind data_bytes = record {
+  kind = kind;
+  owner = caller.name;
+  group = (object_or_default room (parent_of path)).group;
+  aclflag = 1;
+  own = [];
+  bytes = data_bytes;
+}
+
+-- a room with one object more
+abbrev pub with_new : Room → Path → Object → Room
+with_new room path o = record { objects = (path, o) ∷ room.objects; made = room.made + 1 }
+
+-- the object at one path replaced
+abbrev pub with_object : Room → Path → (Object → Object) → Room
+with_object room path change = record room {
+  objects = map (λ (e : Path × Object). if path_eq path e.0 then (e.0, change e.1) else e) room.objects;
+}
+
+-- a room without the object at a path. `made` stays: a number is never used again
+abbrev pub without : Room → Path → Room
+without room path = record room { objects = filter (λ (e : Path × Object). not (path_eq path e.0)) room.objects }
+
+-- a path at or below `path` has that front replaced by `to`; another stays
+abbrev pub moved : Path → Path → Path → Path
+moved path to other = if is_at_or_below other path then to ++ drop (length path) other else other
+
+-- a room with a subtree moved: each object keeps all that is its own
+abbrev pub renamed : Room → Path → Path → Room
+renamed room path to = record room { objects = map (λ (e : Path × Object). (moved path to e.0, e.1)) room.objects }
+
+-- what a command leaves where no check fails
+abbrev pub changed : Room → SubjectModel → CommandModel → Room
+changed room caller (C.Mkdir path) = with_new room path (new_object room caller path Folder [])
+changed room caller (C.Create bytes path) = with_new room path (new_object room caller path File bytes)
+changed room caller (C.Write bytes path) = with_object room path (λ o. record o { bytes = bytes })
+changed room caller (C.Append bytes path) = with_object room path (λ o. record o { bytes = o.bytes ++ bytes })
+changed room caller (C.Remove path) = without room path
+changed room caller (C.Rename path to) = renamed room path to
+changed room caller (C.SetList aclflag entries path) =
+    with_object room path (λ o. record o { aclflag = aclflag; own = own_entries_of_setlist path aclflag entries })
+changed room caller (C.Chown group owner path) = with_object room path (λ o. record o { owner = owner; group = group })
+changed room caller (C.Stat path) = room
+changed room caller (C.ListNames path) = room
+changed room caller (C.Read path) = room
+changed room caller (C.GetList path) = room
+changed room caller (C.Access mask path) = room
+
+-- the size of a document, or how many are in a folder
+abbrev pub size_of : Room → Path → Kind → ℕ
+size_of room path File = length (bytes_at room path)
+size_of room path Folder = length (children room path)
+
+-- what STAT answers
+abbrev pub attributes_of : Room → Path → Object → Attributes
+attributes_of room path o = record { aclflag = o.aclflag; group = o.group; kind = o.kind; owner = o.owner; size = size_of room path o.kind }
+
+-- what it replies where no check fails
+abbrev pub reply : Room → SubjectModel → CommandModel → ReplyModel
+reply room caller (C.Stat path) = Stat (attributes_of room path (object_or_default room path))
+reply room caller (C.ListNames path) = Names (children room path)
+reply room caller (C.Mkdir path) = Done
+reply room caller (C.Create bytes path) = Size (length bytes)
+reply room caller (C.Read path) = Bytes (bytes_at room path)
+reply room caller (C.Write bytes path) = Size (length bytes)
+reply room caller (C.Append bytes path) = Size (length (bytes_at room path) + length bytes)
+reply room caller (C.Remove path) = Done
+reply room caller (C.Rename path to) = Done
+reply room caller (C.GetList path) = Entries (object_or_default room path).aclflag (list_of room path)
+reply room caller (C.SetList aclflag sent path) = Done
+reply room caller (C.Chown group owner path) = Done
+reply room caller (C.Access mask path) =
+    Allowed (bit_and mask (allowed_mask (list_of room path) caller (standing_of (object_or_default room path))))
+
+abbrev pub effect_by : Room → SubjectModel → CommandModel → Option Refusal → Effect
+effect_by room caller command (Some refusal) = record { room = room; reply = Refused refusal }
+effect_by room caller command None = record { room = changed room caller command; reply = reply room caller command }
+
+-- the first check that fails gives the reply, and the room stays
+abbrev pub effect : Room → SubjectModel → CommandModel → Effect
+effect room caller command = effect_by room caller command (first_refusal (checks room caller command))

@@ -1,5 +1,0 @@
-use Rattle.room_tree.proofs.EffectIsRoom.{effect_is_room}
-use Rattle.room_tree.proofs.laws.a_command_keeps_a_room.Goals as goal
-
-pub returns : goal.returns
-returns c = effect_is_room

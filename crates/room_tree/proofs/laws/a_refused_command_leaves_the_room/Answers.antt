@@ -1,5 +1,0 @@
-use Rattle.room_tree.proofs.RoomLaws.{refused_leaves}
-use Rattle.room_tree.proofs.laws.a_refused_command_leaves_the_room.Goals as goal
-
-pub returns : goal.returns
-returns c = refused_leaves
