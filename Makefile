@@ -11,25 +11,23 @@ demo:
 	@if [ -x build/fileroom ]; then echo "demo: a walk with build/fileroom, proved and optimised"; examples/walk; \
 	else echo "demo: a walk with the quick build, which proves nothing (some minutes)"; RT='$(RT)' FILEROOM=examples/quick examples/walk; fi
 
-# Leaves the program, proved and optimised, at build/fileroom. The first time it takes some minutes.
+# Leaves the program, proved and optimised, at build/fileroom, and shows how far it is. Where `make test` has proved these
+# very crates in this checkout, it takes that program.
 build:
-	cd crates/fileroom && $(RT) run -- check < /dev/null
-	mkdir -p build
-	cp crates/fileroom/out/fileroom build/fileroom
+	@RT='$(RT)' tools/build
 
-# Walks through a served room with the quick build, and then proves and tests everything, one task a processor. Nothing
-# else is a verdict.
+# Proves and tests everything from nothing, and then tries wrong bodies in rounds and plays scripts over the proved
+# program. It ends with a table of parts and times. Nothing else is a verdict.
 test:
-	RT='$(RT)' FILEROOM=examples/quick examples/walk
-	RT_JOBS=$$(nproc) $(RT) ci
+	@RT='$(RT)' tests/gate
 
-# Tries more wrong bodies than the gate does: the prover must refuse each.
+# Tries the wrong bodies of tests/wrong in every round, of every crate or of CRATE: the prover must refuse each.
 wrong:
-	@RT='$(RT)' tests/wrong/run
+	@RT='$(RT)' tests/wrong/rounds $(CRATE)
 
 # Refuses each growth of memory in turn, over questions and over a room.
 growth: build
-	tests/growth/run
+	RT='$(RT)' tests/growth/run
 
 # Asks a served room everything over sockets, and compares each answer with docs/.
 wire: build
@@ -39,7 +37,7 @@ wire: build
 tables: build
 	tests/tables/run
 
-# Kills the server in the middle of writes: each request acts once.
+# Kills the server in the middle of writes, 240 times (`make test` 100 times): each request acts once.
 crash: build
 	tests/crash/run
 

@@ -1,31 +1,138 @@
-"""A room in a file, served by build/fileroom on a loopback port, and asked over plain sockets.
+"""What the scripts of tests/ and bench/ share: a room in a file, served on a loopback port, asked over plain sockets.
 
-The scripts of tests/ and bench/ share it. FILEROOM names another program than build/fileroom.
+FILEROOM names another program than build/fileroom. A script calls `need_program` first: from then on it ends, and its
+servers and folders with it, when it is stopped, when its parent ends, and when it takes longer than it may.
+`python3 tests/served.py` prints a free port.
 """
 import atexit
+import contextlib
+import ctypes
+import http
 import json
 import os
+import random
+import signal
 import socket
 import subprocess
 import sys
+import tempfile
 import time
 
 HERE = os.path.dirname(os.path.abspath(__file__))
 PROGRAM = os.path.realpath(os.environ.get("FILEROOM", os.path.join(HERE, "..", "build", "fileroom")))
+SCRIPT = os.path.relpath(os.path.abspath(sys.argv[0]), os.path.join(HERE, ".."))
 SID = "0123456789abcdef0123456789abcdef"
 ROSTER = '[users]\nann = ["eng"]\nbob = ["eng", "staff"]\neng = []\n'
 WAIT = 30  # seconds for any one answer
+STOPS = (signal.SIGTERM, signal.SIGINT, signal.SIGHUP, signal.SIGALRM)
+LIBC = ctypes.CDLL(None)
+SET_PDEATHSIG = 1  # of prctl
+started_here = []
 
 
-def need_program():
+def end_with_parent(number=signal.SIGKILL):
+    """Has the system send this process that signal as its parent ends."""
+    LIBC.prctl(SET_PDEATHSIG, int(number))
+
+
+def end_servers():
+    for child in started_here:
+        child.kill()
+
+
+def stopped(number, _):
+    for it in STOPS:
+        signal.signal(it, signal.SIG_IGN)
+    end_servers()
+    why = "took longer than it may" if number == signal.SIGALRM else f"stopped by {signal.Signals(number).name}"
+    sys.exit(f"{SCRIPT}: {why}")
+
+
+def guard(limit):
+    """Ends this script in order when it is stopped, when its parent ends, and after so many seconds."""
+    for it in STOPS:
+        if it != signal.SIGHUP or signal.getsignal(it) != signal.SIG_IGN:  # (nohup)
+            signal.signal(it, stopped)
+    end_with_parent(signal.SIGTERM)
+    signal.alarm(limit)
+    atexit.register(end_servers)
+
+
+def need_program(limit=900):
     if not os.access(PROGRAM, os.X_OK):
-        sys.exit(f"{sys.argv[0]}: there is no {PROGRAM}: run make build")
+        sys.exit(f"{SCRIPT}: there is no {PROGRAM}: run make build")
+    guard(limit)
 
 
-def run(*words, stdin=b""):
+@contextlib.contextmanager
+def work_folder(**how):
+    """A folder for this run. The servers end before it goes."""
+    with tempfile.TemporaryDirectory(prefix="fileroom-", **how) as folder:
+        try:
+            yield folder
+        finally:
+            end_servers()
+
+
+def start_program(*words, **how):
+    """The program as a process that ends with the thread that starts it, at the latest."""
+    child = subprocess.Popen([PROGRAM, *words], preexec_fn=end_with_parent, **how)
+    started_here.append(child)
+    return child
+
+
+def run(*words, stdin=b"", **how):
     """The status, the output and the faults of one run of the program."""
-    done = subprocess.run([PROGRAM, *words], input=stdin, capture_output=True, timeout=600)
+    how = {"input": stdin, "capture_output": True, "timeout": 60, "preexec_fn": end_with_parent, **how}
+    done = subprocess.run([PROGRAM, *words], **how)
     return done.returncode, done.stdout, done.stderr
+
+
+def sqlite(db, text):
+    """What the sqlite3 program says to this text."""
+    how = {"input": text, "capture_output": True, "text": True, "timeout": 60}
+    done = subprocess.run(["sqlite3", "-batch", db], **how)
+    return done.stdout + done.stderr
+
+
+def peak_of(pid):
+    """The most memory that a process has held, in KiB, or 0 once it has ended."""
+    with open(f"/proc/{pid}/status") as status:
+        return next((int(line.split()[1]) for line in status if line.startswith("VmHWM:")), 0)
+
+
+def free_port():
+    """A port that nobody has, below those that the system gives to clients."""
+    for port in random.SystemRandom().sample(range(10000, 30000), 100):
+        with contextlib.suppress(OSError), socket.socket() as it:
+            it.bind(("127.0.0.1", port))
+            return port
+    sys.exit(f"{SCRIPT}: no port is free")
+
+
+class Tally:
+    """Counts what a script compares, and prints what differs. Its last line is 'N passed, M failed'."""
+
+    def __init__(self):
+        self.passed = self.failed = 0
+
+    def differs(self, name, got, want):
+        self.passed += got == want
+        self.failed += got != want
+        if got != want:
+            print(f"DIFFERS {name}\n  got  {str(got)[:600]}\n  want {str(want)[:600]}", flush=True)
+
+    def need(self, fact, text):
+        """As differs, where nothing can go on after what is wrong."""
+        self.passed += bool(fact)
+        if not fact:
+            self.failed += 1
+            print(f"{SCRIPT}: {text}")
+            self.end()
+
+    def end(self):
+        print(f"{self.passed} passed, {self.failed} failed", flush=True)
+        sys.exit(self.failed != 0)
 
 
 def message(user, method, target, body=b"", version="1.1", fields=()):
@@ -47,6 +154,13 @@ def slot(number, seq, command, user="ann", sid=SID):
     return message(user, "POST", f"/v1/sessions/{sid}/slots/{number}/{seq}", command)
 
 
+def whole(body, status=200, last=False):
+    """The bytes of an answer."""
+    closing = b"connection: close\r\n" if last else b""
+    return b"HTTP/1.1 %d %s\r\ncontent-type: application/json\r\ncontent-length: %d\r\n%s\r\n%s" % (
+        status, http.HTTPStatus(status).phrase.encode(), len(body), closing, body)
+
+
 class Answer:
     def __init__(self, head, body):
         first, *fields = head.decode("latin-1").split("\r\n")
@@ -58,6 +172,23 @@ class Answer:
 
     def __repr__(self):
         return f"{self.status} {self.body[:200].decode('latin-1')}"
+
+
+def first_answer(written):
+    """The answer that these bytes begin with, and what stands behind it, or None."""
+    head, end, rest = written.partition(b"\r\n\r\n")
+    if not end:
+        return None
+    length = next(int(line[15:]) for line in head.split(b"\r\n") if line.startswith(b"content-length:"))
+    return (Answer(head, rest[:length]), rest[length:]) if len(rest) >= length else None
+
+
+def answers(written):
+    """The answers that a stream holds. Bytes that are no whole answer are left out."""
+    found = first_answer(written)
+    while found:
+        yield found[0]
+        found = first_answer(found[1])
 
 
 class Line:
@@ -78,17 +209,13 @@ class Line:
 
     def answer(self):
         """The next answer, or None at the end of the connection."""
-        while b"\r\n\r\n" not in self.rest:
+        found = first_answer(self.rest)
+        while not found:
             if not self.more():
                 return None
-        head, _, _ = self.rest.partition(b"\r\n\r\n")
-        length = next(int(line[15:]) for line in head.split(b"\r\n") if line.startswith(b"content-length:"))
-        end = len(head) + 4 + length
-        while len(self.rest) < end:
-            if not self.more():
-                return None
-        body, self.rest = self.rest[len(head) + 4 : end], self.rest[end:]
-        return Answer(head, body)
+            found = first_answer(self.rest)
+        self.rest = found[1]
+        return found[0]
 
     def ask(self, data):
         self.send(data)
@@ -111,36 +238,42 @@ class Room:
         self.db = os.path.join(folder, "room.db")
         self.roster = os.path.join(folder, "roster.toml")
         self.server = None
+        self.port = free_port()
         with open(self.roster, "w") as file:
             file.write(roster)
         if made:
             told = run("init", self.db, owner, group)
             if told != (0, b"", b""):
-                sys.exit(f"{sys.argv[0]}: init ended with {told}")
-        with socket.socket() as free:
-            free.bind(("127.0.0.1", 0))
-            self.port = free.getsockname()[1]
+                sys.exit(f"{SCRIPT}: init ended with {told}")
 
     def start(self, count=4294967295):
-        self.server = subprocess.Popen([PROGRAM, "serve", self.db, self.roster, str(self.port), str(count)])
-        atexit.register(self.server.kill)
+        """Starts the server, on another port where somebody took this one meanwhile."""
+        for _ in range(3):
+            self.server = start_program("serve", self.db, self.roster, str(self.port), str(count))
+            if self.listens():
+                return self
+            self.port = free_port()
+        sys.exit(f"{SCRIPT}: serve ended at once with status {self.server.returncode}")
+
+    def listens(self):
+        """Waits until the server listens. False where it ended before."""
         listening = f":{self.port:04X} 00000000:0000 0A"
-        for _ in range(300):
+        end = time.monotonic() + WAIT
+        while time.monotonic() < end:
             if self.server.poll() is not None:
-                sys.exit(f"{sys.argv[0]}: serve ended at once with status {self.server.returncode}")
+                return False
             with open("/proc/net/tcp") as sockets:
                 if listening in sockets.read():
-                    return self
+                    return True
             time.sleep(0.01)
-        sys.exit(f"{sys.argv[0]}: the server does not listen")
+        sys.exit(f"{SCRIPT}: the server does not listen")
 
     def line(self):
         return Line(self.port)
 
     def peak(self):
         """The most memory that the server has held, in KiB."""
-        with open(f"/proc/{self.server.pid}/status") as status:
-            return next(int(line.split()[1]) for line in status if line.startswith("VmHWM:"))
+        return peak_of(self.server.pid)
 
     def kill(self):
         """Ends the server at once, as a fault of the machine's would."""
@@ -153,3 +286,7 @@ class Room:
 
     def report(self, kind):
         return run("report", self.db, self.roster, kind)
+
+
+if __name__ == "__main__":
+    print(free_port())
