@@ -40,8 +40,10 @@ module _ {S : Type 0} (is_honest is_clean is_declared : S → Type 0) (records :
     alive = λ k event is other. absurd (other (delays event is));
     declared = λ h d. d;
     never_falls = omega arith;
+    quiet = λ other. refl;
     step = λ k start past stands. (past, says start past, stands);
     refused = λ h d away. refl;
+    idle = λ h d start past stands idle. refl;
   }
 
   pub question_stays : (q : QuestionModel) (s : S) (answered : AnswerModel) → IsCheckAnswer (Ok q) answered → Answered is_honest is_clean is_declared records failures (Ok (Check q)) s answered s

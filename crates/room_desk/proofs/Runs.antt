@@ -1,32 +1,30 @@
--- A run goes on by one step.
+-- Events that are taken in turn go on by one.
 use Rattle.std.proofs.Common.{◌≡◌, ℕ, ◌+◌, ◌<◌, List, [], ◌∷◌, ◌++◌, map, take, length, get_or, refl, ap, ◌∙◌, sym, subst}
 use Rattle.std.proofs.lemmas.List.{take_more, map-append}
-use Rattle.room_records.specs.Room.{Room}
 use Rattle.room_wire.specs.EventModel.{EventModel, event_model}
 use Rattle.room_wire.specs.declared.event.Event.{Event}
 use Rattle.room_wire.specs.declared.answer.Answer.{Answer}
 use Rattle.room_desk.specs.AnswerModel.{AnswerModel, answer_model}
-use Rattle.room_desk.specs.History.{History}
-use Rattle.room_desk.specs.Representation.{Step, Run}
+use Rattle.room_desk.specs.Representation.{InTurn}
 
-pub run_more : (start : Room) (past mid next : History) (events : List EventModel) (answers : List AnswerModel) (event : EventModel) (answered : AnswerModel) →
-    Run start past events answers mid → Step start mid event answered next → Run start past (events ++ event ∷ []) (answers ++ answered ∷ []) next
-run_more start past mid next [] [] event answered is step =
-    (next, (let P : History → Type 0 = λ p. Step start p event answered next in subst P is step), refl)
-run_more start past mid next [] (a ∷ others) event answered none step = absurd none
-run_more start past mid next (e ∷ es) [] event answered none step = absurd none
-run_more start past mid next (e ∷ es) (a ∷ others) event answered r step =
-    (r.0, r.1, run_more start r.0 mid next es others event answered r.2 step)
+module _ {S : Type 0} (answers : S → EventModel → AnswerModel → S → Type 0) where
+  pub in_turn_more : (before mid after : S) (events : List EventModel) (told : List AnswerModel) (event : EventModel) (answered : AnswerModel) →
+      InTurn answers before events told mid → answers mid event answered after → InTurn answers before (events ++ event ∷ []) (told ++ answered ∷ []) after
+  in_turn_more before mid after [] [] event answered is step =
+      (after, (let P : S → Type 0 = λ s. answers s event answered after in subst P is step), refl)
+  in_turn_more before mid after [] (a ∷ others) event answered none step = absurd none
+  in_turn_more before mid after (e ∷ es) [] event answered none step = absurd none
+  in_turn_more before mid after (e ∷ es) (a ∷ others) event answered r step =
+      (r.0, r.1, in_turn_more r.0 mid after es others event answered r.2 step)
 
--- the same as the loop over the events goes on
-pub run_at : (start : Room) (past mid next : History) (events : List Event) (i : ℕ) (event : Event) (old new : List Answer) (answered : Answer) →
-    i < length events → event ≡ get_or events i event → new ≡ old ++ answered ∷ []
-    → Run start past (map event_model (take i events)) (map answer_model old) mid → Step start mid (event_model event) (answer_model answered) next
-    → Run start past (map event_model (take (i + 1) events)) (map answer_model new) next
-run_at start past mid next events i event old new answered below is grown so_far step =
-    let es : map event_model (take (i + 1) events) ≡ map event_model (take i events) ++ event_model event ∷ [] =
-    ap (map event_model) (take_more events i event below) ∙ map-append event_model (take i events) (get_or events i event ∷ [])
-    ∙ ap (λ e. map event_model (take i events) ++ event_model e ∷ []) (sym is) in
-    let as_told : map answer_model new ≡ map answer_model old ++ answer_model answered ∷ [] = ap (map answer_model) grown ∙ map-append answer_model old (answered ∷ []) in
-    let P : List EventModel → List AnswerModel → Type 0 = λ xs ys. Run start past xs ys next in
-    rw (es, as_told) (run_more start past mid next (map event_model (take i events)) (map answer_model old) (event_model event) (answer_model answered) so_far step)
+  -- the same as the loop over the events goes on
+  pub in_turn_at : (before mid after : S) (events : List Event) (i : ℕ) (event : Event) (old new : List Answer) (answered : Answer) →
+      i < length events → event ≡ get_or events i event → new ≡ old ++ answered ∷ []
+      → InTurn answers before (map event_model (take i events)) (map answer_model old) mid → answers mid (event_model event) (answer_model answered) after
+      → InTurn answers before (map event_model (take (i + 1) events)) (map answer_model new) after
+  in_turn_at before mid after events i event old new answered below is grown so_far step =
+      let es : map event_model (take (i + 1) events) ≡ map event_model (take i events) ++ event_model event ∷ [] =
+      ap (map event_model) (take_more events i event below) ∙ map-append event_model (take i events) (get_or events i event ∷ [])
+      ∙ ap (λ e. map event_model (take i events) ++ event_model e ∷ []) (sym is) in
+      let as_told : map answer_model new ≡ map answer_model old ++ answer_model answered ∷ [] = ap (map answer_model) grown ∙ map-append answer_model old (answered ∷ []) in
+      rw (es, as_told) (in_turn_more before mid after (map event_model (take i events)) (map answer_model old) (event_model event) (answer_model answered) so_far step)

@@ -59,13 +59,17 @@ abbrev pub Step : Room → History → EventModel → AnswerModel → History �
 Step start past event answered next =
     ((answered ≡ answer_to start past event) × (next ≡ event ∷ past)) ⊎ ((answered ≡ Refused Delay) × (next ≡ past))
 
--- a run takes events in turn, with one answer for each
+-- events in turn, with one answer for each: each is answered from what the one before it left
+abbrev pub InTurn : {S : Type 0} → (S → EventModel → AnswerModel → S → Type 0) → S → List EventModel → List AnswerModel → S → Type 0
+InTurn answers before [] [] after = after ≡ before
+InTurn {S} answers before (event ∷ events) (answered ∷ later) after =
+    (next : S) × answers before event answered next × InTurn answers next events later after
+InTurn answers before [] (answered ∷ later) after = ⊥
+InTurn answers before (event ∷ events) [] after = ⊥
+
+-- a run of a history: one step after another
 abbrev pub Run : Room → History → List EventModel → List AnswerModel → History → Type 0
-Run start past [] [] next = next ≡ past
-Run start past (event ∷ events) (answered ∷ answers) next =
-    (mid : History) × Step start past event answered mid × Run start mid events answers next
-Run start past [] (answered ∷ answers) next = ⊥
-Run start past (event ∷ events) [] next = ⊥
+Run start past events answers next = InTurn (Step start) past events answers next
 
 -- an accepted request that is not refused had every right that its command needs, by the lists then
 abbrev pub WasAllowed : Room → History → EventModel → Type 0

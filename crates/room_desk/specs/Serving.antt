@@ -1,5 +1,5 @@
 -- Runs of messages over a room (our own rules).
-use Rattle.std.specs.Prelude.{◌≡◌, ◌≢◌, ℕ, ◌≤◌, ◌⊎◌, List, ◌∷◌, Result, Ok, Err}
+use Rattle.std.specs.Prelude.{◌≡◌, ◌≢◌, ℕ, ◌≤◌, ◌⊎◌, Bool, false, List, ◌∷◌, Result, Ok, Err}
 use Rattle.matchit.specs.Router.{RouteOf}
 use Rattle.matchit.specs.Rows.{RowsOf}
 use Rattle.room_acl.specs.SubjectModel.{SubjectModel}
@@ -16,8 +16,8 @@ use Rattle.room_wire.specs.Messages.{MessageModel, fields_of}
 use Rattle.room_wire.specs.Routing.{room_rows}
 use Rattle.room_wire.specs.Serving.{Outputs}
 use Rattle.room_desk.specs.AnswerModel.{AnswerModel, Reply, Refused, IsTurnedAway}
-use Rattle.room_desk.specs.History.{History, answer_to}
-use Rattle.room_desk.specs.Representation.{StandsFor}
+use Rattle.room_desk.specs.History.{History, answer_to, changes_rows}
+use Rattle.room_desk.specs.Representation.{RepresentsHistory, StandsFor}
 
 -- what was asked is answered: a question and a refusal change nothing, and an event joins the history
 abbrev pub AnswersAsk : Room → History → Result AskModel WireFault → AnswerModel → History → Type 0
@@ -41,16 +41,31 @@ AnswersMessage users start past m answered next = AnswersOrDelays start past (as
 abbrev pub IsRun : List SubjectModel → Room → History → List MessageModel → (out : List ℕ) → History → Type 0
 IsRun users start past ms out next = Outputs (AnswersMessage users start) past ms out next
 
--- what a shelf is after an answer: the rows stand for the history before it, or for one event more; after a refusal they are the same rows
+-- what is asked changes what is kept: an event may, a question and a refusal do not
+abbrev pub ask_changes_rows : History → Result AskModel WireFault → Bool
+ask_changes_rows past (Ok (Check question)) = false
+ask_changes_rows past (Ok (Event event)) = changes_rows past event
+ask_changes_rows past (Err fault) = false
+
+-- what a shelf is after an answer: the rows stand for the history before it, or for one event more. They are the same rows after a refusal, and
+-- where what was asked changes nothing. The count of failures is the same, save where the answer is DELAY
 pub record Answered {S : Type 0} (is_honest is_clean is_declared : S → Type 0) (records : S → Records) (failures : S → ℕ) (ask : Result AskModel WireFault) (before : S) (answered : AnswerModel) (after : S) : Type 0 where
   pub was_honest : is_honest after → is_honest before
   pub was_clean : is_clean after → is_clean before
   pub declared : is_honest after → is_declared before → is_declared after
   pub never_falls : failures before ≤ failures after
+  pub quiet : answered ≢ Refused Delay → failures after ≡ failures before
   pub alive : is_clean after → (event : EventModel) → ask ≡ Ok (Event event) → answered ≢ Refused Delay → is_honest after
   pub step : is_clean after → (start : Room) (past : History) → StandsFor is_honest is_declared records start past before →
       (next : History) × AnswersOrDelays start past ask answered next × StandsFor is_honest is_declared records start next after
   pub refused : is_honest after → is_declared before → IsTurnedAway answered → records after ≡ records before
+  pub idle : is_honest after → is_declared before → (start : Room) (past : History) → RepresentsHistory start (records before) past →
+      ask_changes_rows past ask ≡ false → records after ≡ records before
+
+-- what a shelf is after an event was answered
+abbrev pub EventAnswered : {S : Type 0} (is_honest is_clean is_declared : S → Type 0) (records : S → Records) (failures : S → ℕ) → S → EventModel → AnswerModel → S → Type 0
+EventAnswered is_honest is_clean is_declared records failures before event answered after =
+    Answered is_honest is_clean is_declared records failures (Ok (Event event)) before answered after
 
 -- what a message may be answered over a shelf
 abbrev pub MayAnswer : {S : Type 0} (is_honest is_clean is_declared : S → Type 0) (records : S → Records) (failures : S → ℕ) → RowsOf (RouteOf Route) → List SubjectModel → S → MessageModel → AnswerModel → S → Type 0

@@ -6,7 +6,8 @@ ghost use Rattle.room_wire.specs.EventModel.{event_model};
 ghost use Rattle.room_wire.specs.declared.code.Code.TheVariants.{Delay};
 ghost use Rattle.room_desk.specs.AnswerModel.{AnswerModel, Refused, answer_model, IsTurnedAway};
 ghost use Rattle.room_desk.specs.History.{History, answer_to, changes_rows};
-ghost use Rattle.room_desk.specs.Representation.{RepresentsHistory, StandsFor, WasAllowed, Step, Run};
+ghost use Rattle.room_desk.specs.Representation.{RepresentsHistory, StandsFor, WasAllowed, Step, InTurn, Run};
+ghost use Rattle.room_desk.specs.Serving.{EventAnswered};
 
 use crate::requests::request;
 use crate::sessions::{close, open};
@@ -48,6 +49,7 @@ impl<S: Shelf> Desk<S> {
         ensures alive { S.is_clean self.new → OnOk result (S.is_honest self.new) }
         ensures declared { S.is_honest self.new → S.is_declared self.old → S.is_declared self.new }
         ensures never_falls { S.failures self.old ≤ S.failures self.new }
+        ensures quiet { result ≢ Err ShelfFault.Store → S.failures self.new ≡ S.failures self.old }
         ensures store { result ≡ Err ShelfFault.Store → FailureCounted (S.failures self.old) (S.failures self.new) }
         ensures err { S.is_honest self.new → S.is_declared self.old → OnErr result (S.records self.new ≡ S.records self.old) }
         ensures step { S.is_honest self.new → S.is_declared self.old → (start : Room) (past : History) → RepresentsHistory start (S.records self.old) past →
@@ -84,7 +86,8 @@ impl<S: Shelf> Desk<S> {
     }
 
     /// Answers one event: as the history says, or DELAY with nothing changed. DELAY comes where
-    /// memory was refused, or where the shelf failed and counted it. Over a clean disk any other answer
+    /// memory was refused, or where the shelf failed and counted it; with any other answer no failure
+    /// was counted. Over a clean disk any other answer
     /// means that the store is still there; of a store that a fault has shut no records are told, and
     /// each event is answered DELAY.
     pub fn handle(&mut self, event: &Event) -> Answer
@@ -96,6 +99,7 @@ impl<S: Shelf> Desk<S> {
             (next : History) × Step start past (event_model event.now) (answer_model result) next × StandsFor S.is_honest S.is_declared S.records start next self.new }
         ensures allowed { (start : Room) (past : History) → WasAllowed start past (event_model event.now) }
         ensures never_falls { S.failures self.old ≤ S.failures self.new }
+        ensures quiet { answer_model result ≢ Refused Delay → S.failures self.new ≡ S.failures self.old }
         ensures refused { S.is_honest self.new → S.is_declared self.old → IsTurnedAway (answer_model result) → S.records self.new ≡ S.records self.old }
         ensures idle { S.is_honest self.new → S.is_declared self.old → (start : Room) (past : History) → RepresentsHistory start (S.records self.old) past →
             changes_rows past (event_model event.now) ≡ false → S.records self.new ≡ S.records self.old }
@@ -106,8 +110,8 @@ impl<S: Shelf> Desk<S> {
         }
     }
 
-    /// Answers events in turn. An `Err` changes nothing. Where the last answer is not DELAY, the store is
-    /// still there.
+    /// Answers events in turn, each as `handle` does. An `Err` changes nothing. Where the last answer is
+    /// not DELAY, the store is still there.
     pub fn run(&mut self, events: &[Event]) -> Result<Vec<Answer>, AllocError>
         ensures was_honest { S.is_honest self.new → S.is_honest self.old }
         ensures was_clean { S.is_clean self.new → S.is_clean self.old }
@@ -119,6 +123,8 @@ impl<S: Shelf> Desk<S> {
             IfOk result (λ answers. (next : History)
             × Run start past (map event_model events.now) (map answer_model answers.items) next
             × StandsFor S.is_honest S.is_declared S.records start next self.new) }
+        ensures each { IfOk result (λ answers. InTurn (EventAnswered S.is_honest S.is_clean S.is_declared S.records S.failures)
+            self.old (map event_model events.now) (map answer_model answers.items) self.new) }
         ensures err { OnErr result (self.new ≡ self.old) }
     {
         let mut answers = Vec::with_capacity(self.alloc, events.len())?;

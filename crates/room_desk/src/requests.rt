@@ -1,5 +1,5 @@
 //! Requests in a slot.
-ghost use Rattle.std.specs.Prelude.{◌≡◌, ◌≤◌, ◌++◌, IfOk, OnOk, OnErr, Err, [], ◌∷◌, true, false};
+ghost use Rattle.std.specs.Prelude.{◌≡◌, ◌≢◌, ◌≤◌, ◌++◌, IfOk, OnOk, OnErr, Err, [], ◌∷◌, true, false};
 ghost use Rattle.room_slots.specs.Slots.{verdict};
 ghost use Rattle.room_slots.specs.declared.verdict.Verdict.TheVariants.{New};
 ghost use Rattle.room_records.specs.Records.{Records};
@@ -64,6 +64,7 @@ fn run_new<S: Shelf>(
     ensures alive { S.is_clean shelf.new → OnOk result (S.is_honest shelf.new) }
     ensures declared { S.is_honest shelf.new → S.is_declared shelf.old → S.is_declared shelf.new }
     ensures never_falls { S.failures shelf.old ≤ S.failures shelf.new }
+    ensures quiet { result ≢ Err ShelfFault.Store → S.failures shelf.new ≡ S.failures shelf.old }
     ensures store { result ≡ Err ShelfFault.Store → FailureCounted (S.failures shelf.old) (S.failures shelf.new) }
     ensures err { S.is_honest shelf.new → S.is_declared shelf.old → OnErr result (S.records shelf.new ≡ S.records shelf.old) }
     ensures reply { IfOk result (λ answer. IsTurnedAway (answer_model answer) → ⊥) }
@@ -129,6 +130,7 @@ fn in_slot<S: Shelf>(
     ensures alive { S.is_clean shelf.new → OnOk result (S.is_honest shelf.new) }
     ensures declared { S.is_honest shelf.new → S.is_declared shelf.old → S.is_declared shelf.new }
     ensures never_falls { S.failures shelf.old ≤ S.failures shelf.new }
+    ensures quiet { result ≢ Err ShelfFault.Store → S.failures shelf.new ≡ S.failures shelf.old }
     ensures store { result ≡ Err ShelfFault.Store → FailureCounted (S.failures shelf.old) (S.failures shelf.new) }
     ensures err { S.is_honest shelf.new → S.is_declared shelf.old → OnErr result (S.records shelf.new ≡ S.records shelf.old) }
     ensures refused { S.is_honest shelf.new → S.is_declared shelf.old →
@@ -166,6 +168,7 @@ pub(crate) fn request<S: Shelf>(
     ensures alive { S.is_clean shelf.new → OnOk result (S.is_honest shelf.new) }
     ensures declared { S.is_honest shelf.new → S.is_declared shelf.old → S.is_declared shelf.new }
     ensures never_falls { S.failures shelf.old ≤ S.failures shelf.new }
+    ensures quiet { result ≢ Err ShelfFault.Store → S.failures shelf.new ≡ S.failures shelf.old }
     ensures store { result ≡ Err ShelfFault.Store → FailureCounted (S.failures shelf.old) (S.failures shelf.new) }
     ensures err { S.is_honest shelf.new → S.is_declared shelf.old → OnErr result (S.records shelf.new ≡ S.records shelf.old) }
     ensures refused { S.is_honest shelf.new → S.is_declared shelf.old →

@@ -1,5 +1,5 @@
 //! OPEN and CLOSE of sessions.
-ghost use Rattle.std.specs.Prelude.{◌≡◌, ◌≤◌, ◌⊎◌, IfOk, OnOk, OnErr, Err, ◌∷◌, true, false};
+ghost use Rattle.std.specs.Prelude.{◌≡◌, ◌≢◌, ◌≤◌, ◌⊎◌, IfOk, OnOk, OnErr, Err, ◌∷◌, true, false};
 ghost use Rattle.std.specs.Str.{bytes_eq};
 ghost use Rattle.room_records.specs.Records.{Records};
 ghost use Rattle.room_records.specs.Rules.{RulesHold};
@@ -83,6 +83,7 @@ fn open_first<S: Shelf>(
     ensures alive { S.is_clean shelf.new → OnOk result (S.is_honest shelf.new) }
     ensures declared { S.is_honest shelf.new → S.is_declared shelf.old → S.is_declared shelf.new }
     ensures never_falls { S.failures shelf.old ≤ S.failures shelf.new }
+    ensures quiet { result ≢ Err ShelfFault.Store → S.failures shelf.new ≡ S.failures shelf.old }
     ensures store { result ≡ Err ShelfFault.Store → FailureCounted (S.failures shelf.old) (S.failures shelf.new) }
     ensures err { S.is_honest shelf.new → S.is_declared shelf.old → OnErr result (S.records shelf.new ≡ S.records shelf.old) }
     ensures reply { IfOk result (λ answer. answer_model answer ≡ A.Reply (reply_text (Opened slots))) }
@@ -110,6 +111,7 @@ pub(crate) fn open<S: Shelf>(
     ensures alive { S.is_clean shelf.new → OnOk result (S.is_honest shelf.new) }
     ensures declared { S.is_honest shelf.new → S.is_declared shelf.old → S.is_declared shelf.new }
     ensures never_falls { S.failures shelf.old ≤ S.failures shelf.new }
+    ensures quiet { result ≢ Err ShelfFault.Store → S.failures shelf.new ≡ S.failures shelf.old }
     ensures store { result ≡ Err ShelfFault.Store → FailureCounted (S.failures shelf.old) (S.failures shelf.new) }
     ensures err { S.is_honest shelf.new → S.is_declared shelf.old → OnErr result (S.records shelf.new ≡ S.records shelf.old) }
     ensures step { S.is_honest shelf.new → S.is_declared shelf.old → (start : Room) (past : History) → RepresentsHistory start (S.records shelf.old) past →
@@ -133,6 +135,7 @@ fn end_session<S: Shelf>(shelf: &mut S, sid: &Sid, row: SessionRow) -> Result<()
     ensures alive { S.is_clean shelf.new → OnOk result (S.is_honest shelf.new) }
     ensures declared { S.is_honest shelf.new → S.is_declared shelf.old → S.is_declared shelf.new }
     ensures never_falls { S.failures shelf.old ≤ S.failures shelf.new }
+    ensures quiet { result ≢ Err ShelfFault.Store → S.failures shelf.new ≡ S.failures shelf.old }
     ensures store { result ≡ Err ShelfFault.Store → FailureCounted (S.failures shelf.old) (S.failures shelf.new) }
     ensures err { S.is_honest shelf.new → S.is_declared shelf.old → OnErr result (S.records shelf.new ≡ S.records shelf.old) }
     ensures ok { S.is_honest shelf.new → S.is_declared shelf.old →
@@ -162,6 +165,7 @@ fn close_owned<S: Shelf>(
     ensures alive { S.is_clean shelf.new → S.is_honest shelf.old → OnOk result (S.is_honest shelf.new) }
     ensures declared { S.is_honest shelf.new → S.is_declared shelf.old → S.is_declared shelf.new }
     ensures never_falls { S.failures shelf.old ≤ S.failures shelf.new }
+    ensures quiet { result ≢ Err ShelfFault.Store → S.failures shelf.new ≡ S.failures shelf.old }
     ensures store { result ≡ Err ShelfFault.Store → FailureCounted (S.failures shelf.old) (S.failures shelf.new) }
     ensures err { S.is_honest shelf.new → S.is_declared shelf.old → OnErr result (S.records shelf.new ≡ S.records shelf.old) }
     ensures reply { IfOk result (λ answer. answer_model answer ≡ A.Reply (reply_text Done)) }
@@ -190,6 +194,7 @@ pub(crate) fn close<S: Shelf>(
     ensures alive { S.is_clean shelf.new → OnOk result (S.is_honest shelf.new) }
     ensures declared { S.is_honest shelf.new → S.is_declared shelf.old → S.is_declared shelf.new }
     ensures never_falls { S.failures shelf.old ≤ S.failures shelf.new }
+    ensures quiet { result ≢ Err ShelfFault.Store → S.failures shelf.new ≡ S.failures shelf.old }
     ensures store { result ≡ Err ShelfFault.Store → FailureCounted (S.failures shelf.old) (S.failures shelf.new) }
     ensures err { S.is_honest shelf.new → S.is_declared shelf.old → OnErr result (S.records shelf.new ≡ S.records shelf.old) }
     ensures step { S.is_honest shelf.new → S.is_declared shelf.old → (start : Room) (past : History) → RepresentsHistory start (S.records shelf.old) past →

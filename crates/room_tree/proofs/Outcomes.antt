@@ -1,5 +1,5 @@
 -- Outcomes that plan the effect of a command.
-use Rattle.std.proofs.Common.{◌≡◌, ℕ, ap, sym, ◌∙◌, subst, List, [], Option, None, Some, IsSome, IsNone}
+use Rattle.std.proofs.Common.{◌≡◌, ◌≢◌, Ok, Err, ℕ, ap, sym, ◌∙◌, subst, List, [], Option, None, Some, IsSome, IsNone}
 use Rattle.std.specs.List.{AllByRecursion}
 use Rattle.room_acl.specs.SubjectModel.{SubjectModel}
 use Rattle.room_records.specs.declared.change.Change.{Change}
@@ -16,6 +16,10 @@ use Rattle.room_commands.specs.ReplyModel.{Refused, reply_model, IsRefused, Refu
 use Rattle.room_commands.specs.Effect.{effect, effect_by, changed, reply}
 use Rattle.room_tree.specs.Plans.{PlansEffect, KeepsNumbers, place_after}
 use Rattle.room_commands.proofs.Rights.{rights_of_success}
+
+-- an answer is no fault
+pub ok_not_err : {X E : Type 0} (x : X) (e : E) → Ok x ≢ Err e
+ok_not_err x e is = cc
 
 absent_present : {X : Type 0} (o : Option X) → IsNone o → IsSome o → ⊥
 absent_present None a b = let f = b in cc

@@ -1,5 +1,5 @@
 //! How far down a subtree reaches.
-ghost use Rattle.std.specs.Prelude.{◌≡◌, ◌≤◌, Some, IfOk, OnOk, Err};
+ghost use Rattle.std.specs.Prelude.{◌≡◌, ◌≢◌, ◌≤◌, Some, IfOk, OnOk, Err};
 ghost use Rattle.room_records.specs.declared.node.Node.{Node};
 ghost use Rattle.room_records.specs.Names.{Path as PathModel};
 ghost use Rattle.room_records.specs.Representation.{HasPath};
@@ -31,6 +31,7 @@ fn reaches_down<S: Shelf>(
     ensures alive { S.is_clean shelf.new → S.is_honest shelf.old → OnOk result (S.is_honest shelf.new) }
     ensures unchanged { Unchanged S.records S.is_honest S.is_clean S.is_declared S.crash_may_leave shelf.old shelf.new }
     ensures never_falls { S.failures shelf.old ≤ S.failures shelf.new }
+    ensures quiet { result ≢ Err ShelfFault.Store → S.failures shelf.new ≡ S.failures shelf.old }
     ensures store { result ≡ Err ShelfFault.Store → FailureCounted (S.failures shelf.old) (S.failures shelf.new) }
 {
     if levels == 0 {
@@ -60,6 +61,7 @@ pub(crate) fn check_depth<S: Shelf>(
     ensures alive { S.is_clean shelf.new → S.is_honest shelf.old → OnOk result (S.is_honest shelf.new) }
     ensures unchanged { Unchanged S.records S.is_honest S.is_clean S.is_declared S.crash_may_leave shelf.old shelf.new }
     ensures never_falls { S.failures shelf.old ≤ S.failures shelf.new }
+    ensures quiet { result ≢ Err ShelfFault.Store → S.failures shelf.new ≡ S.failures shelf.old }
     ensures store { result ≡ Err ShelfFault.Store → FailureCounted (S.failures shelf.old) (S.failures shelf.new) }
 {
     let too_deep = MAX_NAMES + 1 - to.names().len();

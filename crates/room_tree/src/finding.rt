@@ -1,5 +1,5 @@
 //! Finding nodes by their paths.
-ghost use Rattle.std.specs.Prelude.{◌≡◌, ◌≤◌, IfOk, OnOk, Err};
+ghost use Rattle.std.specs.Prelude.{◌≡◌, ◌≢◌, ◌≤◌, IfOk, OnOk, Err};
 ghost use Rattle.room_records.specs.Shelf.{FailureCounted, Unchanged};
 ghost use Rattle.room_records.specs.Room.{Room};
 ghost use Rattle.room_records.specs.Representation.{RepresentsRoom, IsNodeAt};
@@ -13,6 +13,7 @@ pub fn node_at<S: Shelf>(shelf: &mut S, path: &Path) -> Result<Option<Node>, She
     ensures alive { S.is_clean shelf.new → OnOk result (S.is_honest shelf.new) }
     ensures unchanged { Unchanged S.records S.is_honest S.is_clean S.is_declared S.crash_may_leave shelf.old shelf.new }
     ensures never_falls { S.failures shelf.old ≤ S.failures shelf.new }
+    ensures quiet { result ≢ Err ShelfFault.Store → S.failures shelf.new ≡ S.failures shelf.old }
     ensures store { result ≡ Err ShelfFault.Store → FailureCounted (S.failures shelf.old) (S.failures shelf.new) }
 {
     let Some(mut here) = shelf.node(1)? else {

@@ -1,5 +1,5 @@
 //! What a command changes and replies.
-ghost use Rattle.std.specs.Prelude.{◌≡◌, ◌≤◌, [], IfOk, OnOk, Err};
+ghost use Rattle.std.specs.Prelude.{◌≡◌, ◌≢◌, ◌≤◌, [], IfOk, OnOk, Err};
 ghost use Rattle.room_records.specs.Shelf.{FailureCounted, Unchanged};
 ghost use Rattle.room_commands.specs.CommandModel.{command_model};
 ghost use Rattle.room_records.specs.Room.{Room};
@@ -65,6 +65,7 @@ pub fn plan<S: Shelf>(
     ensures alive { S.is_clean shelf.new → S.is_honest shelf.old → OnOk result (S.is_honest shelf.new) }
     ensures unchanged { Unchanged S.records S.is_honest S.is_clean S.is_declared S.crash_may_leave shelf.old shelf.new }
     ensures never_falls { S.failures shelf.old ≤ S.failures shelf.new }
+    ensures quiet { result ≢ Err ShelfFault.Store → S.failures shelf.new ≡ S.failures shelf.old }
     ensures store { result ≡ Err ShelfFault.Store → FailureCounted (S.failures shelf.old) (S.failures shelf.new) }
 {
     match command {

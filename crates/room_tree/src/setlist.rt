@@ -1,5 +1,5 @@
 //! SETLIST.
-ghost use Rattle.std.specs.Prelude.{◌≡◌, ◌≤◌, [], ◌∷◌, IfOk, OnOk, Err};
+ghost use Rattle.std.specs.Prelude.{◌≡◌, ◌≢◌, ◌≤◌, [], ◌∷◌, IfOk, OnOk, Err};
 ghost use Rattle.std.specs.List.{filter_map};
 ghost use Rattle.room_acl.specs.Bits.{is_inherited};
 ghost use Rattle.room_acl.specs.Inheritance.{own_entries_fault};
@@ -121,6 +121,7 @@ pub(crate) fn plan_setlist<S: Shelf>(
     ensures alive { S.is_clean shelf.new → S.is_honest shelf.old → OnOk result (S.is_honest shelf.new) }
     ensures unchanged { Unchanged S.records S.is_honest S.is_clean S.is_declared S.crash_may_leave shelf.old shelf.new }
     ensures never_falls { S.failures shelf.old ≤ S.failures shelf.new }
+    ensures quiet { result ≢ Err ShelfFault.Store → S.failures shelf.new ≡ S.failures shelf.old }
     ensures store { result ≡ Err ShelfFault.Store → FailureCounted (S.failures shelf.old) (S.failures shelf.new) }
 {
     let place = match reach_to_use(alloc, shelf, subject, path, None, WRITE_ACL)? {

@@ -90,7 +90,7 @@ none_by_head input window e short none m rest x =
     none m.head (m.body ++ rest) (read.0, whole ∙ read.1)
 
 -- the head, and what is after it
-after_head : (input window : List ℕ) (len : ℕ) (h : RequestHead) → Parsed input window len h → input ≡ print_request h ++ drop len input
+pub after_head : (input window : List ℕ) (len : ℕ) (h : RequestHead) → Parsed input window len h → input ≡ print_request h ++ drop len input
 after_head input window len h p =
     let whole : print_request h ++ (drop len window ++ (drop 8192 input ++ [])) ≡ input ++ [] =
     sym (window_front input window [] p.window_is ∙ ap (λ t. t ++ (drop 8192 input ++ [])) p.reads.1 ∙ append_assoc (print_request h) (drop len window) (drop 8192 input ++ [])) in
@@ -134,7 +134,7 @@ few_fields buf spans count fields e =
     let same = simp length-map at sizes in
     omega (arith, length-take count spans)
 
-head_size : (h : RequestHead) → IsRequestHead h → 0 < length (print_request h)
+pub head_size : (h : RequestHead) → IsRequestHead h → 0 < length (print_request h)
 unfolding print_request
 head_size h p = simp length-append (omega (arith, p.method.0))
 

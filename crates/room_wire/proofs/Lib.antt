@@ -10,6 +10,7 @@ pub mod Floats
 pub mod Sends
 pub mod Heads
 pub mod Rounds
+mod Lacking
 pub mod Joins
 pub mod Targets
 pub mod TargetTexts

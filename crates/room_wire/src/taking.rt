@@ -11,7 +11,8 @@ use httparse::spans::{EMPTY_HEADER_SPAN, HeaderSpan, RequestSpans, parse_request
 /// The greatest length of a head.
 const MAX_HEAD: usize = 8192;
 
-/// The message at the front of the input, if one stands there. Takes no memory.
+/// The message at the front of the input, if one stands there. Takes no memory. `More` says what is
+/// lacking: the rest of a head, in fewer than 8,192 bytes, or the rest of a body whose head is whole.
 pub fn take_message(input: &[u8]) -> Take<'_>
     ensures { Takes input.now result }
 {

@@ -8,6 +8,7 @@ use Rattle.room_records.proofs.Lists.{all_at, all_append}
 use Rattle.room_records.proofs.Paths.{unchanged_then}
 use Rattle.room_tree.specs.Depths.{StandsBelow}
 use Rattle.room_tree.proofs.Depths.{NoneBelowEach, itself_below, none_below_file, one_level_more, child_path, none_below_children}
+use Rattle.room_tree.proofs.Outcomes.{ok_not_err}
 use Rattle.room_tree.proofs.depth.+reaches_down.Goals as goal
 
 pub returns-then-levels-eq0-clause-value : goal.returns-then-levels-eq0-clause-value
@@ -24,6 +25,7 @@ loop-node-init g m c = record {
   alive = λ clean honest. c.in_ok-nodes.ensures.alive clean;
   unchanged = c.children.ensures.unchanged;
   never_falls = c.children.ensures.never_falls;
+  quiet = c.in_ok-nodes.ensures.quiet (ok_not_err _ _);
   children = λ is_honest is_declared t e room stand.
       let Rules : ObjectRecords → Type 0 = λ r. ObjectRules r in
       let Are : ObjectRecords → Type 0 = λ r. AreChildren r c.args.id c.in_ok-nodes.nodes.items in
@@ -55,6 +57,7 @@ loop-node-preserved g m c =
       alive = λ clean honest. c.in_ok-deep.ensures.alive clean (c.loop-node.invariant.alive (c.reaches_down.ensures.unchanged.was_clean clean) honest);
       unchanged = unchanged_then _ _ _ _ _ _ _ _ c.reaches_down.ensures.unchanged c.loop-node.invariant.unchanged;
       never_falls = omega (arith, c.reaches_down.ensures.never_falls, c.loop-node.invariant.never_falls);
+      quiet = c.in_ok-deep.ensures.quiet (ok_not_err _ _) ∙ c.loop-node.invariant.quiet;
       children = λ is_honest is_declared t e room stand.
           c.loop-node.invariant.children (c.reaches_down.ensures.unchanged.was_honest is_honest) is_declared t e room stand;
       none = λ is_honest is_declared t e room stand path node at stands kind.

@@ -1,10 +1,11 @@
-use Rattle.std.proofs.Common.{◌≡◌, ◌<◌, ◌≤◌, arith, None, Some, subst, length, get_or}
+use Rattle.std.proofs.Common.{◌≡◌, ◌∙◌, ◌<◌, ◌≤◌, arith, None, Some, subst, length, get_or}
 use Rattle.std.proofs.lemmas.List.{take_all}
 use Rattle.room_records.specs.Names.{Path}
 use Rattle.room_records.specs.Shelf.{IsChildNamed}
 use Rattle.room_records.specs.Records.{Records}
 use Rattle.room_records.specs.Representation.{HasPath}
 use Rattle.room_records.proofs.Paths.{none_on_the_way, one_further, unchanged_then}
+use Rattle.room_tree.proofs.Outcomes.{ok_not_err}
 use Rattle.room_tree.proofs.finding.node_at.Goals as goal
 
 pub returns-in_default-2-clause-value : goal.returns-in_default-2-clause-value
@@ -28,6 +29,7 @@ loop-name-preserved g c =
       alive = c.in_ok-next.ensures.alive;
       unchanged = unchanged_then _ _ _ _ _ _ _ _ c.child.ensures.unchanged c.loop-name.invariant.unchanged;
       never_falls = omega (arith, c.child.ensures.never_falls, c.loop-name.invariant.never_falls);
+      quiet = c.in_ok-next.ensures.quiet (ok_not_err _ _) ∙ c.loop-name.invariant.quiet;
       names = c.loop-name.invariant.names;
       at = λ is_honest is_declared room stand.
           let before = c.child.ensures.unchanged.was_honest is_honest in

@@ -5,6 +5,7 @@ use Rattle.room_records.proofs.Paths.{unchanged_then}
 use Rattle.room_records.specs.Records.{Records}
 use Rattle.room_tree.specs.Places.{IsPlace, IsAbove}
 use Rattle.room_tree.proofs.Walks.{walk_stops, walk_goes_on, walk_ends, walk_is_cut, last_is_absent, next_is_there, last_folder, walk_done}
+use Rattle.room_tree.proofs.Outcomes.{ok_not_err}
 use Rattle.room_tree.proofs.walking.walk_path.Goals as goal
 
 pub returns-in_default-clause-value : goal.returns-in_default-clause-value
@@ -16,6 +17,7 @@ loop-index-init g c = record {
   alive = c.in_ok-here.ensures.alive;
   unchanged = c.root_place.ensures.unchanged;
   never_falls = c.root_place.ensures.never_falls;
+  quiet = c.in_ok-here.ensures.quiet (ok_not_err _ _);
   names = c.names-names.ensures.value;
   walked = λ is_honest is_declared t e room stand.
       (refl, rw c.in-Some.is at (c.in_ok-here.ensures.value is_honest is_declared t e room stand), refl);
@@ -63,6 +65,7 @@ loop-index-preserved g c =
       alive = λ clean honest. c.in_ok-next.ensures.alive clean (c.loop-index.invariant.alive (c.child_place.ensures.unchanged.was_clean clean) honest);
       unchanged = unchanged_then _ _ _ _ _ _ _ _ c.child_place.ensures.unchanged c.loop-index.invariant.unchanged;
       never_falls = omega (arith, c.child_place.ensures.never_falls, c.loop-index.invariant.never_falls);
+      quiet = c.in_ok-next.ensures.quiet (ok_not_err _ _) ∙ c.loop-index.invariant.quiet;
       names = c.loop-index.invariant.names;
       walked = λ is_honest is_declared t e room stand.
           let before = c.child_place.ensures.unchanged.was_honest is_honest in

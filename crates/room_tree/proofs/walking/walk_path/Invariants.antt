@@ -11,6 +11,7 @@ invariant-loop-index g l = let s = g.S.Shelf in record {
   alive : s.is_clean l.shelf → s.is_honest l.fn.shelf → s.is_honest l.shelf;
   unchanged : Unchanged s.records s.is_honest s.is_clean s.is_declared s.crash_may_leave l.fn.shelf l.shelf;
   never_falls : s.failures l.fn.shelf ≤ s.failures l.shelf;
+  quiet : s.failures l.shelf ≡ s.failures l.fn.shelf;
   names : l.names ≡ l.path;
   walked : OfRoom s.records s.is_honest s.is_declared l.fn.shelf l.shelf (λ t room.
       (walk room l.subject l.path ≡ walk_from room l.subject (take l.index l.path) (drop l.index l.path))

@@ -4,8 +4,9 @@ use Rattle.room_wire.specs.declared.answer.Answer.{Answer}
 use Rattle.room_wire.specs.declared.event.Event.{Event}
 use Rattle.room_wire.specs.EventModel.{event_model}
 use Rattle.room_desk.specs.AnswerModel.{answer_model}
-use Rattle.room_desk.specs.Representation.{Run}
-use Rattle.room_desk.proofs.Runs.{run_at}
+use Rattle.room_desk.specs.Representation.{InTurn, Run, Step}
+use Rattle.room_desk.specs.Serving.{EventAnswered}
+use Rattle.room_desk.proofs.Runs.{in_turn_at}
 use Rattle.room_desk.proofs.desk.Desk.run.Goals as goal
 
 pub loop-event-init : goal.loop-event-init
@@ -22,6 +23,11 @@ loop-event-init g c = record {
   run = λ k start past stands.
       let None : List Answer → Type 0 = λ answers. Run start past [] (map answer_model answers) past in
       (past, subst None (sym c.in_ok-answers.ensures.items) refl, stands);
+  each =
+      let S = g.S.Shelf in
+      let None : List Answer → Type 0 = λ answers.
+      InTurn (EventAnswered S.is_honest S.is_clean S.is_declared S.records S.failures) c.args.self.now [] (map answer_model answers) c.args.self.now in
+      subst None (sym c.in_ok-answers.ensures.items) refl;
 }
 
 pub loop-event-preserved : goal.loop-event-preserved
@@ -40,7 +46,25 @@ loop-event-preserved g c = record {
   run = λ k start past stands.
       let so_far = c.loop-event.invariant.run (c.handle.ensures.was_clean k) start past stands in
       let step = c.handle.ensures.step k start so_far.0 so_far.2 in
-      (step.0, run_at start past so_far.0 step.0 c.args.events.now c.loop-event.event-index c.event-item.result c.loop-event.answers.items c.push.new.self.items c.handle.result c.loop-event-test.true c.event-item.is c.in-Ok.ensures.items so_far.1 step.1, step.2);
+      (step.0, in_turn_at (Step start) past so_far.0 step.0 c.args.events.now c.loop-event.event-index c.event-item.result c.loop-event.answers.items c.push.new.self.items c.handle.result c.loop-event-test.true c.event-item.is c.in-Ok.ensures.items so_far.1 step.1, step.2);
+  each =
+      let S = g.S.Shelf in
+      let after = c.handle.ensures in
+      let one : EventAnswered S.is_honest S.is_clean S.is_declared S.records S.failures
+      c.loop-event.self (event_model c.event-item.result) (answer_model c.handle.result) c.handle.new.self = record {
+        was_honest = after.was_honest;
+        was_clean = after.was_clean;
+        declared = after.declared;
+        never_falls = after.never_falls;
+        quiet = after.quiet;
+        alive = λ k event is other. after.alive k other;
+        step = after.step;
+        refused = after.refused;
+        idle = after.idle;
+      } in
+      in_turn_at (EventAnswered S.is_honest S.is_clean S.is_declared S.records S.failures) c.args.self.now c.loop-event.self c.handle.new.self
+      c.args.events.now c.loop-event.event-index c.event-item.result c.loop-event.answers.items c.push.new.self.items c.handle.result
+      c.loop-event-test.true c.event-item.is c.in-Ok.ensures.items c.loop-event.invariant.each one;
 }
 
 pub returns-clause-run : goal.returns-clause-run
@@ -48,3 +72,10 @@ returns-clause-run g c = λ k start past stands.
     let so_far = c.loop-event.invariant.run k start past stands in
     let All : List Event → Type 0 = λ events. Run start past (map event_model events) (map answer_model c.loop-event.answers.items) so_far.0 in
     (so_far.0, subst All (take_all c.loop-event.event-index c.args.events.now c.loop-event-test.false) so_far.1, so_far.2)
+
+pub returns-clause-each : goal.returns-clause-each
+returns-clause-each g c =
+    let S = g.S.Shelf in
+    let All : List Event → Type 0 = λ events. InTurn (EventAnswered S.is_honest S.is_clean S.is_declared S.records S.failures)
+    c.args.self.now (map event_model events) (map answer_model c.loop-event.answers.items) c.loop-event.self in
+    subst All (take_all c.loop-event.event-index c.args.events.now c.loop-event-test.false) c.loop-event.invariant.each

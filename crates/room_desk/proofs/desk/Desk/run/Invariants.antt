@@ -4,7 +4,8 @@ use Rattle.room_wire.specs.EventModel.{event_model}
 use Rattle.room_wire.specs.declared.code.Code.TheVariants.{Delay}
 use Rattle.room_desk.specs.AnswerModel.{AnswerModel, Refused, answer_model}
 use Rattle.room_desk.specs.History.{History}
-use Rattle.room_desk.specs.Representation.{StandsFor, Run}
+use Rattle.room_desk.specs.Representation.{StandsFor, InTurn, Run}
+use Rattle.room_desk.specs.Serving.{EventAnswered}
 use Rattle.room_desk.proofs.desk.Desk.run.Given as goal
 
 -- the answers so far are a run over the events so far
@@ -19,4 +20,6 @@ invariant-loop-event g l = record {
   alive : g.S.Shelf.is_clean l.self → (before : List AnswerModel) (last : AnswerModel) → map answer_model l.answers.items ≡ before ++ last ∷ [] → last ≢ Refused Delay → g.S.Shelf.is_honest l.self;
   run : g.S.Shelf.is_clean l.self → (start : Room) (past : History) → StandsFor g.S.Shelf.is_honest g.S.Shelf.is_declared g.S.Shelf.records start past l.fn.self →
       (next : History) × Run start past (map event_model (take l.event-index l.events)) (map answer_model l.answers.items) next × StandsFor g.S.Shelf.is_honest g.S.Shelf.is_declared g.S.Shelf.records start next l.self;
+  each : InTurn (EventAnswered g.S.Shelf.is_honest g.S.Shelf.is_clean g.S.Shelf.is_declared g.S.Shelf.records g.S.Shelf.failures)
+      l.fn.self (map event_model (take l.event-index l.events)) (map answer_model l.answers.items) l.self;
 }

@@ -7,6 +7,8 @@ returns g c = record {
   declared = c.handle.ensures.declared;
   never_falls = c.handle.ensures.never_falls;
   alive = λ k event is other. c.handle.ensures.alive k other;
+  quiet = c.handle.ensures.quiet;
   step = c.handle.ensures.step;
   refused = c.handle.ensures.refused;
+  idle = c.handle.ensures.idle;
 }
