@@ -1,0 +1,97 @@
+//! The events between other things as one run.
+use crate::asking::{Asked, ask_of};
+use crate::fault::Fault;
+use crate::playing::Play;
+use crate::rooms::in_memory;
+use crate::scenes::{Example, Step};
+use crate::shelves::{do_step, prepared};
+use crate::told::Told;
+use room_desk::{Answer, Desk};
+use room_records::MemShelf;
+use room_wire::Event;
+use std::alloc::{AllocError, Global};
+
+/// Events that are not answered yet, and the examples that they come from.
+#[derive(Drop)]
+struct Batch<'a> {
+    events: Vec<Event>,
+    examples: Vec<&'a Example>,
+}
+
+impl<'a> Batch<'a> {
+    fn new(alloc: Global) -> Batch<'a> {
+        Batch {
+            events: Vec::new(alloc),
+            examples: Vec::new(alloc),
+        }
+    }
+}
+
+/// What the events are answered, and the shelf then.
+fn run(
+    alloc: Global,
+    shelf: MemShelf,
+    events: &[Event],
+) -> (Result<Vec<Answer>, AllocError>, MemShelf) {
+    let mut desk = Desk::new(alloc, shelf);
+    let answers = desk.run(events);
+    (answers, desk.into_shelf())
+}
+
+fn compare(examples: &[&Example], answers: &[Answer], told: &mut Told<'_>) -> Result<(), Fault> {
+    if answers.len() != examples.len() {
+        return Err(Fault::Because("not one answer for each event"));
+    }
+    for (example, answer) in examples.iter().zip(answers) {
+        told.expect(example.line, answer.body(), example.due.body.as_slice())?;
+    }
+    Ok(())
+}
+
+/// Runs what waits.
+fn flush(
+    play: &Play<'_>,
+    shelf: MemShelf,
+    batch: &Batch<'_>,
+    told: &mut Told<'_>,
+) -> Result<MemShelf, Fault> {
+    let (answers, shelf) = run(play.alloc, shelf, batch.events.as_slice());
+    let answers = answers?;
+    compare(batch.examples.as_slice(), answers.as_slice(), told)?;
+    Ok(shelf)
+}
+
+/// Lets an event wait, or answers what is none.
+fn add<'a>(
+    play: &Play<'_>,
+    batch: &mut Batch<'a>,
+    example: &'a Example,
+    told: &mut Told<'_>,
+) -> Result<(), Fault> {
+    match ask_of(play, example.sent.as_slice()) {
+        Asked::Event(event) => {
+            batch.events.push(event)?;
+            batch.examples.push(example)?;
+            Ok(())
+        }
+        Asked::Other(answer) => {
+            told.expect(example.line, answer.body(), example.due.body.as_slice())
+        }
+    }
+}
+
+pub fn play(play: &Play<'_>, told: &mut Told<'_>) -> Result<(), Fault> {
+    let mut shelf = prepared(play, in_memory(play.alloc)?)?;
+    let mut batch = Batch::new(play.alloc);
+    for step in play.steps {
+        if let Step::Ask(example) = step {
+            add(play, &mut batch, example, told)?;
+        } else {
+            shelf = flush(play, shelf, &batch, told)?;
+            batch = Batch::new(play.alloc);
+            do_step(play, &mut shelf, step, told)?;
+        }
+    }
+    let _ = flush(play, shelf, &batch, told)?;
+    Ok(())
+}

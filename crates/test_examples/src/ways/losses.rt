@@ -1,0 +1,75 @@
+//! Each answer lost behind each of its bytes, and the request sent again.
+use crate::fault::Fault;
+use crate::playing::Play;
+use crate::rooms::in_memory;
+use crate::scenes::{Example, Step};
+use crate::shelves::{do_step, prepared};
+use crate::told::Told;
+use crate::ways::serving::{Line, expect_end, serve};
+use room_records::MemShelf;
+use room_wire::Why;
+
+/// Behind how many bytes at most an answer is lost, and behind all but its last one.
+const MOST: usize = 400;
+
+/// The request, whose answer is lost behind so many bytes.
+fn lose(
+    play: &Play<'_>,
+    shelf: MemShelf,
+    example: &Example,
+    room: usize,
+    told: &mut Told<'_>,
+) -> Result<MemShelf, Fault> {
+    let mut line = Line::good(example.sent.as_slice());
+    line.room = room;
+    let (ended, shelf) = serve(play, shelf, line);
+    let due = example.due.whole.as_slice();
+    let (front, _) = due.split_at(room.min(due.len()));
+    told.expect(example.line, ended.written.as_slice(), front)?;
+    if ended.end.why != Why::WriteFailed {
+        told.tell(example.line, "a lost answer that the server takes for sent")?;
+    }
+    Ok(shelf)
+}
+
+/// The request, whose answer is lost behind each of its bytes in turn.
+fn lose_each(
+    play: &Play<'_>,
+    shelf: MemShelf,
+    example: &Example,
+    told: &mut Told<'_>,
+) -> Result<MemShelf, Fault> {
+    let size = example.due.whole.len();
+    let mut shelf = shelf;
+    for room in 0..size.min(MOST) {
+        shelf = lose(play, shelf, example, room, told)?;
+    }
+    lose(play, shelf, example, size.saturating_sub(1), told)
+}
+
+fn ask(
+    play: &Play<'_>,
+    shelf: MemShelf,
+    example: &Example,
+    told: &mut Told<'_>,
+) -> Result<MemShelf, Fault> {
+    let shelf = lose_each(play, shelf, example, told)?;
+    let (ended, shelf) = serve(play, shelf, Line::good(example.sent.as_slice()));
+    let due = example.due.whole.as_slice();
+    told.expect(example.line, ended.written.as_slice(), due)?;
+    expect_end(example, 1, ended.end, told)?;
+    Ok(shelf)
+}
+
+pub fn play(play: &Play<'_>, told: &mut Told<'_>) -> Result<(), Fault> {
+    let mut shelf = prepared(play, in_memory(play.alloc)?)?;
+    for step in play.steps {
+        match step {
+            Step::Ask(example) => shelf = ask(play, shelf, example, told)?,
+            Step::Report { .. } | Step::Next(_) | Step::Reopen => {
+                do_step(play, &mut shelf, step, told)?;
+            }
+        }
+    }
+    Ok(())
+}

@@ -1,0 +1,54 @@
+//! Each request with each call of the shelf failing in turn, until none does.
+use crate::fault::Fault;
+use crate::playing::Play;
+use crate::rooms::in_memory;
+use crate::scenes::{Example, Step};
+use crate::shelves::{answered, do_step, prepared};
+use crate::told::Told;
+use room_desk::Answer;
+use room_records::{MemShelf, TripShelf};
+use room_wire::{Code, refusal_text};
+
+/// The most calls of the shelf that a request makes.
+const MOST_CALLS: u64 = 100_000;
+
+/// What a message is answered where the k-th call of the shelf fails, whether one did, and the shelf then.
+fn answered_at(play: &Play<'_>, shelf: MemShelf, k: u64, sent: &[u8]) -> (Answer, bool, MemShelf) {
+    let (answer, shelf) = answered(play, TripShelf::new(shelf, k), sent);
+    let tripped = shelf.has_tripped();
+    (answer, tripped, shelf.into_inner())
+}
+
+fn ask(
+    play: &Play<'_>,
+    shelf: MemShelf,
+    example: &Example,
+    told: &mut Told<'_>,
+) -> Result<MemShelf, Fault> {
+    let mut shelf = shelf;
+    for k in 1..MOST_CALLS {
+        let (answer, tripped, left) = answered_at(play, shelf, k, example.sent.as_slice());
+        shelf = left;
+        if !tripped {
+            told.expect(example.line, answer.body(), example.due.body.as_slice())?;
+            return Ok(shelf);
+        }
+        let delay = refusal_text(Code::Delay).as_bytes();
+        told.expect(example.line, answer.body(), delay)?;
+    }
+    told.tell(example.line, "no end of calls of the shelf")?;
+    Ok(shelf)
+}
+
+pub fn play(play: &Play<'_>, told: &mut Told<'_>) -> Result<(), Fault> {
+    let mut shelf = prepared(play, in_memory(play.alloc)?)?;
+    for step in play.steps {
+        match step {
+            Step::Ask(example) => shelf = ask(play, shelf, example, told)?,
+            Step::Report { .. } | Step::Next(_) | Step::Reopen => {
+                do_step(play, &mut shelf, step, told)?;
+            }
+        }
+    }
+    Ok(())
+}
