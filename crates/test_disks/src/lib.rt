@@ -1,0 +1,27 @@
+//! A room in tables over disks that fail, and over rows that are no values.
+#![tactic(auto)]
+
+#[cfg(test)]
+mod disks;
+#[cfg(test)]
+mod flaky;
+#[cfg(test)]
+mod healing;
+#[cfg(test)]
+mod making;
+#[cfg(test)]
+mod odd_rows;
+#[cfg(test)]
+mod rooms;
+#[cfg(test)]
+mod rotten;
+#[cfg(test)]
+mod runs;
+#[cfg(test)]
+mod scenes;
+#[cfg(test)]
+mod stopped;
+#[cfg(test)]
+mod story;
+#[cfg(test)]
+mod taking;

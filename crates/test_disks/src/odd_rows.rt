@@ -1,0 +1,289 @@
+//! Rows that are no values, under the desk: a request that meets one is answered DELAY, and acts once when the row is
+//! mended.
+use crate::rooms::contents;
+use crate::story::{Ask, STEPS, Step, has_answer, is_answered};
+use room_desk::Desk;
+use room_records::Shelf;
+use sqlite::{Connection, MemStore};
+use std::alloc::Global;
+use std::test::Fail;
+use test_support::taken;
+
+/// A fresh room in tables with its keys, and with no types and no rules.
+const KEYED: &str = "CREATE TABLE room (one INTEGER PRIMARY KEY, version, next);
+CREATE TABLE node (id INTEGER PRIMARY KEY, parent, name, kind, owner, grp, aclflag, UNIQUE (parent, name));
+CREATE TABLE entry (node, place, type, flag, mask, who, UNIQUE (node, place));
+CREATE TABLE doc (node INTEGER PRIMARY KEY, bytes);
+CREATE TABLE session (sid UNIQUE, owner, slots, open);
+CREATE TABLE slot (sid, slot, seq, request, reply, UNIQUE (sid, slot));
+INSERT INTO room VALUES (1, 1, 2);
+INSERT INTO node VALUES (1, NULL, '', 1, 'ann', 'eng', 0);
+INSERT INTO entry VALUES (1, 0, 0, 3, 2033663, 'OWNER@'), (1, 1, 0, 3, 1179817, 'GROUP@');";
+
+/// How many steps of the story come before: there is a folder of number 2, in it a file of number 3, and three
+/// requests were answered.
+const BEFORE: usize = 4;
+
+const READ: Step = Step(
+    Ask::Run(4, r#"{"cmd":"READ","path":"/d/a"}"#),
+    r#"{"code":0,"data":"aGkh"}"#,
+);
+
+const LIST: Step = Step(
+    Ask::Run(4, r#"{"cmd":"LIST","path":"/d"}"#),
+    r#"{"code":0,"names":[["a","file"]]}"#,
+);
+
+const MKDIR: Step = Step(
+    Ask::Run(4, r#"{"cmd":"MKDIR","path":"/e"}"#),
+    r#"{"code":0}"#,
+);
+
+/// What another program does to the rows, what mends them, and a request that meets them.
+#[derive(Clone, Copy)]
+struct Odd(&'static str, &'static str, Step);
+
+static ODDS: [Odd; 27] = [
+    Odd(
+        "UPDATE node SET name = 'a/b' WHERE id = 3",
+        "UPDATE node SET name = 'a' WHERE id = 3",
+        LIST,
+    ),
+    Odd(
+        "UPDATE node SET name = '..' WHERE id = 3",
+        "UPDATE node SET name = 'a' WHERE id = 3",
+        LIST,
+    ),
+    Odd(
+        "UPDATE node SET name = NULL WHERE id = 3",
+        "UPDATE node SET name = 'a' WHERE id = 3",
+        LIST,
+    ),
+    Odd(
+        "UPDATE node SET kind = 2 WHERE id = 3",
+        "UPDATE node SET kind = 0 WHERE id = 3",
+        READ,
+    ),
+    Odd(
+        "UPDATE node SET kind = -1 WHERE id = 2",
+        "UPDATE node SET kind = 1 WHERE id = 2",
+        READ,
+    ),
+    Odd(
+        "UPDATE node SET kind = 'folder' WHERE id = 1",
+        "UPDATE node SET kind = 1 WHERE id = 1",
+        READ,
+    ),
+    Odd(
+        "UPDATE node SET aclflag = aclflag + 8 WHERE id = 3",
+        "UPDATE node SET aclflag = aclflag - 8 WHERE id = 3",
+        READ,
+    ),
+    Odd(
+        "UPDATE node SET aclflag = 256 WHERE id = 1",
+        "UPDATE node SET aclflag = 0 WHERE id = 1",
+        READ,
+    ),
+    Odd(
+        "UPDATE node SET owner = 'a/b' WHERE id = 3",
+        "UPDATE node SET owner = 'ann' WHERE id = 3",
+        READ,
+    ),
+    Odd(
+        "UPDATE node SET owner = '' WHERE id = 1",
+        "UPDATE node SET owner = 'ann' WHERE id = 1",
+        READ,
+    ),
+    Odd(
+        "UPDATE node SET grp = 'no group' WHERE id = 2",
+        "UPDATE node SET grp = 'eng' WHERE id = 2",
+        READ,
+    ),
+    Odd(
+        "UPDATE entry SET mask = mask + 2048",
+        "UPDATE entry SET mask = mask - 2048",
+        READ,
+    ),
+    Odd(
+        "UPDATE entry SET mask = mask + 2097152 WHERE node = 1",
+        "UPDATE entry SET mask = mask - 2097152 WHERE node = 1",
+        READ,
+    ),
+    Odd(
+        "UPDATE entry SET mask = -mask WHERE node = 1",
+        "UPDATE entry SET mask = -mask WHERE node = 1",
+        READ,
+    ),
+    Odd(
+        "UPDATE entry SET flag = flag + 16 WHERE node = 1",
+        "UPDATE entry SET flag = flag - 16 WHERE node = 1",
+        READ,
+    ),
+    Odd(
+        "UPDATE entry SET flag = flag + 256 WHERE node = 1",
+        "UPDATE entry SET flag = flag - 256 WHERE node = 1",
+        READ,
+    ),
+    Odd(
+        "UPDATE entry SET type = type + 2 WHERE node = 1",
+        "UPDATE entry SET type = type - 2 WHERE node = 1",
+        READ,
+    ),
+    Odd(
+        "UPDATE entry SET who = 'a/b' WHERE node = 1 AND place = 1",
+        "UPDATE entry SET who = 'GROUP@' WHERE node = 1 AND place = 1",
+        READ,
+    ),
+    Odd(
+        "UPDATE doc SET bytes = 'hi!'",
+        "UPDATE doc SET bytes = x'686921'",
+        READ,
+    ),
+    Odd(
+        "UPDATE session SET owner = 'a/b'",
+        "UPDATE session SET owner = 'ann'",
+        READ,
+    ),
+    Odd(
+        "UPDATE session SET slots = 0",
+        "UPDATE session SET slots = 2",
+        READ,
+    ),
+    Odd(
+        "UPDATE session SET open = 7",
+        "UPDATE session SET open = 1",
+        READ,
+    ),
+    Odd("UPDATE slot SET seq = -1", "UPDATE slot SET seq = 3", READ),
+    Odd(
+        "UPDATE slot SET seq = 4294967299",
+        "UPDATE slot SET seq = 3",
+        READ,
+    ),
+    Odd(
+        "UPDATE slot SET reply = 'text'",
+        "UPDATE slot SET reply = x'7b22636f6465223a302c2273697a65223a337d'",
+        READ,
+    ),
+    Odd(
+        "UPDATE room SET next = -1",
+        "UPDATE room SET next = 4",
+        MKDIR,
+    ),
+    Odd(
+        "UPDATE room SET next = NULL",
+        "UPDATE room SET next = 4",
+        MKDIR,
+    ),
+];
+
+/// Plays the steps from a place up to another.
+fn play<P: Shelf>(alloc: Global, desk: &mut Desk<P>, from: usize, to: usize) -> Result<(), Fail> {
+    for at in from..to {
+        if !is_answered(alloc, desk, at)? {
+            return Err(Fail::new("DELAY over memory"));
+        }
+    }
+    Ok(())
+}
+
+/// A room in which the first steps of the story were played.
+fn played(alloc: Global) -> Result<Connection<MemStore>, Fail> {
+    let mut conn = Connection::open_in_memory(alloc)?;
+    conn.execute_batch(KEYED)?;
+    let mut desk = Desk::new(alloc, taken(alloc, conn)?);
+    let end = play(alloc, &mut desk, 0, BEFORE);
+    let conn = desk.into_shelf().into_connection();
+    end?;
+    Ok(conn)
+}
+
+/// The request is answered, each of two times, or DELAY is.
+fn ask_twice<P: Shelf>(
+    alloc: Global,
+    desk: &mut Desk<P>,
+    odd: &Odd,
+    wanted: bool,
+) -> Result<(), Fail> {
+    for _ in 0..2 {
+        if has_answer(alloc, desk, &odd.2)? != wanted {
+            return Err(Fail::new(format_args!("{}: answered is not {wanted}", odd.0)));
+        }
+    }
+    Ok(())
+}
+
+/// The same over a room, which is handed back.
+fn asked_twice(
+    alloc: Global,
+    conn: Connection<MemStore>,
+    odd: &Odd,
+    wanted: bool,
+) -> Result<Connection<MemStore>, Fail> {
+    let mut desk = Desk::new(alloc, taken(alloc, conn)?);
+    let end = ask_twice(alloc, &mut desk, odd, wanted);
+    let conn = desk.into_shelf().into_connection();
+    end?;
+    Ok(conn)
+}
+
+/// All that is in the room stays, or is this.
+fn is_as(
+    alloc: Global,
+    conn: &mut Connection<MemStore>,
+    wanted: &str,
+    sql: &str,
+) -> Result<(), Fail> {
+    if contents(alloc, conn)?.as_str() != wanted {
+        return Err(Fail::new(format_args!("another room: {sql}")));
+    }
+    Ok(())
+}
+
+/// While the rows are odd, DELAY and no change.
+fn waits(
+    alloc: Global,
+    conn: Connection<MemStore>,
+    odd: &Odd,
+) -> Result<Connection<MemStore>, Fail> {
+    let mut conn = conn;
+    conn.execute(odd.0, &[])?;
+    let before = contents(alloc, &mut conn)?;
+    let mut conn = asked_twice(alloc, conn, odd, false)?;
+    is_as(alloc, &mut conn, before.as_str(), odd.0)?;
+    Ok(conn)
+}
+
+/// The rows are mended, and then the answer comes.
+fn goes_on(alloc: Global, conn: Connection<MemStore>, odd: &Odd, sound: &str) -> Result<(), Fail> {
+    let mut conn = conn;
+    conn.execute(odd.1, &[])?;
+    is_as(alloc, &mut conn, sound, odd.1)?;
+    let _ = asked_twice(alloc, conn, odd, true)?;
+    Ok(())
+}
+
+fn waits_and_goes_on(alloc: Global, odd: &Odd) -> Result<(), Fail> {
+    let mut conn = played(alloc)?;
+    let sound = contents(alloc, &mut conn)?;
+    let conn = waits(alloc, conn, odd)?;
+    goes_on(alloc, conn, odd, sound.as_str())
+}
+
+#[test]
+fn a_request_that_meets_an_odd_row_waits(rt: HostRuntime) -> Result<(), Fail> {
+    for odd in &ODDS {
+        waits_and_goes_on(rt.alloc(), odd)?;
+    }
+    Ok(())
+}
+
+/// The whole story, in tables with no types and no rules.
+#[test]
+fn rules_are_not_needed(rt: HostRuntime) -> Result<(), Fail> {
+    let alloc = rt.alloc();
+    let mut desk = Desk::new(alloc, taken(alloc, played(alloc)?)?);
+    let end = play(alloc, &mut desk, BEFORE, STEPS);
+    let _ = desk.into_shelf();
+    end
+}

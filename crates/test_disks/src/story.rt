@@ -1,0 +1,158 @@
+//! A short story: a session, and requests of its first slot, each with its answer.
+use room_desk::{Answer, Desk};
+use room_records::{Shelf, SlotCount};
+use room_wire::{Code, Event, read_command};
+use std::alloc::Global;
+use std::test::Fail;
+use test_support::{SID, session_name, subject};
+
+/// What `ann` asks of the session: to open it with so many slots, or a command, with its number, of the first slot.
+#[derive(Clone, Copy)]
+pub enum Ask {
+    Open(u32),
+    Run(u32, &'static str),
+}
+
+/// What is asked, and the body of its answer.
+#[derive(Clone, Copy)]
+pub struct Step(pub Ask, pub &'static str);
+
+static STORY: [Step; 7] = [
+    Step(Ask::Open(2), r#"{"code":0,"slots":2}"#),
+    Step(
+        Ask::Run(1, r#"{"cmd":"MKDIR","path":"/d"}"#),
+        r#"{"code":0}"#,
+    ),
+    Step(
+        Ask::Run(2, r#"{"cmd":"CREATE","data":"aGk=","path":"/d/a"}"#),
+        r#"{"code":0,"size":2}"#,
+    ),
+    Step(
+        Ask::Run(3, r#"{"cmd":"APPEND","data":"IQ==","path":"/d/a"}"#),
+        r#"{"code":0,"size":3}"#,
+    ),
+    Step(
+        Ask::Run(4, r#"{"cmd":"READ","path":"/d/a"}"#),
+        r#"{"code":0,"data":"aGkh"}"#,
+    ),
+    Step(
+        Ask::Run(5, r#"{"cmd":"RENAME","path":"/d/a","to":"/a"}"#),
+        r#"{"code":0}"#,
+    ),
+    Step(
+        Ask::Run(6, r#"{"cmd":"REMOVE","path":"/d"}"#),
+        r#"{"code":0}"#,
+    ),
+];
+
+/// How many steps there are.
+pub const STEPS: usize = 7;
+
+fn event(alloc: Global, ask: Ask) -> Result<Event, Fail> {
+    let subject = subject(alloc, "ann")?;
+    let sid = session_name(alloc, SID)?;
+    match ask {
+        Ask::Open(slots) => Ok(Event::Open {
+            subject,
+            sid,
+            slots: SlotCount::new(slots).ok_or("no number of slots")?,
+        }),
+        Ask::Run(seq, command) => Ok(Event::Slot {
+            subject,
+            sid,
+            slot: 0,
+            seq,
+            command: read_command(alloc, command.as_bytes())?,
+        }),
+    }
+}
+
+fn answer<P: Shelf>(alloc: Global, desk: &mut Desk<P>, ask: Ask) -> Result<Answer, Fail> {
+    Ok(desk.handle(&event(alloc, ask)?))
+}
+
+/// Whether a step has its answer; else it is answered DELAY. Another answer is an error.
+pub fn has_answer<P: Shelf>(alloc: Global, desk: &mut Desk<P>, step: &Step) -> Result<bool, Fail> {
+    let Step(ask, wanted) = *step;
+    let answer = answer(alloc, desk, ask)?;
+    if matches!(&answer, Answer::Refused(Code::Delay)) {
+        return Ok(false);
+    }
+    if answer.body() == wanted.as_bytes() {
+        return Ok(true);
+    }
+    match str::from_utf8(answer.body()) {
+        Ok(got) => Err(Fail::new(format_args!("{got} and not {wanted}"))),
+        Err(_) => Err(Fail::new("an answer that is no text")),
+    }
+}
+
+/// Whether a step is answered as in the story; else it is answered DELAY.
+pub fn is_answered<P: Shelf>(alloc: Global, desk: &mut Desk<P>, at: usize) -> Result<bool, Fail> {
+    has_answer(alloc, desk, STORY.get(at).ok_or("no step")?)
+}
+
+/// Plays the steps from a place on, up to the first that is answered DELAY: its place.
+pub fn play_from<P: Shelf>(alloc: Global, desk: &mut Desk<P>, from: usize) -> Result<usize, Fail> {
+    for at in from..STEPS {
+        if !is_answered(alloc, desk, at)? {
+            return Ok(at);
+        }
+    }
+    Ok(STEPS)
+}
+
+/// Whether a step that comes too early is refused as that, or answered DELAY.
+fn is_too_early<P: Shelf>(alloc: Global, desk: &mut Desk<P>, at: usize) -> Result<bool, Fail> {
+    let Step(ask, _) = *STORY.get(at).ok_or("no step")?;
+    let answer = answer(alloc, desk, ask)?;
+    Ok(matches!(
+        &answer,
+        Answer::Refused(Code::Delay | Code::SeqMisordered | Code::BadSession)
+    ))
+}
+
+/// The answers where the step at a place was answered DELAY and the disk does not mend: to an earlier step, and to a
+/// later one, they are right or DELAY.
+fn answers_others<P: Shelf>(alloc: Global, desk: &mut Desk<P>, at: usize) -> Result<(), Fail> {
+    if 0 < at {
+        let _ = is_answered(alloc, desk, at - 1)?;
+    }
+    if at < STEPS - 1 && !is_too_early(alloc, desk, at + 1)? {
+        return Err(Fail::new(format_args!("step {at} was passed over")));
+    }
+    Ok(())
+}
+
+/// How far the story came: the first step that was answered DELAY, and how many were answered in the end.
+#[derive(Clone, Copy)]
+pub struct Played {
+    pub first: usize,
+    pub answered: usize,
+}
+
+/// Plays the story over a disk that fails. The first step that is answered DELAY is sent again, then others are, and
+/// then it once more.
+pub fn play_over_failing<P: Shelf>(alloc: Global, desk: &mut Desk<P>) -> Result<Played, Fail> {
+    let first = play_from(alloc, desk, 0)?;
+    let at = play_from(alloc, desk, first)?;
+    if at < STEPS {
+        answers_others(alloc, desk, at)?;
+    }
+    Ok(Played {
+        first,
+        answered: play_from(alloc, desk, at)?,
+    })
+}
+
+/// A step that was answered DELAY is sent twice and acts once, and the rest of the story follows.
+pub fn play_to_end<P: Shelf>(alloc: Global, desk: &mut Desk<P>, from: usize) -> Result<(), Fail> {
+    if from < STEPS && !is_answered(alloc, desk, from)? {
+        return Err(Fail::new(format_args!("step {from} is answered DELAY again")));
+    }
+    let at = play_from(alloc, desk, from)?;
+    if at < STEPS {
+        return Err(Fail::new(format_args!("step {at} is answered DELAY")));
+    }
+    Ok(())
+}

@@ -1,0 +1,162 @@
+//! Random histories: the same answers and the same rooms from the plain body and from the desk over each shelf.
+use crate::dice::Dice;
+use crate::drafts::{Draft, What, event, session_at};
+use crate::rooms::is_same_room;
+use room_desk::{Answer, Desk};
+use room_history::{answer_to, count_accepted, state_after};
+use room_model::PlainRoom;
+use room_records::{MemShelf, Shelf};
+use room_sql::SqlShelf;
+use room_wire::Event;
+use sqlite::MemStore;
+use std::alloc::Global;
+use std::test::Fail;
+use test_support::{in_memory, in_tables, named};
+
+/// How many events a history has.
+const EVENTS: u32 = 200;
+
+/// A session's opener mostly, and else anyone.
+fn user_of(dice: &mut Dice, session: u32) -> u32 {
+    match dice.roll(10) {
+        0 => dice.roll(3),
+        _ => session % 3,
+    }
+}
+
+/// A new request mostly, also with a number too high or too low.
+fn fresh(alloc: Global, dice: &mut Dice, past: &[Event]) -> Result<Draft, Fail> {
+    let session = dice.roll(4);
+    let slot = dice.roll(3);
+    let sid = session_at(alloc, session)?;
+    let count = count_accepted(past, &sid, slot) % 1000;
+    let seq = match dice.roll(10) {
+        0 => count as u32 + 2,
+        1 => count as u32,
+        2 => 0,
+        _ => count as u32 + 1,
+    };
+    let what = match dice.roll(40) {
+        0 => What::Close,
+        1 | 2 | 3 | 4 | 5 | 6 => What::Open,
+        _ => What::Run(slot, seq),
+    };
+    Ok(Draft {
+        what,
+        user: user_of(dice, session),
+        session,
+        seed: dice.seed(),
+    })
+}
+
+/// One of the latest events again, as it was or with another command, or a fresh one.
+fn next(alloc: Global, dice: &mut Dice, sent: &[Draft], past: &[Event]) -> Result<Draft, Fail> {
+    let back = dice.roll(6) as usize + 1;
+    let again = dice.roll(12);
+    if 4 <= again || sent.len() < back {
+        return fresh(alloc, dice, past);
+    }
+    match sent.get(sent.len() - back) {
+        Some(draft) if again == 0 => Ok(Draft {
+            seed: dice.seed(),
+            ..*draft
+        }),
+        Some(draft) => Ok(*draft),
+        None => fresh(alloc, dice, past),
+    }
+}
+
+/// The plain body's room at the start, a shelf of each kind, and the events so far, the latest first.
+#[derive(Drop)]
+struct Trio {
+    alloc: Global,
+    start: PlainRoom,
+    past: Vec<Event>,
+    memory: MemShelf,
+    tables: SqlShelf<MemStore>,
+    replies: u32,
+    refusals: u32,
+}
+
+/// What a desk over a shelf answers.
+fn handled<S: Shelf>(alloc: Global, shelf: S, event: &Event) -> (Answer, S) {
+    let mut desk = Desk::new(alloc, shelf);
+    let answer = desk.handle(event);
+    (answer, desk.into_shelf())
+}
+
+impl Trio {
+    fn new(alloc: Global) -> Result<Trio, Fail> {
+        Ok(Trio {
+            alloc,
+            start: PlainRoom::fresh(alloc, named(alloc, "ann")?, named(alloc, "eng")?)?,
+            past: Vec::new(alloc),
+            memory: in_memory(alloc)?,
+            tables: in_tables(alloc)?,
+            replies: 0,
+            refusals: 0,
+        })
+    }
+
+    /// Counts an answer.
+    fn count(&mut self, answer: &Answer) {
+        match answer {
+            Answer::Reply(_) => self.replies = self.replies.wrapping_add(1),
+            Answer::Refused(_) => self.refusals = self.refusals.wrapping_add(1),
+        }
+    }
+
+    /// All three answer an event alike, and it joins the history.
+    fn answer(self, event: Event) -> Result<Trio, Fail> {
+        let mut trio = self;
+        let plain = answer_to(trio.alloc, &trio.start, trio.past.as_slice(), &event)?;
+        let (from_memory, memory) = handled(trio.alloc, trio.memory, &event);
+        let (from_tables, tables) = handled(trio.alloc, trio.tables, &event);
+        trio.memory = memory;
+        trio.tables = tables;
+        trio.past.insert(0, event)?;
+        trio.count(&plain);
+        if plain.body() == from_memory.body() && plain.body() == from_tables.body() {
+            Ok(trio)
+        } else {
+            Err(Fail::new("another answer"))
+        }
+    }
+
+    /// The rows are those of the plain room.
+    fn compare_rooms(self) -> Result<(), Fail> {
+        let mut trio = self;
+        let room = state_after(trio.alloc, &trio.start, trio.past.as_slice())?;
+        if is_same_room(trio.alloc, &mut trio.memory, &room)?
+            && is_same_room(trio.alloc, &mut trio.tables, &room)?
+        {
+            Ok(())
+        } else {
+            Err(Fail::new("another room"))
+        }
+    }
+}
+
+/// A random history from a seed.
+fn random_history(alloc: Global, seed: u32) -> Result<Trio, Fail> {
+    let mut dice = Dice::new(seed);
+    let mut sent = Vec::new(alloc);
+    let mut trio = Trio::new(alloc)?;
+    for _ in 0..EVENTS {
+        let draft = next(alloc, &mut dice, sent.as_slice(), trio.past.as_slice())?;
+        sent.push(draft)?;
+        trio = trio.answer(event(alloc, &draft)?)?;
+    }
+    Ok(trio)
+}
+
+#[test]
+fn random_histories(rt: HostRuntime) -> Result<(), Fail> {
+    for seed in [1, 2] {
+        let trio = random_history(rt.alloc(), seed)?;
+        // Neither replies nor refusals alone.
+        assert!(rt; 40 < trio.replies && 20 < trio.refusals, "{seed}");
+        trio.compare_rooms()?;
+    }
+    Ok(())
+}

@@ -1,0 +1,240 @@
+//! Streams that fail or are cut, read and written in pieces, and how often a reader is asked.
+use crate::answers::{
+    ANSWER, BAD_HTTP, BAD_REQUEST, BAD_ROUTE, QUESTION, SERVERS, Server, is_as, served,
+};
+use room_desk::Desk;
+use room_wire::Why;
+use std::alloc::Global;
+use std::io::{Read, Write};
+use std::test::Fail;
+use test_support::{Dripping, Full, Narrow, Pieces, in_memory, roster};
+
+const NO_BODY: &str = "POST /v1/check HTTP/1.1\r\n\r\n";
+
+/// What is served where there is no room: its routes are none.
+const ROUTES: &str =
+    "POST /v1/sessions/0123456789abcdef0123456789abcdef HTTP/1.1\r\nroom-user: ann\r\ncontent-length: 11\r\n\r\n{\"slots\":3}GET /v1/check HTTP/1.1\r\n\r\n";
+
+/// Questions alone are served, whatever the size of a read or a write.
+#[test]
+fn questions_without_a_room(rt: HostRuntime) -> Result<(), Fail> {
+    let alloc = rt.alloc();
+    let sent = format!(in alloc; "{QUESTION}{ROUTES}{NO_BODY}{QUESTION}")?;
+    let want = format!(in alloc; "{ANSWER}{BAD_ROUTE}{BAD_ROUTE}{BAD_REQUEST}{ANSWER}")?;
+    for step in [1, 7, 1000] {
+        let mut writer = Narrow::new(alloc, 10_000, step, Full::Fails);
+        let mut reader = sent.as_bytes();
+        let end = served(alloc, Server::Questions, &mut reader, &mut writer)?;
+        is_as(
+            &end,
+            writer.taken.as_slice(),
+            want.as_str(),
+            Why::Closed,
+            5,
+            "whole reads",
+        )?;
+        let mut writer = Narrow::new(alloc, 10_000, step, Full::TakesNone);
+        let mut reader = Dripping::new(sent.as_bytes());
+        let end = served(alloc, Server::Questions, &mut reader, &mut writer)?;
+        is_as(
+            &end,
+            writer.taken.as_slice(),
+            want.as_str(),
+            Why::Closed,
+            5,
+            "small reads",
+        )?;
+    }
+    Ok(())
+}
+
+/// A reader's call that fails, and the three answers that were given before.
+#[derive(Clone, Copy)]
+struct Failing(u64, [&'static str; 3], u64);
+
+const FAILING: [Failing; 5] = [
+    Failing(1, ["", "", ""], 0),
+    Failing(2, [ANSWER, "", ""], 1),
+    Failing(3, [ANSWER, "", ""], 1),
+    Failing(4, [ANSWER, BAD_REQUEST, ""], 2),
+    Failing(5, [ANSWER, BAD_REQUEST, ANSWER], 3),
+];
+
+/// The messages that came whole before the failing read are answered.
+fn is_answered_before(alloc: Global, server: Server, failing: Failing) -> Result<(), Fail> {
+    let pieces = [QUESTION, "POST /v1/ch", "eck HTTP/1.1\r\n\r\n", QUESTION];
+    let Failing(call, [first, second, third], count) = failing;
+    let want = format!(in alloc; "{first}{second}{third}")?;
+    let what = format!(in alloc; "call {call}, {server:?}")?;
+    let mut output = Vec::new(alloc);
+    let end = served(alloc, server, &mut Pieces::new(&pieces, call), &mut output)?;
+    is_as(
+        &end,
+        output.as_slice(),
+        want.as_str(),
+        Why::ReadFailed,
+        count,
+        what.as_str(),
+    )
+}
+
+#[test]
+fn a_read_fails(rt: HostRuntime) -> Result<(), Fail> {
+    for server in SERVERS {
+        for failing in FAILING {
+            is_answered_before(rt.alloc(), server, failing)?;
+        }
+    }
+    Ok(())
+}
+
+/// A question, and then the front of another one: where the input ends there it is no message, and where it fails
+/// nothing more is answered.
+fn ends_in_a_front(alloc: Global, server: Server, front: &str) -> Result<(), Fail> {
+    let pieces = [QUESTION, front];
+    let want = format!(in alloc; "{ANSWER}{BAD_HTTP}")?;
+    let mut output = Vec::new(alloc);
+    let end = served(alloc, server, &mut Pieces::new(&pieces, 0), &mut output)?;
+    is_as(
+        &end,
+        output.as_slice(),
+        want.as_str(),
+        Why::BadMessage,
+        1,
+        front,
+    )?;
+    let mut output = Vec::new(alloc);
+    let end = served(alloc, server, &mut Pieces::new(&pieces, 3), &mut output)?;
+    is_as(&end, output.as_slice(), ANSWER, Why::ReadFailed, 1, front)
+}
+
+/// Each proper front of a message but the empty one.
+#[test]
+fn each_front_of_a_message(rt: HostRuntime) -> Result<(), Fail> {
+    for server in SERVERS {
+        for size in 1..QUESTION.len() {
+            let front = QUESTION.get(..size).ok_or("a boundary")?;
+            ends_in_a_front(rt.alloc(), server, front)?;
+        }
+    }
+    Ok(())
+}
+
+/// After bytes that no message can begin with, nothing more is read.
+#[test]
+fn no_read_after_a_bad_message(rt: HostRuntime) -> Result<(), Fail> {
+    let pieces = ["no message\r\n", QUESTION];
+    for server in SERVERS {
+        let mut reader = Pieces::new(&pieces, 0);
+        let mut output = Vec::new(rt.alloc());
+        let end = served(rt.alloc(), server, &mut reader, &mut output)?;
+        is_as(
+            &end,
+            output.as_slice(),
+            BAD_HTTP,
+            Why::BadMessage,
+            0,
+            "a bad message",
+        )?;
+        assert_eq!(rt; reader.calls, 1, "{server:?}");
+    }
+    Ok(())
+}
+
+/// What was written is the beginning of the answer that the writer took.
+fn is_cut(alloc: Global, server: Server, full: Full, room: usize) -> Result<(), Fail> {
+    let mut writer = Narrow::new(alloc, room, 1000, full);
+    let end = served(alloc, server, &mut QUESTION.as_bytes(), &mut writer)?;
+    let front = ANSWER.get(..room).ok_or("a boundary")?;
+    is_as(
+        &end,
+        writer.taken.as_slice(),
+        front,
+        Why::WriteFailed,
+        1,
+        front,
+    )
+}
+
+#[test]
+fn a_write_fails(rt: HostRuntime) -> Result<(), Fail> {
+    for server in SERVERS {
+        for full in [Full::Fails, Full::TakesNone] {
+            for room in 0..ANSWER.len() {
+                is_cut(rt.alloc(), server, full, room)?;
+            }
+        }
+    }
+    Ok(())
+}
+
+const OPEN_AND_CREATE: &str =
+    "POST /v1/sessions/0123456789abcdef0123456789abcdef HTTP/1.1\r\nroom-user: ann\r\ncontent-length: 11\r\n\r\n{\"slots\":1}POST /v1/sessions/0123456789abcdef0123456789abcdef/slots/0/1 HTTP/1.1\r\nroom-user: ann\r\ncontent-length: 42\r\n\r\n{\"cmd\":\"CREATE\",\"data\":\"aGk=\",\"path\":\"/a\"}";
+
+const OPENED_AND_CREATED: &str =
+    "HTTP/1.1 200 OK\r\ncontent-type: application/json\r\ncontent-length: 20\r\n\r\n{\"code\":0,\"slots\":1}HTTP/1.1 200 OK\r\ncontent-type: application/json\r\ncontent-length: 19\r\n\r\n{\"code\":0,\"size\":2}";
+
+/// A stream that loses its answers, or is cut, and then the same requests on another one, which are answered as the
+/// first time.
+fn acts_once<R: Read, W: Write>(
+    alloc: Global,
+    reader: &mut R,
+    writer: &mut W,
+    why: Why,
+    what: &str,
+) -> Result<(), Fail> {
+    let roster = roster(alloc)?;
+    let mut output = Vec::new(alloc);
+    let mut desk = Desk::new(alloc, in_memory(alloc)?);
+    let end = desk.serve(&roster, reader, writer);
+    let again = desk.serve(&roster, &mut OPEN_AND_CREATE.as_bytes(), &mut output);
+    let _ = desk.into_shelf();
+    if end.why != why {
+        return Err(Fail::new(format_args!("another end after {what}")));
+    }
+    is_as(
+        &again,
+        output.as_slice(),
+        OPENED_AND_CREATED,
+        Why::Closed,
+        2,
+        what,
+    )
+}
+
+/// A client whose answers were lost, wholly or in part, sends its requests again: each acts once.
+#[test]
+fn answers_are_lost(rt: HostRuntime) -> Result<(), Fail> {
+    let alloc = rt.alloc();
+    for room in 0..OPENED_AND_CREATED.len() {
+        let front = OPENED_AND_CREATED.get(..room).ok_or("a boundary")?;
+        let mut writer = Narrow::new(alloc, room, 1000, Full::Fails);
+        let mut reader = OPEN_AND_CREATE.as_bytes();
+        acts_once(alloc, &mut reader, &mut writer, Why::WriteFailed, front)?;
+        assert_eq!(rt; writer.taken.as_slice(), front.as_bytes());
+    }
+    Ok(())
+}
+
+/// A connection that fails after any of the requests' bytes, and the requests again.
+#[test]
+fn requests_are_lost(rt: HostRuntime) -> Result<(), Fail> {
+    let alloc = rt.alloc();
+    for size in 1..=OPEN_AND_CREATE.len() {
+        let front = OPEN_AND_CREATE.get(..size).ok_or("a boundary")?;
+        let pieces = [front];
+        let mut writer = Vec::new(alloc);
+        acts_once(
+            alloc,
+            &mut Pieces::new(&pieces, 2),
+            &mut writer,
+            Why::ReadFailed,
+            front,
+        )?;
+        assert!(rt;
+            OPENED_AND_CREATED.as_bytes().starts_with(writer.as_slice()),
+            "{front}"
+        );
+    }
+    Ok(())
+}

@@ -1,0 +1,20 @@
+//! Worked examples of the tables of a room, over memory: rooms that are made, taken and refused, rows that are no
+//! values, keys at their limits, and files that are cut short or no database.
+#![tactic(auto)]
+
+#[cfg(test)]
+mod adopting;
+#[cfg(test)]
+mod databases;
+#[cfg(test)]
+mod files;
+#[cfg(test)]
+mod keys;
+#[cfg(test)]
+mod lists;
+#[cfg(test)]
+mod making;
+#[cfg(test)]
+mod odd_rows;
+#[cfg(test)]
+mod rooms;
