@@ -48,6 +48,24 @@ fn questions_without_a_room(rt: HostRuntime) -> Result<(), Fail> {
     Ok(())
 }
 
+/// Where no byte comes, none is written.
+#[test]
+fn empty_input(rt: HostRuntime) -> Result<(), Fail> {
+    for server in SERVERS {
+        let mut output = Vec::new(rt.alloc());
+        let end = served(rt.alloc(), server, &mut "".as_bytes(), &mut output)?;
+        is_as(
+            &end,
+            output.as_slice(),
+            "",
+            Why::Closed,
+            0,
+            "an empty input",
+        )?;
+    }
+    Ok(())
+}
+
 /// A reader's call that fails, and the three answers that were given before.
 #[derive(Clone, Copy)]
 struct Failing(u64, [&'static str; 3], u64);
