@@ -6,7 +6,7 @@ use Rattle.room_records.specs.declared.node.Node.{Node}
 use Rattle.room_records.specs.Names.{Name, Path}
 use Rattle.room_records.specs.Records.{ObjectRecords, Records, IsChild}
 use Rattle.room_records.specs.Rules.{ObjectRules, IsRoot}
-use Rattle.room_records.specs.Shelf.{IsChildNamed, Unchanged}
+use Rattle.room_records.specs.Shelf.{IsChildNamed}
 use Rattle.room_records.specs.Room.{Object, Room, object_at}
 use Rattle.room_records.specs.Representation.{NamesUpwards, HasPath, RowsShowObject, RepresentsRoom}
 
@@ -98,15 +98,3 @@ module _ (t : ObjectRecords) (room : Room) (stand : RepresentsRoom t room) where
   one_further path i name id node below is at child =
       let P : Path → Type 0 = λ p. HasPath t p node.id in
       subst P (ap (λ n. take i path ++ n ∷ []) is ∙ sym (take_more path i name below)) (child_is_at t stand.rules (take i path) name id node at child.0 child.1)
-
--- two calls that only read are one
-pub unchanged_then : {S : Type 0} (records : S → Records) (is_honest is_clean is_declared : S → Type 0) (crash_may_leave : S → Records → Type 0) (a b c : S)
-    → Unchanged records is_honest is_clean is_declared crash_may_leave b c → Unchanged records is_honest is_clean is_declared crash_may_leave a b
-    → Unchanged records is_honest is_clean is_declared crash_may_leave a c
-unchanged_then records is_honest is_clean is_declared crash_may_leave a b c second first = record {
-  was_honest = λ h. first.was_honest (second.was_honest h);
-  was_clean = λ k. first.was_clean (second.was_clean k);
-  declared = λ h d. second.declared h (first.declared (second.was_honest h) d);
-  same = λ h d. second.same h (first.declared (second.was_honest h) d) ∙ first.same (second.was_honest h) d;
-  crash = λ left may. first.crash left (second.crash left may);
-}

@@ -7,6 +7,7 @@ pub mod Changes
 pub mod Room
 pub mod Representation
 pub mod Shelf
+pub mod Trip
 pub mod Table
 pub mod NodeIndex
 pub mod Sessions

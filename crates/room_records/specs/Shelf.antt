@@ -1,8 +1,10 @@
 -- What calls of a shelf say.
-use Rattle.std.specs.Prelude.{◌≡◌, ◌≢◌, ℕ, ◌-◌, ◌^◌, ◌<◌, ◌≤◌, ◌⊎◌, List, [], ◌∷◌, Option, None, Some, unwrap_or, length}
+use Rattle.std.specs.Prelude.{◌≡◌, ◌≢◌, ℕ, ◌-◌, ◌^◌, ◌<◌, ◌≤◌, ◌⊎◌, List, [], ◌∷◌, Option, None, Some, MatchOption, Result, Ok, Err, IfOk, unwrap_or, length}
 use Rattle.std.specs.List.{AllByRecursion, Contains}
 use Rattle.std.specs.declared.cmp.Ordering.TheVariants.{Less}
 use Rattle.room_records.specs.declared.node.Node.{Node}
+use Rattle.room_records.specs.declared.shelf.ShelfFault.{ShelfFault}
+use Rattle.room_records.specs.declared.shelf.ShelfFault.TheVariants.{Store}
 use Rattle.room_records.specs.Names.{Name, name_cmp}
 use Rattle.room_records.specs.Records.{ObjectRecords, Records, IsChild}
 
@@ -10,20 +12,54 @@ use Rattle.room_records.specs.Records.{ObjectRecords, Records, IsChild}
 abbrev pub FailureCounted : ℕ → ℕ → Type 0
 FailureCounted old new = (old < new) ⊎ (2 ^ 64 - 1 ≤ new)
 
--- a call that only reads: the records are as they were, and a crash may leave no more than before
-pub record Unchanged {S : Type 0} (records : S → Records) (is_honest is_clean is_declared : S → Type 0) (crash_may_leave : S → Records → Type 0) (old new : S) : Type 0 where
-  pub was_honest : is_honest new → is_honest old
-  pub was_clean : is_clean new → is_clean old
-  pub declared : is_honest new → is_declared old → is_declared new
-  pub same : is_honest new → is_declared old → records new ≡ records old
-  pub crash : (left : Records) → crash_may_leave new left → crash_may_leave old left
+-- what contracts see of a shelf
+pub record View : Type 1 where
+  -- the rows of the room
+  pub records : Records
+  -- how often the store has failed; at 2^64 - 1 it is no longer counted
+  pub failures : ℕ
+  -- the store has returned what was written, whether it is still there or not
+  pub is_intact : Type 0
+  -- the store is intact and there: no fault has shut it
+  pub is_available : Type 0
+  -- the store is laid out for the records
+  pub is_laid_out : Type 0
+  -- the records that a crash now may leave
+  pub crash_may_leave : Records → Type 0
 
--- a shelf as it is made: honest, laid out, without a failure, and a crash may leave something
-pub record IsNewShelf {S : Type 0} (failures : S → ℕ) (is_honest is_declared : S → Type 0) (crash_may_leave : S → Records → Type 0) (made : S) : Type 0 where
-  pub honest : is_honest made
-  pub declared : is_declared made
-  pub no_failure : failures made ≡ 0
-  pub leaves : (left : Records) × crash_may_leave made left
+-- the fault that a call answered
+abbrev pub fault_in : {T : Type 0} → Result T ShelfFault → Option ShelfFault
+fault_in (Ok value) = None
+fault_in (Err fault) = Some fault
+
+-- the frame of a call, by the fault that it answered, if any: the store is no better than it was, what it is laid out for stays, an answer other
+-- than a fault comes while the store is there, the count of failures rises exactly where the call answers Store, and a fault changes no record
+pub record ShelfCall (old new : View) (fault : Option ShelfFault) : Type 0 where
+  pub was_intact : new.is_intact → old.is_intact
+  pub was_available : new.is_available → old.is_available
+  pub laid_out : new.is_available → old.is_laid_out → new.is_laid_out
+  pub alive : new.is_intact → old.is_available → MatchOption fault new.is_available (λ _. Unit {0})
+  pub never_falls : old.failures ≤ new.failures
+  pub quiet : fault ≢ Some Store → new.failures ≡ old.failures
+  pub store : fault ≡ Some Store → FailureCounted old.failures new.failures
+  pub undone : new.is_available → old.is_laid_out → MatchOption fault (Unit {0}) (λ _. new.records ≡ old.records)
+
+-- the frame of a call that only reads: the records are as they were too, and a crash may leave no more than before
+pub record ShelfRead (old new : View) (fault : Option ShelfFault) : Type 0 where
+  pub call : ShelfCall old new fault
+  pub same : new.is_available → old.is_laid_out → new.records ≡ old.records
+  pub crash : (left : Records) → new.crash_may_leave left → old.crash_may_leave left
+
+-- what a read tells of the records, while the store is there and laid out
+abbrev pub Tells : {T : Type 0} → View → View → Result T ShelfFault → (Records → T → Type 0) → Type 0
+Tells old new result P = new.is_available → old.is_laid_out → IfOk result (P old.records)
+
+-- a shelf as it is made: available, laid out, without a failure, and a crash may leave something
+pub record IsNewShelf (made : View) : Type 0 where
+  pub available : made.is_available
+  pub laid_out : made.is_laid_out
+  pub no_failure : made.failures ≡ 0
+  pub leaves : (left : Records) × made.crash_may_leave left
 
 abbrev pub name_of : Node → Name
 name_of node = unwrap_or node.name []

@@ -34,19 +34,16 @@ impl Shelf for MemShelf {
     ghost use Rattle.std.specs.Prelude.{◌≡◌};
     ghost use Rattle.room_records.specs.Mem.{mem_records};
 
-    ghost records = { mem_records };
+    ghost view = { λ s. record {
+        records = mem_records s;
+        failures = 0;
+        is_intact = Unit {0};
+        is_available = Unit {0};
+        is_laid_out = Unit {0};
+        crash_may_leave = λ left. left ≡ mem_records s;
+    } };
 
-    ghost failures = { λ _. 0 };
-
-    ghost is_honest = { λ _. Unit {0} };
-
-    ghost is_clean = { λ _. Unit {0} };
-
-    ghost honest_is_clean = { λ s h. h };
-
-    ghost is_declared = { λ _. Unit {0} };
-
-    ghost crash_may_leave = { λ s r. r ≡ mem_records s };
+    ghost available_is_intact = { λ s h. h };
 
     fn node(&mut self, id: u32) -> Result<Option<Node>, ShelfFault> {
         Ok(self.nodes.node(id)?)

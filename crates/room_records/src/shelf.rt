@@ -1,9 +1,9 @@
 //! The shelf that keeps the rows.
-ghost use Rattle.std.specs.Prelude.{◌≡◌, ◌≢◌, ℕ, ◌≤◌, ◌⊎◌, List, [], unwrap_or, IfOk, OnOk, OnErr, Err};
+ghost use Rattle.std.specs.Prelude.{◌≡◌, ◌⊎◌, [], unwrap_or, OnOk};
 ghost use Rattle.room_records.specs.Records.{Records};
 ghost use Rattle.room_records.specs.Rules.{ObjectRules};
 ghost use Rattle.room_records.specs.Changes.{apply_changes, RulesHoldAfterEach};
-ghost use Rattle.room_records.specs.Shelf.{FailureCounted, Unchanged, AreChildren, IsChildCount, IsChildNamed};
+ghost use Rattle.room_records.specs.Shelf.{View, ShelfCall, ShelfRead, Tells, fault_in, AreChildren, IsChildCount, IsChildNamed};
 
 use crate::change::Change;
 use crate::names::{FileName, Sid};
@@ -35,132 +35,85 @@ impl From<AllocError> for ShelfFault {
 
 /// What keeps the rows of a room.
 ///
-/// Every promise on records stands under two facts: that the store was honest as the call ended
-/// (`is_honest`, which may fall and never rises again), and that it was laid out for the records
-/// as the call began (`is_declared`, which every call keeps). A store that is no longer there may be
-/// clean still (`is_clean`), and then no call answers Ok.
+/// Contracts see a shelf as its `view`: the records, how often the store has failed, and what is known of
+/// the store. It is *intact* while it has returned what was written, *available* while it is intact and no
+/// fault has shut it, and *laid out* where it has the form that the records need. What it is may get worse
+/// and never gets better. Every promise on records stands under two facts: the store was available as the
+/// call ended, and laid out as it began. An intact store that is not available answers no call Ok.
 pub trait Shelf {
-    /// The records: a function of what is kept, and of nothing else.
-    ghost records: { Self → Records };
-
-    /// How often the store has failed. At 2^64 - 1 it is no longer counted.
-    ghost failures: { Self → ℕ };
-
-    /// The store is there, and has returned what was written.
-    ghost is_honest: { Self → Type 0 };
-
-    /// The store has returned what was written, whether it is still there or not. It may fall and never rises again.
-    /// A shelf should keep it over each fault that its store tells of: what it says of answers stands under it.
-    ghost is_clean: { Self → Type 0 };
-
-    /// The store is laid out for the records.
-    ghost is_declared: { Self → Type 0 };
-
-    /// The records that a crash now may leave.
-    ghost crash_may_leave: { Self → Records → Type 0 };
+    /// The records are a function of what is kept, and of nothing else. A shelf should stay intact over each
+    /// fault that its store tells of: what it says of answers stands under it.
+    ghost view: { Self → View };
 
     /// The node of this number.
     fn node(&mut self, id: u32) -> Result<Option<Node>, ShelfFault>
-        ensures value { is_honest self.new → is_declared self.old → IfOk result (λ found. found ≡ (records self.old).objects.node id) }
-        ensures alive { is_clean self.new → OnOk result (is_honest self.new) }
-        ensures unchanged { Unchanged records is_honest is_clean is_declared crash_may_leave self.old self.new }
-        ensures never_falls { failures self.old ≤ failures self.new }
-        ensures quiet { result ≢ Err ShelfFault.Store → failures self.new ≡ failures self.old }
-        ensures store { result ≡ Err ShelfFault.Store → FailureCounted (failures self.old) (failures self.new) };
+        ensures value { Tells (view self.old) (view self.new) result (λ records found. found ≡ records.objects.node id) }
+        ensures there { (view self.new).is_intact → OnOk result (view self.new).is_available }
+        ensures frame { ShelfRead (view self.old) (view self.new) (fault_in result) };
 
     /// The child of this name.
     fn child(&mut self, parent: u32, name: &FileName) -> Result<Option<Node>, ShelfFault>
-        ensures value { is_honest self.new → is_declared self.old → IfOk result (IsChildNamed (records self.old).objects parent name.now) }
-        ensures alive { is_clean self.new → OnOk result (is_honest self.new) }
-        ensures unchanged { Unchanged records is_honest is_clean is_declared crash_may_leave self.old self.new }
-        ensures never_falls { failures self.old ≤ failures self.new }
-        ensures quiet { result ≢ Err ShelfFault.Store → failures self.new ≡ failures self.old }
-        ensures store { result ≡ Err ShelfFault.Store → FailureCounted (failures self.old) (failures self.new) };
+        ensures value { Tells (view self.old) (view self.new) result (λ records. IsChildNamed records.objects parent name.now) }
+        ensures there { (view self.new).is_intact → OnOk result (view self.new).is_available }
+        ensures frame { ShelfRead (view self.old) (view self.new) (fault_in result) };
 
     /// The nodes in a folder, in order of their names by bytes.
     fn children(&mut self, parent: u32) -> Result<Vec<Node>, ShelfFault>
-        ensures value { is_honest self.new → is_declared self.old → ObjectRules (records self.old).objects →
-            IfOk result (λ found. AreChildren (records self.old).objects parent found.items) }
-        ensures alive { is_clean self.new → OnOk result (is_honest self.new) }
-        ensures unchanged { Unchanged records is_honest is_clean is_declared crash_may_leave self.old self.new }
-        ensures never_falls { failures self.old ≤ failures self.new }
-        ensures quiet { result ≢ Err ShelfFault.Store → failures self.new ≡ failures self.old }
-        ensures store { result ≡ Err ShelfFault.Store → FailureCounted (failures self.old) (failures self.new) };
+        ensures value { Tells (view self.old) (view self.new) result (λ records found.
+            ObjectRules records.objects → AreChildren records.objects parent found.items) }
+        ensures there { (view self.new).is_intact → OnOk result (view self.new).is_available }
+        ensures frame { ShelfRead (view self.old) (view self.new) (fault_in result) };
 
     /// How many nodes are in a folder.
     fn child_count(&mut self, parent: u32) -> Result<u64, ShelfFault>
-        ensures value { is_honest self.new → is_declared self.old → ObjectRules (records self.old).objects →
-            IfOk result (IsChildCount (records self.old).objects parent) }
-        ensures alive { is_clean self.new → OnOk result (is_honest self.new) }
-        ensures unchanged { Unchanged records is_honest is_clean is_declared crash_may_leave self.old self.new }
-        ensures never_falls { failures self.old ≤ failures self.new }
-        ensures quiet { result ≢ Err ShelfFault.Store → failures self.new ≡ failures self.old }
-        ensures store { result ≡ Err ShelfFault.Store → FailureCounted (failures self.old) (failures self.new) };
+        ensures value { Tells (view self.old) (view self.new) result (λ records count.
+            ObjectRules records.objects → IsChildCount records.objects parent count) }
+        ensures there { (view self.new).is_intact → OnOk result (view self.new).is_available }
+        ensures frame { ShelfRead (view self.old) (view self.new) (fault_in result) };
 
     /// The entries of an object, in order of place. None where the object is not there.
     fn entries(&mut self, id: u32) -> Result<Vec<Entry>, ShelfFault>
-        ensures value { is_honest self.new → is_declared self.old → IfOk result (λ found. found.items ≡ (records self.old).objects.entries id) }
-        ensures alive { is_clean self.new → OnOk result (is_honest self.new) }
-        ensures unchanged { Unchanged records is_honest is_clean is_declared crash_may_leave self.old self.new }
-        ensures never_falls { failures self.old ≤ failures self.new }
-        ensures quiet { result ≢ Err ShelfFault.Store → failures self.new ≡ failures self.old }
-        ensures store { result ≡ Err ShelfFault.Store → FailureCounted (failures self.old) (failures self.new) };
+        ensures value { Tells (view self.old) (view self.new) result (λ records found. found.items ≡ records.objects.entries id) }
+        ensures there { (view self.new).is_intact → OnOk result (view self.new).is_available }
+        ensures frame { ShelfRead (view self.old) (view self.new) (fault_in result) };
 
     /// The bytes of a document, none where it is not there.
     fn doc(&mut self, id: u32) -> Result<Vec<u8>, ShelfFault>
-        ensures value { is_honest self.new → is_declared self.old → IfOk result (λ found.
-            found.items ≡ unwrap_or ((records self.old).objects.document id) []) }
-        ensures alive { is_clean self.new → OnOk result (is_honest self.new) }
-        ensures unchanged { Unchanged records is_honest is_clean is_declared crash_may_leave self.old self.new }
-        ensures never_falls { failures self.old ≤ failures self.new }
-        ensures quiet { result ≢ Err ShelfFault.Store → failures self.new ≡ failures self.old }
-        ensures store { result ≡ Err ShelfFault.Store → FailureCounted (failures self.old) (failures self.new) };
+        ensures value { Tells (view self.old) (view self.new) result (λ records found.
+            found.items ≡ unwrap_or (records.objects.document id) []) }
+        ensures there { (view self.new).is_intact → OnOk result (view self.new).is_available }
+        ensures frame { ShelfRead (view self.old) (view self.new) (fault_in result) };
 
     /// The row of a session name that was opened once.
     fn session(&mut self, sid: &Sid) -> Result<Option<SessionRow>, ShelfFault>
-        ensures value { is_honest self.new → is_declared self.old → IfOk result (λ found. found ≡ (records self.old).session sid.now) }
-        ensures alive { is_clean self.new → OnOk result (is_honest self.new) }
-        ensures unchanged { Unchanged records is_honest is_clean is_declared crash_may_leave self.old self.new }
-        ensures never_falls { failures self.old ≤ failures self.new }
-        ensures quiet { result ≢ Err ShelfFault.Store → failures self.new ≡ failures self.old }
-        ensures store { result ≡ Err ShelfFault.Store → FailureCounted (failures self.old) (failures self.new) };
+        ensures value { Tells (view self.old) (view self.new) result (λ records found. found ≡ records.session sid.now) }
+        ensures there { (view self.new).is_intact → OnOk result (view self.new).is_available }
+        ensures frame { ShelfRead (view self.old) (view self.new) (fault_in result) };
 
     /// What a slot keeps.
     fn slot(&mut self, sid: &Sid, slot: u32) -> Result<Option<Kept>, ShelfFault>
-        ensures value { is_honest self.new → is_declared self.old → IfOk result (λ found. found ≡ (records self.old).slot sid.now slot) }
-        ensures alive { is_clean self.new → OnOk result (is_honest self.new) }
-        ensures unchanged { Unchanged records is_honest is_clean is_declared crash_may_leave self.old self.new }
-        ensures never_falls { failures self.old ≤ failures self.new }
-        ensures quiet { result ≢ Err ShelfFault.Store → failures self.new ≡ failures self.old }
-        ensures store { result ≡ Err ShelfFault.Store → FailureCounted (failures self.old) (failures self.new) };
+        ensures value { Tells (view self.old) (view self.new) result (λ records found. found ≡ records.slot sid.now slot) }
+        ensures there { (view self.new).is_intact → OnOk result (view self.new).is_available }
+        ensures frame { ShelfRead (view self.old) (view self.new) (fault_in result) };
 
     /// The number of the next object.
     fn next_id(&mut self) -> Result<u32, ShelfFault>
-        ensures value { is_honest self.new → is_declared self.old → IfOk result (λ next. next ≡ (records self.old).objects.next) }
-        ensures alive { is_clean self.new → OnOk result (is_honest self.new) }
-        ensures unchanged { Unchanged records is_honest is_clean is_declared crash_may_leave self.old self.new }
-        ensures never_falls { failures self.old ≤ failures self.new }
-        ensures quiet { result ≢ Err ShelfFault.Store → failures self.new ≡ failures self.old }
-        ensures store { result ≡ Err ShelfFault.Store → FailureCounted (failures self.old) (failures self.new) };
+        ensures value { Tells (view self.old) (view self.new) result (λ records next. next ≡ records.objects.next) }
+        ensures there { (view self.new).is_intact → OnOk result (view self.new).is_available }
+        ensures frame { ShelfRead (view self.old) (view self.new) (fault_in result) };
 
     /// All the changes in order, or none of them.
     fn commit(&mut self, changes: &[Change]) -> Result<(), ShelfFault>
-        ensures was_honest { is_honest self.new → is_honest self.old }
-        ensures was_clean { is_clean self.new → is_clean self.old }
-        ensures alive { is_clean self.new → OnOk result (is_honest self.new) }
-        ensures declared { is_honest self.new → is_declared self.old → is_declared self.new }
-        ensures ok { is_clean self.new → is_declared self.old → RulesHoldAfterEach changes.now (records self.old) →
-            OnOk result (records self.new ≡ apply_changes changes.now (records self.old)) }
-        ensures err { is_honest self.new → is_declared self.old → OnErr result (records self.new ≡ records self.old) }
-        ensures settled { is_clean self.new → is_declared self.old → RulesHoldAfterEach changes.now (records self.old) →
-            OnOk result ((left : Records) → crash_may_leave self.new left → left ≡ apply_changes changes.now (records self.old)) }
-        ensures crash { is_declared self.old → RulesHoldAfterEach changes.now (records self.old) →
-            (left : Records) → crash_may_leave self.new left →
-            crash_may_leave self.old left ⊎ (left ≡ apply_changes changes.now (records self.old)) }
-        ensures never_falls { failures self.old ≤ failures self.new }
-        ensures quiet { result ≢ Err ShelfFault.Store → failures self.new ≡ failures self.old }
-        ensures store { result ≡ Err ShelfFault.Store → FailureCounted (failures self.old) (failures self.new) };
+        ensures there { (view self.new).is_intact → OnOk result (view self.new).is_available }
+        ensures frame { ShelfCall (view self.old) (view self.new) (fault_in result) }
+        ensures ok { (view self.new).is_intact → (view self.old).is_laid_out → RulesHoldAfterEach changes.now (view self.old).records →
+            OnOk result ((view self.new).records ≡ apply_changes changes.now (view self.old).records) }
+        ensures settled { (view self.new).is_intact → (view self.old).is_laid_out → RulesHoldAfterEach changes.now (view self.old).records →
+            OnOk result ((left : Records) → (view self.new).crash_may_leave left → left ≡ apply_changes changes.now (view self.old).records) }
+        ensures crash { (view self.old).is_laid_out → RulesHoldAfterEach changes.now (view self.old).records →
+            (left : Records) → (view self.new).crash_may_leave left →
+            (view self.old).crash_may_leave left ⊎ (left ≡ apply_changes changes.now (view self.old).records) };
 
-    /// An honest store is clean.
-    ghost honest_is_clean: { (s : Self) → is_honest s → is_clean s };
+    /// An available store is intact.
+    ghost available_is_intact: { (s : Self) → (view s).is_available → (view s).is_intact };
 }

@@ -71,86 +71,140 @@ impl<S: Shelf> TripShelf<S> {
 }
 
 impl<S: Shelf> Shelf for TripShelf<S> {
-    ghost use Rattle.std.specs.Prelude.{◌+◌, if◌then◌else◌};
+    ghost use Rattle.std.specs.Prelude.{◌≡◌, ◌⊎◌, [], unwrap_or, OnOk};
+    ghost use Rattle.room_records.specs.Records.{Records};
+    ghost use Rattle.room_records.specs.Rules.{ObjectRules};
+    ghost use Rattle.room_records.specs.Changes.{apply_changes, RulesHoldAfterEach};
+    ghost use Rattle.room_records.specs.Shelf.{ShelfCall, ShelfRead, Tells, fault_in, AreChildren, IsChildCount, IsChildNamed};
+    ghost use Rattle.room_records.specs.Trip.{TripCall, trip_view};
 
-    ghost records = { λ s. S.records s.inner };
+    ghost view = { trip_view S.view };
 
-    ghost failures = { λ s. S.failures s.inner + (if s.tripped then 1 else 0) };
+    ghost available_is_intact = { λ s h. S.available_is_intact s.inner h };
 
-    ghost is_honest = { λ s. S.is_honest s.inner };
-
-    ghost is_clean = { λ s. S.is_clean s.inner };
-
-    ghost honest_is_clean = { λ s h. S.honest_is_clean s.inner h };
-
-    ghost is_declared = { λ s. S.is_declared s.inner };
-
-    ghost crash_may_leave = { λ s r. S.crash_may_leave s.inner r };
-
-    fn node(&mut self, id: u32) -> Result<Option<Node>, ShelfFault> {
+    fn node(&mut self, id: u32) -> Result<Option<Node>, ShelfFault>
+        ensures value { Tells (trip_view S.view self.old) (trip_view S.view self.new) result (λ records found. found ≡ records.objects.node id) }
+        ensures there { (trip_view S.view self.new).is_intact → OnOk result (trip_view S.view self.new).is_available }
+        ensures frame { ShelfRead (trip_view S.view self.old) (trip_view S.view self.new) (fault_in result) }
+        ensures trips { TripCall S.view self.old self.new result }
+    {
         if self.trips() {
             return Err(ShelfFault::Store);
         }
         self.inner.node(id)
     }
 
-    fn child(&mut self, parent: u32, name: &FileName) -> Result<Option<Node>, ShelfFault> {
+    fn child(&mut self, parent: u32, name: &FileName) -> Result<Option<Node>, ShelfFault>
+        ensures value { Tells (trip_view S.view self.old) (trip_view S.view self.new) result (λ records. IsChildNamed records.objects parent name.now) }
+        ensures there { (trip_view S.view self.new).is_intact → OnOk result (trip_view S.view self.new).is_available }
+        ensures frame { ShelfRead (trip_view S.view self.old) (trip_view S.view self.new) (fault_in result) }
+        ensures trips { TripCall S.view self.old self.new result }
+    {
         if self.trips() {
             return Err(ShelfFault::Store);
         }
         self.inner.child(parent, name)
     }
 
-    fn children(&mut self, parent: u32) -> Result<Vec<Node>, ShelfFault> {
+    fn children(&mut self, parent: u32) -> Result<Vec<Node>, ShelfFault>
+        ensures value { Tells (trip_view S.view self.old) (trip_view S.view self.new) result (λ records found.
+            ObjectRules records.objects → AreChildren records.objects parent found.items) }
+        ensures there { (trip_view S.view self.new).is_intact → OnOk result (trip_view S.view self.new).is_available }
+        ensures frame { ShelfRead (trip_view S.view self.old) (trip_view S.view self.new) (fault_in result) }
+        ensures trips { TripCall S.view self.old self.new result }
+    {
         if self.trips() {
             return Err(ShelfFault::Store);
         }
         self.inner.children(parent)
     }
 
-    fn child_count(&mut self, parent: u32) -> Result<u64, ShelfFault> {
+    fn child_count(&mut self, parent: u32) -> Result<u64, ShelfFault>
+        ensures value { Tells (trip_view S.view self.old) (trip_view S.view self.new) result (λ records count.
+            ObjectRules records.objects → IsChildCount records.objects parent count) }
+        ensures there { (trip_view S.view self.new).is_intact → OnOk result (trip_view S.view self.new).is_available }
+        ensures frame { ShelfRead (trip_view S.view self.old) (trip_view S.view self.new) (fault_in result) }
+        ensures trips { TripCall S.view self.old self.new result }
+    {
         if self.trips() {
             return Err(ShelfFault::Store);
         }
         self.inner.child_count(parent)
     }
 
-    fn entries(&mut self, id: u32) -> Result<Vec<Entry>, ShelfFault> {
+    fn entries(&mut self, id: u32) -> Result<Vec<Entry>, ShelfFault>
+        ensures value { Tells (trip_view S.view self.old) (trip_view S.view self.new) result (λ records found. found.items ≡ records.objects.entries id) }
+        ensures there { (trip_view S.view self.new).is_intact → OnOk result (trip_view S.view self.new).is_available }
+        ensures frame { ShelfRead (trip_view S.view self.old) (trip_view S.view self.new) (fault_in result) }
+        ensures trips { TripCall S.view self.old self.new result }
+    {
         if self.trips() {
             return Err(ShelfFault::Store);
         }
         self.inner.entries(id)
     }
 
-    fn doc(&mut self, id: u32) -> Result<Vec<u8>, ShelfFault> {
+    fn doc(&mut self, id: u32) -> Result<Vec<u8>, ShelfFault>
+        ensures value { Tells (trip_view S.view self.old) (trip_view S.view self.new) result (λ records found.
+            found.items ≡ unwrap_or (records.objects.document id) []) }
+        ensures there { (trip_view S.view self.new).is_intact → OnOk result (trip_view S.view self.new).is_available }
+        ensures frame { ShelfRead (trip_view S.view self.old) (trip_view S.view self.new) (fault_in result) }
+        ensures trips { TripCall S.view self.old self.new result }
+    {
         if self.trips() {
             return Err(ShelfFault::Store);
         }
         self.inner.doc(id)
     }
 
-    fn session(&mut self, sid: &Sid) -> Result<Option<SessionRow>, ShelfFault> {
+    fn session(&mut self, sid: &Sid) -> Result<Option<SessionRow>, ShelfFault>
+        ensures value { Tells (trip_view S.view self.old) (trip_view S.view self.new) result (λ records found. found ≡ records.session sid.now) }
+        ensures there { (trip_view S.view self.new).is_intact → OnOk result (trip_view S.view self.new).is_available }
+        ensures frame { ShelfRead (trip_view S.view self.old) (trip_view S.view self.new) (fault_in result) }
+        ensures trips { TripCall S.view self.old self.new result }
+    {
         if self.trips() {
             return Err(ShelfFault::Store);
         }
         self.inner.session(sid)
     }
 
-    fn slot(&mut self, sid: &Sid, slot: u32) -> Result<Option<Kept>, ShelfFault> {
+    fn slot(&mut self, sid: &Sid, slot: u32) -> Result<Option<Kept>, ShelfFault>
+        ensures value { Tells (trip_view S.view self.old) (trip_view S.view self.new) result (λ records found. found ≡ records.slot sid.now slot) }
+        ensures there { (trip_view S.view self.new).is_intact → OnOk result (trip_view S.view self.new).is_available }
+        ensures frame { ShelfRead (trip_view S.view self.old) (trip_view S.view self.new) (fault_in result) }
+        ensures trips { TripCall S.view self.old self.new result }
+    {
         if self.trips() {
             return Err(ShelfFault::Store);
         }
         self.inner.slot(sid, slot)
     }
 
-    fn next_id(&mut self) -> Result<u32, ShelfFault> {
+    fn next_id(&mut self) -> Result<u32, ShelfFault>
+        ensures value { Tells (trip_view S.view self.old) (trip_view S.view self.new) result (λ records next. next ≡ records.objects.next) }
+        ensures there { (trip_view S.view self.new).is_intact → OnOk result (trip_view S.view self.new).is_available }
+        ensures frame { ShelfRead (trip_view S.view self.old) (trip_view S.view self.new) (fault_in result) }
+        ensures trips { TripCall S.view self.old self.new result }
+    {
         if self.trips() {
             return Err(ShelfFault::Store);
         }
         self.inner.next_id()
     }
 
-    fn commit(&mut self, changes: &[Change]) -> Result<(), ShelfFault> {
+    fn commit(&mut self, changes: &[Change]) -> Result<(), ShelfFault>
+        ensures there { (trip_view S.view self.new).is_intact → OnOk result (trip_view S.view self.new).is_available }
+        ensures frame { ShelfCall (trip_view S.view self.old) (trip_view S.view self.new) (fault_in result) }
+        ensures ok { (trip_view S.view self.new).is_intact → (trip_view S.view self.old).is_laid_out → RulesHoldAfterEach changes.now (trip_view S.view self.old).records →
+            OnOk result ((trip_view S.view self.new).records ≡ apply_changes changes.now (trip_view S.view self.old).records) }
+        ensures settled { (trip_view S.view self.new).is_intact → (trip_view S.view self.old).is_laid_out → RulesHoldAfterEach changes.now (trip_view S.view self.old).records →
+            OnOk result ((left : Records) → (trip_view S.view self.new).crash_may_leave left → left ≡ apply_changes changes.now (trip_view S.view self.old).records) }
+        ensures crash { (trip_view S.view self.old).is_laid_out → RulesHoldAfterEach changes.now (trip_view S.view self.old).records →
+            (left : Records) → (trip_view S.view self.new).crash_may_leave left →
+            (trip_view S.view self.old).crash_may_leave left ⊎ (left ≡ apply_changes changes.now (trip_view S.view self.old).records) }
+        ensures trips { TripCall S.view self.old self.new result }
+    {
         if self.trips() {
             return Err(ShelfFault::Store);
         }

@@ -24,7 +24,7 @@ impl MemShelf {
     pub fn fresh(alloc: Global, owner: Principal, group: Principal) -> Result<MemShelf, AllocError>
         ensures rows { IfOk result (λ shelf. mem_records shelf ≡ fresh_records owner group) }
         ensures rules { IfOk result (λ shelf. RulesHold (mem_records shelf)) }
-        ensures made { IfOk result (IsNewShelf ghosts.failures ghosts.is_honest ghosts.is_declared ghosts.crash_may_leave) }
+        ensures made { IfOk result (λ shelf. IsNewShelf (ghosts.view shelf)) }
         ensures stands { IfOk result (λ shelf. RepresentsRoom (mem_records shelf).objects (fresh_room owner group)) }
     {
         let entries = root_entries(alloc)?;

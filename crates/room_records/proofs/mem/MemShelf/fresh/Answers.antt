@@ -39,4 +39,4 @@ pub returns-clause-stands : goal.returns-clause-stands
 returns-clause-stands c = represents_of _ c.args.owner c.args.group (returns-clause-rows c)
 
 pub returns-clause-made : goal.returns-clause-made
-returns-clause-made c = record { honest = tt; declared = tt; no_failure = refl; leaves = (_, refl) }
+returns-clause-made c = record { available = tt; laid_out = tt; no_failure = refl; leaves = (_, refl) }
