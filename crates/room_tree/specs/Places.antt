@@ -7,7 +7,8 @@ use Rattle.room_acl.specs.SubjectModel.{SubjectModel}
 use Rattle.room_records.specs.declared.node.Node.{Node}
 use Rattle.std.specs.Option.{option_map}
 use Rattle.room_records.specs.Names.{Name, Path}
-use Rattle.room_records.specs.Records.{Records, ObjectRecords}
+use Rattle.room_records.specs.Records.{ObjectRecords}
+use Rattle.room_records.specs.Shelf.{View}
 use Rattle.room_records.specs.Room.{Object, Room, object_at, list_of, parent_of}
 use Rattle.room_records.specs.Representation.{RepresentsRoom, NodeIsObject}
 use Rattle.room_tree.specs.declared.place.Place.{Place}
@@ -21,9 +22,9 @@ use Rattle.room_commands.specs.ReplyModel.{Refusal}
 use Rattle.room_commands.specs.Checks.{walk, check_file, check_folder, check_right, first_refusal}
 
 -- what a call says of each room that the rows stand for as it begins
-abbrev pub OfRoom : {S : Type 0} → (S → Records) → (S → Type 0) → (S → Type 0) → S → S → (ObjectRecords → Room → Type 0) → Type 0
-OfRoom records is_honest is_declared old new P =
-    is_honest new → is_declared old → (t : ObjectRecords) → (records old).objects ≡ t → (room : Room) → RepresentsRoom t room → P t room
+abbrev pub OfRoom : View → View → (ObjectRecords → Room → Type 0) → Type 0
+OfRoom old new P =
+    new.is_available → old.is_laid_out → (t : ObjectRecords) → old.records.objects ≡ t → (room : Room) → RepresentsRoom t room → P t room
 
 -- the row of a found object
 abbrev pub node_of : Place → Node

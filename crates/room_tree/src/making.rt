@@ -1,10 +1,10 @@
 //! Commands that make an object.
-ghost use Rattle.std.specs.Prelude.{◌≡◌, ◌≢◌, ℕ, List, ◌+◌, ◌-◌, ◌≤◌, ◌<◌, ◌^◌, [], ◌∷◌, ◌++◌, length, Some, None, IfOk, OnOk, MatchResult, Err, nat_lt, nat_le};
+ghost use Rattle.std.specs.Prelude.{◌≡◌, ℕ, List, ◌+◌, ◌-◌, ◌≤◌, ◌<◌, ◌^◌, [], ◌∷◌, ◌++◌, Some, None, IfOk, MatchResult, Err, nat_lt, nat_le};
 ghost use Rattle.room_acl.specs.Bits.{IsMask};
 ghost use Rattle.room_records.specs.Limits.{max_children, max_objects};
 ghost use Rattle.room_records.specs.Names.{IsPath, Path as PathModel};
 ghost use Rattle.room_records.specs.Room.{parent_of};
-ghost use Rattle.room_records.specs.Shelf.{FailureCounted, Unchanged};
+ghost use Rattle.room_records.specs.Shelf.{ShelfRead, fault_in};
 ghost use Rattle.room_commands.specs.Checks.{first_refusal, refuse_if, is_root, walk, check_absent, check_right, check_folder_full, check_room_full};
 ghost use Rattle.room_commands.specs.CommandModel as C;
 ghost use Rattle.room_tree.specs.Places.{OfRoom, IsPlace, IsReached, IsNewNode};
@@ -38,14 +38,10 @@ fn folder_for_new<S: Shelf>(
 ) -> Result<Reached, ShelfFault>
     requires { IsMask wanted }
     ensures lawful { IsPath path.now }
-    ensures value { OfRoom S.records S.is_honest S.is_declared shelf.old shelf.new (λ t room. IfOk result
+    ensures value { OfRoom (S.view shelf.old) (S.view shelf.new) (λ t room. IfOk result
         (IsReached t room (parent_of path.now) (refuse_if (is_root path.now) Fault.Exist ∷ walk room subject.now path.now
         ∷ check_absent room path.now ∷ check_right room subject.now (parent_of path.now) wanted ∷ []))) }
-    ensures alive { S.is_clean shelf.new → S.is_honest shelf.old → OnOk result (S.is_honest shelf.new) }
-    ensures unchanged { Unchanged S.records S.is_honest S.is_clean S.is_declared S.crash_may_leave shelf.old shelf.new }
-    ensures never_falls { S.failures shelf.old ≤ S.failures shelf.new }
-    ensures quiet { result ≢ Err ShelfFault.Store → S.failures shelf.new ≡ S.failures shelf.old }
-    ensures store { result ≡ Err ShelfFault.Store → FailureCounted (S.failures shelf.old) (S.failures shelf.new) }
+    ensures frame { ShelfRead (S.view shelf.old) (S.view shelf.new) (fault_in result) }
 {
     let count = path.names().len();
     if count == 0 {
@@ -93,15 +89,11 @@ fn number_for_new<S: Shelf>(
     above: &Place,
 ) -> Result<Result<u32, Refusal>, ShelfFault>
     ensures small { IfOk result (λ number. MatchResult number (λ id. id ≤ max_objects) (λ refusal. Unit {0})) }
-    ensures value { OfRoom S.records S.is_honest S.is_declared shelf.old shelf.new (λ t room. (folder : PathModel) → IsPlace t room folder above.now →
+    ensures value { OfRoom (S.view shelf.old) (S.view shelf.new) (λ t room. (folder : PathModel) → IsPlace t room folder above.now →
         IfOk result (λ number. MatchResult number
         (λ id. (first_refusal (check_folder_full room folder ∷ check_room_full room ∷ []) ≡ None) × (id ≡ t.next))
         (λ refusal. first_refusal (check_folder_full room folder ∷ check_room_full room ∷ []) ≡ Some refusal))) }
-    ensures alive { S.is_clean shelf.new → S.is_honest shelf.old → OnOk result (S.is_honest shelf.new) }
-    ensures unchanged { Unchanged S.records S.is_honest S.is_clean S.is_declared S.crash_may_leave shelf.old shelf.new }
-    ensures never_falls { S.failures shelf.old ≤ S.failures shelf.new }
-    ensures quiet { result ≢ Err ShelfFault.Store → S.failures shelf.new ≡ S.failures shelf.old }
-    ensures store { result ≡ Err ShelfFault.Store → FailureCounted (S.failures shelf.old) (S.failures shelf.new) }
+    ensures frame { ShelfRead (S.view shelf.old) (S.view shelf.new) (fault_in result) }
 {
     let count = count_children(shelf, above)?;
     if let Some(refusal) = check_children(count) {
@@ -194,12 +186,8 @@ pub(crate) fn plan_mkdir<S: Shelf>(
     subject: &Subject,
     path: &Path,
 ) -> Result<Outcome, ShelfFault>
-    ensures effect { OfRoom S.records S.is_honest S.is_declared shelf.old shelf.new (λ t room. IfOk result (PlansEffect t room subject.now (C.Mkdir path.now))) }
-    ensures alive { S.is_clean shelf.new → S.is_honest shelf.old → OnOk result (S.is_honest shelf.new) }
-    ensures unchanged { Unchanged S.records S.is_honest S.is_clean S.is_declared S.crash_may_leave shelf.old shelf.new }
-    ensures never_falls { S.failures shelf.old ≤ S.failures shelf.new }
-    ensures quiet { result ≢ Err ShelfFault.Store → S.failures shelf.new ≡ S.failures shelf.old }
-    ensures store { result ≡ Err ShelfFault.Store → FailureCounted (S.failures shelf.old) (S.failures shelf.new) }
+    ensures effect { OfRoom (S.view shelf.old) (S.view shelf.new) (λ t room. IfOk result (PlansEffect t room subject.now (C.Mkdir path.now))) }
+    ensures frame { ShelfRead (S.view shelf.old) (S.view shelf.new) (fault_in result) }
 {
     let above = match folder_for_new(alloc, shelf, subject, path, ADD_SUBDIRECTORY)? {
         Reached::Refused(refusal) => return Ok(Outcome::refused(alloc, refusal)),
@@ -229,12 +217,8 @@ pub(crate) fn plan_create<S: Shelf>(
     bytes: &[u8],
     path: &Path,
 ) -> Result<Outcome, ShelfFault>
-    ensures effect { OfRoom S.records S.is_honest S.is_declared shelf.old shelf.new (λ t room. IfOk result (PlansEffect t room subject.now (C.Create bytes.now path.now))) }
-    ensures alive { S.is_clean shelf.new → S.is_honest shelf.old → OnOk result (S.is_honest shelf.new) }
-    ensures unchanged { Unchanged S.records S.is_honest S.is_clean S.is_declared S.crash_may_leave shelf.old shelf.new }
-    ensures never_falls { S.failures shelf.old ≤ S.failures shelf.new }
-    ensures quiet { result ≢ Err ShelfFault.Store → S.failures shelf.new ≡ S.failures shelf.old }
-    ensures store { result ≡ Err ShelfFault.Store → FailureCounted (S.failures shelf.old) (S.failures shelf.new) }
+    ensures effect { OfRoom (S.view shelf.old) (S.view shelf.new) (λ t room. IfOk result (PlansEffect t room subject.now (C.Create bytes.now path.now))) }
+    ensures frame { ShelfRead (S.view shelf.old) (S.view shelf.new) (fault_in result) }
 {
     let above = match folder_for_new(alloc, shelf, subject, path, ADD_FILE)? {
         Reached::Refused(refusal) => return Ok(Outcome::refused(alloc, refusal)),

@@ -1,10 +1,10 @@
 //! RENAME.
-ghost use Rattle.std.specs.Prelude.{◌≡◌, ◌≢◌, ℕ, false, List, ◌≤◌, ◌∷◌, [], ◌++◌, ◌||◌, Some, IfOk, OnOk, Err, if◌then◌else◌};
+ghost use Rattle.std.specs.Prelude.{◌≡◌, ℕ, false, List, ◌∷◌, [], ◌++◌, ◌||◌, Some, IfOk, Err, if◌then◌else◌};
 ghost use Rattle.room_acl.specs.Bits.{IsMask, add_file, add_subdirectory};
 ghost use Rattle.room_records.specs.Names.{IsPath, Path as PathModel};
 ghost use Rattle.room_records.specs.Records.{ObjectRecords};
 ghost use Rattle.room_records.specs.Room.{Object, Room, parent_of};
-ghost use Rattle.room_records.specs.Shelf.{FailureCounted, Unchanged};
+ghost use Rattle.room_records.specs.Shelf.{ShelfRead, fault_in};
 ghost use Rattle.room_commands.specs.Checks.{first_refusal, refuse_if, is_root, is_kind, is_at_or_below, walk, check_exists, check_absent};
 ghost use Rattle.room_commands.specs.CommandModel as C;
 ghost use Rattle.room_tree.specs.Places.{OfRoom, IsReached, node_of};
@@ -70,13 +70,9 @@ fn found_with_folder<S: Shelf>(
     subject: &Subject,
     path: &Path,
 ) -> Result<Result<(Place, Place), Refusal>, ShelfFault>
-    ensures value { OfRoom S.records S.is_honest S.is_declared shelf.old shelf.new (λ t room. is_root path.now ≡ false → IfOk result
+    ensures value { OfRoom (S.view shelf.old) (S.view shelf.new) (λ t room. is_root path.now ≡ false → IfOk result
         (IsFoundWithFolder t room path.now (walk room subject.now path.now ∷ check_exists room path.now ∷ []))) }
-    ensures alive { S.is_clean shelf.new → S.is_honest shelf.old → OnOk result (S.is_honest shelf.new) }
-    ensures unchanged { Unchanged S.records S.is_honest S.is_clean S.is_declared S.crash_may_leave shelf.old shelf.new }
-    ensures never_falls { S.failures shelf.old ≤ S.failures shelf.new }
-    ensures quiet { result ≢ Err ShelfFault.Store → S.failures shelf.new ≡ S.failures shelf.old }
-    ensures store { result ≡ Err ShelfFault.Store → FailureCounted (S.failures shelf.old) (S.failures shelf.new) }
+    ensures frame { ShelfRead (S.view shelf.old) (S.view shelf.new) (fault_in result) }
 {
     let (place, above) = match walk_path(alloc, shelf, subject, path)? {
         Walk::Refused(refusal) => return Ok(Err(refusal)),
@@ -96,13 +92,9 @@ fn folder_of_free<S: Shelf>(
     subject: &Subject,
     path: &Path,
 ) -> Result<Reached, ShelfFault>
-    ensures value { OfRoom S.records S.is_honest S.is_declared shelf.old shelf.new (λ t room. IfOk result
+    ensures value { OfRoom (S.view shelf.old) (S.view shelf.new) (λ t room. IfOk result
         (IsReached t room (parent_of path.now) (walk room subject.now path.now ∷ check_absent room path.now ∷ []))) }
-    ensures alive { S.is_clean shelf.new → S.is_honest shelf.old → OnOk result (S.is_honest shelf.new) }
-    ensures unchanged { Unchanged S.records S.is_honest S.is_clean S.is_declared S.crash_may_leave shelf.old shelf.new }
-    ensures never_falls { S.failures shelf.old ≤ S.failures shelf.new }
-    ensures quiet { result ≢ Err ShelfFault.Store → S.failures shelf.new ≡ S.failures shelf.old }
-    ensures store { result ≡ Err ShelfFault.Store → FailureCounted (S.failures shelf.old) (S.failures shelf.new) }
+    ensures frame { ShelfRead (S.view shelf.old) (S.view shelf.new) (fault_in result) }
 {
     match walk_path(alloc, shelf, subject, path)? {
         Walk::Refused(refusal) => Ok(Reached::Refused(refusal)),
@@ -119,13 +111,9 @@ fn ends_of_move<S: Shelf>(
     path: &Path,
     to: &Path,
 ) -> Result<Result<Move, Refusal>, ShelfFault>
-    ensures value { OfRoom S.records S.is_honest S.is_declared shelf.old shelf.new (λ t room. is_root path.now ≡ false → IfOk result
+    ensures value { OfRoom (S.view shelf.old) (S.view shelf.new) (λ t room. is_root path.now ≡ false → IfOk result
         (IsChecked t room path.now to.now (end_checks room subject.now path.now to.now))) }
-    ensures alive { S.is_clean shelf.new → S.is_honest shelf.old → OnOk result (S.is_honest shelf.new) }
-    ensures unchanged { Unchanged S.records S.is_honest S.is_clean S.is_declared S.crash_may_leave shelf.old shelf.new }
-    ensures never_falls { S.failures shelf.old ≤ S.failures shelf.new }
-    ensures quiet { result ≢ Err ShelfFault.Store → S.failures shelf.new ≡ S.failures shelf.old }
-    ensures store { result ≡ Err ShelfFault.Store → FailureCounted (S.failures shelf.old) (S.failures shelf.new) }
+    ensures frame { ShelfRead (S.view shelf.old) (S.view shelf.new) (fault_in result) }
 {
     let (place, from) = match found_with_folder(alloc, shelf, subject, path)? {
         Err(missing) => return Ok(Err(missing)),
@@ -174,13 +162,9 @@ impl Move {
         shelf: &mut S,
         to: &Path,
     ) -> Result<Option<Refusal>, ShelfFault>
-        ensures value { OfRoom S.records S.is_honest S.is_declared shelf.old shelf.new (λ t room. (path : PathModel) → IsMove t room path to.now self.now →
+        ensures value { OfRoom (S.view shelf.old) (S.view shelf.new) (λ t room. (path : PathModel) → IsMove t room path to.now self.now →
             IfOk result (λ checked. checked ≡ first_refusal (move_limits room path to.now))) }
-        ensures alive { S.is_clean shelf.new → S.is_honest shelf.old → OnOk result (S.is_honest shelf.new) }
-        ensures unchanged { Unchanged S.records S.is_honest S.is_clean S.is_declared S.crash_may_leave shelf.old shelf.new }
-        ensures never_falls { S.failures shelf.old ≤ S.failures shelf.new }
-        ensures quiet { result ≢ Err ShelfFault.Store → S.failures shelf.new ≡ S.failures shelf.old }
-        ensures store { result ≡ Err ShelfFault.Store → FailureCounted (S.failures shelf.old) (S.failures shelf.new) }
+        ensures frame { ShelfRead (S.view shelf.old) (S.view shelf.new) (fault_in result) }
     {
         if let Some(deep) = check_depth(shelf, &self.place, to)? {
             return Ok(Some(deep));
@@ -202,14 +186,10 @@ fn allowed_move<S: Shelf>(
     to: &Path,
 ) -> Result<Result<Move, Refusal>, ShelfFault>
     ensures lawful { IsPath path.now × IsPath to.now }
-    ensures value { OfRoom S.records S.is_honest S.is_declared shelf.old shelf.new (λ t room. IfOk result
+    ensures value { OfRoom (S.view shelf.old) (S.view shelf.new) (λ t room. IfOk result
         (IsChecked t room path.now to.now (refuse_if (is_root path.now || is_root to.now || is_at_or_below to.now path.now) Fault.Inval
         ∷ (end_checks room subject.now path.now to.now ++ move_rights room subject.now path.now to.now)))) }
-    ensures alive { S.is_clean shelf.new → S.is_honest shelf.old → OnOk result (S.is_honest shelf.new) }
-    ensures unchanged { Unchanged S.records S.is_honest S.is_clean S.is_declared S.crash_may_leave shelf.old shelf.new }
-    ensures never_falls { S.failures shelf.old ≤ S.failures shelf.new }
-    ensures quiet { result ≢ Err ShelfFault.Store → S.failures shelf.new ≡ S.failures shelf.old }
-    ensures store { result ≡ Err ShelfFault.Store → FailureCounted (S.failures shelf.old) (S.failures shelf.new) }
+    ensures frame { ShelfRead (S.view shelf.old) (S.view shelf.new) (fault_in result) }
 {
     if let Some(refusal) = check_paths(path, to) {
         return Ok(Err(refusal));
@@ -253,12 +233,8 @@ pub(crate) fn plan_rename<S: Shelf>(
     path: &Path,
     to: &Path,
 ) -> Result<Outcome, ShelfFault>
-    ensures effect { OfRoom S.records S.is_honest S.is_declared shelf.old shelf.new (λ t room. IfOk result (PlansEffect t room subject.now (C.Rename path.now to.now))) }
-    ensures alive { S.is_clean shelf.new → S.is_honest shelf.old → OnOk result (S.is_honest shelf.new) }
-    ensures unchanged { Unchanged S.records S.is_honest S.is_clean S.is_declared S.crash_may_leave shelf.old shelf.new }
-    ensures never_falls { S.failures shelf.old ≤ S.failures shelf.new }
-    ensures quiet { result ≢ Err ShelfFault.Store → S.failures shelf.new ≡ S.failures shelf.old }
-    ensures store { result ≡ Err ShelfFault.Store → FailureCounted (S.failures shelf.old) (S.failures shelf.new) }
+    ensures effect { OfRoom (S.view shelf.old) (S.view shelf.new) (λ t room. IfOk result (PlansEffect t room subject.now (C.Rename path.now to.now))) }
+    ensures frame { ShelfRead (S.view shelf.old) (S.view shelf.new) (fault_in result) }
 {
     let moving = match allowed_move(alloc, shelf, subject, path, to)? {
         Err(refusal) => return Ok(Outcome::refused(alloc, refusal)),

@@ -1,8 +1,8 @@
 //! The object that a command is about.
-ghost use Rattle.std.specs.Prelude.{◌≡◌, ◌≢◌, ◌≤◌, ◌<◌, ◌^◌, [], ◌∷◌, length, IfOk, OnOk, Err};
+ghost use Rattle.std.specs.Prelude.{◌≡◌, ◌<◌, ◌^◌, [], ◌∷◌, length, IfOk, Err};
 ghost use Rattle.room_acl.specs.Bits.{IsMask};
 ghost use Rattle.room_records.specs.Names.{Path as PathModel};
-ghost use Rattle.room_records.specs.Shelf.{FailureCounted, Unchanged};
+ghost use Rattle.room_records.specs.Shelf.{ShelfRead, fault_in};
 ghost use Rattle.room_commands.specs.Checks.{walk, check_exists, bytes_at};
 ghost use Rattle.room_records.specs.Room.{children};
 ghost use Rattle.room_commands.specs.Effect.{size_of};
@@ -30,13 +30,9 @@ pub(crate) fn reach<S: Shelf>(
     subject: &Subject,
     path: &Path,
 ) -> Result<Reached, ShelfFault>
-    ensures value { OfRoom S.records S.is_honest S.is_declared shelf.old shelf.new (λ t room. IfOk result
+    ensures value { OfRoom (S.view shelf.old) (S.view shelf.new) (λ t room. IfOk result
         (IsReached t room path.now (walk room subject.now path.now ∷ check_exists room path.now ∷ []))) }
-    ensures alive { S.is_clean shelf.new → S.is_honest shelf.old → OnOk result (S.is_honest shelf.new) }
-    ensures unchanged { Unchanged S.records S.is_honest S.is_clean S.is_declared S.crash_may_leave shelf.old shelf.new }
-    ensures never_falls { S.failures shelf.old ≤ S.failures shelf.new }
-    ensures quiet { result ≢ Err ShelfFault.Store → S.failures shelf.new ≡ S.failures shelf.old }
-    ensures store { result ≡ Err ShelfFault.Store → FailureCounted (S.failures shelf.old) (S.failures shelf.new) }
+    ensures frame { ShelfRead (S.view shelf.old) (S.view shelf.new) (fault_in result) }
 {
     match walk_path(alloc, shelf, subject, path)? {
         Walk::Refused(refusal) => Ok(Reached::Refused(refusal)),
@@ -55,13 +51,9 @@ pub(crate) fn reach_to_use<S: Shelf>(
     wanted: u32,
 ) -> Result<Reached, ShelfFault>
     requires { IsMask wanted }
-    ensures value { OfRoom S.records S.is_honest S.is_declared shelf.old shelf.new (λ t room. IfOk result
+    ensures value { OfRoom (S.view shelf.old) (S.view shelf.new) (λ t room. IfOk result
         (IsReached t room path.now (walk room subject.now path.now ∷ check_exists room path.now ∷ use_checks room subject.now path.now only wanted))) }
-    ensures alive { S.is_clean shelf.new → S.is_honest shelf.old → OnOk result (S.is_honest shelf.new) }
-    ensures unchanged { Unchanged S.records S.is_honest S.is_clean S.is_declared S.crash_may_leave shelf.old shelf.new }
-    ensures never_falls { S.failures shelf.old ≤ S.failures shelf.new }
-    ensures quiet { result ≢ Err ShelfFault.Store → S.failures shelf.new ≡ S.failures shelf.old }
-    ensures store { result ≡ Err ShelfFault.Store → FailureCounted (S.failures shelf.old) (S.failures shelf.new) }
+    ensures frame { ShelfRead (S.view shelf.old) (S.view shelf.new) (fault_in result) }
 {
     let place = match reach(alloc, shelf, subject, path)? {
         Reached::Refused(refusal) => return Ok(Reached::Refused(refusal)),
@@ -78,39 +70,27 @@ pub(crate) fn reach_to_use<S: Shelf>(
 
 /// How many are in a folder.
 pub(crate) fn count_children<S: Shelf>(shelf: &mut S, place: &Place) -> Result<u64, ShelfFault>
-    ensures value { OfRoom S.records S.is_honest S.is_declared shelf.old shelf.new (λ t room. (path : PathModel) → IsPlace t room path place.now →
+    ensures value { OfRoom (S.view shelf.old) (S.view shelf.new) (λ t room. (path : PathModel) → IsPlace t room path place.now →
         IfOk result (λ count. count ≡ length (children room path))) }
-    ensures alive { S.is_clean shelf.new → S.is_honest shelf.old → OnOk result (S.is_honest shelf.new) }
-    ensures unchanged { Unchanged S.records S.is_honest S.is_clean S.is_declared S.crash_may_leave shelf.old shelf.new }
-    ensures never_falls { S.failures shelf.old ≤ S.failures shelf.new }
-    ensures quiet { result ≢ Err ShelfFault.Store → S.failures shelf.new ≡ S.failures shelf.old }
-    ensures store { result ≡ Err ShelfFault.Store → FailureCounted (S.failures shelf.old) (S.failures shelf.new) }
+    ensures frame { ShelfRead (S.view shelf.old) (S.view shelf.new) (fault_in result) }
 {
     shelf.child_count(place.id)
 }
 
 /// The bytes of a document.
 pub(crate) fn bytes_of<S: Shelf>(shelf: &mut S, place: &Place) -> Result<Vec<u8>, ShelfFault>
-    ensures value { OfRoom S.records S.is_honest S.is_declared shelf.old shelf.new (λ t room. (path : PathModel) → IsPlace t room path place.now →
+    ensures value { OfRoom (S.view shelf.old) (S.view shelf.new) (λ t room. (path : PathModel) → IsPlace t room path place.now →
         IfOk result (λ bytes. bytes.items ≡ bytes_at room path)) }
-    ensures alive { S.is_clean shelf.new → S.is_honest shelf.old → OnOk result (S.is_honest shelf.new) }
-    ensures unchanged { Unchanged S.records S.is_honest S.is_clean S.is_declared S.crash_may_leave shelf.old shelf.new }
-    ensures never_falls { S.failures shelf.old ≤ S.failures shelf.new }
-    ensures quiet { result ≢ Err ShelfFault.Store → S.failures shelf.new ≡ S.failures shelf.old }
-    ensures store { result ≡ Err ShelfFault.Store → FailureCounted (S.failures shelf.old) (S.failures shelf.new) }
+    ensures frame { ShelfRead (S.view shelf.old) (S.view shelf.new) (fault_in result) }
 {
     shelf.doc(place.id)
 }
 
 /// The size of a document, or how many are in a folder.
 pub(crate) fn size_of<S: Shelf>(shelf: &mut S, place: &Place) -> Result<u32, ShelfFault>
-    ensures value { OfRoom S.records S.is_honest S.is_declared shelf.old shelf.new (λ t room. (path : PathModel) → IsPlace t room path place.now →
+    ensures value { OfRoom (S.view shelf.old) (S.view shelf.new) (λ t room. (path : PathModel) → IsPlace t room path place.now →
         IfOk result (λ size. size ≡ size_of room path place.now.kind)) }
-    ensures alive { S.is_clean shelf.new → S.is_honest shelf.old → OnOk result (S.is_honest shelf.new) }
-    ensures unchanged { Unchanged S.records S.is_honest S.is_clean S.is_declared S.crash_may_leave shelf.old shelf.new }
-    ensures never_falls { S.failures shelf.old ≤ S.failures shelf.new }
-    ensures quiet { result ≢ Err ShelfFault.Store → S.failures shelf.new ≡ S.failures shelf.old }
-    ensures store { result ≡ Err ShelfFault.Store → FailureCounted (S.failures shelf.old) (S.failures shelf.new) }
+    ensures frame { ShelfRead (S.view shelf.old) (S.view shelf.new) (fault_in result) }
 {
     match place.kind {
         Kind::File => {

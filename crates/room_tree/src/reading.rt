@@ -1,9 +1,9 @@
 //! Commands that only read.
-ghost use Rattle.std.specs.Prelude.{◌≡◌, ◌≢◌, ◌≤◌, IfOk, OnOk, Err, bit_and};
+ghost use Rattle.std.specs.Prelude.{◌≡◌, IfOk, Err, bit_and};
 ghost use Rattle.std.specs.List.{filter_map};
 ghost use Rattle.room_records.specs.Room.{children};
 ghost use Rattle.room_records.specs.Names.{Path as PathModel};
-ghost use Rattle.room_records.specs.Shelf.{FailureCounted, Unchanged};
+ghost use Rattle.room_records.specs.Shelf.{ShelfRead, fault_in};
 ghost use Rattle.room_commands.specs.CommandModel as C;
 ghost use Rattle.room_tree.specs.Plans.{PlansEffect};
 ghost use Rattle.room_tree.specs.Places.{OfRoom, IsPlace, listed};
@@ -24,12 +24,8 @@ pub(crate) fn plan_stat<S: Shelf>(
     subject: &Subject,
     path: &Path,
 ) -> Result<Outcome, ShelfFault>
-    ensures effect { OfRoom S.records S.is_honest S.is_declared shelf.old shelf.new (λ t room. IfOk result (PlansEffect t room subject.now (C.Stat path.now))) }
-    ensures alive { S.is_clean shelf.new → S.is_honest shelf.old → OnOk result (S.is_honest shelf.new) }
-    ensures unchanged { Unchanged S.records S.is_honest S.is_clean S.is_declared S.crash_may_leave shelf.old shelf.new }
-    ensures never_falls { S.failures shelf.old ≤ S.failures shelf.new }
-    ensures quiet { result ≢ Err ShelfFault.Store → S.failures shelf.new ≡ S.failures shelf.old }
-    ensures store { result ≡ Err ShelfFault.Store → FailureCounted (S.failures shelf.old) (S.failures shelf.new) }
+    ensures effect { OfRoom (S.view shelf.old) (S.view shelf.new) (λ t room. IfOk result (PlansEffect t room subject.now (C.Stat path.now))) }
+    ensures frame { ShelfRead (S.view shelf.old) (S.view shelf.new) (fault_in result) }
 {
     let place = match reach_to_use(alloc, shelf, subject, path, None, READ_ATTRIBUTES)? {
         Reached::Refused(refusal) => return Ok(Outcome::refused(alloc, refusal)),
@@ -56,12 +52,8 @@ pub(crate) fn plan_list<S: Shelf>(
     subject: &Subject,
     path: &Path,
 ) -> Result<Outcome, ShelfFault>
-    ensures effect { OfRoom S.records S.is_honest S.is_declared shelf.old shelf.new (λ t room. IfOk result (PlansEffect t room subject.now (C.ListNames path.now))) }
-    ensures alive { S.is_clean shelf.new → S.is_honest shelf.old → OnOk result (S.is_honest shelf.new) }
-    ensures unchanged { Unchanged S.records S.is_honest S.is_clean S.is_declared S.crash_may_leave shelf.old shelf.new }
-    ensures never_falls { S.failures shelf.old ≤ S.failures shelf.new }
-    ensures quiet { result ≢ Err ShelfFault.Store → S.failures shelf.new ≡ S.failures shelf.old }
-    ensures store { result ≡ Err ShelfFault.Store → FailureCounted (S.failures shelf.old) (S.failures shelf.new) }
+    ensures effect { OfRoom (S.view shelf.old) (S.view shelf.new) (λ t room. IfOk result (PlansEffect t room subject.now (C.ListNames path.now))) }
+    ensures frame { ShelfRead (S.view shelf.old) (S.view shelf.new) (fault_in result) }
 {
     let place = match reach_to_use(
         alloc,
@@ -84,13 +76,9 @@ fn names_in<S: Shelf>(
     shelf: &mut S,
     place: &Place,
 ) -> Result<Vec<(FileName, Kind)>, ShelfFault>
-    ensures value { OfRoom S.records S.is_honest S.is_declared shelf.old shelf.new (λ t room. (path : PathModel) → IsPlace t room path place.now →
+    ensures value { OfRoom (S.view shelf.old) (S.view shelf.new) (λ t room. (path : PathModel) → IsPlace t room path place.now →
         IfOk result (λ names. names.items ≡ children room path)) }
-    ensures alive { S.is_clean shelf.new → S.is_honest shelf.old → OnOk result (S.is_honest shelf.new) }
-    ensures unchanged { Unchanged S.records S.is_honest S.is_clean S.is_declared S.crash_may_leave shelf.old shelf.new }
-    ensures never_falls { S.failures shelf.old ≤ S.failures shelf.new }
-    ensures quiet { result ≢ Err ShelfFault.Store → S.failures shelf.new ≡ S.failures shelf.old }
-    ensures store { result ≡ Err ShelfFault.Store → FailureCounted (S.failures shelf.old) (S.failures shelf.new) }
+    ensures frame { ShelfRead (S.view shelf.old) (S.view shelf.new) (fault_in result) }
 {
     let nodes = shelf.children(place.id)?;
     let Ok(names) = listing(alloc, nodes) else {
@@ -119,12 +107,8 @@ pub(crate) fn plan_read<S: Shelf>(
     subject: &Subject,
     path: &Path,
 ) -> Result<Outcome, ShelfFault>
-    ensures effect { OfRoom S.records S.is_honest S.is_declared shelf.old shelf.new (λ t room. IfOk result (PlansEffect t room subject.now (C.Read path.now))) }
-    ensures alive { S.is_clean shelf.new → S.is_honest shelf.old → OnOk result (S.is_honest shelf.new) }
-    ensures unchanged { Unchanged S.records S.is_honest S.is_clean S.is_declared S.crash_may_leave shelf.old shelf.new }
-    ensures never_falls { S.failures shelf.old ≤ S.failures shelf.new }
-    ensures quiet { result ≢ Err ShelfFault.Store → S.failures shelf.new ≡ S.failures shelf.old }
-    ensures store { result ≡ Err ShelfFault.Store → FailureCounted (S.failures shelf.old) (S.failures shelf.new) }
+    ensures effect { OfRoom (S.view shelf.old) (S.view shelf.new) (λ t room. IfOk result (PlansEffect t room subject.now (C.Read path.now))) }
+    ensures frame { ShelfRead (S.view shelf.old) (S.view shelf.new) (fault_in result) }
 {
     let place = match reach_to_use(alloc, shelf, subject, path, Some(Kind::File), READ_DATA)? {
         Reached::Refused(refusal) => return Ok(Outcome::refused(alloc, refusal)),
@@ -141,12 +125,8 @@ pub(crate) fn plan_getlist<S: Shelf>(
     subject: &Subject,
     path: &Path,
 ) -> Result<Outcome, ShelfFault>
-    ensures effect { OfRoom S.records S.is_honest S.is_declared shelf.old shelf.new (λ t room. IfOk result (PlansEffect t room subject.now (C.GetList path.now))) }
-    ensures alive { S.is_clean shelf.new → S.is_honest shelf.old → OnOk result (S.is_honest shelf.new) }
-    ensures unchanged { Unchanged S.records S.is_honest S.is_clean S.is_declared S.crash_may_leave shelf.old shelf.new }
-    ensures never_falls { S.failures shelf.old ≤ S.failures shelf.new }
-    ensures quiet { result ≢ Err ShelfFault.Store → S.failures shelf.new ≡ S.failures shelf.old }
-    ensures store { result ≡ Err ShelfFault.Store → FailureCounted (S.failures shelf.old) (S.failures shelf.new) }
+    ensures effect { OfRoom (S.view shelf.old) (S.view shelf.new) (λ t room. IfOk result (PlansEffect t room subject.now (C.GetList path.now))) }
+    ensures frame { ShelfRead (S.view shelf.old) (S.view shelf.new) (fault_in result) }
 {
     let place = match reach_to_use(alloc, shelf, subject, path, None, READ_ACL)? {
         Reached::Refused(refusal) => return Ok(Outcome::refused(alloc, refusal)),
@@ -169,12 +149,8 @@ pub(crate) fn plan_access<S: Shelf>(
     mask: Mask,
     path: &Path,
 ) -> Result<Outcome, ShelfFault>
-    ensures effect { OfRoom S.records S.is_honest S.is_declared shelf.old shelf.new (λ t room. IfOk result (PlansEffect t room subject.now (C.Access mask path.now))) }
-    ensures alive { S.is_clean shelf.new → S.is_honest shelf.old → OnOk result (S.is_honest shelf.new) }
-    ensures unchanged { Unchanged S.records S.is_honest S.is_clean S.is_declared S.crash_may_leave shelf.old shelf.new }
-    ensures never_falls { S.failures shelf.old ≤ S.failures shelf.new }
-    ensures quiet { result ≢ Err ShelfFault.Store → S.failures shelf.new ≡ S.failures shelf.old }
-    ensures store { result ≡ Err ShelfFault.Store → FailureCounted (S.failures shelf.old) (S.failures shelf.new) }
+    ensures effect { OfRoom (S.view shelf.old) (S.view shelf.new) (λ t room. IfOk result (PlansEffect t room subject.now (C.Access mask path.now))) }
+    ensures frame { ShelfRead (S.view shelf.old) (S.view shelf.new) (fault_in result) }
 {
     let place = match reach(alloc, shelf, subject, path)? {
         Reached::Refused(refusal) => return Ok(Outcome::refused(alloc, refusal)),

@@ -1,9 +1,9 @@
 //! SETLIST.
-ghost use Rattle.std.specs.Prelude.{◌≡◌, ◌≢◌, ◌≤◌, [], ◌∷◌, IfOk, OnOk, Err};
+ghost use Rattle.std.specs.Prelude.{◌≡◌, [], ◌∷◌, IfOk, Err};
 ghost use Rattle.std.specs.List.{filter_map};
 ghost use Rattle.room_acl.specs.Bits.{is_inherited};
 ghost use Rattle.room_acl.specs.Inheritance.{own_entries_fault};
-ghost use Rattle.room_records.specs.Shelf.{FailureCounted, Unchanged};
+ghost use Rattle.room_records.specs.Shelf.{ShelfRead, fault_in};
 ghost use Rattle.room_commands.specs.Checks.{check_lawful};
 ghost use Rattle.room_commands.specs.CommandModel as C;
 ghost use Rattle.room_tree.specs.Places.{OfRoom, node_of, kept_entry};
@@ -117,12 +117,8 @@ pub(crate) fn plan_setlist<S: Shelf>(
     entries: &[Entry],
     path: &Path,
 ) -> Result<Outcome, ShelfFault>
-    ensures effect { OfRoom S.records S.is_honest S.is_declared shelf.old shelf.new (λ t room. IfOk result (PlansEffect t room subject.now (C.SetList aclflag entries.now path.now))) }
-    ensures alive { S.is_clean shelf.new → S.is_honest shelf.old → OnOk result (S.is_honest shelf.new) }
-    ensures unchanged { Unchanged S.records S.is_honest S.is_clean S.is_declared S.crash_may_leave shelf.old shelf.new }
-    ensures never_falls { S.failures shelf.old ≤ S.failures shelf.new }
-    ensures quiet { result ≢ Err ShelfFault.Store → S.failures shelf.new ≡ S.failures shelf.old }
-    ensures store { result ≡ Err ShelfFault.Store → FailureCounted (S.failures shelf.old) (S.failures shelf.new) }
+    ensures effect { OfRoom (S.view shelf.old) (S.view shelf.new) (λ t room. IfOk result (PlansEffect t room subject.now (C.SetList aclflag entries.now path.now))) }
+    ensures frame { ShelfRead (S.view shelf.old) (S.view shelf.new) (fault_in result) }
 {
     let place = match reach_to_use(alloc, shelf, subject, path, None, WRITE_ACL)? {
         Reached::Refused(refusal) => return Ok(Outcome::refused(alloc, refusal)),

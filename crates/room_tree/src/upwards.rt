@@ -1,9 +1,9 @@
 //! Lists, found from below.
-ghost use Rattle.std.specs.Prelude.{◌≡◌, ◌≢◌, ◌≤◌, [], length, None, Some, IfOk, OnOk, Err, if◌then◌else◌};
+ghost use Rattle.std.specs.Prelude.{◌≡◌, ◌≤◌, [], length, None, Some, IfOk, OnOk, Err, if◌then◌else◌};
 ghost use Rattle.room_records.specs.Names.{Path as PathModel};
 ghost use Rattle.room_records.specs.Representation.{HasPath, RepresentsRoom};
 ghost use Rattle.room_records.specs.Room.{Room, list_of, follows};
-ghost use Rattle.room_records.specs.Shelf.{FailureCounted, Unchanged};
+ghost use Rattle.room_records.specs.Shelf.{ShelfRead, fault_in};
 ghost use Rattle.room_tree.specs.Places.{OfRoom};
 
 use crate::place::{follows, with_inherited};
@@ -33,13 +33,10 @@ fn list_within<S: Shelf>(
     node: &Node,
     levels: u32,
 ) -> Result<Vec<Entry>, ShelfFault>
-    ensures value { OfRoom S.records S.is_honest S.is_declared shelf.old shelf.new (λ t room. (path : PathModel) → HasPath t path node.now.id →
+    ensures value { OfRoom (S.view shelf.old) (S.view shelf.new) (λ t room. (path : PathModel) → HasPath t path node.now.id →
         t.node node.now.id ≡ Some node.now → length path ≤ levels → IfOk result (λ list. list.items ≡ list_of room path)) }
-    ensures alive { S.is_clean shelf.new → OnOk result (S.is_honest shelf.new) }
-    ensures unchanged { Unchanged S.records S.is_honest S.is_clean S.is_declared S.crash_may_leave shelf.old shelf.new }
-    ensures never_falls { S.failures shelf.old ≤ S.failures shelf.new }
-    ensures quiet { result ≢ Err ShelfFault.Store → S.failures shelf.new ≡ S.failures shelf.old }
-    ensures store { result ≡ Err ShelfFault.Store → FailureCounted (S.failures shelf.old) (S.failures shelf.new) }
+    ensures there { (S.view shelf.new).is_intact → OnOk result (S.view shelf.new).is_available }
+    ensures frame { ShelfRead (S.view shelf.old) (S.view shelf.new) (fault_in result) }
 {
     let own = shelf.entries(node.id)?;
     let Some(folder) = folder_followed(node) else {
@@ -66,14 +63,11 @@ pub fn list_upwards<S: Shelf>(
     shelf: &mut S,
     id: u32,
 ) -> Result<Vec<Entry>, ShelfFault>
-    ensures value { S.is_honest shelf.new → S.is_declared shelf.old → (room : Room) → RepresentsRoom (S.records shelf.old).objects room →
-        (path : PathModel) → HasPath (S.records shelf.old).objects path id → IfOk result (λ list. list.items ≡ list_of room path) }
-    ensures absent { S.is_honest shelf.new → S.is_declared shelf.old → (S.records shelf.old).objects.node id ≡ None → IfOk result (λ list. list.items ≡ []) }
-    ensures alive { S.is_clean shelf.new → OnOk result (S.is_honest shelf.new) }
-    ensures unchanged { Unchanged S.records S.is_honest S.is_clean S.is_declared S.crash_may_leave shelf.old shelf.new }
-    ensures never_falls { S.failures shelf.old ≤ S.failures shelf.new }
-    ensures quiet { result ≢ Err ShelfFault.Store → S.failures shelf.new ≡ S.failures shelf.old }
-    ensures store { result ≡ Err ShelfFault.Store → FailureCounted (S.failures shelf.old) (S.failures shelf.new) }
+    ensures value { (S.view shelf.new).is_available → (S.view shelf.old).is_laid_out → (room : Room) → RepresentsRoom (S.view shelf.old).records.objects room →
+        (path : PathModel) → HasPath (S.view shelf.old).records.objects path id → IfOk result (λ list. list.items ≡ list_of room path) }
+    ensures absent { (S.view shelf.new).is_available → (S.view shelf.old).is_laid_out → (S.view shelf.old).records.objects.node id ≡ None → IfOk result (λ list. list.items ≡ []) }
+    ensures there { (S.view shelf.new).is_intact → OnOk result (S.view shelf.new).is_available }
+    ensures frame { ShelfRead (S.view shelf.old) (S.view shelf.new) (fault_in result) }
 {
     let Some(node) = shelf.node(id)? else {
         return Ok(Vec::new(alloc));

@@ -1,10 +1,9 @@
 //! The walk of a path, from the root down.
-ghost use Rattle.std.specs.Prelude.{◌≡◌, ◌≢◌, ◌≤◌, ◌++◌, [], ◌∷◌, take, IfOk, OnOk, MatchOption, Err, if◌then◌else◌};
+ghost use Rattle.std.specs.Prelude.{◌≡◌, ◌++◌, [], ◌∷◌, IfOk, MatchOption, Err, if◌then◌else◌};
 ghost use Rattle.room_acl.specs.Inheritance.{handed_down};
 ghost use Rattle.room_records.specs.Names.{Path as PathModel};
 ghost use Rattle.room_records.specs.Room.{follows, object_at};
-ghost use Rattle.room_records.specs.Shelf.{FailureCounted, Unchanged};
-ghost use Rattle.room_commands.specs.Checks.{first_refusal, denied_at, refuse_if};
+ghost use Rattle.room_records.specs.Shelf.{ShelfRead, fault_in};
 ghost use Rattle.room_tree.specs.Places.{OfRoom, IsPlace, IsWalk, node_of};
 
 use crate::place::{Place, with_inherited};
@@ -32,13 +31,9 @@ fn place_under<S: Shelf>(
     node: Node,
     above: &[Entry],
 ) -> Result<Place, ShelfFault>
-    ensures value { S.is_honest shelf.new → S.is_declared shelf.old → IfOk result (λ place. (node_of place ≡ node)
-        × (place.list.items ≡ (S.records shelf.old).objects.entries node.id ++ (if follows node.aclflag then handed_down above.now node.kind else []))) }
-    ensures alive { S.is_clean shelf.new → S.is_honest shelf.old → OnOk result (S.is_honest shelf.new) }
-    ensures unchanged { Unchanged S.records S.is_honest S.is_clean S.is_declared S.crash_may_leave shelf.old shelf.new }
-    ensures never_falls { S.failures shelf.old ≤ S.failures shelf.new }
-    ensures quiet { result ≢ Err ShelfFault.Store → S.failures shelf.new ≡ S.failures shelf.old }
-    ensures store { result ≡ Err ShelfFault.Store → FailureCounted (S.failures shelf.old) (S.failures shelf.new) }
+    ensures value { (S.view shelf.new).is_available → (S.view shelf.old).is_laid_out → IfOk result (λ place. (node_of place ≡ node)
+        × (place.list.items ≡ (S.view shelf.old).records.objects.entries node.id ++ (if follows node.aclflag then handed_down above.now node.kind else []))) }
+    ensures frame { ShelfRead (S.view shelf.old) (S.view shelf.new) (fault_in result) }
 {
     let own = shelf.entries(node.id)?;
     let Ok(list) = with_inherited(alloc, own, node.aclflag, node.kind, above) else {
@@ -49,13 +44,9 @@ fn place_under<S: Shelf>(
 
 /// The root, where the rows stand for a room.
 fn root_place<S: Shelf>(shelf: &mut S) -> Result<Option<Place>, ShelfFault>
-    ensures value { OfRoom S.records S.is_honest S.is_declared shelf.old shelf.new (λ t room. IfOk result (λ found.
+    ensures value { OfRoom (S.view shelf.old) (S.view shelf.new) (λ t room. IfOk result (λ found.
         MatchOption found ⊥ (IsPlace t room []))) }
-    ensures alive { S.is_clean shelf.new → S.is_honest shelf.old → OnOk result (S.is_honest shelf.new) }
-    ensures unchanged { Unchanged S.records S.is_honest S.is_clean S.is_declared S.crash_may_leave shelf.old shelf.new }
-    ensures never_falls { S.failures shelf.old ≤ S.failures shelf.new }
-    ensures quiet { result ≢ Err ShelfFault.Store → S.failures shelf.new ≡ S.failures shelf.old }
-    ensures store { result ≡ Err ShelfFault.Store → FailureCounted (S.failures shelf.old) (S.failures shelf.new) }
+    ensures frame { ShelfRead (S.view shelf.old) (S.view shelf.new) (fault_in result) }
 {
     let Some(root) = shelf.node(1)? else {
         return Ok(None);
@@ -71,13 +62,9 @@ fn child_place<S: Shelf>(
     here: &Place,
     name: &FileName,
 ) -> Result<Option<Place>, ShelfFault>
-    ensures value { OfRoom S.records S.is_honest S.is_declared shelf.old shelf.new (λ t room. (path : PathModel) → IsPlace t room path here.now →
+    ensures value { OfRoom (S.view shelf.old) (S.view shelf.new) (λ t room. (path : PathModel) → IsPlace t room path here.now →
         IfOk result (λ found. MatchOption found (object_at room (path ++ name.now ∷ []) ≡ None) (IsPlace t room (path ++ name.now ∷ [])))) }
-    ensures alive { S.is_clean shelf.new → S.is_honest shelf.old → OnOk result (S.is_honest shelf.new) }
-    ensures unchanged { Unchanged S.records S.is_honest S.is_clean S.is_declared S.crash_may_leave shelf.old shelf.new }
-    ensures never_falls { S.failures shelf.old ≤ S.failures shelf.new }
-    ensures quiet { result ≢ Err ShelfFault.Store → S.failures shelf.new ≡ S.failures shelf.old }
-    ensures store { result ≡ Err ShelfFault.Store → FailureCounted (S.failures shelf.old) (S.failures shelf.new) }
+    ensures frame { ShelfRead (S.view shelf.old) (S.view shelf.new) (fault_in result) }
 {
     let Some(node) = shelf.child(here.id, name)? else {
         return Ok(None);
@@ -94,12 +81,8 @@ pub(crate) fn walk_path<S: Shelf>(
     subject: &Subject,
     path: &Path,
 ) -> Result<Walk, ShelfFault>
-    ensures value { OfRoom S.records S.is_honest S.is_declared shelf.old shelf.new (λ t room. IfOk result (IsWalk t room subject.now path.now)) }
-    ensures alive { S.is_clean shelf.new → S.is_honest shelf.old → OnOk result (S.is_honest shelf.new) }
-    ensures unchanged { Unchanged S.records S.is_honest S.is_clean S.is_declared S.crash_may_leave shelf.old shelf.new }
-    ensures never_falls { S.failures shelf.old ≤ S.failures shelf.new }
-    ensures quiet { result ≢ Err ShelfFault.Store → S.failures shelf.new ≡ S.failures shelf.old }
-    ensures store { result ≡ Err ShelfFault.Store → FailureCounted (S.failures shelf.old) (S.failures shelf.new) }
+    ensures value { OfRoom (S.view shelf.old) (S.view shelf.new) (λ t room. IfOk result (IsWalk t room subject.now path.now)) }
+    ensures frame { ShelfRead (S.view shelf.old) (S.view shelf.new) (fault_in result) }
 {
     let Some(mut here) = root_place(shelf)? else {
         return Ok(Walk::Refused(Refusal::of(Fault::NoEnt)));

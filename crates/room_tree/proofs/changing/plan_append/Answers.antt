@@ -14,22 +14,22 @@ use Rattle.room_commands.proofs.Rights.{all_none}
 use Rattle.room_tree.proofs.changing.plan_append.Goals as goal
 
 pub returns-in-Refused-clause-effect : goal.returns-in-Refused-clause-effect
-returns-in-Refused-clause-effect g c = λ is_honest is_declared t e room stand.
+returns-in-Refused-clause-effect g c = λ available laid_out t e room stand.
     let path = c.args.path.now in
     let caller = c.args.subject.now in
-    let reached = rw c.in-Refused.is at (c.in_ok-refusal.ensures.value is_honest is_declared t e room stand) in
+    let reached = rw c.in-Refused.is at (c.in_ok-refusal.ensures.value available laid_out t e room stand) in
     refusal_plans t room caller (C.Append c.args.bytes.now path) c.refused.result stand c.in-Refused.refusal (some_stays (walk room caller path ∷ check_exists room path ∷ check_file room path ∷ check_right room caller path 0x4 ∷ []) (check_size (length (bytes_at room path) + length c.args.bytes.now) ∷ []) c.in-Refused.refusal reached) c.refused.ensures.reply c.refused.ensures.none
 
 pub returns-in-Err-clause-effect : goal.returns-in-Err-clause-effect
-returns-in-Err-clause-effect g c = λ is_honest is_declared t e room stand.
+returns-in-Err-clause-effect g c = λ available laid_out t e room stand.
     let path = c.args.path.now in
     let caller = c.args.subject.now in
     let bytes = c.args.bytes.now in
-    let before = c.bytes_of.ensures.unchanged.was_honest is_honest in
-    let reached = rw c.in-Object.is at (c.in_ok-refusal.ensures.value before is_declared t e room stand) in
-    let declared = c.reach_to_use.ensures.unchanged.declared before is_declared in
-    let same = ap (λ (r : Records). r.objects) (c.reach_to_use.ensures.unchanged.same before is_declared) ∙ e in
-    let old = c.in_ok-old.ensures.value is_honest declared t same room stand path reached.1 in
+    let before = c.bytes_of.ensures.frame.call.was_available available in
+    let reached = rw c.in-Object.is at (c.in_ok-refusal.ensures.value before laid_out t e room stand) in
+    let declared = c.reach_to_use.ensures.frame.call.laid_out before laid_out in
+    let same = ap (λ (r : Records). r.objects) (c.reach_to_use.ensures.frame.same before laid_out) ∙ e in
+    let old = c.in_ok-old.ensures.value available declared t same room stand path reached.1 in
     let joined = rw c.in-Err.is at c.in-Ok.ensures in
     let Size : List ℕ → Type 0 = λ b. check_size (length b + length bytes) ≡ Some c.in-Err.refusal in
     let size = subst Size old joined in
@@ -38,16 +38,16 @@ returns-in-Err-clause-effect g c = λ is_honest is_declared t e room stand.
     c.refused-in-Err.ensures.reply c.refused-in-Err.ensures.none
 
 pub returns-clause-effect : goal.returns-clause-effect
-returns-clause-effect g c = λ is_honest is_declared t e room stand.
+returns-clause-effect g c = λ available laid_out t e room stand.
     let path = c.args.path.now in
     let caller = c.args.subject.now in
     let bytes = c.args.bytes.now in
     let place = c.in-Object.place in
-    let before = c.bytes_of.ensures.unchanged.was_honest is_honest in
-    let reached = rw c.in-Object.is at (c.in_ok-refusal.ensures.value before is_declared t e room stand) in
-    let declared = c.reach_to_use.ensures.unchanged.declared before is_declared in
-    let same = ap (λ (r : Records). r.objects) (c.reach_to_use.ensures.unchanged.same before is_declared) ∙ e in
-    let old = c.in_ok-old.ensures.value is_honest declared t same room stand path reached.1 in
+    let before = c.bytes_of.ensures.frame.call.was_available available in
+    let reached = rw c.in-Object.is at (c.in_ok-refusal.ensures.value before laid_out t e room stand) in
+    let declared = c.reach_to_use.ensures.frame.call.laid_out before laid_out in
+    let same = ap (λ (r : Records). r.objects) (c.reach_to_use.ensures.frame.same before laid_out) ∙ e in
+    let old = c.in_ok-old.ensures.value available declared t same room stand path reached.1 in
     let joined = rw c.in-Ok-joined.is at c.in-Ok.ensures in
     let all_bytes = c.in-Ok-joined.all in
     let Size_is : List ℕ → Type 0 = λ b. check_size (length b + length bytes) ≡ None in

@@ -11,20 +11,20 @@ use Rattle.room_tree.proofs.Outcomes.{refusal_plans}
 use Rattle.room_tree.proofs.changing.plan_chown.Goals as goal
 
 pub returns-in-Refused-clause-effect : goal.returns-in-Refused-clause-effect
-returns-in-Refused-clause-effect g c = λ is_honest is_declared t e room stand.
+returns-in-Refused-clause-effect g c = λ available laid_out t e room stand.
     let path = c.args.path.now in
     let caller = c.args.subject.now in
-    let reached = rw c.in-Refused.is at (c.in_ok-refusal.ensures.value is_honest is_declared t e room stand) in
+    let reached = rw c.in-Refused.is at (c.in_ok-refusal.ensures.value available laid_out t e room stand) in
     refusal_plans t room caller (C.Chown c.args.group.now c.args.owner.now path) c.refused.result stand c.in-Refused.refusal (reached) c.refused.ensures.reply c.refused.ensures.none
 
 pub returns-clause-effect : goal.returns-clause-effect
-returns-clause-effect g c = λ is_honest is_declared t e room stand.
+returns-clause-effect g c = λ available laid_out t e room stand.
     let path = c.args.path.now in
     let caller = c.args.subject.now in
     let place = c.in-Object.place in
     let owner = c.args.owner.now in
     let group = c.args.group.now in
-    let reached = rw c.in-Object.is at (c.in_ok-refusal.ensures.value is_honest is_declared t e room stand) in
+    let reached = rw c.in-Object.is at (c.in_ok-refusal.ensures.value available laid_out t e room stand) in
     let change : Object → Object = λ o. record o { owner = owner; group = group } in
     let node = c.in-Ok.node in
     let is = c.in-Ok.ensures in

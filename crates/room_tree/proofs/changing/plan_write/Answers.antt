@@ -13,29 +13,29 @@ use Rattle.room_commands.proofs.Rights.{all_none}
 use Rattle.room_tree.proofs.changing.plan_write.Goals as goal
 
 pub returns-in-Refused-clause-effect : goal.returns-in-Refused-clause-effect
-returns-in-Refused-clause-effect g c = λ is_honest is_declared t e room stand.
+returns-in-Refused-clause-effect g c = λ available laid_out t e room stand.
     let path = c.args.path.now in
     let caller = c.args.subject.now in
-    let reached = rw c.in-Refused.is at (c.in_ok-refusal.ensures.value is_honest is_declared t e room stand) in
+    let reached = rw c.in-Refused.is at (c.in_ok-refusal.ensures.value available laid_out t e room stand) in
     refusal_plans t room caller (C.Write c.args.bytes.now path) c.refused.result stand c.in-Refused.refusal (some_stays (walk room caller path ∷ check_exists room path ∷ check_file room path ∷ check_right room caller path 0x2 ∷ []) (check_size (length c.args.bytes.now) ∷ []) c.in-Refused.refusal reached) c.refused.ensures.reply c.refused.ensures.none
 
 pub returns-in-Some-clause-effect : goal.returns-in-Some-clause-effect
-returns-in-Some-clause-effect g c = λ is_honest is_declared t e room stand.
+returns-in-Some-clause-effect g c = λ available laid_out t e room stand.
     let path = c.args.path.now in
     let caller = c.args.subject.now in
-    let reached = rw c.in-Object.is at (c.in_ok-refusal.ensures.value is_honest is_declared t e room stand) in
+    let reached = rw c.in-Object.is at (c.in_ok-refusal.ensures.value available laid_out t e room stand) in
     let size : check_size (length c.args.bytes.now) ≡ Some c.in-Some.refusal = sym c.check_size.ensures ∙ c.in-Some.is in
     refusal_plans t room caller (C.Write c.args.bytes.now path) c.refused-in-Some.result stand c.in-Some.refusal
     (none_passes (walk room caller path ∷ check_exists room path ∷ check_file room path ∷ check_right room caller path 0x2 ∷ []) (check_size (length c.args.bytes.now) ∷ []) reached.0 ∙ first_alone (check_size (length c.args.bytes.now)) ∙ size)
     c.refused-in-Some.ensures.reply c.refused-in-Some.ensures.none
 
 pub returns-clause-effect : goal.returns-clause-effect
-returns-clause-effect g c = λ is_honest is_declared t e room stand.
+returns-clause-effect g c = λ available laid_out t e room stand.
     let path = c.args.path.now in
     let caller = c.args.subject.now in
     let bytes = c.args.bytes.now in
     let place = c.in-Object.place in
-    let reached = rw c.in-Object.is at (c.in_ok-refusal.ensures.value is_honest is_declared t e room stand) in
+    let reached = rw c.in-Object.is at (c.in_ok-refusal.ensures.value available laid_out t e room stand) in
     let size : check_size (length bytes) ≡ None = sym c.check_size.ensures ∙ c.in_default.is in
     let passed = none_passes (walk room caller path ∷ check_exists room path ∷ check_file room path ∷ check_right room caller path 0x2 ∷ []) (check_size (length bytes) ∷ []) reached.0 ∙ first_alone (check_size (length bytes)) ∙ size in
     let all = all_none (walk room caller path ∷ check_exists room path ∷ check_file room path ∷ check_right room caller path 0x2 ∷ []) reached.0 in

@@ -8,19 +8,19 @@ use Rattle.room_tree.proofs.Depths.{depth_check}
 use Rattle.room_tree.proofs.depth.check_depth.Goals as goal
 
 pub returns-then-deep-clause-value : goal.returns-then-deep-clause-value
-returns-then-deep-clause-value g c = λ is_honest is_declared t e room stand path found.
+returns-then-deep-clause-value g c = λ available laid_out t e room stand path found.
     let place = c.args.place.now in
     let Levels : ℕ → Type 0 = λ n. TellsBelow room path n c.in_ok-deep.deep in
     let levels : 17 - length c.names.result.now ≡ 17 - length c.args.to.now = ap (λ (p : Path). 17 - length p) c.names.ensures.value in
-    let told = c.in_ok-deep.ensures.value is_honest is_declared t e room stand path (node_of place) found.is_there.at found.is_there.node_stands refl in
+    let told = c.in_ok-deep.ensures.value available laid_out t e room stand path (node_of place) found.is_there.at found.is_there.node_stands refl in
     sym (depth_check room stand.lawful path c.args.to.now c.in_ok-deep.deep c.names.ensures.lawful.short (subst Levels levels told)
     ∙ ap (λ b. refuse_if b TooDeep) c.if-deep.true ∙ ap Some (sym c.of.ensures))
 
 pub returns-else-deep-clause-value : goal.returns-else-deep-clause-value
-returns-else-deep-clause-value g c = λ is_honest is_declared t e room stand path found.
+returns-else-deep-clause-value g c = λ available laid_out t e room stand path found.
     let place = c.args.place.now in
     let Levels : ℕ → Type 0 = λ n. TellsBelow room path n c.in_ok-deep.deep in
     let levels : 17 - length c.names.result.now ≡ 17 - length c.args.to.now = ap (λ (p : Path). 17 - length p) c.names.ensures.value in
-    let told = c.in_ok-deep.ensures.value is_honest is_declared t e room stand path (node_of place) found.is_there.at found.is_there.node_stands refl in
+    let told = c.in_ok-deep.ensures.value available laid_out t e room stand path (node_of place) found.is_there.at found.is_there.node_stands refl in
     sym (depth_check room stand.lawful path c.args.to.now c.in_ok-deep.deep c.names.ensures.lawful.short (subst Levels levels told)
     ∙ ap (λ b. refuse_if b TooDeep) c.if-deep.false)

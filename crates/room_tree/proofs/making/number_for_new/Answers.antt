@@ -9,18 +9,18 @@ use Rattle.room_tree.proofs.Made.{before_next}
 use Rattle.room_tree.proofs.making.number_for_new.Goals as goal
 
 pub returns-in-Some-clause-value : goal.returns-in-Some-clause-value
-returns-in-Some-clause-value g c = λ is_honest is_declared t e room stand folder found.
-    let count = c.in_ok-count.ensures.value is_honest is_declared t e room stand folder found in
+returns-in-Some-clause-value g c = λ available laid_out t e room stand folder found.
+    let count = c.in_ok-count.ensures.value available laid_out t e room stand folder found in
     stop (check_folder_full room folder) (check_room_full room ∷ []) c.in-Some.refusal
     (ap (λ n. refuse_if (nat_le max_children n) FolderFull) (sym count) ∙ sym c.check_children.ensures ∙ c.in-Some.is)
 
 pub returns-in-Some-check_number-clause-value : goal.returns-in-Some-check_number-clause-value
-returns-in-Some-check_number-clause-value g c = λ is_honest is_declared t e room stand folder found.
-    let before = c.next_id.ensures.unchanged.was_honest is_honest in
-    let declared = c.count_children.ensures.unchanged.declared before is_declared in
-    let same = ap (λ (r : Records). r.objects) (c.count_children.ensures.unchanged.same before is_declared) ∙ e in
-    let count = c.in_ok-count.ensures.value before is_declared t e room stand folder found in
-    let next = c.in_ok-next.ensures.value is_honest declared ∙ ap (λ (r : ObjectRecords). r.next) same in
+returns-in-Some-check_number-clause-value g c = λ available laid_out t e room stand folder found.
+    let before = c.next_id.ensures.frame.call.was_available available in
+    let declared = c.count_children.ensures.frame.call.laid_out before laid_out in
+    let same = ap (λ (r : Records). r.objects) (c.count_children.ensures.frame.same before laid_out) ∙ e in
+    let count = c.in_ok-count.ensures.value before laid_out t e room stand folder found in
+    let next = c.in_ok-next.ensures.value available declared ∙ ap (λ (r : ObjectRecords). r.next) same in
     skip (check_folder_full room folder) (check_room_full room ∷ [])
     (ap (λ n. refuse_if (nat_le max_children n) FolderFull) (sym count) ∙ sym c.check_children.ensures ∙ c.in_default.is)
     ∙ first_alone (check_room_full room)
@@ -28,12 +28,12 @@ returns-in-Some-check_number-clause-value g c = λ is_honest is_declared t e roo
     ∙ sym c.check_number.ensures ∙ c.in-Some-check_number.is
 
 pub returns-clause-value : goal.returns-clause-value
-returns-clause-value g c = λ is_honest is_declared t e room stand folder found.
-    let before = c.next_id.ensures.unchanged.was_honest is_honest in
-    let declared = c.count_children.ensures.unchanged.declared before is_declared in
-    let same = ap (λ (r : Records). r.objects) (c.count_children.ensures.unchanged.same before is_declared) ∙ e in
-    let count = c.in_ok-count.ensures.value before is_declared t e room stand folder found in
-    let next = c.in_ok-next.ensures.value is_honest declared ∙ ap (λ (r : ObjectRecords). r.next) same in (
+returns-clause-value g c = λ available laid_out t e room stand folder found.
+    let before = c.next_id.ensures.frame.call.was_available available in
+    let declared = c.count_children.ensures.frame.call.laid_out before laid_out in
+    let same = ap (λ (r : Records). r.objects) (c.count_children.ensures.frame.same before laid_out) ∙ e in
+    let count = c.in_ok-count.ensures.value before laid_out t e room stand folder found in
+    let next = c.in_ok-next.ensures.value available declared ∙ ap (λ (r : ObjectRecords). r.next) same in (
       skip (check_folder_full room folder) (check_room_full room ∷ [])
           (ap (λ n. refuse_if (nat_le max_children n) FolderFull) (sym count) ∙ sym c.check_children.ensures ∙ c.in_default.is)
           ∙ first_alone (check_room_full room)

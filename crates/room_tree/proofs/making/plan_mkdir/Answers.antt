@@ -10,31 +10,31 @@ use Rattle.room_tree.proofs.Outcomes.{refusal_plans}
 use Rattle.room_tree.proofs.making.plan_mkdir.Goals as goal
 
 pub returns-in-Refused-clause-effect : goal.returns-in-Refused-clause-effect
-returns-in-Refused-clause-effect g c = λ is_honest is_declared t e room stand.
+returns-in-Refused-clause-effect g c = λ available laid_out t e room stand.
     let path = c.args.path.now in
     let caller = c.args.subject.now in
-    let reached = rw c.in-Refused.is at (c.in_ok-refusal.ensures.value is_honest is_declared t e room stand) in
+    let reached = rw c.in-Refused.is at (c.in_ok-refusal.ensures.value available laid_out t e room stand) in
     refusal_plans t room caller (C.Mkdir path) c.refused.result stand c.in-Refused.refusal (some_stays (refuse_if (is_root path) Exist ∷ walk room caller path ∷ check_absent room path ∷ check_right room caller (parent_of path) 0x4 ∷ []) (check_folder_full room (parent_of path) ∷ check_room_full room ∷ []) c.in-Refused.refusal reached) c.refused.ensures.reply c.refused.ensures.none
 
 pub returns-in-Err-clause-effect : goal.returns-in-Err-clause-effect
-returns-in-Err-clause-effect g c = λ is_honest is_declared t e room stand.
+returns-in-Err-clause-effect g c = λ available laid_out t e room stand.
     let path = c.args.path.now in
     let caller = c.args.subject.now in
-    let before = c.number_for_new.ensures.unchanged.was_honest is_honest in
-    let reached = rw c.in-Object.is at (c.in_ok-refusal.ensures.value before is_declared t e room stand) in
-    let declared = c.folder_for_new.ensures.unchanged.declared before is_declared in
-    let same = ap (λ (r : Records). r.objects) (c.folder_for_new.ensures.unchanged.same before is_declared) ∙ e in
-    let number = c.in_ok-full.ensures.value is_honest declared t same room stand (parent_of path) reached.1 in
+    let before = c.number_for_new.ensures.frame.call.was_available available in
+    let reached = rw c.in-Object.is at (c.in_ok-refusal.ensures.value before laid_out t e room stand) in
+    let declared = c.folder_for_new.ensures.frame.call.laid_out before laid_out in
+    let same = ap (λ (r : Records). r.objects) (c.folder_for_new.ensures.frame.same before laid_out) ∙ e in
+    let number = c.in_ok-full.ensures.value available declared t same room stand (parent_of path) reached.1 in
     refusal_plans t room caller (C.Mkdir path) c.refused-in-Err.result stand c.in-Err.full (none_passes (refuse_if (is_root path) Exist ∷ walk room caller path ∷ check_absent room path ∷ check_right room caller (parent_of path) 0x4 ∷ []) (check_folder_full room (parent_of path) ∷ check_room_full room ∷ []) reached.0 ∙ (rw c.in-Err.is at number)) c.refused-in-Err.ensures.reply c.refused-in-Err.ensures.none
 
 pub returns-clause-effect : goal.returns-clause-effect
-returns-clause-effect g c = λ is_honest is_declared t e room stand.
+returns-clause-effect g c = λ available laid_out t e room stand.
     let path = c.args.path.now in
     let caller = c.args.subject.now in
-    let before = c.number_for_new.ensures.unchanged.was_honest is_honest in
-    let reached = rw c.in-Object.is at (c.in_ok-refusal.ensures.value before is_declared t e room stand) in
-    let declared = c.folder_for_new.ensures.unchanged.declared before is_declared in
-    let same = ap (λ (r : Records). r.objects) (c.folder_for_new.ensures.unchanged.same before is_declared) ∙ e in
-    let number = c.in_ok-full.ensures.value is_honest declared t same room stand (parent_of path) reached.1 in
+    let before = c.number_for_new.ensures.frame.call.was_available available in
+    let reached = rw c.in-Object.is at (c.in_ok-refusal.ensures.value before laid_out t e room stand) in
+    let declared = c.folder_for_new.ensures.frame.call.laid_out before laid_out in
+    let same = ap (λ (r : Records). r.objects) (c.folder_for_new.ensures.frame.same before laid_out) ∙ e in
+    let number = c.in_ok-full.ensures.value available declared t same room stand (parent_of path) reached.1 in
     mkdir_plans t room caller path c.in-Object.above c.in-Ok.id c.in-Ok-new_node.node _ stand c.in_ok-refusal.ensures.lawful reached.0 reached.1
     (rw c.in-Ok.is at number) c.in-Ok-new_node.ensures c.in-Ok-new_object.ensures refl

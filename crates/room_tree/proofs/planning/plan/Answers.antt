@@ -7,70 +7,70 @@ use Rattle.room_tree.specs.Plans.{PlansEffect}
 use Rattle.room_tree.proofs.planning.plan.Goals as goal
 
 pub returns-in-Stat-clause-effect : goal.returns-in-Stat-clause-effect
-returns-in-Stat-clause-effect g c = λ is_honest is_declared room stand.
-    let P : Command → Type 0 = λ asked. IfOk c.plan_stat.result (PlansEffect (g.S.Shelf.records c.args.shelf.now).objects room c.args.subject.now (command_model asked)) in
-    subst P (sym c.in-Stat.is) (c.plan_stat.ensures.effect is_honest is_declared (g.S.Shelf.records c.args.shelf.now).objects refl room stand)
+returns-in-Stat-clause-effect g c = λ available laid_out room stand.
+    let P : Command → Type 0 = λ asked. IfOk c.plan_stat.result (PlansEffect (g.S.Shelf.view c.args.shelf.now).records.objects room c.args.subject.now (command_model asked)) in
+    subst P (sym c.in-Stat.is) (c.plan_stat.ensures.effect available laid_out (g.S.Shelf.view c.args.shelf.now).records.objects refl room stand)
 
 pub returns-in-List-clause-effect : goal.returns-in-List-clause-effect
-returns-in-List-clause-effect g c = λ is_honest is_declared room stand.
-    let P : Command → Type 0 = λ asked. IfOk c.plan_list.result (PlansEffect (g.S.Shelf.records c.args.shelf.now).objects room c.args.subject.now (command_model asked)) in
-    subst P (sym c.in-List.is) (c.plan_list.ensures.effect is_honest is_declared (g.S.Shelf.records c.args.shelf.now).objects refl room stand)
+returns-in-List-clause-effect g c = λ available laid_out room stand.
+    let P : Command → Type 0 = λ asked. IfOk c.plan_list.result (PlansEffect (g.S.Shelf.view c.args.shelf.now).records.objects room c.args.subject.now (command_model asked)) in
+    subst P (sym c.in-List.is) (c.plan_list.ensures.effect available laid_out (g.S.Shelf.view c.args.shelf.now).records.objects refl room stand)
 
 pub returns-in-Mkdir-clause-effect : goal.returns-in-Mkdir-clause-effect
-returns-in-Mkdir-clause-effect g c = λ is_honest is_declared room stand.
-    let P : Command → Type 0 = λ asked. IfOk c.plan_mkdir.result (PlansEffect (g.S.Shelf.records c.args.shelf.now).objects room c.args.subject.now (command_model asked)) in
-    subst P (sym c.in-Mkdir.is) (c.plan_mkdir.ensures.effect is_honest is_declared (g.S.Shelf.records c.args.shelf.now).objects refl room stand)
+returns-in-Mkdir-clause-effect g c = λ available laid_out room stand.
+    let P : Command → Type 0 = λ asked. IfOk c.plan_mkdir.result (PlansEffect (g.S.Shelf.view c.args.shelf.now).records.objects room c.args.subject.now (command_model asked)) in
+    subst P (sym c.in-Mkdir.is) (c.plan_mkdir.ensures.effect available laid_out (g.S.Shelf.view c.args.shelf.now).records.objects refl room stand)
 
 pub returns-in-Create-clause-effect : goal.returns-in-Create-clause-effect
-returns-in-Create-clause-effect g c = λ is_honest is_declared room stand.
-    let P : Command → Type 0 = λ asked. IfOk c.plan_create.result (PlansEffect (g.S.Shelf.records c.args.shelf.now).objects room c.args.subject.now (command_model asked)) in
-    subst P (sym c.in-Create.is) (let Q : List ℕ → Type 0 = λ b. IfOk c.plan_create.result (PlansEffect (g.S.Shelf.records c.args.shelf.now).objects room c.args.subject.now (C.Create b c.in-Create.path)) in
-    subst Q c.as_slice.ensures.value (c.plan_create.ensures.effect is_honest is_declared (g.S.Shelf.records c.args.shelf.now).objects refl room stand))
+returns-in-Create-clause-effect g c = λ available laid_out room stand.
+    let P : Command → Type 0 = λ asked. IfOk c.plan_create.result (PlansEffect (g.S.Shelf.view c.args.shelf.now).records.objects room c.args.subject.now (command_model asked)) in
+    subst P (sym c.in-Create.is) (let Q : List ℕ → Type 0 = λ b. IfOk c.plan_create.result (PlansEffect (g.S.Shelf.view c.args.shelf.now).records.objects room c.args.subject.now (C.Create b c.in-Create.path)) in
+    subst Q c.as_slice.ensures.value (c.plan_create.ensures.effect available laid_out (g.S.Shelf.view c.args.shelf.now).records.objects refl room stand))
 
 pub returns-in-Read-clause-effect : goal.returns-in-Read-clause-effect
-returns-in-Read-clause-effect g c = λ is_honest is_declared room stand.
-    let P : Command → Type 0 = λ asked. IfOk c.plan_read.result (PlansEffect (g.S.Shelf.records c.args.shelf.now).objects room c.args.subject.now (command_model asked)) in
-    subst P (sym c.in-Read.is) (c.plan_read.ensures.effect is_honest is_declared (g.S.Shelf.records c.args.shelf.now).objects refl room stand)
+returns-in-Read-clause-effect g c = λ available laid_out room stand.
+    let P : Command → Type 0 = λ asked. IfOk c.plan_read.result (PlansEffect (g.S.Shelf.view c.args.shelf.now).records.objects room c.args.subject.now (command_model asked)) in
+    subst P (sym c.in-Read.is) (c.plan_read.ensures.effect available laid_out (g.S.Shelf.view c.args.shelf.now).records.objects refl room stand)
 
 pub returns-in-Write-clause-effect : goal.returns-in-Write-clause-effect
-returns-in-Write-clause-effect g c = λ is_honest is_declared room stand.
-    let P : Command → Type 0 = λ asked. IfOk c.plan_write.result (PlansEffect (g.S.Shelf.records c.args.shelf.now).objects room c.args.subject.now (command_model asked)) in
-    subst P (sym c.in-Write.is) (let Q : List ℕ → Type 0 = λ b. IfOk c.plan_write.result (PlansEffect (g.S.Shelf.records c.args.shelf.now).objects room c.args.subject.now (C.Write b c.in-Write.path)) in
-    subst Q c.as_slice-in-Write.ensures.value (c.plan_write.ensures.effect is_honest is_declared (g.S.Shelf.records c.args.shelf.now).objects refl room stand))
+returns-in-Write-clause-effect g c = λ available laid_out room stand.
+    let P : Command → Type 0 = λ asked. IfOk c.plan_write.result (PlansEffect (g.S.Shelf.view c.args.shelf.now).records.objects room c.args.subject.now (command_model asked)) in
+    subst P (sym c.in-Write.is) (let Q : List ℕ → Type 0 = λ b. IfOk c.plan_write.result (PlansEffect (g.S.Shelf.view c.args.shelf.now).records.objects room c.args.subject.now (C.Write b c.in-Write.path)) in
+    subst Q c.as_slice-in-Write.ensures.value (c.plan_write.ensures.effect available laid_out (g.S.Shelf.view c.args.shelf.now).records.objects refl room stand))
 
 pub returns-in-Append-clause-effect : goal.returns-in-Append-clause-effect
-returns-in-Append-clause-effect g c = λ is_honest is_declared room stand.
-    let P : Command → Type 0 = λ asked. IfOk c.plan_append.result (PlansEffect (g.S.Shelf.records c.args.shelf.now).objects room c.args.subject.now (command_model asked)) in
-    subst P (sym c.in-Append.is) (let Q : List ℕ → Type 0 = λ b. IfOk c.plan_append.result (PlansEffect (g.S.Shelf.records c.args.shelf.now).objects room c.args.subject.now (C.Append b c.in-Append.path)) in
-    subst Q c.as_slice-in-Append.ensures.value (c.plan_append.ensures.effect is_honest is_declared (g.S.Shelf.records c.args.shelf.now).objects refl room stand))
+returns-in-Append-clause-effect g c = λ available laid_out room stand.
+    let P : Command → Type 0 = λ asked. IfOk c.plan_append.result (PlansEffect (g.S.Shelf.view c.args.shelf.now).records.objects room c.args.subject.now (command_model asked)) in
+    subst P (sym c.in-Append.is) (let Q : List ℕ → Type 0 = λ b. IfOk c.plan_append.result (PlansEffect (g.S.Shelf.view c.args.shelf.now).records.objects room c.args.subject.now (C.Append b c.in-Append.path)) in
+    subst Q c.as_slice-in-Append.ensures.value (c.plan_append.ensures.effect available laid_out (g.S.Shelf.view c.args.shelf.now).records.objects refl room stand))
 
 pub returns-in-GetList-clause-effect : goal.returns-in-GetList-clause-effect
-returns-in-GetList-clause-effect g c = λ is_honest is_declared room stand.
-    let P : Command → Type 0 = λ asked. IfOk c.plan_getlist.result (PlansEffect (g.S.Shelf.records c.args.shelf.now).objects room c.args.subject.now (command_model asked)) in
-    subst P (sym c.in-GetList.is) (c.plan_getlist.ensures.effect is_honest is_declared (g.S.Shelf.records c.args.shelf.now).objects refl room stand)
+returns-in-GetList-clause-effect g c = λ available laid_out room stand.
+    let P : Command → Type 0 = λ asked. IfOk c.plan_getlist.result (PlansEffect (g.S.Shelf.view c.args.shelf.now).records.objects room c.args.subject.now (command_model asked)) in
+    subst P (sym c.in-GetList.is) (c.plan_getlist.ensures.effect available laid_out (g.S.Shelf.view c.args.shelf.now).records.objects refl room stand)
 
 pub returns-in-Chown-clause-effect : goal.returns-in-Chown-clause-effect
-returns-in-Chown-clause-effect g c = λ is_honest is_declared room stand.
-    let P : Command → Type 0 = λ asked. IfOk c.plan_chown.result (PlansEffect (g.S.Shelf.records c.args.shelf.now).objects room c.args.subject.now (command_model asked)) in
-    subst P (sym c.in-Chown.is) (c.plan_chown.ensures.effect is_honest is_declared (g.S.Shelf.records c.args.shelf.now).objects refl room stand)
+returns-in-Chown-clause-effect g c = λ available laid_out room stand.
+    let P : Command → Type 0 = λ asked. IfOk c.plan_chown.result (PlansEffect (g.S.Shelf.view c.args.shelf.now).records.objects room c.args.subject.now (command_model asked)) in
+    subst P (sym c.in-Chown.is) (c.plan_chown.ensures.effect available laid_out (g.S.Shelf.view c.args.shelf.now).records.objects refl room stand)
 
 pub returns-in-Access-clause-effect : goal.returns-in-Access-clause-effect
-returns-in-Access-clause-effect g c = λ is_honest is_declared room stand.
-    let P : Command → Type 0 = λ asked. IfOk c.plan_access.result (PlansEffect (g.S.Shelf.records c.args.shelf.now).objects room c.args.subject.now (command_model asked)) in
-    subst P (sym c.in-Access.is) (c.plan_access.ensures.effect is_honest is_declared (g.S.Shelf.records c.args.shelf.now).objects refl room stand)
+returns-in-Access-clause-effect g c = λ available laid_out room stand.
+    let P : Command → Type 0 = λ asked. IfOk c.plan_access.result (PlansEffect (g.S.Shelf.view c.args.shelf.now).records.objects room c.args.subject.now (command_model asked)) in
+    subst P (sym c.in-Access.is) (c.plan_access.ensures.effect available laid_out (g.S.Shelf.view c.args.shelf.now).records.objects refl room stand)
 
 pub returns-in-Remove-clause-effect : goal.returns-in-Remove-clause-effect
-returns-in-Remove-clause-effect g c = λ is_honest is_declared room stand.
-    let P : Command → Type 0 = λ asked. IfOk c.plan_remove.result (PlansEffect (g.S.Shelf.records c.args.shelf.now).objects room c.args.subject.now (command_model asked)) in
-    subst P (sym c.in-Remove.is) (c.plan_remove.ensures.effect is_honest is_declared (g.S.Shelf.records c.args.shelf.now).objects refl room stand)
+returns-in-Remove-clause-effect g c = λ available laid_out room stand.
+    let P : Command → Type 0 = λ asked. IfOk c.plan_remove.result (PlansEffect (g.S.Shelf.view c.args.shelf.now).records.objects room c.args.subject.now (command_model asked)) in
+    subst P (sym c.in-Remove.is) (c.plan_remove.ensures.effect available laid_out (g.S.Shelf.view c.args.shelf.now).records.objects refl room stand)
 
 pub returns-in-SetList-clause-effect : goal.returns-in-SetList-clause-effect
-returns-in-SetList-clause-effect g c = λ is_honest is_declared room stand.
-    let P : Command → Type 0 = λ asked. IfOk c.plan_setlist.result (PlansEffect (g.S.Shelf.records c.args.shelf.now).objects room c.args.subject.now (command_model asked)) in
-    let Q : List EntryModel → Type 0 = λ es. IfOk c.plan_setlist.result (PlansEffect (g.S.Shelf.records c.args.shelf.now).objects room c.args.subject.now (C.SetList c.in-SetList.aclflag es c.in-SetList.path)) in
-    subst P (sym c.in-SetList.is) (subst Q c.as_slice-in-SetList.ensures.value (c.plan_setlist.ensures.effect is_honest is_declared (g.S.Shelf.records c.args.shelf.now).objects refl room stand))
+returns-in-SetList-clause-effect g c = λ available laid_out room stand.
+    let P : Command → Type 0 = λ asked. IfOk c.plan_setlist.result (PlansEffect (g.S.Shelf.view c.args.shelf.now).records.objects room c.args.subject.now (command_model asked)) in
+    let Q : List EntryModel → Type 0 = λ es. IfOk c.plan_setlist.result (PlansEffect (g.S.Shelf.view c.args.shelf.now).records.objects room c.args.subject.now (C.SetList c.in-SetList.aclflag es c.in-SetList.path)) in
+    subst P (sym c.in-SetList.is) (subst Q c.as_slice-in-SetList.ensures.value (c.plan_setlist.ensures.effect available laid_out (g.S.Shelf.view c.args.shelf.now).records.objects refl room stand))
 
 pub returns-in-Rename-clause-effect : goal.returns-in-Rename-clause-effect
-returns-in-Rename-clause-effect g c = λ is_honest is_declared room stand.
-    let P : Command → Type 0 = λ asked. IfOk c.plan_rename.result (PlansEffect (g.S.Shelf.records c.args.shelf.now).objects room c.args.subject.now (command_model asked)) in
-    subst P (sym c.in-Rename.is) (c.plan_rename.ensures.effect is_honest is_declared (g.S.Shelf.records c.args.shelf.now).objects refl room stand)
+returns-in-Rename-clause-effect g c = λ available laid_out room stand.
+    let P : Command → Type 0 = λ asked. IfOk c.plan_rename.result (PlansEffect (g.S.Shelf.view c.args.shelf.now).records.objects room c.args.subject.now (command_model asked)) in
+    subst P (sym c.in-Rename.is) (c.plan_rename.ensures.effect available laid_out (g.S.Shelf.view c.args.shelf.now).records.objects refl room stand)

@@ -5,16 +5,16 @@ use Rattle.room_tree.proofs.Checking.{few_bytes}
 use Rattle.room_tree.proofs.reaching.size_of.Goals as goal
 
 pub returns-in_ok-bytes-in-File-clause-value : goal.returns-in_ok-bytes-in-File-clause-value
-returns-in_ok-bytes-in-File-clause-value g c = λ is_honest is_declared t e room stand path found.
-    let bytes = c.in_ok-bytes-in-File.ensures.value is_honest is_declared t e room stand path found in
+returns-in_ok-bytes-in-File-clause-value g c = λ available laid_out t e room stand path found.
+    let bytes = c.in_ok-bytes-in-File.ensures.value available laid_out t e room stand path found in
     let few = few_bytes t room stand path c.args.place.now found in
     let fits : c.len.result < 2 ^ 32 = omega (arith, c.len.ensures, ap length bytes, few) in
     let long : c.len.result ≡ length (bytes_at room path) = omega (arith, c.len.ensures, ap length bytes) in
     c.as_size.ensures fits ∙ long ∙ ap (size_of room path) (sym c.in-File.is)
 
 pub returns-in_ok-count-in-Folder-clause-value : goal.returns-in_ok-count-in-Folder-clause-value
-returns-in_ok-count-in-Folder-clause-value g c = λ is_honest is_declared t e room stand path found.
-    let count = c.in_ok-count-in-Folder.ensures.value is_honest is_declared t e room stand path found in
+returns-in_ok-count-in-Folder-clause-value g c = λ available laid_out t e room stand path found.
+    let count = c.in_ok-count-in-Folder.ensures.value available laid_out t e room stand path found in
     let few = stand.lawful.few path in
     let fits : c.in_ok-count-in-Folder.count < 2 ^ 32 = omega (arith, count, few) in
     c.as_size-in-Folder.ensures fits ∙ count ∙ ap (size_of room path) (sym c.in-Folder.is)

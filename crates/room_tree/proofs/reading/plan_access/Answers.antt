@@ -8,13 +8,13 @@ use Rattle.room_commands.specs.ReplyModel.{Allowed}
 use Rattle.room_tree.proofs.reading.plan_access.Goals as goal
 
 pub returns-in-Refused-clause-effect : goal.returns-in-Refused-clause-effect
-returns-in-Refused-clause-effect g c = λ is_honest is_declared t e room stand.
-    let reached = rw c.in-Refused.is at (c.in_ok-refusal.ensures.value is_honest is_declared t e room stand) in
+returns-in-Refused-clause-effect g c = λ available laid_out t e room stand.
+    let reached = rw c.in-Refused.is at (c.in_ok-refusal.ensures.value available laid_out t e room stand) in
     refusal_plans t room c.args.subject.now (C.Access c.args.mask c.args.path.now) c.refused.result stand c.in-Refused.refusal reached c.refused.ensures.reply c.refused.ensures.none
 
 pub returns-clause-effect : goal.returns-clause-effect
-returns-clause-effect g c = λ is_honest is_declared t e room stand.
-    let reached = rw c.in-Object.is at (c.in_ok-refusal.ensures.value is_honest is_declared t e room stand) in
+returns-clause-effect g c = λ available laid_out t e room stand.
+    let reached = rw c.in-Object.is at (c.in_ok-refusal.ensures.value available laid_out t e room stand) in
     let place = c.in-Object.place in
     let allowed = c.common_bits.ensures ∙ ap (bit_and c.args.mask) (c.allowed_bits-allowed.ensures.value ∙ ap (λ list. allowed_mask list c.args.subject.now place.standing) c.deref.ensures.value) in
     reading_plans t room c.args.subject.now (C.Access c.args.mask c.args.path.now) c.reading.result stand (λ path. refl) refl reached.0

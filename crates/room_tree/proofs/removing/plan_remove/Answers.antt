@@ -15,23 +15,23 @@ use Rattle.room_tree.proofs.RowsRemoved.{remove_plans}
 use Rattle.room_tree.proofs.removing.plan_remove.Goals as goal
 
 pub returns-in-Refused-clause-effect : goal.returns-in-Refused-clause-effect
-returns-in-Refused-clause-effect g c = λ is_honest is_declared t e room stand.
+returns-in-Refused-clause-effect g c = λ available laid_out t e room stand.
     let path = c.args.path.now in
     let caller = c.args.subject.now in
-    let reached = rw c.in-Refused.is at (c.in_ok-refusal.ensures.value is_honest is_declared t e room stand) in
+    let reached = rw c.in-Refused.is at (c.in_ok-refusal.ensures.value available laid_out t e room stand) in
     refusal_plans t room caller (C.Remove path) c.refused.result stand c.in-Refused.refusal
     (some_stays (refuse_if (is_root path) Inval ∷ walk room caller path ∷ check_exists room path ∷ check_removal room caller path ∷ [])
     (refuse_if (nat_lt 0 (length (children room path))) NotEmpty ∷ []) c.in-Refused.refusal reached) c.refused.ensures.reply c.refused.ensures.none
 
 pub returns-then-count-gt0-clause-effect : goal.returns-then-count-gt0-clause-effect
-returns-then-count-gt0-clause-effect g c = λ is_honest is_declared t e room stand.
+returns-then-count-gt0-clause-effect g c = λ available laid_out t e room stand.
     let path = c.args.path.now in
     let caller = c.args.subject.now in
-    let before = c.count_children.ensures.unchanged.was_honest is_honest in
-    let reached = rw c.in-Object.is at (c.in_ok-refusal.ensures.value before is_declared t e room stand) in
-    let declared = c.removable.ensures.unchanged.declared before is_declared in
-    let same = ap (λ (r : Records). r.objects) (c.removable.ensures.unchanged.same before is_declared) ∙ e in
-    let count = c.in_ok-count.ensures.value is_honest declared t same room stand path reached.1 in
+    let before = c.count_children.ensures.frame.call.was_available available in
+    let reached = rw c.in-Object.is at (c.in_ok-refusal.ensures.value before laid_out t e room stand) in
+    let declared = c.removable.ensures.frame.call.laid_out before laid_out in
+    let same = ap (λ (r : Records). r.objects) (c.removable.ensures.frame.same before laid_out) ∙ e in
+    let count = c.in_ok-count.ensures.value available declared t same room stand path reached.1 in
     let whole = none_passes (refuse_if (is_root path) Inval ∷ walk room caller path ∷ check_exists room path ∷ check_removal room caller path ∷ []) (refuse_if (nat_lt 0 (length (children room path))) NotEmpty ∷ []) reached.0
     ∙ first_alone (refuse_if (nat_lt 0 (length (children room path))) NotEmpty) ∙ ap (λ n. refuse_if (nat_lt 0 n) NotEmpty) (sym count) in
     refusal_plans t room caller (C.Remove path) c.refused-then-count-gt0.result stand c.of.result
@@ -39,14 +39,14 @@ returns-then-count-gt0-clause-effect g c = λ is_honest is_declared t e room sta
     c.refused-then-count-gt0.ensures.reply c.refused-then-count-gt0.ensures.none
 
 pub returns-clause-effect : goal.returns-clause-effect
-returns-clause-effect g c = λ is_honest is_declared t e room stand.
+returns-clause-effect g c = λ available laid_out t e room stand.
     let path = c.args.path.now in
     let caller = c.args.subject.now in
-    let before = c.count_children.ensures.unchanged.was_honest is_honest in
-    let reached = rw c.in-Object.is at (c.in_ok-refusal.ensures.value before is_declared t e room stand) in
-    let declared = c.removable.ensures.unchanged.declared before is_declared in
-    let same = ap (λ (r : Records). r.objects) (c.removable.ensures.unchanged.same before is_declared) ∙ e in
-    let count = c.in_ok-count.ensures.value is_honest declared t same room stand path reached.1 in
+    let before = c.count_children.ensures.frame.call.was_available available in
+    let reached = rw c.in-Object.is at (c.in_ok-refusal.ensures.value before laid_out t e room stand) in
+    let declared = c.removable.ensures.frame.call.laid_out before laid_out in
+    let same = ap (λ (r : Records). r.objects) (c.removable.ensures.frame.same before laid_out) ∙ e in
+    let count = c.in_ok-count.ensures.value available declared t same room stand path reached.1 in
     let whole = none_passes (refuse_if (is_root path) Inval ∷ walk room caller path ∷ check_exists room path ∷ check_removal room caller path ∷ []) (refuse_if (nat_lt 0 (length (children room path))) NotEmpty ∷ []) reached.0
     ∙ first_alone (refuse_if (nat_lt 0 (length (children room path))) NotEmpty) ∙ ap (λ n. refuse_if (nat_lt 0 n) NotEmpty) (sym count) in
     let passed = whole ∙ ap (λ b. refuse_if b NotEmpty) (none_test c.in_ok-count.count c.if-count-gt0.false) in

@@ -17,23 +17,23 @@ use Rattle.room_tree.proofs.Outcomes.{refusal_plans}
 use Rattle.room_tree.proofs.setlist.plan_setlist.Goals as goal
 
 pub returns-in-Refused-clause-effect : goal.returns-in-Refused-clause-effect
-returns-in-Refused-clause-effect g c = λ is_honest is_declared t e room stand.
+returns-in-Refused-clause-effect g c = λ available laid_out t e room stand.
     let path = c.args.path.now in
     let caller = c.args.subject.now in
     let sent = c.args.entries.now in
     let flag = c.args.aclflag in
-    let reached = rw c.in-Refused.is at (c.in_ok-refusal.ensures.value is_honest is_declared t e room stand) in
+    let reached = rw c.in-Refused.is at (c.in_ok-refusal.ensures.value available laid_out t e room stand) in
     refusal_plans t room caller (C.SetList flag sent path) c.refused.result stand c.in-Refused.refusal
     (some_stays (walk room caller path ∷ check_exists room path ∷ check_right room caller path 0x40000 ∷ []) ((check_lawful (own_entries_fault (own_entries_of_setlist path flag sent) (kind_of (object_at room path)))) ∷ []) c.in-Refused.refusal reached) c.refused.ensures.reply c.refused.ensures.none
 
 pub returns-in-Some-clause-effect : goal.returns-in-Some-clause-effect
-returns-in-Some-clause-effect g c = λ is_honest is_declared t e room stand.
+returns-in-Some-clause-effect g c = λ available laid_out t e room stand.
     let path = c.args.path.now in
     let caller = c.args.subject.now in
     let sent = c.args.entries.now in
     let flag = c.args.aclflag in
     let place = c.in-Object.place in
-    let reached = rw c.in-Object.is at (c.in_ok-refusal.ensures.value is_honest is_declared t e room stand) in
+    let reached = rw c.in-Object.is at (c.in_ok-refusal.ensures.value available laid_out t e room stand) in
     let own : c.in-Ok.own.items ≡ own_entries_of_setlist path flag sent = c.in-Ok.ensures ∙ ap (λ b. filter_map (kept_entry b) sent) c.follows_at.ensures ∙ kept_is path flag sent in
     let kind : place.kind ≡ kind_of (object_at room path) = reached.1.is_there.shows.kind ∙ sym (ap kind_of (there t room path place reached.1)) in
     let whole = none_passes (walk room caller path ∷ check_exists room path ∷ check_right room caller path 0x40000 ∷ []) ((check_lawful (own_entries_fault (own_entries_of_setlist path flag sent) (kind_of (object_at room path)))) ∷ []) reached.0 ∙ first_alone (check_lawful (own_entries_fault (own_entries_of_setlist path flag sent) (kind_of (object_at room path))))
@@ -43,13 +43,13 @@ returns-in-Some-clause-effect g c = λ is_honest is_declared t e room stand.
     refusal_plans t room caller (C.SetList flag sent path) c.refused-in-Some.result stand c.in-Some.unlawful (whole ∙ c.in-Some.is) c.refused-in-Some.ensures.reply c.refused-in-Some.ensures.none
 
 pub returns-clause-effect : goal.returns-clause-effect
-returns-clause-effect g c = λ is_honest is_declared t e room stand.
+returns-clause-effect g c = λ available laid_out t e room stand.
     let path = c.args.path.now in
     let caller = c.args.subject.now in
     let sent = c.args.entries.now in
     let flag = c.args.aclflag in
     let place = c.in-Object.place in
-    let reached = rw c.in-Object.is at (c.in_ok-refusal.ensures.value is_honest is_declared t e room stand) in
+    let reached = rw c.in-Object.is at (c.in_ok-refusal.ensures.value available laid_out t e room stand) in
     let own : c.in-Ok.own.items ≡ own_entries_of_setlist path flag sent = c.in-Ok.ensures ∙ ap (λ b. filter_map (kept_entry b) sent) c.follows_at.ensures ∙ kept_is path flag sent in
     let kind : place.kind ≡ kind_of (object_at room path) = reached.1.is_there.shows.kind ∙ sym (ap kind_of (there t room path place reached.1)) in
     let whole = none_passes (walk room caller path ∷ check_exists room path ∷ check_right room caller path 0x40000 ∷ []) ((check_lawful (own_entries_fault (own_entries_of_setlist path flag sent) (kind_of (object_at room path)))) ∷ []) reached.0 ∙ first_alone (check_lawful (own_entries_fault (own_entries_of_setlist path flag sent) (kind_of (object_at room path))))

@@ -9,19 +9,19 @@ use Rattle.room_tree.proofs.Places.{child_is_place}
 use Rattle.room_tree.proofs.walking.child_place.Goals as goal
 
 pub returns-in_default-clause-value : goal.returns-in_default-clause-value
-returns-in_default-clause-value g c = λ is_honest is_declared t e room stand path folder.
+returns-in_default-clause-value g c = λ available laid_out t e room stand path folder.
     let Named : ObjectRecords → Type 0 = λ r. IsChildNamed r c.args.here.now.id c.args.name.now None in
     no_child t room stand path c.args.name.now c.args.here.now.id folder.is_there.at
-    (subst Named e (rw c.in_default.is at (c.in_ok-node.ensures.value is_honest is_declared)))
+    (subst Named e (rw c.in_default.is at (c.in_ok-node.ensures.value available laid_out)))
 
 pub returns-clause-value : goal.returns-clause-value
-returns-clause-value g c = λ is_honest is_declared t e room stand path folder.
-    let before = c.place_under.ensures.unchanged.was_honest is_honest in
-    let declared = c.child.ensures.unchanged.declared before is_declared in
-    let same = c.child.ensures.unchanged.same before is_declared in
+returns-clause-value g c = λ available laid_out t e room stand path folder.
+    let before = c.place_under.ensures.frame.call.was_available available in
+    let declared = c.child.ensures.frame.call.laid_out before laid_out in
+    let same = c.child.ensures.frame.same before laid_out in
     let Named : ObjectRecords → Type 0 = λ r. IsChildNamed r c.args.here.now.id c.args.name.now (Some c.in-Some.node) in
-    let child = subst Named e (rw c.in-Some.is at (c.in_ok-node.ensures.value before is_declared)) in
-    let placed = c.in_ok-place.ensures.value is_honest declared in
+    let child = subst Named e (rw c.in-Some.is at (c.in_ok-node.ensures.value before laid_out)) in
+    let placed = c.in_ok-place.ensures.value available declared in
     let node = c.in-Some.node in
     child_is_place t room stand path c.args.name.now c.args.here.now c.in_ok-place.place node folder child placed.0
     (placed.1

@@ -1,54 +1,51 @@
 use Rattle.std.proofs.Common.{◌≡◌, ℕ, ◌+◌, ◌<◌, ◌≤◌, refl, ap, sym, ◌∙◌, subst, Some, take, length, get_or, arith, []}
 use Rattle.std.proofs.lemmas.List.{get_or_default, take_all}
 use Rattle.room_records.specs.Names.{Path}
-use Rattle.room_records.proofs.Paths.{unchanged_then}
 use Rattle.room_records.specs.Records.{Records}
+use Rattle.room_records.proofs.Shelves.{read_then}
 use Rattle.room_tree.specs.Places.{IsPlace, IsAbove}
 use Rattle.room_tree.proofs.Walks.{walk_stops, walk_goes_on, walk_ends, walk_is_cut, last_is_absent, next_is_there, last_folder, walk_done}
 use Rattle.room_tree.proofs.Outcomes.{ok_not_err}
 use Rattle.room_tree.proofs.walking.walk_path.Goals as goal
 
 pub returns-in_default-clause-value : goal.returns-in_default-clause-value
-returns-in_default-clause-value g c = λ is_honest is_declared t e room stand.
-    absurd (rw c.in_default.is at (c.in_ok-here.ensures.value is_honest is_declared t e room stand))
+returns-in_default-clause-value g c = λ available laid_out t e room stand.
+    absurd (rw c.in_default.is at (c.in_ok-here.ensures.value available laid_out t e room stand))
 
 pub loop-index-init : goal.loop-index-init
 loop-index-init g c = record {
-  alive = c.in_ok-here.ensures.alive;
-  unchanged = c.root_place.ensures.unchanged;
-  never_falls = c.root_place.ensures.never_falls;
-  quiet = c.in_ok-here.ensures.quiet (ok_not_err _ _);
+  frame = c.in_ok-here.ensures.frame;
   names = c.names-names.ensures.value;
-  walked = λ is_honest is_declared t e room stand.
-      (refl, rw c.in-Some.is at (c.in_ok-here.ensures.value is_honest is_declared t e room stand), refl);
+  walked = λ available laid_out t e room stand.
+      (refl, rw c.in-Some.is at (c.in_ok-here.ensures.value available laid_out t e room stand), refl);
 }
 
 pub returns-in-Some-checked-clause-value : goal.returns-in-Some-checked-clause-value
-returns-in-Some-checked-clause-value g c = λ is_honest is_declared t e room stand.
+returns-in-Some-checked-clause-value g c = λ available laid_out t e room stand.
     let path = c.args.path.now in
     let i = c.loop-index.index in
-    let so = c.loop-index.invariant.walked is_honest is_declared t e room stand in
+    let so = c.loop-index.invariant.walked available laid_out t e room stand in
     let Below : Path → Type 0 = λ p. i < length p in
     let below = subst Below c.names-names.ensures.value c.loop-index-test.true in
     walk_stops room c.args.subject.now path i (get_or path i []) below (get_or_default path i [] (get_or path i []) below) c.in-Some-checked.refusal so.0
     (sym (c.in-Ok.ensures t room (take i path) refl so.1) ∙ c.in-Some-checked.is)
 
 pub returns-then-index-names-clause-value : goal.returns-then-index-names-clause-value
-returns-then-index-names-clause-value g c = λ is_honest is_declared t e room stand.
+returns-then-index-names-clause-value g c = λ available laid_out t e room stand.
     let path = c.args.path.now in
     let i = c.loop-index.index in
     let name = c.index-names-index.result in
-    let before = c.child_place.ensures.unchanged.was_honest is_honest in
-    let declared = c.loop-index.invariant.unchanged.declared before is_declared in
-    let same = c.loop-index.invariant.unchanged.same before is_declared in
-    let so = c.loop-index.invariant.walked before is_declared t e room stand in
+    let before = c.child_place.ensures.frame.call.was_available available in
+    let declared = c.loop-index.invariant.frame.call.laid_out before laid_out in
+    let same = c.loop-index.invariant.frame.same before laid_out in
+    let so = c.loop-index.invariant.walked before laid_out t e room stand in
     let Below : Path → Type 0 = λ p. i < length p in
     let More : Path → Type 0 = λ p. i + 1 < length p in
     let At : Path → Type 0 = λ p. name ≡ get_or p i name in
     let below = subst Below c.names-names.ensures.value c.loop-index-test.true in
     walk_is_cut room c.args.subject.now path i name below (subst At c.names-names.ensures.value c.index-names-index.is) so.0
     (sym (c.in-Ok.ensures t room (take i path) refl so.1) ∙ c.in_default-checked.is)
-    (rw c.in_default-2.is at (c.in_ok-next.ensures.value is_honest declared t (ap (λ (r : Records). r.objects) same ∙ e) room stand (take i path) so.1))
+    (rw c.in_default-2.is at (c.in_ok-next.ensures.value available declared t (ap (λ (r : Records). r.objects) same ∙ e) room stand (take i path) so.1))
     (subst More c.names-names.ensures.value c.if-index-names.true)
     ∙ ap Some (sym c.of-then-index-names.ensures)
 
@@ -62,28 +59,25 @@ loop-index-preserved g c =
     let below = subst Below c.names-names.ensures.value c.loop-index-test.true in
     let is = subst At c.names-names.ensures.value c.index-names-index.is in
     record {
-      alive = λ clean honest. c.in_ok-next.ensures.alive clean (c.loop-index.invariant.alive (c.child_place.ensures.unchanged.was_clean clean) honest);
-      unchanged = unchanged_then _ _ _ _ _ _ _ _ c.child_place.ensures.unchanged c.loop-index.invariant.unchanged;
-      never_falls = omega (arith, c.child_place.ensures.never_falls, c.loop-index.invariant.never_falls);
-      quiet = c.in_ok-next.ensures.quiet (ok_not_err _ _) ∙ c.loop-index.invariant.quiet;
+      frame = read_then _ _ _ _ c.in_ok-next.ensures.frame c.loop-index.invariant.frame;
       names = c.loop-index.invariant.names;
-      walked = λ is_honest is_declared t e room stand.
-          let before = c.child_place.ensures.unchanged.was_honest is_honest in
-          let declared = c.loop-index.invariant.unchanged.declared before is_declared in
-          let same = c.loop-index.invariant.unchanged.same before is_declared in
-          let so = c.loop-index.invariant.walked before is_declared t e room stand in
+      walked = λ available laid_out t e room stand.
+          let before = c.child_place.ensures.frame.call.was_available available in
+          let declared = c.loop-index.invariant.frame.call.laid_out before laid_out in
+          let same = c.loop-index.invariant.frame.same before laid_out in
+          let so = c.loop-index.invariant.walked before laid_out t e room stand in
           let At : ℕ → Type 0 = λ n. IsPlace t room (take n path) c.loop-index.here in (
             walk_goes_on room c.args.subject.now path i name below is so.0 (sym (c.in-Ok.ensures t room (take i path) refl so.1) ∙ c.in_default-checked.is),
             next_is_there room c.args.subject.now path i name below is (λ p. IsPlace t room p c.in-Some-2.next)
-                (rw c.in-Some-2.is at (c.in_ok-next.ensures.value is_honest declared t (ap (λ (r : Records). r.objects) same ∙ e) room stand (take i path) so.1)),
+                (rw c.in-Some-2.is at (c.in_ok-next.ensures.value available declared t (ap (λ (r : Records). r.objects) same ∙ e) room stand (take i path) so.1)),
             (omega arith, subst At (omega arith) so.1),
           );
     }
 
 pub returns-clause-value : goal.returns-clause-value
-returns-clause-value g c = λ is_honest is_declared t e room stand.
+returns-clause-value g c = λ available laid_out t e room stand.
     let path = c.args.path.now in
-    let so = c.loop-index.invariant.walked is_honest is_declared t e room stand in
+    let so = c.loop-index.invariant.walked available laid_out t e room stand in
     let Above : Path → Type 0 = λ p. length p ≤ c.loop-index.index in
     let all = subst Above c.names-names.ensures.value c.loop-index-test.false in
     let Within : Path → Type 0 = λ p. c.loop-index.index ≤ length p in
@@ -97,14 +91,14 @@ returns-clause-value g c = λ is_honest is_declared t e room stand.
     )
 
 pub returns-in_default-2-clause-value : goal.returns-in_default-2-clause-value
-returns-in_default-2-clause-value g c = λ is_honest is_declared t e room stand.
+returns-in_default-2-clause-value g c = λ available laid_out t e room stand.
     let path = c.args.path.now in
     let i = c.loop-index.index in
     let name = c.index-names-index.result in
-    let before = c.child_place.ensures.unchanged.was_honest is_honest in
-    let declared = c.loop-index.invariant.unchanged.declared before is_declared in
-    let same = c.loop-index.invariant.unchanged.same before is_declared in
-    let so = c.loop-index.invariant.walked before is_declared t e room stand in
+    let before = c.child_place.ensures.frame.call.was_available available in
+    let declared = c.loop-index.invariant.frame.call.laid_out before laid_out in
+    let same = c.loop-index.invariant.frame.same before laid_out in
+    let so = c.loop-index.invariant.walked before laid_out t e room stand in
     let Below : Path → Type 0 = λ p. i < length p in
     let Last : Path → Type 0 = λ p. length p ≤ i + 1 in
     let At : Path → Type 0 = λ p. name ≡ get_or p i name in
@@ -112,7 +106,7 @@ returns-in_default-2-clause-value g c = λ is_honest is_declared t e room stand.
     let below = subst Below c.names-names.ensures.value c.loop-index-test.true in
     let is = subst At c.names-names.ensures.value c.index-names-index.is in
     let last = subst Last c.names-names.ensures.value c.if-index-names.false in
-    let nothing = rw c.in_default-2.is at (c.in_ok-next.ensures.value is_honest declared t (ap (λ (r : Records). r.objects) same ∙ e) room stand (take i path) so.1) in (
+    let nothing = rw c.in_default-2.is at (c.in_ok-next.ensures.value available declared t (ap (λ (r : Records). r.objects) same ∙ e) room stand (take i path) so.1) in (
       walk_ends room c.args.subject.now path i name below is so.0 (sym (c.in-Ok.ensures t room (take i path) refl so.1) ∙ c.in_default-checked.is) last,
       last_is_absent room c.args.subject.now path i name below is nothing last,
       subst Here (last_folder room c.args.subject.now path i name below is last) so.1,

@@ -11,29 +11,29 @@ use Rattle.room_tree.proofs.Renamed.{same_folder, other_folder}
 use Rattle.room_tree.proofs.moving.Move.check_limits.Goals as goal
 
 pub returns-in-Some-clause-value : goal.returns-in-Some-clause-value
-returns-in-Some-clause-value g c = λ is_honest is_declared t e room stand path move.
+returns-in-Some-clause-value g c = λ available laid_out t e room stand path move.
     let to = c.args.to.now in
-    let depth = c.in_ok-deep.ensures.value is_honest is_declared t e room stand path move.place in
+    let depth = c.in_ok-deep.ensures.value available laid_out t e room stand path move.place in
     sym (stop (check_depth room path to) (cond (path_eq (parent_of path) (parent_of to)) None (check_folder_full room (parent_of to)) ∷ []) c.in-Some.deep
     (sym depth ∙ c.in-Some.is))
 
 pub returns-then-self-clause-value : goal.returns-then-self-clause-value
-returns-then-self-clause-value g c = λ is_honest is_declared t e room stand path move.
+returns-then-self-clause-value g c = λ available laid_out t e room stand path move.
     let to = c.args.to.now in
-    let depth = c.in_ok-deep.ensures.value is_honest is_declared t e room stand path move.place in
+    let depth = c.in_ok-deep.ensures.value available laid_out t e room stand path move.place in
     let full = cond (path_eq (parent_of path) (parent_of to)) None (check_folder_full room (parent_of to)) in
     let one = same_folder t room stand (parent_of path) (parent_of to) c.args.self.now.from c.args.self.now.into move.from move.into c.if-self.true in
     sym (skip (check_depth room path to) (full ∷ []) (sym depth ∙ c.in_default.is) ∙ first_alone full
     ∙ ap (λ b. cond b None (check_folder_full room (parent_of to))) one)
 
 pub returns-clause-value : goal.returns-clause-value
-returns-clause-value g c = λ is_honest is_declared t e room stand path move.
+returns-clause-value g c = λ available laid_out t e room stand path move.
     let to = c.args.to.now in
-    let before = c.count_children.ensures.unchanged.was_honest is_honest in
-    let declared = c.check_depth.ensures.unchanged.declared before is_declared in
-    let same = ap (λ (r : Records). r.objects) (c.check_depth.ensures.unchanged.same before is_declared) ∙ e in
-    let depth = c.in_ok-deep.ensures.value before is_declared t e room stand path move.place in
-    let count = c.in_ok-count.ensures.value is_honest declared t same room stand (parent_of to) move.into in
+    let before = c.count_children.ensures.frame.call.was_available available in
+    let declared = c.check_depth.ensures.frame.call.laid_out before laid_out in
+    let same = ap (λ (r : Records). r.objects) (c.check_depth.ensures.frame.same before laid_out) ∙ e in
+    let depth = c.in_ok-deep.ensures.value before laid_out t e room stand path move.place in
+    let count = c.in_ok-count.ensures.value available declared t same room stand (parent_of to) move.into in
     let full = cond (path_eq (parent_of path) (parent_of to)) None (check_folder_full room (parent_of to)) in
     let two = other_folder t room stand (parent_of path) (parent_of to) c.args.self.now.from c.args.self.now.into move.from move.into c.if-self.false in
     c.check_children.ensures ∙ ap (λ n. refuse_if (nat_le max_children n) FolderFull) count
