@@ -73,19 +73,17 @@ impl<S: Alter> Shelf for SqlShelf<S> {
     ghost use Rattle.room_tables.specs.Layout.{IsRoomOfVersion1};
     ghost use Rattle.room_tables.specs.Rows.{records_of};
 
-    ghost records = { λ s. records_of (state S.Store s.conn).now.trees };
+    ghost view = { λ s. record {
+        records = records_of (state S.Store s.conn).now.trees;
+        failures = s.failures;
+        is_intact = HasCleanDisk (state S.Store s.conn);
+        is_available = HasCleanDisk (state S.Store s.conn) × IsTrue (state S.Store s.conn).is_open;
+        is_laid_out = IsRoomOfVersion1 (state S.Store s.conn).now;
+        crash_may_leave = λ left. HasCleanDisk (state S.Store s.conn)
+            × ((trees : Trees) × (state S.Store s.conn).may_leave trees × (left ≡ records_of trees));
+    } };
 
-    ghost failures = { λ s. s.failures };
-
-    ghost is_honest = { λ s. HasCleanDisk (state S.Store s.conn) × IsTrue (state S.Store s.conn).is_open };
-
-    ghost is_clean = { λ s. HasCleanDisk (state S.Store s.conn) };
-
-    ghost honest_is_clean = { λ s h. h.0 };
-
-    ghost is_declared = { λ s. IsRoomOfVersion1 (state S.Store s.conn).now };
-
-    ghost crash_may_leave = { λ s left. HasCleanDisk (state S.Store s.conn) × ((trees : Trees) × (state S.Store s.conn).may_leave trees × (left ≡ records_of trees)) };
+    ghost available_is_intact = { λ s h. h.0 };
 
     fn node(&mut self, id: u32) -> Result<Option<Node>, ShelfFault> {
         let _outside = self.conn.is_autocommit();

@@ -28,6 +28,15 @@ pub record KeepsNumbers (t after : ObjectRecords) (room : Room) (caller : Subjec
       → HasPath after (place_after command (first_refusal (checks room caller command)) path) id
   pub new : (id : ℕ) → IsNone (t.node id) → IsSome (after.node id) → id ≡ t.next
 
+-- the commands that only read
+abbrev pub OnlyReads : CommandModel → Type 0
+OnlyReads (C.Stat path) = Unit {0}
+OnlyReads (C.ListNames path) = Unit {0}
+OnlyReads (C.Read path) = Unit {0}
+OnlyReads (C.GetList path) = Unit {0}
+OnlyReads (C.Access mask path) = Unit {0}
+OnlyReads command = ⊥
+
 -- the reply is the effect's, and the changes lead to rows that stand for the effect's room
 pub record PlansEffect (t : ObjectRecords) (room : Room) (caller : SubjectModel) (command : CommandModel) (outcome : Outcome) : Type 0 where
   pub reply : reply_model outcome.reply ≡ (effect room caller command).reply

@@ -4,7 +4,7 @@ ghost use Rattle.room_records.specs.Shelf.{ShelfRead, fault_in};
 ghost use Rattle.room_commands.specs.CommandModel.{command_model};
 ghost use Rattle.room_records.specs.Room.{Room};
 ghost use Rattle.room_records.specs.Representation.{RepresentsRoom};
-ghost use Rattle.room_tree.specs.Plans.{PlansEffect};
+ghost use Rattle.room_tree.specs.Plans.{OnlyReads, PlansEffect};
 ghost use Rattle.room_commands.specs.ReplyModel.{reply_model, Refused};
 
 use crate::changing::{plan_append, plan_chown, plan_write};
@@ -62,6 +62,7 @@ pub fn plan<S: Shelf>(
 ) -> Result<Outcome, ShelfFault>
     ensures effect { (S.view shelf.new).is_available → (S.view shelf.old).is_laid_out → (room : Room) → RepresentsRoom (S.view shelf.old).records.objects room →
         IfOk result (PlansEffect (S.view shelf.old).records.objects room subject.now (command_model command.now)) }
+    ensures reads { OnlyReads (command_model command.now) → IfOk result (λ outcome. outcome.changes.items ≡ []) }
     ensures frame { ShelfRead (S.view shelf.old) (S.view shelf.new) (fault_in result) }
 {
     match command {

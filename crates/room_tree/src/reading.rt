@@ -1,5 +1,5 @@
 //! Commands that only read.
-ghost use Rattle.std.specs.Prelude.{◌≡◌, IfOk, Err, bit_and};
+ghost use Rattle.std.specs.Prelude.{◌≡◌, [], IfOk, bit_and};
 ghost use Rattle.std.specs.List.{filter_map};
 ghost use Rattle.room_records.specs.Room.{children};
 ghost use Rattle.room_records.specs.Names.{Path as PathModel};
@@ -25,6 +25,7 @@ pub(crate) fn plan_stat<S: Shelf>(
     path: &Path,
 ) -> Result<Outcome, ShelfFault>
     ensures effect { OfRoom (S.view shelf.old) (S.view shelf.new) (λ t room. IfOk result (PlansEffect t room subject.now (C.Stat path.now))) }
+    ensures none { IfOk result (λ outcome. outcome.changes.items ≡ []) }
     ensures frame { ShelfRead (S.view shelf.old) (S.view shelf.new) (fault_in result) }
 {
     let place = match reach_to_use(alloc, shelf, subject, path, None, READ_ATTRIBUTES)? {
@@ -53,6 +54,7 @@ pub(crate) fn plan_list<S: Shelf>(
     path: &Path,
 ) -> Result<Outcome, ShelfFault>
     ensures effect { OfRoom (S.view shelf.old) (S.view shelf.new) (λ t room. IfOk result (PlansEffect t room subject.now (C.ListNames path.now))) }
+    ensures none { IfOk result (λ outcome. outcome.changes.items ≡ []) }
     ensures frame { ShelfRead (S.view shelf.old) (S.view shelf.new) (fault_in result) }
 {
     let place = match reach_to_use(
@@ -108,6 +110,7 @@ pub(crate) fn plan_read<S: Shelf>(
     path: &Path,
 ) -> Result<Outcome, ShelfFault>
     ensures effect { OfRoom (S.view shelf.old) (S.view shelf.new) (λ t room. IfOk result (PlansEffect t room subject.now (C.Read path.now))) }
+    ensures none { IfOk result (λ outcome. outcome.changes.items ≡ []) }
     ensures frame { ShelfRead (S.view shelf.old) (S.view shelf.new) (fault_in result) }
 {
     let place = match reach_to_use(alloc, shelf, subject, path, Some(Kind::File), READ_DATA)? {
@@ -126,6 +129,7 @@ pub(crate) fn plan_getlist<S: Shelf>(
     path: &Path,
 ) -> Result<Outcome, ShelfFault>
     ensures effect { OfRoom (S.view shelf.old) (S.view shelf.new) (λ t room. IfOk result (PlansEffect t room subject.now (C.GetList path.now))) }
+    ensures none { IfOk result (λ outcome. outcome.changes.items ≡ []) }
     ensures frame { ShelfRead (S.view shelf.old) (S.view shelf.new) (fault_in result) }
 {
     let place = match reach_to_use(alloc, shelf, subject, path, None, READ_ACL)? {
@@ -150,6 +154,7 @@ pub(crate) fn plan_access<S: Shelf>(
     path: &Path,
 ) -> Result<Outcome, ShelfFault>
     ensures effect { OfRoom (S.view shelf.old) (S.view shelf.new) (λ t room. IfOk result (PlansEffect t room subject.now (C.Access mask path.now))) }
+    ensures none { IfOk result (λ outcome. outcome.changes.items ≡ []) }
     ensures frame { ShelfRead (S.view shelf.old) (S.view shelf.new) (fault_in result) }
 {
     let place = match reach(alloc, shelf, subject, path)? {

@@ -3,7 +3,7 @@ use Rattle.room_acl.specs.Entries.{EntryModel}
 use Rattle.room_commands.specs.declared.command.Command.{Command}
 use Rattle.room_commands.specs.CommandModel.{command_model}
 use Rattle.room_commands.specs.CommandModel as C
-use Rattle.room_tree.specs.Plans.{PlansEffect}
+use Rattle.room_tree.specs.Plans.{OnlyReads, PlansEffect}
 use Rattle.room_tree.proofs.planning.plan.Goals as goal
 
 pub returns-in-Stat-clause-effect : goal.returns-in-Stat-clause-effect
@@ -74,3 +74,42 @@ pub returns-in-Rename-clause-effect : goal.returns-in-Rename-clause-effect
 returns-in-Rename-clause-effect g c = λ available laid_out room stand.
     let P : Command → Type 0 = λ asked. IfOk c.plan_rename.result (PlansEffect (g.S.Shelf.view c.args.shelf.now).records.objects room c.args.subject.now (command_model asked)) in
     subst P (sym c.in-Rename.is) (c.plan_rename.ensures.effect available laid_out (g.S.Shelf.view c.args.shelf.now).records.objects refl room stand)
+
+pub returns-in-Stat-clause-reads : goal.returns-in-Stat-clause-reads
+returns-in-Stat-clause-reads g c = λ _. c.plan_stat.ensures.none
+
+pub returns-in-List-clause-reads : goal.returns-in-List-clause-reads
+returns-in-List-clause-reads g c = λ _. c.plan_list.ensures.none
+
+pub returns-in-Read-clause-reads : goal.returns-in-Read-clause-reads
+returns-in-Read-clause-reads g c = λ _. c.plan_read.ensures.none
+
+pub returns-in-GetList-clause-reads : goal.returns-in-GetList-clause-reads
+returns-in-GetList-clause-reads g c = λ _. c.plan_getlist.ensures.none
+
+pub returns-in-Access-clause-reads : goal.returns-in-Access-clause-reads
+returns-in-Access-clause-reads g c = λ _. c.plan_access.ensures.none
+
+pub returns-in-Mkdir-clause-reads : goal.returns-in-Mkdir-clause-reads
+returns-in-Mkdir-clause-reads g c = λ reads. absurd (subst (λ asked. OnlyReads (command_model asked)) c.in-Mkdir.is reads)
+
+pub returns-in-Create-clause-reads : goal.returns-in-Create-clause-reads
+returns-in-Create-clause-reads g c = λ reads. absurd (subst (λ asked. OnlyReads (command_model asked)) c.in-Create.is reads)
+
+pub returns-in-Write-clause-reads : goal.returns-in-Write-clause-reads
+returns-in-Write-clause-reads g c = λ reads. absurd (subst (λ asked. OnlyReads (command_model asked)) c.in-Write.is reads)
+
+pub returns-in-Append-clause-reads : goal.returns-in-Append-clause-reads
+returns-in-Append-clause-reads g c = λ reads. absurd (subst (λ asked. OnlyReads (command_model asked)) c.in-Append.is reads)
+
+pub returns-in-Chown-clause-reads : goal.returns-in-Chown-clause-reads
+returns-in-Chown-clause-reads g c = λ reads. absurd (subst (λ asked. OnlyReads (command_model asked)) c.in-Chown.is reads)
+
+pub returns-in-Remove-clause-reads : goal.returns-in-Remove-clause-reads
+returns-in-Remove-clause-reads g c = λ reads. absurd (subst (λ asked. OnlyReads (command_model asked)) c.in-Remove.is reads)
+
+pub returns-in-SetList-clause-reads : goal.returns-in-SetList-clause-reads
+returns-in-SetList-clause-reads g c = λ reads. absurd (subst (λ asked. OnlyReads (command_model asked)) c.in-SetList.is reads)
+
+pub returns-in-Rename-clause-reads : goal.returns-in-Rename-clause-reads
+returns-in-Rename-clause-reads g c = λ reads. absurd (subst (λ asked. OnlyReads (command_model asked)) c.in-Rename.is reads)
