@@ -17,7 +17,7 @@ pub use asks::checking::decode_check;
 pub use asks::decoding::decode;
 pub use asks::event::Event;
 pub use asks::laws::check_route_is_one_target;
-pub use asks::routing::Routes;
+pub use asks::routing::{CheckRoute, Routes};
 pub use fault::WireFault;
 pub use forms::command_texts::command_text;
 pub use forms::commands::read_command;

@@ -5,8 +5,6 @@ use Rattle.std.specs.List.{list_all}
 use Rattle.std.specs.Char.{is_ascii_digit}
 use Rattle.std.specs.Str.Parse.{digits_value}
 use Rattle.serde_json.specs.Data.{Data}
-use Rattle.matchit.specs.Router.{RouteOf}
-use Rattle.matchit.specs.Rows.{RowsOf}
 use Rattle.room_acl.specs.SubjectModel.{SubjectModel}
 use Rattle.room_acl.specs.declared.subject.Subject.{Subject}
 use Rattle.room_records.specs.Names.{is_sid}
@@ -16,7 +14,6 @@ use Rattle.room_wire.specs.declared.asks.ask.Ask.{Ask}
 use Rattle.room_wire.specs.declared.asks.ask.Ask.TheVariants as A
 use Rattle.room_wire.specs.declared.fault.WireFault.{WireFault}
 use Rattle.room_wire.specs.declared.fault.WireFault.TheVariants.{BadRoute, UnknownUser, BadRequest, Memory}
-use Rattle.room_wire.specs.declared.asks.routing.Route.{Route}
 use Rattle.room_wire.specs.declared.asks.routing.SessionAction.{SessionAction}
 use Rattle.room_wire.specs.declared.asks.routing.SessionAction.TheVariants as S
 use Rattle.room_wire.specs.declared.asks.routing.Action.{Action}
@@ -26,7 +23,8 @@ use Rattle.room_wire.specs.Asks.EventModel.{EventModel, Open, Close, Slot, event
 use Rattle.room_wire.specs.Messages.Fields.{values_named}
 use Rattle.room_wire.specs.Questions.QuestionModel.{QuestionModel, question_model, question_of_body}
 use Rattle.room_wire.specs.Forms.Reading.{json_of, has_count, number_at, principal_from}
-use Rattle.room_wire.specs.Asks.Routing.{TargetModel, target_at}
+use Rattle.room_wire.specs.Asks.Routing.{TargetModel, target_at, room_rows}
+use Rattle.room_wire.specs.Messages.MessageModel.{MessageModel, fields_of}
 
 -- a question, or an event
 pub data AskModel : Type 0 where
@@ -113,9 +111,9 @@ abbrev pub ask_for : Option TargetModel → List SubjectModel → List (List ℕ
 ask_for None users fields body = Err BadRoute
 ask_for (Some target) users fields body = ask_by target.action users target fields body
 
--- what a message asks, by these routes and users: the route and its method, then the user, then all else
-abbrev pub ask_of : RowsOf (RouteOf Route) → List SubjectModel → (method target : List ℕ) → List (List ℕ × List ℕ) → (body : List ℕ) → Result AskModel WireFault
-ask_of rows users method target fields body = ask_for (target_at rows method target) users fields body
+-- what a message asks of a room with these users: the route and its method, then the user, then all else
+abbrev pub ask_of : List SubjectModel → MessageModel → Result AskModel WireFault
+ask_of users m = ask_for (target_at room_rows m.head.method m.head.target) users (fields_of m) m.body
 
 -- the result is what was asked, unless memory was refused
 abbrev pub DecodesAsk : Result AskModel WireFault → Result Ask WireFault → Type 0

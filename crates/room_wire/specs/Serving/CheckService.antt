@@ -6,11 +6,7 @@ use Rattle.room_wire.specs.declared.fault.WireFault.{WireFault}
 use Rattle.room_wire.specs.declared.fault.WireFault.TheVariants.{BadRoute, UnknownUser, BadRequest, Memory}
 use Rattle.room_wire.specs.Messages.MessageModel.{MessageModel}
 use Rattle.room_wire.specs.Answers.AnswerModel.{AnswerModel, Reply, Refused}
-use Rattle.matchit.specs.Router.{RouteOf}
-use Rattle.matchit.specs.Rows.{RowsOf}
-use Rattle.room_wire.specs.declared.asks.routing.Route.{Route}
 use Rattle.room_wire.specs.Asks.CheckAsk.{check_ask}
-use Rattle.room_wire.specs.Asks.Routing.{check_rows}
 use Rattle.room_wire.specs.Questions.CheckAnswers.{answer_text}
 use Rattle.room_wire.specs.Questions.QuestionModel.{QuestionModel}
 
@@ -29,10 +25,6 @@ answer_to_ask (Err fault) = Refused (fault_code fault)
 abbrev pub IsCheckAnswer : Result QuestionModel WireFault → AnswerModel → Type 0
 IsCheckAnswer ask answer = (answer ≡ answer_to_ask ask) ⊎ (answer ≡ Refused C.Delay)
 
--- what a message to these routes may be answered, where it may only ask a question; nothing is kept from one to the next
-abbrev pub MayAnswerBy : RowsOf (RouteOf Route) → Unit {0} → MessageModel → AnswerModel → Unit {0} → Type 0
-MayAnswerBy rows before m answer after = IsCheckAnswer (check_ask rows m.head.method m.head.target m.body) answer
-
--- where questions alone have a route
+-- what a message may be answered where questions alone have a route; nothing is kept from one to the next
 abbrev pub MayAnswerCheck : Unit {0} → MessageModel → AnswerModel → Unit {0} → Type 0
-MayAnswerCheck before m answer after = MayAnswerBy check_rows before m answer after
+MayAnswerCheck before m answer after = IsCheckAnswer (check_ask m) answer

@@ -1,9 +1,12 @@
 //! From messages to questions.
 ghost use Rattle.std.specs.Prelude.{◌≡◌};
-ghost use Rattle.room_wire.specs.Asks.CheckAsk.{check_ask, asked, Decodes};
+ghost use Rattle.room_wire.specs.Asks.CheckAsk.{check_ask, check_for, asked, Decodes};
+ghost use Rattle.room_wire.specs.Asks.Routing.{target_at, check_rows};
+ghost use Rattle.room_wire.specs.Messages.MessageModel.{MessageModel};
+ghost use Rattle.room_wire.specs.Messages.Taken.{Shows};
 ghost use Rattle.room_wire.specs.Questions.QuestionModel.{question_of_body};
 
-use crate::asks::routing::{Action, Routes};
+use crate::asks::routing::{Action, CheckRoute};
 use crate::fault::WireFault;
 use crate::messages::message::Message;
 use crate::questions::asking::question_of_body;
@@ -21,6 +24,23 @@ pub(crate) fn read_question(alloc: Global, body: &[u8]) -> Result<Question, Wire
     }
 }
 
+/// The question that a message asks, by the parts that were lent of it.
+fn read_check(
+    alloc: Global,
+    message: &Message<'_>,
+    route: &CheckRoute,
+) -> Result<Question, WireFault>
+    ensures { Decodes (check_for (target_at check_rows message.now.method.now message.now.target.now) message.now.body.now) result }
+{
+    match route.target_at(message.method, message.target) {
+        Some(target) => match target.action {
+            Action::Check => read_question(alloc, message.body),
+            Action::Session(_) => Err(WireFault::BadRoute),
+        },
+        None => Err(WireFault::BadRoute),
+    }
+}
+
 /// The question that a message asks. The route is tested before the body.
 ///
 /// # Errors
@@ -30,15 +50,9 @@ pub(crate) fn read_question(alloc: Global, body: &[u8]) -> Result<Question, Wire
 pub fn decode_check(
     alloc: Global,
     message: &Message<'_>,
-    routes: &Routes,
+    route: &CheckRoute,
 ) -> Result<Question, WireFault>
-    ensures { Decodes (check_ask routes.now message.now.method.now message.now.target.now message.now.body.now) result }
+    ensures { (m : MessageModel) → Shows message.now m → Decodes (check_ask m) result }
 {
-    match routes.target_at(message.method, message.target) {
-        Some(target) => match target.action {
-            Action::Check => read_question(alloc, message.body),
-            Action::Session(_) => Err(WireFault::BadRoute),
-        },
-        None => Err(WireFault::BadRoute),
-    }
+    read_check(alloc, message, route)
 }

@@ -1,11 +1,13 @@
 //! From messages to questions and events.
 ghost use Rattle.std.specs.Prelude.{◌≡◌, map, take};
 ghost use Rattle.httparse.specs.Spans.{header_bytes};
-ghost use Rattle.room_wire.specs.Asks.AskOf.{ask_of, DecodesAsk, ReadsAs, open_by, close_by, request_by, event_by, sid_from, number_from, slots_of_body, question_asked};
+ghost use Rattle.room_wire.specs.Asks.AskOf.{ask_of, ask_for, DecodesAsk, ReadsAs, open_by, close_by, request_by, event_by, sid_from, number_from, slots_of_body, question_asked};
 ghost use Rattle.room_wire.specs.Forms.Commands.{command_of_body};
 ghost use Rattle.room_wire.specs.Asks.EventModel.{event_model};
 ghost use Rattle.room_wire.specs.Questions.QuestionModel.{question_of_body};
-ghost use Rattle.room_wire.specs.Asks.Routing.{target_model};
+ghost use Rattle.room_wire.specs.Asks.Routing.{target_model, target_at, room_rows};
+ghost use Rattle.room_wire.specs.Messages.MessageModel.{MessageModel};
+ghost use Rattle.room_wire.specs.Messages.Taken.{Shows};
 
 use crate::asks::ask::Ask;
 use crate::asks::caller::caller_of;
@@ -88,6 +90,29 @@ fn check_ask(alloc: Global, body: &[u8]) -> Result<Ask, WireFault>
     }
 }
 
+/// What a message asks, by the parts that were lent of it.
+fn read_ask(
+    alloc: Global,
+    message: &Message<'_>,
+    routes: &Routes,
+    roster: &Roster,
+) -> Result<Ask, WireFault>
+    ensures { DecodesAsk (ask_for (target_at room_rows message.now.method.now message.now.target.now) roster.now
+        (map (header_bytes message.now.window.now) (take message.now.count message.now.spans)) message.now.body.now) result }
+{
+    let Some(target) = routes.target_at(message.method, message.target) else {
+        return Err(WireFault::BadRoute);
+    };
+    match target.action {
+        Action::Check => check_ask(alloc, message.body),
+        Action::Session(action) => {
+            let subject = caller_of(alloc, message, roster)?;
+            let event = read_event(alloc, action, subject, &target, message.body)?;
+            Ok(Ask::Event(event))
+        }
+    }
+}
+
 /// What a message asks of a room. The route and its method are tested first, then the user, then all else.
 ///
 /// # Errors
@@ -103,18 +128,7 @@ pub fn decode(
     routes: &Routes,
     roster: &Roster,
 ) -> Result<Ask, WireFault>
-    ensures { DecodesAsk (ask_of routes.now roster.now message.now.method.now message.now.target.now
-        (map (header_bytes message.now.window.now) (take message.now.count message.now.spans)) message.now.body.now) result }
+    ensures { (m : MessageModel) → Shows message.now m → DecodesAsk (ask_of roster.now m) result }
 {
-    let Some(target) = routes.target_at(message.method, message.target) else {
-        return Err(WireFault::BadRoute);
-    };
-    match target.action {
-        Action::Check => check_ask(alloc, message.body),
-        Action::Session(action) => {
-            let subject = caller_of(alloc, message, roster)?;
-            let event = read_event(alloc, action, subject, &target, message.body)?;
-            Ok(Ask::Event(event))
-        }
-    }
+    read_ask(alloc, message, routes, roster)
 }

@@ -43,20 +43,38 @@ pub(crate) struct Target<'t> {
     pub seq: &'t str,
 }
 
-/// The routes: `/v1/check`, and those of a room's sessions and slots.
+/// The routes of a room: `/v1/check`, and those of sessions and of requests in slots.
 #[derive(Drop)]
 pub struct Routes {
     router: Router<Route>,
 }
 
 impl Model for Routes {
-    ghost use Rattle.matchit.specs.Rows.{RowsOf};
-    ghost use Rattle.matchit.specs.Router.{RouteOf};
-    ghost use Rattle.room_wire.specs.declared.asks.routing.Route.{Route};
+    ghost use Rattle.std.specs.Prelude.{◌≡◌};
+    ghost use Rattle.room_wire.specs.Asks.Routing.{room_rows};
 
-    ghost Value = { RowsOf (RouteOf Route) };
+    ghost Value = { Unit {0} };
 
-    ghost view = { λ r. r.router };
+    ghost view = { λ r. tt };
+
+    ghost invariant = { λ r. r.router ≡ room_rows };
+}
+
+/// The route of questions alone: `/v1/check`.
+#[derive(Drop)]
+pub struct CheckRoute {
+    router: Router<Route>,
+}
+
+impl Model for CheckRoute {
+    ghost use Rattle.std.specs.Prelude.{◌≡◌};
+    ghost use Rattle.room_wire.specs.Asks.Routing.{check_rows};
+
+    ghost Value = { Unit {0} };
+
+    ghost view = { λ r. tt };
+
+    ghost invariant = { λ r. r.router ≡ check_rows };
 }
 
 fn check_router(alloc: Global) -> Result<Router<Route>, InsertError>
@@ -77,14 +95,13 @@ fn room_router(alloc: Global) -> Result<Router<Route>, InsertError>
 }
 
 impl Routes {
-    /// The routes of a room: questions, sessions, and requests in slots.
+    /// Makes the routes.
     ///
     /// # Errors
     ///
     /// `Memory` where memory was refused, and no other.
     pub fn new(alloc: Global) -> Result<Routes, WireFault>
-        ensures ok { IfOk result (λ routes. routes ≡ room_rows) }
-        ensures err { OnErr result (result ≡ Err WireFault.Memory) }
+        ensures { OnErr result (result ≡ Err WireFault.Memory) }
     {
         match room_router(alloc) {
             Ok(router) => Ok(Routes { router }),
@@ -92,33 +109,48 @@ impl Routes {
         }
     }
 
-    /// The route of questions alone.
+    /// What a method and a target ask of a room.
+    pub(crate) fn target_at<'t>(&self, method: &[u8], target: &'t str) -> Option<Target<'t>>
+        ensures { option_map target_model result ≡ target_at room_rows method.now target.now }
+    {
+        target_in(&self.router, method, target)
+    }
+}
+
+impl CheckRoute {
+    /// Makes the route.
     ///
     /// # Errors
     ///
     /// `Memory` where memory was refused, and no other.
-    pub fn check_only(alloc: Global) -> Result<Routes, WireFault>
-        ensures ok { IfOk result (λ routes. routes ≡ check_rows) }
-        ensures err { OnErr result (result ≡ Err WireFault.Memory) }
+    pub fn new(alloc: Global) -> Result<CheckRoute, WireFault>
+        ensures { OnErr result (result ≡ Err WireFault.Memory) }
     {
         match check_router(alloc) {
-            Ok(router) => Ok(Routes { router }),
+            Ok(router) => Ok(CheckRoute { router }),
             Err(_) => Err(WireFault::Memory),
         }
     }
 
-    /// What a method and a target ask: `None` where the target holds one of `?`, `#` and `%` or is no
-    /// route, and where the method is none of its route.
+    /// What a method and a target ask where questions alone have a route.
     pub(crate) fn target_at<'t>(&self, method: &[u8], target: &'t str) -> Option<Target<'t>>
-        ensures { option_map target_model result ≡ target_at self.now method.now target.now }
+        ensures { option_map target_model result ≡ target_at check_rows method.now target.now }
     {
-        if has_mark(target.as_bytes()) {
-            return None;
-        }
-        match self.router.at(target) {
-            Ok(found) => Some(target_of(action_of(method, *found.value)?, &found.params, target)),
-            Err(_) => None,
-        }
+        target_in(&self.router, method, target)
+    }
+}
+
+/// What a method and a target ask of a router: `None` where the target holds one of `?`, `#` and `%` or is
+/// no route, and where the method is none of its route.
+fn target_in<'t>(router: &Router<Route>, method: &[u8], target: &'t str) -> Option<Target<'t>>
+    ensures { option_map target_model result ≡ target_at router.now method.now target.now }
+{
+    if has_mark(target.as_bytes()) {
+        return None;
+    }
+    match router.at(target) {
+        Ok(found) => Some(target_of(action_of(method, *found.value)?, &found.params, target)),
+        Err(_) => None,
     }
 }
 

@@ -2,15 +2,16 @@
 ghost use Rattle.std.specs.Prelude.{◌≡◌, Ok, []};
 ghost use Rattle.room_wire.specs.Answers.AnswerModel.{answer_model};
 ghost use Rattle.room_wire.specs.Asks.CheckAsk.{check_ask};
-ghost use Rattle.room_wire.specs.Serving.CheckService.{IsCheckAnswer, MayAnswerBy, fault_code, MayAnswerCheck};
+ghost use Rattle.room_wire.specs.Serving.CheckService.{IsCheckAnswer, MayAnswerCheck, fault_code};
+ghost use Rattle.room_wire.specs.Messages.MessageModel.{MessageModel};
+ghost use Rattle.room_wire.specs.Messages.Taken.{Shows};
 ghost use Rattle.room_wire.specs.Questions.QuestionModel.{question_model};
 ghost use Rattle.room_wire.specs.Serving.Ends.{Serves};
-ghost use Rattle.room_wire.specs.Asks.Routing.{check_rows};
 
 use crate::answers::answer::Answer;
 use crate::answers::code::Code;
 use crate::asks::checking::decode_check;
-use crate::asks::routing::Routes;
+use crate::asks::routing::CheckRoute;
 use crate::fault::WireFault;
 use crate::messages::message::Message;
 use crate::questions::answering::check_answer;
@@ -46,11 +47,10 @@ pub fn answer_question(alloc: Global, question: &Question) -> Answer
 }
 
 /// The answer to a message that should ask a question.
-pub(crate) fn answer_check(alloc: Global, routes: &Routes, message: &Message<'_>) -> Answer
-    ensures { IsCheckAnswer (check_ask routes.now message.now.method.now message.now.target.now message.now.body.now)
-        (answer_model result) }
+pub(crate) fn answer_check(alloc: Global, route: &CheckRoute, message: &Message<'_>) -> Answer
+    ensures { (m : MessageModel) → Shows message.now m → IsCheckAnswer (check_ask m) (answer_model result) }
 {
-    match decode_check(alloc, message, routes) {
+    match decode_check(alloc, message, route) {
         Ok(question) => answer_question(alloc, &question),
         Err(fault) => Answer::Refused(fault_code(fault)),
     }
@@ -68,11 +68,11 @@ impl Model for Checks {
     ghost view = { λ checks. tt };
 }
 
-impl Service<Routes> for Checks {
-    ghost may_answer = { MayAnswerBy };
+impl Service<CheckRoute> for Checks {
+    ghost may_answer = { λ route. MayAnswerCheck };
 
-    fn answer(&mut self, routes: &Routes, message: &Message<'_>) -> Answer {
-        answer_check(self.alloc, routes, message)
+    fn answer(&mut self, route: &CheckRoute, message: &Message<'_>) -> Answer {
+        answer_check(self.alloc, route, message)
     }
 }
 
@@ -83,28 +83,12 @@ pub fn serve_checks<R: Read, W: Write>(alloc: Global, reader: &mut R, writer: &m
     ensures { Serves MayAnswerCheck tt tt (R.remaining reader.old) (R.remaining reader.new)
         (W.contents writer.old) (W.contents writer.new) result.why result.count }
 {
-    let (Ok(routes), Ok(buffers)) = (Routes::check_only(alloc), Buffers::new(alloc)) else {
+    let (Ok(route), Ok(buffers)) = (CheckRoute::new(alloc), Buffers::new(alloc)) else {
         return ServeEnd {
             why: Why::Memory,
             count: 0,
         };
     };
-    serve_questions(alloc, &routes, buffers, reader, writer)
-}
-
-/// Answers questions by the routes that are made.
-fn serve_questions<R: Read, W: Write>(
-    alloc: Global,
-    routes: &Routes,
-    buffers: Buffers,
-    reader: &mut R,
-    writer: &mut W,
-) -> ServeEnd
-    requires rows { routes.now ≡ check_rows }
-    requires empty { buffers.input ≡ [] }
-    ensures { Serves MayAnswerCheck tt tt (R.remaining reader.old) (R.remaining reader.new)
-        (W.contents writer.old) (W.contents writer.new) result.why result.count }
-{
     let mut checks = Checks { alloc };
-    serve_messages(&mut checks, routes, buffers, reader, writer)
+    serve_messages(&mut checks, &route, buffers, reader, writer)
 }
