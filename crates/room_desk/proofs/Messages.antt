@@ -5,25 +5,25 @@ use Rattle.matchit.specs.Rows.{RowsOf}
 use Rattle.room_acl.specs.SubjectModel.{SubjectModel}
 use Rattle.room_records.specs.Records.{Records}
 use Rattle.room_records.specs.Room.{Room}
-use Rattle.room_wire.specs.declared.code.Code.TheVariants.{Delay}
+use Rattle.room_wire.specs.declared.answers.code.Code.TheVariants.{Delay}
 use Rattle.room_wire.specs.declared.fault.WireFault.{WireFault}
 use Rattle.room_wire.specs.declared.fault.WireFault.TheVariants.{BadRoute, UnknownUser, BadRequest, Memory}
-use Rattle.room_wire.specs.declared.message.Message.{Message}
+use Rattle.room_wire.specs.declared.messages.message.Message.{Message}
 use Rattle.httparse.specs.Spans.{header_bytes}
-use Rattle.room_wire.specs.Taken.{Shows}
-use Rattle.room_wire.specs.declared.routing.Route.{Route}
-use Rattle.room_wire.specs.declared.stop.Why.{Why}
-use Rattle.room_wire.specs.declared.stop.Why.TheVariants as W
+use Rattle.room_wire.specs.Messages.Taken.{Shows}
+use Rattle.room_wire.specs.declared.asks.routing.Route.{Route}
+use Rattle.room_wire.specs.declared.serving.stop.Why.{Why}
+use Rattle.room_wire.specs.declared.serving.stop.Why.TheVariants as W
 use Rattle.std.proofs.KnownBytes.{Appends-nil, Consumes-nil}
 use Rattle.std.proofs.lemmas.List.{append_assoc}
-use Rattle.room_wire.specs.AskOf.{AskModel, Check, Event, ask_of, DecodesAsk}
-use Rattle.room_wire.specs.EventModel.{EventModel}
-use Rattle.room_wire.specs.CheckService.{fault_code, IsCheckAnswer}
-use Rattle.room_wire.specs.Ends.{Serves}
-use Rattle.room_wire.specs.Messages.{MessageModel}
-use Rattle.room_wire.specs.Questions.{QuestionModel}
-use Rattle.room_wire.specs.Routing.{room_rows}
-use Rattle.room_wire.specs.Serving.{Outputs}
+use Rattle.room_wire.specs.Asks.AskOf.{AskModel, Check, Event, ask_of, DecodesAsk}
+use Rattle.room_wire.specs.Asks.EventModel.{EventModel}
+use Rattle.room_wire.specs.Serving.CheckService.{fault_code, IsCheckAnswer}
+use Rattle.room_wire.specs.Serving.Ends.{Serves}
+use Rattle.room_wire.specs.Messages.MessageModel.{MessageModel}
+use Rattle.room_wire.specs.Questions.QuestionModel.{QuestionModel}
+use Rattle.room_wire.specs.Asks.Routing.{room_rows}
+use Rattle.room_wire.specs.Serving.Outputs.{Outputs}
 use Rattle.room_desk.specs.AnswerModel.{AnswerModel, Refused}
 use Rattle.room_desk.specs.History.{History}
 use Rattle.room_desk.specs.Representation.{StandsFor}

@@ -5,16 +5,16 @@ use Rattle.matchit.specs.Rows.{RowsOf}
 use Rattle.room_acl.specs.SubjectModel.{SubjectModel}
 use Rattle.room_records.specs.Records.{Records}
 use Rattle.room_records.specs.Room.{Room}
-use Rattle.room_wire.specs.declared.code.Code.TheVariants.{Delay}
+use Rattle.room_wire.specs.declared.answers.code.Code.TheVariants.{Delay}
 use Rattle.room_wire.specs.declared.fault.WireFault.{WireFault}
-use Rattle.room_wire.specs.declared.routing.Route.{Route}
-use Rattle.room_wire.specs.EventModel.{EventModel}
-use Rattle.room_wire.specs.AskOf.{AskModel, Check, Event, ask_of}
-use Rattle.room_wire.specs.CheckAnswers.{answer_text}
-use Rattle.room_wire.specs.CheckService.{fault_code}
-use Rattle.room_wire.specs.Messages.{MessageModel, fields_of}
-use Rattle.room_wire.specs.Routing.{room_rows}
-use Rattle.room_wire.specs.Serving.{Outputs}
+use Rattle.room_wire.specs.declared.asks.routing.Route.{Route}
+use Rattle.room_wire.specs.Asks.EventModel.{EventModel}
+use Rattle.room_wire.specs.Asks.AskOf.{AskModel, Check, Event, ask_of}
+use Rattle.room_wire.specs.Questions.CheckAnswers.{answer_text}
+use Rattle.room_wire.specs.Serving.CheckService.{fault_code}
+use Rattle.room_wire.specs.Messages.MessageModel.{MessageModel, fields_of}
+use Rattle.room_wire.specs.Asks.Routing.{room_rows}
+use Rattle.room_wire.specs.Serving.Outputs.{Outputs}
 use Rattle.room_desk.specs.AnswerModel.{AnswerModel, Reply, Refused, IsTurnedAway}
 use Rattle.room_desk.specs.History.{History, answer_to, changes_rows}
 use Rattle.room_desk.specs.Representation.{RepresentsHistory, StandsFor}

@@ -1,10 +1,10 @@
 //! What answers the messages of a stream to a room.
 ghost use Rattle.std.specs.Prelude.{◌≡◌, map, take, Ok};
 ghost use Rattle.httparse.specs.Spans.{header_bytes};
-ghost use Rattle.room_wire.specs.AskOf.{ask_of};
-ghost use Rattle.room_wire.specs.AskOf as A;
-ghost use Rattle.room_wire.specs.EventModel.{event_model};
-ghost use Rattle.room_wire.specs.Questions.{question_model};
+ghost use Rattle.room_wire.specs.Asks.AskOf.{ask_of};
+ghost use Rattle.room_wire.specs.Asks.AskOf as A;
+ghost use Rattle.room_wire.specs.Asks.EventModel.{event_model};
+ghost use Rattle.room_wire.specs.Questions.QuestionModel.{question_model};
 ghost use Rattle.room_desk.specs.AnswerModel.{answer_model};
 ghost use Rattle.room_desk.specs.Serving.{Answered, MayAnswer};
 

@@ -1,8 +1,8 @@
 //! Serving a room over a reader and a writer.
 ghost use Rattle.std.specs.Prelude.{◌≡◌, ◌≤◌, []};
 ghost use Rattle.room_records.specs.Room.{Room};
-ghost use Rattle.room_wire.specs.Ends.{Serves};
-ghost use Rattle.room_wire.specs.Routing.{room_rows};
+ghost use Rattle.room_wire.specs.Serving.Ends.{Serves};
+ghost use Rattle.room_wire.specs.Asks.Routing.{room_rows};
 ghost use Rattle.room_desk.specs.History.{History};
 ghost use Rattle.room_desk.specs.Representation.{StandsFor};
 ghost use Rattle.room_desk.specs.Serving.{AnswersMessage, MayAnswer};

@@ -1,6 +1,6 @@
 use Rattle.std.proofs.Common.{sym, subst, ◌∷◌, refl, inl, inr}
 use Rattle.room_records.specs.Records.{Records}
-use Rattle.room_wire.specs.EventModel.{event_model}
+use Rattle.room_wire.specs.Asks.EventModel.{event_model}
 use Rattle.room_desk.specs.Representation.{RepresentsHistory}
 use Rattle.room_desk.proofs.Allowed.{had_rights}
 use Rattle.room_desk.proofs.desk.Desk.handle.Goals as goal

@@ -1,7 +1,7 @@
 use Rattle.std.proofs.Common.{sym, subst, map, take}
 use Rattle.httparse.specs.Spans.{header_bytes}
-use Rattle.room_wire.specs.declared.code.Code.{Code}
-use Rattle.room_wire.specs.AskOf.{ask_of}
+use Rattle.room_wire.specs.declared.answers.code.Code.{Code}
+use Rattle.room_wire.specs.Asks.AskOf.{ask_of}
 use Rattle.room_desk.specs.AnswerModel.{Refused}
 use Rattle.room_desk.specs.Serving.{Answered}
 use Rattle.room_desk.proofs.Messages.{refusal_stays}
