@@ -9,7 +9,7 @@ pub const MAX_NAME_BYTES: usize = 64;
 /// Children of a folder.
 pub const MAX_CHILDREN: u64 = 256;
 
-/// Bytes in the document of a file.
+/// Bytes in a file.
 pub const MAX_DOCUMENT: u64 = 65536;
 
 /// Slots of a session.
