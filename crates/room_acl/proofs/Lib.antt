@@ -4,5 +4,6 @@ pub mod FirstEntry
 pub mod Lowest
 pub mod Decisions
 pub mod Travelling
+pub mod Marks
 mod Names
 mod Rows

@@ -1,5 +1,5 @@
 -- The rights of a mask, the flags of an entry, and the flags of a list.
-use Rattle.std.specs.Prelude.{◌≡◌, ◌<◌, ℕ, ◌+◌, ◌^◌, Bool, cond, List, [], ◌∷◌, ◌==◌, bit_and, bit_or}
+use Rattle.std.specs.Prelude.{◌≡◌, ◌<◌, ℕ, ◌+◌, ◌-◌, ◌^◌, Bool, not, ◌&&◌, cond, List, [], ◌∷◌, ◌==◌, bit_and, bit_or}
 use Rattle.std.specs.Int.{bit_at}
 
 -- the sixteen rights, as masks (RFC 8881, section 6.2.1.3). Three have one name for a file and one for a folder
@@ -66,6 +66,10 @@ all_rights =
     read_data + write_data + append_data + read_named_attrs + write_named_attrs + execute + delete_child + read_attributes
     + write_attributes + write_retention + write_retention_hold + delete_object + read_acl + write_acl + write_owner + synchronize
 
+-- those of a reader who changes nothing, 0x1200A9: a file's bytes, a folder's names, what is below it, attributes and the list
+abbrev pub reading_rights : ℕ
+reading_rights = read_data + read_named_attrs + execute + read_attributes + read_acl + synchronize
+
 -- the same rights, as places of bits, the lowest first
 abbrev pub named_bits : List ℕ
 named_bits = 0 ∷ 1 ∷ 2 ∷ 3 ∷ 4 ∷ 5 ∷ 6 ∷ 7 ∷ 8 ∷ 9 ∷ 10 ∷ 16 ∷ 17 ∷ 18 ∷ 19 ∷ 20 ∷ []
@@ -94,6 +98,10 @@ identifier_group_flag = 0x40
 abbrev pub inherited_flag : ℕ
 inherited_flag = 0x80
 
+-- an entry that files and folders get, at every depth, 0x03
+abbrev pub inherit_flags : ℕ
+inherit_flags = file_inherit_flag + directory_inherit_flag
+
 -- the four flags that say what is handed down, 0x0F
 abbrev pub inheritance_flags : ℕ
 inheritance_flags = file_inherit_flag + directory_inherit_flag + no_propagate_flag + inherit_only_flag
@@ -107,6 +115,9 @@ abbrev pub IsFlags : ℕ → Type 0
 IsFlags bits = bit_and bits all_flags ≡ bits
 
 -- the flags of a whole list (RFC 8881, section 6.4.3.2)
+abbrev pub no_list_flags : ℕ
+no_list_flags = 0
+
 abbrev pub auto_inherit_flag : ℕ
 auto_inherit_flag = 1
 
@@ -116,7 +127,7 @@ protected_flag = 2
 abbrev pub defaulted_flag : ℕ
 defaulted_flag = 4
 
--- a list has any set of them
+-- a list has any set of them, 0 to 7
 abbrev pub IsListFlags : ℕ → Type 0
 IsListFlags bits = bits < 8
 
@@ -142,6 +153,14 @@ identifier_group flags = has_bit flags 6
 
 abbrev pub is_inherited : ℕ → Bool
 is_inherited flags = has_bit flags 7
+
+-- the same flags without the mark
+abbrev pub without_inherited : ℕ → ℕ
+without_inherited flags = flags - bit_and flags inherited_flag
+
+-- whether an object with these list flags follows its folder: AUTO_INHERIT set and PROTECTED clear, whatever its folder's flags are (our own rule)
+abbrev pub follows : ℕ → Bool
+follows aclflag = has_bit aclflag 0 && not (has_bit aclflag 1)
 
 -- the rights that pass a test, as a mask
 abbrev pub mask_of_places : (ℕ → Bool) → List ℕ → ℕ

@@ -1,12 +1,12 @@
 -- What a folder's list hands down, and which entries an object may have of its own. All of it is our own rule.
-use Rattle.std.specs.Prelude.{◌≡◌, ℕ, ◌+◌, Bool, true, false, not, ◌||◌, List, length, nat_lt, Option, None, Some, bit_and, bit_or, ◌==◌, if◌then◌else◌, IsTrue}
+use Rattle.std.specs.Prelude.{◌≡◌, ℕ, ◌+◌, Bool, true, false, not, ◌||◌, List, [], ◌++◌, length, nat_lt, Option, None, Some, bit_and, bit_or, ◌==◌, if◌then◌else◌, IsTrue}
 use Rattle.std.specs.List.{filter, filter_map, list_all, AllByRecursion}
 use Rattle.std.specs.Option.{option_map}
 use Rattle.room_acl.specs.declared.subject.Kind.{Kind}
 use Rattle.room_acl.specs.declared.subject.Kind.TheVariants.{File, Folder}
 use Rattle.room_acl.specs.declared.inheritance.ListFault.{ListFault}
 use Rattle.room_acl.specs.declared.inheritance.ListFault.TheVariants.{Inval, AttrNotSupp}
-use Rattle.room_acl.specs.Bits.{file_inherit_flag, directory_inherit_flag, inherit_only_flag, identifier_group_flag, inherited_flag, inheritance_flags, file_inherit, directory_inherit, no_propagate, inherit_only, is_inherited}
+use Rattle.room_acl.specs.Bits.{file_inherit_flag, directory_inherit_flag, inherit_only_flag, identifier_group_flag, inherited_flag, inheritance_flags, file_inherit, directory_inherit, no_propagate, inherit_only, is_inherited, follows}
 use Rattle.room_acl.specs.Entries.{EntryModel, IsEntry}
 
 -- the flags that an entry given may have: the mark, and what it hands on in its turn
@@ -66,6 +66,10 @@ entry_handed_down kind entry = option_map (λ flags. record entry { flags = flag
 -- what a list hands down to a child, in its order
 abbrev pub handed_down : List EntryModel → Kind → List EntryModel
 handed_down entries kind = filter_map (entry_handed_down kind) entries
+
+-- a list with these own entries: they stand first, and then, where the object follows, what the list of its folder hands down
+abbrev pub with_inherited : List EntryModel → ℕ → Kind → List EntryModel → List EntryModel
+with_inherited own aclflag kind above = own ++ (if follows aclflag then handed_down above kind else [])
 
 -- the entries that are meant to travel further than to the children
 abbrev pub travelling : List EntryModel → List EntryModel

@@ -6,7 +6,7 @@ ghost use Rattle.room_acl.specs.Bits.{all_rights, has_bit, named_bits};
 ghost use Rattle.room_acl.specs.Access.{decision, decision_by, allowed_mask, matches, applies, entries_allow, AllowsBit, AllowsMask, IsLowestRefused};
 
 use crate::entry::Entry;
-use crate::mask::Mask;
+use crate::mask::{ALL_RIGHTS, Mask};
 use crate::principal::Principal;
 use crate::subject::{Standing, Subject};
 use crate::who::Who;
@@ -54,9 +54,6 @@ fn refused_bits(entries: &[Entry], subject: &Subject, standing: &Standing, wante
     }
     denied | left
 }
-
-/// All rights, as a mask.
-const ALL_RIGHTS: u32 = 0x001F_07FF;
 
 /// The places of the rights, the lowest first.
 const PLACES: [u32; 16] = [0, 1, 2, 3, 4, 5, 6, 7, 8, 9, 10, 16, 17, 18, 19, 20];

@@ -1,7 +1,7 @@
 //! Entries of an access list.
 ghost use Rattle.std.specs.Prelude.{◌≡◌, IsSome, IfSome, IfOk, ◌↔◌, IsTrue};
 ghost use Rattle.room_acl.specs.Bits.{identifier_group};
-ghost use Rattle.room_acl.specs.Entries.{names_its_kind, IsEntry};
+ghost use Rattle.room_acl.specs.Entries.{names_its_kind, clear_inherited, IsEntry};
 
 use crate::flags::Flags;
 use crate::mask::Mask;
@@ -56,6 +56,13 @@ impl Entry {
         ensures { IfOk result (λ copy. copy ≡ self.now) }
     {
         self.with_flags(self.flags)
+    }
+
+    /// The same entry without INHERITED. AllocError where memory is refused, and nothing has changed then.
+    pub fn without_inherited(&self) -> Result<Entry, AllocError>
+        ensures { IfOk result (λ own. own ≡ clear_inherited self.now) }
+    {
+        self.with_flags(self.flags.without_inherited())
     }
 
     /// The entry with other flags, and IDENTIFIER_GROUP as it is.

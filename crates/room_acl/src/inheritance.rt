@@ -3,10 +3,14 @@ ghost use Rattle.std.specs.Prelude.{◌≡◌, IfOk, IfSome, IsOk, ◌↔◌, �
 ghost use Rattle.std.specs.List.{list_all};
 ghost use Rattle.std.specs.Result.{result_err};
 ghost use Rattle.room_acl.specs.Bits.{identifier_group};
-ghost use Rattle.room_acl.specs.Inheritance.{handed_down, own_entries_fault, may_be_own, flags_handed_down, flags_with_group, row_of, max_own_entries, HandsDownTwice, HandsDownMarked, HandsDownEntries, HandsDownToOwn};
+ghost use Rattle.room_acl.specs.Inheritance.{handed_down, with_inherited, own_entries_fault, may_be_own, flags_handed_down, flags_with_group, row_of, max_own_entries, HandsDownTwice, HandsDownMarked, HandsDownEntries, HandsDownToOwn};
 
 use crate::entry::Entry;
-use crate::flags::Flags;
+use crate::flags::{
+    DIRECTORY_INHERIT, FILE_INHERIT, Flags, IDENTIFIER_GROUP, INHERIT_ONLY, INHERITANCE_FLAGS,
+    INHERITED,
+};
+use crate::list_flags::ListFlags;
 use crate::subject::Kind;
 use std::alloc::{AllocError, Global};
 
@@ -22,11 +26,17 @@ pub enum ListFault {
 /// The own entries that an object may have.
 const MAX_OWN_ENTRIES: usize = 32;
 
-/// FILE_INHERIT, DIRECTORY_INHERIT, NO_PROPAGATE_INHERIT and INHERIT_ONLY.
-const INHERITANCE_FLAGS: u8 = 0x0F;
+/// The flags of an entry given that is not handed on.
+const MARK_ALONE: u8 = INHERITED;
 
-/// IDENTIFIER_GROUP.
-const IDENTIFIER_GROUP: u8 = 0x40;
+/// The same that is handed on to folders.
+const MARK_FOR_FOLDERS: u8 = INHERITED | DIRECTORY_INHERIT;
+
+/// The same that is handed on to files and folders.
+const MARK_FOR_BOTH: u8 = INHERITED | DIRECTORY_INHERIT | FILE_INHERIT;
+
+/// The same that is handed on to files: on the folder that gets it it does not count.
+const MARK_FOR_FILES: u8 = INHERITED | INHERIT_ONLY | FILE_INHERIT;
 
 /// What a folder's list hands down to a child of this kind, in the order of the list.
 ///
@@ -42,6 +52,25 @@ pub fn hand_down(alloc: Global, entries: &[Entry], kind: Kind) -> Result<Vec<Ent
         }
     }
     Ok(given)
+}
+
+/// The list of an object: its own entries, and then, where it follows, what the list of its folder hands
+/// down. AllocError where memory is refused; the own entries are gone then.
+pub fn with_inherited(
+    alloc: Global,
+    own: Vec<Entry>,
+    aclflag: ListFlags,
+    kind: Kind,
+    above: &[Entry],
+) -> Result<Vec<Entry>, AllocError>
+    ensures { IfOk result (λ list. list.items ≡ with_inherited own.items aclflag kind above.now) }
+{
+    let mut list = own;
+    if aclflag.follows() {
+        let mut given = hand_down(alloc, above, kind)?;
+        list.append(&mut given)?;
+    }
+    Ok(list)
 }
 
 /// The flags of what an entry with these flags gives to a child of this kind.
@@ -76,12 +105,12 @@ fn table_row(flags: Flags) -> (Option<u8>, Option<u8>)
     ) {
         (false, false, false) => (None, None),
         (false, false, true) => (None, None),
-        (false, true, false) => (None, Some(0x82)),
-        (false, true, true) => (None, Some(0x80)),
-        (true, false, false) => (Some(0x80), Some(0x89)),
-        (true, false, true) => (Some(0x80), None),
-        (true, true, false) => (Some(0x80), Some(0x83)),
-        (true, true, true) => (Some(0x80), Some(0x80)),
+        (false, true, false) => (None, Some(MARK_FOR_FOLDERS)),
+        (false, true, true) => (None, Some(MARK_ALONE)),
+        (true, false, false) => (Some(MARK_ALONE), Some(MARK_FOR_FILES)),
+        (true, false, true) => (Some(MARK_ALONE), None),
+        (true, true, false) => (Some(MARK_ALONE), Some(MARK_FOR_BOTH)),
+        (true, true, true) => (Some(MARK_ALONE), Some(MARK_ALONE)),
     }
 }
 

@@ -1,6 +1,6 @@
 //! Flags of a whole list.
 ghost use Rattle.std.specs.Prelude.{◌≡◌, ℕ, ◌↔◌, IsSome, IfSome};
-ghost use Rattle.room_acl.specs.Bits.{IsListFlags};
+ghost use Rattle.room_acl.specs.Bits.{IsListFlags, follows};
 
 use std::marker::Model;
 
@@ -21,17 +21,40 @@ impl Model for ListFlags {
     ghost inverse = { λ n. record { bits = n } };
 }
 
+/// AUTO_INHERIT: the object follows its folder, where PROTECTED is clear.
+const AUTO_INHERIT: u8 = 1;
+
+/// PROTECTED: the object does not follow its folder.
+const PROTECTED: u8 = 2;
+
+/// DEFAULTED: kept and handed back, and it changes nothing here.
+const DEFAULTED: u8 = 4;
+
 impl ListFlags {
+    /// No flag.
+    pub const NONE: ListFlags = ListFlags { bits: 0 };
+    /// AUTO_INHERIT alone.
+    pub const AUTO_INHERIT: ListFlags = ListFlags { bits: AUTO_INHERIT };
+
     /// The list flags of these bits: None above 7.
     pub fn new(bits: u8) -> Option<ListFlags>
         ensures named { IsSome result ↔ IsListFlags bits }
         ensures value { IfSome result (λ flags. flags ≡ bits) }
     {
-        if bits < 8 {
+        if bits <= AUTO_INHERIT | PROTECTED | DEFAULTED {
             Some(ListFlags { bits })
         } else {
             None
         }
+    }
+
+    /// Whether an object with these list flags follows its folder: AUTO_INHERIT is set and PROTECTED clear.
+    #[tactic(auto, using(std::proofs::lemmas::Nat::Bits::shr_and_one))]
+    pub fn follows(self) -> bool
+        ensures { result ≡ follows self }
+    {
+        let bits = self.bits;
+        bits & 1 == 1 && (bits >> 1) & 1 == 0
     }
 
     /// The bits of the list flags.

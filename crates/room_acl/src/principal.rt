@@ -1,10 +1,13 @@
 //! Names of users and groups.
 ghost use Rattle.std.specs.Prelude.{◌≡◌, ℕ, List, IfOk, IsSome, IfSome, ◌↔◌, string_bytes};
 ghost use Rattle.std.specs.List.{list_all};
-ghost use Rattle.room_acl.specs.Principals.{IsPrincipal, is_principal_byte};
+ghost use Rattle.room_acl.specs.Principals.{IsPrincipal, is_principal_byte, principal_from};
 
 use std::alloc::{AllocError, Global};
 use std::marker::Model;
+
+/// Bytes in a name.
+const MAX_BYTES: usize = 32;
 
 /// A name of a user or of a group: 1 to 32 ASCII letters, digits, `.`, `_` or `-` (our own rule).
 #[derive(Debug, Drop)]
@@ -25,8 +28,9 @@ impl Principal {
     pub fn new(alloc: Global, text: &str) -> Result<Option<Principal>, AllocError>
         ensures lawful { IfOk result (λ made. IsSome made ↔ IsPrincipal text.now) }
         ensures value { IfOk result (λ made. IfSome made (λ name. name ≡ text.now)) }
+        ensures read { IfOk result (λ made. made ≡ principal_from text.now) }
     {
-        if text.len() < 1 || text.len() > 32 || !all_principal_bytes(text.as_bytes()) {
+        if text.len() < 1 || text.len() > MAX_BYTES || !all_principal_bytes(text.as_bytes()) {
             return Ok(None);
         }
         let text = String::from_str(alloc, text)?;

@@ -7,7 +7,7 @@ use Rattle.std.proofs.lemmas.Bool.{or_left, or_right}
 use Rattle.room_acl.specs.SubjectModel.{SubjectModel}
 use Rattle.room_acl.specs.Access.{refused_bit, decision_by}
 use Rattle.room_records.specs.Names.{Path}
-use Rattle.room_acl.specs.Bits.{execute, delete_object, delete_child}
+use Rattle.room_acl.specs.Bits.{read_data, list_directory, write_data, add_file, append_data, add_subdirectory, execute, delete_child, read_attributes, delete_object, read_acl, write_acl, write_owner}
 use Rattle.room_commands.specs.CommandModel.{CommandModel}
 use Rattle.room_commands.specs.CommandModel as C
 use Rattle.room_records.specs.Room.{Object, Room, object_at, list_of, standing_of, parent_of}
@@ -70,19 +70,19 @@ at_one room caller path on mask r w = both _ _ (right_none room caller on mask r
 -- success needs every right
 pub rights_of_success : (room : Room) (caller : SubjectModel) (command : CommandModel) → first_refusal (checks room caller command) ≡ None → NeedsAllowed room caller command
 rights_of_success room caller (C.Stat path) h =
-    let a = all_none (checks room caller (C.Stat path)) h in at_one room caller path path 0x80 a.1.1.0 a.0
+    let a = all_none (checks room caller (C.Stat path)) h in at_one room caller path path read_attributes a.1.1.0 a.0
 rights_of_success room caller (C.ListNames path) h =
-    let a = all_none (checks room caller (C.ListNames path)) h in at_one room caller path path 0x1 a.1.1.1.0 a.0
+    let a = all_none (checks room caller (C.ListNames path)) h in at_one room caller path path list_directory a.1.1.1.0 a.0
 rights_of_success room caller (C.Mkdir path) h =
-    let a = all_none (checks room caller (C.Mkdir path)) h in at_one room caller path (parent_of path) 0x4 a.1.1.1.0 a.1.0
+    let a = all_none (checks room caller (C.Mkdir path)) h in at_one room caller path (parent_of path) add_subdirectory a.1.1.1.0 a.1.0
 rights_of_success room caller (C.Create bytes path) h =
-    let a = all_none (checks room caller (C.Create bytes path)) h in at_one room caller path (parent_of path) 0x2 a.1.1.1.0 a.1.0
+    let a = all_none (checks room caller (C.Create bytes path)) h in at_one room caller path (parent_of path) add_file a.1.1.1.0 a.1.0
 rights_of_success room caller (C.Read path) h =
-    let a = all_none (checks room caller (C.Read path)) h in at_one room caller path path 0x1 a.1.1.1.0 a.0
+    let a = all_none (checks room caller (C.Read path)) h in at_one room caller path path read_data a.1.1.1.0 a.0
 rights_of_success room caller (C.Write bytes path) h =
-    let a = all_none (checks room caller (C.Write bytes path)) h in at_one room caller path path 0x2 a.1.1.1.0 a.0
+    let a = all_none (checks room caller (C.Write bytes path)) h in at_one room caller path path write_data a.1.1.1.0 a.0
 rights_of_success room caller (C.Append bytes path) h =
-    let a = all_none (checks room caller (C.Append bytes path)) h in at_one room caller path path 0x4 a.1.1.1.0 a.0
+    let a = all_none (checks room caller (C.Append bytes path)) h in at_one room caller path path append_data a.1.1.1.0 a.0
 rights_of_success room caller (C.Remove path) h =
     let a = all_none (checks room caller (C.Remove path)) h in
     both _ _ (removal_none room caller path a.1.1.1.0) (walk_none room caller path a.1.0)
@@ -91,10 +91,10 @@ rights_of_success room caller (C.Rename path to) h =
     both _ _ (removal_none room caller path a.1.1.1.1.1.0) (both _ _ (right_none room caller (parent_of to) (right_to_add room path) a.1.1.1.1.1.1.0)
     (list_all-append _ (on_the_way path) (on_the_way to) ∙ both _ _ (walk_none room caller path a.1.0) (walk_none room caller to a.1.1.1.0)))
 rights_of_success room caller (C.GetList path) h =
-    let a = all_none (checks room caller (C.GetList path)) h in at_one room caller path path 0x20000 a.1.1.0 a.0
+    let a = all_none (checks room caller (C.GetList path)) h in at_one room caller path path read_acl a.1.1.0 a.0
 rights_of_success room caller (C.SetList flags sent path) h =
-    let a = all_none (checks room caller (C.SetList flags sent path)) h in at_one room caller path path 0x40000 a.1.1.0 a.0
+    let a = all_none (checks room caller (C.SetList flags sent path)) h in at_one room caller path path write_acl a.1.1.0 a.0
 rights_of_success room caller (C.Chown group owner path) h =
-    let a = all_none (checks room caller (C.Chown group owner path)) h in at_one room caller path path 0x80000 a.1.1.0 a.0
+    let a = all_none (checks room caller (C.Chown group owner path)) h in at_one room caller path path write_owner a.1.1.0 a.0
 rights_of_success room caller (C.Access mask path) h =
     let a = all_none (checks room caller (C.Access mask path)) h in walk_none room caller path a.0

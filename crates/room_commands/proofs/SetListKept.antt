@@ -2,7 +2,7 @@
 use Rattle.std.proofs.Common.{◌≡◌, ℕ, ◌-◌, ◌*◌, ◌/◌, ◌%◌, refl, ap, ◌∙◌, arith, Bool, true, false, not, cond, ◌&&◌, inl, inr, List, [], ◌∷◌, map, filter, bit_and, ◌==◌}
 use Rattle.std.specs.List.{list_all}
 use Rattle.std.proofs.lemmas.Nat.Bits.{and_pow}
-use Rattle.room_acl.specs.Bits.{is_inherited}
+use Rattle.room_acl.specs.Bits.{inherited_flag, is_inherited, without_inherited}
 use Rattle.room_acl.specs.Entries.{EntryModel}
 use Rattle.room_acl.proofs.BitTests.{bit_cases}
 use Rattle.room_records.specs.Names.{Path}
@@ -11,14 +11,14 @@ use Rattle.room_commands.specs.SetList.{clear_inherited, follows_at, own_entries
 abbrev no_mark : EntryModel → Bool
 no_mark entry = not (is_inherited entry.flags)
 
-mark_cleared : (flags : ℕ) → is_inherited (flags - bit_and flags 0x80) ≡ false
+mark_cleared : (flags : ℕ) → is_inherited (without_inherited flags) ≡ false
 mark_cleared flags = elim (bit_cases flags 7) [
   | inl clear ↦
-      let none : bit_and flags 0x80 ≡ 0 = and_pow flags 7 ∙ ap (λ b. b * 128) clear in
-      let same : flags - bit_and flags 0x80 ≡ flags = omega (arith, none) in
+      let none : bit_and flags inherited_flag ≡ 0 = and_pow flags 7 ∙ ap (λ b. b * 128) clear in
+      let same : without_inherited flags ≡ flags = omega (arith, none) in
       ap is_inherited same ∙ ap (λ b. b == 1) clear
   | inr set ↦
-      let all : bit_and flags 0x80 ≡ 128 = and_pow flags 7 ∙ ap (λ b. b * 128) set in
+      let all : bit_and flags inherited_flag ≡ 128 = and_pow flags 7 ∙ ap (λ b. b * 128) set in
       let bit : (flags - 128) / 128 % 2 ≡ 0 = omega (arith, set) in
       ap (λ n. is_inherited (flags - n)) all ∙ ap (λ b. b == 1) bit
 ]

@@ -131,7 +131,7 @@ check_removal room caller path = removal_refusal path (check_right room caller p
 abbrev pub right_to_add : Room → Path → ℕ
 right_to_add room path = if is_kind Folder (object_at room path) then add_subdirectory else add_file
 
--- no object of the moved subtree would have more than 16 names
+-- no object of the moved subtree would have too many names
 abbrev pub check_depth : Room → Path → Path → Option Refusal
 check_depth room path to =
     refuse_if (list_any (λ (e : Path × Object). is_at_or_below e.0 path && nat_lt max_names (length to + (length e.0 - length path))) room.objects) TooDeep

@@ -3,6 +3,7 @@ use Rattle.std.specs.Prelude.{ℕ, ◌+◌, not, List, [], ◌∷◌, ◌++◌, 
 use Rattle.std.specs.List.{filter}
 use Rattle.room_acl.specs.declared.subject.Kind.{Kind}
 use Rattle.room_acl.specs.declared.subject.Kind.TheVariants.{File, Folder}
+use Rattle.room_acl.specs.Bits.{no_list_flags, auto_inherit_flag}
 use Rattle.room_acl.specs.SubjectModel.{SubjectModel}
 use Rattle.room_acl.specs.Access.{allowed_mask}
 use Rattle.room_records.specs.Names.{Path, path_eq}
@@ -19,7 +20,7 @@ pub record Effect : Type 0 where
 
 -- an object that is not there, where one is asked for
 abbrev pub no_object : Object
-no_object = record { kind = File; owner = []; group = []; aclflag = 0; own = []; bytes = [] }
+no_object = record { kind = File; owner = []; group = []; aclflag = no_list_flags; own = []; bytes = [] }
 
 abbrev pub or_no_object : Option Object → Object
 or_no_object None = no_object
@@ -34,7 +35,7 @@ new_object room caller path kind data_bytes = record {
   kind = kind;
   owner = caller.name;
   group = (object_or_default room (parent_of path)).group;
-  aclflag = 1;
+  aclflag = auto_inherit_flag;
   own = [];
   bytes = data_bytes;
 }

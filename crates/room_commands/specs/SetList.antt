@@ -1,14 +1,10 @@
 -- What a list that is sent becomes (our own rule, in place of the procedures of RFC 8881, section 6.4.3.2).
-use Rattle.std.specs.Prelude.{ℕ, ◌-◌, Bool, false, not, List, [], ◌∷◌, map, bit_and, if◌then◌else◌}
+use Rattle.std.specs.Prelude.{ℕ, Bool, false, not, List, [], ◌∷◌, map, if◌then◌else◌}
 use Rattle.std.specs.List.{filter}
-use Rattle.room_acl.specs.Bits.{is_inherited}
+use Rattle.room_acl.specs.Bits.{is_inherited, follows}
 use Rattle.room_acl.specs.Entries.{EntryModel}
+pub use Rattle.room_acl.specs.Entries.{clear_inherited}
 use Rattle.room_records.specs.Names.{Path}
-use Rattle.room_records.specs.Room.{follows}
-
--- the entry without the mark
-abbrev pub clear_inherited : EntryModel → EntryModel
-clear_inherited entry = record entry { flags = entry.flags - bit_and entry.flags 0x80 }
 
 -- whether an object at this path follows with these list flags. The root never does
 abbrev pub follows_at : Path → ℕ → Bool

@@ -38,7 +38,7 @@ pub fn a_success_had_every_right()
         (IsRefused (effect room caller command).reply → ⊥) → NeedsAllowed room caller command }
 {}
 
-/// Where a caller may both write and read a document, a READ right after the WRITE gives the bytes
+/// Where a caller may both write and read a file, a READ right after the WRITE gives the bytes
 /// written, and right after an APPEND what was there with the new bytes behind it.
 pub fn a_read_gives_what_was_written()
     ensures written { (room : Room) (caller : SubjectModel) (path : Path) (bytes : List ℕ) →

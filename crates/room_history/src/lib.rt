@@ -2,7 +2,7 @@
 //! which requests are accepted, what the room is and what an event is answered. It keeps no reply and no count. Tests
 //! take it for the oracle of the desk.
 //!
-//! A past is a slice of events, the latest first.
+//! A past is a slice of events, the latest first. What the desk has in code of its own is said again here on purpose.
 #![tactic(auto)]
 
 mod accepted;

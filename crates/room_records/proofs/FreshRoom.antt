@@ -1,4 +1,4 @@
--- The fresh_room room is a room, and two rows stand for it.
+-- The fresh room is a room, and two rows stand for it.
 use Rattle.std.proofs.Common.{◌≡◌, ℕ, refl, true, false, Bool, List, [], ◌∷◌, ◌++◌, None, Some, length, ap, sym, ◌∙◌, ◌≤◌, arith, subst}
 use Rattle.std.specs.Prelude.{cond, ◌==◌}
 use Rattle.std.proofs.lemmas.Bool.{eqb-true}
@@ -6,24 +6,23 @@ use Rattle.room_acl.specs.declared.subject.Kind.TheVariants.{Folder}
 use Rattle.room_acl.specs.declared.who.Who.TheVariants.{Owner, Group}
 use Rattle.room_acl.specs.Entries.{EntryModel}
 use Rattle.room_records.specs.declared.node.Node.{Node}
+use Rattle.room_records.specs.Fresh.{fresh_root}
+use Rattle.room_records.specs.Limits.{max_children}
 use Rattle.room_records.specs.Names.{Path, Name, path_eq}
 use Rattle.room_records.specs.Records.{ObjectRecords}
 use Rattle.room_records.specs.Rules.{ObjectRules}
-use Rattle.room_records.specs.Room.{Object, IsRoom, fresh_room, object_at, children}
+use Rattle.room_records.specs.Room.{Object, IsRoom, fresh_object, fresh_room, fresh_entries, object_at, children}
 use Rattle.room_records.specs.Representation.{RepresentsRoom, NodeIsObject}
 
 module _ (owner group : List ℕ) where
-  abbrev pub own : List EntryModel
-  own = record { allow = true; flags = 3; mask = 0x1F07FF; who = Owner } ∷ record { allow = true; flags = 3; mask = 0x1200A9; who = Group } ∷ []
-
   abbrev pub root_object : Object
-  root_object = record { kind = Folder; owner = owner; group = group; aclflag = 0; own = own; bytes = [] }
+  root_object = fresh_object owner group
 
   not_root : (path : Path) (name : Name) → path_eq (path ++ name ∷ []) [] ≡ false
   not_root [] name = refl
   not_root (a ∷ path) name = refl
 
-  few_there : (path : Path) → length (children (fresh_room owner group) path) ≤ 256
+  few_there : (path : Path) → length (children (fresh_room owner group) path) ≤ max_children
   few_there [] = omega arith
   few_there (a ∷ path) = omega arith
 
@@ -36,12 +35,12 @@ module _ (owner group : List ℕ) where
   }
 
   abbrev pub root_node : Node
-  root_node = record { id = 1; parent = None; name = None; kind = Folder; owner = owner; group = group; aclflag = 0 }
+  root_node = fresh_root owner group
 
   abbrev pub rows : ObjectRecords
   rows = record {
     node = λ id. cond (id == 1) (Some root_node) None;
-    entries = λ id. cond (id == 1) own [];
+    entries = λ id. cond (id == 1) fresh_entries [];
     document = λ id. None;
     next = 2;
   }
@@ -59,7 +58,7 @@ module _ (owner group : List ℕ) where
   no_entries : (id : ℕ) → rows.node id ≡ None → rows.entries id ≡ []
   no_entries id h = by (id == 1) h
     where
-      by : (b : Bool) → cond b (Some root_node) None ≡ None → cond b own [] ≡ []
+      by : (b : Bool) → cond b (Some root_node) None ≡ None → cond b fresh_entries [] ≡ []
       by true g = absurd cc
       by false g = refl
 

@@ -12,6 +12,7 @@ use Rattle.room_records.specs.declared.change.Change.{Change}
 use Rattle.room_records.specs.declared.change.Change.TheVariants.{PutNode, DropNode, PutEntries, PutDoc, PutSession, PutSlot, DropSlots, PutNext}
 use Rattle.room_records.specs.declared.session.SlotRow.{SlotRow}
 use Rattle.room_records.specs.declared.mem.MemShelf.{MemShelf}
+use Rattle.room_records.specs.Limits.{max_slots}
 use Rattle.room_records.specs.Records.{Records}
 use Rattle.room_records.specs.Rules.{RulesHold}
 use Rattle.room_records.specs.Changes.{apply_change, apply_changes, RulesHoldAfterEach}
@@ -40,8 +41,8 @@ read_put f new old key value h k = ap f (h k) ∙ ap (λ b. f (cond b value (old
     inside true = refl
     inside false = refl
 
--- a slot row that keeps the rules is below 16
-pub low_slot : (r : Records) (row : SlotRow) → HaveSlotCounts r.session → RulesHold (apply_change (PutSlot row) r) → row.slot < 16
+-- a slot row that keeps the rules is below the limit
+pub low_slot : (r : Records) (row : SlotRow) → HaveSlotCounts r.session → RulesHold (apply_change (PutSlot row) r) → row.slot < max_slots
 low_slot r row counted rules =
     let here : bytes_eq row.sid row.sid ≡ true = self_name in
     let there : (row.slot == row.slot) ≡ true = self_slot in

@@ -11,6 +11,7 @@ use Rattle.std.proofs.lemmas.Bool.{le-leb, lt-ltb}
 use Rattle.std.proofs.lemmas.Cmp.{nat_list_cmp_total}
 use Rattle.std.proofs.lemmas.Map.Text.{is_eq-slice_cmp}
 use Rattle.room_acl.specs.SubjectModel.{SubjectModel}
+use Rattle.room_records.specs.Limits.{max_users, max_groups}
 use Rattle.room_records.specs.Names.{Name, name_cmp}
 use Rattle.room_records.specs.Roster.{AreInNameOrder, IsRoster, user_named, may_join, with_user, AreBefore, StartsBehind, IsPlaceOf}
 
@@ -114,11 +115,11 @@ all_with P (other ∷ users) user all here = by (name_cmp user.name other.name) 
     by Equal more = all
     by Greater more = (all.0, more)
 
-pub roster_with : (users : List SubjectModel) (user : SubjectModel) → IsRoster users → length users < 1000 → length user.groups ≤ 16 → IsRoster (with_user users user)
+pub roster_with : (users : List SubjectModel) (user : SubjectModel) → IsRoster users → length users < max_users → length user.groups ≤ max_groups → IsRoster (with_user users user)
 roster_with users user roster few few_groups = record {
   in_order = order_with users user roster.in_order;
   few = omega (arith, length_with users user);
-  few_groups = all_with (λ (u : SubjectModel). length u.groups ≤ 16) users user roster.few_groups few_groups;
+  few_groups = all_with (λ (u : SubjectModel). length u.groups ≤ max_groups) users user roster.few_groups few_groups;
 }
 
 not_there : {X : Type 0} (o : Option X) → o ≡ None → not (is_some o) ≡ true
@@ -127,17 +128,17 @@ not_there o none = ap (λ p. not (is_some p)) none
 there : {X : Type 0} (o : Option X) (x : X) → o ≡ Some x → not (is_some o) ≡ false
 there o x some = ap (λ p. not (is_some p)) some
 
-pub joins : (users : List SubjectModel) (name : Name) (groups : List (List ℕ)) → length groups ≤ 16 → length users < 1000 → user_named users name ≡ None → true ≡ may_join users name groups
+pub joins : (users : List SubjectModel) (name : Name) (groups : List (List ℕ)) → length groups ≤ max_groups → length users < max_users → user_named users name ≡ None → true ≡ may_join users name groups
 joins users name groups few_groups few none =
-    let a : nat_le (length groups) 16 ≡ true = le-leb (length groups) 16 few_groups in
-    let b : nat_lt (length users) 1000 ≡ true = lt-ltb (length users) 1000 few in
+    let a : nat_le (length groups) max_groups ≡ true = le-leb (length groups) max_groups few_groups in
+    let b : nat_lt (length users) max_users ≡ true = lt-ltb (length users) max_users few in
     let n : not (is_some (user_named users name)) ≡ true = not_there (user_named users name) none in
     sym (λ i. a i && (b i && n i))
 
 pub joins_not : (users : List SubjectModel) (name : Name) (groups : List (List ℕ)) (user : SubjectModel) → user_named users name ≡ Some user → false ≡ may_join users name groups
 joins_not users name groups user some =
     let n : not (is_some (user_named users name)) ≡ false = there (user_named users name) user some in
-    sym (ap (λ b. nat_le (length groups) 16 && (nat_lt (length users) 1000 && b)) n ∙ all_false (nat_le (length groups) 16) (nat_lt (length users) 1000))
+    sym (ap (λ b. nat_le (length groups) max_groups && (nat_lt (length users) max_users && b)) n ∙ all_false (nat_le (length groups) max_groups) (nat_lt (length users) max_users))
   where
     all_false : (a b : Bool) → (a && (b && false)) ≡ false
     all_false true true = refl

@@ -14,6 +14,7 @@ use Rattle.std.proofs.lemmas.Map.Text.{is_eq-slice_cmp}
 use Rattle.room_slots.specs.KeptModel.{KeptModel}
 use Rattle.room_records.specs.declared.session.SessionRow.{SessionRow}
 use Rattle.room_records.specs.declared.mem.sessions.SessionCell.{SessionCell}
+use Rattle.room_records.specs.Limits.{max_slots}
 use Rattle.room_records.specs.Names.{Name, name_cmp}
 use Rattle.room_records.specs.Sessions.{slot_cmp, session_row, AreFewSlots, HaveSlotCounts}
 use Rattle.room_records.proofs.Keys.{Updated, updated, same_key}
@@ -86,10 +87,10 @@ module _ (new old : Name × ℕ → Option KeptModel) (name : Name) (at : ℕ) (
       by (inl e) (inr g) = other_slot sid slot g.0 ∙ sym (λ i. pick (e.1 i && g.1 i))
       by (inr e) g = other_name sid slot e.0 ∙ sym (ap (λ b. pick (b && (slot == at))) e.1)
 
-  pub still_few : AreFewSlots (λ sid slot. old (sid, slot)) → at < 16 → AreFewSlots (λ sid slot. new (sid, slot))
+  pub still_few : AreFewSlots (λ sid slot. old (sid, slot)) → at < max_slots → AreFewSlots (λ sid slot. new (sid, slot))
   still_few few low sid slot some = by (number_test slot at)
     where
-      by : ((slot ≡ at) × ((slot == at) ≡ true)) ⊎ ((slot ≡ at → ⊥) × ((slot == at) ≡ false)) → slot < 16
+      by : ((slot ≡ at) × ((slot == at) ≡ true)) ⊎ ((slot ≡ at → ⊥) × ((slot == at) ≡ false)) → slot < max_slots
       by (inl e) = omega (arith, e.0, low)
       by (inr e) = few sid slot (let P : Option KeptModel → Type 0 = λ o. IsSome o in subst P (other_slot sid slot e.0) some)
 
@@ -123,25 +124,25 @@ module _ (new old : Name × ℕ → Option KeptModel) (name : Name) (at : ℕ) (
       by (inl e) (inr g) = other_slot sid slot g.0 ∙ before sid slot ∙ ap (λ b. pick (bytes_eq sid name && b)) (same_test g.0)
       by (inr e) g = other_name sid slot e.0 ∙ before sid slot ∙ (λ i. pick (e.1 i && nat_lt slot at)) ∙ sym (λ i. pick (e.1 i && nat_lt slot (at + 1)))
 
--- without the first 16 slots of a session it has none
+-- without the slots below the limit a session has none
 pub none_left : (new old : Name × ℕ → Option KeptModel) (name : Name) → AreFewSlots (λ sid slot. old (sid, slot))
-    → ((sid : Name) (slot : ℕ) → new (sid, slot) ≡ cond (bytes_eq sid name && nat_lt slot 16) None (old (sid, slot)))
+    → ((sid : Name) (slot : ℕ) → new (sid, slot) ≡ cond (bytes_eq sid name && nat_lt slot max_slots) None (old (sid, slot)))
     → (sid : Name) (slot : ℕ) → new (sid, slot) ≡ cond (bytes_eq sid name) None (old (sid, slot))
-none_left new old name few h sid slot = h sid slot ∙ by (bytes_eq sid name) (nat_lt slot 16) refl (old (sid, slot)) refl
+none_left new old name few h sid slot = h sid slot ∙ by (bytes_eq sid name) (nat_lt slot max_slots) refl (old (sid, slot)) refl
   where
-    by : (a b : Bool) → nat_lt slot 16 ≡ b → (o : Option KeptModel) → old (sid, slot) ≡ o → cond (a && b) None o ≡ cond a None o
+    by : (a b : Bool) → nat_lt slot max_slots ≡ b → (o : Option KeptModel) → old (sid, slot) ≡ o → cond (a && b) None o ≡ cond a None o
     by false b is o at = refl
     by true true is o at = refl
     by true false is None at = refl
     by true false is (Some kept) at =
-        let low : slot < 16 = few sid slot (let P : Option KeptModel → Type 0 = λ p. IsSome p in subst P (sym at) refl) in
-        absurd (let e : true ≡ false = sym (lt-ltb slot 16 low) ∙ is in cc)
+        let low : slot < max_slots = few sid slot (let P : Option KeptModel → Type 0 = λ p. IsSome p in subst P (sym at) refl) in
+        absurd (let e : true ≡ false = sym (lt-ltb slot max_slots low) ∙ is in cc)
 
 pub few_left : (new old : Name × ℕ → Option KeptModel) (name : Name) → AreFewSlots (λ sid slot. old (sid, slot))
-    → ((sid : Name) (slot : ℕ) → new (sid, slot) ≡ cond (bytes_eq sid name && nat_lt slot 16) None (old (sid, slot))) → AreFewSlots (λ sid slot. new (sid, slot))
-few_left new old name few h sid slot some = by (bytes_eq sid name && nat_lt slot 16) (let P : Option KeptModel → Type 0 = λ o. IsSome o in subst P (h sid slot) some)
+    → ((sid : Name) (slot : ℕ) → new (sid, slot) ≡ cond (bytes_eq sid name && nat_lt slot max_slots) None (old (sid, slot))) → AreFewSlots (λ sid slot. new (sid, slot))
+few_left new old name few h sid slot some = by (bytes_eq sid name && nat_lt slot max_slots) (let P : Option KeptModel → Type 0 = λ o. IsSome o in subst P (h sid slot) some)
   where
-    by : (b : Bool) → IsSome (cond b None (old (sid, slot))) → slot < 16
+    by : (b : Bool) → IsSome (cond b None (old (sid, slot))) → slot < max_slots
     by true e = absurd (let f : false ≡ true = e in cc)
     by false e = few sid slot e
 
@@ -153,10 +154,10 @@ none_taken b slot o = by b (nat_lt slot 0) refl
     by true false is = refl
     by true true is = absurd (omega (arith, ltb-true slot 0 is))
 
-pub still_counted : (new old : Name → Option SessionRow) (row : SessionRow) → HaveSlotCounts old → row.slots ≤ 16
+pub still_counted : (new old : Name → Option SessionRow) (row : SessionRow) → HaveSlotCounts old → row.slots ≤ max_slots
     → ((sid : Name) → new sid ≡ cond (bytes_eq sid row.sid) (Some row) (old sid)) → HaveSlotCounts new
 still_counted new old row counted few h sid other is = by (bytes_eq sid row.sid) (sym (h sid) ∙ is)
   where
-    by : (b : Bool) → cond b (Some row) (old sid) ≡ Some other → other.slots ≤ 16
+    by : (b : Bool) → cond b (Some row) (old sid) ≡ Some other → other.slots ≤ max_slots
     by true e = let same : row ≡ other = cc in omega (arith, ap (λ (r : SessionRow). r.slots) same, few)
     by false e = counted sid other e

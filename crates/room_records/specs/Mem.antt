@@ -7,6 +7,7 @@ use Rattle.room_records.specs.declared.node.Node.{Node}
 use Rattle.room_records.specs.declared.change.Change.{Change}
 use Rattle.room_records.specs.declared.change.Change.TheVariants.{PutNode, DropNode, PutEntries, PutDoc, PutSession, PutSlot, DropSlots, PutNext}
 use Rattle.room_records.specs.declared.mem.MemShelf.{MemShelf}
+use Rattle.room_records.specs.Limits.{max_slots}
 use Rattle.room_records.specs.Names.{Name, name_cmp}
 use Rattle.room_records.specs.Records.{ObjectRecords, Records}
 use Rattle.room_records.specs.Changes.{apply_change}
@@ -32,7 +33,7 @@ HasRoomFor s (PutNode node) = HasRoomForNode s.nodes.nodes.slots s.nodes.places.
 HasRoomFor s (PutEntries id entries) = HasRoom nat_cmp s.entries.slots id
 HasRoomFor s (PutDoc id bytes) = HasRoom nat_cmp s.docs.slots id
 HasRoomFor s (PutSession row) = HasRoom name_cmp s.sessions.rows.slots row.sid
-HasRoomFor s (PutSlot row) = row.slot < 16 → HasRoom slot_cmp s.sessions.kept.slots (row.sid, row.slot)
+HasRoomFor s (PutSlot row) = row.slot < max_slots → HasRoom slot_cmp s.sessions.kept.slots (row.sid, row.slot)
 HasRoomFor s (DropNode id) = Unit {0}
 HasRoomFor s (DropSlots sid) = Unit {0}
 HasRoomFor s (PutNext next) = Unit {0}

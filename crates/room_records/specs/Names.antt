@@ -5,7 +5,7 @@ use Rattle.std.specs.declared.cmp.Ordering.{Ordering}
 use Rattle.std.specs.Ordering.{nat_cmp}
 use Rattle.std.specs.Cmp.Lexicographic.{slice_cmp, pointwise}
 use Rattle.std.specs.Str.{bytes_eq, IsUtf8}
-use Rattle.room_records.specs.Limits.{max_names, max_name_bytes}
+use Rattle.room_records.specs.Limits.{max_names, max_name_bytes, sid_bytes}
 
 abbrev pub Name : Type 0
 Name = List ℕ
@@ -51,4 +51,4 @@ is_hex_digit b = (nat_le 48 b && nat_le b 57) || (nat_le 97 b && nat_le b 102)
 
 -- 32 lower-case hexadecimal digits
 abbrev pub is_sid : List ℕ → Bool
-is_sid text = (length text == 32) && list_all is_hex_digit text
+is_sid text = (length text == sid_bytes) && list_all is_hex_digit text

@@ -1,7 +1,7 @@
 -- A room: a finite map from paths to objects. It holds no inherited entry and no object number.
 -- Which objects follow their folder, what a list is made of and every limit are our own rules; masks,
 -- flags and `who` are those of RFC 8881, section 6.2.1, and list flags those of section 6.4.3.2.
-use Rattle.std.specs.Prelude.{◌≡◌, ℕ, ◌-◌, Bool, true, not, ◌&&◌, List, [], ◌∷◌, ◌++◌, reverse, length, take, Option, None, Some, if◌then◌else◌, ◌≤◌, IsTrue}
+use Rattle.std.specs.Prelude.{◌≡◌, ℕ, ◌-◌, Bool, true, not, List, [], ◌∷◌, ◌++◌, reverse, length, take, Option, None, Some, if◌then◌else◌, ◌≤◌, IsTrue}
 use Rattle.std.specs.List.{filter_map, list_all}
 use Rattle.std.specs.Map.{lookup}
 use Rattle.std.specs.Option.{option_map}
@@ -9,10 +9,12 @@ use Rattle.std.specs.BTreeMap.{insert_entry}
 use Rattle.room_acl.specs.declared.subject.Kind.{Kind}
 use Rattle.room_acl.specs.declared.subject.Kind.TheVariants.{Folder}
 use Rattle.room_acl.specs.declared.subject.Standing.{Standing}
+use Rattle.room_acl.specs.declared.who.Who.{Who}
 use Rattle.room_acl.specs.declared.who.Who.TheVariants.{Owner, Group}
-use Rattle.room_acl.specs.Bits.{has_bit, is_inherited}
+use Rattle.room_acl.specs.Bits.{all_rights, reading_rights, inherit_flags, no_list_flags, is_inherited}
+pub use Rattle.room_acl.specs.Bits.{follows}
 use Rattle.room_acl.specs.Entries.{EntryModel}
-use Rattle.room_acl.specs.Inheritance.{handed_down, max_own_entries}
+use Rattle.room_acl.specs.Inheritance.{with_inherited, max_own_entries}
 use Rattle.room_records.specs.Limits.{max_children, max_document}
 use Rattle.room_records.specs.Names.{Name, Path, IsPath, name_cmp, name_eq, path_eq}
 
@@ -82,14 +84,10 @@ pub record IsRoom (room : Room) : Type 0 where
   pub once : AreObjects room.objects
   pub few : (path : Path) → length (children room path) ≤ max_children
 
--- whether an object with these list flags follows its folder: AUTO_INHERIT set and PROTECTED clear, whatever its folder's flags are (our own rule)
-abbrev pub follows : ℕ → Bool
-follows aclflag = has_bit aclflag 0 && not (has_bit aclflag 1)
-
 -- an object's list under that of its folder
 abbrev pub list_under : Option Object → List EntryModel → List EntryModel
 list_under None above = []
-list_under (Some o) above = o.own ++ (if follows o.aclflag then handed_down above o.kind else [])
+list_under (Some o) above = with_inherited o.own o.aclflag o.kind above
 
 -- the own entries of the root, which never follows (our own rule)
 abbrev pub root_list : Option Object → List EntryModel
@@ -108,19 +106,17 @@ list_of room path = list_upwards room (reverse path)
 abbrev pub standing_of : Object → Standing
 standing_of o = record { owner = o.owner; group = o.group }
 
--- a fresh room: a root folder that its owner may do everything with, and its group may list, read and traverse (our own rule)
+-- an entry that allows these rights, and that files and folders inherit
+abbrev pub fresh_entry : Who → ℕ → EntryModel
+fresh_entry who mask = record { allow = true; flags = inherit_flags; mask = mask; who = who }
+
+-- the owner may do everything, and the group may list, read and traverse (our own rule)
+abbrev pub fresh_entries : List EntryModel
+fresh_entries = fresh_entry Owner all_rights ∷ fresh_entry Group reading_rights ∷ []
+
+abbrev pub fresh_object : List ℕ → List ℕ → Object
+fresh_object owner group = record { kind = Folder; owner = owner; group = group; aclflag = no_list_flags; own = fresh_entries; bytes = [] }
+
+-- a fresh room: a root folder with these entries, and nothing in it (our own rule)
 abbrev pub fresh_room : List ℕ → List ℕ → Room
-fresh_room owner group = record {
-  objects = (
-    [],
-    record {
-      kind = Folder;
-      owner = owner;
-      group = group;
-      aclflag = 0;
-      own = record { allow = true; flags = 3; mask = 0x1F07FF; who = Owner } ∷ record { allow = true; flags = 3; mask = 0x1200A9; who = Group } ∷ [];
-      bytes = [];
-    },
-  ) ∷ [];
-  made = 1;
-}
+fresh_room owner group = record { objects = ([], fresh_object owner group) ∷ []; made = 1 }

@@ -7,6 +7,7 @@ use Rattle.std.specs.BTreeMap.{BTreeMap}
 use Rattle.room_slots.specs.KeptModel.{KeptModel}
 use Rattle.room_records.specs.declared.session.SessionRow.{SessionRow}
 use Rattle.room_records.specs.declared.mem.sessions.SessionCell.{SessionCell}
+use Rattle.room_records.specs.Limits.{max_slots}
 use Rattle.room_records.specs.Names.{Name, name_cmp}
 use Rattle.room_records.specs.Table.{held}
 
@@ -23,10 +24,10 @@ session_in rows sid = option_map (session_row sid) (held name_cmp rows sid)
 abbrev pub kept_in : BTreeMap (Name × ℕ) (Option KeptModel) → Name → ℕ → Option KeptModel
 kept_in kept sid slot = held slot_cmp kept (sid, slot)
 
--- no slot is 16 or more
+-- no slot is 16 or more: they are counted from 0
 abbrev pub AreFewSlots : (Name → ℕ → Option KeptModel) → Type 0
-AreFewSlots kept = (sid : Name) (slot : ℕ) → IsSome (kept sid slot) → slot < 16
+AreFewSlots kept = (sid : Name) (slot : ℕ) → IsSome (kept sid slot) → slot < max_slots
 
 -- each session has at most 16 slots
 abbrev pub HaveSlotCounts : (Name → Option SessionRow) → Type 0
-HaveSlotCounts sessions = (sid : Name) (row : SessionRow) → sessions sid ≡ Some row → row.slots ≤ 16
+HaveSlotCounts sessions = (sid : Name) (row : SessionRow) → sessions sid ≡ Some row → row.slots ≤ max_slots

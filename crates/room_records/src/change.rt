@@ -14,11 +14,11 @@ use std::alloc::{AllocError, Global};
 pub enum Change {
     /// Adds or replaces the row of its number.
     PutNode(Node),
-    /// Removes the row with its entries and document.
+    /// Removes the row with its entries and bytes.
     DropNode(u32),
     /// Replaces all entries of an object.
     PutEntries(u32, Vec<Entry>),
-    /// Adds or replaces the document of a file.
+    /// Adds or replaces the bytes of a file.
     PutDoc(u32, Vec<u8>),
     PutSession(SessionRow),
     PutSlot(SlotRow),

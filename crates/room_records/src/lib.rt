@@ -2,6 +2,8 @@
 #![tactic(auto)]
 
 mod change;
+mod fresh;
+mod limits;
 mod mem;
 mod names;
 mod node;
@@ -13,6 +15,11 @@ mod table;
 mod trip;
 
 pub use change::Change;
+pub use fresh::{fresh_entries, fresh_root};
+pub use limits::{
+    MAX_CHILDREN, MAX_DOCUMENT, MAX_GROUPS, MAX_NAME_BYTES, MAX_NAMES, MAX_OBJECTS, MAX_SLOTS,
+    MAX_USERS,
+};
 pub use mem::MemShelf;
 pub use names::{FileName, Path, Sid, SlotCount};
 pub use node::Node;

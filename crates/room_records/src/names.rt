@@ -2,8 +2,10 @@
 ghost use Rattle.std.specs.Prelude.{◌≡◌, ℕ, List, ◌≤◌, ◌<◌, IfOk, IsSome, IfSome, ◌↔◌, IsTrue, map, length, take, [], ◌∷◌, string_bytes};
 ghost use Rattle.std.specs.Prelude.{◌==◌};
 ghost use Rattle.std.specs.List.{list_all, slice_split, flat_map};
+ghost use Rattle.room_records.specs.Limits.{IsSlotCount};
 ghost use Rattle.room_records.specs.Names.{IsFileName, IsPath, path_text, is_sid, is_name_byte, is_hex_digit};
 
+use crate::limits::{MAX_NAME_BYTES, MAX_NAMES, MAX_SLOTS, SID_BYTES};
 use std::alloc::{AllocError, Global};
 use std::marker::Model;
 
@@ -58,7 +60,7 @@ fn is_file_name(text: &str) -> bool
 {
     let bytes = text.as_bytes();
     1 <= bytes.len()
-        && bytes.len() <= 64
+        && bytes.len() <= MAX_NAME_BYTES
         && all_name_bytes(bytes)
         && bytes != b".".as_slice()
         && bytes != b"..".as_slice()
@@ -190,7 +192,7 @@ fn read_names(alloc: Global, parts: &[&str]) -> Result<Option<Vec<FileName>>, Al
     ensures lawful { IfOk result (λ read. IsSome read ↔ IsPath (map (λ p. p.now) parts.now)) }
     ensures value { IfOk result (λ read. IfSome read (λ names. names.items ≡ map (λ p. p.now) parts.now)) }
 {
-    if parts.len() > 16 {
+    if parts.len() > MAX_NAMES {
         return Ok(None);
     }
     let mut names = Vec::new(alloc);
@@ -226,7 +228,7 @@ impl Sid {
         ensures lawful { IfOk result (λ made. IsSome made ↔ IsTrue (is_sid text.now)) }
         ensures value { IfOk result (λ made. IfSome made (λ sid. sid ≡ text.now)) }
     {
-        if text.len() != 32 || !all_hex_digits(text.as_bytes()) {
+        if text.len() != SID_BYTES || !all_hex_digits(text.as_bytes()) {
             return Ok(None);
         }
         let text = String::from_str(alloc, text)?;
@@ -267,23 +269,24 @@ pub struct SlotCount {
 }
 
 impl Model for SlotCount {
-    ghost use Rattle.std.specs.Prelude.{ℕ, ◌≤◌};
+    ghost use Rattle.std.specs.Prelude.{ℕ};
+    ghost use Rattle.room_records.specs.Limits.{IsSlotCount};
 
     ghost Value = { ℕ };
 
     ghost view = { λ s. s.count };
 
-    ghost invariant = { λ s. (1 ≤ s.count) × (s.count ≤ 16) };
+    ghost invariant = { λ s. IsSlotCount s.count };
 
     ghost inverse = { λ n. record { count = n } };
 }
 
 impl SlotCount {
     pub fn new(count: u32) -> Option<SlotCount>
-        ensures lawful { IsSome result ↔ ((1 ≤ count) × (count ≤ 16)) }
+        ensures lawful { IsSome result ↔ IsSlotCount count }
         ensures value { IfSome result (λ slots. slots ≡ count) }
     {
-        if 1 <= count && count <= 16 {
+        if 1 <= count && count <= MAX_SLOTS {
             Some(SlotCount { count })
         } else {
             None
@@ -292,7 +295,7 @@ impl SlotCount {
 
     pub fn get(self) -> u32
         ensures value { result ≡ self }
-        ensures lawful { (1 ≤ self) × (self ≤ 16) }
+        ensures lawful { IsSlotCount self }
     {
         self.count
     }

@@ -1,11 +1,11 @@
-//! A folder or a document, as a row.
+//! A folder or a file, as a row.
 ghost use Rattle.std.specs.Prelude.{◌≡◌, IfOk};
 
 use crate::names::FileName;
 use room_acl::{Kind, ListFlags, Principal};
 use std::alloc::AllocError;
 
-/// A folder or a document. The root has number 1, no parent and no name.
+/// A folder or a file. The root has number 1, no parent and no name.
 #[derive(Debug, Drop)]
 pub struct Node {
     pub id: u32,

@@ -5,6 +5,7 @@ ghost use Rattle.std.specs.Option.{option_map};
 ghost use Rattle.room_acl.specs.SubjectModel.{SubjectModel};
 ghost use Rattle.room_records.specs.Roster.{IsRoster, IsPlaceOf, may_join, with_user, groups_of};
 
+use crate::limits::{MAX_GROUPS, MAX_USERS};
 use room_acl::{Principal, Subject};
 use std::alloc::{AllocError, Global};
 use std::cmp::Ordering;
@@ -50,7 +51,7 @@ impl Roster {
             self.new ≡ (if added then with_user self.old (record { name = user; groups = groups.items }) else self.old)) }
         ensures err { OnErr result (self.new ≡ self.old) }
     {
-        if groups.len() > 16 || self.users.len() >= 1000 {
+        if groups.len() > MAX_GROUPS || self.users.len() >= MAX_USERS {
             return Ok(false);
         }
         let Err(place) = place_of(self.users.as_slice(), &user) else {

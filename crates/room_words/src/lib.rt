@@ -1,4 +1,5 @@
-//! The command line of `fileroom`: which words stand for which job.
+//! The command line of `fileroom`: its words are read into a job with its options, and nothing is run. A command line
+//! that names no job is a fault, with the text that says how it is used.
 #![tactic(auto)]
 
 mod commands;

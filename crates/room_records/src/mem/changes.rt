@@ -1,6 +1,7 @@
 //! Changes of a shelf in memory: all memory is taken first, and then every change is made.
 ghost use Rattle.std.specs.Prelude.{◌≡◌, ◌<◌, OnOk, IfOk};
 ghost use Rattle.std.specs.List.{AllByRecursion};
+ghost use Rattle.room_records.specs.Limits.{max_slots};
 ghost use Rattle.room_records.specs.Records.{Records};
 ghost use Rattle.room_records.specs.Rules.{RulesHold};
 ghost use Rattle.room_records.specs.NodeIndex.{HasRoomForNode};
@@ -105,7 +106,7 @@ impl MemShelf {
     }
 
     fn put_slot(&mut self, row: SlotRow)
-        requires { row.slot < 16 → HasRoom slot_cmp self.old.sessions.kept.slots (row.sid, row.slot) }
+        requires { row.slot < max_slots → HasRoom slot_cmp self.old.sessions.kept.slots (row.sid, row.slot) }
         ensures records { RulesHold (apply_change (Change.PutSlot row) (mem_records self.old)) → mem_records self.new ≡ apply_change (Change.PutSlot row) (mem_records self.old) }
         ensures kept { KeepsRoom self.old self.new }
     {

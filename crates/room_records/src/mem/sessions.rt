@@ -1,10 +1,12 @@
 //! Sessions by name, and what their slots keep.
 ghost use Rattle.std.specs.Prelude.{◌≡◌, ◌==◌, ◌&&◌, ◌<◌, ℕ, List, None, Some, OnOk, IfOk, IsSome, nat_lt, if◌then◌else◌};
 ghost use Rattle.std.specs.Str.{bytes_eq};
+ghost use Rattle.room_records.specs.Limits.{max_slots};
 ghost use Rattle.room_records.specs.Table.{HasRoom};
 ghost use Rattle.room_records.specs.Names.{name_cmp};
 ghost use Rattle.room_records.specs.Sessions.{slot_cmp, session_in, kept_in, AreFewSlots, HaveSlotCounts};
 
+use crate::limits::MAX_SLOTS;
 use crate::names::{Sid, SlotCount};
 use crate::session::{SessionRow, SlotRow, copy_kept};
 use crate::table::Table;
@@ -81,9 +83,9 @@ impl Sessions {
         ensures sessions { self.new.rows.slots ≡ self.old.rows.slots }
         ensures slots { (name : List ℕ) (number : ℕ) → kept_in self.new.kept.slots name number ≡ kept_in self.old.kept.slots name number }
         ensures kept { (name : List ℕ) (number : ℕ) → HasRoom slot_cmp self.old.kept.slots (name, number) → HasRoom slot_cmp self.new.kept.slots (name, number) }
-        ensures room { OnOk result (slot < 16 → HasRoom slot_cmp self.new.kept.slots (sid, slot)) }
+        ensures room { OnOk result (slot < max_slots → HasRoom slot_cmp self.new.kept.slots (sid, slot)) }
     {
-        if slot >= 16 {
+        if slot >= MAX_SLOTS {
             return Ok(());
         }
         self.kept.make_room((sid, slot))
@@ -118,14 +120,14 @@ impl Sessions {
 
     /// Puts a slot row where room is. A slot of 16 or more breaks the record rules, and is left out.
     pub(crate) fn put_slot(&mut self, row: SlotRow)
-        requires { row.slot < 16 → HasRoom slot_cmp self.old.kept.slots (row.sid, row.slot) }
-        ensures slots { row.slot < 16 → (sid : List ℕ) (slot : ℕ)
+        requires { row.slot < max_slots → HasRoom slot_cmp self.old.kept.slots (row.sid, row.slot) }
+        ensures slots { row.slot < max_slots → (sid : List ℕ) (slot : ℕ)
             → kept_in self.new.kept.slots sid slot ≡ (if bytes_eq sid row.sid && (slot == row.slot) then Some row.kept else kept_in self.old.kept.slots sid slot) }
         ensures sessions { self.new.rows.slots ≡ self.old.rows.slots }
         ensures kept { (sid : List ℕ) (slot : ℕ) → HasRoom slot_cmp self.old.kept.slots (sid, slot) → HasRoom slot_cmp self.new.kept.slots (sid, slot) }
     {
         let SlotRow { sid, slot, kept } = row;
-        if slot >= 16 {
+        if slot >= MAX_SLOTS {
             return;
         }
         let key = (sid, slot);
@@ -145,11 +147,11 @@ impl Sessions {
 /// Takes the rows of the slots 0 to 15 of a session out, and leaves their room.
 fn take_slots(kept: &mut Table<(Sid, u32), Kept>, sid: Sid)
     ensures slots { (name : List ℕ) (slot : ℕ) → kept_in kept.new.slots name slot
-        ≡ (if bytes_eq name sid && nat_lt slot 16 then None else kept_in kept.old.slots name slot) }
+        ≡ (if bytes_eq name sid && nat_lt slot max_slots then None else kept_in kept.old.slots name slot) }
     ensures kept { (key : List ℕ × ℕ) → HasRoom slot_cmp kept.old.slots key → HasRoom slot_cmp kept.new.slots key }
 {
     let mut key = (sid, 0u32);
-    for slot in 0..16 {
+    for slot in 0..MAX_SLOTS {
         key.1 = slot;
         let _ = kept.take(&key);
     }
