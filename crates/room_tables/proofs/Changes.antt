@@ -41,7 +41,8 @@ use Rattle.sqlite.proofs.Callers.{IsPlain, command_of}
 use Rattle.room_tables.specs.Tables.{room_schema}
 use Rattle.room_tables.specs.Texts.{over_table}
 use Rattle.room_tables.proofs.Queries.{Picks, passing, answer_is, found}
-use Rattle.room_tables.specs.Layout.{IsKeyed}
+use Rattle.room_tables.specs.Layout.{IsKeyed, OfEachTable}
+use Rattle.room_tables.proofs.Each.{by_name}
 use Rattle.room_tables.proofs.Removed.{removed}
 
 -- a part that gave a value did not stop on the way
@@ -100,7 +101,10 @@ not_true false h = refl
 
 -- the other tables are as they were
 abbrev pub Others : ℕ → Trees → Trees → Type 0
-Others tree db next = AllByRecursion (λ (t : Table). t.tree ≢ tree → next t.tree ≡ db t.tree) room_schema.tables
+Others tree db next = OfEachTable (λ (t : Table). t.tree ≢ tree → next t.tree ≡ db t.tree)
+
+pub others_of : (tree : ℕ) (db next : Trees) → AllByRecursion (λ (t : Table). t.tree ≢ tree → next t.tree ≡ db t.tree) room_schema.tables → Others tree db next
+others_of tree db next = by_name (λ (t : Table). t.tree ≢ tree → next t.tree ≡ db t.tree)
 
 -- one table has these rows now
 pub record Leaves (old new : Database) (tree : ℕ) (rows : List Row) : Type 0 where
@@ -132,7 +136,7 @@ cleared old new at table sql params terms count p place schema keyed is plain he
     record {
       schema = ap (λ (d : Database). d.schema) w.now;
       rows_are = ap (λ (d : Database). d.trees table.tree) w.now ∙ ap (λ (t : Trees). t table.tree) trees ∙ one.rows ∙ removed p (db table.tree) given.0 keyed same;
-      others = subst (λ t. Others table.tree db t) (sym (ap (λ (d : Database). d.trees) w.now ∙ trees)) one.tables;
+      others = subst (λ t. Others table.tree db t) (sym (ap (λ (d : Database). d.trees) w.now ∙ trees)) (others_of table.tree db edited_to.0 one.tables);
     }
 
 -- a table without AUTOINCREMENT counts nothing
@@ -155,6 +159,12 @@ all_chosen rows (tail ∷ tails) fresh =
     let id = next_rowid rows in
     (id, not_true _ (first_of_both _ _ fresh), all_chosen (put_row (Int id ∷ tail) rows) tails (second_of_both _ _ fresh))
 
+-- one table has these rows more
+pub record Added (old new : Database) (tree : ℕ) (tails : List Row) : Type 0 where
+  pub schema : new.schema ≡ room_schema
+  pub rows : HasAll (old.trees tree) (new.trees tree) tails
+  pub others : Others tree old.trees new.trees
+
 -- an INSERT of some rows whose rowids are chosen
 pub inserted_all : (old new : State) (at : ℕ) (table : Table) (sql : List ℕ) (params : Row) (tails : List Row) (terms : List Term) (width count : ℕ)
     → slice_get room_schema.tables at ≡ Some table → old.now.schema ≡ room_schema → table.is_counted ≡ false
@@ -162,7 +172,7 @@ pub inserted_all : (old new : State) (at : ℕ) (table : Table) (sql : List ℕ)
     → ((news : List Row) → works room_schema Enforced 0 table.tree [] news ≡ [])
     → map (λ row. cast_row table (drop 0 row)) (value_rows (stamped table params) width (length terms / width) terms) ≡ unnumbered tails
     → Executes sql params old new (Ok count)
-    → (new.now.schema ≡ room_schema) × HasAll (old.now.trees table.tree) (new.now.trees table.tree) tails × Others table.tree old.now.trees new.now.trees
+    → Added old.now new.now table.tree tails
 inserted_all old new at table sql params tails terms width count place schema uncounted is plain quiet cast_are h =
     let db = old.now.trees in
     let w = inserts old new at table (Values terms width) _ params count place schema (runs_as sql params old new room_schema schema _ is plain count h) in
@@ -177,11 +187,12 @@ inserted_all old new at table sql params tails terms width count place schema un
     let news : edit.news ≡ numbered Chosen (db table.tree) (unnumbered tails) = ap (numbered Chosen (db table.tree)) rows in
     let one = one_step room_schema Enforced db mid.0 edit (quiet edit.news) (subst (λ c. Edited room_schema Enforced db (edit_of db table [] c 0 given.0) (Ok mid.0)) (by_choice (count_of counter.0)) mid.1) in
     let to = ap (λ (d : Database). d.trees) w.now ∙ trees in
-    let is : new.now.trees table.tree ≡ put_all (db table.tree) (numbered Chosen (db table.tree) (unnumbered tails)) = ap (λ (t : Trees). t table.tree) to ∙ one.rows ∙ ap (put_all (db table.tree)) news in (
-      ap (λ (d : Database). d.schema) w.now,
-      subst (λ l. HasAll (db table.tree) l tails) (sym is) (all_chosen (db table.tree) tails (subst (λ n. are_fresh (db table.tree) n ≡ true) news one.fresh)),
-      subst (λ t. Others table.tree db t) (sym to) one.tables,
-    )
+    let is : new.now.trees table.tree ≡ put_all (db table.tree) (numbered Chosen (db table.tree) (unnumbered tails)) = ap (λ (t : Trees). t table.tree) to ∙ one.rows ∙ ap (put_all (db table.tree)) news in
+    record {
+      schema = ap (λ (d : Database). d.schema) w.now;
+      rows = subst (λ l. HasAll (db table.tree) l tails) (sym is) (all_chosen (db table.tree) tails (subst (λ n. are_fresh (db table.tree) n ≡ true) news one.fresh));
+      others = subst (λ t. Others table.tree db t) (sym to) (others_of table.tree db mid.0 one.tables);
+    }
 
 pub upserts : (old new : State) (at : ℕ) (table : Table) (from : Source) (clauses : List Upsert) (text : List ℕ) (params : Row) (count : ℕ) → slice_get room_schema.tables at ≡ Some table → old.now.schema ≡ room_schema
     → Runs old new None (InsertOr at Abort from clauses) text params count → Wrote old new table params (InsertOr at Abort from clauses)

@@ -67,7 +67,7 @@ pub row_is_child : (db : Database) (p : ℕ) (r : Row) → IsRoomDatabase db →
 row_is_child db p r room there inside =
     let n = all_has IsNumbered (db.trees 1) r room.numbered there in
     let mine : has 0 n.id r ≡ true = int_has 0 n.id r n.has_id in
-    let keyed = room.keyed.1.0 in
+    let keyed = room.keyed.node in
     let only_row = one_row (has 0 n.id) (db.trees 1) r keyed.table there mine (λ a b _ _ x y. has_tied 0 n.id a b x y) in
     let id : number_in (column r 0) ≡ n.id = ap number_in n.has_id in
     record {
@@ -113,7 +113,7 @@ one_child db p name row rest room some same =
 pub shown_once : (db : Database) (p id : ℕ) (rows : List Row) → IsRoomDatabase db → IsPermutation (child_rows db.trees p) rows → length (filter (has 0 id) rows) ≤ 1
 shown_once db p id rows room same =
     let all = filter (has 2 p) (db.trees 1) in
-    let few : length (filter (has 0 id) (child_rows db.trees p)) ≤ 1 = subst (λ l. length l ≤ 1) (sym (filter-map (has 0 id) shown_node all)) (go (found_or_none all id (keyed_filter (has 2 p) (db.trees 1) room.keyed.1.0))) in
+    let few : length (filter (has 0 id) (child_rows db.trees p)) ≤ 1 = subst (λ l. length l ≤ 1) (sym (filter-map (has 0 id) shown_node all)) (go (found_or_none all id (keyed_filter (has 2 p) (db.trees 1) room.keyed.node))) in
     omega (arith, few, length_permutation _ _ (IsPermutation-filter (has 0 id) _ _ same))
   where
     go : (filter (has 0 id) (filter (has 2 p) (db.trees 1)) ≡ []) ⊎ ((r : Row) × (filter (has 0 id) (filter (has 2 p) (db.trees 1)) ≡ r ∷ [])) → length (map shown_node (filter (has 0 id) (filter (has 2 p) (db.trees 1)))) ≤ 1

@@ -1,6 +1,6 @@
 -- What the CREATE TABLE of each table makes.
 use Rattle.std.specs.declared.alloc.Global.{Global}
-use Rattle.std.proofs.Common.{Vec, ◌≡◌, ◌==◌, cond, ℕ, false, List, [], None, Some, Ok, refl, sym, ap, subst, ◌∙◌}
+use Rattle.std.proofs.Common.{Vec, ◌≡◌, ◌==◌, cond, ℕ, false, List, [], ◌∷◌, ◌++◌, None, Some, Ok, refl, sym, ap, subst, ◌∙◌}
 use Rattle.room_acl.specs.Entries.{EntryModel}
 use Rattle.room_records.specs.declared.change.Change.TheVariants.{PutNode, PutEntries, PutNext}
 use Rattle.room_records.specs.Changes.{apply_change}
@@ -8,6 +8,7 @@ use Rattle.room_records.specs.Room.{fresh_room}
 use Rattle.room_records.specs.Representation.{RepresentsRoom}
 use Rattle.room_records.proofs.FreshRoom.{own, root_node, fresh_stands}
 use Rattle.std.specs.List.{AllByRecursion}
+use Rattle.sqlite_trees.specs.Tree.{Trees}
 use Rattle.sqlite.specs.Table.{Table}
 use Rattle.sqlite.specs.Schema.{Schema}
 use Rattle.sqlite.specs.Command.TheVariants.{CreateTable}
@@ -23,6 +24,7 @@ use Rattle.room_tables.specs.Fresh.{IsMade, IsFresh, filled, no_records}
 use Rattle.room_records.specs.declared.node.Node.{Node}
 use Rattle.room_records.specs.Records.{Records}
 use Rattle.room_tables.specs.Rows.{nodes_in, entries_in, documents_in, next_in, sessions_in, slots_in, records_of}
+use Rattle.room_tables.proofs.Each.{by_name, from_both}
 use Rattle.room_tables.proofs.Making.{room_is, room_plain, room_made, node_is, node_plain, node_made, entry_is, entry_plain, entry_made, doc_is, doc_plain, doc_made, session_is, session_plain, session_made, slot_is, slot_plain, slot_made}
 use Rattle.room_tables.proofs.Effects.{same_records}
 use Rattle.room_tables.proofs.Changes.{went, same_value, executes_inside}
@@ -53,6 +55,11 @@ makes old new schema table sql text count has defined plain w =
       others = subst (λ (d : Database). KeepsRows schema.tables old.now.trees d.trees) (sym now) made.others;
     }
 
+-- tables that were empty stay so, and one more is
+all_empty : (tables : List Table) (more : Table) (old new : Trees) → KeepsRows tables old new → AllByRecursion (λ (t : Table). old t.tree ≡ []) tables → new more.tree ≡ [] → AllByRecursion (λ (t : Table). new t.tree ≡ []) (tables ++ more ∷ [])
+all_empty [] more old new same were is = (is, tt)
+all_empty (t ∷ tables) more old new same were is = (same.0 ∙ were.0, all_empty tables more old new same.1 were.1 is)
+
 pub room_step : (old new : State) (count : ℕ) → ExecutesInside 0 room_text [] old new (Ok count) → IsMade schema_0 old.now → IsMade schema_1 new.now
 room_step old new count h was =
     let w = runs_as room_text [] old new schema_0 was.schema CreateTable room_is.0 room_plain count (executes_inside room_text [] old new count h).0 in
@@ -63,49 +70,49 @@ pub node_step : (old new : State) (count : ℕ) → ExecutesInside 0 node_text [
 node_step old new count h was =
     let w = runs_as node_text [] old new schema_1 was.schema CreateTable node_is.0 node_plain count (executes_inside node_text [] old new count h).0 in
     let it = makes old new schema_1 (record node_table { tree = 0 }) node_text _ count was.schema node_is.2 refl (rw node_is.1 at w) in
-    record { schema = it.after ∙ node_made; empty = (it.others.0 ∙ was.empty.0, (it.empty, tt)) }
+    record { schema = it.after ∙ node_made; empty = all_empty schema_1.tables node_table old.now.trees new.now.trees it.others was.empty it.empty }
 
 pub entry_step : (old new : State) (count : ℕ) → ExecutesInside 0 entry_text [] old new (Ok count) → IsMade schema_2 old.now → IsMade schema_3 new.now
 entry_step old new count h was =
     let w = runs_as entry_text [] old new schema_2 was.schema CreateTable entry_is.0 entry_plain count (executes_inside entry_text [] old new count h).0 in
     let it = makes old new schema_2 (record entry_table { tree = 0 }) entry_text _ count was.schema entry_is.2 refl (rw entry_is.1 at w) in
-    record { schema = it.after ∙ entry_made; empty = (it.others.0 ∙ was.empty.0, (it.others.1.0 ∙ was.empty.1.0, (it.empty, tt))) }
+    record { schema = it.after ∙ entry_made; empty = all_empty schema_2.tables entry_table old.now.trees new.now.trees it.others was.empty it.empty }
 
 pub doc_step : (old new : State) (count : ℕ) → ExecutesInside 0 doc_text [] old new (Ok count) → IsMade schema_3 old.now → IsMade schema_4 new.now
 doc_step old new count h was =
     let w = runs_as doc_text [] old new schema_3 was.schema CreateTable doc_is.0 doc_plain count (executes_inside doc_text [] old new count h).0 in
     let it = makes old new schema_3 (record doc_table { tree = 0 }) doc_text _ count was.schema doc_is.2 refl (rw doc_is.1 at w) in
-    record { schema = it.after ∙ doc_made; empty = (it.others.0 ∙ was.empty.0, (it.others.1.0 ∙ was.empty.1.0, (it.others.1.1.0 ∙ was.empty.1.1.0, (it.empty, tt)))) }
+    record { schema = it.after ∙ doc_made; empty = all_empty schema_3.tables doc_table old.now.trees new.now.trees it.others was.empty it.empty }
 
 pub session_step : (old new : State) (count : ℕ) → ExecutesInside 0 session_text [] old new (Ok count) → IsMade schema_4 old.now → IsMade schema_5 new.now
 session_step old new count h was =
     let w = runs_as session_text [] old new schema_4 was.schema CreateTable session_is.0 session_plain count (executes_inside session_text [] old new count h).0 in
     let it = makes old new schema_4 (record session_table { tree = 0 }) session_text _ count was.schema session_is.2 refl (rw session_is.1 at w) in
-    record { schema = it.after ∙ session_made; empty = (it.others.0 ∙ was.empty.0, (it.others.1.0 ∙ was.empty.1.0, (it.others.1.1.0 ∙ was.empty.1.1.0, (it.others.1.1.1.0 ∙ was.empty.1.1.1.0, (it.empty, tt))))) }
+    record { schema = it.after ∙ session_made; empty = all_empty schema_4.tables session_table old.now.trees new.now.trees it.others was.empty it.empty }
 
 pub slot_step : (old new : State) (count : ℕ) → ExecutesInside 0 slot_text [] old new (Ok count) → IsMade schema_5 old.now → IsMade room_schema new.now
 slot_step old new count h was =
     let w = runs_as slot_text [] old new schema_5 was.schema CreateTable slot_is.0 slot_plain count (executes_inside slot_text [] old new count h).0 in
     let it = makes old new schema_5 (record slot_table { tree = 0 }) slot_text _ count was.schema slot_is.2 refl (rw slot_is.1 at w) in
-    record { schema = it.after ∙ slot_made; empty = (it.others.0 ∙ was.empty.0, (it.others.1.0 ∙ was.empty.1.0, (it.others.1.1.0 ∙ was.empty.1.1.0, (it.others.1.1.1.0 ∙ was.empty.1.1.1.0, (it.others.1.1.1.1.0 ∙ was.empty.1.1.1.1.0, (it.empty, tt)))))) }
+    record { schema = it.after ∙ slot_made; empty = all_empty schema_5.tables slot_table old.now.trees new.now.trees it.others was.empty it.empty }
 
 -- tables that were just made
 pub made_room : (db : Database) → IsMade room_schema db → IsRoomDatabase db × (records_of db.trees ≡ no_records)
 made_room db it =
-    let e = it.empty in
+    let e = by_name (λ (t : Table). db.trees t.tree ≡ []) it.empty in
     let none : IsKeyed [] = record { table = tt; ints = tt } in (
       record {
         schema = it.schema;
-        keyed = (subst IsKeyed (sym e.0) none, (subst IsKeyed (sym e.1.0) none, (subst IsKeyed (sym e.1.1.0) none, (subst IsKeyed (sym e.1.1.1.0) none, (subst IsKeyed (sym e.1.1.1.1.0) none, (subst IsKeyed (sym e.1.1.1.1.1.0) none, tt))))));
-        numbered = subst (AllByRecursion IsNumbered) (sym e.1.0) tt;
+        keyed = from_both _ _ _ (λ t is _. subst IsKeyed (sym is) none) e e;
+        numbered = subst (AllByRecursion IsNumbered) (sym e.node) tt;
       },
       same_records _ _
-          (λ q. ap (λ rows. nodes_in rows q) e.1.0)
-          (λ q. ap (λ rows. entries_in rows q) e.1.1.0)
-          (λ q. ap (λ rows. documents_in rows q) e.1.1.1.0)
-          (ap next_in e.0)
-          (λ q. ap (λ rows. sessions_in rows q) e.1.1.1.1.0)
-          (λ q n. ap (λ rows. slots_in rows q n) e.1.1.1.1.1.0),
+          (λ q. ap (λ rows. nodes_in rows q) e.node)
+          (λ q. ap (λ rows. entries_in rows q) e.entry)
+          (λ q. ap (λ rows. documents_in rows q) e.doc)
+          (ap next_in e.room)
+          (λ q. ap (λ rows. sessions_in rows q) e.session)
+          (λ q n. ap (λ rows. slots_in rows q n) e.slot),
     )
 
 -- what a fresh room's rows stand for

@@ -12,7 +12,7 @@ use Rattle.sqlite_value.proofs.OrderLemmas.{value_cmp_total}
 use Rattle.sqlite_trees.specs.Tree.{Trees, rowid, without_rowid}
 use Rattle.sqlite_sql.specs.Ops.{binary}
 use Rattle.sqlite_sql.specs.Program.{overlay}
-use Rattle.sqlite_schema.specs.Rules.{agree, parent_key, has_null, is_held, has_parent, Keeps}
+use Rattle.sqlite_schema.specs.Rules.{agree, parent_key, has_null, is_held, has_parent}
 use Rattle.sqlite_schema.specs.declared.schema.Constraint.TheVariants.{ForeignKey}
 use Rattle.sqlite_schema.specs.declared.schema.Keys.TheVariants.{Enforced}
 use Rattle.sqlite_schema.specs.declared.schema.Reference.{Reference}
@@ -41,11 +41,12 @@ use Rattle.room_tables.specs.Texts.{drop_node_text, drop_node_query}
 use Rattle.room_tables.specs.Rows.{has, only, shown_node, node_of, entry_of, in_order, shown_doc, doc_of, next_in, sessions_in, slots_in}
 use Rattle.room_tables.specs.Layout.{IsKeyed, IsNumbered, IsRoomDatabase}
 use Rattle.room_tables.specs.Steps.{Steps}
+use Rattle.room_tables.proofs.Each.{of_any, rows_pass}
 use Rattle.room_tables.proofs.Meaning.{drop_node_is, drop_node_plain}
 use Rattle.room_tables.proofs.Queries.{answer_is, found, and_true}
 use Rattle.room_tables.proofs.Values.{has_is, has_int, has_value, has_tied, has_not_null, equal_tied}
 use Rattle.room_tables.proofs.Removed.{one_row, removed_ids}
-use Rattle.room_tables.proofs.Changes.{Others, without, deletes, went, same_value, executes_inside}
+use Rattle.room_tables.proofs.Changes.{Others, others_of, without, deletes, went, same_value, executes_inside}
 use Rattle.room_tables.proofs.Filters.{none_left, others_left, not_both, keyed_filter, version_stays}
 use Rattle.room_tables.proofs.Effects.{same_records}
 
@@ -118,16 +119,12 @@ record Acted (n : ℕ) (db next : Trees) (w : Work) (below : List Work) : Type 0
   others : Others w.child.tree db mid
   rest : Leads room_schema Enforced n mid below (Ok next)
 
-same_tables : (tables : List Table) (tree : ℕ) (db : Trees) → AllByRecursion (λ (t : Table). (t.tree ≡ tree → ⊥) → db t.tree ≡ db t.tree) tables
-same_tables [] tree db = tt
-same_tables (t ∷ tables) tree db = (λ _. refl, same_tables tables tree db)
-
 acts : (n : ℕ) (db next : Trees) (table : Table) (ref : Reference) (there : Row) (below : List Work) → ((olds : List Row) → works room_schema Enforced 1 table.tree olds [] ≡ [])
     → Acts room_schema Enforced (Leads room_schema Enforced n) db (work_on table ref there) below (Ok next) → Acted n db next (work_on table ref there) below
 acts n db next table ref there below quiet h = go h.0 h.1 h.2
   where
     go : (ids : List ℤ) → AreChildren db (work_on table ref there) ids → ActsOn room_schema Enforced (Leads room_schema Enforced n) db (work_on table ref there) below (Ok next) ids → Acted n db next (work_on table ref there) below
-    go [] children h = record { mid = db; ids = []; children = children; rows = refl; others = same_tables room_schema.tables table.tree db; rest = h }
+    go [] children h = record { mid = db; ids = []; children = children; rows = refl; others = of_any _ (λ t _. refl); rest = h }
     go (i ∷ ids) children (inl refused) = absurd (let e = refused.2 in cc)
     go (i ∷ ids) children (inr (inl big)) = absurd (let e = big.3 in cc)
     go (i ∷ ids) children (inr (inr step)) =
@@ -137,7 +134,7 @@ acts n db next table ref there below quiet h = go h.0 h.1 h.2
           ids = i ∷ ids;
           children = children;
           rows = step.1.rows;
-          others = step.1.tables;
+          others = others_of table.tree db step.0 step.1.tables;
           rest = subst (λ s. Leads room_schema Enforced n step.0 s (Ok next)) (ap (λ l. below ++ l) none ∙ append-nil below) step.2;
         }
 
@@ -161,7 +158,7 @@ cascaded : (n : ℕ) (db next : Trees) (there : Row) (id : ℕ) → rowid there 
 cascaded n db next there id is entries docs h =
     let first = (led n db next doc_table doc_ref there (entry_work there ∷ []) docs_last h).1 in
     let o = first.others in
-    let same_entries : first.mid 3 ≡ db 3 = o.1.1.0 (omega arith) in
+    let same_entries : first.mid 3 ≡ db 3 = o.entry (omega arith) in
     let second = (led _ first.mid next entry_table entry_ref there [] entries_last first.rest).1 in
     let p = second.others in
     let end = settled _ second.mid next second.rest in
@@ -173,14 +170,14 @@ cascaded n db next there id is entries docs h =
           (λ i k. let c = second.children.sound i k in (c.0, c.1, sym (entry_test c.0) ∙ c.2, c.3))
           (λ r i k passes e. second.children.complete r i k (entry_test r ∙ passes) e)
           ∙ ap (without (has 1 id)) same_entries;
-      docs = ap (λ (t : Trees). t 5) end ∙ p.1.1.1.0 (omega arith) ∙ first.rows
+      docs = ap (λ (t : Trees). t 5) end ∙ p.doc (omega arith) ∙ first.rows
           ∙ removed_ids (has 0 id) (db 5) first.ids docs
           (λ i k. let c = first.children.sound i k in (c.0, c.1, sym (doc_test c.0) ∙ c.2, c.3))
           (λ r i k passes e. first.children.complete r i k (doc_test r ∙ passes) e);
-      nodes = ap (λ (t : Trees). t 1) end ∙ p.1.0 (omega arith) ∙ o.1.0 (omega arith);
-      room = ap (λ (t : Trees). t 0) end ∙ p.0 (omega arith) ∙ o.0 (omega arith);
-      sessions = ap (λ (t : Trees). t 6) end ∙ p.1.1.1.1.0 (omega arith) ∙ o.1.1.1.1.0 (omega arith);
-      slots = ap (λ (t : Trees). t 8) end ∙ p.1.1.1.1.1.0 (omega arith) ∙ o.1.1.1.1.1.0 (omega arith);
+      nodes = ap (λ (t : Trees). t 1) end ∙ p.node (omega arith) ∙ o.node (omega arith);
+      room = ap (λ (t : Trees). t 0) end ∙ p.room (omega arith) ∙ o.room (omega arith);
+      sessions = ap (λ (t : Trees). t 6) end ∙ p.session (omega arith) ∙ o.session (omega arith);
+      slots = ap (λ (t : Trees). t 8) end ∙ p.slot (omega arith) ∙ o.slot (omega arith);
     }
 
 -- the database without the node, its entries and its document
@@ -209,17 +206,17 @@ drops_there db next id there rows nodes entries docs only is h =
         let key = has_int id there (all_has _ (db 1) there nodes.ints kept.0) kept.1 in
         let at = row_at_is (db 1) (pos id) there nodes.table kept.0 (sym (has_is 0 id there) ∙ kept.1) in
         let stack = subst (λ r. works room_schema Enforced 0 1 (r ∷ []) [] ≡ entry_work there ∷ doc_work there ∷ []) (sym at) (set_off there id key) in
-        let o = step.1.tables in
-        let same_entries : step.0 3 ≡ db 3 = o.1.1.0 (omega arith) in
-        let same_docs : step.0 5 ≡ db 5 = o.1.1.1.0 (omega arith) in
+        let o = others_of 1 db step.0 step.1.tables in
+        let same_entries : step.0 3 ≡ db 3 = o.entry (omega arith) in
+        let same_docs : step.0 5 ≡ db 5 = o.doc (omega arith) in
         let c = cascaded step.2.0 step.0 next there id key (subst IsKeyed (sym same_entries) entries) (subst IsKeyed (sym same_docs) docs) (subst (λ s. Leads room_schema Enforced step.2.0 step.0 s (Ok next)) stack step.2.1) in
         record {
           nodes = c.nodes ∙ step.1.rows ∙ without_number id (db 1);
           entries = c.entries ∙ ap (without (has 1 id)) same_entries;
           docs = c.docs ∙ ap (without (has 0 id)) same_docs;
-          room = c.room ∙ o.0 (omega arith);
-          sessions = c.sessions ∙ o.1.1.1.1.0 (omega arith);
-          slots = c.slots ∙ o.1.1.1.1.1.0 (omega arith);
+          room = c.room ∙ o.room (omega arith);
+          sessions = c.sessions ∙ o.session (omega arith);
+          slots = c.slots ∙ o.slot (omega arith);
         }
 
 -- ---- with no such node there is nothing that belongs to it
@@ -290,31 +287,32 @@ drops old new id count room h =
     let k = answer_is 1 _ _ [] (overlay db []) params given.0 (given.1.answer Null) in
     let same = found drop_node_query params (db 1) given.0 (has 0 id) (λ r. rowid r ∷ []) (λ r. and_true (has 0 id r)) (λ r. refl) k in (
       schema,
-      elim (found_or_none (db 1) id room.keyed.1.0) [
+      elim (found_or_none (db 1) id room.keyed.node) [
         | inl none ↦
             let rows : given.0 ≡ [] = nothing _ (subst (λ l. IsPermutation (map (λ r. rowid r ∷ []) l) given.0) none same) in
             let edit = edit_of db node_table (ids_of given.0) Given 0 [] in
             let quiet = subst (λ l. works room_schema Enforced 0 1 (taken_by db (edit_of db node_table (ids_of l) Given 0 [])) [] ≡ []) (sym rows) none_taken in
             let one = one_step room_schema Enforced db edited_to.0 edit quiet edited_to.1 in
+            let o = others_of 1 db edited_to.0 one.tables in
             let nodes : new.now.trees 1 ≡ db 1 = ap (λ (t : Trees). t 1) now ∙ one.rows ∙ ap (λ l. without_all (db 1) (ids_of l)) rows in
-            let entries : new.now.trees 3 ≡ db 3 = ap (λ (t : Trees). t 3) now ∙ one.tables.1.1.0 (omega arith) in
-            let docs : new.now.trees 5 ≡ db 5 = ap (λ (t : Trees). t 5) now ∙ one.tables.1.1.1.0 (omega arith) in
-            let keeps = subst (λ s. Keeps ForeignKey s new.now.trees) schema (ran.sound.obeys.rules ForeignKey) in
+            let entries : new.now.trees 3 ≡ db 3 = ap (λ (t : Trees). t 3) now ∙ o.entry (omega arith) in
+            let docs : new.now.trees 5 ≡ db 5 = ap (λ (t : Trees). t 5) now ∙ o.doc (omega arith) in
+            let keeps = rows_pass ForeignKey new.now schema ran.sound in
             let none_now : filter (has 0 id) (new.now.trees 1) ≡ [] = ap (filter (has 0 id)) nodes ∙ none in
-            let no_entry = none_of new.now.trees entry_ref entry_table 1 id refl entry_parent (all_weaker _ _ (λ r e. first_of_both _ _ e) (new.now.trees 3) keeps.1.1.0) none_now in
-            let no_doc = none_of new.now.trees doc_ref doc_table 0 id refl doc_parent (all_weaker _ _ (λ r e. first_of_both _ _ e) (new.now.trees 5) keeps.1.1.1.0) none_now in
+            let no_entry = none_of new.now.trees entry_ref entry_table 1 id refl entry_parent (all_weaker _ _ (λ r e. first_of_both _ _ e) (new.now.trees 3) keeps.entry) none_now in
+            let no_doc = none_of new.now.trees doc_ref doc_table 0 id refl doc_parent (all_weaker _ _ (λ r e. first_of_both _ _ e) (new.now.trees 5) keeps.doc) none_now in
             record {
               nodes = nodes ∙ sym (filter_all _ (db 1) (all_from (λ r. not (has 0 id r) ≡ true) (db 1) (λ r j. kept_apart r j none)));
               entries = sym no_entry ∙ ap (without (has 1 id)) entries;
               docs = sym no_doc ∙ ap (without (has 0 id)) docs;
-              room = ap (λ (t : Trees). t 0) now ∙ one.tables.0 (omega arith);
-              sessions = ap (λ (t : Trees). t 6) now ∙ one.tables.1.1.1.1.0 (omega arith);
-              slots = ap (λ (t : Trees). t 8) now ∙ one.tables.1.1.1.1.1.0 (omega arith);
+              room = ap (λ (t : Trees). t 0) now ∙ o.room (omega arith);
+              sessions = ap (λ (t : Trees). t 6) now ∙ o.session (omega arith);
+              slots = ap (λ (t : Trees). t 8) now ∙ o.slot (omega arith);
             }
         | inr there ↦
             let key = keyed_there there.0 there.1 in
             let rows = one_permutation (Int (pos id) ∷ []) given.0 (subst (λ l. IsPermutation l given.0) (ap (map (λ r. rowid r ∷ [])) there.1 ∙ ap (λ v. (v ∷ []) ∷ []) key) same) in
-            subst (λ t. Dropped db t id) (sym now) (drops_there db edited_to.0 id there.0 given.0 room.keyed.1.0 room.keyed.1.1.0 room.keyed.1.1.1.0 there.1 rows edited_to.1)
+            subst (λ t. Dropped db t id) (sym now) (drops_there db edited_to.0 id there.0 given.0 room.keyed.node room.keyed.entry room.keyed.doc there.1 rows edited_to.1)
       ],
     )
   where
@@ -331,7 +329,7 @@ drops old new id count room h =
     keyed_there : (r : Row) → filter (has 0 id) (old.now.trees 1) ≡ r ∷ [] → rowid r ≡ Int (pos id)
     keyed_there r only =
         let kept = has_filtered (has 0 id) (old.now.trees 1) r (subst (λ l. Has l r) (sym only) (inl refl)) in
-        has_int id r (all_has _ (old.now.trees 1) r room.keyed.1.0.ints kept.0) kept.1
+        has_int id r (all_has _ (old.now.trees 1) r room.keyed.node.ints kept.0) kept.1
 
 -- ---- the records
 
@@ -358,22 +356,14 @@ steps_drop old new id count room h =
     record {
       room = record {
         schema = done.0;
-        keyed = (
-          subst IsKeyed (sym it.room) room.keyed.0,
-          (
-            subst IsKeyed (sym it.nodes) (keyed_filter (λ r. not (has 0 id r)) (db 1) room.keyed.1.0),
-            (
-              subst IsKeyed (sym it.entries) (keyed_filter (λ r. not (has 1 id r)) (db 3) room.keyed.1.1.0),
-              (
-                subst IsKeyed (sym it.docs) (keyed_filter (λ r. not (has 0 id r)) (db 5) room.keyed.1.1.1.0),
-                (
-                  subst IsKeyed (sym it.sessions) room.keyed.1.1.1.1.0,
-                  (subst IsKeyed (sym it.slots) room.keyed.1.1.1.1.1.0, tt),
-                ),
-              ),
-            ),
-          ),
-        );
+        keyed = record {
+          room = subst IsKeyed (sym it.room) room.keyed.room;
+          node = subst IsKeyed (sym it.nodes) (keyed_filter (λ r. not (has 0 id r)) (db 1) room.keyed.node);
+          entry = subst IsKeyed (sym it.entries) (keyed_filter (λ r. not (has 1 id r)) (db 3) room.keyed.entry);
+          doc = subst IsKeyed (sym it.docs) (keyed_filter (λ r. not (has 0 id r)) (db 5) room.keyed.doc);
+          session = subst IsKeyed (sym it.sessions) room.keyed.session;
+          slot = subst IsKeyed (sym it.slots) room.keyed.slot;
+        };
         numbered = subst (AllByRecursion IsNumbered) (sym it.nodes) (all-filter IsNumbered (λ r. not (has 0 id r)) (db 1) room.numbered);
       };
       version = version_stays _ _ it.room;

@@ -67,25 +67,25 @@ pub steps_node : (old new : State) (node : Node) (name : List ℕ) (count : ℕ)
     → ExecutesInside 0 put_node_text (node_params node.id node.parent name (kind_number node.kind) node.owner node.group node.aclflag) old new (Ok count) → Steps old new (apply_change (PutNode node))
 steps_node old new node name count room named h =
     let ran = executes_inside put_node_text _ old new count h in
-    let done = puts_node old new node.id node.parent name (kind_number node.kind) node.owner node.group node.aclflag count room.schema room.keyed.1.0 ran.0 in
-    let it = done.2 in
+    let done = puts_node old new node.id node.parent name (kind_number node.kind) node.owner node.group node.aclflag count room.schema room.keyed.node ran.0 in
+    let it = done.put in
     let row = row_of_node node name in
     let id : it.id ≡ pos node.id = id_is (sym it.has_id ∙ ap rowid it.fits) in
     let is_numbered : IsNumbered it.row = subst IsNumbered (sym it.fits) (record { id = node.id; has_id = refl; parent = node.parent; has_parent = refl }) in
     let o = it.others in
     record {
-      room = still_room 1 old.now new.now room done.0 o (keyed_after 1 _ _ _ _ it room.keyed.1.0)
+      room = still_room 1 old.now new.now room done.schema o (keyed_after 1 _ _ _ _ it room.keyed.node)
           (subst (AllByRecursion IsNumbered) (sym it.rows) (all-put_row IsNumbered it.row _ is_numbered (all-filter IsNumbered (λ r. not (has_rowid it.id r)) (old.now.trees 1) room.numbered)));
-      version = version_stays _ _ (o.0 (omega arith));
+      version = version_stays _ _ (o.room (omega arith));
       records = same_records _ _
           (λ q. ap (λ rows. option_map node_of (only (map shown_node rows))) (filter_put 1 node.id q _ _ _ _ it id)
           ∙ through (λ rows. option_map node_of (only (map shown_node rows))) (q == node.id) (it.row ∷ []) (filter (has 0 q) (old.now.trees 1))
           ∙ ap (λ found. cond (q == node.id) (Some found) (nodes_in (old.now.trees 1) q)) (ap (λ r. node_of (shown_node r)) it.fits ∙ node_back node name named))
-          (λ q. ap (λ rows. entries_in rows q) (o.1.1.0 (omega arith)))
-          (λ q. ap (λ rows. documents_in rows q) (o.1.1.1.0 (omega arith)))
-          (ap next_in (o.0 (omega arith)))
-          (λ sid. ap (λ rows. sessions_in rows sid) (o.1.1.1.1.0 (omega arith)))
-          (λ sid slot. ap (λ rows. slots_in rows sid slot) (o.1.1.1.1.1.0 (omega arith)));
+          (λ q. ap (λ rows. entries_in rows q) (o.entry (omega arith)))
+          (λ q. ap (λ rows. documents_in rows q) (o.doc (omega arith)))
+          (ap next_in (o.room (omega arith)))
+          (λ sid. ap (λ rows. sessions_in rows sid) (o.session (omega arith)))
+          (λ sid slot. ap (λ rows. slots_in rows sid slot) (o.slot (omega arith)));
     }
 
 -- ---- a document and the next number
@@ -94,49 +94,49 @@ pub steps_doc : (old new : State) (id : ℕ) (bytes : Vec ℕ Global) (count : �
     → Steps old new (apply_change (PutDoc id bytes))
 steps_doc old new id bytes count room h =
     let ran = executes_inside put_doc_text _ old new count h in
-    let done = puts_doc old new id bytes.items count room.schema room.keyed.1.1.1.0 ran.0 in
-    let it = done.2 in
+    let done = puts_doc old new id bytes.items count room.schema room.keyed.doc ran.0 in
+    let it = done.put in
     let is : it.id ≡ pos id = id_is (sym it.has_id ∙ ap rowid it.fits) in
     let o = it.others in
     record {
-      room = still_room 5 old.now new.now room done.0 o (keyed_after 5 _ _ _ _ it room.keyed.1.1.1.0) (still_numbered 5 old.now new.now room (omega arith) o);
-      version = version_stays _ _ (o.0 (omega arith));
+      room = still_room 5 old.now new.now room done.schema o (keyed_after 5 _ _ _ _ it room.keyed.doc) (still_numbered 5 old.now new.now room (omega arith) o);
+      version = version_stays _ _ (o.room (omega arith));
       records = same_records _ _
-          (λ q. ap (λ rows. nodes_in rows q) (o.1.0 (omega arith)))
-          (λ q. ap (λ rows. entries_in rows q) (o.1.1.0 (omega arith)))
+          (λ q. ap (λ rows. nodes_in rows q) (o.node (omega arith)))
+          (λ q. ap (λ rows. entries_in rows q) (o.entry (omega arith)))
           (λ q. ap (λ rows. option_map doc_of (only (map shown_doc rows))) (filter_put 5 id q _ _ _ _ it is)
           ∙ through (λ rows. option_map doc_of (only (map shown_doc rows))) (q == id) (it.row ∷ []) (filter (has 0 q) (old.now.trees 5))
           ∙ ap (λ found. cond (q == id) (Some found) (documents_in (old.now.trees 5) q)) (ap (λ r. doc_of (shown_doc r)) it.fits))
-          (ap next_in (o.0 (omega arith)))
-          (λ sid. ap (λ rows. sessions_in rows sid) (o.1.1.1.1.0 (omega arith)))
-          (λ sid slot. ap (λ rows. slots_in rows sid slot) (o.1.1.1.1.1.0 (omega arith)));
+          (ap next_in (o.room (omega arith)))
+          (λ sid. ap (λ rows. sessions_in rows sid) (o.session (omega arith)))
+          (λ sid slot. ap (λ rows. slots_in rows sid slot) (o.slot (omega arith)));
     }
 
 -- the next number is put into a row of version 1
 pub version_put : (old new : State) (n count : ℕ) → IsRoomDatabase old.now → ExecutesInside 0 put_next_text (Int (pos n) ∷ []) old new (Ok count) → IsVersion1 (version_rows new.now.trees)
 version_put old new n count room h =
     let ran = executes_inside put_next_text _ old new count h in
-    let it = (puts_next old new n count room.schema room.keyed.0 ran.0).2 in
+    let it = (puts_next old new n count room.schema room.keyed.room ran.0).put in
     let is : it.id ≡ pos 1 = id_is (sym it.has_id ∙ ap rowid it.fits) in
     ap (λ rows. option_map (λ row. column row 0) (only (map shown_version rows))) (filter_put 0 1 1 _ _ _ _ it is) ∙ ap (λ r. Some (column (shown_version r) 0)) it.fits
 
 pub steps_next : (old new : State) (n count : ℕ) → IsRoomDatabase old.now → ExecutesInside 0 put_next_text (Int (pos n) ∷ []) old new (Ok count) → Steps old new (apply_change (PutNext n))
 steps_next old new n count room h =
     let ran = executes_inside put_next_text _ old new count h in
-    let done = puts_next old new n count room.schema room.keyed.0 ran.0 in
-    let it = done.2 in
+    let done = puts_next old new n count room.schema room.keyed.room ran.0 in
+    let it = done.put in
     let is : it.id ≡ pos 1 = id_is (sym it.has_id ∙ ap rowid it.fits) in
     let o = it.others in
     record {
-      room = still_room 0 old.now new.now room done.0 o (keyed_after 0 _ _ _ _ it room.keyed.0) (still_numbered 0 old.now new.now room (omega arith) o);
+      room = still_room 0 old.now new.now room done.schema o (keyed_after 0 _ _ _ _ it room.keyed.room) (still_numbered 0 old.now new.now room (omega arith) o);
       version = λ _. version_put old new n count room h;
       records = same_records _ _
-          (λ q. ap (λ rows. nodes_in rows q) (o.1.0 (omega arith)))
-          (λ q. ap (λ rows. entries_in rows q) (o.1.1.0 (omega arith)))
-          (λ q. ap (λ rows. documents_in rows q) (o.1.1.1.0 (omega arith)))
+          (λ q. ap (λ rows. nodes_in rows q) (o.node (omega arith)))
+          (λ q. ap (λ rows. entries_in rows q) (o.entry (omega arith)))
+          (λ q. ap (λ rows. documents_in rows q) (o.doc (omega arith)))
           (ap (λ rows. unwrap_or (option_map (λ row. number_in (column row 0)) (only (map shown_next rows))) 0) (filter_put 0 1 1 _ _ _ _ it is) ∙ ap (λ r. number_in (column (shown_next r) 0)) it.fits)
-          (λ sid. ap (λ rows. sessions_in rows sid) (o.1.1.1.1.0 (omega arith)))
-          (λ sid slot. ap (λ rows. slots_in rows sid slot) (o.1.1.1.1.1.0 (omega arith)));
+          (λ sid. ap (λ rows. sessions_in rows sid) (o.session (omega arith)))
+          (λ sid slot. ap (λ rows. slots_in rows sid slot) (o.slot (omega arith)));
     }
 
 -- ---- changes in turn

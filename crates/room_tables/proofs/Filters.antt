@@ -20,6 +20,7 @@ use Rattle.sqlite.specs.Effect.{Database}
 use Rattle.room_tables.specs.Tables.{room_schema}
 use Rattle.room_tables.specs.Rows.{has, versions_in, IsVersion1}
 use Rattle.room_tables.specs.Layout.{IsKeyed, IsNumbered, IsRoomDatabase}
+use Rattle.room_tables.proofs.Each.{from_both}
 use Rattle.room_tables.proofs.Values.{has_is, has_one, int_has}
 use Rattle.room_tables.proofs.Changes.{not_true, without, Others}
 use Rattle.room_tables.proofs.Upserts.{Put}
@@ -121,22 +122,17 @@ pub keyed_after : (tree : ℕ) (db next : Trees) (Fits Met : Row → Type 0) →
 keyed_after tree db next Fits Met it keyed =
     subst IsKeyed (sym it.rows) (keyed_put it.row _ (subst (λ v. is_int v ≡ true) (sym it.has_id) refl) (keyed_filter (λ r. not (has_rowid it.id r)) (db tree) keyed))
 
--- each table is keyed where the one that changed is
-all_keyed : (tables : List Table) (tree : ℕ) (db next : Trees) → AllByRecursion (λ (t : Table). IsKeyed (db t.tree)) tables → AllByRecursion (λ (t : Table). t.tree ≢ tree → next t.tree ≡ db t.tree) tables → IsKeyed (next tree)
-    → AllByRecursion (λ (t : Table). IsKeyed (next t.tree)) tables
-all_keyed [] tree db next keyed others mine = tt
-all_keyed (t ∷ tables) tree db next keyed others mine = (
-  elim (cases_eq t.tree tree) [
-    | inl same ↦ subst (λ n. IsKeyed (next n)) (sym same) mine
-    | inr apart ↦ subst IsKeyed (sym (others.0 apart)) keyed.0
-  ],
-  all_keyed tables tree db next keyed.1 others.1 mine,
-)
+-- a table is keyed where the one that changed is
+still_keyed : (tree : ℕ) (db next : Trees) → IsKeyed (next tree) → (t : Table) → IsKeyed (db t.tree) → (t.tree ≢ tree → next t.tree ≡ db t.tree) → IsKeyed (next t.tree)
+still_keyed tree db next mine t keyed other = elim (cases_eq t.tree tree) [
+  | inl same ↦ subst (λ n. IsKeyed (next n)) (sym same) mine
+  | inr apart ↦ subst IsKeyed (sym (other apart)) keyed
+]
 
 -- the tables are laid out as before
 pub still_room : (tree : ℕ) (old new : Database) → IsRoomDatabase old → new.schema ≡ room_schema → Others tree old.trees new.trees → IsKeyed (new.trees tree) → AllByRecursion IsNumbered (new.trees 1) → IsRoomDatabase new
-still_room tree old new room schema others mine numbered = record { schema = schema; keyed = all_keyed room_schema.tables tree old.trees new.trees room.keyed others mine; numbered = numbered }
+still_room tree old new room schema others mine numbered = record { schema = schema; keyed = from_both _ _ _ (still_keyed tree old.trees new.trees mine) room.keyed others; numbered = numbered }
 
 -- and the nodes are where another table changed
 pub still_numbered : (tree : ℕ) (old new : Database) → IsRoomDatabase old → 1 ≢ tree → Others tree old.trees new.trees → AllByRecursion IsNumbered (new.trees 1)
-still_numbered tree old new room apart others = subst (AllByRecursion IsNumbered) (sym (others.1.0 apart)) room.numbered
+still_numbered tree old new room apart others = subst (AllByRecursion IsNumbered) (sym (others.node apart)) room.numbered

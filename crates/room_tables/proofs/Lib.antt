@@ -2,6 +2,7 @@ pub mod Making
 pub mod Meaning
 pub mod Sorted
 pub mod Values
+pub mod Each
 pub mod Removed
 pub mod Queries
 pub mod Changes

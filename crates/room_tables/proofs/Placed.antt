@@ -120,21 +120,21 @@ cleared_rows db next id q is = elim (cases_eq q id) [
 -- no entry of the object is left, and all else is as it was
 pub lists_none : (old new : State) (id count : ℕ) → IsRoomDatabase old.now → ExecutesInside 0 drop_entries_text (Int (pos id) ∷ []) old new (Ok count) → Lists old.now.trees id [] new.now
 lists_none old new id count room h =
-    let it = drops_entries old new id count room.schema room.keyed.1.1.0 (executes_inside drop_entries_text _ old new count h).0 in
+    let it = drops_entries old new id count room.schema room.keyed.entry (executes_inside drop_entries_text _ old new count h).0 in
     let o = it.others in
     let rows = λ (q : ℕ). cleared_rows old.now.trees new.now.trees id q it.rows_are in
     let here : (id == id) ≡ true = eq-eqb id id refl in
     record {
-      room = still_room 3 old.now new.now room it.schema o (subst IsKeyed (sym it.rows_are) (keyed_filter (λ r. not (has 1 id r)) (old.now.trees 3) room.keyed.1.1.0)) (still_numbered 3 old.now new.now room (omega arith) o);
+      room = still_room 3 old.now new.now room it.schema o (subst IsKeyed (sym it.rows_are) (keyed_filter (λ r. not (has 1 id r)) (old.now.trees 3) room.keyed.entry)) (still_numbered 3 old.now new.now room (omega arith) o);
       mine = ap in_order (rows id ∙ ap (λ b. cond b [] (filter (has 1 id) (old.now.trees 3))) here);
       back = tt;
       others = λ q apart. let other : (q == id) ≡ false = grind (arith, nat_tests) in ap (λ l. map entry_of (in_order l)) (rows q ∙ ap (λ b. cond b [] (filter (has 1 q) (old.now.trees 3))) other);
-      nodes = λ q. ap (λ l. nodes_in l q) (o.1.0 (omega arith));
-      documents = λ q. ap (λ l. documents_in l q) (o.1.1.1.0 (omega arith));
-      next = ap next_in (o.0 (omega arith));
-      sessions = λ q. ap (λ l. sessions_in l q) (o.1.1.1.1.0 (omega arith));
-      slots = λ q n. ap (λ l. slots_in l q n) (o.1.1.1.1.1.0 (omega arith));
-      version = ap versions_in (o.0 (omega arith));
+      nodes = λ q. ap (λ l. nodes_in l q) (o.node (omega arith));
+      documents = λ q. ap (λ l. documents_in l q) (o.doc (omega arith));
+      next = ap next_in (o.room (omega arith));
+      sessions = λ q. ap (λ l. sessions_in l q) (o.session (omega arith));
+      slots = λ q n. ap (λ l. slots_in l q n) (o.slot (omega arith));
+      version = ap versions_in (o.room (omega arith));
     }
 
 -- one row more of the object, at the next place: those of the object are in order, and those of the others as before
@@ -184,19 +184,19 @@ pub lists_more : (text : List ℕ) (old new : State) (id at count : ℕ) (es bat
     → ExecutesInside 0 text (Int (pos id) ∷ bound_entries at batch) old new (Ok count) → Lists before id (es ++ batch) new.now
 lists_more text old new id at count es batch before adds place back was h =
     let it = adds old new count was.room.schema (executes_inside text _ old new count h).0 in
-    let o = it.2 in
-    let more = all_grown id at es batch (old.now.trees 3) (new.now.trees 3) place was.room.keyed.1.1.0 was.mine it.1 in
+    let o = it.others in
+    let more = all_grown id at es batch (old.now.trees 3) (new.now.trees 3) place was.room.keyed.entry was.mine it.rows in
     record {
-      room = still_room 3 old.now new.now was.room it.0 o more.keyed (still_numbered 3 old.now new.now was.room (omega arith) o);
+      room = still_room 3 old.now new.now was.room it.schema o more.keyed (still_numbered 3 old.now new.now was.room (omega arith) o);
       mine = more.mine;
       back = all-append IsReadBack es batch was.back back;
       others = λ q apart. ap (λ l. map entry_of (in_order l)) (more.others q apart) ∙ was.others q apart;
-      nodes = λ q. ap (λ l. nodes_in l q) (o.1.0 (omega arith)) ∙ was.nodes q;
-      documents = λ q. ap (λ l. documents_in l q) (o.1.1.1.0 (omega arith)) ∙ was.documents q;
-      next = ap next_in (o.0 (omega arith)) ∙ was.next;
-      sessions = λ q. ap (λ l. sessions_in l q) (o.1.1.1.1.0 (omega arith)) ∙ was.sessions q;
-      slots = λ q n. ap (λ l. slots_in l q n) (o.1.1.1.1.1.0 (omega arith)) ∙ was.slots q n;
-      version = ap versions_in (o.0 (omega arith)) ∙ was.version;
+      nodes = λ q. ap (λ l. nodes_in l q) (o.node (omega arith)) ∙ was.nodes q;
+      documents = λ q. ap (λ l. documents_in l q) (o.doc (omega arith)) ∙ was.documents q;
+      next = ap next_in (o.room (omega arith)) ∙ was.next;
+      sessions = λ q. ap (λ l. sessions_in l q) (o.session (omega arith)) ∙ was.sessions q;
+      slots = λ q n. ap (λ l. slots_in l q n) (o.slot (omega arith)) ∙ was.slots q n;
+      version = ap versions_in (o.room (omega arith)) ∙ was.version;
     }
 
 -- what the records are then

@@ -23,7 +23,7 @@ use Rattle.room_tables.specs.Layout.{IsKeyed, parent_value}
 use Rattle.room_tables.proofs.Meaning.{put_node_is, put_node_plain, put_doc_is, put_doc_plain, put_next_is, put_next_plain, put_session_is, put_session_plain}
 use Rattle.room_tables.proofs.Values.{has_int, has_text_value}
 use Rattle.room_tables.proofs.Changes.{cast_null, cast_int}
-use Rattle.room_tables.proofs.Upserts.{Put, IsUpsert, put}
+use Rattle.room_tables.proofs.Upserts.{PutInto, Put, IsUpsert, put}
 
 with_truth : (b : Bool) → ((b && true) || false) ≡ true → b ≡ true
 with_truth true h = refl
@@ -86,7 +86,7 @@ node_upsert id parent name kind owner group aclflag = record {
 
 pub puts_node : (old new : State) (id : ℕ) (parent : Option ℕ) (name : List ℕ) (kind : ℕ) (owner group : List ℕ) (aclflag count : ℕ) → old.now.schema ≡ room_schema → IsKeyed (old.now.trees 1)
     → Executes put_node_text (node_params id parent name kind owner group aclflag) old new (Ok count)
-    → (new.now.schema ≡ room_schema) × IsDatabase new.now × Put 1 old.now.trees new.now.trees (λ r. r ≡ stored_node id parent name kind owner group aclflag) (λ r. has 0 id r ≡ true)
+    → PutInto old.now new.now 1 (λ r. r ≡ stored_node id parent name kind owner group aclflag) (λ r. has 0 id r ≡ true)
 puts_node old new id parent name kind owner group aclflag count schema keyed h =
     put old new 1 node_table (0 ∷ []) 7 put_node_query.project put_node_terms 8 count put_node_text (node_params id parent name kind owner group aclflag) (stored_node id parent name kind owner group aclflag) (stored_node id parent name kind owner group aclflag) _ _
     (node_upsert id parent name kind owner group aclflag) refl schema keyed put_node_is put_node_plain refl (ap (λ r. with_rowid Chosen (old.now.trees 1) r) (cast_node id parent name kind owner group aclflag)) h
@@ -132,7 +132,7 @@ doc_upsert id bytes = record {
 }
 
 pub puts_doc : (old new : State) (id : ℕ) (bytes : List ℕ) (count : ℕ) → old.now.schema ≡ room_schema → IsKeyed (old.now.trees 5) → Executes put_doc_text (Int (pos id) ∷ Blob bytes ∷ []) old new (Ok count)
-    → (new.now.schema ≡ room_schema) × IsDatabase new.now × Put 5 old.now.trees new.now.trees (λ r. r ≡ stored_doc id bytes) (λ r. has 0 id r ≡ true)
+    → PutInto old.now new.now 5 (λ r. r ≡ stored_doc id bytes) (λ r. has 0 id r ≡ true)
 puts_doc old new id bytes count schema keyed h =
     put old new 3 doc_table (0 ∷ []) 2 put_doc_query.project put_doc_terms 3 count put_doc_text (Int (pos id) ∷ Blob bytes ∷ []) (stored_doc id bytes) (stored_doc id bytes) _ _
     (doc_upsert id bytes) refl schema keyed put_doc_is put_doc_plain refl (ap (λ r. with_rowid Chosen (old.now.trees 5) r) (cast_doc id bytes)) h
@@ -179,7 +179,7 @@ next_upsert n = record {
 }
 
 pub puts_next : (old new : State) (n count : ℕ) → old.now.schema ≡ room_schema → IsKeyed (old.now.trees 0) → Executes put_next_text (Int (pos n) ∷ []) old new (Ok count)
-    → (new.now.schema ≡ room_schema) × IsDatabase new.now × Put 0 old.now.trees new.now.trees (λ r. r ≡ stored_next n) (λ r. has 0 1 r ≡ true)
+    → PutInto old.now new.now 0 (λ r. r ≡ stored_next n) (λ r. has 0 1 r ≡ true)
 puts_next old new n count schema keyed h =
     put old new 0 room_table (0 ∷ []) 1 put_next_query.project put_next_terms 4 count put_next_text (Int (pos n) ∷ []) (stored_next n) (stored_next n) _ _
     (next_upsert n) refl schema keyed put_next_is put_next_plain refl (ap (λ r. with_rowid Chosen (old.now.trees 0) r) (cast_next n)) h
@@ -232,7 +232,7 @@ session_upsert id sid owner slots open_flag = record {
 
 pub puts_session : (old new : State) (sid owner : List ℕ) (slots open_flag count : ℕ) → old.now.schema ≡ room_schema → IsKeyed (old.now.trees 6)
     → Executes put_session_text (Text sid ∷ Text owner ∷ Int (pos slots) ∷ Int (pos open_flag) ∷ []) old new (Ok count)
-    → (new.now.schema ≡ room_schema) × IsDatabase new.now × Put 6 old.now.trees new.now.trees (IsSession sid owner slots open_flag) (λ r. has_text 1 sid r ≡ true)
+    → PutInto old.now new.now 6 (IsSession sid owner slots open_flag) (λ r. has_text 1 sid r ≡ true)
 puts_session old new sid owner slots open_flag count schema keyed h =
     put old new 4 session_table (1 ∷ []) 4 put_session_query.project put_session_terms 5 count put_session_text (Text sid ∷ Text owner ∷ Int (pos slots) ∷ Int (pos open_flag) ∷ [])
     (Null ∷ Text sid ∷ Text owner ∷ Int (pos slots) ∷ Int (pos open_flag) ∷ []) (stored_session (next_rowid (old.now.trees 6)) sid owner slots open_flag) _ _

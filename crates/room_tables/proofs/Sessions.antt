@@ -8,7 +8,7 @@ use Rattle.sqlite_value.specs.Keys.{plain, first_key}
 use Rattle.sqlite_value.specs.Order.{Row, column, value_cmp}
 use Rattle.sqlite_trees.specs.Tree.{rowid, without_rowid, has_rowid}
 use Rattle.sqlite_sql.specs.Ops.{binary}
-use Rattle.sqlite_schema.specs.Rules.{passes, Keeps, clashes, agree, differ, guards}
+use Rattle.sqlite_schema.specs.Rules.{passes, clashes, agree, differ, guards}
 use Rattle.sqlite_schema.specs.declared.schema.Constraint.TheVariants.{Unique}
 use Rattle.sqlite_rules.specs.Lists.{Has}
 use Rattle.sqlite_rules.proofs.ListLemmas.{all_has, some_from, test_has}
@@ -23,6 +23,7 @@ use Rattle.room_tables.specs.Texts.{put_session_text}
 use Rattle.room_tables.specs.Rows.{has_text, only, shown_session, session_of, sessions_in, nodes_in, entries_in, documents_in, next_in, slots_in}
 use Rattle.room_tables.specs.Layout.{IsKeyed, IsRoomDatabase}
 use Rattle.room_tables.specs.Steps.{Steps, flag_of}
+use Rattle.room_tables.proofs.Each.{rows_pass}
 use Rattle.room_tables.proofs.Values.{has_text_value, has_text_one, text_has, truth_back}
 use Rattle.room_tables.proofs.Removed.{one_row}
 use Rattle.room_tables.proofs.Queries.{and_true}
@@ -59,8 +60,7 @@ both_true a b p q = rw p q
 pub session_once : (db : Database) (sid : List ℕ) (x y : Row) → db.schema ≡ room_schema → IsDatabase db → IsKeyed (db.trees 6) → Has (db.trees 6) x → Has (db.trees 6) y
     → has_text 1 sid x ≡ true → has_text 1 sid y ≡ true → value_cmp (rowid x) (rowid y) ≡ Equal
 session_once db sid x y schema sound keyed in_x in_y p q =
-    let keeps = subst (λ s. Keeps Unique s db.trees) schema (sound.obeys.rules Unique) in
-    let clash = unique_session db y (all_has _ (db.trees 6) y keeps.1.1.1.1.0 in_y) in
+    let clash = unique_session db y (all_has _ (db.trees 6) y (rows_pass Unique db schema sound).session in_y) in
     elim (cases_Bool (differ (rowid x) (rowid y))) [
       | inl apart ↦ absurd (true≢false (sym (some_from (λ other. agree plain (1 ∷ []) other (1 ∷ []) y && differ (rowid other) (rowid y)) (db.trees 6) x in_x (both_true _ _ (agree_on sid x y p q) apart)) ∙ clash))
       | inr same ↦
@@ -109,22 +109,22 @@ pub steps_session : (old new : State) (row : SessionRow) (count : ℕ) → IsRoo
     → ExecutesInside 0 put_session_text (Text row.sid ∷ Text row.owner ∷ Int (pos row.slots) ∷ Int (pos (flag_of row.is_open)) ∷ []) old new (Ok count) → Steps old new (apply_change (PutSession row))
 steps_session old new row count room h =
     let ran = executes_inside put_session_text _ old new count h in
-    let done = puts_session old new row.sid row.owner row.slots (flag_of row.is_open) count room.schema room.keyed.1.1.1.1.0 ran.0 in
-    let it = done.2 in
+    let done = puts_session old new row.sid row.owner row.slots (flag_of row.is_open) count room.schema room.keyed.session ran.0 in
+    let it = done.put in
     let o = it.others in
     let mine : has_text 1 row.sid it.row ≡ true = text_has 1 row.sid it.row (ap (λ (r : Row). column r 1) it.fits.1) in
     record {
-      room = still_room 6 old.now new.now room done.0 o (keyed_after 6 _ _ _ _ it room.keyed.1.1.1.1.0) (still_numbered 6 old.now new.now room (omega arith) o);
-      version = version_stays _ _ (o.0 (omega arith));
+      room = still_room 6 old.now new.now room done.schema o (keyed_after 6 _ _ _ _ it room.keyed.session) (still_numbered 6 old.now new.now room (omega arith) o);
+      version = version_stays _ _ (o.room (omega arith));
       records = same_records _ _
-          (λ q. ap (λ rows. nodes_in rows q) (o.1.0 (omega arith)))
-          (λ q. ap (λ rows. entries_in rows q) (o.1.1.0 (omega arith)))
-          (λ q. ap (λ rows. documents_in rows q) (o.1.1.1.0 (omega arith)))
-          (ap next_in (o.0 (omega arith)))
-          (λ sid. ap (λ rows. option_map (session_of sid) (only (map shown_session rows))) (filter_session row.sid sid old.now new.now _ it mine done.0 done.1 room.keyed.1.1.1.1.0)
+          (λ q. ap (λ rows. nodes_in rows q) (o.node (omega arith)))
+          (λ q. ap (λ rows. entries_in rows q) (o.entry (omega arith)))
+          (λ q. ap (λ rows. documents_in rows q) (o.doc (omega arith)))
+          (ap next_in (o.room (omega arith)))
+          (λ sid. ap (λ rows. option_map (session_of sid) (only (map shown_session rows))) (filter_session row.sid sid old.now new.now _ it mine done.schema done.sound room.keyed.session)
           ∙ through (λ rows. option_map (session_of sid) (only (map shown_session rows))) (bytes_eq sid row.sid) (it.row ∷ []) (filter (has_text 1 sid) (old.now.trees 6))
           ∙ found sid it.row it.fits)
-          (λ sid slot. ap (λ rows. slots_in rows sid slot) (o.1.1.1.1.1.0 (omega arith)));
+          (λ sid slot. ap (λ rows. slots_in rows sid slot) (o.slot (omega arith)));
     }
   where
     found : (sid : List ℕ) (r : Row) → IsSession row.sid row.owner row.slots (flag_of row.is_open) r → cond (bytes_eq sid row.sid) (Some (session_of sid (shown_session r))) (sessions_in (old.now.trees 6) sid) ≡ cond (bytes_eq sid row.sid) (Some row) (sessions_in (old.now.trees 6) sid)

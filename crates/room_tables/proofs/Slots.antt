@@ -56,18 +56,18 @@ one_gone db next sid q slot n is = elim (cases_Bool (bytes_eq q sid && (n == slo
 pub steps_drop_slot : (old new : State) (sid : List ℕ) (slot count : ℕ) → IsRoomDatabase old.now → ExecutesInside 0 drop_slot_text (Text sid ∷ Int (pos slot) ∷ []) old new (Ok count)
     → Steps old new (without_slot sid slot) × HasNoSlot sid slot new.now.trees
 steps_drop_slot old new sid slot count room h =
-    let it = drops_slot old new sid slot count room.schema room.keyed.1.1.1.1.1.0 (executes_inside drop_slot_text _ old new count h).0 in
+    let it = drops_slot old new sid slot count room.schema room.keyed.slot (executes_inside drop_slot_text _ old new count h).0 in
     let o = it.others in
-    let keyed = subst IsKeyed (sym it.rows_are) (keyed_filter (λ r. not (is_slot sid slot r)) (old.now.trees 8) room.keyed.1.1.1.1.1.0) in (
+    let keyed = subst IsKeyed (sym it.rows_are) (keyed_filter (λ r. not (is_slot sid slot r)) (old.now.trees 8) room.keyed.slot) in (
       record {
         room = still_room 8 old.now new.now room it.schema o keyed (still_numbered 8 old.now new.now room (omega arith) o);
-        version = version_stays _ _ (o.0 (omega arith));
+        version = version_stays _ _ (o.room (omega arith));
         records = same_records _ _
-            (λ q. ap (λ rows. nodes_in rows q) (o.1.0 (omega arith)))
-            (λ q. ap (λ rows. entries_in rows q) (o.1.1.0 (omega arith)))
-            (λ q. ap (λ rows. documents_in rows q) (o.1.1.1.0 (omega arith)))
-            (ap next_in (o.0 (omega arith)))
-            (λ q. ap (λ rows. sessions_in rows q) (o.1.1.1.1.0 (omega arith)))
+            (λ q. ap (λ rows. nodes_in rows q) (o.node (omega arith)))
+            (λ q. ap (λ rows. entries_in rows q) (o.entry (omega arith)))
+            (λ q. ap (λ rows. documents_in rows q) (o.doc (omega arith)))
+            (ap next_in (o.room (omega arith)))
+            (λ q. ap (λ rows. sessions_in rows q) (o.session (omega arith)))
             (λ q n. one_gone old.now.trees new.now.trees sid q slot n it.rows_are);
       },
       ap (filter (is_slot sid slot)) it.rows_are ∙ none_left (is_slot sid slot) (is_slot sid slot) (old.now.trees 8) (λ r h. h),
@@ -91,18 +91,18 @@ all_gone db next sid q n is = elim (cases_Bool (bytes_eq q sid)) [
 
 pub steps_drop_slots : (old new : State) (sid : List ℕ) (count : ℕ) → IsRoomDatabase old.now → ExecutesInside 0 drop_slots_text (Text sid ∷ []) old new (Ok count) → Steps old new (apply_change (DropSlots sid))
 steps_drop_slots old new sid count room h =
-    let it = drops_slots old new sid count room.schema room.keyed.1.1.1.1.1.0 (executes_inside drop_slots_text _ old new count h).0 in
+    let it = drops_slots old new sid count room.schema room.keyed.slot (executes_inside drop_slots_text _ old new count h).0 in
     let o = it.others in
-    let keyed = subst IsKeyed (sym it.rows_are) (keyed_filter (λ r. not (has_text 1 sid r)) (old.now.trees 8) room.keyed.1.1.1.1.1.0) in
+    let keyed = subst IsKeyed (sym it.rows_are) (keyed_filter (λ r. not (has_text 1 sid r)) (old.now.trees 8) room.keyed.slot) in
     record {
       room = still_room 8 old.now new.now room it.schema o keyed (still_numbered 8 old.now new.now room (omega arith) o);
-      version = version_stays _ _ (o.0 (omega arith));
+      version = version_stays _ _ (o.room (omega arith));
       records = same_records _ _
-          (λ q. ap (λ rows. nodes_in rows q) (o.1.0 (omega arith)))
-          (λ q. ap (λ rows. entries_in rows q) (o.1.1.0 (omega arith)))
-          (λ q. ap (λ rows. documents_in rows q) (o.1.1.1.0 (omega arith)))
-          (ap next_in (o.0 (omega arith)))
-          (λ q. ap (λ rows. sessions_in rows q) (o.1.1.1.1.0 (omega arith)))
+          (λ q. ap (λ rows. nodes_in rows q) (o.node (omega arith)))
+          (λ q. ap (λ rows. entries_in rows q) (o.entry (omega arith)))
+          (λ q. ap (λ rows. documents_in rows q) (o.doc (omega arith)))
+          (ap next_in (o.room (omega arith)))
+          (λ q. ap (λ rows. sessions_in rows q) (o.session (omega arith)))
           (λ q n. all_gone old.now.trees new.now.trees sid q n it.rows_are);
     }
 
@@ -112,22 +112,22 @@ pub steps_add_slot : (old new : State) (row : SlotRow) (count : ℕ) → IsRoomD
     → ExecutesInside 0 add_slot_text (slot_values row.sid row.slot row.kept.seq row.kept.request row.kept.reply) old new (Ok count) → Steps old new (apply_change (PutSlot row))
 steps_add_slot old new row count room none h =
     let it = adds_slot old new row.sid row.slot row.kept.seq row.kept.request row.kept.reply count room.schema (executes_inside add_slot_text _ old new count h).0 in
-    let o = it.2 in
-    let more = it.1 in
+    let o = it.others in
+    let more = it.rows in
     let free = more.1 in
     let is = more.2 in
     let rows = old.now.trees 8 in
     let stored : Row = Int more.0 ∷ slot_values row.sid row.slot row.kept.seq row.kept.request row.kept.reply in
     let mine : is_slot row.sid row.slot stored ≡ true = both _ _ (text_has 1 row.sid stored refl) (int_has 2 row.slot stored refl) in
     record {
-      room = still_room 8 old.now new.now room it.0 o (subst IsKeyed (sym is) (keyed_put stored rows refl room.keyed.1.1.1.1.1.0)) (still_numbered 8 old.now new.now room (omega arith) o);
-      version = version_stays _ _ (o.0 (omega arith));
+      room = still_room 8 old.now new.now room it.schema o (subst IsKeyed (sym is) (keyed_put stored rows refl room.keyed.slot)) (still_numbered 8 old.now new.now room (omega arith) o);
+      version = version_stays _ _ (o.room (omega arith));
       records = same_records _ _
-          (λ q. ap (λ rows. nodes_in rows q) (o.1.0 (omega arith)))
-          (λ q. ap (λ rows. entries_in rows q) (o.1.1.0 (omega arith)))
-          (λ q. ap (λ rows. documents_in rows q) (o.1.1.1.0 (omega arith)))
-          (ap next_in (o.0 (omega arith)))
-          (λ q. ap (λ rows. sessions_in rows q) (o.1.1.1.1.0 (omega arith)))
+          (λ q. ap (λ rows. nodes_in rows q) (o.node (omega arith)))
+          (λ q. ap (λ rows. entries_in rows q) (o.entry (omega arith)))
+          (λ q. ap (λ rows. documents_in rows q) (o.doc (omega arith)))
+          (ap next_in (o.room (omega arith)))
+          (λ q. ap (λ rows. sessions_in rows q) (o.session (omega arith)))
           (λ q n. elim (cases_Bool (bytes_eq q row.sid && (n == row.slot))) [
             | inl same ↦
                 let names = names_same row.sid q row.slot n same in

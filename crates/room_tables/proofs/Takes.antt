@@ -17,7 +17,7 @@ use Rattle.room_tables.specs.Steps.{type_of, shown_as}
 use Rattle.room_tables.specs.Layout.{IsKeyed}
 use Rattle.room_tables.proofs.Meaning.{drop_entries_is, drop_entries_plain, drop_slots_is, drop_slots_plain, drop_slot_is, drop_slot_plain, add_entry_is, add_entry_plain, add_two_is, add_two_plain, add_three_is, add_three_plain, add_four_is, add_four_plain, add_slot_is, add_slot_plain}
 use Rattle.room_tables.proofs.Queries.{and_true}
-use Rattle.room_tables.proofs.Changes.{Leaves, Others, HasAll, without, cleared, unnumbered, inserted_all, cast_null, cast_int}
+use Rattle.room_tables.proofs.Changes.{Added, Leaves, Others, HasAll, without, cleared, unnumbered, inserted_all, cast_null, cast_int}
 
 entries_quiet : (olds : List Row) → works room_schema Enforced 0 3 olds [] ≡ []
 unfolding everything
@@ -83,7 +83,7 @@ cast_stored node at (e ∷ es) = ap₂ (λ row rows. row ∷ rows) one (cast_sto
 -- what an INSERT of entries does, where its text means that
 abbrev pub AddsEntries : List ℕ → ℕ → ℕ → List EntryModel → Type 1
 AddsEntries text node at es = (old new : State) (count : ℕ) → old.now.schema ≡ room_schema → Executes text (Int (pos node) ∷ bound_entries at es) old new (Ok count)
-    → (new.now.schema ≡ room_schema) × HasAll (old.now.trees 3) (new.now.trees 3) (stored node at es) × Others 3 old.now.trees new.now.trees
+    → Added old.now new.now 3 (stored node at es)
 
 pub adds_one : (node at : ℕ) (a : EntryModel) → AddsEntries add_entry_text node at (a ∷ [])
 adds_one node at a old new count schema h =
@@ -109,7 +109,7 @@ abbrev pub slot_values : List ℕ → ℕ → ℕ → List ℕ → List ℕ → 
 slot_values sid slot seq request reply = Text sid ∷ Int (pos slot) ∷ Int (pos seq) ∷ Blob request ∷ Blob reply ∷ []
 
 pub adds_slot : (old new : State) (sid : List ℕ) (slot seq : ℕ) (request reply : List ℕ) (count : ℕ) → old.now.schema ≡ room_schema → Executes add_slot_text (slot_values sid slot seq request reply) old new (Ok count)
-    → (new.now.schema ≡ room_schema) × HasAll (old.now.trees 8) (new.now.trees 8) (slot_values sid slot seq request reply ∷ []) × Others 8 old.now.trees new.now.trees
+    → Added old.now new.now 8 (slot_values sid slot seq request reply ∷ [])
 adds_slot old new sid slot seq request reply count schema h =
     inserted_all old new 5 slot_table add_slot_text (slot_values sid slot seq request reply) (slot_values sid slot seq request reply ∷ []) add_slot_terms 6 count refl schema refl add_slot_is add_slot_plain slot_quiet
     (rw (cast_null, cast_int (pos slot), cast_int (pos seq)) refl) h

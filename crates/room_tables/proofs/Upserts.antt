@@ -39,7 +39,7 @@ use Rattle.room_tables.specs.Layout.{IsKeyed}
 use Rattle.room_tables.proofs.Queries.{Picks, passing, answer_is, and_true}
 use Rattle.room_tables.proofs.Values.{equal_is, eq_is}
 use Rattle.room_tables.proofs.Removed.{one_row}
-use Rattle.room_tables.proofs.Changes.{went, same_value, not_true, not_counted, task_on, Others, upserts}
+use Rattle.room_tables.proofs.Changes.{went, same_value, not_true, not_counted, task_on, Others, others_of, upserts}
 
 -- A row of this kind stands in the table, in the place of a row that it met.
 pub record Put (tree : ℕ) (db next : Trees) (Fits Met : Row → Type 0) : Type 0 where
@@ -51,6 +51,12 @@ pub record Put (tree : ℕ) (db next : Trees) (Fits Met : Row → Type 0) : Type
   pub rows : next tree ≡ put_row row (without_rowid id (db tree))
   pub others : Others tree db next
   pub gone : (r : Row) → Has (db tree) r → has_rowid id r ≡ true → Met r
+
+-- the same of a database, which is sound
+pub record PutInto (old new : Database) (tree : ℕ) (Fits Met : Row → Type 0) : Type 0 where
+  pub schema : new.schema ≡ room_schema
+  pub sound : IsDatabase new
+  pub put : Put tree old.trees new.trees Fits Met
 
 -- the parts of an upsert: its table, what the update reads, and the row that is put
 pub record IsUpsert (table : Table) (target : List ℕ) (n : ℕ) (project : List Term) (params new : Row) (Fits Met : Row → Type 0) : Type 0 where
@@ -115,7 +121,7 @@ module _ (table : Table) (target : List ℕ) (n : ℕ) (project : List Term) (pa
         has_id = it.has_id;
         free = subst (λ l. is_taken l new ≡ false) (sym same) free;
         rows = ap (λ (t : Trees). t table.tree) trees ∙ one.rows ∙ ap (put_all (db table.tree)) news ∙ ap (put_row new) (sym same);
-        others = subst (λ t. Others table.tree db t) (sym trees) one.tables;
+        others = subst (λ t. Others table.tree db t) (sym trees) (others_of table.tree db done.0 one.tables);
         gone = none_gone it.id (db table.tree) new it.has_id free;
       }
 
@@ -147,7 +153,7 @@ module _ (table : Table) (target : List ℕ) (n : ℕ) (project : List Term) (pa
         has_id = it.same_id there ∙ is;
         free = not_true _ (first_of_both _ _ (subst₂ (λ l m. are_fresh l m ≡ true) left news step.fresh));
         rows = ap (λ (t : Trees). t table.tree) trees ∙ step.rows ∙ ap₂ put_all left news;
-        others = subst (λ t. Others table.tree db t) (sym trees) step.tables;
+        others = subst (λ t. Others table.tree db t) (sym trees) (others_of table.tree db done.0 step.tables);
         gone = gone;
       }
 
@@ -191,7 +197,7 @@ pub put : (old new : State) (at : ℕ) (table : Table) (target : List ℕ) (n : 
     → command_of (understood room_schema sql) ≡ InsertOr at Abort (Values terms width) (clause table target n project params row Fits Met it ∷ []) → IsPlain (understood room_schema sql)
     → value_rows (stamped table params) width (length terms / width) terms ≡ source ∷ []
     → with_rowid Chosen (old.now.trees table.tree) (cast_row table source) ≡ row
-    → Executes sql params old new (Ok count) → (new.now.schema ≡ room_schema) × IsDatabase new.now × Put table.tree old.now.trees new.now.trees Fits Met
+    → Executes sql params old new (Ok count) → PutInto old.now new.now table.tree Fits Met
 put old new at table target n project terms width count sql params source row Fits Met it place schema keyed is plain given_is row_is h =
     let db = old.now.trees in
     let k = clause table target n project params row Fits Met it in
@@ -210,4 +216,4 @@ put old new at table target n project terms width count sql params source row Fi
     let last : one.0.trees ≡ done.0.0.trees = ap (λ (x : Written × ℤ). x.0.trees) (sym (same_value one.2)) in
     let trees : w.rows.trees ≡ one.0.trees = ap (λ (x : Written). x.trees) (same_value counted.2) ∙ not_counted (task_on old table params) done.0.0.trees counted.0 counter.0 _ it.uncounted counted.1 ∙ sym last in
     let now : new.now.trees ≡ one.0.trees = ap (λ (d : Database). d.trees) w.now ∙ trees in
-    (ap (λ (d : Database). d.schema) w.now, ran.sound, subst (λ t. Put table.tree db t Fits Met) (sym now) is_put)
+    record { schema = ap (λ (d : Database). d.schema) w.now; sound = ran.sound; put = subst (λ t. Put table.tree db t Fits Met) (sym now) is_put }

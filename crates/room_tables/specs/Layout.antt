@@ -9,7 +9,7 @@ use Rattle.sqlite_trees.specs.View.{is_int}
 use Rattle.sqlite.specs.Table.{Table}
 use Rattle.sqlite.specs.Values.{or_null}
 use Rattle.sqlite.specs.Effect.{Database}
-use Rattle.room_tables.specs.Tables.{room_schema}
+use Rattle.room_tables.specs.Tables.{room_schema, room_table, node_table, entry_table, doc_table, session_table, slot_table}
 use Rattle.room_tables.specs.Rows.{version_rows, IsVersion1}
 
 -- the rowids are integers and rise, so none comes twice
@@ -28,10 +28,19 @@ pub record IsNumbered (row : Row) : Type 0 where
   pub parent : Option ℕ
   pub has_parent : column row 2 ≡ parent_value parent
 
+-- a fact of each of the six tables
+pub record OfEachTable (P : Table → Type 0) : Type 0 where
+  pub room : P room_table
+  pub node : P node_table
+  pub entry : P entry_table
+  pub doc : P doc_table
+  pub session : P session_table
+  pub slot : P slot_table
+
 -- the six tables and their indexes, and nothing else
 pub record IsRoomDatabase (db : Database) : Type 0 where
   pub schema : db.schema ≡ room_schema
-  pub keyed : AllByRecursion (λ (t : Table). IsKeyed (db.trees t.tree)) room_schema.tables
+  pub keyed : OfEachTable (λ (t : Table). IsKeyed (db.trees t.tree))
   pub numbered : AllByRecursion IsNumbered (db.trees 1)
 
 -- a database that `adopt` takes: laid out for the records of a room, and of version 1
