@@ -144,7 +144,14 @@ fn is_room<S: Alter>(conn: &mut Connection<S>) -> Result<bool, Error>
 }
 
 impl<S: Alter> SqlShelf<S> {
-    /// Makes the tables and a fresh room of this owner and group, in one transaction. A refusal hands the connection back.
+    /// Makes the tables and a fresh room of this owner and group, in one transaction. A refusal hands the connection
+    /// back: `RoomExists` where a table has the name of one of the six (`ROOM` is the name `room`), `Memory` where
+    /// memory was refused, `Store` where a call of `sqlite` answered another fault. The form of the tables is our own.
+    ///
+    /// The room, and what a crash leaves of it, are promised of a database without any table, index or view. It works
+    /// in others too, beside what is there; of them it is promised that no table had one of the six names, and after a
+    /// refusal that the database is as it was, and no more: not that its rows stand for a room, nor what became of
+    /// the other tables.
     pub fn init(
         alloc: Global,
         connection: Connection<S>,
@@ -176,7 +183,13 @@ impl<S: Alter> SqlShelf<S> {
         }
     }
 
-    /// Takes a room that is there. Whether keys and CHECKs are as `init` declares them is not tested. A refusal hands the connection back.
+    /// Takes a room that is there. It looks for the six tables and their columns by their names, and for the version 1,
+    /// and for nothing else. A refusal hands the connection back: `NotARoom` where one of these is missing, `Memory`
+    /// where memory was refused, `Store` where a call of `sqlite` answered another fault.
+    ///
+    /// What a shelf promises of its records is promised here of one schema alone: the six tables as `init` makes them
+    /// in an empty database, STRICT, with their keys, CHECKs and references, in that order, and nothing else in the
+    /// database. One with other keys or further tables is taken as well, and nothing is promised of its records.
     pub fn adopt(
         alloc: Global,
         connection: Connection<S>,
