@@ -12,3 +12,4 @@ pub mod NodeIndex
 pub mod Sessions
 pub mod Fresh
 pub mod Mem
+pub mod Writers
