@@ -101,7 +101,7 @@ check_folder_full room folder = refuse_if (nat_le max_children (length (children
 abbrev pub check_room_full : Room → Option Refusal
 check_room_full room = refuse_if (nat_le max_objects room.made) RoomFull
 
--- a document of this size is small enough
+-- a file of this size is small enough
 abbrev pub check_size : ℕ → Option Refusal
 check_size size = refuse_if (nat_lt max_document size) FBig
 
@@ -109,7 +109,7 @@ abbrev pub bytes_of : Option Object → List ℕ
 bytes_of None = []
 bytes_of (Some o) = o.bytes
 
--- the document at a path
+-- the bytes of the file at a path
 abbrev pub bytes_at : Room → Path → List ℕ
 bytes_at room path = bytes_of (object_at room path)
 

@@ -79,7 +79,7 @@ changed room caller (C.Read path) = room
 changed room caller (C.GetList path) = room
 changed room caller (C.Access mask path) = room
 
--- the size of a document, or how many are in a folder
+-- the size of a file, or how many are in a folder
 abbrev pub size_of : Room → Path → Kind → ℕ
 size_of room path File = length (bytes_at room path)
 size_of room path Folder = length (children room path)

@@ -2,9 +2,6 @@
 use Rattle.std.proofs.Common.{◌≡◌, ℕ, refl, true, false, Bool, List, [], ◌∷◌, ◌++◌, None, Some, length, ap, sym, ◌∙◌, ◌≤◌, arith, subst}
 use Rattle.std.specs.Prelude.{cond, ◌==◌}
 use Rattle.std.proofs.lemmas.Bool.{eqb-true}
-use Rattle.room_acl.specs.declared.subject.Kind.TheVariants.{Folder}
-use Rattle.room_acl.specs.declared.who.Who.TheVariants.{Owner, Group}
-use Rattle.room_acl.specs.Entries.{EntryModel}
 use Rattle.room_records.specs.declared.node.Node.{Node}
 use Rattle.room_records.specs.Fresh.{fresh_root}
 use Rattle.room_records.specs.Limits.{max_children}

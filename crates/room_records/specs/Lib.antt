@@ -13,3 +13,4 @@ pub mod NodeIndex
 pub mod Sessions
 pub mod Fresh
 pub mod Mem
+pub mod Writers

@@ -1,7 +1,7 @@
 -- A room: a finite map from paths to objects. It holds no inherited entry and no object number.
 -- Which objects follow their folder, what a list is made of and every limit are our own rules; masks,
 -- flags and `who` are those of RFC 8881, section 6.2.1, and list flags those of section 6.4.3.2.
-use Rattle.std.specs.Prelude.{◌≡◌, ℕ, ◌-◌, Bool, true, not, List, [], ◌∷◌, ◌++◌, reverse, length, take, Option, None, Some, if◌then◌else◌, ◌≤◌, IsTrue}
+use Rattle.std.specs.Prelude.{◌≡◌, ℕ, ◌-◌, true, not, List, [], ◌∷◌, ◌++◌, reverse, length, take, Option, None, Some, if◌then◌else◌, ◌≤◌, IsTrue}
 use Rattle.std.specs.List.{filter_map, list_all}
 use Rattle.std.specs.Map.{lookup}
 use Rattle.std.specs.Option.{option_map}

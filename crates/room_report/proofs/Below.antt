@@ -9,6 +9,7 @@ use Rattle.std.proofs.lemmas.Cmp.{nat_list_cmp_total}
 use Rattle.std.proofs.lemmas.List.{length_push}
 use Rattle.room_acl.specs.declared.subject.Kind.TheVariants.{File, Folder}
 use Rattle.room_records.specs.declared.node.Node.{Node}
+use Rattle.room_records.specs.Limits.{max_names}
 use Rattle.room_records.specs.Names.{Name, Path, name_cmp, path_cmp, path_eq}
 use Rattle.room_records.specs.Records.{ObjectRecords, IsChild}
 use Rattle.room_records.specs.Room.{Object, Room, IsRoom, AreObjects, object_at}
@@ -191,7 +192,7 @@ module _ (t : ObjectRecords) (room : Room) (stand : RepresentsRoom t room) (path
       none_is_some found.0 (sym nothing ∙ found.1))
 
   -- nor below the longest path
-  pub none_below_the_longest : 16 ≤ length path → AreChildren t id []
+  pub none_below_the_longest : max_names ≤ length path → AreChildren t id []
   none_below_the_longest long = no_children (λ node child.
       let found = child_object node child in
       let lawful = path_of_object room stand.lawful (path ++ name_of node ∷ []) found.0 found.1 in

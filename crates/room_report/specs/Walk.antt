@@ -9,6 +9,7 @@ use Rattle.room_records.specs.Names.{Path, name_eq}
 use Rattle.room_records.specs.Records.{Records, ObjectRecords}
 use Rattle.room_records.specs.Room.{Object, Room, object_at, list_of, standing_of}
 use Rattle.room_records.specs.Representation.{RepresentsRoom, HasPath}
+pub use Rattle.room_records.specs.Writers.{AppendsFront}
 use Rattle.room_report.specs.declared.item.Item.{Item}
 use Rattle.room_report.specs.declared.lines.Report.{Report}
 use Rattle.room_report.specs.declared.lines.Report.TheVariants.{Access, Lists}
@@ -65,10 +66,6 @@ objects_below room path = filter (λ (e : Path × Object). is_front path e.0) (i
 
 abbrev pub text_below : Report → Room → Path → List ℕ
 text_below report room path = flat_map (lines_of report room) (objects_below room path)
-
--- a writer took a beginning of these bytes
-abbrev pub AppendsFront : Option (List ℕ) → Option (List ℕ) → List ℕ → Type 0
-AppendsFront old new bytes = (front back : List ℕ) × (bytes ≡ front ++ back) × Appends old new front
 
 -- a writer took these bytes at Ok, and a beginning of them at Err
 abbrev pub Writes : {X E : Type 0} → Option (List ℕ) → Option (List ℕ) → List ℕ → Result X E → Type 0

@@ -1,13 +1,11 @@
 //! What is carried down of an object.
-ghost use Rattle.std.specs.Prelude.{◌≡◌, ◌≤◌, ◌++◌, [], ◌∷◌, IfOk, OnOk, Err, MatchOption, unwrap_or, if◌then◌else◌};
-ghost use Rattle.room_acl.specs.Inheritance.{handed_down};
+ghost use Rattle.std.specs.Prelude.{◌≡◌, ◌≤◌, ◌++◌, [], ◌∷◌, IfOk, OnOk, Err, MatchOption, unwrap_or};
 ghost use Rattle.room_records.specs.Names.{Path as PathModel};
 ghost use Rattle.room_records.specs.Records.{IsChild};
-ghost use Rattle.room_records.specs.Room.{follows};
 ghost use Rattle.room_records.specs.Shelf.{FailureCounted, Unchanged, name_of};
 ghost use Rattle.room_report.specs.Walk.{OfRoom, IsItem};
 
-use room_acl::{Entry, Kind, ListFlags, Standing, hand_down};
+use room_acl::{Entry, Kind, ListFlags, Standing, with_inherited};
 use room_records::{FileName, Node, Shelf, ShelfFault};
 use std::alloc::{AllocError, Global};
 
@@ -90,30 +88,4 @@ fn with_name(alloc: Global, names: &[u8], name: &Option<FileName>) -> Result<Vec
         longer.extend_from_slice(name.text().as_bytes())?;
     }
     Ok(longer)
-}
-
-/// Whether an object with these list flags follows its folder.
-fn follows(aclflag: ListFlags) -> bool
-    ensures { result ≡ follows aclflag }
-{
-    let bits = aclflag.bits();
-    bits & 1 == 1 && (bits >> 1) & 1 == 0
-}
-
-/// The own entries, then, where the object follows, what its folder's list hands down.
-fn with_inherited(
-    alloc: Global,
-    own: Vec<Entry>,
-    aclflag: ListFlags,
-    kind: Kind,
-    above: &[Entry],
-) -> Result<Vec<Entry>, AllocError>
-    ensures { IfOk result (λ list. list.items ≡ own.items ++ (if follows aclflag then handed_down above.now kind else [])) }
-{
-    let mut list = own;
-    if follows(aclflag) {
-        let mut given = hand_down(alloc, above, kind)?;
-        list.append(&mut given)?;
-    }
-    Ok(list)
 }

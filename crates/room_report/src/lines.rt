@@ -2,12 +2,11 @@
 ghost use Rattle.std.specs.Prelude.{◌≡◌, ◌<◌, ◌≤◌, ◌++◌, ◌∷◌, [], IfOk, OnOk};
 ghost use Rattle.std.specs.List.{flat_map};
 ghost use Rattle.room_acl.specs.Access.{allowed_mask};
-ghost use Rattle.room_acl.specs.Entries.{who_text};
 ghost use Rattle.room_report.specs.Lines.{hex, hex_digit, in_places, kind_letter, type_letter, mask_line, entry_line, head_line};
 ghost use Rattle.room_report.specs.Walk.{item_lines, shown_path};
 
 use crate::item::Item;
-use room_acl::{Entry, Kind, Subject, Who, allowed_bits};
+use room_acl::{Entry, Kind, Subject, allowed_bits};
 use std::alloc::{AllocError, Global};
 
 /// Which report is written.
@@ -95,7 +94,7 @@ fn push_entry_line(buffer: &mut Vec<u8>, entry: &Entry) -> Result<(), AllocError
     buffer.push(b' ')?;
     push_hex(buffer, 8, entry.mask().bits())?;
     buffer.push(b' ')?;
-    buffer.extend_from_slice(who_text(entry.who()).as_bytes())?;
+    buffer.extend_from_slice(entry.who().text().as_bytes())?;
     buffer.push(b'\n')?;
     Ok(())
 }
@@ -127,18 +126,6 @@ fn type_letter(allow: bool) -> u8
     ensures { result ≡ type_letter allow }
 {
     if allow { b'A' } else { b'D' }
-}
-
-fn who_text(who: &Who) -> &str
-    ensures { result.now ≡ who_text who.now }
-{
-    match who {
-        Who::Owner => "OWNER@",
-        Who::Group => "GROUP@",
-        Who::Everyone => "EVERYONE@",
-        Who::User(name) => name.text(),
-        Who::Members(name) => name.text(),
-    }
 }
 
 /// A text left in 32 places.

@@ -1,5 +1,6 @@
 //! The walk of a whole room, a folder before what is in it.
 ghost use Rattle.std.specs.Prelude.{◌≡◌, ◌≢◌, ◌≤◌, ◌+◌, [], Err, true, false, length, OnOk};
+ghost use Rattle.room_records.specs.Limits.{max_names};
 ghost use Rattle.room_records.specs.Names.{Path as PathModel};
 ghost use Rattle.room_records.specs.Records.{ObjectRecords};
 ghost use Rattle.room_records.specs.Representation.{RepresentsRoom};
@@ -12,12 +13,12 @@ use crate::lines::{Report, item_lines};
 use crate::reports::ReportFault;
 use crate::sending::send;
 use room_acl::Kind;
-use room_records::Shelf;
+use room_records::{MAX_NAMES, Shelf};
 use std::alloc::Global;
 use std::io::Write;
 
-/// How many names a path may have.
-const MAX_NAMES: u32 = 16;
+/// How deep a room can be.
+const DEPTH: u32 = MAX_NAMES as u32;
 
 /// Writes the report of the whole room.
 pub(crate) fn report_room<S: Shelf, W: Write>(
@@ -37,7 +38,7 @@ pub(crate) fn report_room<S: Shelf, W: Write>(
     let Some(root) = root_item(alloc, shelf)? else {
         return Ok(());
     };
-    report_below(alloc, shelf, report, &root, MAX_NAMES, writer)
+    report_below(alloc, shelf, report, &root, DEPTH, writer)
 }
 
 /// Writes the lines of an object and of all below it, so many names down at most.
@@ -49,7 +50,7 @@ fn report_below<S: Shelf, W: Write>(
     depth: u32,
     writer: &mut W,
 ) -> Result<(), ReportFault>
-    ensures value { OfRoom S.records S.is_honest S.is_declared shelf.old shelf.new (λ t room. (path : PathModel) → IsItem t room path item.now → length path + depth ≡ 16 →
+    ensures value { OfRoom S.records S.is_honest S.is_declared shelf.old shelf.new (λ t room. (path : PathModel) → IsItem t room path item.now → length path + depth ≡ max_names →
         Writes (W.contents writer.old) (W.contents writer.new) (text_below report.now room path) result) }
     ensures alive { S.is_clean shelf.new → S.is_honest shelf.old → OnOk result (S.is_honest shelf.new) }
     ensures unchanged { Unchanged S.records S.is_honest S.is_clean S.is_declared S.crash_may_leave shelf.old shelf.new }
@@ -85,7 +86,7 @@ fn write_item<W: Write>(
 
 /// Whether nothing can be below: in a file, and at the end of the longest path.
 fn is_leaf(item: &Item, depth: u32) -> bool
-    ensures leaf { result ≡ true → (t : ObjectRecords) (room : Room) → RepresentsRoom t room → (path : PathModel) → IsItem t room path item.now → length path + depth ≡ 16 →
+    ensures leaf { result ≡ true → (t : ObjectRecords) (room : Room) → RepresentsRoom t room → (path : PathModel) → IsItem t room path item.now → length path + depth ≡ max_names →
         AreChildren t item.now.id [] }
     ensures deep { result ≡ false → 1 ≤ depth }
 {

@@ -19,6 +19,7 @@ use Rattle.toml.specs.Data.{Data, array, table, Members, no_members, member, get
 use Rattle.toml.specs.View.{view, members_view, table_view}
 use Rattle.toml.proofs.Views.{Entry}
 use Rattle.room_acl.specs.SubjectModel.{SubjectModel}
+use Rattle.room_records.specs.Limits.{max_users, max_groups}
 use Rattle.room_records.specs.Names.{name_cmp}
 use Rattle.room_records.specs.Roster.{AreBefore, IsRoster, may_join, with_user}
 use Rattle.room_records.proofs.Rosters.{absent, joins, greater_back}
@@ -133,9 +134,9 @@ refused all rest done users e so is lawful bad = let (more, users_are, rest_is) 
         let groups_are : view e.1 ≡ array (list_of_names u.groups) = cc in
         let here : IsNamedRoster (done ++ u ∷ more) = subst IsNamedRoster users_are lawful in
         let named : IsNamed u = all_here IsNamed done more u here.named in
-        let few_groups : length u.groups ≤ 16 = all_here (λ (v : SubjectModel). length v.groups ≤ 16) done more u here.roster.few_groups in
-        let few : length (done ++ u ∷ more) ≤ 1000 = here.roster.few in
-        let room : length done < 1000 = omega (arith, length-append done (u ∷ more)) in
+        let few_groups : length u.groups ≤ max_groups = all_here (λ (v : SubjectModel). length v.groups ≤ max_groups) done more u here.roster.few_groups in
+        let few : length (done ++ u ∷ more) ≤ max_users = here.roster.few in
+        let room : length done < max_users = omega (arith, length-append done (u ∷ more)) in
         let none = absent done key (length done) so.lawful.roster.in_order (done, [], sym (append-nil done), refl, so.behind.0, tt) in
         let yes = joins done key u.groups few_groups room none in
         let no = bad u.groups groups_are (rw name_is named.0, named.1) in

@@ -4,9 +4,10 @@ use Rattle.std.proofs.Common.{Vec, ◌≡◌, ◌==◌, cond, ℕ, false, List, 
 use Rattle.room_acl.specs.Entries.{EntryModel}
 use Rattle.room_records.specs.declared.change.Change.TheVariants.{PutNode, PutEntries, PutNext}
 use Rattle.room_records.specs.Changes.{apply_change}
-use Rattle.room_records.specs.Room.{fresh_room}
+use Rattle.room_records.specs.Room.{fresh_room, fresh_entries}
+use Rattle.room_records.specs.Fresh.{no_records}
 use Rattle.room_records.specs.Representation.{RepresentsRoom}
-use Rattle.room_records.proofs.FreshRoom.{own, root_node, fresh_stands}
+use Rattle.room_records.proofs.FreshRoom.{root_node, fresh_stands}
 use Rattle.std.specs.List.{AllByRecursion}
 use Rattle.sqlite_trees.specs.Tree.{Trees}
 use Rattle.sqlite.specs.Table.{Table}
@@ -20,7 +21,7 @@ use Rattle.sqlite.specs.State.{State, mode_of, Writes, ExecutesInside}
 use Rattle.sqlite.proofs.Callers.{runs_as}
 use Rattle.room_tables.specs.Tables.{room_text, node_text, entry_text, doc_text, session_text, slot_text, room_table, node_table, entry_table, doc_table, session_table, slot_table, schema_0, schema_1, schema_2, schema_3, schema_4, schema_5, room_schema}
 use Rattle.room_tables.specs.Layout.{IsKeyed, IsNumbered, IsRoomDatabase}
-use Rattle.room_tables.specs.Fresh.{IsMade, IsFresh, filled, no_records}
+use Rattle.room_tables.specs.Fresh.{IsMade, IsFresh, filled}
 use Rattle.room_records.specs.declared.node.Node.{Node}
 use Rattle.room_records.specs.Records.{Records}
 use Rattle.room_tables.specs.Rows.{nodes_in, entries_in, documents_in, next_in, sessions_in, slots_in, records_of}
@@ -97,7 +98,7 @@ slot_step old new count h was =
     record { schema = it.after ∙ slot_made; empty = all_empty schema_5.tables slot_table old.now.trees new.now.trees it.others was.empty it.empty }
 
 -- tables that were just made
-pub made_room : (db : Database) → IsMade room_schema db → IsRoomDatabase db × (records_of db.trees ≡ no_records)
+pub made_room : (db : Database) → IsMade room_schema db → IsRoomDatabase db × (records_of db.trees ≡ no_records 0)
 made_room db it =
     let e = by_name (λ (t : Table). db.trees t.tree ≡ []) it.empty in
     let none : IsKeyed [] = record { table = tt; ints = tt } in (
@@ -116,13 +117,13 @@ made_room db it =
     )
 
 -- what a fresh room's rows stand for
-pub fresh_is : (owner group : List ℕ) (entries : Vec EntryModel Global) → entries.items ≡ own owner group
-    → IsFresh owner group (apply_change (PutNext 2) (apply_change (PutEntries 1 entries) (apply_change (PutNode (root_node owner group)) no_records)))
+pub fresh_is : (owner group : List ℕ) (entries : Vec EntryModel Global) → entries.items ≡ fresh_entries
+    → IsFresh owner group (apply_change (PutNext 2) (apply_change (PutEntries 1 entries) (apply_change (PutNode (root_node owner group)) (no_records 0))))
 fresh_is owner group entries is = record {
   room = subst (λ (es : List EntryModel). RepresentsRoom (record { node = λ id. cond (id == 1) (Some (root_node owner group)) None; entries = λ id. cond (id == 1) es []; document = λ _. None; next = 2 }) (fresh_room owner group)) (sym is) (fresh_stands owner group);
   sessions = λ _. refl;
   slots = λ _ _. refl;
 }
 
-pub fresh_from : (owner group : List ℕ) (root : Node) (entries : Vec EntryModel Global) (r : Records) → root ≡ root_node owner group → entries.items ≡ own owner group → r ≡ filled root entries → IsFresh owner group r
+pub fresh_from : (owner group : List ℕ) (root : Node) (entries : Vec EntryModel Global) (r : Records) → root ≡ root_node owner group → entries.items ≡ fresh_entries → r ≡ filled root entries → IsFresh owner group r
 fresh_from owner group root entries r root_is entries_is is = subst (IsFresh owner group) (sym (is ∙ ap (λ n. filled n entries) root_is)) (fresh_is owner group entries entries_is)

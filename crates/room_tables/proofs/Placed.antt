@@ -19,11 +19,11 @@ use Rattle.sqlite_keyed.proofs.SortLemmas.{IsPermutation-sort_by}
 use Rattle.sqlite_rules.specs.Edit.{is_taken}
 use Rattle.sqlite.specs.Effect.{Database}
 use Rattle.sqlite.specs.State.{State, ExecutesInside}
-use Rattle.room_acl.specs.Entries.{EntryModel}
+use Rattle.room_acl.specs.Entries.{EntryModel, who_text}
 use Rattle.room_tables.specs.Texts.{drop_entries_text}
 use Rattle.room_tables.specs.Rows.{has, shown_entry, entry_of, entry_keys, in_order, nodes_in, documents_in, next_in, sessions_in, slots_in, records_of, versions_in, IsEntryRow}
 use Rattle.room_tables.specs.Layout.{IsKeyed, IsRoomDatabase}
-use Rattle.room_tables.specs.Steps.{type_of, text_of_who, IsReadBack, shown_as, placed, Lists}
+use Rattle.room_tables.specs.Steps.{type_of, IsReadBack, shown_as, placed, Lists}
 use Rattle.room_tables.proofs.Sorted.{AtMost, ascending-sort_by, same_ascending}
 use Rattle.room_tables.proofs.Queries.{first_tie}
 use Rattle.room_tables.proofs.Values.{int_has}
@@ -71,7 +71,7 @@ placed_up at (e ∷ es) = (later at (suc at) e es (omega arith), placed_up (suc 
 
 placed_rows : (at : ℕ) (es : List EntryModel) → AllByRecursion IsEntryRow (placed at es)
 placed_rows at [] = tt
-placed_rows at (e ∷ es) = (record { place = at; kind = type_of e.allow; flags = e.flags; mask = e.mask; who = text_of_who e.who; is = refl }, placed_rows (suc at) es)
+placed_rows at (e ∷ es) = (record { place = at; kind = type_of e.allow; flags = e.flags; mask = e.mask; who = who_text e.who; is = refl }, placed_rows (suc at) es)
 
 placed_push : (at : ℕ) (es : List EntryModel) (e : EntryModel) → placed at (es ++ e ∷ []) ≡ placed at es ++ shown_as (at + length es) e ∷ []
 placed_push at [] e = rw Rattle.std.proofs.Common.add-zero refl

@@ -8,6 +8,7 @@ use Rattle.sqlite.specs.Schema.{Schema}
 use Rattle.sqlite.specs.Effect.{Database}
 use Rattle.room_acl.specs.Entries.{EntryModel}
 use Rattle.room_records.specs.declared.node.Node.{Node}
+use Rattle.room_records.specs.Fresh.{no_records}
 use Rattle.room_records.specs.Records.{Records}
 use Rattle.room_records.specs.Changes.{apply_change}
 use Rattle.room_records.specs.declared.change.Change.TheVariants.{PutNode, PutEntries, PutNext}
@@ -21,22 +22,15 @@ pub record IsMade (wanted : Schema) (db : Database) : Type 0 where
   pub schema : db.schema ≡ wanted
   pub empty : AllByRecursion (λ (t : Table). db.trees t.tree ≡ []) wanted.tables
 
-abbrev pub no_records : Records
-no_records = record {
-  objects = record { node = λ _. None; entries = λ _. []; document = λ _. None; next = 0 };
-  session = λ _. None;
-  slot = λ _ _. None;
-}
-
 -- a room with its root alone, which has these entries, and no session
 pub record IsFresh (owner group : List ℕ) (r : Records) : Type 0 where
   pub room : RepresentsRoom r.objects (fresh_room owner group)
   pub sessions : (sid : List ℕ) → r.session sid ≡ None
   pub slots : (sid : List ℕ) (slot : ℕ) → r.slot sid slot ≡ None
 
--- the records after a root and its entries are put into tables that were just made
+-- the records after a root and its entries are put into tables that were just made, where no number is next
 abbrev pub filled : Node → Vec EntryModel Global → Records
-filled root entries = apply_change (PutNext 2) (apply_change (PutEntries 1 entries) (apply_change (PutNode root) no_records))
+filled root entries = apply_change (PutNext 2) (apply_change (PutEntries 1 entries) (apply_change (PutNode root) (no_records 0)))
 
 -- these are the records, in tables of version 1
 abbrev pub IsFilled : Node → Vec EntryModel Global → Trees → Type 0

@@ -1,6 +1,5 @@
 -- The rows of the six tables, as records. A value of another type than its column's has a meaning too, so that each row has one.
-use Rattle.std.specs.Prelude.{◌≡◌, ℕ, pos, Bool, ◌&&◌, ◌==◌, List, [], ◌∷◌, map, filter, Option, Some, None, option_map, unwrap_or, if◌then◌else◌, codes}
-use Rattle.std.specs.Str.{bytes_eq}
+use Rattle.std.specs.Prelude.{◌≡◌, ℕ, pos, Bool, ◌&&◌, ◌==◌, List, [], ◌∷◌, map, filter, Option, Some, None, option_map, unwrap_or, if◌then◌else◌}
 use Rattle.sqlite_value.specs.declared.keys.Collation.TheVariants.{Binary}
 use Rattle.sqlite_value.specs.declared.keys.Key.{Key}
 use Rattle.sqlite_value.specs.declared.value.Value.{Value}
@@ -13,10 +12,8 @@ use Rattle.sqlite_schema.specs.Rules.{equal}
 use Rattle.sqlite_keyed.specs.Lists.{sort_by}
 use Rattle.room_acl.specs.declared.subject.Kind.{Kind}
 use Rattle.room_acl.specs.declared.subject.Kind.TheVariants.{File, Folder}
-use Rattle.room_acl.specs.declared.who.Who.{Who}
-use Rattle.room_acl.specs.declared.who.Who.TheVariants.{Owner, Group, Everyone, User, Members}
-use Rattle.room_acl.specs.Bits.{identifier_group}
 use Rattle.room_acl.specs.Entries.{EntryModel}
+pub use Rattle.room_acl.specs.Entries.{who_of}
 use Rattle.room_slots.specs.KeptModel.{KeptModel}
 use Rattle.room_records.specs.declared.node.Node.{Node}
 use Rattle.room_records.specs.declared.session.SessionRow.{SessionRow}
@@ -52,25 +49,6 @@ name_in v = name_of_text (text_in v)
 
 abbrev pub kind_of : ℕ → Kind
 kind_of n = if n == 1 then Folder else File
-
-abbrev pub owner_text : List ℕ
-owner_text = codes "OWNER@"
-
-abbrev pub group_text : List ℕ
-group_text = codes "GROUP@"
-
-abbrev pub everyone_text : List ℕ
-everyone_text = codes "EVERYONE@"
-
--- the flag tells a group's name from a user's
-abbrev pub named_who : ℕ → List ℕ → Who
-named_who flags text = if identifier_group flags then Members text else User text
-
-abbrev pub who_of : ℕ → List ℕ → Who
-who_of flags text =
-    if bytes_eq text owner_text then Owner
-    else (if bytes_eq text group_text then Group
-    else (if bytes_eq text everyone_text then Everyone else named_who flags text))
 
 -- the one element of a list that has one
 abbrev pub only : {X : Type 0} → List X → Option X

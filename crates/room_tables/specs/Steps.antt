@@ -9,13 +9,11 @@ use Rattle.sqlite.specs.Effect.{Database}
 use Rattle.sqlite.specs.State.{State}
 use Rattle.room_acl.specs.declared.subject.Kind.{Kind}
 use Rattle.room_acl.specs.declared.subject.Kind.TheVariants.{File, Folder}
-use Rattle.room_acl.specs.declared.who.Who.{Who}
-use Rattle.room_acl.specs.declared.who.Who.TheVariants.{Owner, Group, Everyone, User, Members}
-use Rattle.room_acl.specs.Entries.{EntryModel}
+use Rattle.room_acl.specs.Entries.{EntryModel, who_text}
 use Rattle.room_records.specs.declared.change.Change.{Change}
 use Rattle.room_records.specs.Records.{Records}
 use Rattle.room_records.specs.Changes.{apply_changes}
-use Rattle.room_tables.specs.Rows.{records_of, version_rows, IsVersion1, entry_rows, who_of, owner_text, group_text, everyone_text, is_slot}
+use Rattle.room_tables.specs.Rows.{records_of, version_rows, IsVersion1, entry_rows, who_of, is_slot}
 use Rattle.room_tables.specs.Layout.{IsRoomDatabase}
 
 -- ---- values as they are stored
@@ -31,19 +29,12 @@ flag_of b = if b then 1 else 0
 abbrev pub type_of : Bool → ℕ
 type_of allow = if allow then 0 else 1
 
-abbrev pub text_of_who : Who → List ℕ
-text_of_who Owner = owner_text
-text_of_who Group = group_text
-text_of_who Everyone = everyone_text
-text_of_who (User name) = name
-text_of_who (Members name) = name
-
 -- the entry is read as it was written
 abbrev pub IsReadBack : EntryModel → Type 0
-IsReadBack e = who_of e.flags (text_of_who e.who) ≡ e.who
+IsReadBack e = who_of e.flags (who_text e.who) ≡ e.who
 
 abbrev pub shown_as : ℕ → EntryModel → Row
-shown_as place e = Int (pos place) ∷ Int (pos (type_of e.allow)) ∷ Int (pos e.flags) ∷ Int (pos e.mask) ∷ Text (text_of_who e.who) ∷ []
+shown_as place e = Int (pos place) ∷ Int (pos (type_of e.allow)) ∷ Int (pos e.flags) ∷ Int (pos e.mask) ∷ Text (who_text e.who) ∷ []
 
 -- entries as they are shown, at places from a number on
 abbrev pub placed : ℕ → List EntryModel → List Row
