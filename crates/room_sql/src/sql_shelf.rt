@@ -1,6 +1,6 @@
 //! The shelf.
 
-ghost use Rattle.std.specs.Prelude.{◌≡◌, ◌≢◌, ◌≤◌, false, Err};
+ghost use Rattle.std.specs.Prelude.{◌≡◌, ◌≢◌, ◌≤◌, ◌⊎◌, ◌+◌, ◌-◌, ◌^◌, min, false, Err};
 ghost use Rattle.room_records.specs.Shelf.{FailureCounted};
 
 use crate::rows::{
@@ -50,8 +50,11 @@ impl<S: Alter> SqlShelf<S> {
     }
 }
 
-/// Counts a failure of the store. The count stays at 2^64 - 1.
+/// What an error is to the shelf: a want of memory is told, and any other error is counted as a failure of the store.
+/// The count stays at 2^64 - 1.
 fn fault(failures: &mut u64, error: Error) -> ShelfFault
+    ensures exact { ((error ≡ Error.SqliteFailure ErrorCode.OutOfMemory) × (result ≡ ShelfFault.Memory) × (failures.new ≡ failures.old))
+        ⊎ ((error ≢ Error.SqliteFailure ErrorCode.OutOfMemory) × (result ≡ ShelfFault.Store) × (failures.new ≡ min (failures.old + 1) (2 ^ 64 - 1))) }
     ensures counted { result ≡ ShelfFault.Store → FailureCounted failures.old failures.new }
     ensures never_falls { failures.old ≤ failures.new }
     ensures quiet { result ≢ ShelfFault.Store → failures.new ≡ failures.old }

@@ -29,3 +29,9 @@ returns-clause-open g c clean is =
 
 pub returns-clause-crash : goal.returns-clause-crash
 returns-clause-crash g c = query_keeps find_doc_text _ (state g.S.Store c.args.conn.now) (state g.S.Store c.query_all.new.self) find_doc_selects c.query_all.ensures.survives
+
+pub returns-clause-shown : goal.returns-clause-shown
+returns-clause-shown g c clean = rw (c.params-to_sql.ensures) at (c.query_all.ensures.ok clean)
+
+pub returns-clause-failed : goal.returns-clause-failed
+returns-clause-failed g c clean = rw (c.params-to_sql.ensures) at (c.query_all.ensures.err clean)
