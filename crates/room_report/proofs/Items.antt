@@ -1,5 +1,5 @@
 -- What is carried down of an object.
-use Rattle.std.proofs.Common.{◌≡◌, ℕ, refl, ap, sym, ◌∙◌, subst, cond, List, [], ◌∷◌, ◌++◌, append-nil}
+use Rattle.std.proofs.Common.{◌≡◌, ℕ, refl, ap, sym, ◌∙◌, subst, cond, List, Some, [], ◌∷◌, ◌++◌, append-nil}
 use Rattle.std.specs.List.{flat_map}
 use Rattle.std.proofs.lemmas.Grind.{flat_map-append}
 use Rattle.room_acl.specs.SubjectModel.{SubjectModel}
@@ -14,7 +14,7 @@ use Rattle.room_records.specs.Representation.{HasPath, RepresentsRoom}
 use Rattle.room_records.specs.Shelf.{name_of}
 use Rattle.room_records.proofs.Paths.{child_is_at, object_at_node}
 use Rattle.room_records.proofs.Folders.{child_named}
-use Rattle.room_records.proofs.RoomsLists.{list_of_child}
+use Rattle.room_records.proofs.RoomsLists.{list_of_root, list_of_child}
 use Rattle.room_report.specs.declared.item.Item.{Item}
 use Rattle.room_report.specs.declared.lines.Report.{Report}
 use Rattle.room_report.specs.declared.lines.Report.TheVariants.{Access, Lists}
@@ -44,6 +44,28 @@ lines_are t room path item Lists is =
     λ i. head_line (is.kind i) (is.aclflag i) (is.standing i).owner (is.standing i).group (shown i) ++ flat_map entry_line (is.list i)
 
 module _ (t : ObjectRecords) (room : Room) (stand : RepresentsRoom t room) where
+  -- the root is carried first
+  pub root_is_item : (item : Item) (node : Node) → t.node 1 ≡ Some node
+      → item.id ≡ node.id → item.kind ≡ node.kind → item.aclflag ≡ node.aclflag → item.standing.owner ≡ node.owner → item.standing.group ≡ node.group
+      → item.list.items ≡ t.entries node.id → item.names.items ≡ []
+      → IsItem t room [] item
+  root_is_item item node stands id kind aclflag owner group list names =
+      let one : node.id ≡ 1 = (stand.rules.numbered 1 node stands).0 in
+      let found = object_at_node t room stand [] node.id node one (ap t.node one ∙ stands) in
+      let shows = found.2 in
+      record {
+        object = found.0;
+        node = node;
+        at = id ∙ one;
+        node_stands = ap t.node (id ∙ one) ∙ stands;
+        object_stands = found.1;
+        kind = kind ∙ shows.kind;
+        aclflag = aclflag ∙ shows.aclflag;
+        standing = λ i. record { owner = (owner ∙ shows.owner) i; group = (group ∙ shows.group) i };
+        list = list ∙ shows.entries ∙ sym (list_of_root room found.0 found.1);
+        names = names;
+      }
+
   -- a child of what is carried is carried in its turn
   pub child_is_item : (path : Path) (above item : Item) (node : Node) → IsItem t room path above → IsChild t above.id node
       → item.id ≡ node.id → item.kind ≡ node.kind → item.aclflag ≡ node.aclflag → item.standing.owner ≡ node.owner → item.standing.group ≡ node.group

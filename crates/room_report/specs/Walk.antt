@@ -6,19 +6,20 @@ use Rattle.room_acl.specs.SubjectModel.{SubjectModel}
 use Rattle.room_acl.specs.Access.{allowed_mask}
 use Rattle.room_records.specs.declared.node.Node.{Node}
 use Rattle.room_records.specs.Names.{Path, name_eq}
-use Rattle.room_records.specs.Records.{Records, ObjectRecords}
+use Rattle.room_records.specs.Records.{ObjectRecords}
 use Rattle.room_records.specs.Room.{Object, Room, object_at, list_of, standing_of}
 use Rattle.room_records.specs.Representation.{RepresentsRoom, HasPath}
+use Rattle.room_records.specs.Shelf.{View}
 pub use Rattle.room_records.specs.Writers.{AppendsFront}
 use Rattle.room_report.specs.declared.item.Item.{Item}
 use Rattle.room_report.specs.declared.lines.Report.{Report}
 use Rattle.room_report.specs.declared.lines.Report.TheVariants.{Access, Lists}
 use Rattle.room_report.specs.Lines.{in_order, mask_line, access_line, entry_line, head_line, object_line}
 
--- what a call says of each room that the rows stand for as it begins
-abbrev pub OfRoom : {S : Type 0} → (S → Records) → (S → Type 0) → (S → Type 0) → S → S → (ObjectRecords → Room → Type 0) → Type 0
-OfRoom records is_honest is_declared old new P =
-    is_honest new → is_declared old → (t : ObjectRecords) → (records old).objects ≡ t → (room : Room) → RepresentsRoom t room → P t room
+-- what a call says of each room that the rows stand for as it begins, also where a fault has shut the store
+abbrev pub OfRoom : View → View → (ObjectRecords → Room → Type 0) → Type 0
+OfRoom old new P =
+    new.is_intact → old.is_laid_out → (t : ObjectRecords) → old.records.objects ≡ t → (room : Room) → RepresentsRoom t room → P t room
 
 -- names with a / before each: the text of a path but for the root's
 abbrev pub names_text : Path → List ℕ

@@ -1,8 +1,8 @@
 //! What is carried down of an object.
-ghost use Rattle.std.specs.Prelude.{◌≡◌, ◌≤◌, ◌++◌, [], ◌∷◌, IfOk, OnOk, Err, MatchOption, unwrap_or};
+ghost use Rattle.std.specs.Prelude.{◌≡◌, ◌++◌, [], ◌∷◌, IfOk, OnOk, MatchOption, unwrap_or};
 ghost use Rattle.room_records.specs.Names.{Path as PathModel};
 ghost use Rattle.room_records.specs.Records.{IsChild};
-ghost use Rattle.room_records.specs.Shelf.{FailureCounted, Unchanged, name_of};
+ghost use Rattle.room_records.specs.Shelf.{ShelfRead, fault_in, name_of};
 ghost use Rattle.room_report.specs.Walk.{OfRoom, IsItem};
 
 use room_acl::{Entry, Kind, ListFlags, Standing, with_inherited};
@@ -23,12 +23,10 @@ pub(crate) struct Item {
 
 /// The root, with its list.
 pub(crate) fn root_item<S: Shelf>(alloc: Global, shelf: &mut S) -> Result<Option<Item>, ShelfFault>
-    ensures value { OfRoom S.records S.is_honest S.is_declared shelf.old shelf.new (λ t room. IfOk result (λ found.
+    ensures value { OfRoom (S.view shelf.old) (S.view shelf.new) (λ t room. IfOk result (λ found.
         MatchOption found ⊥ (IsItem t room []))) }
-    ensures alive { S.is_clean shelf.new → OnOk result (S.is_honest shelf.new) }
-    ensures unchanged { Unchanged S.records S.is_honest S.is_clean S.is_declared S.crash_may_leave shelf.old shelf.new }
-    ensures never_falls { S.failures shelf.old ≤ S.failures shelf.new }
-    ensures store { result ≡ Err ShelfFault.Store → FailureCounted (S.failures shelf.old) (S.failures shelf.new) }
+    ensures there { (S.view shelf.new).is_intact → OnOk result (S.view shelf.new).is_available }
+    ensures frame { ShelfRead (S.view shelf.old) (S.view shelf.new) (fault_in result) }
 {
     let Some(root) = shelf.node(1)? else {
         return Ok(None);
@@ -54,12 +52,10 @@ pub(crate) fn item_below<S: Shelf>(
     above: &Item,
     node: &Node,
 ) -> Result<Item, ShelfFault>
-    ensures value { OfRoom S.records S.is_honest S.is_declared shelf.old shelf.new (λ t room. (path : PathModel) → IsItem t room path above.now →
+    ensures value { OfRoom (S.view shelf.old) (S.view shelf.new) (λ t room. (path : PathModel) → IsItem t room path above.now →
         IsChild t above.now.id node.now → IfOk result (IsItem t room (path ++ name_of node.now ∷ []))) }
-    ensures alive { S.is_clean shelf.new → OnOk result (S.is_honest shelf.new) }
-    ensures unchanged { Unchanged S.records S.is_honest S.is_clean S.is_declared S.crash_may_leave shelf.old shelf.new }
-    ensures never_falls { S.failures shelf.old ≤ S.failures shelf.new }
-    ensures store { result ≡ Err ShelfFault.Store → FailureCounted (S.failures shelf.old) (S.failures shelf.new) }
+    ensures there { (S.view shelf.new).is_intact → OnOk result (S.view shelf.new).is_available }
+    ensures frame { ShelfRead (S.view shelf.old) (S.view shelf.new) (fault_in result) }
 {
     let own = shelf.entries(node.id)?;
     let list = with_inherited(alloc, own, node.aclflag, node.kind, &above.list)?;

@@ -1,9 +1,10 @@
 //! The two reports.
-ghost use Rattle.std.specs.Prelude.{◌≡◌, ◌≤◌, List, ℕ, IfOk, OnOk, Err};
+ghost use Rattle.std.specs.Prelude.{◌≡◌, List, ℕ, IfOk, OnOk};
 ghost use Rattle.std.specs.Io.KnownBytes.{Appends};
-ghost use Rattle.room_records.specs.Shelf.{FailureCounted, Unchanged};
+ghost use Rattle.room_records.specs.Shelf.{ShelfRead};
 ghost use Rattle.room_records.specs.Room.{Room};
 ghost use Rattle.room_records.specs.Representation.{RepresentsRoom};
+ghost use Rattle.room_report.specs.Faults.{shelf_fault_in};
 ghost use Rattle.room_report.specs.Lines.{access_text, list_text, IsBeginningOf};
 
 use crate::lines::Report;
@@ -68,24 +69,24 @@ impl From<ShelfFault> for ReportFault {
 /// reach. The form is our own.
 ///
 /// It goes down at most 16 names, whatever the rows are. Each row is read once. Memory is taken for the roster, the
-/// lines of one object, and for each name on the way down one folder's nodes. After an error what was written is a
-/// beginning of the report: `Memory` where memory was refused, `Store` where the shelf failed, `WriteFailed` where a
-/// write failed or took nothing.
+/// lines of one object, and for each name on the way down one folder's nodes. After an error, also one that has shut
+/// the store, what was written is a beginning of the report: `Memory` where memory was refused, `Store` where the
+/// shelf failed, `WriteFailed` where a write failed or took nothing.
 pub fn access_report<S: Shelf, W: Write>(
     alloc: Global,
     shelf: &mut S,
     roster: &Roster,
     writer: &mut W,
 ) -> Result<(), ReportFault>
-    ensures ok { S.is_honest shelf.new → S.is_declared shelf.old → (room : Room) → RepresentsRoom (S.records shelf.old).objects room →
+    ensures ok { (S.view shelf.new).is_intact → (S.view shelf.old).is_laid_out →
+        (room : Room) → RepresentsRoom (S.view shelf.old).records.objects room →
         OnOk result (Appends (W.contents writer.old) (W.contents writer.new) (access_text room roster.now)) }
-    ensures beginning { S.is_honest shelf.new → S.is_declared shelf.old → (room : Room) → RepresentsRoom (S.records shelf.old).objects room →
+    ensures beginning { (S.view shelf.new).is_intact → (S.view shelf.old).is_laid_out →
+        (room : Room) → RepresentsRoom (S.view shelf.old).records.objects room →
         (written : List ℕ) × IsBeginningOf written (access_text room roster.now)
         × Appends (W.contents writer.old) (W.contents writer.new) written }
-    ensures alive { S.is_clean shelf.new → OnOk result (S.is_honest shelf.new) }
-    ensures unchanged { Unchanged S.records S.is_honest S.is_clean S.is_declared S.crash_may_leave shelf.old shelf.new }
-    ensures never_falls { S.failures shelf.old ≤ S.failures shelf.new }
-    ensures store { result ≡ Err ReportFault.Store → FailureCounted (S.failures shelf.old) (S.failures shelf.new) }
+    ensures there { (S.view shelf.new).is_intact → OnOk result (S.view shelf.new).is_available }
+    ensures frame { ShelfRead (S.view shelf.old) (S.view shelf.new) (shelf_fault_in result) }
 {
     let Ok(users) = users_of(alloc, roster) else {
         return Err(ReportFault::Memory);
@@ -106,15 +107,15 @@ pub fn list_report<S: Shelf, W: Write>(
     shelf: &mut S,
     writer: &mut W,
 ) -> Result<(), ReportFault>
-    ensures ok { S.is_honest shelf.new → S.is_declared shelf.old → (room : Room) → RepresentsRoom (S.records shelf.old).objects room →
+    ensures ok { (S.view shelf.new).is_intact → (S.view shelf.old).is_laid_out →
+        (room : Room) → RepresentsRoom (S.view shelf.old).records.objects room →
         OnOk result (Appends (W.contents writer.old) (W.contents writer.new) (list_text room)) }
-    ensures beginning { S.is_honest shelf.new → S.is_declared shelf.old → (room : Room) → RepresentsRoom (S.records shelf.old).objects room →
+    ensures beginning { (S.view shelf.new).is_intact → (S.view shelf.old).is_laid_out →
+        (room : Room) → RepresentsRoom (S.view shelf.old).records.objects room →
         (written : List ℕ) × IsBeginningOf written (list_text room)
         × Appends (W.contents writer.old) (W.contents writer.new) written }
-    ensures alive { S.is_clean shelf.new → OnOk result (S.is_honest shelf.new) }
-    ensures unchanged { Unchanged S.records S.is_honest S.is_clean S.is_declared S.crash_may_leave shelf.old shelf.new }
-    ensures never_falls { S.failures shelf.old ≤ S.failures shelf.new }
-    ensures store { result ≡ Err ReportFault.Store → FailureCounted (S.failures shelf.old) (S.failures shelf.new) }
+    ensures there { (S.view shelf.new).is_intact → OnOk result (S.view shelf.new).is_available }
+    ensures frame { ShelfRead (S.view shelf.old) (S.view shelf.new) (shelf_fault_in result) }
 {
     report_room(alloc, shelf, &Report::Lists, writer)
 }

@@ -5,7 +5,8 @@ ghost use Rattle.room_records.specs.Names.{Path as PathModel};
 ghost use Rattle.room_records.specs.Records.{ObjectRecords};
 ghost use Rattle.room_records.specs.Representation.{RepresentsRoom};
 ghost use Rattle.room_records.specs.Room.{Room};
-ghost use Rattle.room_records.specs.Shelf.{FailureCounted, Unchanged, AreChildren};
+ghost use Rattle.room_records.specs.Shelf.{ShelfRead, AreChildren};
+ghost use Rattle.room_report.specs.Faults.{shelf_fault_in};
 ghost use Rattle.room_report.specs.Walk.{OfRoom, IsItem, Writes, item_lines, text_below};
 
 use crate::item::{Item, item_below, root_item};
@@ -27,12 +28,10 @@ pub(crate) fn report_room<S: Shelf, W: Write>(
     report: &Report,
     writer: &mut W,
 ) -> Result<(), ReportFault>
-    ensures value { OfRoom S.records S.is_honest S.is_declared shelf.old shelf.new (λ t room.
+    ensures value { OfRoom (S.view shelf.old) (S.view shelf.new) (λ t room.
         Writes (W.contents writer.old) (W.contents writer.new) (text_below report.now room []) result) }
-    ensures alive { S.is_clean shelf.new → OnOk result (S.is_honest shelf.new) }
-    ensures unchanged { Unchanged S.records S.is_honest S.is_clean S.is_declared S.crash_may_leave shelf.old shelf.new }
-    ensures never_falls { S.failures shelf.old ≤ S.failures shelf.new }
-    ensures store { result ≡ Err ReportFault.Store → FailureCounted (S.failures shelf.old) (S.failures shelf.new) }
+    ensures there { (S.view shelf.new).is_intact → OnOk result (S.view shelf.new).is_available }
+    ensures frame { ShelfRead (S.view shelf.old) (S.view shelf.new) (shelf_fault_in result) }
 {
     // rows without a root stand for no room
     let Some(root) = root_item(alloc, shelf)? else {
@@ -50,12 +49,9 @@ fn report_below<S: Shelf, W: Write>(
     depth: u32,
     writer: &mut W,
 ) -> Result<(), ReportFault>
-    ensures value { OfRoom S.records S.is_honest S.is_declared shelf.old shelf.new (λ t room. (path : PathModel) → IsItem t room path item.now → length path + depth ≡ max_names →
+    ensures value { OfRoom (S.view shelf.old) (S.view shelf.new) (λ t room. (path : PathModel) → IsItem t room path item.now → length path + depth ≡ max_names →
         Writes (W.contents writer.old) (W.contents writer.new) (text_below report.now room path) result) }
-    ensures alive { S.is_clean shelf.new → S.is_honest shelf.old → OnOk result (S.is_honest shelf.new) }
-    ensures unchanged { Unchanged S.records S.is_honest S.is_clean S.is_declared S.crash_may_leave shelf.old shelf.new }
-    ensures never_falls { S.failures shelf.old ≤ S.failures shelf.new }
-    ensures store { result ≡ Err ReportFault.Store → FailureCounted (S.failures shelf.old) (S.failures shelf.new) }
+    ensures frame { ShelfRead (S.view shelf.old) (S.view shelf.new) (shelf_fault_in result) }
 {
     write_item(alloc, report, item, writer)?;
     if is_leaf(item, depth) {

@@ -8,9 +8,9 @@ use Rattle.room_report.proofs.Items.{child_is_item}
 use Rattle.room_report.proofs.item.item_below.Goals as goal
 
 pub returns-clause-value : goal.returns-clause-value
-returns-clause-value g c = λ is_honest is_declared t e room stand path folder child.
+returns-clause-value g c = λ intact laid_out t e room stand path folder child.
     let node = c.args.node.now in
-    let own = c.in_ok-own.ensures.value is_honest is_declared ∙ ap (λ (r : ObjectRecords). r.entries node.id) e in
+    let own = c.in_ok-own.ensures.value (c.in_ok-own.ensures.there intact) laid_out ∙ ap (λ (r : ObjectRecords). r.entries node.id) e in
     child_is_item t room stand path c.args.above.now _ node folder child refl refl refl c.in_ok-clone.ensures c.in_ok-clone-2.ensures
     (c.in_ok-list.ensures
     ∙ ap (λ (o : List EntryModel). o ++ cond (follows node.aclflag) (handed_down c.deref.result.now node.kind) []) own

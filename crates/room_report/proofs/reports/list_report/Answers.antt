@@ -8,13 +8,13 @@ use Rattle.room_report.proofs.Sent.{sent_whole, sent_beginning}
 use Rattle.room_report.proofs.reports.list_report.Goals as goal
 
 pub returns-clause-ok : goal.returns-clause-ok
-returns-clause-ok g c = λ is_honest is_declared room stand.
+returns-clause-ok g c = λ intact laid_out room stand.
     sent_whole _ _ (text_below Lists room []) (list_text room) c.report_room.result
     (ap (flat_map (lines_of Lists room)) (all_below_root room stand.lawful))
-    (c.report_room.ensures.value is_honest is_declared _ refl room stand)
+    (c.report_room.ensures.value intact laid_out _ refl room stand)
 
 pub returns-clause-beginning : goal.returns-clause-beginning
-returns-clause-beginning g c = λ is_honest is_declared room stand.
+returns-clause-beginning g c = λ intact laid_out room stand.
     sent_beginning _ _ (text_below Lists room []) (list_text room) c.report_room.result
     (ap (flat_map (lines_of Lists room)) (all_below_root room stand.lawful))
-    (c.report_room.ensures.value is_honest is_declared _ refl room stand)
+    (c.report_room.ensures.value intact laid_out _ refl room stand)

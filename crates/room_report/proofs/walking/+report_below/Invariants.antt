@@ -1,23 +1,22 @@
-use Rattle.std.proofs.Common.{◌≡◌, ◌+◌, ◌≤◌, [], ◌∷◌, ◌++◌, take, length}
+use Rattle.std.proofs.Common.{◌≡◌, ◌+◌, None, [], ◌∷◌, ◌++◌, take, length}
 use Rattle.std.specs.List.{flat_map}
 use Rattle.std.specs.Io.KnownBytes.{Appends}
 use Rattle.room_records.specs.declared.node.Node.{Node}
 use Rattle.room_records.specs.Limits.{max_names}
 use Rattle.room_records.specs.Names.{Path}
-use Rattle.room_records.specs.Shelf.{Unchanged, AreChildren, name_of}
+use Rattle.room_records.specs.Shelf.{ShelfRead, AreChildren, name_of}
 use Rattle.room_report.specs.Walk.{OfRoom, IsItem, item_lines, text_below}
 use Rattle.room_report.proofs.walking.+report_below.Given as goal
 
 abbrev pub decreases-report_below : goal.decreases-report_below
 decreases-report_below g l = l.depth
 
--- the shelf is as it was, and what is below the nodes so far is written
+-- the shelf is as it was and there, and what is below the nodes so far is written
 abbrev pub invariant-loop-node : goal.invariant-loop-node
 invariant-loop-node g l = let s = g.S.Shelf in record {
-  alive : s.is_clean l.shelf → s.is_honest l.fn.shelf → s.is_honest l.shelf;
-  unchanged : Unchanged s.records s.is_honest s.is_clean s.is_declared s.crash_may_leave l.fn.shelf l.shelf;
-  never_falls : s.failures l.fn.shelf ≤ s.failures l.shelf;
-  written : OfRoom s.records s.is_honest s.is_declared l.fn.shelf l.shelf (λ t room. (path : Path) → IsItem t room path l.item → length path + l.depth ≡ max_names →
+  there : (s.view l.shelf).is_intact → (s.view l.shelf).is_available;
+  frame : ShelfRead (s.view l.fn.shelf) (s.view l.shelf) None;
+  written : OfRoom (s.view l.fn.shelf) (s.view l.shelf) (λ t room. (path : Path) → IsItem t room path l.item → length path + l.depth ≡ max_names →
       AreChildren t l.item.id l.node-items
       × Appends (g.W.Write.contents l.fn.writer) (g.W.Write.contents l.writer)
       (item_lines l.report l.item ++ flat_map (λ (node : Node). text_below l.report room (path ++ name_of node ∷ [])) (take l.node-index l.node-items)));
