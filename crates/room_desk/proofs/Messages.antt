@@ -1,17 +1,11 @@
 -- Answers to the messages of a stream, one after another, by a history.
-use Rattle.std.proofs.Common.{◌≡◌, ◌≤◌, ℕ, List, [], ◌∷◌, ◌++◌, refl, sym, ap, ◌∙◌, subst, arith, map, take, Result, Ok, Err, Option, inl, inr}
-use Rattle.matchit.specs.Router.{RouteOf}
-use Rattle.matchit.specs.Rows.{RowsOf}
+use Rattle.std.proofs.Common.{◌≡◌, ◌≤◌, ℕ, List, [], ◌∷◌, ◌++◌, refl, sym, ap, ◌∙◌, subst, arith, Result, Ok, Err, Option, inl, inr}
 use Rattle.room_acl.specs.SubjectModel.{SubjectModel}
 use Rattle.room_records.specs.Records.{Records}
 use Rattle.room_records.specs.Room.{Room}
 use Rattle.room_wire.specs.declared.answers.code.Code.TheVariants.{Delay}
 use Rattle.room_wire.specs.declared.fault.WireFault.{WireFault}
 use Rattle.room_wire.specs.declared.fault.WireFault.TheVariants.{BadRoute, UnknownUser, BadRequest, Memory}
-use Rattle.room_wire.specs.declared.messages.message.Message.{Message}
-use Rattle.httparse.specs.Spans.{header_bytes}
-use Rattle.room_wire.specs.Messages.Taken.{Shows}
-use Rattle.room_wire.specs.declared.asks.routing.Route.{Route}
 use Rattle.room_wire.specs.declared.serving.stop.Why.{Why}
 use Rattle.room_wire.specs.declared.serving.stop.Why.TheVariants as W
 use Rattle.std.proofs.KnownBytes.{Appends-nil, Consumes-nil}
@@ -22,12 +16,11 @@ use Rattle.room_wire.specs.Serving.CheckService.{fault_code, IsCheckAnswer}
 use Rattle.room_wire.specs.Serving.Ends.{Serves}
 use Rattle.room_wire.specs.Messages.MessageModel.{MessageModel}
 use Rattle.room_wire.specs.Questions.QuestionModel.{QuestionModel}
-use Rattle.room_wire.specs.Asks.Routing.{room_rows}
 use Rattle.room_wire.specs.Serving.Outputs.{Outputs}
 use Rattle.room_desk.specs.AnswerModel.{AnswerModel, Refused}
 use Rattle.room_desk.specs.History.{History}
 use Rattle.room_desk.specs.Representation.{StandsFor}
-use Rattle.room_desk.specs.Serving.{AnswersOrDelays, AnswersMessage, ask_by, Answered, MayAnswer}
+use Rattle.room_desk.specs.Serving.{AnswersOrDelays, AnswersMessage, Answered, MayAnswer}
 
 module _ {S : Type 0} (is_honest is_clean is_declared : S → Type 0) (records : S → Records) (failures : S → ℕ) where
   -- an answer that leaves the shelf as it was
@@ -65,26 +58,18 @@ module _ {S : Type 0} (is_honest is_clean is_declared : S → Type 0) (records :
       → Answered is_honest is_clean is_declared records failures asked before answered after → Answered is_honest is_clean is_declared records failures ask before answered after
   asked_is ask asked before answered after e x = subst (λ a. Answered is_honest is_clean is_declared records failures a before answered after) (sym e) x
 
-  -- what was lent of a message is the message's
-  pub shown : (rows : RowsOf (RouteOf Route)) (users : List SubjectModel) (message : Message) (m : MessageModel) (before : S) (answered : AnswerModel) (after : S) → Shows message m
-      → Answered is_honest is_clean is_declared records failures
-      (ask_of rows users message.method.now message.target.now (map (header_bytes message.window.now) (take message.count message.spans)) message.body.now) before answered after
-      → MayAnswer is_honest is_clean is_declared records failures rows users before m answered after
-  shown rows users message m before answered after s x =
-      subst (λ a. Answered is_honest is_clean is_declared records failures a before answered after) (λ i. ask_of rows users (s.method i) (s.target i) (s.fields i) (s.body i)) x
-
   -- the shelf after some messages
-  pub record Served (rows : RowsOf (RouteOf Route)) (users : List SubjectModel) (before : S) (ms : List MessageModel) (out : List ℕ) (after : S) : Type 0 where
+  pub record Served (users : List SubjectModel) (before : S) (ms : List MessageModel) (out : List ℕ) (after : S) : Type 0 where
     pub was_honest : is_honest after → is_honest before
     pub was_clean : is_clean after → is_clean before
     pub declared : is_honest after → is_declared before → is_declared after
     pub never_falls : failures before ≤ failures after
     pub run : is_clean after → (start : Room) (past : History) → StandsFor is_honest is_declared records start past before
-        → (next : History) × Outputs (λ (b : History) (m : MessageModel) (a : AnswerModel) (n : History). AnswersOrDelays start b (ask_by rows users m) a n) past ms out next
+        → (next : History) × Outputs (λ (b : History) (m : MessageModel) (a : AnswerModel) (n : History). AnswersOrDelays start b (ask_of users m) a n) past ms out next
         × StandsFor is_honest is_declared records start next after
 
-  none : (rows : RowsOf (RouteOf Route)) (users : List SubjectModel) (before after : S) (out : List ℕ) → out ≡ [] → after ≡ before → Served rows users before [] out after
-  none rows users before after out e f = subst (λ s. Served rows users before [] out s) (sym f) (record {
+  none : (users : List SubjectModel) (before after : S) (out : List ℕ) → out ≡ [] → after ≡ before → Served users before [] out after
+  none users before after out e f = subst (λ s. Served users before [] out s) (sym f) (record {
     was_honest = λ h. h;
     was_clean = λ k. k;
     declared = λ h d. d;
@@ -92,12 +77,12 @@ module _ {S : Type 0} (is_honest is_clean is_declared : S → Type 0) (records :
     run = λ k start past stands. (past, (e, refl), stands);
   })
 
-  pub served : (rows : RowsOf (RouteOf Route)) (users : List SubjectModel) (before : S) (ms : List MessageModel) (out : List ℕ) (after : S)
-      → Outputs (MayAnswer is_honest is_clean is_declared records failures rows users) before ms out after → Served rows users before ms out after
-  served rows users before [] out after h = none rows users before after out h.0 h.1
-  served rows users before (m ∷ ms) out after h =
+  pub served : (users : List SubjectModel) (before : S) (ms : List MessageModel) (out : List ℕ) (after : S)
+      → Outputs (MayAnswer is_honest is_clean is_declared records failures users) before ms out after → Served users before ms out after
+  served users before [] out after h = none users before after out h.0 h.1
+  served users before (m ∷ ms) out after h =
       let first = h.3 in
-      let then = served rows users h.1 ms h.2 after h.4 in record {
+      let then = served users h.1 ms h.2 after h.4 in record {
         was_honest = λ h. first.was_honest (then.was_honest h);
         was_clean = λ k. first.was_clean (then.was_clean k);
         declared = λ h d. then.declared h (first.declared (then.was_honest h) d);
@@ -117,26 +102,19 @@ module _ {S : Type 0} (is_honest is_clean is_declared : S → Type 0) (records :
     pub run : is_clean after → (start : Room) (past : History) → StandsFor is_honest is_declared records start past before
         → (next : History) × Serves (AnswersMessage users start) past next left later old new why count × StandsFor is_honest is_declared records start next after
 
-  pub served_stream : (rows : RowsOf (RouteOf Route)) (users : List SubjectModel) (before after : S) (left later old new : Option (List ℕ)) (why : Why) (count : ℕ)
-      → rows ≡ room_rows → Serves (MayAnswer is_honest is_clean is_declared records failures rows users) before after left later old new why count
+  pub served_stream : (users : List SubjectModel) (before after : S) (left later old new : Option (List ℕ)) (why : Why) (count : ℕ)
+      → Serves (MayAnswer is_honest is_clean is_declared records failures users) before after left later old new why count
       → ServedStream users before after left later old new why count
-  served_stream rows users before after left later old new why count e x =
-      let y = subst (λ r. Serves (MayAnswer is_honest is_clean is_declared records failures r users) before after left later old new why count) e x in
-      let all = served room_rows users before y.2 y.3 after y.5 in record {
+  served_stream users before after left later old new why count x =
+      let all = served users before x.2 x.3 after x.5 in record {
         was_honest = all.was_honest;
         was_clean = all.was_clean;
         declared = all.declared;
         never_falls = all.never_falls;
         run = λ k start past stands.
             let ran = all.run k start past stands in
-            (ran.0, (y.0, y.1, y.2, y.3, y.4, ran.1, y.6, y.7), ran.2);
+            (ran.0, (x.0, x.1, x.2, x.3, x.4, ran.1, x.6, x.7), ran.2);
       }
-
-  pub by_room_rows : (rows : RowsOf (RouteOf Route)) (users : List SubjectModel) (before after : S) (left later old new : Option (List ℕ)) (why : Why) (count : ℕ)
-      → rows ≡ room_rows → Serves (MayAnswer is_honest is_clean is_declared records failures rows users) before after left later old new why count
-      → Serves (MayAnswer is_honest is_clean is_declared records failures room_rows users) before after left later old new why count
-  by_room_rows rows users before after left later old new why count e x =
-      subst (λ r. Serves (MayAnswer is_honest is_clean is_declared records failures r users) before after left later old new why count) e x
 
 -- the end before the first read
 pub nothing_served : {S : Type 0} (may_answer : S → MessageModel → AnswerModel → S → Type 0) (s : S) (left old : Option (List ℕ)) → Serves may_answer s s left left old old W.Memory 0
@@ -159,6 +137,6 @@ pub goes_on : (users : List SubjectModel) (start : Room) (past : History) (ms : 
     → (events : List EventModel) × (next ≡ events ++ past)
 goes_on users start past [] out next h = ([], h.1)
 goes_on users start past (m ∷ ms) out next h =
-    let first = one_step start past h.1 (ask_by room_rows users m) h.0 h.3 in
+    let first = one_step start past h.1 (ask_of users m) h.0 h.3 in
     let rest = goes_on users start h.1 ms h.2 next h.4 in
     (rest.0 ++ first.0, rest.1 ∙ ap (λ b. rest.0 ++ b) first.1 ∙ sym (append_assoc rest.0 first.0 past))

@@ -1,19 +1,15 @@
 -- Runs of messages over a room (our own rules).
 use Rattle.std.specs.Prelude.{◌≡◌, ◌≢◌, ℕ, ◌≤◌, ◌⊎◌, Bool, false, List, ◌∷◌, Result, Ok, Err}
-use Rattle.matchit.specs.Router.{RouteOf}
-use Rattle.matchit.specs.Rows.{RowsOf}
 use Rattle.room_acl.specs.SubjectModel.{SubjectModel}
 use Rattle.room_records.specs.Records.{Records}
 use Rattle.room_records.specs.Room.{Room}
 use Rattle.room_wire.specs.declared.answers.code.Code.TheVariants.{Delay}
 use Rattle.room_wire.specs.declared.fault.WireFault.{WireFault}
-use Rattle.room_wire.specs.declared.asks.routing.Route.{Route}
 use Rattle.room_wire.specs.Asks.EventModel.{EventModel}
 use Rattle.room_wire.specs.Asks.AskOf.{AskModel, Check, Event, ask_of}
 use Rattle.room_wire.specs.Questions.CheckAnswers.{answer_text}
 use Rattle.room_wire.specs.Serving.CheckService.{fault_code}
-use Rattle.room_wire.specs.Messages.MessageModel.{MessageModel, fields_of}
-use Rattle.room_wire.specs.Asks.Routing.{room_rows}
+use Rattle.room_wire.specs.Messages.MessageModel.{MessageModel}
 use Rattle.room_wire.specs.Serving.Outputs.{Outputs}
 use Rattle.room_desk.specs.AnswerModel.{AnswerModel, Reply, Refused, IsTurnedAway}
 use Rattle.room_desk.specs.History.{History, answer_to, changes_rows}
@@ -29,13 +25,9 @@ AnswersAsk start past (Err fault) answered next = (answered ≡ Refused (fault_c
 abbrev pub AnswersOrDelays : Room → History → Result AskModel WireFault → AnswerModel → History → Type 0
 AnswersOrDelays start past ask answered next = AnswersAsk start past ask answered next ⊎ ((answered ≡ Refused Delay) × (next ≡ past))
 
--- what a message asks, by these routes and users
-abbrev pub ask_by : RowsOf (RouteOf Route) → List SubjectModel → MessageModel → Result AskModel WireFault
-ask_by rows users m = ask_of rows users m.head.method m.head.target (fields_of m) m.body
-
--- a message to the routes of a room is answered
+-- a message to a room with these users is answered
 abbrev pub AnswersMessage : List SubjectModel → Room → History → MessageModel → AnswerModel → History → Type 0
-AnswersMessage users start past m answered next = AnswersOrDelays start past (ask_by room_rows users m) answered next
+AnswersMessage users start past m answered next = AnswersOrDelays start past (ask_of users m) answered next
 
 -- a run over messages from a history to a history, with its output; `Serves` of `room_wire` says the same of a whole stream
 abbrev pub IsRun : List SubjectModel → Room → History → List MessageModel → (out : List ℕ) → History → Type 0
@@ -68,6 +60,6 @@ EventAnswered is_honest is_clean is_declared records failures before event answe
     Answered is_honest is_clean is_declared records failures (Ok (Event event)) before answered after
 
 -- what a message may be answered over a shelf
-abbrev pub MayAnswer : {S : Type 0} (is_honest is_clean is_declared : S → Type 0) (records : S → Records) (failures : S → ℕ) → RowsOf (RouteOf Route) → List SubjectModel → S → MessageModel → AnswerModel → S → Type 0
-MayAnswer is_honest is_clean is_declared records failures rows users before m answered after =
-    Answered is_honest is_clean is_declared records failures (ask_by rows users m) before answered after
+abbrev pub MayAnswer : {S : Type 0} (is_honest is_clean is_declared : S → Type 0) (records : S → Records) (failures : S → ℕ) → List SubjectModel → S → MessageModel → AnswerModel → S → Type 0
+MayAnswer is_honest is_clean is_declared records failures users before m answered after =
+    Answered is_honest is_clean is_declared records failures (ask_of users m) before answered after

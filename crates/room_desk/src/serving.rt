@@ -2,7 +2,6 @@
 ghost use Rattle.std.specs.Prelude.{◌≡◌, ◌≤◌, []};
 ghost use Rattle.room_records.specs.Room.{Room};
 ghost use Rattle.room_wire.specs.Serving.Ends.{Serves};
-ghost use Rattle.room_wire.specs.Asks.Routing.{room_rows};
 ghost use Rattle.room_desk.specs.History.{History};
 ghost use Rattle.room_desk.specs.Representation.{StandsFor};
 ghost use Rattle.room_desk.specs.Serving.{AnswersMessage, MayAnswer};
@@ -30,7 +29,7 @@ impl<S: Shelf> Desk<S> {
         ensures was_clean { S.is_clean self.new → S.is_clean self.old }
         ensures declared { S.is_honest self.new → S.is_declared self.old → S.is_declared self.new }
         ensures never_falls { S.failures self.old ≤ S.failures self.new }
-        ensures messages { Serves (MayAnswer S.is_honest S.is_clean S.is_declared S.records S.failures room_rows roster.now) self.old self.new
+        ensures messages { Serves (MayAnswer S.is_honest S.is_clean S.is_declared S.records S.failures roster.now) self.old self.new
             (R.remaining reader.old) (R.remaining reader.new) (W.contents writer.old) (W.contents writer.new) result.why result.count }
         ensures run { S.is_clean self.new → (start : Room) (past : History) → StandsFor S.is_honest S.is_declared S.records start past self.old →
             (next : History) × Serves (AnswersMessage roster.now start) past next (R.remaining reader.old) (R.remaining reader.new)
@@ -55,13 +54,12 @@ impl<S: Shelf> Desk<S> {
         reader: &mut R,
         writer: &mut W,
     ) -> ServeEnd
-        requires rows { lookup.now.routes ≡ room_rows }
-        requires empty { buffers.input ≡ [] }
+        requires { buffers.input ≡ [] }
         ensures was_honest { S.is_honest self.new → S.is_honest self.old }
         ensures was_clean { S.is_clean self.new → S.is_clean self.old }
         ensures declared { S.is_honest self.new → S.is_declared self.old → S.is_declared self.new }
         ensures never_falls { S.failures self.old ≤ S.failures self.new }
-        ensures messages { Serves (MayAnswer S.is_honest S.is_clean S.is_declared S.records S.failures room_rows lookup.now.roster.now) self.old self.new
+        ensures messages { Serves (MayAnswer S.is_honest S.is_clean S.is_declared S.records S.failures lookup.now.roster.now) self.old self.new
             (R.remaining reader.old) (R.remaining reader.new) (W.contents writer.old) (W.contents writer.new) result.why result.count }
         ensures run { S.is_clean self.new → (start : Room) (past : History) → StandsFor S.is_honest S.is_declared S.records start past self.old →
             (next : History) × Serves (AnswersMessage lookup.now.roster.now start) past next (R.remaining reader.old) (R.remaining reader.new)
