@@ -2,10 +2,9 @@
 
 ghost use Rattle.std.specs.Prelude.{◌≡◌, ◌==◌, ℕ, pos, List, [], ◌∷◌, map, slice_get, unwrap_or, option_map, IfOk, string_bytes};
 ghost use Rattle.std.specs.List.{AllByRecursion};
-ghost use Rattle.room_acl.specs.Bits.{identifier_group};
 ghost use Rattle.sqlite_value.specs.Order.{column};
 ghost use Rattle.sqlite_value.specs.declared.value.Value.TheVariants.{Int, Text};
-ghost use Rattle.room_tables.specs.Rows.{number_in, text_in, name_of_text, name_in, parent_in, bytes_in, kind_of, named_who, who_of, only, node_of, entry_of, doc_of, session_of, kept_of, HasEntryColumns};
+ghost use Rattle.room_tables.specs.Rows.{number_in, text_in, name_of_text, name_in, parent_in, bytes_in, kind_of, who_of, only, node_of, entry_of, doc_of, session_of, kept_of, HasEntryColumns};
 ghost use Rattle.room_tables.specs.Names.{counted_row};
 
 use room_acl::{Entry, Flags, Kind, ListFlags, Mask, Principal, Who};
@@ -171,40 +170,13 @@ fn mask_at(row: &Row, at: usize) -> Result<Mask, Error>
     }
 }
 
-/// Whether the name is a group's.
-#[tactic(auto, using(std::proofs::lemmas::Nat::Bits::shr_and_one))]
-fn is_group(flags: Flags) -> bool
-    ensures { result ≡ identifier_group flags }
-{
-    (flags.bits() >> 6u32) & 1 == 1
-}
-
-fn named_who(alloc: Global, flags: Flags, text: &str) -> Result<Who, Error>
-    ensures { IfOk result (λ who. who ≡ named_who flags text.now) }
-{
-    let name = match Principal::new(alloc, text) {
-        Ok(Some(name)) => name,
-        Ok(None) => return Err(bad_value()),
-        Err(error) => return Err(no_memory(error)),
-    };
-    if is_group(flags) {
-        Ok(Who::Members(name))
-    } else {
-        Ok(Who::User(name))
-    }
-}
-
 fn who_from(alloc: Global, flags: Flags, text: &str) -> Result<Who, Error>
     ensures { IfOk result (λ who. who ≡ who_of flags text.now) }
 {
-    if text == "OWNER@" {
-        Ok(Who::Owner)
-    } else if text == "GROUP@" {
-        Ok(Who::Group)
-    } else if text == "EVERYONE@" {
-        Ok(Who::Everyone)
-    } else {
-        named_who(alloc, flags, text)
+    match Who::read(alloc, flags, text) {
+        Ok(Some(who)) => Ok(who),
+        Ok(None) => Err(bad_value()),
+        Err(error) => Err(no_memory(error)),
     }
 }
 

@@ -3,8 +3,6 @@
 ghost use Rattle.std.specs.Prelude.{◌≡◌, ◌∷◌, [], Some, None, IfOk, OnOk, OnErr, true, false, IsTrue};
 ghost use Rattle.sqlite.specs.State.{HasCleanDisk, KeepsCommit, Survives};
 ghost use Rattle.sqlite.specs.Held.{state};
-ghost use Rattle.room_acl.specs.declared.subject.Kind.TheVariants.{Folder};
-ghost use Rattle.room_acl.specs.declared.who.Who.TheVariants.{Owner, Group};
 ghost use Rattle.room_records.specs.Records.{Records};
 ghost use Rattle.room_records.specs.Changes.{apply_change};
 ghost use Rattle.room_records.specs.declared.change.Change.TheVariants.{PutNode, PutEntries, PutNext};
@@ -14,10 +12,9 @@ ghost use Rattle.room_tables.specs.Layout.{IsRoomDatabase};
 ghost use Rattle.room_tables.specs.Steps.{Steps};
 ghost use Rattle.room_tables.specs.Fresh.{IsMade, IsFilled, IsFreshRoom, MayBeFilled, MayBeMade};
 
-use crate::rows::bad_value;
 use crate::writes::{put_entries, put_next, put_node};
-use room_acl::{Entry, Flags, Kind, ListFlags, Mask, Principal, Who};
-use room_records::Node;
+use room_acl::{Entry, Principal};
+use room_records::{Node, fresh_entries, fresh_root};
 use sqlite::{Alter, Connection, Error, Transaction};
 use std::alloc::Global;
 
@@ -130,50 +127,6 @@ fn make_tables<S: Alter>(tx: &mut Transaction<'_, S>) -> Result<(), Error>
     make_slot(tx)
 }
 
-/// The root of a fresh room: a folder of this owner and group.
-fn fresh_root(owner: &Principal, group: &Principal) -> Result<Node, Error>
-    ensures { IfOk result (λ node. node ≡ record { id = 1; parent = None; name = None; kind = Folder; owner = owner.now; group = group.now; aclflag = 0 }) }
-{
-    let Some(aclflag) = ListFlags::new(0) else {
-        return Err(bad_value());
-    };
-    Ok(Node {
-        id: 1,
-        parent: None,
-        name: None,
-        kind: Kind::Folder,
-        owner: owner.clone()?,
-        group: group.clone()?,
-        aclflag,
-    })
-}
-
-/// An entry that allows and is handed down to files and folders.
-fn fresh_entry(mask: u32, who: Who) -> Result<Entry, Error>
-    ensures { IfOk result (λ entry. entry ≡ record { allow = true; flags = 3; mask = mask; who = who }) }
-{
-    let Some(flags) = Flags::new(3) else {
-        return Err(bad_value());
-    };
-    let Some(mask) = Mask::new(mask) else {
-        return Err(bad_value());
-    };
-    match Entry::new(true, flags, mask, who) {
-        Some(entry) => Ok(entry),
-        None => Err(bad_value()),
-    }
-}
-
-/// The root's entries: all rights for its owner, and reading for its group.
-fn fresh_entries(alloc: Global) -> Result<Vec<Entry>, Error>
-    ensures { IfOk result (λ entries. entries.items ≡ record { allow = true; flags = 3; mask = 0x1F07FF; who = Owner } ∷ record { allow = true; flags = 3; mask = 0x1200A9; who = Group } ∷ []) }
-{
-    let mut entries = Vec::new(alloc);
-    entries.push(fresh_entry(0x001F_07FF, Who::Owner)?)?;
-    entries.push(fresh_entry(0x0012_00A9, Who::Group)?)?;
-    Ok(entries)
-}
-
 /// Fills tables that were just made.
 fn fill<S: Alter>(
     tx: &mut Transaction<'_, S>,
@@ -245,7 +198,7 @@ pub(crate) fn make<S: Alter>(
     ensures kept { HasCleanDisk (state S.Store conn.new) → IsTrue (state S.Store conn.new).is_open → IsTrue (state S.Store conn.old).is_open }
     ensures crash { Survives (state S.Store conn.old) (state S.Store conn.new) (MayBeMade owner.now group.now (state S.Store conn.old).now) }
 {
-    let root = fresh_root(owner, group)?;
+    let root = fresh_root(owner.clone()?, group.clone()?);
     let entries = fresh_entries(alloc)?;
     commit_fresh(conn, &root, &entries)
 }

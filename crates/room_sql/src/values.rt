@@ -2,9 +2,10 @@
 
 ghost use Rattle.std.specs.Prelude.{◌≡◌, [], ◌∷◌};
 ghost use Rattle.sqlite.specs.Values.{bound};
+ghost use Rattle.room_acl.specs.Entries.{who_text};
 ghost use Rattle.room_tables.specs.Rows.{name_of_text, who_of};
 ghost use Rattle.room_tables.specs.Layout.{parent_value};
-ghost use Rattle.room_tables.specs.Steps.{kind_number, flag_of, type_of, text_of_who, shown_as, IsReadBack};
+ghost use Rattle.room_tables.specs.Steps.{kind_number, flag_of, type_of, shown_as, IsReadBack};
 
 use room_acl::{Entry, Kind, Who};
 use room_records::Node;
@@ -110,7 +111,7 @@ fn entry_mask(entry: &Entry) -> u32
 
 /// Whom the entry names, as text that is read back as the same.
 fn who_text(entry: &Entry) -> &str
-    ensures value { result.now ≡ text_of_who entry.now.who }
+    ensures value { result.now ≡ who_text entry.now.who }
     ensures back { who_of entry.now.flags result.now ≡ entry.now.who }
 {
     match entry.who() {
