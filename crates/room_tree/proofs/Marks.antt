@@ -1,44 +1,13 @@
 -- Entries that are sent, with the mark cleared.
-use Rattle.std.proofs.Common.{◌≡◌, ℕ, ◌-◌, ◌*◌, ◌/◌, ◌%◌, ◌<◌, refl, ap, sym, ◌∙◌, arith, Bool, true, false, not, cond, List, [], ◌∷◌, map, filter, bit_and, ◌==◌, IsTrue, None, Some, length}
+use Rattle.std.proofs.Common.{◌≡◌, ℕ, ◌-◌, ◌*◌, ◌<◌, refl, ap, sym, ◌∙◌, arith, Bool, true, false, not, cond, List, [], ◌∷◌, map, filter, bit_and, ◌==◌, None, Some, length}
 use Rattle.std.specs.List.{filter_map, cons_option}
 use Rattle.std.specs.Int.{bit_at}
-use Rattle.std.proofs.lemmas.Nat.{and_assoc, and_mask}
 use Rattle.std.proofs.lemmas.Nat.Bits.{and_pow}
-use Rattle.room_acl.specs.declared.who.Who.{Who}
-use Rattle.room_acl.specs.declared.who.Who.TheVariants.{Owner, Group, Everyone, User, Members}
-use Rattle.room_acl.specs.Bits.{IsFlags, is_inherited, identifier_group}
-use Rattle.room_acl.specs.Entries.{EntryModel, names_its_kind}
+use Rattle.room_acl.specs.Bits.{is_inherited}
+use Rattle.room_acl.specs.Entries.{EntryModel}
 use Rattle.room_records.specs.Names.{Path}
 use Rattle.room_commands.specs.SetList.{clear_inherited, follows_at, own_entries_of_setlist}
 use Rattle.room_tree.specs.Places.{kept_entry}
-
--- the flags without the mark
-pub cleared_flags : (f : ℕ) → f < 256 → f - bit_and f 0x80 ≡ bit_and f 0x7F
-cleared_flags f small =
-    let mark : bit_and f 0x80 ≡ f / 128 % 2 * 128 = and_pow f 7 in
-    let rest : bit_and f 0x7F ≡ f % 128 = and_mask f 7 in
-    omega (arith, mark, rest)
-
--- are flags
-pub cleared_are_flags : (f : ℕ) → IsFlags f → IsFlags (bit_and f 0x7F)
-cleared_are_flags f lawful =
-    let one : bit_and (bit_and f 0x7F) 0xCF ≡ bit_and f 0x4F = and_assoc 0xCF f 0x7F in
-    let two : bit_and (bit_and f 0xCF) 0x7F ≡ bit_and f 0x4F = and_assoc 0x7F f 0xCF in
-    one ∙ sym two ∙ ap (λ n. bit_and n 0x7F) lawful
-
--- and keep IDENTIFIER_GROUP
-pub cleared_group : (f : ℕ) → identifier_group (bit_and f 0x7F) ≡ identifier_group f
-cleared_group f =
-    let rest : bit_and f 0x7F ≡ f % 128 = and_mask f 7 in
-    let bit : f % 128 / 64 % 2 ≡ f / 64 % 2 = omega arith in
-    ap identifier_group rest ∙ ap (λ b. b == 1) bit
-
-pub kind_kept : (f g : ℕ) (who : Who) → identifier_group g ≡ identifier_group f → IsTrue (names_its_kind f who) → IsTrue (names_its_kind g who)
-kind_kept f g Owner same h = refl
-kind_kept f g Group same h = refl
-kind_kept f g Everyone same h = refl
-kind_kept f g (User name) same h = ap not same ∙ h
-kind_kept f g (Members name) same h = same ∙ h
 
 -- an entry without the mark stays
 unmarked : (entry : EntryModel) → is_inherited entry.flags ≡ false → clear_inherited entry ≡ entry

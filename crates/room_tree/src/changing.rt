@@ -14,11 +14,8 @@ use crate::reaching::{Reached, as_size, bytes_of, reach_to_use};
 use crate::refusal::Refusal;
 use room_acl::{Kind, Principal, Subject};
 use room_commands::{Fault, Reply};
-use room_records::{Change, Node, Path, Shelf, ShelfFault};
+use room_records::{Change, MAX_DOCUMENT, Node, Path, Shelf, ShelfFault};
 use std::alloc::{AllocError, Global};
-
-/// Bytes in a document (our own rule).
-const MAX_DOCUMENT: u64 = 65536;
 
 /// Whether a document would have too many bytes.
 pub(crate) fn check_size(size: u64) -> Option<Refusal>

@@ -12,10 +12,7 @@ use crate::place::Place;
 use crate::refusal::Refusal;
 use room_acl::Kind;
 use room_commands::Fault;
-use room_records::{Path, Shelf, ShelfFault};
-
-/// Names on a path (our own rule).
-const MAX_NAMES: usize = 16;
+use room_records::{MAX_NAMES, Path, Shelf, ShelfFault};
 
 /// Whether something stands this many levels below the node of this number and kind: 0 is the node itself.
 /// It reads the folders above that level, and stops at the first node that it finds there. However the rows

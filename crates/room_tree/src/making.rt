@@ -19,14 +19,8 @@ use crate::refusal::Refusal;
 use crate::walking::{Walk, walk_path};
 use room_acl::{Kind, ListFlags, Subject};
 use room_commands::{Fault, Reply};
-use room_records::{Change, FileName, Node, Path, Shelf, ShelfFault};
+use room_records::{Change, FileName, MAX_CHILDREN, MAX_OBJECTS, Node, Path, Shelf, ShelfFault};
 use std::alloc::{AllocError, Global};
-
-/// Children of a folder (our own rule).
-const MAX_CHILDREN: u64 = 256;
-
-/// Object numbers ever used, the root's included (our own rule).
-const MAX_OBJECTS: u32 = 1_000_000;
 
 /// The folder of a path where nothing is, if it allows these bits to the caller.
 fn folder_for_new<S: Shelf>(
@@ -139,18 +133,8 @@ fn new_node(
         kind,
         owner,
         group,
-        aclflag: follows_only(),
+        aclflag: ListFlags::AUTO_INHERIT,
     })
-}
-
-/// The list flags of a new object: AUTO_INHERIT alone.
-fn follows_only() -> ListFlags
-    ensures { result ≡ 1 }
-{
-    match ListFlags::new(1) {
-        Some(flags) => flags,
-        None => unreachable!(),
-    }
 }
 
 /// The changes for a new object: the next number first, since each number is below it.

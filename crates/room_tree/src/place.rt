@@ -1,16 +1,15 @@
 //! Objects that were found on a shelf.
 ghost use Rattle.std.specs.Prelude.{◌≡◌, ◌++◌, [], take, IfOk, if◌then◌else◌};
 ghost use Rattle.room_acl.specs.Bits.{IsMask};
-ghost use Rattle.room_acl.specs.Inheritance.{handed_down};
 ghost use Rattle.room_records.specs.Names.{Path as PathModel};
 ghost use Rattle.room_records.specs.Records.{ObjectRecords};
-ghost use Rattle.room_records.specs.Room.{Room, follows};
+ghost use Rattle.room_records.specs.Room.{Room};
 ghost use Rattle.room_commands.specs.Checks.{check_right, check_folder, check_file, prefix_fault, first_refusal};
 ghost use Rattle.room_tree.specs.Places.{IsPlace, node_of, kind_checks, use_checks};
 
 use crate::masks::EXECUTE;
 use crate::refusal::Refusal;
-use room_acl::{Decision, Entry, Kind, ListFlags, Mask, Standing, Subject, decide, hand_down};
+use room_acl::{Decision, Entry, Kind, ListFlags, Mask, Standing, Subject, decide};
 use room_commands::Fault;
 use room_records::{FileName, Node, Path};
 use std::alloc::{AllocError, Global};
@@ -168,30 +167,4 @@ impl Place {
             None => self.check_right(alloc, subject, wanted, path, path.names().len()),
         }
     }
-}
-
-/// Whether an object with these list flags follows its folder.
-pub(crate) fn follows(aclflag: ListFlags) -> bool
-    ensures { result ≡ follows aclflag }
-{
-    let bits = aclflag.bits();
-    bits & 1 == 1 && (bits >> 1) & 1 == 0
-}
-
-/// The list of an object: its own entries, then, where it follows, what its folder's list hands down.
-pub(crate) fn with_inherited(
-    alloc: Global,
-    own: Vec<Entry>,
-    aclflag: ListFlags,
-    kind: Kind,
-    above: &[Entry],
-) -> Result<Vec<Entry>, AllocError>
-    ensures { IfOk result (λ list. list.items ≡ own.items ++ (if follows aclflag then handed_down above.now kind else [])) }
-{
-    let mut list = own;
-    if follows(aclflag) {
-        let mut given = hand_down(alloc, above, kind)?;
-        list.append(&mut given)?;
-    }
-    Ok(list)
 }

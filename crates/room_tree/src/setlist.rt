@@ -1,21 +1,20 @@
 //! SETLIST.
 ghost use Rattle.std.specs.Prelude.{◌≡◌, [], ◌∷◌, IfOk, Err};
 ghost use Rattle.std.specs.List.{filter_map};
-ghost use Rattle.room_acl.specs.Bits.{is_inherited};
 ghost use Rattle.room_acl.specs.Inheritance.{own_entries_fault};
 ghost use Rattle.room_records.specs.Shelf.{ShelfRead, fault_in};
 ghost use Rattle.room_commands.specs.Checks.{check_lawful};
 ghost use Rattle.room_commands.specs.CommandModel as C;
 ghost use Rattle.room_tree.specs.Places.{OfRoom, node_of, kept_entry};
 ghost use Rattle.room_tree.specs.Plans.{PlansEffect};
-ghost use Rattle.room_commands.specs.SetList.{clear_inherited, follows_at};
+ghost use Rattle.room_commands.specs.SetList.{follows_at};
 
 use crate::masks::WRITE_ACL;
-use crate::place::{Place, follows};
+use crate::place::Place;
 use crate::planning::Outcome;
 use crate::reaching::{Reached, reach_to_use};
 use crate::refusal::Refusal;
-use room_acl::{Entry, Flags, Kind, ListFault, ListFlags, Subject, check_own};
+use room_acl::{Entry, Kind, ListFault, ListFlags, Subject, check_own};
 use room_commands::{Fault, Reply};
 use room_records::{Change, Path, Shelf, ShelfFault};
 use std::alloc::{AllocError, Global};
@@ -27,29 +26,7 @@ fn follows_at(path: &Path, aclflag: ListFlags) -> bool
     if path.names().len() == 0 {
         false
     } else {
-        follows(aclflag)
-    }
-}
-
-/// Whether the entry has the mark of a handed down one.
-#[tactic(auto, using(std::proofs::lemmas::Nat::Bits::shr_and_one))]
-fn is_marked(entry: &Entry) -> bool
-    ensures { result ≡ is_inherited entry.now.flags }
-{
-    (entry.flags().bits() >> 7) & 1 == 1
-}
-
-/// The entry without the mark.
-fn without_mark(entry: &Entry) -> Result<Entry, AllocError>
-    ensures { IfOk result (λ own. own ≡ clear_inherited entry.now) }
-{
-    let Some(flags) = Flags::new(entry.flags().bits() & 0x7F) else {
-        unreachable!()
-    };
-    let who = entry.who().clone()?;
-    match Entry::new(entry.allow(), flags, entry.mask(), who) {
-        Some(own) => Ok(own),
-        None => unreachable!(),
+        aclflag.follows()
     }
 }
 
@@ -57,11 +34,10 @@ fn without_mark(entry: &Entry) -> Result<Entry, AllocError>
 fn own_entry(entry: &Entry, follows: bool) -> Result<Option<Entry>, AllocError>
     ensures { IfOk result (λ own. own ≡ kept_entry follows entry.now) }
 {
-    if follows && is_marked(entry) {
+    if follows && entry.flags().is_inherited() {
         return Ok(None);
     }
-    let own = without_mark(entry)?;
-    Ok(Some(own))
+    Ok(Some(entry.without_inherited()?))
 }
 
 /// The own entries that a list that is sent leaves.

@@ -6,19 +6,18 @@ ghost use Rattle.room_records.specs.Room.{Room, list_of, follows};
 ghost use Rattle.room_records.specs.Shelf.{ShelfRead, fault_in};
 ghost use Rattle.room_tree.specs.Places.{OfRoom};
 
-use crate::place::{follows, with_inherited};
-use room_acl::Entry;
-use room_records::{Node, Shelf, ShelfFault};
+use room_acl::{Entry, with_inherited};
+use room_records::{MAX_NAMES, Node, Shelf, ShelfFault};
 use std::alloc::Global;
 
-/// Names on a path (our own rule).
-const MAX_NAMES: u32 = 16;
+/// Folders above an object, at most.
+const LEVELS: u32 = MAX_NAMES as u32;
 
 /// The folder whose list an object with this row goes on with, if there is one.
 fn folder_followed(node: &Node) -> Option<u32>
     ensures { result ≡ (if follows node.now.aclflag then node.now.parent else None) }
 {
-    if follows(node.aclflag) {
+    if node.aclflag.follows() {
         node.parent
     } else {
         None
@@ -72,5 +71,5 @@ pub fn list_upwards<S: Shelf>(
     let Some(node) = shelf.node(id)? else {
         return Ok(Vec::new(alloc));
     };
-    list_within(alloc, shelf, &node, MAX_NAMES)
+    list_within(alloc, shelf, &node, LEVELS)
 }

@@ -6,9 +6,9 @@ ghost use Rattle.room_records.specs.Room.{follows, object_at};
 ghost use Rattle.room_records.specs.Shelf.{ShelfRead, fault_in};
 ghost use Rattle.room_tree.specs.Places.{OfRoom, IsPlace, IsWalk, node_of};
 
-use crate::place::{Place, with_inherited};
+use crate::place::Place;
 use crate::refusal::Refusal;
-use room_acl::{Entry, Kind, Mask, Subject};
+use room_acl::{Entry, Kind, Mask, Subject, with_inherited};
 use room_commands::Fault;
 use room_records::{FileName, Node, Path, Shelf, ShelfFault};
 use std::alloc::{AllocError, Global};
