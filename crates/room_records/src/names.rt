@@ -130,7 +130,8 @@ impl Path {
 
     /// The path as text, which `read` reads back.
     pub fn text(&self, alloc: Global) -> Result<String, AllocError>
-        ensures { IfOk result (λ text. string_bytes text ≡ path_text self.now) }
+        ensures value { IfOk result (λ text. string_bytes text ≡ path_text self.now) }
+        ensures lawful { IsPath self.now }
     {
         if self.names.is_empty() {
             return String::from_str(alloc, "/");

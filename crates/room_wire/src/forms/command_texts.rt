@@ -1,8 +1,15 @@
 //! Commands as text: compact JSON, with members in byte order of their names.
-ghost use Rattle.std.specs.Prelude.{◌≡◌, [], ◌∷◌, IfOk, codes};
+ghost use Rattle.std.specs.Prelude.{◌≡◌, [], ◌∷◌, Some, IfOk, codes};
+ghost use Rattle.std.specs.List.{AllByRecursion};
+ghost use Rattle.room_acl.specs.Bits.{IsMask, IsListFlags};
+ghost use Rattle.room_acl.specs.Entries.{IsEntry};
+ghost use Rattle.room_acl.specs.Principals.{IsPrincipal};
+ghost use Rattle.room_records.specs.Names.{IsPath};
 ghost use Rattle.serde_json.specs.Data.{array, string};
 ghost use Rattle.serde_json.specs.View.{view};
 ghost use Rattle.room_commands.specs.CommandModel.{command_model};
+ghost use Rattle.room_commands.specs.Lawful.{AreBytes, IsLawful};
+ghost use Rattle.room_wire.specs.Forms.Commands.{command_of_body};
 ghost use Rattle.room_wire.specs.Forms.Texts.{num, obj, cmd, at, command_data, command_text};
 ghost use Rattle.room_wire.specs.Forms.Texts as T;
 
@@ -16,7 +23,8 @@ use std::alloc::{AllocError, Global};
 
 /// A command that has a path alone.
 fn path_command(alloc: Global, name: &str, path: &Path) -> Result<Value, AllocError>
-    ensures { IfOk result (λ value. view value ≡ obj (cmd name.now ∷ at path.now ∷ [])) }
+    ensures value { IfOk result (λ value. view value ≡ obj (cmd name.now ∷ at path.now ∷ [])) }
+    ensures lawful { IsPath path.now }
 {
     let text = path.text(alloc)?;
     json!(in alloc; {"cmd": name, "path": text.as_str()})
@@ -24,7 +32,9 @@ fn path_command(alloc: Global, name: &str, path: &Path) -> Result<Value, AllocEr
 
 /// A command that has bytes and a path. Bytes are base64 with padding (RFC 4648).
 fn bytes_command(alloc: Global, name: &str, bytes: &[u8], path: &Path) -> Result<Value, AllocError>
-    ensures { IfOk result (λ value. view value ≡ obj (cmd name.now ∷ (codes "data", T.bytes bytes.now) ∷ at path.now ∷ [])) }
+    ensures value { IfOk result (λ value. view value
+        ≡ obj (cmd name.now ∷ (codes "data", T.bytes bytes.now) ∷ at path.now ∷ [])) }
+    ensures lawful { IfOk result (λ _. AreBytes bytes.now × IsPath path.now) }
 {
     let data = STANDARD.encode(alloc, bytes)?;
     let text = path.text(alloc)?;
@@ -32,7 +42,9 @@ fn bytes_command(alloc: Global, name: &str, bytes: &[u8], path: &Path) -> Result
 }
 
 fn rename_command(alloc: Global, path: &Path, to: &Path) -> Result<Value, AllocError>
-    ensures { IfOk result (λ value. view value ≡ obj (cmd (codes "RENAME") ∷ at path.now ∷ (codes "to", T.path to.now) ∷ [])) }
+    ensures value { IfOk result (λ value. view value
+        ≡ obj (cmd (codes "RENAME") ∷ at path.now ∷ (codes "to", T.path to.now) ∷ [])) }
+    ensures lawful { IfOk result (λ _. IsPath path.now × IsPath to.now) }
 {
     let from_text = path.text(alloc)?;
     let to_text = to.text(alloc)?;
@@ -45,7 +57,8 @@ fn chown_command(
     owner: &Principal,
     path: &Path,
 ) -> Result<Value, AllocError>
-    ensures { IfOk result (λ value. view value
+    ensures lawful { IfOk result (λ _. IsPrincipal group.now × IsPrincipal owner.now × IsPath path.now) }
+    ensures value { IfOk result (λ value. view value
         ≡ obj (cmd (codes "CHOWN") ∷ (codes "group", string group.now) ∷ (codes "owner", string owner.now) ∷ at path.now ∷ [])) }
 {
     let text = path.text(alloc)?;
@@ -53,7 +66,9 @@ fn chown_command(
 }
 
 fn access_command(alloc: Global, mask: Mask, path: &Path) -> Result<Value, AllocError>
-    ensures { IfOk result (λ value. view value ≡ obj (cmd (codes "ACCESS") ∷ (codes "mask", num mask) ∷ at path.now ∷ [])) }
+    ensures value { IfOk result (λ value. view value
+        ≡ obj (cmd (codes "ACCESS") ∷ (codes "mask", num mask) ∷ at path.now ∷ [])) }
+    ensures lawful { IfOk result (λ _. IsMask mask × IsPath path.now) }
 {
     let text = path.text(alloc)?;
     json!(in alloc; {"cmd": "ACCESS", "mask": u64::from(mask.bits()), "path": text.as_str()})
@@ -65,7 +80,8 @@ fn set_list_command(
     entries: &[Entry],
     path: &Path,
 ) -> Result<Value, AllocError>
-    ensures { IfOk result (λ value. view value
+    ensures lawful { IfOk result (λ _. IsListFlags aclflag × AllByRecursion IsEntry entries.now × IsPath path.now) }
+    ensures value { IfOk result (λ value. view value
         ≡ obj ((codes "aclflag", num aclflag) ∷ cmd (codes "SETLIST") ∷ (codes "entries", array (T.entries entries.now)) ∷ at path.now ∷ [])) }
 {
     let items = array_value(entry_values(alloc, entries)?);
@@ -75,7 +91,8 @@ fn set_list_command(
 
 /// The command as a JSON value.
 fn command_value(alloc: Global, command: &Command) -> Result<Value, AllocError>
-    ensures { IfOk result (λ value. view value ≡ command_data (command_model command.now)) }
+    ensures value { IfOk result (λ value. view value ≡ command_data (command_model command.now)) }
+    ensures lawful { IfOk result (λ _. IsLawful (command_model command.now)) }
 {
     match command {
         Command::Stat { path } => path_command(alloc, "STAT", path),
@@ -98,13 +115,14 @@ fn command_value(alloc: Global, command: &Command) -> Result<Value, AllocError>
     }
 }
 
-/// The command as it is kept and compared.
+/// The command as it is kept and compared. It is a body that asks the same command.
 ///
 /// # Errors
 ///
 /// Only where memory was refused.
 pub fn command_text(alloc: Global, command: &Command) -> Result<Vec<u8>, AllocError>
-    ensures { IfOk result (λ text. text.items ≡ command_text (command_model command.now)) }
+    ensures value { IfOk result (λ text. text.items ≡ command_text (command_model command.now)) }
+    ensures reads_back { IfOk result (λ text. command_of_body text.items ≡ Some (command_model command.now)) }
 {
     let value = command_value(alloc, command)?;
     value.to_vec(alloc)

@@ -1,5 +1,7 @@
 //! Entries as JSON values.
 ghost use Rattle.std.specs.Prelude.{◌≡◌, [], ◌∷◌, IfOk, codes};
+ghost use Rattle.std.specs.List.{AllByRecursion};
+ghost use Rattle.room_acl.specs.Entries.{IsEntry};
 ghost use Rattle.serde_json.specs.Data.{array, string};
 ghost use Rattle.serde_json.specs.View.{view, items_view};
 ghost use Rattle.room_wire.specs.Forms.Texts.{num, obj, who_text};
@@ -34,7 +36,8 @@ fn entry_value_of(
 }
 
 fn entry_value(alloc: Global, entry: &Entry) -> Result<Value, AllocError>
-    ensures { IfOk result (λ value. view value ≡ T.entry entry.now) }
+    ensures value { IfOk result (λ value. view value ≡ T.entry entry.now) }
+    ensures lawful { IsEntry entry.now }
 {
     let kind = if entry.allow() { 0 } else { 1 };
     entry_value_of(
@@ -55,7 +58,8 @@ pub(crate) fn array_value(values: Vec<Value>) -> Value
 
 /// The entries as the items of an array.
 pub(crate) fn entry_values(alloc: Global, entries: &[Entry]) -> Result<Vec<Value>, AllocError>
-    ensures { IfOk result (λ values. items_view values.items ≡ T.entries entries.now) }
+    ensures value { IfOk result (λ values. items_view values.items ≡ T.entries entries.now) }
+    ensures lawful { IfOk result (λ _. AllByRecursion IsEntry entries.now) }
 {
     let mut values = Vec::new(alloc);
     for entry in entries {
