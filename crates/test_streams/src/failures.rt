@@ -7,7 +7,7 @@ use room_wire::Why;
 use std::alloc::Global;
 use std::io::{Read, Write};
 use std::test::Fail;
-use test_support::{Dripping, Full, Narrow, Pieces, in_memory, roster};
+use test_support::{ByteReader, Full, Narrow, Pieces, in_memory, roster};
 
 const NO_BODY: &str = "POST /v1/check HTTP/1.1\r\n\r\n";
 
@@ -34,7 +34,7 @@ fn questions_without_a_room(rt: HostRuntime) -> Result<(), Fail> {
             "whole reads",
         )?;
         let mut writer = Narrow::new(alloc, 10_000, step, Full::TakesNone);
-        let mut reader = Dripping::new(sent.as_bytes());
+        let mut reader = ByteReader::new(sent.as_bytes());
         let end = served(alloc, Server::Questions, &mut reader, &mut writer)?;
         is_as(
             &end,

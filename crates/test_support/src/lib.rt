@@ -14,4 +14,4 @@ pub use lists::are_same_entries;
 pub use names::{SID, file_name, named, path_of, roster, session_name, subject};
 pub use rooms::{adopt, in_memory, in_tables, init, made, taken};
 pub use rows::push_rows;
-pub use streams::{Dripping, Full, Narrow, Pieces};
+pub use streams::{ByteReader, Full, Narrow, Pieces};

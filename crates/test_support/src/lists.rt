@@ -1,22 +1,12 @@
 //! Whether lists of entries are the same.
-use room_acl::{Entry, Who};
-
-fn who_text(who: &Who) -> &str {
-    match who {
-        Who::Owner => "OWNER@",
-        Who::Group => "GROUP@",
-        Who::Everyone => "EVERYONE@",
-        Who::User(name) => name.text(),
-        Who::Members(name) => name.text(),
-    }
-}
+use room_acl::Entry;
 
 /// The flags tell a user from a group.
 fn is_same_entry(a: &Entry, b: &Entry) -> bool {
     a.allow() == b.allow()
         && a.flags().bits() == b.flags().bits()
         && a.mask().bits() == b.mask().bits()
-        && who_text(a.who()) == who_text(b.who())
+        && a.who().text() == b.who().text()
 }
 
 /// Whether two lists have the same entries in the same order.

@@ -2,19 +2,19 @@
 use std::alloc::Global;
 use std::io::{Error, ErrorKind, Read, Result, Write};
 
-/// Gives one byte a call.
+/// Gives one byte a call, whatever the buffer takes.
 #[derive(Drop)]
-pub struct Dripping<'a> {
+pub struct ByteReader<'a> {
     rest: &'a [u8],
 }
 
-impl<'a> Dripping<'a> {
-    pub fn new(bytes: &'a [u8]) -> Dripping<'a> {
-        Dripping { rest: bytes }
+impl<'a> ByteReader<'a> {
+    pub fn new(bytes: &'a [u8]) -> ByteReader<'a> {
+        ByteReader { rest: bytes }
     }
 }
 
-impl Read for Dripping<'_> {
+impl Read for ByteReader<'_> {
     fn read(&mut self, buf: &mut [u8]) -> Result<usize> {
         let (Some((byte, rest)), Some(place)) = (self.rest.split_first(), buf.first_mut()) else {
             return Ok(0);

@@ -7,6 +7,7 @@ use Rattle.std.specs.Str.Parse.{digits_value}
 use Rattle.serde_json.specs.Data.{Data}
 use Rattle.room_acl.specs.SubjectModel.{SubjectModel}
 use Rattle.room_acl.specs.declared.subject.Subject.{Subject}
+use Rattle.room_records.specs.Limits.{max_slots}
 use Rattle.room_records.specs.Names.{is_sid}
 use Rattle.room_records.specs.Roster.{groups_of}
 use Rattle.room_commands.specs.CommandModel.{CommandModel}
@@ -57,13 +58,13 @@ abbrev pub number_from : List ℕ → Option ℕ
 number_from text = if is_number text && nat_lt (digits_value 10 text) (2 ^ 32) then Some (digits_value 10 text) else None
 
 abbrev pub slots_from : ℕ → Option ℕ
-slots_from n = if nat_le 1 n && nat_le n 16 then Some n else None
+slots_from n = if nat_le 1 n && nat_le n max_slots then Some n else None
 
 -- one member, exactly
 abbrev pub slots_in : Data → Option ℕ
 slots_in d = if has_count 1 d then option_and_then slots_from (number_at (codes "slots") d) else None
 
--- how many slots the body of an OPEN asks: 1 to 16
+-- how many slots the body of an OPEN asks: 1 to 16, the limit
 abbrev pub slots_of_body : List ℕ → Option ℕ
 slots_of_body body = option_and_then slots_in (json_of body)
 

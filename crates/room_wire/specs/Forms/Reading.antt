@@ -1,17 +1,15 @@
 -- Readers of the members of JSON values: numbers, texts, principals, masks, flags, kinds and entries.
-use Rattle.std.specs.Prelude.{ℕ, ◌+◌, ◌^◌, Bool, true, false, ◌&&◌, ◌==◌, nat_le, nat_lt, length, List, [], ◌∷◌, Option, None, Some, if◌then◌else◌, option_and_then, option_map, codes, bit_and, bytes_eq}
-use Rattle.std.specs.List.{list_all}
+use Rattle.std.specs.Prelude.{ℕ, ◌+◌, ◌^◌, Bool, true, false, ◌&&◌, ◌==◌, nat_lt, List, [], ◌∷◌, Option, None, Some, if◌then◌else◌, option_and_then, option_map, codes, bit_and, bytes_eq}
 use Rattle.std.specs.Str.{is_utf8}
 use Rattle.serde_json.specs.Data.{Data, Items, Members, null, boolean, number, string, array, object, no_items, item, no_members, member}
 use Rattle.serde_json.specs.Find.{get, as_number, as_u64, as_str, as_array}
 use Rattle.serde_json.specs.Read.{read}
 use Rattle.room_acl.specs.declared.subject.Kind.{Kind}
 use Rattle.room_acl.specs.declared.subject.Kind.TheVariants.{File, Folder}
-use Rattle.room_acl.specs.declared.who.Who.{Who}
-use Rattle.room_acl.specs.declared.who.Who.TheVariants.{Owner, Group, Everyone, User, Members as GroupNamed}
-use Rattle.room_acl.specs.Bits.{identifier_group}
-use Rattle.room_acl.specs.Principals.{is_principal_byte}
+use Rattle.room_acl.specs.Bits.{all_rights, all_flags}
+pub use Rattle.room_acl.specs.Principals.{is_principal, principal_from}
 use Rattle.room_acl.specs.Entries.{EntryModel}
+pub use Rattle.room_acl.specs.Entries.{named_who, who_from}
 
 -- the JSON value of a body: it is UTF-8, and one value
 abbrev pub json_of : List ℕ → Option Data
@@ -38,16 +36,10 @@ abbrev pub text_at : List ℕ → Data → Option (List ℕ)
 text_at name d = option_and_then as_str (get name d)
 
 abbrev pub mask_from : ℕ → Option ℕ
-mask_from n = if nat_lt n (2 ^ 32) && (bit_and n 0x1F07FF == n) then Some n else None
+mask_from n = if nat_lt n (2 ^ 32) && (bit_and n all_rights == n) then Some n else None
 
 abbrev pub flags_from : ℕ → Option ℕ
-flags_from n = if nat_lt n 256 && (bit_and n 0xCF == n) then Some n else None
-
-abbrev pub is_principal : List ℕ → Bool
-is_principal text = nat_le 1 (length text) && (nat_le (length text) 32 && list_all is_principal_byte text)
-
-abbrev pub principal_from : List ℕ → Option (List ℕ)
-principal_from text = if is_principal text then Some text else None
+flags_from n = if nat_lt n 256 && (bit_and n all_flags == n) then Some n else None
 
 abbrev pub mask_at : List ℕ → Data → Option ℕ
 mask_at name d = option_and_then mask_from (number_at name d)
@@ -71,19 +63,6 @@ allow_from n = if n == 0 then Some true else (if n == 1 then Some false else Non
 
 abbrev pub allow_at : List ℕ → Data → Option Bool
 allow_at name d = option_and_then allow_from (number_at name d)
-
--- a principal's name stands for a group where the flags say so
-abbrev pub named_who : Bool → Option (List ℕ) → Option Who
-named_who group None = None
-named_who true (Some name) = Some (GroupNamed name)
-named_who false (Some name) = Some (User name)
-
-abbrev pub who_from : ℕ → List ℕ → Option Who
-who_from flags text =
-    if bytes_eq text (codes "OWNER@") then Some Owner
-    else (if bytes_eq text (codes "GROUP@") then Some Group
-    else (if bytes_eq text (codes "EVERYONE@") then Some Everyone
-    else named_who (identifier_group flags) (principal_from text)))
 
 abbrev pub entry_of : Option ℕ → Option ℕ → Option Bool → Option (List ℕ) → Option EntryModel
 entry_of None mask allow text = None

@@ -6,9 +6,8 @@ use Rattle.base64.specs.Engines.{standard}
 use Rattle.base64.specs.GeneralPurpose.{encode_of}
 use Rattle.room_acl.specs.declared.subject.Kind.{Kind}
 use Rattle.room_acl.specs.declared.subject.Kind.TheVariants.{File, Folder}
-use Rattle.room_acl.specs.declared.who.Who.{Who}
-use Rattle.room_acl.specs.declared.who.Who.TheVariants.{Owner, Group, Everyone, User, Members as GroupNamed}
 use Rattle.room_acl.specs.Entries.{EntryModel}
+pub use Rattle.room_acl.specs.Entries.{who_text}
 use Rattle.room_records.specs.Names.{Name, Path, path_text}
 use Rattle.room_commands.specs.declared.reply.Fault.{Fault}
 use Rattle.room_commands.specs.declared.reply.Fault.TheVariants as F
@@ -29,13 +28,6 @@ bytes b = string (encode_of standard b)
 abbrev pub kind : Kind → Data
 kind File = string (codes "file")
 kind Folder = string (codes "folder")
-
-abbrev pub who_text : Who → List ℕ
-who_text Owner = codes "OWNER@"
-who_text Group = codes "GROUP@"
-who_text Everyone = codes "EVERYONE@"
-who_text (User name) = name
-who_text (GroupNamed name) = name
 
 -- members in byte order of their names
 abbrev pub members : List (List ℕ × Data) → Members

@@ -2,8 +2,7 @@
 ghost use Rattle.std.specs.Prelude.{◌≡◌, IfOk, option_map, option_and_then, codes};
 ghost use Rattle.serde_json.specs.View.{view, items_view};
 ghost use Rattle.serde_json.specs.Find.{get, as_array, as_str};
-ghost use Rattle.room_wire.specs.Forms.Reading.{json_of, has_count, number_at, text_at, mask_at, flags_at, allow_at, kind_from, kind_at, mask_from, flags_from, allow_from, principal_from, principal_in, principal_at, who_from, named_who, entry_in, entries_in, principals_in, entries_at, principals_at};
-ghost use Rattle.room_acl.specs.Bits.{identifier_group};
+ghost use Rattle.room_wire.specs.Forms.Reading.{json_of, has_count, number_at, text_at, mask_at, flags_at, allow_at, kind_from, kind_at, mask_from, flags_from, allow_from, principal_from, principal_in, principal_at, entry_in, entries_in, principals_in, entries_at, principals_at};
 
 use room_acl::{Entry, Flags, Kind, Mask, Principal, Who};
 use serde_json::Value;
@@ -144,41 +143,6 @@ pub(crate) fn principal_at(
     }
 }
 
-#[tactic(auto, using(std::proofs::lemmas::Nat::Bits::shr_and_one))]
-fn is_group(flags: Flags) -> bool
-    ensures { result ≡ identifier_group flags }
-{
-    (flags.bits() >> 6) & 1 == 1
-}
-
-fn named_who(alloc: Global, group: bool, text: &str) -> Result<Option<Who>, AllocError>
-    ensures { IfOk result (λ found. found ≡ named_who group (principal_from text.now)) }
-{
-    let Some(name) = principal_from(alloc, text)? else {
-        return Ok(None);
-    };
-    Ok(Some(if group {
-        Who::Members(name)
-    } else {
-        Who::User(name)
-    }))
-}
-
-fn who_from(alloc: Global, flags: Flags, text: &str) -> Result<Option<Who>, AllocError>
-    ensures { IfOk result (λ found. found ≡ who_from flags text.now) }
-{
-    if text == "OWNER@" {
-        return Ok(Some(Who::Owner));
-    }
-    if text == "GROUP@" {
-        return Ok(Some(Who::Group));
-    }
-    if text == "EVERYONE@" {
-        return Ok(Some(Who::Everyone));
-    }
-    named_who(alloc, is_group(flags), text)
-}
-
 /// An entry, where the value is one.
 fn entry_in(alloc: Global, value: &Value) -> Result<Option<Entry>, AllocError>
     ensures { IfOk result (λ found. found ≡ entry_in (view value.now)) }
@@ -194,7 +158,7 @@ fn entry_in(alloc: Global, value: &Value) -> Result<Option<Entry>, AllocError>
     ) else {
         return Ok(None);
     };
-    match who_from(alloc, flags, text)? {
+    match Who::read(alloc, flags, text)? {
         Some(who) => Ok(Entry::new(allow, flags, mask, who)),
         None => Ok(None),
     }

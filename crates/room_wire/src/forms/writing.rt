@@ -4,24 +4,12 @@ ghost use Rattle.std.specs.List.{AllByRecursion};
 ghost use Rattle.room_acl.specs.Entries.{IsEntry};
 ghost use Rattle.serde_json.specs.Data.{array, string};
 ghost use Rattle.serde_json.specs.View.{view, items_view};
-ghost use Rattle.room_wire.specs.Forms.Texts.{num, obj, who_text};
+ghost use Rattle.room_wire.specs.Forms.Texts.{num, obj};
 ghost use Rattle.room_wire.specs.Forms.Texts as T;
 
-use room_acl::{Entry, Who};
+use room_acl::Entry;
 use serde_json::{Value, json};
 use std::alloc::{AllocError, Global};
-
-fn who_text(who: &Who) -> &str
-    ensures { result.now ≡ who_text who.now }
-{
-    match who {
-        Who::Owner => "OWNER@",
-        Who::Group => "GROUP@",
-        Who::Everyone => "EVERYONE@",
-        Who::User(name) => name.text(),
-        Who::Members(name) => name.text(),
-    }
-}
 
 fn entry_value_of(
     alloc: Global,
@@ -45,7 +33,7 @@ fn entry_value(alloc: Global, entry: &Entry) -> Result<Value, AllocError>
         entry.flags().bits(),
         entry.mask().bits(),
         kind,
-        who_text(entry.who()),
+        entry.who().text(),
     )
 }
 

@@ -22,7 +22,7 @@ struct Stream<'a> {
 }
 
 /// Lets a message of so many bytes come a byte a read, but for the middle of a long one.
-fn drip(sizes: &mut Vec<usize>, size: usize) -> Result<(), Fault> {
+fn push_byte_sizes(sizes: &mut Vec<usize>, size: usize) -> Result<(), Fault> {
     for _ in 0..size.min(FRONT) {
         sizes.push(1)?;
     }
@@ -45,10 +45,10 @@ impl<'a> Stream<'a> {
         }
     }
 
-    fn add(&mut self, example: &'a Example, drips: bool) -> Result<(), Fault> {
+    fn add(&mut self, example: &'a Example, by_bytes: bool) -> Result<(), Fault> {
         self.sent.extend_from_slice(example.sent.as_slice())?;
-        if drips {
-            drip(&mut self.sizes, example.sent.len())?;
+        if by_bytes {
+            push_byte_sizes(&mut self.sizes, example.sent.len())?;
         }
         self.examples.push(example)?;
         Ok(())
@@ -91,11 +91,11 @@ fn flush<S: Shelf + Drop>(
     Ok(shelf)
 }
 
-/// Plays over a shelf. Dripping streams give a byte a read.
+/// Plays over a shelf. With `by_bytes` a read gives one byte.
 pub fn play<S: Shelf + Drop>(
     play: &Play<'_>,
     shelf: S,
-    drips: bool,
+    by_bytes: bool,
     told: &mut Told<'_>,
 ) -> Result<(), Fault> {
     let mut shelf = prepared(play, shelf)?;
@@ -103,7 +103,7 @@ pub fn play<S: Shelf + Drop>(
     for step in play.steps {
         let goes_on = match step {
             Step::Ask(example) => {
-                stream.add(example, drips)?;
+                stream.add(example, by_bytes)?;
                 !example.due.closes
             }
             Step::Reopen => true,
