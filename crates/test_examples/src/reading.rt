@@ -139,7 +139,11 @@ impl<'a> Reader<'a> {
 
     fn take_block(&mut self, text: &'a str) -> Result<(), Fault> {
         // Here, so that a `%{..}` that stands for nothing is told of its own line.
-        let _ = self.names.expanded(text, Some(0))?;
+        let count = match &self.open {
+            Open::Bytes(_, times, _) => times.count(0),
+            _ => None,
+        };
+        let _ = self.names.expanded(text, count)?;
         match &mut self.open {
             Open::Bytes(_, _, lines) | Open::Report(_, _, lines) => {
                 lines.push(text)?;
@@ -268,7 +272,10 @@ impl<'a> Reader<'a> {
         self.open = if text == "send" {
             Open::Bytes(line, times, Vec::new(self.alloc))
         } else {
-            Open::Request(line, times, read_request(text)?)
+            let request = read_request(text)?;
+            // Here, so that a `%{..}` that stands for nothing is told of its own line.
+            let _ = self.names.expanded(request.body(), times.count(0))?;
+            Open::Request(line, times, request)
         };
         Ok(())
     }

@@ -7,24 +7,28 @@ use std::test::Fail;
 use test_support::{in_memory, roster};
 
 /// The worked question, to the byte.
-pub const QUESTION: &str =
-    "POST /v1/check HTTP/1.1\r\ncontent-length: 70\r\n\r\n{\"entries\":[],\"group\":\"g\",\"groups\":[],\"mask\":1,\"owner\":\"o\",\"user\":\"u\"}";
+pub const QUESTION: &str = "POST /v1/check HTTP/1.1\r\ncontent-length: 70\r\n\r\n\
+{\"entries\":[],\"group\":\"g\",\"groups\":[],\"mask\":1,\"owner\":\"o\",\"user\":\"u\"}";
 
 /// The answer to it, to the byte.
-pub const ANSWER: &str =
-    "HTTP/1.1 200 OK\r\ncontent-type: application/json\r\ncontent-length: 30\r\n\r\n{\"allowed\":0,\"bit\":1,\"code\":0}";
+pub const ANSWER: &str = "HTTP/1.1 200 OK\r\ncontent-type: application/json\r\n\
+content-length: 30\r\n\r\n{\"allowed\":0,\"bit\":1,\"code\":0}";
 
 /// The answer where no message can come.
-pub const BAD_HTTP: &str =
-    "HTTP/1.1 400 Bad Request\r\ncontent-type: application/json\r\ncontent-length: 30\r\nconnection: close\r\n\r\n{\"code\":40,\"error\":\"BAD_HTTP\"}";
+pub const BAD_HTTP: &str = "HTTP/1.1 400 Bad Request\r\ncontent-type: application/json\r\n\
+content-length: 30\r\nconnection: close\r\n\r\n{\"code\":40,\"error\":\"BAD_HTTP\"}";
 
 /// The answer to another route.
-pub const BAD_ROUTE: &str =
-    "HTTP/1.1 404 Not Found\r\ncontent-type: application/json\r\ncontent-length: 31\r\n\r\n{\"code\":41,\"error\":\"BAD_ROUTE\"}";
+pub const BAD_ROUTE: &str = "HTTP/1.1 404 Not Found\r\ncontent-type: application/json\r\n\
+content-length: 31\r\n\r\n{\"code\":41,\"error\":\"BAD_ROUTE\"}";
 
 /// The answer to a body that is no question.
-pub const BAD_REQUEST: &str =
-    "HTTP/1.1 400 Bad Request\r\ncontent-type: application/json\r\ncontent-length: 33\r\n\r\n{\"code\":43,\"error\":\"BAD_REQUEST\"}";
+pub const BAD_REQUEST: &str = "HTTP/1.1 400 Bad Request\r\ncontent-type: application/json\r\n\
+content-length: 33\r\n\r\n{\"code\":43,\"error\":\"BAD_REQUEST\"}";
+
+/// The answer to a request in a session that is not open.
+pub const BAD_SESSION: &str = "HTTP/1.1 409 Conflict\r\ncontent-type: application/json\r\n\
+content-length: 32\r\n\r\n{\"code\":20,\"error\":\"BADSESSION\"}";
 
 /// What serves a stream. Both answer questions alike.
 #[derive(Clone, Copy, Debug)]

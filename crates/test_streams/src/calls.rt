@@ -49,7 +49,9 @@ const KEPT: [&str; 13] = [
     r#"{"cmd":"REMOVE","path":"/1/2/3/4/5/6/7/8/9/10/11/12/13/14/15/16"}"#,
     r#"{"cmd":"RENAME","path":"/a","to":"/b/a"}"#,
     r#"{"cmd":"GETLIST","path":"/..."}"#,
-    r#"{"aclflag":7,"cmd":"SETLIST","entries":[{"flag":131,"mask":2033663,"type":0,"who":"OWNER@"},{"flag":64,"mask":0,"type":1,"who":"eng"}],"path":"/a"}"#,
+    "{\"aclflag\":7,\"cmd\":\"SETLIST\",\"entries\":[\
+{\"flag\":131,\"mask\":2033663,\"type\":0,\"who\":\"OWNER@\"},\
+{\"flag\":64,\"mask\":0,\"type\":1,\"who\":\"eng\"}],\"path\":\"/a\"}",
     r#"{"cmd":"CHOWN","group":"eng","owner":"a.b_c-1","path":"/a"}"#,
     r#"{"cmd":"ACCESS","mask":1179817,"path":"/a"}"#,
 ];

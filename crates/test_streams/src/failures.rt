@@ -1,6 +1,6 @@
 //! Streams that fail or are cut, read and written in pieces, and how often a reader is asked.
 use crate::answers::{
-    ANSWER, BAD_HTTP, BAD_REQUEST, BAD_ROUTE, QUESTION, SERVERS, Server, is_as, served,
+    ANSWER, BAD_HTTP, BAD_REQUEST, BAD_ROUTE, BAD_SESSION, QUESTION, SERVERS, Server, is_as, served,
 };
 use room_desk::Desk;
 use room_wire::Why;
@@ -12,8 +12,8 @@ use test_support::{ByteReader, Full, Narrow, Pieces, in_memory, roster};
 const NO_BODY: &str = "POST /v1/check HTTP/1.1\r\n\r\n";
 
 /// What is served where there is no room: its routes are none.
-const ROUTES: &str =
-    "POST /v1/sessions/0123456789abcdef0123456789abcdef HTTP/1.1\r\nroom-user: ann\r\ncontent-length: 11\r\n\r\n{\"slots\":3}GET /v1/check HTTP/1.1\r\n\r\n";
+const ROUTES: &str = "POST /v1/sessions/0123456789abcdef0123456789abcdef HTTP/1.1\r\n\
+room-user: ann\r\ncontent-length: 11\r\n\r\n{\"slots\":3}GET /v1/check HTTP/1.1\r\n\r\n";
 
 /// Questions alone are served, whatever the size of a read or a write.
 #[test]
@@ -138,6 +138,111 @@ fn each_front_of_a_message(rt: HostRuntime) -> Result<(), Fail> {
     Ok(())
 }
 
+/// An OPEN as curl writes it.
+const AS_CURL: &str = "POST /v1/sessions/0123456789abcdef0123456789abcdef HTTP/1.1\r\n\
+Host: localhost:8080\r\nUser-Agent: curl/8.5.0\r\nAccept: */*\r\nroom-user: ann\r\n\
+Content-Length: 11\r\nContent-Type: application/x-www-form-urlencoded\r\n\r\n{\"slots\":3}";
+
+const CLOSE: &str =
+    "DELETE /v1/sessions/0123456789abcdef0123456789abcdef HTTP/1.1\r\nroom-user: ann\r\n\r\n";
+
+/// A front of a message is none, and changes nothing: the session was never opened.
+fn opens_nothing(alloc: Global, front: &str) -> Result<(), Fail> {
+    let roster = roster(alloc)?;
+    let mut output = Vec::new(alloc);
+    let mut later = Vec::new(alloc);
+    let mut desk = Desk::new(alloc, in_memory(alloc)?);
+    let cut = desk.serve(&roster, &mut front.as_bytes(), &mut output);
+    let end = desk.serve(&roster, &mut CLOSE.as_bytes(), &mut later);
+    let _ = desk.into_shelf();
+    is_as(&cut, output.as_slice(), BAD_HTTP, Why::BadMessage, 0, front)?;
+    is_as(&end, later.as_slice(), BAD_SESSION, Why::Closed, 1, front)
+}
+
+/// Each proper front of an OPEN but the empty one.
+#[test]
+fn each_front_of_an_open(rt: HostRuntime) -> Result<(), Fail> {
+    for size in 1..AS_CURL.len() {
+        opens_nothing(rt.alloc(), AS_CURL.get(..size).ok_or("a boundary")?)?;
+    }
+    Ok(())
+}
+
+/// A folder is made once, though it is asked for twice, and is seen: the messages, and the answers to them.
+const PLANS: [&str; 4] = [
+    "POST /v1/sessions/0123456789abcdef0123456789abcdef HTTP/1.1\r\n\
+room-user: ann\r\ncontent-length: 11\r\n\r\n{\"slots\":3}",
+    MKDIR,
+    MKDIR,
+    "POST /v1/sessions/0123456789abcdef0123456789abcdef/slots/1/1 HTTP/1.1\r\n\
+room-user: ann\r\ncontent-length: 25\r\n\r\n{\"cmd\":\"LIST\",\"path\":\"/\"}",
+];
+
+const MKDIR: &str = "POST /v1/sessions/0123456789abcdef0123456789abcdef/slots/0/1 HTTP/1.1\r\n\
+room-user: ann\r\ncontent-length: 31\r\n\r\n{\"cmd\":\"MKDIR\",\"path\":\"/plans\"}";
+
+const PLANNED: [&str; 4] = [
+    "HTTP/1.1 200 OK\r\ncontent-type: application/json\r\ncontent-length: 20\r\n\r\n{\"code\":0,\"slots\":3}",
+    MADE,
+    MADE,
+    "HTTP/1.1 200 OK\r\ncontent-type: application/json\r\ncontent-length: 39\r\n\r\n\
+{\"code\":0,\"names\":[[\"plans\",\"folder\"]]}",
+];
+
+const MADE: &str =
+    "HTTP/1.1 200 OK\r\ncontent-type: application/json\r\ncontent-length: 10\r\n\r\n{\"code\":0}";
+
+/// So many of the answers.
+fn answers_to(alloc: Global, count: usize) -> Result<String, Fail> {
+    let mut text = String::new(alloc);
+    for answer in PLANNED.iter().take(count) {
+        text.push_str(answer)?;
+    }
+    Ok(text)
+}
+
+/// The messages came before the read that fails, each by a call of its own: they are answered, and no other.
+#[test]
+fn each_read_of_a_room_fails(rt: HostRuntime) -> Result<(), Fail> {
+    for whole in 0..=PLANS.len() {
+        let want = answers_to(rt.alloc(), whole)?;
+        let mut reader = Pieces::new(&PLANS, (whole as u64).saturating_add(1));
+        let mut output = Vec::new(rt.alloc());
+        let end = served(rt.alloc(), Server::Room, &mut reader, &mut output)?;
+        is_as(
+            &end,
+            output.as_slice(),
+            want.as_str(),
+            Why::ReadFailed,
+            whole as u64,
+            "a read that fails",
+        )?;
+    }
+    Ok(())
+}
+
+/// The same messages a byte a call, and the writer takes a byte a call.
+#[test]
+fn a_room_byte_by_byte(rt: HostRuntime) -> Result<(), Fail> {
+    let alloc = rt.alloc();
+    let mut sent = String::new(alloc);
+    for message in PLANS {
+        sent.push_str(message)?;
+    }
+    let want = answers_to(alloc, PLANNED.len())?;
+    let mut writer = Narrow::new(alloc, 10_000, 1, Full::Fails);
+    let mut reader = Dripping::new(sent.as_bytes());
+    let end = served(alloc, Server::Room, &mut reader, &mut writer)?;
+    is_as(
+        &end,
+        writer.taken.as_slice(),
+        want.as_str(),
+        Why::Closed,
+        4,
+        "a byte a call",
+    )
+}
+
 /// After bytes that no message can begin with, nothing more is read.
 #[test]
 fn no_read_after_a_bad_message(rt: HostRuntime) -> Result<(), Fail> {
@@ -186,11 +291,14 @@ fn a_write_fails(rt: HostRuntime) -> Result<(), Fail> {
     Ok(())
 }
 
-const OPEN_AND_CREATE: &str =
-    "POST /v1/sessions/0123456789abcdef0123456789abcdef HTTP/1.1\r\nroom-user: ann\r\ncontent-length: 11\r\n\r\n{\"slots\":1}POST /v1/sessions/0123456789abcdef0123456789abcdef/slots/0/1 HTTP/1.1\r\nroom-user: ann\r\ncontent-length: 42\r\n\r\n{\"cmd\":\"CREATE\",\"data\":\"aGk=\",\"path\":\"/a\"}";
+const OPEN_AND_CREATE: &str = "POST /v1/sessions/0123456789abcdef0123456789abcdef HTTP/1.1\r\n\
+room-user: ann\r\ncontent-length: 11\r\n\r\n{\"slots\":1}\
+POST /v1/sessions/0123456789abcdef0123456789abcdef/slots/0/1 HTTP/1.1\r\n\
+room-user: ann\r\ncontent-length: 42\r\n\r\n{\"cmd\":\"CREATE\",\"data\":\"aGk=\",\"path\":\"/a\"}";
 
-const OPENED_AND_CREATED: &str =
-    "HTTP/1.1 200 OK\r\ncontent-type: application/json\r\ncontent-length: 20\r\n\r\n{\"code\":0,\"slots\":1}HTTP/1.1 200 OK\r\ncontent-type: application/json\r\ncontent-length: 19\r\n\r\n{\"code\":0,\"size\":2}";
+const OPENED_AND_CREATED: &str = "HTTP/1.1 200 OK\r\ncontent-type: application/json\r\n\
+content-length: 20\r\n\r\n{\"code\":0,\"slots\":1}\
+HTTP/1.1 200 OK\r\ncontent-type: application/json\r\ncontent-length: 19\r\n\r\n{\"code\":0,\"size\":2}";
 
 /// A stream that loses its answers, or is cut, and then the same requests on another one, which are answered as the
 /// first time.

@@ -9,8 +9,15 @@ use crate::ways::serving::{Line, expect_end, serve};
 use room_records::MemShelf;
 use room_wire::Why;
 
-/// Behind how many bytes at most an answer is lost, and behind all but its last one.
-const MOST: usize = 400;
+/// An answer is lost behind each of so many bytes at its front, then behind every so many, and behind all but the last.
+const MOST: usize = 2000;
+
+const STEP: usize = 1009;
+
+/// Whether an answer of this size is lost behind so many bytes.
+fn is_lost_behind(room: usize, size: usize) -> bool {
+    room < MOST || room % STEP == 0 || room == size.saturating_sub(1)
+}
 
 /// The request, whose answer is lost behind so many bytes.
 fn lose(
@@ -29,10 +36,21 @@ fn lose(
     if ended.end.why != Why::WriteFailed {
         told.tell(example.line, "a lost answer that the server takes for sent")?;
     }
+    if ended.end.count != count_of(example) {
+        told.tell(
+            example.line,
+            "another count of messages where the answer is lost",
+        )?;
+    }
     Ok(shelf)
 }
 
-/// The request, whose answer is lost behind each of its bytes in turn.
+/// How many messages the example is. Bytes that are no message are not counted.
+fn count_of(example: &Example) -> u64 {
+    if example.due.is_bad_message() { 0 } else { 1 }
+}
+
+/// The request, whose answer is lost behind each of its bytes in turn, or behind many of them where it is long.
 fn lose_each(
     play: &Play<'_>,
     shelf: MemShelf,
@@ -41,10 +59,12 @@ fn lose_each(
 ) -> Result<MemShelf, Fault> {
     let size = example.due.whole.len();
     let mut shelf = shelf;
-    for room in 0..size.min(MOST) {
-        shelf = lose(play, shelf, example, room, told)?;
+    for room in 0..size {
+        if is_lost_behind(room, size) {
+            shelf = lose(play, shelf, example, room, told)?;
+        }
     }
-    lose(play, shelf, example, size.saturating_sub(1), told)
+    Ok(shelf)
 }
 
 fn ask(

@@ -9,7 +9,7 @@ use room_records::Shelf;
 use std::alloc::Global;
 
 /// How many bytes at the front of a message come one a read, and how many at its back.
-const FRONT: usize = 1000;
+const FRONT: usize = 10_000;
 
 const BACK: usize = 20;
 

@@ -1,4 +1,5 @@
 //! Each request with each call of the shelf failing in turn, until none does.
+use crate::asking::{Asked, ask_of};
 use crate::fault::Fault;
 use crate::playing::Play;
 use crate::rooms::in_memory;
@@ -19,6 +20,20 @@ fn answered_at(play: &Play<'_>, shelf: MemShelf, k: u64, sent: &[u8]) -> (Answer
     (answer, tripped, shelf.into_inner())
 }
 
+/// Tells where a call failed and the room was not asked, or none failed and it was: an event reads the shelf.
+fn expect_trips(
+    play: &Play<'_>,
+    example: &Example,
+    trips: u64,
+    told: &mut Told<'_>,
+) -> Result<(), Fault> {
+    match (ask_of(play, example.sent.as_slice()), trips) {
+        (Asked::Event(_), 0) => told.tell(example.line, "no call of the shelf"),
+        (Asked::Event(_), _) | (Asked::Other(_), 0) => Ok(()),
+        (Asked::Other(_), _) => told.tell(example.line, "a call of the shelf"),
+    }
+}
+
 fn ask(
     play: &Play<'_>,
     shelf: MemShelf,
@@ -30,6 +45,7 @@ fn ask(
         let (answer, tripped, left) = answered_at(play, shelf, k, example.sent.as_slice());
         shelf = left;
         if !tripped {
+            expect_trips(play, example, k.saturating_sub(1), told)?;
             told.expect(example.line, answer.body(), example.due.body.as_slice())?;
             return Ok(shelf);
         }
