@@ -1,11 +1,13 @@
 //! Rows of the tables, read as values of a room. A row that is no value of its type is an error.
 
-ghost use Rattle.std.specs.Prelude.{◌≡◌, ◌==◌, ℕ, pos, List, [], ◌∷◌, map, slice_get, unwrap_or, option_map, IfOk, string_bytes};
+ghost use Rattle.std.specs.Prelude.{◌≡◌, ◌==◌, ℕ, pos, List, [], ◌∷◌, map, slice_get, unwrap_or, option_map, IfOk, IfErr, IsTrue, string_bytes};
 ghost use Rattle.std.specs.List.{AllByRecursion};
 ghost use Rattle.sqlite_value.specs.Order.{column};
 ghost use Rattle.sqlite_value.specs.declared.value.Value.TheVariants.{Int, Text};
 ghost use Rattle.room_tables.specs.Rows.{number_in, text_in, name_of_text, name_in, parent_in, bytes_in, kind_of, who_of, only, node_of, entry_of, doc_of, session_of, kept_of, HasEntryColumns};
 ghost use Rattle.room_tables.specs.Names.{counted_row};
+ghost use Rattle.room_sql.specs.Columns.{IsFault, HasNumber, HasText, HasBytes, HasParent, HasFlag, HasListFlags, HasSlots, HasPrincipal, IsNameText, HasName, IsNodeRow, IsSessionRow, IsKeptRow, IsOneNumber};
+ghost use Rattle.room_records.specs.Names.{is_sid};
 
 use room_acl::{Entry, Flags, Kind, ListFlags, Mask, Principal, Who};
 use room_records::{FileName, Node, SessionRow, Sid, SlotCount};
@@ -18,24 +20,29 @@ pub(crate) fn bad_value() -> Error {
     Error::SqliteFailure(ErrorCode::TypeMismatch)
 }
 
-pub(crate) fn no_memory(_: AllocError) -> Error {
+pub(crate) fn no_memory(_: AllocError) -> Error
+    ensures { result ≡ Error.SqliteFailure ErrorCode.OutOfMemory }
+{
     Error::SqliteFailure(ErrorCode::OutOfMemory)
 }
 
 fn number_at(row: &Row, at: usize) -> Result<u32, Error>
-    ensures { IfOk result (λ n. column row.now at ≡ Int (pos n)) }
+    ensures value { IfOk result (λ n. column row.now at ≡ Int (pos n)) }
+    ensures refused { IfErr result (λ e. IsFault e → ¬ HasNumber at row.now) }
 {
     row.get(at)
 }
 
 fn text_at(row: &Row, at: usize) -> Result<String, Error>
-    ensures { IfOk result (λ s. column row.now at ≡ Text (string_bytes s)) }
+    ensures value { IfOk result (λ s. column row.now at ≡ Text (string_bytes s)) }
+    ensures refused { IfErr result (λ e. IsFault e → ¬ HasText at row.now) }
 {
     row.get(at)
 }
 
 fn principal_at(alloc: Global, row: &Row, at: usize) -> Result<Principal, Error>
-    ensures { IfOk result (λ name. name ≡ text_in (column row.now at)) }
+    ensures value { IfOk result (λ name. name ≡ text_in (column row.now at)) }
+    ensures refused { IfErr result (λ e. IsFault e → ¬ HasPrincipal at row.now) }
 {
     let text = text_at(row, at)?;
     match Principal::new(alloc, text.as_str()) {
@@ -46,14 +53,16 @@ fn principal_at(alloc: Global, row: &Row, at: usize) -> Result<Principal, Error>
 }
 
 fn parent_at(row: &Row, at: usize) -> Result<Option<u32>, Error>
-    ensures { IfOk result (λ parent. parent ≡ parent_in (column row.now at)) }
+    ensures value { IfOk result (λ parent. parent ≡ parent_in (column row.now at)) }
+    ensures refused { IfErr result (λ e. IsFault e → ¬ HasParent at row.now) }
 {
     row.get(at)
 }
 
 /// The name of a node: the empty text is none.
 fn name_from(alloc: Global, text: &str) -> Result<Option<FileName>, Error>
-    ensures { IfOk result (λ name. name ≡ name_of_text text.now) }
+    ensures value { IfOk result (λ name. name ≡ name_of_text text.now) }
+    ensures refused { IfErr result (λ e. IsFault e → ¬ IsNameText text.now) }
 {
     if text.is_empty() {
         return Ok(None);
@@ -66,14 +75,16 @@ fn name_from(alloc: Global, text: &str) -> Result<Option<FileName>, Error>
 }
 
 fn name_at(alloc: Global, row: &Row, at: usize) -> Result<Option<FileName>, Error>
-    ensures { IfOk result (λ name. name ≡ name_in (column row.now at)) }
+    ensures value { IfOk result (λ name. name ≡ name_in (column row.now at)) }
+    ensures refused { IfErr result (λ e. IsFault e → ¬ HasName at row.now) }
 {
     let text = text_at(row, at)?;
     name_from(alloc, text.as_str())
 }
 
 fn kind_at(row: &Row, at: usize) -> Result<Kind, Error>
-    ensures { IfOk result (λ kind. kind ≡ kind_of (number_in (column row.now at))) }
+    ensures value { IfOk result (λ kind. kind ≡ kind_of (number_in (column row.now at))) }
+    ensures refused { IfErr result (λ e. IsFault e → ¬ HasFlag at row.now) }
 {
     let number = number_at(row, at)?;
     if number == 1 {
@@ -86,7 +97,8 @@ fn kind_at(row: &Row, at: usize) -> Result<Kind, Error>
 }
 
 fn list_flags_at(row: &Row, at: usize) -> Result<ListFlags, Error>
-    ensures { IfOk result (λ flags. flags ≡ number_in (column row.now at)) }
+    ensures value { IfOk result (λ flags. flags ≡ number_in (column row.now at)) }
+    ensures refused { IfErr result (λ e. IsFault e → ¬ HasListFlags at row.now) }
 {
     let number = number_at(row, at)?;
     let Ok(bits) = u8::try_from(number) else {
@@ -100,7 +112,8 @@ fn list_flags_at(row: &Row, at: usize) -> Result<ListFlags, Error>
 
 /// The node of a row that shows number, parent, name, kind, owner, group and list flags.
 pub(crate) fn node_of(alloc: Global, row: &Row) -> Result<Node, Error>
-    ensures { IfOk result (λ node. node ≡ node_of row.now) }
+    ensures value { IfOk result (λ node. node ≡ node_of row.now) }
+    ensures refused { IfErr result (λ e. IsFault e → ¬ IsNodeRow row.now) }
 {
     let id = number_at(row, 0)?;
     let parent = parent_at(row, 1)?;
@@ -121,7 +134,8 @@ pub(crate) fn node_of(alloc: Global, row: &Row) -> Result<Node, Error>
 }
 
 fn flag_at(row: &Row, at: usize) -> Result<bool, Error>
-    ensures { IfOk result (λ flag. flag ≡ (number_in (column row.now at) == 1)) }
+    ensures value { IfOk result (λ flag. flag ≡ (number_in (column row.now at) == 1)) }
+    ensures refused { IfErr result (λ e. IsFault e → ¬ HasFlag at row.now) }
 {
     let number = number_at(row, at)?;
     if number == 1 {
@@ -220,7 +234,8 @@ pub(crate) fn all_nodes(alloc: Global, rows: &[Row]) -> Result<Vec<Node>, Error>
 
 /// The one row, as a node.
 pub(crate) fn one_node(alloc: Global, rows: &[Row]) -> Result<Option<Node>, Error>
-    ensures { IfOk result (λ node. node ≡ option_map node_of (only rows.now)) }
+    ensures value { IfOk result (λ node. node ≡ option_map node_of (only rows.now)) }
+    ensures refused { IfErr result (λ e. IsFault e → ¬ AllByRecursion IsNodeRow rows.now) }
 {
     match rows {
         [row] => Ok(Some(node_of(alloc, row)?)),
@@ -230,7 +245,8 @@ pub(crate) fn one_node(alloc: Global, rows: &[Row]) -> Result<Option<Node>, Erro
 
 /// The first row, as a node.
 pub(crate) fn first_node(alloc: Global, rows: &[Row]) -> Result<Option<Node>, Error>
-    ensures { IfOk result (λ node. node ≡ option_map node_of (slice_get rows.now 0)) }
+    ensures value { IfOk result (λ node. node ≡ option_map node_of (slice_get rows.now 0)) }
+    ensures refused { IfErr result (λ e. IsFault e → ¬ AllByRecursion IsNodeRow rows.now) }
 {
     match rows {
         [row, ..] => Ok(Some(node_of(alloc, row)?)),
@@ -257,7 +273,8 @@ pub(crate) fn one_count(rows: &[Row]) -> Result<u64, Error>
 
 /// The bytes of the one row, none where there is no row.
 pub(crate) fn one_doc(alloc: Global, rows: &[Row]) -> Result<Vec<u8>, Error>
-    ensures { IfOk result (λ bytes. bytes.items ≡ unwrap_or (option_map doc_of (only rows.now)) []) }
+    ensures value { IfOk result (λ bytes. bytes.items ≡ unwrap_or (option_map doc_of (only rows.now)) []) }
+    ensures refused { IfErr result (λ e. IsFault e → ¬ AllByRecursion (HasBytes 0) rows.now) }
 {
     match rows {
         [row] => row.get(0),
@@ -266,7 +283,8 @@ pub(crate) fn one_doc(alloc: Global, rows: &[Row]) -> Result<Vec<u8>, Error>
 }
 
 fn slot_count_at(row: &Row, at: usize) -> Result<SlotCount, Error>
-    ensures { IfOk result (λ slots. slots ≡ number_in (column row.now at)) }
+    ensures value { IfOk result (λ slots. slots ≡ number_in (column row.now at)) }
+    ensures refused { IfErr result (λ e. IsFault e → ¬ HasSlots at row.now) }
 {
     let number = number_at(row, at)?;
     match SlotCount::new(number) {
@@ -276,7 +294,8 @@ fn slot_count_at(row: &Row, at: usize) -> Result<SlotCount, Error>
 }
 
 fn sid_copy(alloc: Global, sid: &Sid) -> Result<Sid, Error>
-    ensures { IfOk result (λ copy. copy ≡ sid.now) }
+    ensures value { IfOk result (λ copy. copy ≡ sid.now) }
+    ensures refused { IfErr result (λ e. IsFault e → ¬ IsTrue (is_sid sid.now)) }
 {
     match Sid::new(alloc, sid.text()) {
         Ok(Some(copy)) => Ok(copy),
@@ -287,7 +306,8 @@ fn sid_copy(alloc: Global, sid: &Sid) -> Result<Sid, Error>
 
 /// The session of a row that shows owner, slots and whether it is open.
 fn session_of(alloc: Global, sid: &Sid, row: &Row) -> Result<SessionRow, Error>
-    ensures { IfOk result (λ session. session ≡ session_of sid.now row.now) }
+    ensures value { IfOk result (λ session. session ≡ session_of sid.now row.now) }
+    ensures refused { IfErr result (λ e. IsFault e → ¬ IsSessionRow sid.now row.now) }
 {
     let owner = principal_at(alloc, row, 0)?;
     let slots = slot_count_at(row, 1)?;
@@ -307,7 +327,8 @@ pub(crate) fn one_session(
     sid: &Sid,
     rows: &[Row],
 ) -> Result<Option<SessionRow>, Error>
-    ensures { IfOk result (λ session. session ≡ option_map (session_of sid.now) (only rows.now)) }
+    ensures value { IfOk result (λ session. session ≡ option_map (session_of sid.now) (only rows.now)) }
+    ensures refused { IfErr result (λ e. IsFault e → ¬ AllByRecursion (IsSessionRow sid.now) rows.now) }
 {
     match rows {
         [row] => Ok(Some(session_of(alloc, sid, row)?)),
@@ -316,14 +337,16 @@ pub(crate) fn one_session(
 }
 
 fn bytes_at(row: &Row, at: usize) -> Result<Vec<u8>, Error>
-    ensures { IfOk result (λ bytes. bytes.items ≡ bytes_in (column row.now at)) }
+    ensures value { IfOk result (λ bytes. bytes.items ≡ bytes_in (column row.now at)) }
+    ensures refused { IfErr result (λ e. IsFault e → ¬ HasBytes at row.now) }
 {
     row.get(at)
 }
 
 /// What a slot keeps, of a row that shows number, request and reply.
 fn kept_of(row: &Row) -> Result<Kept, Error>
-    ensures { IfOk result (λ kept. kept ≡ kept_of row.now) }
+    ensures value { IfOk result (λ kept. kept ≡ kept_of row.now) }
+    ensures refused { IfErr result (λ e. IsFault e → ¬ IsKeptRow row.now) }
 {
     let seq = number_at(row, 0)?;
     let request = bytes_at(row, 1)?;
@@ -337,7 +360,8 @@ fn kept_of(row: &Row) -> Result<Kept, Error>
 
 /// The one row, as what a slot keeps.
 pub(crate) fn one_kept(rows: &[Row]) -> Result<Option<Kept>, Error>
-    ensures { IfOk result (λ kept. kept ≡ option_map kept_of (only rows.now)) }
+    ensures value { IfOk result (λ kept. kept ≡ option_map kept_of (only rows.now)) }
+    ensures refused { IfErr result (λ e. IsFault e → ¬ AllByRecursion IsKeptRow rows.now) }
 {
     match rows {
         [row] => Ok(Some(kept_of(row)?)),
@@ -347,7 +371,8 @@ pub(crate) fn one_kept(rows: &[Row]) -> Result<Option<Kept>, Error>
 
 /// The number of the one row.
 pub(crate) fn one_number(rows: &[Row]) -> Result<u32, Error>
-    ensures { IfOk result (λ number. number ≡ unwrap_or (option_map (λ row. number_in (column row 0)) (only rows.now)) 0) }
+    ensures value { IfOk result (λ number. number ≡ unwrap_or (option_map (λ row. number_in (column row 0)) (only rows.now)) 0) }
+    ensures refused { IfErr result (λ e. IsFault e → ¬ IsOneNumber rows.now) }
 {
     match rows {
         [row] => number_at(row, 0),

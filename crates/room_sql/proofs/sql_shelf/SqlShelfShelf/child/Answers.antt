@@ -7,4 +7,4 @@ pub returns-in-Ok-first_node-clause-value : goal.returns-in-Ok-first_node-clause
 returns-in-Ok-first_node-clause-value g c honest declared =
     let name = c.text.ensures.lawful in
     named_found _ c.args.parent c.args.name.now _ _ declared.room name.some (rw c.text.ensures.value at (c.in-Ok.ensures.rows honest.0 declared.room.schema))
-    (c.in-Ok-first_node.ensures ∙ ap (λ l. option_map node_of (slice_get l 0)) c.as_slice.ensures.value)
+    (c.in-Ok-first_node.ensures.value ∙ ap (λ l. option_map node_of (slice_get l 0)) c.as_slice.ensures.value)

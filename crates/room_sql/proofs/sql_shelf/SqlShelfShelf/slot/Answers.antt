@@ -5,4 +5,4 @@ use Rattle.room_sql.proofs.sql_shelf.SqlShelfShelf.slot.Goals as goal
 
 pub returns-in-Ok-one_kept-clause-value : goal.returns-in-Ok-one_kept-clause-value
 returns-in-Ok-one_kept-clause-value g c honest declared =
-    c.in-Ok-one_kept.ensures ∙ ap (option_map kept_of) (ap only c.as_slice.ensures.value ∙ only_permuted _ _ (rw c.text.ensures.value at (c.in-Ok.ensures.rows honest.0 declared.room.schema)))
+    c.in-Ok-one_kept.ensures.value ∙ ap (option_map kept_of) (ap only c.as_slice.ensures.value ∙ only_permuted _ _ (rw c.text.ensures.value at (c.in-Ok.ensures.rows honest.0 declared.room.schema)))
