@@ -1,11 +1,11 @@
 //! RENAME and lists from below, over the shelf in memory.
-use room_acl::Subject;
+use room_acl::{Entry, Flags, ListFlags, Mask, Subject, Who};
 use room_commands::{Command, Fault, Reply};
 use room_records::{MemShelf, Path, Shelf};
 use room_tree::{list_upwards, node_at, plan};
 use std::alloc::Global;
 use std::test::Fail;
-use test_support::{in_memory, named, path_of};
+use test_support::{are_same_entries, in_memory, named, path_of};
 
 /// A room in memory, and its owner.
 #[derive(Drop)]
@@ -90,7 +90,19 @@ impl Play {
         Ok(found.is_some())
     }
 
-    fn list_from_below(&mut self, path: &str) -> Result<usize, Fail> {
+    fn set_list(&mut self, path: &str, aclflag: u8, entry: Entry) -> Result<(), Fail> {
+        let aclflag = ListFlags::new(aclflag).ok_or("list flags were refused")?;
+        let entries = vec![in self.alloc; entry]?;
+        let at = self.at(path)?;
+        let reply = self.run(Command::SetList {
+            aclflag,
+            entries,
+            path: at,
+        })?;
+        must(is_done(&reply), path)
+    }
+
+    fn list_from_below(&mut self, path: &str) -> Result<Vec<Entry>, Fail> {
         let path = self.at(path)?;
         let Ok(Some(node)) = node_at(&mut self.shelf, &path) else {
             return Err(Fail::from("no node"));
@@ -98,19 +110,40 @@ impl Play {
         let Ok(list) = list_upwards(self.alloc, &mut self.shelf, node.id) else {
             return Err(Fail::from("list_upwards gave up"));
         };
-        Ok(list.len())
+        Ok(list)
     }
 
-    fn list_by_command(&mut self, path: &str) -> Result<usize, Fail> {
+    fn list_by_command(&mut self, path: &str) -> Result<Vec<Entry>, Fail> {
         let path = self.at(path)?;
         match self.run(Command::GetList { path })? {
             Reply::Entries {
                 aclflag: _,
                 entries,
-            } => Ok(entries.len()),
+            } => Ok(entries),
             _ => Err(Fail::from("no list")),
         }
     }
+
+    /// Each list that is found from below is the one of GETLIST, entry by entry, and has so many of them.
+    fn expect_lists(&mut self, lists: &[(&str, usize)]) -> Result<(), Fail> {
+        for (path, count) in lists {
+            let from_below = self.list_from_below(path)?;
+            let by_command = self.list_by_command(path)?;
+            must(
+                are_same_entries(from_below.as_slice(), by_command.as_slice()),
+                path,
+            )?;
+            must(from_below.len() == *count, path)?;
+        }
+        Ok(())
+    }
+}
+
+/// An entry that allows these bits and is handed down to files and folders.
+fn handed_down(mask: u32, who: Who) -> Result<Entry, Fail> {
+    let flags = Flags::new(3).ok_or("flags were refused")?;
+    let mask = Mask::new(mask).ok_or("a mask was refused")?;
+    Ok(Entry::new(true, flags, mask, who).ok_or("an entry was refused")?)
 }
 
 fn refused_with(reply: &Reply, fault: Fault) -> bool {
@@ -204,11 +237,19 @@ fn rename_keeps_to_sixteen_names(rt: HostRuntime) -> Result<(), Fail> {
 #[test]
 fn lists_from_below(rt: HostRuntime) -> Result<(), Fail> {
     let mut play = Play::new(rt.alloc())?;
-    play.make_all(&["/a", "/a/b", "/a/b/c", "/d"])?;
-    for path in ["/", "/a", "/a/b/c", "/d"] {
-        let from_below = play.list_from_below(path)?;
-        must(from_below == play.list_by_command(path)?, path)?;
-        must(from_below == 2, path)?;
-    }
-    Ok(())
+    play.make_all(&["/a", "/a/b", "/a/b/c", "/a/d", "/e"])?;
+    play.expect_lists(&[("/", 2), ("/a", 2), ("/a/b/c", 2), ("/e", 2)])?;
+    play.set_list("/a/b", 3, handed_down(2033663, Who::Owner)?)?;
+    let bob = named(rt.alloc(), "bob")?;
+    play.set_list("/a", 1, handed_down(1, Who::User(bob))?)?;
+    play.expect_lists(&[
+        ("/", 2),
+        ("/a", 3),
+        ("/a/b", 1),
+        ("/a/b/c", 1),
+        ("/a/d", 3),
+        ("/e", 2),
+    ])?;
+    play.move_to("/a/d", "/e/d")?;
+    play.expect_lists(&[("/a", 3), ("/e", 2), ("/e/d", 2)])
 }
