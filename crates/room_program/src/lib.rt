@@ -5,6 +5,7 @@
 #![tactic(auto)]
 
 mod fault;
+mod listening;
 mod making;
 mod names;
 mod network;
@@ -18,6 +19,7 @@ mod selftest;
 mod serving;
 
 pub use fault::Fault;
+pub use listening::Listener;
 pub use network::serve_listener;
 pub use room_words::{Job, ReportKind, WordsFault, read_words};
 pub use running::run_program;

@@ -1,15 +1,18 @@
 //! Serving a room over connections.
-ghost use Rattle.std.specs.Prelude.{◌≡◌, ◌≤◌, ◌++◌, List};
+ghost use Rattle.std.specs.Prelude.{OnOk, OnErr};
 ghost use Rattle.room_records.specs.Room.{Room};
-ghost use Rattle.room_wire.specs.Asks.EventModel.{EventModel};
 ghost use Rattle.room_desk.specs.History.{History};
-ghost use Rattle.room_desk.specs.Representation.{RepresentsHistory};
+ghost use Rattle.room_desk.specs.Representation.{StandsFor};
+ghost use Rattle.room_desk.specs.Serving.{DeskCall};
+ghost use Rattle.room_program.specs.Calls.{Accepted, AcceptsFewer};
+ghost use Rattle.room_program.specs.Streams.{AnswersSome, GoesOn};
 
+use crate::listening::Listener;
 use room_desk::Desk;
 use room_records::{Roster, Shelf};
 use room_wire::Why;
 use std::io::{self, Read};
-use std::net::{Shutdown, TcpListener, TcpStream};
+use std::net::{Shutdown, TcpStream};
 use std::time::Duration;
 
 /// How many pieces of what a peer still sends are read before its connection is closed.
@@ -39,11 +42,10 @@ fn finish(stream: &TcpStream) {
 
 /// Serves one connection. However it ends, the room's history has gone on while the store is there.
 fn serve_stream<S: Shelf>(stream: &TcpStream, desk: &mut Desk<S>, roster: &Roster)
-    ensures was_honest { S.is_honest desk.new → S.is_honest desk.old }
-    ensures declared { S.is_honest desk.new → S.is_declared desk.old → S.is_declared desk.new }
-    ensures never_falls { S.failures desk.old ≤ S.failures desk.new }
-    ensures run { S.is_honest desk.new → S.is_declared desk.old → (start : Room) (past : History) → RepresentsHistory start (S.records desk.old) past →
-        (next : History) × (events : List EventModel) × (next ≡ events ++ past) × RepresentsHistory start (S.records desk.new) next }
+    ensures frame { DeskCall (S.view desk.old) (S.view desk.new) }
+    ensures messages { AnswersSome S.view roster.now desk.old desk.new }
+    ensures run { (S.view desk.new).is_intact → (start : Room) (past : History) → StandsFor start past (S.view desk.old) →
+        (next : History) × GoesOn roster.now start past next × StandsFor start next (S.view desk.new) }
 {
     // An answer goes out at once, not with the next one.
     let _ = stream.set_nodelay(true);
@@ -54,22 +56,24 @@ fn serve_stream<S: Shelf>(stream: &TcpStream, desk: &mut Desk<S>, roster: &Roste
 }
 
 /// Serves `count` connections, one after another. One that ends badly does not end it: an error
-/// comes only where a connection can't be accepted. However it ends, the room's history has gone on
+/// comes only where a connection can't be accepted, and Ok only after that many were. However it
+/// ends, each message was answered as `Desk::serve` answers it, and the room's history has gone on
 /// while the store is there.
-pub fn serve_listener<S: Shelf>(
-    listener: &TcpListener,
+pub fn serve_listener<S: Shelf, L: Listener>(
+    listener: &mut L,
     desk: &mut Desk<S>,
     roster: &Roster,
     count: u32,
 ) -> io::Result<()>
-    ensures was_honest { S.is_honest desk.new → S.is_honest desk.old }
-    ensures declared { S.is_honest desk.new → S.is_declared desk.old → S.is_declared desk.new }
-    ensures never_falls { S.failures desk.old ≤ S.failures desk.new }
-    ensures run { S.is_honest desk.new → S.is_declared desk.old → (start : Room) (past : History) → RepresentsHistory start (S.records desk.old) past →
-        (next : History) × (events : List EventModel) × (next ≡ events ++ past) × RepresentsHistory start (S.records desk.new) next }
+    ensures accepted { OnOk result (Accepted L.accepts count listener.old listener.new) }
+    ensures fewer { OnErr result (AcceptsFewer L.accepts L.fails count listener.old listener.new) }
+    ensures frame { DeskCall (S.view desk.old) (S.view desk.new) }
+    ensures messages { AnswersSome S.view roster.now desk.old desk.new }
+    ensures run { (S.view desk.new).is_intact → (start : Room) (past : History) → StandsFor start past (S.view desk.old) →
+        (next : History) × GoesOn roster.now start past next × StandsFor start next (S.view desk.new) }
 {
-    for _ in 0..count {
-        let (stream, _) = listener.accept()?;
+    for served in 0..count {
+        let stream = listener.next_stream()?;
         serve_stream(&stream, desk, roster);
     }
     Ok(())

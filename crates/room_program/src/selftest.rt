@@ -76,7 +76,7 @@ fn is_answered(alloc: Global, client: &TcpStream) -> Result<(), Fault>
 fn talk(rt: &HostRuntime, desk: &mut Desk<MemShelf>, roster: &Roster) -> Result<(), Fault>
     ensures { SelftestEnds result }
 {
-    let Ok(listener) = TcpListener::bind(rt, (Ipv4Addr::LOCALHOST, 0)) else {
+    let Ok(mut listener) = TcpListener::bind(rt, (Ipv4Addr::LOCALHOST, 0)) else {
         return Err(Fault::SelftestFailed);
     };
     let Ok(address) = listener.local_addr() else {
@@ -86,7 +86,7 @@ fn talk(rt: &HostRuntime, desk: &mut Desk<MemShelf>, roster: &Roster) -> Result<
         return Err(Fault::SelftestFailed);
     };
     ask(&client)?;
-    if serve_listener(&listener, desk, roster, 1).is_err() {
+    if serve_listener(&mut listener, desk, roster, 1).is_err() {
         return Err(Fault::SelftestFailed);
     }
     is_answered(rt.alloc(), &client)

@@ -20,11 +20,11 @@ pub(crate) fn serve(
 {
     let roster = roster_at(rt, roster)?;
     let shelf = take_room(rt, db)?;
-    let Ok(listener) = TcpListener::bind(rt, (Ipv4Addr::LOCALHOST, port)) else {
+    let Ok(mut listener) = TcpListener::bind(rt, (Ipv4Addr::LOCALHOST, port)) else {
         return Err(Fault::NetworkFailed);
     };
     let mut desk = Desk::new(rt.alloc(), shelf);
-    let served = serve_listener(&listener, &mut desk, &roster, count);
+    let served = serve_listener(&mut listener, &mut desk, &roster, count);
     close_room(desk.into_shelf());
     match served {
         Ok(()) => Ok(()),

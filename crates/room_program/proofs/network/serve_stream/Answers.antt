@@ -1,14 +1,18 @@
-use Rattle.room_desk.proofs.Messages.{goes_on}
+use Rattle.room_program.proofs.Streams.{ran}
 use Rattle.room_program.proofs.network.serve_stream.Goals as goal
 
+pub returns-then-eq-clause-messages : goal.returns-then-eq-clause-messages
+returns-then-eq-clause-messages g c = let m = c.serve-end.ensures.messages in (m.2, m.3, m.5)
+
+pub returns-else-eq-2-clause-messages : goal.returns-else-eq-2-clause-messages
+returns-else-eq-2-clause-messages g c = let m = c.serve-end.ensures.messages in (m.2, m.3, m.5)
+
 pub returns-then-eq-clause-run : goal.returns-then-eq-clause-run
-returns-then-eq-clause-run g c = λ h d start past stand.
-    let ran = c.serve-end.ensures.run (g.met.S.Shelf.honest_is_clean c.serve-end.new.self h) start past (λ _. (d, stand)) in
-    let on = goes_on _ start past ran.1.2 ran.1.3 ran.0 ran.1.5 in
-    (ran.0, on.0, on.1, (ran.2 h).1)
+returns-then-eq-clause-run g c = λ h start past stand.
+    let on = c.serve-end.ensures.run h start past stand in
+    (on.0, ran _ start past on.1.2 on.1.3 on.0 on.1.5, on.2)
 
 pub returns-else-eq-2-clause-run : goal.returns-else-eq-2-clause-run
-returns-else-eq-2-clause-run g c = λ h d start past stand.
-    let ran = c.serve-end.ensures.run (g.met.S.Shelf.honest_is_clean c.serve-end.new.self h) start past (λ _. (d, stand)) in
-    let on = goes_on _ start past ran.1.2 ran.1.3 ran.0 ran.1.5 in
-    (ran.0, on.0, on.1, (ran.2 h).1)
+returns-else-eq-2-clause-run g c = λ h start past stand.
+    let on = c.serve-end.ensures.run h start past stand in
+    (on.0, ran _ start past on.1.2 on.1.3 on.0 on.1.5, on.2)

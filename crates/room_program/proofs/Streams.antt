@@ -1,0 +1,38 @@
+-- One stream after another.
+use Rattle.std.proofs.Common.{◌≡◌, ℕ, List, [], ◌++◌, refl, sym, ap, ◌∙◌}
+use Rattle.std.proofs.lemmas.List.{append_assoc}
+use Rattle.room_acl.specs.SubjectModel.{SubjectModel}
+use Rattle.room_records.specs.Room.{Room}
+use Rattle.room_records.specs.Shelf.{View}
+use Rattle.room_wire.specs.Messages.MessageModel.{MessageModel}
+use Rattle.room_wire.proofs.Lemmas.Serving.Rounds.{outputs_then}
+use Rattle.room_desk.specs.History.{History}
+use Rattle.room_desk.specs.Serving.{AnswersMessage, IsRun, MayAnswer}
+use Rattle.room_desk.proofs.Messages.{goes_on}
+use Rattle.room_program.specs.Streams.{AnswersSome, GoesOn}
+
+pub ran : (users : List SubjectModel) (start : Room) (past : History) (ms : List MessageModel) (out : List ℕ) (next : History) → IsRun users start past ms out next → GoesOn users start past next
+ran users start past ms out next run =
+    let on = goes_on users start past ms out next run in
+    record { messages = ms; output = out; run = run; events = on.0; on = on.1 }
+
+pub stays : (users : List SubjectModel) (start : Room) (past : History) → GoesOn users start past past
+stays users start past = record { messages = []; output = []; run = (refl, refl); events = []; on = refl }
+
+pub goes_further : (users : List SubjectModel) (start : Room) (past next last : History) → GoesOn users start past next → GoesOn users start next last → GoesOn users start past last
+goes_further users start past next last a b = record {
+  messages = a.messages ++ b.messages;
+  output = a.output ++ b.output;
+  run = outputs_then (AnswersMessage users start) past next last a.messages b.messages a.output b.output a.run b.run;
+  events = b.events ++ a.events;
+  on = b.on ∙ ap (λ t. b.events ++ t) a.on ∙ sym (append_assoc b.events a.events past);
+}
+
+module _ {S : Type 0} (view : S → View) (users : List SubjectModel) where
+  pub answers_none : (s : S) → AnswersSome view users s s
+  answers_none s = ([], [], (refl, refl))
+
+  pub answers_more : (before then after : S) → AnswersSome view users before then
+      → AnswersSome view users then after → AnswersSome view users before after
+  answers_more before then after a b =
+      (a.0 ++ b.0, a.1 ++ b.1, outputs_then (MayAnswer view users) before then after a.0 b.0 a.1 b.1 a.2 b.2)
