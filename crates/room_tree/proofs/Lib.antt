@@ -1,5 +1,6 @@
 pub mod Places
 pub mod Checking
+pub mod Stops
 pub mod Walks
 pub mod Outcomes
 pub mod Replies

@@ -46,12 +46,6 @@ object_group room path = (object_or_default room (parent_of path)).group
 pub before_next : (m n : ℕ) → nat_lt m (n + 1) ≡ nat_le m n
 before_next m n = grind (arith, nat_tests)
 
-pub some_test : (n : ℕ) → 0 < n → nat_lt 0 n ≡ true
-some_test n h = grind (arith, nat_tests)
-
-pub none_test : (n : ℕ) → n ≤ 0 → nat_lt 0 n ≡ false
-none_test n h = grind (arith, nat_tests)
-
 below_by_test : (m n : ℕ) → nat_le m n ≡ false → n < m
 below_by_test m n h = grind (arith, nat_tests)
 

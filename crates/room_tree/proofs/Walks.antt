@@ -7,6 +7,9 @@ use Rattle.room_records.specs.Names.{Name, Path}
 use Rattle.room_records.specs.Room.{Object, Room, object_at, parent_of}
 use Rattle.room_commands.specs.declared.reply.Fault.TheVariants.{NoEnt}
 use Rattle.room_commands.specs.ReplyModel.{Refusal}
+use Rattle.room_tree.specs.declared.refusal.Stop.{Stop}
+use Rattle.room_tree.specs.declared.refusal.Stop.TheVariants.{Refused, Shelf}
+use Rattle.room_tree.specs.Stops.{Stopped}
 use Rattle.room_commands.specs.Checks.{refuse_if, refusal_without_place, first_refusal, check_folder, check_right, prefix_fault, proper_prefixes, walk}
 
 -- the first fault from this front on
@@ -56,6 +59,10 @@ module _ (room : Room) (caller : SubjectModel) where
 
     pub walk_stops : (r : Refusal) → walk room caller path ≡ walk_from room caller (take i path) (drop i path) → prefix_fault room caller (take i path) ≡ Some r → walk room caller path ≡ Some r
     walk_stops r so some = so ∙ ap (walk_from room caller (take i path)) here_on ∙ one_off (take i path) name (drop (i + 1) path) r some
+
+    pub walk_stopped : (why : Stop) → walk room caller path ≡ walk_from room caller (take i path) (drop i path) → Stopped (prefix_fault room caller (take i path)) why → Stopped (walk room caller path) why
+    walk_stopped (Refused r) so is = walk_stops r so is
+    walk_stopped (Shelf fault) so is = tt
 
     pub walk_goes_on : walk room caller path ≡ walk_from room caller (take i path) (drop i path) → prefix_fault room caller (take i path) ≡ None
         → walk room caller path ≡ walk_from room caller (take (i + 1) path) (drop (i + 1) path)

@@ -1,3 +1,4 @@
+pub mod Stops
 pub mod Plans
 pub mod Places
 pub mod Depths

@@ -14,12 +14,10 @@ use Rattle.room_records.specs.Representation.{RepresentsRoom, NodeIsObject}
 use Rattle.room_tree.specs.declared.place.Place.{Place}
 use Rattle.room_acl.specs.declared.subject.Kind.{Kind}
 use Rattle.room_acl.specs.declared.subject.Kind.TheVariants.{File, Folder}
-use Rattle.room_tree.specs.declared.reaching.Reached.{Reached}
-use Rattle.room_tree.specs.declared.reaching.Reached.TheVariants as R
 use Rattle.room_tree.specs.declared.walking.Walk.{Walk}
-use Rattle.room_tree.specs.declared.walking.Walk.TheVariants.{Refused, Absent, Found}
+use Rattle.room_tree.specs.declared.walking.Walk.TheVariants.{Absent, Found}
 use Rattle.room_commands.specs.ReplyModel.{Refusal}
-use Rattle.room_commands.specs.Checks.{walk, check_file, check_folder, check_right, first_refusal}
+use Rattle.room_commands.specs.Checks.{check_file, check_folder, check_right}
 
 -- what a call says of each room that the rows stand for as it begins
 abbrev pub OfRoom : View → View → (ObjectRecords → Room → Type 0) → Type 0
@@ -50,10 +48,9 @@ IsAbove t room path count None = count ≡ 0
 IsAbove t room path count (Some place) = (1 ≤ count) × IsPlace t room (take (count - 1) path) place
 
 -- where the walk of a path ends
-abbrev pub IsWalk : ObjectRecords → Room → SubjectModel → Path → Walk → Type 0
-IsWalk t room caller path (Refused refusal) = walk room caller path ≡ Some refusal
-IsWalk t room caller path (Absent above) = (walk room caller path ≡ None) × (object_at room path ≡ None) × IsPlace t room (parent_of path) above
-IsWalk t room caller path (Found here above) = (walk room caller path ≡ None) × IsPlace t room path here × IsAbove t room path (length path) above
+abbrev pub IsWalk : ObjectRecords → Room → Path → Walk → Type 0
+IsWalk t room path (Absent above) = (object_at room path ≡ None) × IsPlace t room (parent_of path) above
+IsWalk t room path (Found here above) = IsPlace t room path here × IsAbove t room path (length path) above
 
 -- which kind alone is asked for
 abbrev pub kind_checks : Room → Path → Option Kind → List (Option Refusal)
@@ -64,11 +61,6 @@ kind_checks room path (Some Folder) = check_folder room path ∷ []
 -- the kind and a right
 abbrev pub use_checks : Room → SubjectModel → Path → Option Kind → ℕ → List (Option Refusal)
 use_checks room caller path kind wanted = kind_checks room path kind ++ check_right room caller path wanted ∷ []
-
--- what checks on the object at a path come to
-abbrev pub IsReached : ObjectRecords → Room → Path → List (Option Refusal) → Reached → Type 0
-IsReached t room path checked (R.Refused refusal) = first_refusal checked ≡ Some refusal
-IsReached t room path checked (R.Object place) = (first_refusal checked ≡ None) × IsPlace t room path place
 
 -- what a listing shows of a node with a name
 abbrev pub listed : Node → Option (Name × Kind)

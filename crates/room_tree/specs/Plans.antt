@@ -1,5 +1,5 @@
 -- What is planned for a command, over rows that stand for a room (our own rule).
-use Rattle.std.specs.Prelude.{◌≡◌, ℕ, [], Option, None, Some, IsSome, IsNone}
+use Rattle.std.specs.Prelude.{◌≡◌, ℕ, [], Option, None, Some, Result, IsSome, IsNone}
 use Rattle.std.specs.List.{AllByRecursion}
 use Rattle.room_acl.specs.SubjectModel.{SubjectModel}
 use Rattle.room_records.specs.Records.{ObjectRecords}
@@ -14,6 +14,8 @@ use Rattle.room_commands.specs.ReplyModel.{reply_model, IsRefused, Refusal}
 use Rattle.room_commands.specs.Effect.{effect, moved}
 use Rattle.room_commands.specs.Needs.{NeedsAllowed}
 use Rattle.room_records.specs.Representation.{RepresentsRoom, HasPath}
+use Rattle.room_tree.specs.declared.refusal.Stop.{Stop}
+use Rattle.room_tree.specs.Stops.{OrStopped}
 
 -- where an object that stays stands afterwards
 abbrev pub place_after : CommandModel → Option Refusal → Path → Path
@@ -46,3 +48,7 @@ pub record PlansEffect (t : ObjectRecords) (room : Room) (caller : SubjectModel)
   pub numbers : KeepsNumbers t (apply_all_to_objects outcome.changes.items t) room caller command
   pub refusal : IsRefused (reply_model outcome.reply) → outcome.changes.items ≡ []
   pub allowed : (IsRefused (reply_model outcome.reply) → ⊥) → NeedsAllowed room caller command
+
+-- and where a check refuses, the first that does
+abbrev pub Plans : ObjectRecords → Room → SubjectModel → CommandModel → Result Outcome Stop → Type 0
+Plans t room caller command result = OrStopped (first_refusal (checks room caller command)) (PlansEffect t room caller command) result

@@ -1,5 +1,5 @@
 -- What the calls that read a room for RENAME say.
-use Rattle.std.specs.Prelude.{◌≡◌, List, [], ◌∷◌, Option, None, Some, Result, Ok, Err, if◌then◌else◌}
+use Rattle.std.specs.Prelude.{◌≡◌, List, [], ◌∷◌, Option, None, if◌then◌else◌}
 use Rattle.room_acl.specs.SubjectModel.{SubjectModel}
 use Rattle.room_records.specs.Names.{Path, path_eq}
 use Rattle.room_records.specs.Records.{ObjectRecords}
@@ -7,7 +7,7 @@ use Rattle.room_records.specs.Room.{Room, parent_of}
 use Rattle.room_tree.specs.declared.place.Place.{Place}
 use Rattle.room_tree.specs.declared.moving.Move.{Move}
 use Rattle.room_commands.specs.ReplyModel.{Refusal}
-use Rattle.room_commands.specs.Checks.{first_refusal, walk, check_exists, check_absent, check_removal, check_right, right_to_add, check_depth, check_folder_full}
+use Rattle.room_commands.specs.Checks.{walk, check_exists, check_absent, check_removal, check_right, right_to_add, check_depth, check_folder_full}
 use Rattle.room_tree.specs.Places.{IsPlace}
 
 -- what is there, and what is not
@@ -28,13 +28,3 @@ pub record IsMove (t : ObjectRecords) (room : Room) (path to : Path) (move : Mov
   pub place : IsPlace t room path move.place
   pub from : IsPlace t room (parent_of path) move.from
   pub into : IsPlace t room (parent_of to) move.into
-
--- what checks on a move come to
-abbrev pub IsChecked : ObjectRecords → Room → Path → Path → List (Option Refusal) → Result Move Refusal → Type 0
-IsChecked t room path to checked (Ok move) = (first_refusal checked ≡ None) × IsMove t room path to move
-IsChecked t room path to checked (Err refusal) = first_refusal checked ≡ Some refusal
-
--- what checks on an object below the root come to: it and its folder
-abbrev pub IsFoundWithFolder : ObjectRecords → Room → Path → List (Option Refusal) → Result (Place × Place) Refusal → Type 0
-IsFoundWithFolder t room path checked (Ok found) = (first_refusal checked ≡ None) × IsPlace t room path found.0 × IsPlace t room (parent_of path) found.1
-IsFoundWithFolder t room path checked (Err refusal) = first_refusal checked ≡ Some refusal

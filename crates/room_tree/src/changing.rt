@@ -1,30 +1,32 @@
 //! Commands that change one object where it stands.
-ghost use Rattle.std.specs.Prelude.{◌≡◌, ◌+◌, ◌<◌, ◌^◌, ◌++◌, [], ◌∷◌, length, IfOk, MatchResult, Err};
-ghost use Rattle.room_records.specs.Shelf.{ShelfRead, fault_in};
+ghost use Rattle.std.specs.Prelude.{◌≡◌, ◌≢◌, ◌+◌, ◌<◌, ◌^◌, ◌++◌, [], ◌∷◌, length, Some, IfOk};
+ghost use Rattle.room_records.specs.Shelf.{ShelfRead};
+ghost use Rattle.room_records.specs.declared.shelf.ShelfFault.TheVariants.{Store};
 ghost use Rattle.room_commands.specs.Checks.{check_size};
 ghost use Rattle.room_commands.specs.CommandModel as C;
 ghost use Rattle.room_tree.specs.Places.{OfRoom, node_of};
-ghost use Rattle.room_tree.specs.Plans.{PlansEffect};
+ghost use Rattle.room_tree.specs.Plans.{Plans};
+ghost use Rattle.room_tree.specs.Stops.{Passes, refusal_in, stop_fault};
 ghost use Rattle.room_commands.specs.ReplyModel.{reply_model, Size, Done};
 
 use crate::masks::{APPEND_DATA, WRITE_DATA, WRITE_OWNER};
 use crate::place::Place;
 use crate::planning::Outcome;
-use crate::reaching::{Reached, as_size, bytes_of, reach_to_use};
-use crate::refusal::Refusal;
+use crate::reaching::{as_size, bytes_of, reach_to_use};
+use crate::refusal::{Refusal, Stop};
 use room_acl::{Kind, Principal, Subject};
 use room_commands::{Fault, Reply};
-use room_records::{Change, MAX_DOCUMENT, Node, Path, Shelf, ShelfFault};
+use room_records::{Change, MAX_DOCUMENT, Node, Path, Shelf};
 use std::alloc::{AllocError, Global};
 
 /// Whether a document would have too many bytes.
-pub(crate) fn check_size(size: u64) -> Option<Refusal>
-    ensures { result ≡ check_size size }
+pub(crate) fn check_size(size: u64) -> Result<(), Refusal>
+    ensures { refusal_in result ≡ check_size size }
 {
     if size > MAX_DOCUMENT {
-        Some(Refusal::of(Fault::FBig))
+        Err(Refusal::of(Fault::FBig))
     } else {
-        None
+        Ok(())
     }
 }
 
@@ -54,37 +56,25 @@ pub(crate) fn plan_write<S: Shelf>(
     subject: &Subject,
     bytes: &[u8],
     path: &Path,
-) -> Result<Outcome, ShelfFault>
-    ensures effect { OfRoom (S.view shelf.old) (S.view shelf.new) (λ t room. IfOk result (PlansEffect t room subject.now (C.Write bytes.now path.now))) }
-    ensures frame { ShelfRead (S.view shelf.old) (S.view shelf.new) (fault_in result) }
+) -> Result<Outcome, Stop>
+    ensures effect { OfRoom (S.view shelf.old) (S.view shelf.new) (λ t room. Plans t room subject.now (C.Write bytes.now path.now) result) }
+    ensures frame { ShelfRead (S.view shelf.old) (S.view shelf.new) (stop_fault result) }
 {
-    let place = match reach_to_use(alloc, shelf, subject, path, Some(Kind::File), WRITE_DATA)? {
-        Reached::Refused(refusal) => return Ok(Outcome::refused(alloc, refusal)),
-        Reached::Object(place) => place,
-    };
-    if let Some(refusal) = check_size(bytes.len() as u64) {
-        return Ok(Outcome::refused(alloc, refusal));
-    }
-    let Ok(copy) = bytes.to_vec(alloc) else {
-        return Err(ShelfFault::Memory);
-    };
-    let Ok(outcome) = with_document(alloc, place.id, copy) else {
-        return Err(ShelfFault::Memory);
-    };
+    let place = reach_to_use(alloc, shelf, subject, path, Some(Kind::File), WRITE_DATA)?;
+    check_size(bytes.len() as u64)?;
+    let copy = bytes.to_vec(alloc)?;
+    let outcome = with_document(alloc, place.id, copy)?;
     Ok(outcome)
 }
 
 /// The bytes of both, where they are not too many for a document.
-fn appended(mut old: Vec<u8>, more: &[u8]) -> Result<Result<Vec<u8>, Refusal>, AllocError>
-    ensures { IfOk result (λ joined. MatchResult joined
-        (λ all. (check_size (length old.items + length more.now) ≡ None) × (all.items ≡ old.items ++ more.now))
-        (λ refusal. check_size (length old.items + length more.now) ≡ Some refusal)) }
+fn appended(mut old: Vec<u8>, more: &[u8]) -> Result<Vec<u8>, Stop>
+    ensures value { Passes (check_size (length old.items + length more.now)) (λ all. all.items ≡ old.items ++ more.now) result }
+    ensures quiet { stop_fault result ≢ Some Store }
 {
-    if let Some(refusal) = check_size(old.len() as u64 + more.len() as u64) {
-        return Ok(Err(refusal));
-    }
+    check_size(old.len() as u64 + more.len() as u64)?;
     old.extend_from_slice(more)?;
-    Ok(Ok(old))
+    Ok(old)
 }
 
 /// APPEND: these bytes come behind those of the document.
@@ -94,25 +84,14 @@ pub(crate) fn plan_append<S: Shelf>(
     subject: &Subject,
     bytes: &[u8],
     path: &Path,
-) -> Result<Outcome, ShelfFault>
-    ensures effect { OfRoom (S.view shelf.old) (S.view shelf.new) (λ t room. IfOk result (PlansEffect t room subject.now (C.Append bytes.now path.now))) }
-    ensures frame { ShelfRead (S.view shelf.old) (S.view shelf.new) (fault_in result) }
+) -> Result<Outcome, Stop>
+    ensures effect { OfRoom (S.view shelf.old) (S.view shelf.new) (λ t room. Plans t room subject.now (C.Append bytes.now path.now) result) }
+    ensures frame { ShelfRead (S.view shelf.old) (S.view shelf.new) (stop_fault result) }
 {
-    let place = match reach_to_use(alloc, shelf, subject, path, Some(Kind::File), APPEND_DATA)? {
-        Reached::Refused(refusal) => return Ok(Outcome::refused(alloc, refusal)),
-        Reached::Object(place) => place,
-    };
+    let place = reach_to_use(alloc, shelf, subject, path, Some(Kind::File), APPEND_DATA)?;
     let old = bytes_of(shelf, &place)?;
-    let Ok(joined) = appended(old, bytes) else {
-        return Err(ShelfFault::Memory);
-    };
-    let all = match joined {
-        Err(refusal) => return Ok(Outcome::refused(alloc, refusal)),
-        Ok(all) => all,
-    };
-    let Ok(outcome) = with_document(alloc, place.id, all) else {
-        return Err(ShelfFault::Memory);
-    };
+    let all = appended(old, bytes)?;
+    let outcome = with_document(alloc, place.id, all)?;
     Ok(outcome)
 }
 
@@ -141,19 +120,12 @@ pub(crate) fn plan_chown<S: Shelf>(
     group: &Principal,
     owner: &Principal,
     path: &Path,
-) -> Result<Outcome, ShelfFault>
-    ensures effect { OfRoom (S.view shelf.old) (S.view shelf.new) (λ t room. IfOk result (PlansEffect t room subject.now (C.Chown group.now owner.now path.now))) }
-    ensures frame { ShelfRead (S.view shelf.old) (S.view shelf.new) (fault_in result) }
+) -> Result<Outcome, Stop>
+    ensures effect { OfRoom (S.view shelf.old) (S.view shelf.new) (λ t room. Plans t room subject.now (C.Chown group.now owner.now path.now) result) }
+    ensures frame { ShelfRead (S.view shelf.old) (S.view shelf.new) (stop_fault result) }
 {
-    let place = match reach_to_use(alloc, shelf, subject, path, None, WRITE_OWNER)? {
-        Reached::Refused(refusal) => return Ok(Outcome::refused(alloc, refusal)),
-        Reached::Object(place) => place,
-    };
-    let Ok(node) = with_standing(place, owner, group) else {
-        return Err(ShelfFault::Memory);
-    };
-    let Ok(outcome) = one_change(alloc, Change::PutNode(node), Reply::Done) else {
-        return Err(ShelfFault::Memory);
-    };
+    let place = reach_to_use(alloc, shelf, subject, path, None, WRITE_OWNER)?;
+    let node = with_standing(place, owner, group)?;
+    let outcome = one_change(alloc, Change::PutNode(node), Reply::Done)?;
     Ok(outcome)
 }

@@ -1,14 +1,17 @@
 //! Objects that were found on a shelf.
-ghost use Rattle.std.specs.Prelude.{◌≡◌, ◌++◌, [], take, IfOk, if◌then◌else◌};
+ghost use Rattle.std.specs.Prelude.{◌≡◌, ◌≢◌, ◌++◌, [], take, Some, not, is_some, IfOk, if◌then◌else◌};
+ghost use Rattle.room_acl.specs.Access.{decision};
 ghost use Rattle.room_acl.specs.Bits.{IsMask};
 ghost use Rattle.room_records.specs.Names.{Path as PathModel};
 ghost use Rattle.room_records.specs.Records.{ObjectRecords};
 ghost use Rattle.room_records.specs.Room.{Room};
 ghost use Rattle.room_commands.specs.Checks.{check_right, check_folder, check_file, prefix_fault, first_refusal};
+ghost use Rattle.room_records.specs.declared.shelf.ShelfFault.TheVariants.{Store};
 ghost use Rattle.room_tree.specs.Places.{IsPlace, node_of, kind_checks, use_checks};
+ghost use Rattle.room_tree.specs.Stops.{Passes, refusal_in, stop_fault};
 
 use crate::masks::EXECUTE;
-use crate::refusal::Refusal;
+use crate::refusal::{Refusal, Stop};
 use room_acl::{Decision, Entry, Kind, ListFlags, Mask, Standing, Subject, decide};
 use room_commands::Fault;
 use room_records::{FileName, Node, Path};
@@ -74,6 +77,29 @@ impl Place {
         }
     }
 
+    /// What the list of the object says of these bits.
+    fn decision(&self, subject: &Subject, wanted: u32) -> Decision
+        requires { IsMask wanted }
+        ensures { result ≡ decision self.now.list.items subject.now self.now.standing wanted }
+    {
+        let Some(mask) = Mask::new(wanted) else {
+            unreachable!()
+        };
+        decide(&self.list, subject, &self.standing, mask)
+    }
+
+    /// Whether the list of the object allows these bits to the caller.
+    pub(crate) fn allows(&self, subject: &Subject, wanted: u32) -> bool
+        requires { IsMask wanted }
+        ensures { (t : ObjectRecords) (room : Room) (at : PathModel) → IsPlace t room at self.now →
+            result ≡ not (is_some (check_right room subject.now at wanted)) }
+    {
+        match self.decision(subject, wanted) {
+            Decision::Allowed => true,
+            Decision::Denied { .. } => false,
+        }
+    }
+
     /// Whether the list of the object allows these bits to the caller. The object stands at the first `count` names of `path`.
     pub(crate) fn check_right(
         &self,
@@ -82,19 +108,17 @@ impl Place {
         wanted: u32,
         path: &Path,
         count: usize,
-    ) -> Result<Option<Refusal>, AllocError>
+    ) -> Result<(), Stop>
         requires { IsMask wanted }
-        ensures { (t : ObjectRecords) (room : Room) (at : PathModel) → take count path.now ≡ at → IsPlace t room at self.now →
-            IfOk result (λ checked. checked ≡ check_right room subject.now at wanted) }
+        ensures value { (t : ObjectRecords) (room : Room) (at : PathModel) → take count path.now ≡ at → IsPlace t room at self.now →
+            Passes (check_right room subject.now at wanted) (λ _. Unit {0}) result }
+        ensures quiet { stop_fault result ≢ Some Store }
     {
-        let Some(mask) = Mask::new(wanted) else {
-            unreachable!()
-        };
-        match decide(&self.list, subject, &self.standing, mask) {
-            Decision::Allowed => Ok(None),
+        match self.decision(subject, wanted) {
+            Decision::Allowed => Ok(()),
             Decision::Denied { bit } => {
                 let at = path.front(alloc, count)?;
-                Ok(Some(Refusal {
+                Err(Stop::Refused(Refusal {
                     code: Fault::Access,
                     place: Some((at, bit)),
                 }))
@@ -102,21 +126,21 @@ impl Place {
         }
     }
 
-    pub(crate) fn check_folder(&self) -> Option<Refusal>
-        ensures { (t : ObjectRecords) (room : Room) (at : PathModel) → IsPlace t room at self.now → result ≡ check_folder room at }
+    pub(crate) fn check_folder(&self) -> Result<(), Refusal>
+        ensures { (t : ObjectRecords) (room : Room) (at : PathModel) → IsPlace t room at self.now → refusal_in result ≡ check_folder room at }
     {
         match self.kind {
-            Kind::File => Some(Refusal::of(Fault::NotDir)),
-            Kind::Folder => None,
+            Kind::File => Err(Refusal::of(Fault::NotDir)),
+            Kind::Folder => Ok(()),
         }
     }
 
-    pub(crate) fn check_file(&self) -> Option<Refusal>
-        ensures { (t : ObjectRecords) (room : Room) (at : PathModel) → IsPlace t room at self.now → result ≡ check_file room at }
+    pub(crate) fn check_file(&self) -> Result<(), Refusal>
+        ensures { (t : ObjectRecords) (room : Room) (at : PathModel) → IsPlace t room at self.now → refusal_in result ≡ check_file room at }
     {
         match self.kind {
-            Kind::File => None,
-            Kind::Folder => Some(Refusal::of(Fault::IsDir)),
+            Kind::File => Ok(()),
+            Kind::Folder => Err(Refusal::of(Fault::IsDir)),
         }
     }
 
@@ -127,21 +151,21 @@ impl Place {
         subject: &Subject,
         path: &Path,
         count: usize,
-    ) -> Result<Option<Refusal>, AllocError>
-        ensures { (t : ObjectRecords) (room : Room) (at : PathModel) → take count path.now ≡ at → IsPlace t room at self.now →
-            IfOk result (λ checked. checked ≡ prefix_fault room subject.now at) }
+    ) -> Result<(), Stop>
+        ensures value { (t : ObjectRecords) (room : Room) (at : PathModel) → take count path.now ≡ at → IsPlace t room at self.now →
+            Passes (prefix_fault room subject.now at) (λ _. Unit {0}) result }
+        ensures quiet { stop_fault result ≢ Some Store }
     {
-        match self.check_folder() {
-            Some(refusal) => Ok(Some(refusal)),
-            None => self.check_right(alloc, subject, EXECUTE, path, count),
-        }
+        self.check_folder()?;
+        self.check_right(alloc, subject, EXECUTE, path, count)
     }
 
-    fn check_kind(&self, only: Option<Kind>) -> Option<Refusal>
-        ensures { (t : ObjectRecords) (room : Room) (at : PathModel) → IsPlace t room at self.now → result ≡ first_refusal (kind_checks room at only) }
+    fn check_kind(&self, only: Option<Kind>) -> Result<(), Refusal>
+        ensures { (t : ObjectRecords) (room : Room) (at : PathModel) → IsPlace t room at self.now →
+            refusal_in result ≡ first_refusal (kind_checks room at only) }
     {
         match only {
-            None => None,
+            None => Ok(()),
             Some(kind) => match kind {
                 Kind::File => self.check_file(),
                 Kind::Folder => self.check_folder(),
@@ -157,14 +181,13 @@ impl Place {
         path: &Path,
         only: Option<Kind>,
         wanted: u32,
-    ) -> Result<Option<Refusal>, AllocError>
+    ) -> Result<(), Stop>
         requires { IsMask wanted }
-        ensures { (t : ObjectRecords) (room : Room) → IsPlace t room path.now self.now →
-            IfOk result (λ checked. checked ≡ first_refusal (use_checks room subject.now path.now only wanted)) }
+        ensures value { (t : ObjectRecords) (room : Room) → IsPlace t room path.now self.now →
+            Passes (first_refusal (use_checks room subject.now path.now only wanted)) (λ _. Unit {0}) result }
+        ensures quiet { stop_fault result ≢ Some Store }
     {
-        match self.check_kind(only) {
-            Some(refusal) => Ok(Some(refusal)),
-            None => self.check_right(alloc, subject, wanted, path, path.names().len()),
-        }
+        self.check_kind(only)?;
+        self.check_right(alloc, subject, wanted, path, path.names().len())
     }
 }

@@ -4,14 +4,16 @@ ghost use Rattle.room_records.specs.Shelf.{ShelfRead, fault_in};
 ghost use Rattle.room_commands.specs.CommandModel.{command_model};
 ghost use Rattle.room_records.specs.Room.{Room};
 ghost use Rattle.room_records.specs.Representation.{RepresentsRoom};
-ghost use Rattle.room_tree.specs.Plans.{OnlyReads, PlansEffect};
+ghost use Rattle.room_tree.specs.Places.{OfRoom};
+ghost use Rattle.room_tree.specs.Plans.{OnlyReads, Plans, PlansEffect};
+ghost use Rattle.room_tree.specs.Stops.{stop_fault};
 ghost use Rattle.room_commands.specs.ReplyModel.{reply_model, Refused};
 
 use crate::changing::{plan_append, plan_chown, plan_write};
 use crate::making::{plan_create, plan_mkdir};
 use crate::moving::plan_rename;
 use crate::reading::{plan_access, plan_getlist, plan_list, plan_read, plan_stat};
-use crate::refusal::Refusal;
+use crate::refusal::{Refusal, Stop};
 use crate::removing::plan_remove;
 use crate::setlist::plan_setlist;
 use room_acl::Subject;
@@ -53,17 +55,16 @@ impl Outcome {
     }
 }
 
-/// Plans a command over the rows of a room, and leaves them as they are.
-pub fn plan<S: Shelf>(
+/// What a command changes and replies, or why it is not planned.
+fn plan_or_stop<S: Shelf>(
     alloc: Global,
     shelf: &mut S,
     subject: &Subject,
     command: &Command,
-) -> Result<Outcome, ShelfFault>
-    ensures effect { (S.view shelf.new).is_available → (S.view shelf.old).is_laid_out → (room : Room) → RepresentsRoom (S.view shelf.old).records.objects room →
-        IfOk result (PlansEffect (S.view shelf.old).records.objects room subject.now (command_model command.now)) }
+) -> Result<Outcome, Stop>
+    ensures effect { OfRoom (S.view shelf.old) (S.view shelf.new) (λ t room. Plans t room subject.now (command_model command.now) result) }
     ensures reads { OnlyReads (command_model command.now) → IfOk result (λ outcome. outcome.changes.items ≡ []) }
-    ensures frame { ShelfRead (S.view shelf.old) (S.view shelf.new) (fault_in result) }
+    ensures frame { ShelfRead (S.view shelf.old) (S.view shelf.new) (stop_fault result) }
 {
     match command {
         Command::Stat { path } => plan_stat(alloc, shelf, subject, path),
@@ -91,5 +92,26 @@ pub fn plan<S: Shelf>(
             plan_chown(alloc, shelf, subject, group, owner, path)
         }
         Command::Access { mask, path } => plan_access(alloc, shelf, subject, *mask, path),
+    }
+}
+
+/// Plans a command over the rows of a room, and leaves them as they are.
+pub fn plan<S: Shelf>(
+    alloc: Global,
+    shelf: &mut S,
+    subject: &Subject,
+    command: &Command,
+) -> Result<Outcome, ShelfFault>
+    ensures effect { (S.view shelf.new).is_available → (S.view shelf.old).is_laid_out → (room : Room) → RepresentsRoom (S.view shelf.old).records.objects room →
+        IfOk result (PlansEffect (S.view shelf.old).records.objects room subject.now (command_model command.now)) }
+    ensures reads { OnlyReads (command_model command.now) → IfOk result (λ outcome. outcome.changes.items ≡ []) }
+    ensures frame { ShelfRead (S.view shelf.old) (S.view shelf.new) (fault_in result) }
+{
+    match plan_or_stop(alloc, shelf, subject, command) {
+        Ok(outcome) => Ok(outcome),
+        Err(stop) => match stop {
+            Stop::Refused(refusal) => Ok(Outcome::refused(alloc, refusal)),
+            Stop::Shelf(fault) => Err(fault),
+        },
     }
 }

@@ -1,27 +1,21 @@
 //! The object that a command is about.
-ghost use Rattle.std.specs.Prelude.{◌≡◌, ◌<◌, ◌^◌, [], ◌∷◌, length, IfOk, Err};
+ghost use Rattle.std.specs.Prelude.{◌≡◌, ◌<◌, ◌^◌, false, [], ◌∷◌, length, IfOk};
 ghost use Rattle.room_acl.specs.Bits.{IsMask};
 ghost use Rattle.room_records.specs.Names.{Path as PathModel};
 ghost use Rattle.room_records.specs.Shelf.{ShelfRead, fault_in};
-ghost use Rattle.room_commands.specs.Checks.{walk, check_exists, bytes_at};
-ghost use Rattle.room_records.specs.Room.{children};
+ghost use Rattle.room_commands.specs.Checks.{first_refusal, is_root, walk, check_absent, check_exists, bytes_at};
+ghost use Rattle.room_records.specs.Room.{children, parent_of};
 ghost use Rattle.room_commands.specs.Effect.{size_of};
-ghost use Rattle.room_tree.specs.Places.{OfRoom, IsPlace, IsReached, use_checks};
+ghost use Rattle.room_tree.specs.Places.{OfRoom, IsPlace, use_checks};
+ghost use Rattle.room_tree.specs.Stops.{Passes, stop_fault};
 
 use crate::place::Place;
-use crate::refusal::Refusal;
+use crate::refusal::Stop;
 use crate::walking::{Walk, walk_path};
 use room_acl::{Kind, Subject};
 use room_commands::Fault;
 use room_records::{Path, Shelf, ShelfFault};
 use std::alloc::Global;
-
-/// What the checks on an object come to.
-#[derive(Debug, Drop)]
-pub(crate) enum Reached {
-    Refused(Refusal),
-    Object(Place),
-}
 
 /// The object at a path, after the walk.
 pub(crate) fn reach<S: Shelf>(
@@ -29,15 +23,53 @@ pub(crate) fn reach<S: Shelf>(
     shelf: &mut S,
     subject: &Subject,
     path: &Path,
-) -> Result<Reached, ShelfFault>
-    ensures value { OfRoom (S.view shelf.old) (S.view shelf.new) (λ t room. IfOk result
-        (IsReached t room path.now (walk room subject.now path.now ∷ check_exists room path.now ∷ []))) }
-    ensures frame { ShelfRead (S.view shelf.old) (S.view shelf.new) (fault_in result) }
+) -> Result<Place, Stop>
+    ensures value { OfRoom (S.view shelf.old) (S.view shelf.new) (λ t room.
+        Passes (first_refusal (walk room subject.now path.now ∷ check_exists room path.now ∷ [])) (IsPlace t room path.now) result) }
+    ensures frame { ShelfRead (S.view shelf.old) (S.view shelf.new) (stop_fault result) }
 {
     match walk_path(alloc, shelf, subject, path)? {
-        Walk::Refused(refusal) => Ok(Reached::Refused(refusal)),
-        Walk::Absent(_) => Ok(Reached::Refused(Refusal::of(Fault::NoEnt))),
-        Walk::Found(place, _) => Ok(Reached::Object(place)),
+        Walk::Absent(_) => Err(Stop::of(Fault::NoEnt)),
+        Walk::Found(place, _) => Ok(place),
+    }
+}
+
+/// The object at a path below the root, with its folder.
+pub(crate) fn reach_with_folder<S: Shelf>(
+    alloc: Global,
+    shelf: &mut S,
+    subject: &Subject,
+    path: &Path,
+) -> Result<(Place, Place), Stop>
+    ensures value { OfRoom (S.view shelf.old) (S.view shelf.new) (λ t room. is_root path.now ≡ false →
+        Passes (first_refusal (walk room subject.now path.now ∷ check_exists room path.now ∷ []))
+        (λ found. IsPlace t room path.now found.0 × IsPlace t room (parent_of path.now) found.1) result) }
+    ensures frame { ShelfRead (S.view shelf.old) (S.view shelf.new) (stop_fault result) }
+{
+    let (place, above) = match walk_path(alloc, shelf, subject, path)? {
+        Walk::Absent(_) => return Err(Stop::of(Fault::NoEnt)),
+        Walk::Found(place, above) => (place, above),
+    };
+    match above {
+        Some(folder) => Ok((place, folder)),
+        None => Err(Stop::of(Fault::Inval)),
+    }
+}
+
+/// The folder of a path where nothing is.
+pub(crate) fn folder_of_free<S: Shelf>(
+    alloc: Global,
+    shelf: &mut S,
+    subject: &Subject,
+    path: &Path,
+) -> Result<Place, Stop>
+    ensures value { OfRoom (S.view shelf.old) (S.view shelf.new) (λ t room.
+        Passes (first_refusal (walk room subject.now path.now ∷ check_absent room path.now ∷ [])) (IsPlace t room (parent_of path.now)) result) }
+    ensures frame { ShelfRead (S.view shelf.old) (S.view shelf.new) (stop_fault result) }
+{
+    match walk_path(alloc, shelf, subject, path)? {
+        Walk::Found(_, _) => Err(Stop::of(Fault::Exist)),
+        Walk::Absent(above) => Ok(above),
     }
 }
 
@@ -49,23 +81,16 @@ pub(crate) fn reach_to_use<S: Shelf>(
     path: &Path,
     only: Option<Kind>,
     wanted: u32,
-) -> Result<Reached, ShelfFault>
+) -> Result<Place, Stop>
     requires { IsMask wanted }
-    ensures value { OfRoom (S.view shelf.old) (S.view shelf.new) (λ t room. IfOk result
-        (IsReached t room path.now (walk room subject.now path.now ∷ check_exists room path.now ∷ use_checks room subject.now path.now only wanted))) }
-    ensures frame { ShelfRead (S.view shelf.old) (S.view shelf.new) (fault_in result) }
+    ensures value { OfRoom (S.view shelf.old) (S.view shelf.new) (λ t room.
+        Passes (first_refusal (walk room subject.now path.now ∷ check_exists room path.now ∷ use_checks room subject.now path.now only wanted))
+        (IsPlace t room path.now) result) }
+    ensures frame { ShelfRead (S.view shelf.old) (S.view shelf.new) (stop_fault result) }
 {
-    let place = match reach(alloc, shelf, subject, path)? {
-        Reached::Refused(refusal) => return Ok(Reached::Refused(refusal)),
-        Reached::Object(place) => place,
-    };
-    let Ok(checked) = place.check_use(alloc, subject, path, only, wanted) else {
-        return Err(ShelfFault::Memory);
-    };
-    match checked {
-        Some(refusal) => Ok(Reached::Refused(refusal)),
-        None => Ok(Reached::Object(place)),
-    }
+    let place = reach(alloc, shelf, subject, path)?;
+    place.check_use(alloc, subject, path, only, wanted)?;
+    Ok(place)
 }
 
 /// How many are in a folder.

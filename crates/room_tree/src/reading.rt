@@ -5,13 +5,15 @@ ghost use Rattle.room_records.specs.Room.{children};
 ghost use Rattle.room_records.specs.Names.{Path as PathModel};
 ghost use Rattle.room_records.specs.Shelf.{ShelfRead, fault_in};
 ghost use Rattle.room_commands.specs.CommandModel as C;
-ghost use Rattle.room_tree.specs.Plans.{PlansEffect};
+ghost use Rattle.room_tree.specs.Plans.{Plans};
+ghost use Rattle.room_tree.specs.Stops.{stop_fault};
 ghost use Rattle.room_tree.specs.Places.{OfRoom, IsPlace, listed};
 
 use crate::masks::{LIST_DIRECTORY, READ_ACL, READ_ATTRIBUTES, READ_DATA};
 use crate::place::Place;
 use crate::planning::Outcome;
-use crate::reaching::{Reached, bytes_of, reach, reach_to_use, size_of};
+use crate::reaching::{bytes_of, reach, reach_to_use, size_of};
+use crate::refusal::Stop;
 use room_acl::{Kind, Mask, Subject, allowed_bits};
 use room_commands::Reply;
 use room_records::{FileName, Node, Path, Shelf, ShelfFault};
@@ -23,15 +25,12 @@ pub(crate) fn plan_stat<S: Shelf>(
     shelf: &mut S,
     subject: &Subject,
     path: &Path,
-) -> Result<Outcome, ShelfFault>
-    ensures effect { OfRoom (S.view shelf.old) (S.view shelf.new) (λ t room. IfOk result (PlansEffect t room subject.now (C.Stat path.now))) }
+) -> Result<Outcome, Stop>
+    ensures effect { OfRoom (S.view shelf.old) (S.view shelf.new) (λ t room. Plans t room subject.now (C.Stat path.now) result) }
     ensures none { IfOk result (λ outcome. outcome.changes.items ≡ []) }
-    ensures frame { ShelfRead (S.view shelf.old) (S.view shelf.new) (fault_in result) }
+    ensures frame { ShelfRead (S.view shelf.old) (S.view shelf.new) (stop_fault result) }
 {
-    let place = match reach_to_use(alloc, shelf, subject, path, None, READ_ATTRIBUTES)? {
-        Reached::Refused(refusal) => return Ok(Outcome::refused(alloc, refusal)),
-        Reached::Object(place) => place,
-    };
+    let place = reach_to_use(alloc, shelf, subject, path, None, READ_ATTRIBUTES)?;
     let size = size_of(shelf, &place)?;
     let node = place.into_node();
     Ok(Outcome::reading(
@@ -52,22 +51,19 @@ pub(crate) fn plan_list<S: Shelf>(
     shelf: &mut S,
     subject: &Subject,
     path: &Path,
-) -> Result<Outcome, ShelfFault>
-    ensures effect { OfRoom (S.view shelf.old) (S.view shelf.new) (λ t room. IfOk result (PlansEffect t room subject.now (C.ListNames path.now))) }
+) -> Result<Outcome, Stop>
+    ensures effect { OfRoom (S.view shelf.old) (S.view shelf.new) (λ t room. Plans t room subject.now (C.ListNames path.now) result) }
     ensures none { IfOk result (λ outcome. outcome.changes.items ≡ []) }
-    ensures frame { ShelfRead (S.view shelf.old) (S.view shelf.new) (fault_in result) }
+    ensures frame { ShelfRead (S.view shelf.old) (S.view shelf.new) (stop_fault result) }
 {
-    let place = match reach_to_use(
+    let place = reach_to_use(
         alloc,
         shelf,
         subject,
         path,
         Some(Kind::Folder),
         LIST_DIRECTORY,
-    )? {
-        Reached::Refused(refusal) => return Ok(Outcome::refused(alloc, refusal)),
-        Reached::Object(place) => place,
-    };
+    )?;
     let names = names_in(alloc, shelf, &place)?;
     Ok(Outcome::reading(alloc, Reply::Names(names)))
 }
@@ -83,9 +79,7 @@ fn names_in<S: Shelf>(
     ensures frame { ShelfRead (S.view shelf.old) (S.view shelf.new) (fault_in result) }
 {
     let nodes = shelf.children(place.id)?;
-    let Ok(names) = listing(alloc, nodes) else {
-        return Err(ShelfFault::Memory);
-    };
+    let names = listing(alloc, nodes)?;
     Ok(names)
 }
 
@@ -108,15 +102,12 @@ pub(crate) fn plan_read<S: Shelf>(
     shelf: &mut S,
     subject: &Subject,
     path: &Path,
-) -> Result<Outcome, ShelfFault>
-    ensures effect { OfRoom (S.view shelf.old) (S.view shelf.new) (λ t room. IfOk result (PlansEffect t room subject.now (C.Read path.now))) }
+) -> Result<Outcome, Stop>
+    ensures effect { OfRoom (S.view shelf.old) (S.view shelf.new) (λ t room. Plans t room subject.now (C.Read path.now) result) }
     ensures none { IfOk result (λ outcome. outcome.changes.items ≡ []) }
-    ensures frame { ShelfRead (S.view shelf.old) (S.view shelf.new) (fault_in result) }
+    ensures frame { ShelfRead (S.view shelf.old) (S.view shelf.new) (stop_fault result) }
 {
-    let place = match reach_to_use(alloc, shelf, subject, path, Some(Kind::File), READ_DATA)? {
-        Reached::Refused(refusal) => return Ok(Outcome::refused(alloc, refusal)),
-        Reached::Object(place) => place,
-    };
+    let place = reach_to_use(alloc, shelf, subject, path, Some(Kind::File), READ_DATA)?;
     let bytes = bytes_of(shelf, &place)?;
     Ok(Outcome::reading(alloc, Reply::Bytes(bytes)))
 }
@@ -127,15 +118,12 @@ pub(crate) fn plan_getlist<S: Shelf>(
     shelf: &mut S,
     subject: &Subject,
     path: &Path,
-) -> Result<Outcome, ShelfFault>
-    ensures effect { OfRoom (S.view shelf.old) (S.view shelf.new) (λ t room. IfOk result (PlansEffect t room subject.now (C.GetList path.now))) }
+) -> Result<Outcome, Stop>
+    ensures effect { OfRoom (S.view shelf.old) (S.view shelf.new) (λ t room. Plans t room subject.now (C.GetList path.now) result) }
     ensures none { IfOk result (λ outcome. outcome.changes.items ≡ []) }
-    ensures frame { ShelfRead (S.view shelf.old) (S.view shelf.new) (fault_in result) }
+    ensures frame { ShelfRead (S.view shelf.old) (S.view shelf.new) (stop_fault result) }
 {
-    let place = match reach_to_use(alloc, shelf, subject, path, None, READ_ACL)? {
-        Reached::Refused(refusal) => return Ok(Outcome::refused(alloc, refusal)),
-        Reached::Object(place) => place,
-    };
+    let place = reach_to_use(alloc, shelf, subject, path, None, READ_ACL)?;
     Ok(Outcome::reading(
         alloc,
         Reply::Entries {
@@ -152,15 +140,12 @@ pub(crate) fn plan_access<S: Shelf>(
     subject: &Subject,
     mask: Mask,
     path: &Path,
-) -> Result<Outcome, ShelfFault>
-    ensures effect { OfRoom (S.view shelf.old) (S.view shelf.new) (λ t room. IfOk result (PlansEffect t room subject.now (C.Access mask path.now))) }
+) -> Result<Outcome, Stop>
+    ensures effect { OfRoom (S.view shelf.old) (S.view shelf.new) (λ t room. Plans t room subject.now (C.Access mask path.now) result) }
     ensures none { IfOk result (λ outcome. outcome.changes.items ≡ []) }
-    ensures frame { ShelfRead (S.view shelf.old) (S.view shelf.new) (fault_in result) }
+    ensures frame { ShelfRead (S.view shelf.old) (S.view shelf.new) (stop_fault result) }
 {
-    let place = match reach(alloc, shelf, subject, path)? {
-        Reached::Refused(refusal) => return Ok(Outcome::refused(alloc, refusal)),
-        Reached::Object(place) => place,
-    };
+    let place = reach(alloc, shelf, subject, path)?;
     let allowed = allowed_bits(&place.list, subject, &place.standing);
     Ok(Outcome::reading(alloc, Reply::Allowed(common_bits(mask, allowed))))
 }

@@ -1,22 +1,23 @@
 //! SETLIST.
-ghost use Rattle.std.specs.Prelude.{◌≡◌, [], ◌∷◌, IfOk, Err};
+ghost use Rattle.std.specs.Prelude.{◌≡◌, [], ◌∷◌, IfOk};
 ghost use Rattle.std.specs.List.{filter_map};
 ghost use Rattle.room_acl.specs.Inheritance.{own_entries_fault};
-ghost use Rattle.room_records.specs.Shelf.{ShelfRead, fault_in};
+ghost use Rattle.room_records.specs.Shelf.{ShelfRead};
 ghost use Rattle.room_commands.specs.Checks.{check_lawful};
 ghost use Rattle.room_commands.specs.CommandModel as C;
 ghost use Rattle.room_tree.specs.Places.{OfRoom, node_of, kept_entry};
-ghost use Rattle.room_tree.specs.Plans.{PlansEffect};
+ghost use Rattle.room_tree.specs.Plans.{Plans};
+ghost use Rattle.room_tree.specs.Stops.{refusal_in, stop_fault};
 ghost use Rattle.room_commands.specs.SetList.{follows_at};
 
 use crate::masks::WRITE_ACL;
 use crate::place::Place;
 use crate::planning::Outcome;
-use crate::reaching::{Reached, reach_to_use};
-use crate::refusal::Refusal;
+use crate::reaching::reach_to_use;
+use crate::refusal::{Refusal, Stop};
 use room_acl::{Entry, Kind, ListFault, ListFlags, Subject, check_own};
 use room_commands::{Fault, Reply};
-use room_records::{Change, Path, Shelf, ShelfFault};
+use room_records::{Change, Path, Shelf};
 use std::alloc::{AllocError, Global};
 
 /// Whether an object at this path follows its folder with these list flags. The root never does.
@@ -54,14 +55,14 @@ fn own_entries(alloc: Global, follows: bool, sent: &[Entry]) -> Result<Vec<Entry
 }
 
 /// Whether these may be own entries of an object of this kind.
-fn check_lawful(entries: &[Entry], kind: Kind) -> Option<Refusal>
-    ensures { result ≡ check_lawful (own_entries_fault entries.now kind) }
+fn check_lawful(entries: &[Entry], kind: Kind) -> Result<(), Refusal>
+    ensures { refusal_in result ≡ check_lawful (own_entries_fault entries.now kind) }
 {
     match check_own(entries, kind) {
-        Ok(()) => None,
+        Ok(()) => Ok(()),
         Err(fault) => match fault {
-            ListFault::Inval => Some(Refusal::of(Fault::Inval)),
-            ListFault::AttrNotSupp => Some(Refusal::of(Fault::AttrNotSupp)),
+            ListFault::Inval => Err(Refusal::of(Fault::Inval)),
+            ListFault::AttrNotSupp => Err(Refusal::of(Fault::AttrNotSupp)),
         },
     }
 }
@@ -92,23 +93,14 @@ pub(crate) fn plan_setlist<S: Shelf>(
     aclflag: ListFlags,
     entries: &[Entry],
     path: &Path,
-) -> Result<Outcome, ShelfFault>
-    ensures effect { OfRoom (S.view shelf.old) (S.view shelf.new) (λ t room. IfOk result (PlansEffect t room subject.now (C.SetList aclflag entries.now path.now))) }
-    ensures frame { ShelfRead (S.view shelf.old) (S.view shelf.new) (fault_in result) }
+) -> Result<Outcome, Stop>
+    ensures effect { OfRoom (S.view shelf.old) (S.view shelf.new) (λ t room. Plans t room subject.now (C.SetList aclflag entries.now path.now) result) }
+    ensures frame { ShelfRead (S.view shelf.old) (S.view shelf.new) (stop_fault result) }
 {
-    let place = match reach_to_use(alloc, shelf, subject, path, None, WRITE_ACL)? {
-        Reached::Refused(refusal) => return Ok(Outcome::refused(alloc, refusal)),
-        Reached::Object(place) => place,
-    };
-    let Ok(own) = own_entries(alloc, follows_at(path, aclflag), entries) else {
-        return Err(ShelfFault::Memory);
-    };
-    if let Some(unlawful) = check_lawful(own.as_slice(), place.kind) {
-        return Ok(Outcome::refused(alloc, unlawful));
-    }
-    let Ok(changes) = with_list(alloc, place, aclflag, own) else {
-        return Err(ShelfFault::Memory);
-    };
+    let place = reach_to_use(alloc, shelf, subject, path, None, WRITE_ACL)?;
+    let own = own_entries(alloc, follows_at(path, aclflag), entries)?;
+    check_lawful(own.as_slice(), place.kind)?;
+    let changes = with_list(alloc, place, aclflag, own)?;
     Ok(Outcome {
         changes,
         reply: Reply::Done,

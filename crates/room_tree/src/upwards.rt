@@ -48,9 +48,7 @@ fn list_within<S: Shelf>(
         return Ok(own);
     };
     let given = list_within(alloc, shelf, &above, levels - 1)?;
-    let Ok(list) = with_inherited(alloc, own, node.aclflag, node.kind, given.as_slice()) else {
-        return Err(ShelfFault::Memory);
-    };
+    let list = with_inherited(alloc, own, node.aclflag, node.kind, given.as_slice())?;
     Ok(list)
 }
 

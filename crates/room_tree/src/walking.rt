@@ -4,10 +4,12 @@ ghost use Rattle.room_acl.specs.Inheritance.{handed_down};
 ghost use Rattle.room_records.specs.Names.{Path as PathModel};
 ghost use Rattle.room_records.specs.Room.{follows, object_at};
 ghost use Rattle.room_records.specs.Shelf.{ShelfRead, fault_in};
+ghost use Rattle.room_commands.specs.Checks.{walk};
 ghost use Rattle.room_tree.specs.Places.{OfRoom, IsPlace, IsWalk, node_of};
+ghost use Rattle.room_tree.specs.Stops.{Passes, stop_fault};
 
 use crate::place::Place;
-use crate::refusal::Refusal;
+use crate::refusal::Stop;
 use room_acl::{Entry, Kind, Mask, Subject, with_inherited};
 use room_commands::Fault;
 use room_records::{FileName, Node, Path, Shelf, ShelfFault};
@@ -16,8 +18,6 @@ use std::alloc::{AllocError, Global};
 /// Where the walk of a path ends.
 #[derive(Debug, Drop)]
 pub(crate) enum Walk {
-    /// A folder on the way is not there, is none, or does not let the caller through.
-    Refused(Refusal),
     /// Nothing is there: the folder where it would stand.
     Absent(Place),
     /// The object, and but for the root its folder.
@@ -36,9 +36,7 @@ fn place_under<S: Shelf>(
     ensures frame { ShelfRead (S.view shelf.old) (S.view shelf.new) (fault_in result) }
 {
     let own = shelf.entries(node.id)?;
-    let Ok(list) = with_inherited(alloc, own, node.aclflag, node.kind, above) else {
-        return Err(ShelfFault::Memory);
-    };
+    let list = with_inherited(alloc, own, node.aclflag, node.kind, above)?;
     Ok(Place::of(node, list))
 }
 
@@ -73,32 +71,29 @@ fn child_place<S: Shelf>(
     Ok(Some(place))
 }
 
-/// Walks a path from the root down, with EXECUTE on each folder on the way. It carries the list of the folder with it,
-/// so each row is read once.
+/// Walks a path from the root down, with EXECUTE on each folder on the way. It is refused where a folder on the way is
+/// not there, is none, or does not let the caller through. It carries the list of the folder with it, so each row is
+/// read once.
 pub(crate) fn walk_path<S: Shelf>(
     alloc: Global,
     shelf: &mut S,
     subject: &Subject,
     path: &Path,
-) -> Result<Walk, ShelfFault>
-    ensures value { OfRoom (S.view shelf.old) (S.view shelf.new) (λ t room. IfOk result (IsWalk t room subject.now path.now)) }
-    ensures frame { ShelfRead (S.view shelf.old) (S.view shelf.new) (fault_in result) }
+) -> Result<Walk, Stop>
+    ensures value { OfRoom (S.view shelf.old) (S.view shelf.new) (λ t room.
+        Passes (walk room subject.now path.now) (IsWalk t room path.now) result) }
+    ensures frame { ShelfRead (S.view shelf.old) (S.view shelf.new) (stop_fault result) }
 {
     let Some(mut here) = root_place(shelf)? else {
-        return Ok(Walk::Refused(Refusal::of(Fault::NoEnt)));
+        return Err(Stop::of(Fault::NoEnt));
     };
     let names = path.names();
     let mut above: Option<Place> = None;
     for index in 0..names.len() {
-        let Ok(checked) = here.check_way(alloc, subject, path, index) else {
-            return Err(ShelfFault::Memory);
-        };
-        if let Some(refusal) = checked {
-            return Ok(Walk::Refused(refusal));
-        }
+        here.check_way(alloc, subject, path, index)?;
         let Some(next) = child_place(alloc, shelf, &here, &names[index])? else {
             if index + 1 < names.len() {
-                return Ok(Walk::Refused(Refusal::of(Fault::NoEnt)));
+                return Err(Stop::of(Fault::NoEnt));
             }
             return Ok(Walk::Absent(here));
         };

@@ -1,59 +1,48 @@
-use Rattle.std.proofs.Common.{◌≡◌, ◌-◌, ap, sym, ◌∙◌, subst, [], ◌∷◌, take, length, Some}
+use Rattle.std.proofs.Common.{◌≡◌, ◌-◌, ap, ◌∙◌, subst, [], ◌∷◌, take, length}
 use Rattle.room_records.specs.Names.{Path}
 use Rattle.room_records.specs.Room.{parent_of}
 use Rattle.room_commands.specs.declared.reply.Fault.TheVariants.{Exist}
 use Rattle.room_commands.specs.Checks.{refuse_if, is_root, walk, check_absent, check_right}
-use Rattle.room_tree.proofs.Checking.{skip, stop, off_root, is_absent, not_absent, first_alone}
+use Rattle.room_tree.proofs.Checking.{skip, stop, off_root, none_passes, first_alone}
+use Rattle.room_tree.proofs.Stops.{handed_on, refused_as, past_head, in_front, past_front, at_head}
 use Rattle.room_tree.proofs.making.folder_for_new.Goals as goal
 
-pub returns-in-Refused-clause-value : goal.returns-in-Refused-clause-value
-returns-in-Refused-clause-value g c = λ available laid_out t e room stand.
+pub returns-in_err-above-clause-value : goal.returns-in_err-above-clause-value
+returns-in_err-above-clause-value g c = λ available laid_out t e room stand.
     let path = c.args.path.now in
     let caller = c.args.subject.now in
+    let right = check_right room caller (parent_of path) c.args.wanted in
     let Long : Path → Type 0 = λ p. length p ≡ 0 → ⊥ in
     let off = off_root path (subst Long c.names-count.ensures.value c.if-count-eq0.false) in
-    let ended = rw c.in-Refused.is at (c.in_ok-refusal.ensures.value available laid_out t e room stand) in
-    skip (refuse_if (is_root path) Exist) (walk room caller path ∷ check_absent room path ∷ check_right room caller (parent_of path) c.args.wanted ∷ []) (ap (λ b. refuse_if b Exist) off)
-    ∙ stop (walk room caller path) (check_absent room path ∷ check_right room caller (parent_of path) c.args.wanted ∷ []) c.in-Refused.refusal ended
+    handed_on _ _ _ c.from_residual.result c.from_residual.ensures.1
+    (past_head (refuse_if (is_root path) Exist) (walk room caller path ∷ check_absent room path ∷ right ∷ []) _ (ap (λ b. refuse_if b Exist) off)
+    (in_front (walk room caller path ∷ check_absent room path ∷ []) (right ∷ []) _ (c.in_err-above.ensures.value available laid_out t e room stand)))
 
-pub returns-in-Found-clause-value : goal.returns-in-Found-clause-value
-returns-in-Found-clause-value g c = λ available laid_out t e room stand.
+pub returns-in_err-check_right-clause-value : goal.returns-in_err-check_right-clause-value
+returns-in_err-check_right-clause-value g c = λ available laid_out t e room stand.
     let path = c.args.path.now in
     let caller = c.args.subject.now in
+    let right = check_right room caller (parent_of path) c.args.wanted in
     let Long : Path → Type 0 = λ p. length p ≡ 0 → ⊥ in
     let off = off_root path (subst Long c.names-count.ensures.value c.if-count-eq0.false) in
-    let ended = rw c.in-Found.is at (c.in_ok-refusal.ensures.value available laid_out t e room stand) in
-    skip (refuse_if (is_root path) Exist) (walk room caller path ∷ check_absent room path ∷ check_right room caller (parent_of path) c.args.wanted ∷ []) (ap (λ b. refuse_if b Exist) off)
-    ∙ skip (walk room caller path) (check_absent room path ∷ check_right room caller (parent_of path) c.args.wanted ∷ []) ended.0
-    ∙ stop (check_absent room path) (check_right room caller (parent_of path) c.args.wanted ∷ []) _ (not_absent t room path c.in-Found.field-0 ended.1)
-    ∙ ap Some (sym c.of-in-Found.ensures)
-
-pub returns-in-Some-clause-value : goal.returns-in-Some-clause-value
-returns-in-Some-clause-value g c = λ available laid_out t e room stand.
-    let path = c.args.path.now in
-    let caller = c.args.subject.now in
-    let Long : Path → Type 0 = λ p. length p ≡ 0 → ⊥ in
-    let off = off_root path (subst Long c.names-count.ensures.value c.if-count-eq0.false) in
-    let ended = rw c.in-Absent.is at (c.in_ok-refusal.ensures.value available laid_out t e room stand) in
+    let above = c.in_ok-above.ensures.value available laid_out t e room stand in
     let count : take (length c.names-count.result.now - 1) path ≡ parent_of path = ap (λ (p : Path). take (length p - 1) path) c.names-count.ensures.value in
-    skip (refuse_if (is_root path) Exist) (walk room caller path ∷ check_absent room path ∷ check_right room caller (parent_of path) c.args.wanted ∷ []) (ap (λ b. refuse_if b Exist) off)
-    ∙ skip (walk room caller path) (check_absent room path ∷ check_right room caller (parent_of path) c.args.wanted ∷ []) ended.0
-    ∙ skip (check_absent room path) (check_right room caller (parent_of path) c.args.wanted ∷ []) (is_absent room path ended.1)
-    ∙ first_alone (check_right room caller (parent_of path) c.args.wanted)
-    ∙ sym (c.in-Ok.ensures t room (parent_of path) count ended.2) ∙ c.in-Some.is
+    handed_on _ _ _ c.from_residual-in_err-check_right.result c.from_residual-in_err-check_right.ensures.1
+    (past_head (refuse_if (is_root path) Exist) (walk room caller path ∷ check_absent room path ∷ right ∷ []) _ (ap (λ b. refuse_if b Exist) off)
+    (past_front (walk room caller path ∷ check_absent room path ∷ []) (right ∷ []) _ above.0
+    (at_head right [] _ (c.in_err-check_right.ensures.value t room (parent_of path) count above.1))))
 
-pub returns-in-None-clause-value : goal.returns-in-None-clause-value
-returns-in-None-clause-value g c = λ available laid_out t e room stand.
+pub returns-clause-value : goal.returns-clause-value
+returns-clause-value g c = λ available laid_out t e room stand.
     let path = c.args.path.now in
     let caller = c.args.subject.now in
+    let right = check_right room caller (parent_of path) c.args.wanted in
     let Long : Path → Type 0 = λ p. length p ≡ 0 → ⊥ in
     let off = off_root path (subst Long c.names-count.ensures.value c.if-count-eq0.false) in
-    let ended = rw c.in-Absent.is at (c.in_ok-refusal.ensures.value available laid_out t e room stand) in
+    let above = c.in_ok-above.ensures.value available laid_out t e room stand in
     let count : take (length c.names-count.result.now - 1) path ≡ parent_of path = ap (λ (p : Path). take (length p - 1) path) c.names-count.ensures.value in (
-      skip (refuse_if (is_root path) Exist) (walk room caller path ∷ check_absent room path ∷ check_right room caller (parent_of path) c.args.wanted ∷ []) (ap (λ b. refuse_if b Exist) off)
-          ∙ skip (walk room caller path) (check_absent room path ∷ check_right room caller (parent_of path) c.args.wanted ∷ []) ended.0
-          ∙ skip (check_absent room path) (check_right room caller (parent_of path) c.args.wanted ∷ []) (is_absent room path ended.1)
-          ∙ first_alone (check_right room caller (parent_of path) c.args.wanted)
-          ∙ sym (c.in-Ok.ensures t room (parent_of path) count ended.2) ∙ c.in-None.is,
-      ended.2,
+      skip (refuse_if (is_root path) Exist) (walk room caller path ∷ check_absent room path ∷ right ∷ []) (ap (λ b. refuse_if b Exist) off)
+          ∙ none_passes (walk room caller path ∷ check_absent room path ∷ []) (right ∷ []) above.0 ∙ first_alone right
+          ∙ (c.in_ok-check_right.ensures.value t room (parent_of path) count above.1).0,
+      above.1,
     )

@@ -6,26 +6,29 @@ use Rattle.room_commands.specs.declared.reply.Fault.TheVariants.{FolderFull, Roo
 use Rattle.room_commands.specs.Checks.{refuse_if, check_folder_full, check_room_full}
 use Rattle.room_tree.proofs.Checking.{skip, stop, first_alone}
 use Rattle.room_tree.proofs.Made.{before_next}
+use Rattle.room_tree.proofs.Stops.{handed_on}
 use Rattle.room_tree.proofs.making.number_for_new.Goals as goal
 
-pub returns-in-Some-clause-value : goal.returns-in-Some-clause-value
-returns-in-Some-clause-value g c = λ available laid_out t e room stand folder found.
+pub returns-in_err-check_children-clause-value : goal.returns-in_err-check_children-clause-value
+returns-in_err-check_children-clause-value g c = λ available laid_out t e room stand folder found.
     let count = c.in_ok-count.ensures.value available laid_out t e room stand folder found in
-    stop (check_folder_full room folder) (check_room_full room ∷ []) c.in-Some.refusal
-    (ap (λ n. refuse_if (nat_le max_children n) FolderFull) (sym count) ∙ sym c.check_children.ensures ∙ c.in-Some.is)
+    handed_on _ _ _ c.from_residual-in_err-check_children.result c.from_residual-in_err-check_children.ensures.1
+    (stop (check_folder_full room folder) (check_room_full room ∷ []) _
+    (ap (λ n. refuse_if (nat_le max_children n) FolderFull) (sym count) ∙ sym c.in_err-check_children.ensures))
 
-pub returns-in-Some-check_number-clause-value : goal.returns-in-Some-check_number-clause-value
-returns-in-Some-check_number-clause-value g c = λ available laid_out t e room stand folder found.
+pub returns-in_err-check_number-clause-value : goal.returns-in_err-check_number-clause-value
+returns-in_err-check_number-clause-value g c = λ available laid_out t e room stand folder found.
     let before = c.next_id.ensures.frame.call.was_available available in
     let declared = c.count_children.ensures.frame.call.laid_out before laid_out in
     let same = ap (λ (r : Records). r.objects) (c.count_children.ensures.frame.same before laid_out) ∙ e in
     let count = c.in_ok-count.ensures.value before laid_out t e room stand folder found in
     let next = c.in_ok-next.ensures.value available declared ∙ ap (λ (r : ObjectRecords). r.next) same in
-    skip (check_folder_full room folder) (check_room_full room ∷ [])
-    (ap (λ n. refuse_if (nat_le max_children n) FolderFull) (sym count) ∙ sym c.check_children.ensures ∙ c.in_default.is)
+    handed_on _ _ _ c.from_residual-in_err-check_number.result c.from_residual-in_err-check_number.ensures.1
+    (skip (check_folder_full room folder) (check_room_full room ∷ [])
+    (ap (λ n. refuse_if (nat_le max_children n) FolderFull) (sym count) ∙ sym c.in_ok-check_children.ensures)
     ∙ first_alone (check_room_full room)
     ∙ ap (λ b. refuse_if b RoomFull) (sym (before_next max_objects room.made)) ∙ ap (λ n. refuse_if (nat_lt max_objects n) RoomFull) (sym (next ∙ stand.next))
-    ∙ sym c.check_number.ensures ∙ c.in-Some-check_number.is
+    ∙ sym c.in_err-check_number.ensures)
 
 pub returns-clause-value : goal.returns-clause-value
 returns-clause-value g c = λ available laid_out t e room stand folder found.
@@ -35,9 +38,9 @@ returns-clause-value g c = λ available laid_out t e room stand folder found.
     let count = c.in_ok-count.ensures.value before laid_out t e room stand folder found in
     let next = c.in_ok-next.ensures.value available declared ∙ ap (λ (r : ObjectRecords). r.next) same in (
       skip (check_folder_full room folder) (check_room_full room ∷ [])
-          (ap (λ n. refuse_if (nat_le max_children n) FolderFull) (sym count) ∙ sym c.check_children.ensures ∙ c.in_default.is)
+          (ap (λ n. refuse_if (nat_le max_children n) FolderFull) (sym count) ∙ sym c.in_ok-check_children.ensures)
           ∙ first_alone (check_room_full room)
           ∙ ap (λ b. refuse_if b RoomFull) (sym (before_next max_objects room.made)) ∙ ap (λ n. refuse_if (nat_lt max_objects n) RoomFull) (sym (next ∙ stand.next))
-          ∙ sym c.check_number.ensures ∙ c.in_default-check_number.is,
+          ∙ sym c.in_ok-check_number.ensures,
       next,
     )

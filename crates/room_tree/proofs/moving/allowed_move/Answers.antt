@@ -2,43 +2,50 @@ use Rattle.std.proofs.Common.{sym, ◌∙◌, ◌++◌, ◌||◌}
 use Rattle.room_commands.specs.declared.reply.Fault.TheVariants.{Inval}
 use Rattle.room_commands.specs.Checks.{refuse_if, is_root, is_at_or_below}
 use Rattle.room_tree.specs.Renames.{end_checks, move_rights}
-use Rattle.room_tree.proofs.Checking.{skip, some_stays, none_passes}
+use Rattle.room_tree.proofs.Checking.{skip, stop, none_passes}
 use Rattle.room_tree.proofs.Renamed.{paths_pass}
+use Rattle.room_tree.proofs.Stops.{handed_on, past_head, in_front, past_front}
 use Rattle.room_tree.proofs.moving.allowed_move.Goals as goal
 
-pub returns-in-Err-clause-value : goal.returns-in-Err-clause-value
-returns-in-Err-clause-value g c = λ available laid_out t e room stand.
+pub returns-in_err-check_paths-clause-value : goal.returns-in_err-check_paths-clause-value
+returns-in_err-check_paths-clause-value g c = λ available laid_out t e room stand.
     let path = c.args.path.now in
     let caller = c.args.subject.now in
     let to = c.args.to.now in
-    let passed = sym c.check_paths.ensures.value ∙ c.in_default.is in
-    let off = (paths_pass path to passed).below_root in
-    let ended = rw c.in-Err.is at (c.in_ok-missing.ensures.value available laid_out t e room stand off) in
-    skip (refuse_if (is_root path || is_root to || is_at_or_below to path) Inval) (end_checks room caller path to ++ move_rights room caller path to) passed
-    ∙ some_stays (end_checks room caller path to) (move_rights room caller path to) c.in-Err.missing ended
+    handed_on _ _ _ c.from_residual.result c.from_residual.ensures.1
+    (stop (refuse_if (is_root path || is_root to || is_at_or_below to path) Inval) (end_checks room caller path to ++ move_rights room caller path to) _
+    (sym c.in_err-check_paths.ensures.value))
 
-pub returns-in-Some-checked-clause-value : goal.returns-in-Some-checked-clause-value
-returns-in-Some-checked-clause-value g c = λ available laid_out t e room stand.
+pub returns-in_err-ends-clause-value : goal.returns-in_err-ends-clause-value
+returns-in_err-ends-clause-value g c = λ available laid_out t e room stand.
     let path = c.args.path.now in
     let caller = c.args.subject.now in
     let to = c.args.to.now in
-    let passed = sym c.check_paths.ensures.value ∙ c.in_default.is in
-    let off = (paths_pass path to passed).below_root in
-    let ended = rw c.in-Ok.is at (c.in_ok-missing.ensures.value available laid_out t e room stand off) in
-    let rights = c.in-Ok-check_rights.ensures t room ended.1 in
-    skip (refuse_if (is_root path || is_root to || is_at_or_below to path) Inval) (end_checks room caller path to ++ move_rights room caller path to) passed
-    ∙ none_passes (end_checks room caller path to) (move_rights room caller path to) ended.0 ∙ sym rights ∙ c.in-Some-checked.is
+    let passed = sym c.in_ok-check_paths.ensures.value in
+    handed_on _ _ _ c.from_residual-in_err-ends.result c.from_residual-in_err-ends.ensures.1
+    (past_head (refuse_if (is_root path || is_root to || is_at_or_below to path) Inval) (end_checks room caller path to ++ move_rights room caller path to) _ passed
+    (in_front (end_checks room caller path to) (move_rights room caller path to) _
+    (c.in_err-ends.ensures.value available laid_out t e room stand (paths_pass path to passed).below_root)))
 
-pub returns-in-None-clause-value : goal.returns-in-None-clause-value
-returns-in-None-clause-value g c = λ available laid_out t e room stand.
+pub returns-in_err-check_rights-clause-value : goal.returns-in_err-check_rights-clause-value
+returns-in_err-check_rights-clause-value g c = λ available laid_out t e room stand.
     let path = c.args.path.now in
     let caller = c.args.subject.now in
     let to = c.args.to.now in
-    let passed = sym c.check_paths.ensures.value ∙ c.in_default.is in
-    let off = (paths_pass path to passed).below_root in
-    let ended = rw c.in-Ok.is at (c.in_ok-missing.ensures.value available laid_out t e room stand off) in
-    let rights = c.in-Ok-check_rights.ensures t room ended.1 in (
+    let passed = sym c.in_ok-check_paths.ensures.value in
+    let ended = c.in_ok-ends.ensures.value available laid_out t e room stand (paths_pass path to passed).below_root in
+    handed_on _ _ _ c.from_residual-in_err-check_rights.result c.from_residual-in_err-check_rights.ensures.1
+    (past_head (refuse_if (is_root path || is_root to || is_at_or_below to path) Inval) (end_checks room caller path to ++ move_rights room caller path to) _ passed
+    (past_front (end_checks room caller path to) (move_rights room caller path to) _ ended.0 (c.in_err-check_rights.ensures.value t room ended.1)))
+
+pub returns-clause-value : goal.returns-clause-value
+returns-clause-value g c = λ available laid_out t e room stand.
+    let path = c.args.path.now in
+    let caller = c.args.subject.now in
+    let to = c.args.to.now in
+    let passed = sym c.in_ok-check_paths.ensures.value in
+    let ended = c.in_ok-ends.ensures.value available laid_out t e room stand (paths_pass path to passed).below_root in (
       skip (refuse_if (is_root path || is_root to || is_at_or_below to path) Inval) (end_checks room caller path to ++ move_rights room caller path to) passed
-          ∙ none_passes (end_checks room caller path to) (move_rights room caller path to) ended.0 ∙ sym rights ∙ c.in-None.is,
+          ∙ none_passes (end_checks room caller path to) (move_rights room caller path to) ended.0 ∙ (c.in_ok-check_rights.ensures.value t room ended.1).0,
       ended.1,
     )

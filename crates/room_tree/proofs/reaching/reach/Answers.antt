@@ -1,20 +1,20 @@
-use Rattle.std.proofs.Common.{sym, ap, ◌∙◌, Option, Some, [], ◌∷◌}
-use Rattle.room_commands.specs.Checks.{first_refusal, check_exists, walk}
-use Rattle.room_tree.proofs.Checking.{some_stays, passes_to, missing}
+use Rattle.std.proofs.Common.{[], ◌∷◌}
+use Rattle.room_commands.specs.Checks.{check_exists, walk}
+use Rattle.room_tree.proofs.Checking.{passes_to, missing}
+use Rattle.room_tree.proofs.Stops.{handed_on, refused_as, at_head}
 use Rattle.room_tree.proofs.reaching.reach.Goals as goal
 
-pub returns-in-Refused-clause-value : goal.returns-in-Refused-clause-value
-returns-in-Refused-clause-value g c = λ available laid_out t e room stand.
-    let ended = rw c.in-Refused.is at (c.in_ok-refusal.ensures.value available laid_out t e room stand) in
-    some_stays (walk room c.args.subject.now c.args.path.now ∷ []) (check_exists room c.args.path.now ∷ []) c.in-Refused.refusal
-    (ap (λ (o : Option _). first_refusal (o ∷ [])) ended)
+pub returns-in_err-walk_path-clause-value : goal.returns-in_err-walk_path-clause-value
+returns-in_err-walk_path-clause-value g c = λ available laid_out t e room stand.
+    handed_on _ _ _ c.from_residual.result c.from_residual.ensures.1
+    (at_head (walk room c.args.subject.now c.args.path.now) (check_exists room c.args.path.now ∷ []) _ (c.in_err-walk_path.ensures.value available laid_out t e room stand))
 
 pub returns-in-Absent-clause-value : goal.returns-in-Absent-clause-value
 returns-in-Absent-clause-value g c = λ available laid_out t e room stand.
-    let ended = rw c.in-Absent.is at (c.in_ok-refusal.ensures.value available laid_out t e room stand) in
-    missing room c.args.path.now (walk room c.args.subject.now c.args.path.now) ended.0 ended.1 ∙ ap Some (sym c.of.ensures)
+    let ended = rw c.in-Absent.is at (c.in_ok-walk_path.ensures.value available laid_out t e room stand) in
+    refused_as c.of.result _ c.of.ensures (missing room c.args.path.now (walk room c.args.subject.now c.args.path.now) ended.0 ended.1.0)
 
 pub returns-clause-value : goal.returns-clause-value
 returns-clause-value g c = λ available laid_out t e room stand.
-    let ended = rw c.in-Found.is at (c.in_ok-refusal.ensures.value available laid_out t e room stand) in
-    (passes_to t room c.args.path.now c.in-Found.place ended.1 (walk room c.args.subject.now c.args.path.now) ended.0, ended.1)
+    let ended = rw c.in-Found.is at (c.in_ok-walk_path.ensures.value available laid_out t e room stand) in
+    (passes_to t room c.args.path.now c.in-Found.place ended.1.0 (walk room c.args.subject.now c.args.path.now) ended.0, ended.1.0)

@@ -1,19 +1,19 @@
 use Rattle.std.proofs.Common.{refl, ap, ◌∙◌}
 use Rattle.room_records.specs.Records.{Records}
 use Rattle.room_commands.specs.CommandModel as C
-use Rattle.room_tree.proofs.Outcomes.{refusal_plans, reading_plans}
+use Rattle.room_tree.proofs.Outcomes.{reading_plans}
 use Rattle.room_commands.specs.ReplyModel.{Names}
+use Rattle.room_tree.proofs.Stops.{handed_on}
 use Rattle.room_tree.proofs.reading.plan_list.Goals as goal
 
-pub returns-in-Refused-clause-effect : goal.returns-in-Refused-clause-effect
-returns-in-Refused-clause-effect g c = λ available laid_out t e room stand.
-    let reached = rw c.in-Refused.is at (c.in_ok-refusal.ensures.value available laid_out t e room stand) in
-    refusal_plans t room c.args.subject.now (C.ListNames c.args.path.now) c.refused.result stand c.in-Refused.refusal reached c.refused.ensures.reply c.refused.ensures.none
+pub returns-in_err-place-clause-effect : goal.returns-in_err-place-clause-effect
+returns-in_err-place-clause-effect g c = λ available laid_out t e room stand.
+    handed_on _ _ _ c.from_residual.result c.from_residual.ensures.1 (c.in_err-place.ensures.value available laid_out t e room stand)
 
 pub returns-clause-effect : goal.returns-clause-effect
 returns-clause-effect g c = λ available laid_out t e room stand.
     let before = c.names_in.ensures.frame.call.was_available available in
-    let reached = rw c.in-Object.is at (c.in_ok-refusal.ensures.value before laid_out t e room stand) in
+    let reached = c.in_ok-place.ensures.value before laid_out t e room stand in
     let declared = c.reach_to_use.ensures.frame.call.laid_out before laid_out in
     let same = ap (λ (r : Records). r.objects) (c.reach_to_use.ensures.frame.same before laid_out) ∙ e in
     let names = c.in_ok-names.ensures.value available declared t same room stand c.args.path.now reached.1 in

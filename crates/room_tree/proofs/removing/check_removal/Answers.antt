@@ -1,19 +1,44 @@
-use Rattle.std.proofs.Common.{◌≡◌, ℕ, ◌-◌, ap, ◌∙◌, subst, arith, take, length, Option, IfOk}
+use Rattle.std.proofs.Common.{◌≡◌, refl, ap, sym, ◌∙◌, arith, take, length, Option, None, Some, true, false}
+use Rattle.std.specs.Prelude.{not, is_some}
 use Rattle.std.proofs.lemmas.List.{take_all}
 use Rattle.room_records.specs.Names.{Path}
 use Rattle.room_records.specs.Room.{parent_of}
 use Rattle.room_commands.specs.ReplyModel.{Refusal}
+use Rattle.room_commands.specs.declared.reply.Fault.TheVariants.{Access}
 use Rattle.room_commands.specs.Checks.{removal_refusal, check_right}
 use Rattle.room_tree.proofs.removing.check_removal.Goals as goal
 
-pub returns : goal.returns
-returns c = λ t room here folder.
+-- one of the rights is enough
+by_own : (path : Path) (own by_folder : Option Refusal) → true ≡ not (is_some own) → removal_refusal path own by_folder ≡ None
+by_own path None by_folder allowed = refl
+by_own path (Some r) by_folder allowed = cc
+
+by_above : (path : Path) (own by_folder : Option Refusal) → true ≡ not (is_some by_folder) → removal_refusal path own by_folder ≡ None
+by_above path None by_folder allowed = refl
+by_above path (Some r) None allowed = refl
+by_above path (Some r) (Some s) allowed = cc
+
+-- and where both are refused it is the object and DELETE
+by_none : (path : Path) (own by_folder : Option Refusal) → false ≡ not (is_some own) → false ≡ not (is_some by_folder)
+    → removal_refusal path own by_folder ≡ Some (record { code = Access; place = Some (path, 0x10000) })
+by_none path None by_folder own_off above_off = cc
+by_none path (Some r) None own_off above_off = cc
+by_none path (Some r) (Some s) own_off above_off = refl
+
+pub returns-then-allows-clause-value : goal.returns-then-allows-clause-value
+returns-then-allows-clause-value c = λ t room here folder.
     let path = c.args.path.now in
-    let caller = c.args.subject.now in
-    let whole : take (length c.names-count.result.now) path ≡ path = ap (λ (p : Path). take (length p) path) c.names-count.ensures.value ∙ take_all (length path) path (omega arith) in
-    let own = c.in_ok-own.ensures t room path whole here in
-    let front : take c.saturating_sub.result path ≡ parent_of path =
-    ap (λ (n : ℕ). take n path) c.saturating_sub.ensures ∙ ap (λ (p : Path). take (length p - 1) path) c.names-count.ensures.value in
-    let above = c.in_ok-by_folder.ensures t room (parent_of path) front folder in
-    let Is : Option Refusal → Type 0 = λ o. IfOk c.removal_refusal.result (λ checked. checked ≡ o) in
-    subst Is (ap (λ (o : Option Refusal). removal_refusal path o c.in_ok-by_folder.by_folder) own ∙ ap (removal_refusal path (check_right room caller path 0x10000)) above) c.removal_refusal.ensures
+    (by_own path (check_right room c.args.subject.now path 0x10000) (check_right room c.args.subject.now (parent_of path) 0x40) (sym c.if-allows.true ∙ c.allows.ensures t room path here), tt)
+
+pub returns-then-allows-2-clause-value : goal.returns-then-allows-2-clause-value
+returns-then-allows-2-clause-value c = λ t room here folder.
+    let path = c.args.path.now in
+    (by_above path (check_right room c.args.subject.now path 0x10000) (check_right room c.args.subject.now (parent_of path) 0x40) (sym c.if-allows-2.true ∙ c.allows-2.ensures t room (parent_of path) folder), tt)
+
+pub returns-clause-value : goal.returns-clause-value
+returns-clause-value c = λ t room here folder.
+    let path = c.args.path.now in
+    let whole : take (length c.names.result.now) path ≡ path = ap (λ (p : Path). take (length p) path) c.names.ensures.value ∙ take_all (length path) path (omega arith) in
+    by_none path (check_right room c.args.subject.now path 0x10000) (check_right room c.args.subject.now (parent_of path) 0x40)
+    (sym c.if-allows.false ∙ c.allows.ensures t room path here) (sym c.if-allows-2.false ∙ c.allows-2.ensures t room (parent_of path) folder)
+    ∙ ap (λ (p : Path). Some (record { code = Access; place = Some (p, 0x10000) })) (sym (c.in_ok-at.ensures ∙ whole))

@@ -1,69 +1,42 @@
-use Rattle.std.proofs.Common.{◌≡◌, ap, sym, ◌∙◌, subst, [], ◌∷◌, length, Some}
+use Rattle.std.proofs.Common.{◌≡◌, ap, ◌∙◌, subst, [], ◌∷◌, length}
 use Rattle.room_records.specs.Names.{Path}
 use Rattle.room_commands.specs.declared.reply.Fault.TheVariants.{Inval}
 use Rattle.room_commands.specs.Checks.{refuse_if, is_root, walk, check_exists, check_removal}
-use Rattle.room_tree.proofs.Checking.{skip, stop, off_root, passes_to, missing, some_stays, none_passes, first_alone}
+use Rattle.room_tree.proofs.Checking.{skip, off_root, none_passes, first_alone}
+use Rattle.room_tree.proofs.Stops.{handed_on, at_head, past_head, in_front, past_front}
 use Rattle.room_tree.proofs.removing.removable.Goals as goal
 
-pub returns-in-Refused-clause-value : goal.returns-in-Refused-clause-value
-returns-in-Refused-clause-value g c = λ available laid_out t e room stand.
+pub returns-in_err-found-clause-value : goal.returns-in_err-found-clause-value
+returns-in_err-found-clause-value g c = λ available laid_out t e room stand.
     let path = c.args.path.now in
     let caller = c.args.subject.now in
     let Long : Path → Type 0 = λ p. length p ≡ 0 → ⊥ in
-    let long = subst Long c.names.ensures.value c.if-names-eq0.false in
-    let off = off_root path long in
-    let ended = rw c.in-Refused.is at (c.in_ok-refusal.ensures.value available laid_out t e room stand) in
-    skip (refuse_if (is_root path) Inval) (walk room caller path ∷ check_exists room path ∷ check_removal room caller path ∷ []) (ap (λ b. refuse_if b Inval) off)
-    ∙ stop (walk room caller path) (check_exists room path ∷ check_removal room caller path ∷ []) c.in-Refused.refusal ended
+    let off = off_root path (subst Long c.names.ensures.value c.if-names-eq0.false) in
+    handed_on _ _ _ c.from_residual.result c.from_residual.ensures.1
+    (past_head (refuse_if (is_root path) Inval) (walk room caller path ∷ check_exists room path ∷ check_removal room caller path ∷ []) _ (ap (λ b. refuse_if b Inval) off)
+    (in_front (walk room caller path ∷ check_exists room path ∷ []) (check_removal room caller path ∷ []) _ (c.in_err-found.ensures.value available laid_out t e room stand off)))
 
-pub returns-in-Absent-clause-value : goal.returns-in-Absent-clause-value
-returns-in-Absent-clause-value g c = λ available laid_out t e room stand.
+pub returns-in_err-check_removal-clause-value : goal.returns-in_err-check_removal-clause-value
+returns-in_err-check_removal-clause-value g c = λ available laid_out t e room stand.
     let path = c.args.path.now in
     let caller = c.args.subject.now in
     let Long : Path → Type 0 = λ p. length p ≡ 0 → ⊥ in
-    let long = subst Long c.names.ensures.value c.if-names-eq0.false in
-    let off = off_root path long in
-    let ended = rw c.in-Absent.is at (c.in_ok-refusal.ensures.value available laid_out t e room stand) in
-    skip (refuse_if (is_root path) Inval) (walk room caller path ∷ check_exists room path ∷ check_removal room caller path ∷ []) (ap (λ b. refuse_if b Inval) off)
-    ∙ some_stays (walk room caller path ∷ check_exists room path ∷ []) (check_removal room caller path ∷ []) _ (missing room path (walk room caller path) ended.0 ended.1)
-    ∙ ap Some (sym c.of-in-Absent.ensures)
+    let off = off_root path (subst Long c.names.ensures.value c.if-names-eq0.false) in
+    let found = c.in_ok-found.ensures.value available laid_out t e room stand off in
+    handed_on _ _ _ c.from_residual-in_err-check_removal.result c.from_residual-in_err-check_removal.ensures.1
+    (past_head (refuse_if (is_root path) Inval) (walk room caller path ∷ check_exists room path ∷ check_removal room caller path ∷ []) _ (ap (λ b. refuse_if b Inval) off)
+    (past_front (walk room caller path ∷ check_exists room path ∷ []) (check_removal room caller path ∷ []) _ found.0
+    (at_head (check_removal room caller path) [] _ (c.in_err-check_removal.ensures.value t room found.1.0 found.1.1))))
 
-pub returns-in_default-clause-value : goal.returns-in_default-clause-value
-returns-in_default-clause-value g c = λ available laid_out t e room stand.
+pub returns-clause-value : goal.returns-clause-value
+returns-clause-value g c = λ available laid_out t e room stand.
     let path = c.args.path.now in
     let caller = c.args.subject.now in
     let Long : Path → Type 0 = λ p. length p ≡ 0 → ⊥ in
-    let long = subst Long c.names.ensures.value c.if-names-eq0.false in
-    let off = off_root path long in
-    let ended = rw c.in-Found.is at (c.in_ok-refusal.ensures.value available laid_out t e room stand) in
-    absurd (long (rw c.in_default.is at ended.2))
-
-pub returns-in-Some-checked-clause-value : goal.returns-in-Some-checked-clause-value
-returns-in-Some-checked-clause-value g c = λ available laid_out t e room stand.
-    let path = c.args.path.now in
-    let caller = c.args.subject.now in
-    let Long : Path → Type 0 = λ p. length p ≡ 0 → ⊥ in
-    let long = subst Long c.names.ensures.value c.if-names-eq0.false in
-    let off = off_root path long in
-    let ended = rw c.in-Found.is at (c.in_ok-refusal.ensures.value available laid_out t e room stand) in
-    let above = rw c.in-Some.is at ended.2 in
-    let removal = c.in-Ok.ensures t room ended.1 above.1 in
-    let passed = skip (refuse_if (is_root path) Inval) (walk room caller path ∷ check_exists room path ∷ check_removal room caller path ∷ []) (ap (λ b. refuse_if b Inval) off)
-    ∙ none_passes (walk room caller path ∷ check_exists room path ∷ []) (check_removal room caller path ∷ []) (passes_to t room path c.in-Found.place ended.1 (walk room caller path) ended.0)
-    ∙ first_alone (check_removal room caller path) ∙ sym removal in
-    passed ∙ c.in-Some-checked.is
-
-pub returns-in-None-clause-value : goal.returns-in-None-clause-value
-returns-in-None-clause-value g c = λ available laid_out t e room stand.
-    let path = c.args.path.now in
-    let caller = c.args.subject.now in
-    let Long : Path → Type 0 = λ p. length p ≡ 0 → ⊥ in
-    let long = subst Long c.names.ensures.value c.if-names-eq0.false in
-    let off = off_root path long in
-    let ended = rw c.in-Found.is at (c.in_ok-refusal.ensures.value available laid_out t e room stand) in
-    let above = rw c.in-Some.is at ended.2 in
-    let removal = c.in-Ok.ensures t room ended.1 above.1 in
-    let passed = skip (refuse_if (is_root path) Inval) (walk room caller path ∷ check_exists room path ∷ check_removal room caller path ∷ []) (ap (λ b. refuse_if b Inval) off)
-    ∙ none_passes (walk room caller path ∷ check_exists room path ∷ []) (check_removal room caller path ∷ []) (passes_to t room path c.in-Found.place ended.1 (walk room caller path) ended.0)
-    ∙ first_alone (check_removal room caller path) ∙ sym removal in
-    (passed ∙ c.in-None.is, ended.1)
+    let off = off_root path (subst Long c.names.ensures.value c.if-names-eq0.false) in
+    let found = c.in_ok-found.ensures.value available laid_out t e room stand off in (
+      skip (refuse_if (is_root path) Inval) (walk room caller path ∷ check_exists room path ∷ check_removal room caller path ∷ []) (ap (λ b. refuse_if b Inval) off)
+          ∙ none_passes (walk room caller path ∷ check_exists room path ∷ []) (check_removal room caller path ∷ []) found.0 ∙ first_alone (check_removal room caller path)
+          ∙ (c.in_ok-check_removal.ensures.value t room found.1.0 found.1.1).0,
+      found.1.0,
+    )

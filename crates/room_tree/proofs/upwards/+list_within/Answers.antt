@@ -49,7 +49,7 @@ returns-clause-value g m c = λ available laid_out t e room stand path at stands
     let fits : length up.folder ≤ c.args.levels - 1 = omega (arith, up.one_more, short) in
     let given = c.in_ok-given.ensures.value available then_declared t then_same room stand up.folder (subst At (sym number) up.at)
     (own_number t stand.rules folder above there) fits in
-    c.in-Ok.ensures
+    c.in_ok-list.ensures
     ∙ ap (λ (own : List EntryModel). own ++ cond (follows node.aclflag) (handed_down c.as_slice.result.now node.kind) [])
     (c.in_ok-own.ensures.value before laid_out ∙ ap (λ (r : ObjectRecords). r.entries node.id) e)
     ∙ ap (λ (list : List EntryModel). t.entries node.id ++ cond (follows node.aclflag) (handed_down list node.kind) []) (c.as_slice.ensures.value ∙ given)

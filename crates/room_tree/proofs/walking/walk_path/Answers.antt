@@ -4,8 +4,8 @@ use Rattle.room_records.specs.Names.{Path}
 use Rattle.room_records.specs.Records.{Records}
 use Rattle.room_records.proofs.Shelves.{read_then}
 use Rattle.room_tree.specs.Places.{IsPlace, IsAbove}
-use Rattle.room_tree.proofs.Walks.{walk_stops, walk_goes_on, walk_ends, walk_is_cut, last_is_absent, next_is_there, last_folder, walk_done}
-use Rattle.room_tree.proofs.Outcomes.{ok_not_err}
+use Rattle.room_tree.proofs.Walks.{walk_stopped, walk_goes_on, walk_ends, walk_is_cut, last_is_absent, next_is_there, last_folder, walk_done}
+use Rattle.room_tree.proofs.Stops.{handed_on, refused_as}
 use Rattle.room_tree.proofs.walking.walk_path.Goals as goal
 
 pub returns-in_default-clause-value : goal.returns-in_default-clause-value
@@ -20,15 +20,16 @@ loop-index-init g c = record {
       (refl, rw c.in-Some.is at (c.in_ok-here.ensures.value available laid_out t e room stand), refl);
 }
 
-pub returns-in-Some-checked-clause-value : goal.returns-in-Some-checked-clause-value
-returns-in-Some-checked-clause-value g c = λ available laid_out t e room stand.
+pub returns-in_err-check_way-clause-value : goal.returns-in_err-check_way-clause-value
+returns-in_err-check_way-clause-value g c = λ available laid_out t e room stand.
     let path = c.args.path.now in
     let i = c.loop-index.index in
     let so = c.loop-index.invariant.walked available laid_out t e room stand in
     let Below : Path → Type 0 = λ p. i < length p in
     let below = subst Below c.names-names.ensures.value c.loop-index-test.true in
-    walk_stops room c.args.subject.now path i (get_or path i []) below (get_or_default path i [] (get_or path i []) below) c.in-Some-checked.refusal so.0
-    (sym (c.in-Ok.ensures t room (take i path) refl so.1) ∙ c.in-Some-checked.is)
+    handed_on _ _ _ c.from_residual-in_err-check_way.result c.from_residual-in_err-check_way.ensures.1
+    (walk_stopped room c.args.subject.now path i (get_or path i []) below (get_or_default path i [] (get_or path i []) below) _ so.0
+    (c.in_err-check_way.ensures.value t room (take i path) refl so.1))
 
 pub returns-then-index-names-clause-value : goal.returns-then-index-names-clause-value
 returns-then-index-names-clause-value g c = λ available laid_out t e room stand.
@@ -43,11 +44,11 @@ returns-then-index-names-clause-value g c = λ available laid_out t e room stand
     let More : Path → Type 0 = λ p. i + 1 < length p in
     let At : Path → Type 0 = λ p. name ≡ get_or p i name in
     let below = subst Below c.names-names.ensures.value c.loop-index-test.true in
-    walk_is_cut room c.args.subject.now path i name below (subst At c.names-names.ensures.value c.index-names-index.is) so.0
-    (sym (c.in-Ok.ensures t room (take i path) refl so.1) ∙ c.in_default-checked.is)
+    refused_as c.of-then-index-names.result _ c.of-then-index-names.ensures
+    (walk_is_cut room c.args.subject.now path i name below (subst At c.names-names.ensures.value c.index-names-index.is) so.0
+    (c.in_ok-check_way.ensures.value t room (take i path) refl so.1).0
     (rw c.in_default-2.is at (c.in_ok-next.ensures.value available declared t (ap (λ (r : Records). r.objects) same ∙ e) room stand (take i path) so.1))
-    (subst More c.names-names.ensures.value c.if-index-names.true)
-    ∙ ap Some (sym c.of-then-index-names.ensures)
+    (subst More c.names-names.ensures.value c.if-index-names.true))
 
 pub loop-index-preserved : goal.loop-index-preserved
 loop-index-preserved g c =
@@ -67,7 +68,7 @@ loop-index-preserved g c =
           let same = c.loop-index.invariant.frame.same before laid_out in
           let so = c.loop-index.invariant.walked before laid_out t e room stand in
           let At : ℕ → Type 0 = λ n. IsPlace t room (take n path) c.loop-index.here in (
-            walk_goes_on room c.args.subject.now path i name below is so.0 (sym (c.in-Ok.ensures t room (take i path) refl so.1) ∙ c.in_default-checked.is),
+            walk_goes_on room c.args.subject.now path i name below is so.0 (c.in_ok-check_way.ensures.value t room (take i path) refl so.1).0,
             next_is_there room c.args.subject.now path i name below is (λ p. IsPlace t room p c.in-Some-2.next)
                 (rw c.in-Some-2.is at (c.in_ok-next.ensures.value available declared t (ap (λ (r : Records). r.objects) same ∙ e) room stand (take i path) so.1)),
             (omega arith, subst At (omega arith) so.1),
@@ -84,11 +85,8 @@ returns-clause-value g c = λ available laid_out t e room stand.
     let within = subst Within c.names-names.ensures.value c.loop-index.auto.index-end in
     let last : c.loop-index.index ≡ length path = omega (arith, all, within) in
     let Here : Path → Type 0 = λ p. IsPlace t room p c.loop-index.here in
-    let Count : ℕ → Type 0 = λ n. IsAbove t room path n c.loop-index.above in (
-      walk_done room c.args.subject.now path c.loop-index.index so.0 all,
-      subst Here (take_all c.loop-index.index path all) so.1,
-      subst Count last so.2,
-    )
+    let Count : ℕ → Type 0 = λ n. IsAbove t room path n c.loop-index.above in
+    (walk_done room c.args.subject.now path c.loop-index.index so.0 all, (subst Here (take_all c.loop-index.index path all) so.1, subst Count last so.2))
 
 pub returns-in_default-2-clause-value : goal.returns-in_default-2-clause-value
 returns-in_default-2-clause-value g c = λ available laid_out t e room stand.
@@ -107,7 +105,6 @@ returns-in_default-2-clause-value g c = λ available laid_out t e room stand.
     let is = subst At c.names-names.ensures.value c.index-names-index.is in
     let last = subst Last c.names-names.ensures.value c.if-index-names.false in
     let nothing = rw c.in_default-2.is at (c.in_ok-next.ensures.value available declared t (ap (λ (r : Records). r.objects) same ∙ e) room stand (take i path) so.1) in (
-      walk_ends room c.args.subject.now path i name below is so.0 (sym (c.in-Ok.ensures t room (take i path) refl so.1) ∙ c.in_default-checked.is) last,
-      last_is_absent room c.args.subject.now path i name below is nothing last,
-      subst Here (last_folder room c.args.subject.now path i name below is last) so.1,
+      walk_ends room c.args.subject.now path i name below is so.0 (c.in_ok-check_way.ensures.value t room (take i path) refl so.1).0 last,
+      (last_is_absent room c.args.subject.now path i name below is nothing last, subst Here (last_folder room c.args.subject.now path i name below is last) so.1),
     )

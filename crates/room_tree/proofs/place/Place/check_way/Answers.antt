@@ -1,19 +1,19 @@
-use Rattle.std.proofs.Common.{◌≡◌, ap, sym, ◌∙◌, Option, [], ◌∷◌, subst, IfOk}
-use Rattle.room_commands.specs.ReplyModel.{Refusal}
-use Rattle.room_commands.specs.Checks.{check_right, first_refusal}
-use Rattle.room_tree.proofs.Checking.{way_check, first_alone}
+use Rattle.std.proofs.Common.{sym, ◌∙◌, [], ◌∷◌}
+use Rattle.room_commands.specs.Checks.{check_folder, check_right, prefix_fault}
+use Rattle.room_tree.proofs.Checking.{way_check, skip, stop, first_alone}
+use Rattle.room_tree.proofs.Stops.{handed_on, passes_by}
 use Rattle.room_tree.proofs.place.Place.check_way.Goals as goal
 
-pub returns-in-Some : goal.returns-in-Some
-returns-in-Some c = λ t room at is found.
-    sym (way_check t room at c.args.self.now found c.args.subject.now
-    ∙ ap (λ (o : Option Refusal). first_refusal (o ∷ check_right room c.args.subject.now at 0x20 ∷ [])) (sym (c.check_folder.ensures t room at found) ∙ c.in-Some.is))
+pub returns-in_err-check_folder-clause-value : goal.returns-in_err-check_folder-clause-value
+returns-in_err-check_folder-clause-value c = λ t room at is found.
+    let right = check_right room c.args.subject.now at 0x20 in
+    handed_on _ _ _ c.from_residual.result c.from_residual.ensures.1
+    (way_check t room at c.args.self.now found c.args.subject.now ∙ stop (check_folder room at) (right ∷ []) _ (sym (c.in_err-check_folder.ensures t room at found)))
 
-pub returns-in-None : goal.returns-in-None
-returns-in-None c = λ t room at is found.
-    let Is : Option Refusal → Type 0 = λ o. IfOk c.check_right.result (λ checked. checked ≡ o) in
-    subst Is
-    (sym (way_check t room at c.args.self.now found c.args.subject.now
-    ∙ ap (λ (o : Option Refusal). first_refusal (o ∷ check_right room c.args.subject.now at 0x20 ∷ [])) (sym (c.check_folder.ensures t room at found) ∙ c.in-None.is)
-    ∙ first_alone (check_right room c.args.subject.now at 0x20)))
-    (c.check_right.ensures t room at is found)
+pub returns-clause-value : goal.returns-clause-value
+returns-clause-value c = λ t room at is found.
+    let right = check_right room c.args.subject.now at 0x20 in
+    passes_by right (prefix_fault room c.args.subject.now at) _ c.check_right.result
+    (way_check t room at c.args.self.now found c.args.subject.now
+    ∙ skip (check_folder room at) (right ∷ []) (sym (c.in_ok-check_folder.ensures t room at found)) ∙ first_alone right)
+    (c.check_right.ensures.value t room at is found)
