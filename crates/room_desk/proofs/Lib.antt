@@ -15,4 +15,5 @@ pub mod KeptRows
 pub mod Retries
 pub mod Beginnings
 mod Rows
+pub mod Calls
 pub mod Messages

@@ -1,12 +1,12 @@
 //! What answers the messages of a stream to a room.
-ghost use Rattle.std.specs.Prelude.{◌≡◌, map, take, Ok};
+ghost use Rattle.std.specs.Prelude.{map, take, Ok};
 ghost use Rattle.httparse.specs.Spans.{header_bytes};
 ghost use Rattle.room_wire.specs.AskOf.{ask_of};
 ghost use Rattle.room_wire.specs.AskOf as A;
 ghost use Rattle.room_wire.specs.EventModel.{event_model};
 ghost use Rattle.room_wire.specs.Questions.{question_model};
 ghost use Rattle.room_desk.specs.AnswerModel.{answer_model};
-ghost use Rattle.room_desk.specs.Serving.{Answered, MayAnswer};
+ghost use Rattle.room_desk.specs.Serving.{Answered, EventAnswered, MayAnswer};
 
 use crate::desk::Desk;
 use room_records::{Roster, Shelf};
@@ -23,25 +23,23 @@ pub(crate) struct Lookup<'r> {
 
 impl<S: Shelf> Desk<S> {
     fn serve_question(&mut self, question: &Question) -> Answer
-        ensures { Answered S.is_honest S.is_clean S.is_declared S.records S.failures (Ok (A.Check (question_model question.now)))
-            self.old (answer_model result) self.new }
+        ensures { Answered (Ok (A.Check (question_model question.now))) (S.view self.old) (answer_model result) (S.view self.new) }
     {
         answer_question(self.alloc, question)
     }
 
     fn serve_event(&mut self, event: &Event) -> Answer
-        ensures { Answered S.is_honest S.is_clean S.is_declared S.records S.failures (Ok (A.Event (event_model event.now)))
-            self.old (answer_model result) self.new }
+        ensures { EventAnswered S.view self.old (event_model event.now) (answer_model result) self.new }
     {
         self.handle(event)
     }
 
     /// Answers what a message asks.
     fn serve_message(&mut self, lookup: &Lookup<'_>, message: &Message<'_>) -> Answer
-        ensures { Answered S.is_honest S.is_clean S.is_declared S.records S.failures
+        ensures { Answered
             (ask_of lookup.now.routes lookup.now.roster.now message.now.method.now message.now.target.now
             (map (header_bytes message.now.window.now) (take message.now.count message.now.spans)) message.now.body.now)
-            self.old (answer_model result) self.new }
+            (S.view self.old) (answer_model result) (S.view self.new) }
     {
         match decode(self.alloc, message, &lookup.routes, lookup.roster) {
             Ok(Ask::Check(question)) => self.serve_question(&question),
@@ -52,7 +50,7 @@ impl<S: Shelf> Desk<S> {
 }
 
 impl<'r, S: Shelf> Service<Lookup<'r>> for Desk<S> {
-    ghost may_answer = { λ lookup. MayAnswer S.is_honest S.is_clean S.is_declared S.records S.failures lookup.routes lookup.roster.now };
+    ghost may_answer = { λ lookup. MayAnswer S.view lookup.routes lookup.roster.now };
 
     fn answer(&mut self, lookup: &Lookup<'r>, message: &Message<'_>) -> Answer {
         self.serve_message(lookup, message)

@@ -39,11 +39,11 @@ fn finish(stream: &TcpStream) {
 
 /// Serves one connection. However it ends, the room's history has gone on while the store is there.
 fn serve_stream<S: Shelf>(stream: &TcpStream, desk: &mut Desk<S>, roster: &Roster)
-    ensures was_honest { S.is_honest desk.new → S.is_honest desk.old }
-    ensures declared { S.is_honest desk.new → S.is_declared desk.old → S.is_declared desk.new }
-    ensures never_falls { S.failures desk.old ≤ S.failures desk.new }
-    ensures run { S.is_honest desk.new → S.is_declared desk.old → (start : Room) (past : History) → RepresentsHistory start (S.records desk.old) past →
-        (next : History) × (events : List EventModel) × (next ≡ events ++ past) × RepresentsHistory start (S.records desk.new) next }
+    ensures was_available { (S.view desk.new).is_available → (S.view desk.old).is_available }
+    ensures laid_out { (S.view desk.new).is_available → (S.view desk.old).is_laid_out → (S.view desk.new).is_laid_out }
+    ensures never_falls { (S.view desk.old).failures ≤ (S.view desk.new).failures }
+    ensures run { (S.view desk.new).is_available → (S.view desk.old).is_laid_out → (start : Room) (past : History) → RepresentsHistory start (S.view desk.old).records past →
+        (next : History) × (events : List EventModel) × (next ≡ events ++ past) × RepresentsHistory start (S.view desk.new).records next }
 {
     // An answer goes out at once, not with the next one.
     let _ = stream.set_nodelay(true);
@@ -62,11 +62,11 @@ pub fn serve_listener<S: Shelf>(
     roster: &Roster,
     count: u32,
 ) -> io::Result<()>
-    ensures was_honest { S.is_honest desk.new → S.is_honest desk.old }
-    ensures declared { S.is_honest desk.new → S.is_declared desk.old → S.is_declared desk.new }
-    ensures never_falls { S.failures desk.old ≤ S.failures desk.new }
-    ensures run { S.is_honest desk.new → S.is_declared desk.old → (start : Room) (past : History) → RepresentsHistory start (S.records desk.old) past →
-        (next : History) × (events : List EventModel) × (next ≡ events ++ past) × RepresentsHistory start (S.records desk.new) next }
+    ensures was_available { (S.view desk.new).is_available → (S.view desk.old).is_available }
+    ensures laid_out { (S.view desk.new).is_available → (S.view desk.old).is_laid_out → (S.view desk.new).is_laid_out }
+    ensures never_falls { (S.view desk.old).failures ≤ (S.view desk.new).failures }
+    ensures run { (S.view desk.new).is_available → (S.view desk.old).is_laid_out → (start : Room) (past : History) → RepresentsHistory start (S.view desk.old).records past →
+        (next : History) × (events : List EventModel) × (next ≡ events ++ past) × RepresentsHistory start (S.view desk.new).records next }
 {
     for _ in 0..count {
         let (stream, _) = listener.accept()?;

@@ -8,9 +8,9 @@ use Rattle.room_program.proofs.network.serve_listener.Given as goal
 -- however many connections were served, the history has gone on
 abbrev pub invariant-loop : goal.invariant-loop
 invariant-loop g l = let s = g.S.Shelf in record {
-  was_honest : s.is_honest l.desk → s.is_honest l.fn.desk;
-  declared : s.is_honest l.desk → s.is_declared l.fn.desk → s.is_declared l.desk;
-  never_falls : s.failures l.fn.desk ≤ s.failures l.desk;
-  run : s.is_honest l.desk → s.is_declared l.fn.desk → (start : Room) (past : History) → RepresentsHistory start (s.records l.fn.desk) past →
-      (next : History) × (events : List EventModel) × (next ≡ events ++ past) × RepresentsHistory start (s.records l.desk) next;
+  was_available : (s.view l.desk).is_available → (s.view l.fn.desk).is_available;
+  laid_out : (s.view l.desk).is_available → (s.view l.fn.desk).is_laid_out → (s.view l.desk).is_laid_out;
+  never_falls : (s.view l.fn.desk).failures ≤ (s.view l.desk).failures;
+  run : (s.view l.desk).is_available → (s.view l.fn.desk).is_laid_out → (start : Room) (past : History) → RepresentsHistory start (s.view l.fn.desk).records past →
+      (next : History) × (events : List EventModel) × (next ≡ events ++ past) × RepresentsHistory start (s.view l.desk).records next;
 }
