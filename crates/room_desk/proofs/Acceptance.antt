@@ -15,8 +15,8 @@ use Rattle.room_records.specs.Changes.{apply_change}
 use Rattle.room_records.specs.Room.{Room}
 use Rattle.room_commands.specs.Effect.{effect}
 use Rattle.room_records.specs.Representation.{RepresentsRoom}
-use Rattle.room_wire.specs.EventModel.{Request, Slot}
-use Rattle.room_wire.specs.Texts.{command_text}
+use Rattle.room_wire.specs.Asks.EventModel.{Request, Slot}
+use Rattle.room_wire.specs.Forms.Texts.{command_text}
 use Rattle.room_desk.specs.History.{History, Session, session_of, is_open_for, is_open, slots_of, accepted, accepts, is_accepted, is_for, state_after, original_reply}
 use Rattle.room_desk.specs.Representation.{RepresentsHistory, is_open_session, slot_row_of, kept_after}
 use Rattle.room_desk.proofs.Refusals.{row_after_request, open_after_request}

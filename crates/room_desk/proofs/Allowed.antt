@@ -7,7 +7,7 @@ use Rattle.room_commands.specs.ReplyModel.{Refusal, IsRefused}
 use Rattle.room_commands.specs.Checks.{first_refusal, checks}
 use Rattle.room_commands.specs.Effect.{effect_by}
 use Rattle.room_commands.proofs.Rights.{rights_of_success}
-use Rattle.room_wire.specs.EventModel.{EventModel, Open, Close, Slot}
+use Rattle.room_wire.specs.Asks.EventModel.{EventModel, Open, Close, Slot}
 use Rattle.room_desk.specs.History.{History, state_after}
 use Rattle.room_desk.specs.Representation.{WasAllowed}
 

@@ -11,9 +11,9 @@ use Rattle.room_records.specs.declared.change.Change.TheVariants.{PutSession, Dr
 use Rattle.room_records.specs.Changes.{apply_change}
 use Rattle.room_records.specs.Room.{Room}
 use Rattle.room_commands.specs.ReplyModel.{Done, Opened}
-use Rattle.room_wire.specs.Texts.{reply_text}
-use Rattle.room_wire.specs.declared.code.Code.TheVariants.{BadSession}
-use Rattle.room_wire.specs.EventModel.{EventModel, Open, Close}
+use Rattle.room_wire.specs.Forms.Texts.{reply_text}
+use Rattle.room_wire.specs.declared.answers.code.Code.TheVariants.{BadSession}
+use Rattle.room_wire.specs.Asks.EventModel.{EventModel, Open, Close}
 use Rattle.room_desk.specs.AnswerModel.{AnswerModel, Reply, Refused}
 use Rattle.room_desk.specs.History.{History, Session, session_of, is_open_for, is_open, slots_of, answer_to, changes_rows}
 use Rattle.room_desk.specs.Representation.{RepresentsHistory, session_row_of}

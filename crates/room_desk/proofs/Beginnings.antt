@@ -5,7 +5,7 @@ use Rattle.room_records.specs.Room.{Room, IsRoom}
 use Rattle.room_records.specs.Representation.{RepresentsRoom}
 use Rattle.room_commands.specs.Effect.{effect}
 use Rattle.room_commands.proofs.EffectIsRoom.{effect_is_room}
-use Rattle.room_wire.specs.EventModel.{Open, Close, Slot}
+use Rattle.room_wire.specs.Asks.EventModel.{Open, Close, Slot}
 use Rattle.room_desk.specs.History.{History, is_accepted, state_after, AreLawful}
 use Rattle.room_desk.specs.Representation.{RepresentsHistory}
 use Rattle.room_desk.proofs.Idle.{none_some}

@@ -11,9 +11,9 @@ use Rattle.room_records.specs.declared.session.SessionRow.{SessionRow}
 use Rattle.room_records.specs.declared.shelf.ShelfFault.{ShelfFault}
 use Rattle.room_records.specs.Room.{Room}
 use Rattle.room_commands.specs.ReplyModel.{Done}
-use Rattle.room_wire.specs.Texts.{reply_text}
-use Rattle.room_wire.specs.EventModel.{Close}
-use Rattle.room_wire.specs.declared.answer.Answer.{Answer}
+use Rattle.room_wire.specs.Forms.Texts.{reply_text}
+use Rattle.room_wire.specs.Asks.EventModel.{Close}
+use Rattle.room_wire.specs.declared.answers.answer.Answer.{Answer}
 use Rattle.room_desk.specs.AnswerModel.{answer_model}
 use Rattle.room_desk.specs.AnswerModel as A
 use Rattle.room_desk.specs.History.{History, answer_to, is_open_for, session_of}

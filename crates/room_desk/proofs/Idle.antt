@@ -9,8 +9,8 @@ use Rattle.room_acl.specs.SubjectModel.{SubjectModel}
 use Rattle.room_records.specs.declared.session.SessionRow.{SessionRow}
 use Rattle.room_records.specs.Records.{Records}
 use Rattle.room_records.specs.Room.{Room}
-use Rattle.room_wire.specs.EventModel.{EventModel, Request, Open, Close, Slot}
-use Rattle.room_wire.specs.declared.code.Code.TheVariants.{BadSession, BadSlot}
+use Rattle.room_wire.specs.Asks.EventModel.{EventModel, Request, Open, Close, Slot}
+use Rattle.room_wire.specs.declared.answers.code.Code.TheVariants.{BadSession, BadSlot}
 use Rattle.room_desk.specs.AnswerModel.{AnswerModel, Reply, Refused, IsTurnedAway}
 use Rattle.room_desk.specs.History.{History, Session, session_of, with_event, opened_by, closes, is_open, is_open_for, slots_of, accepted, is_accepted, state_after, answer_open, answer_close, answer_unaccepted, answer_to, original_reply, changes_rows}
 use Rattle.room_desk.specs.Representation.{RepresentsHistory, session_row_of, is_open_session, slot_row_of, kept_after}

@@ -16,4 +16,5 @@ pub mod Retries
 pub mod Beginnings
 mod Rows
 pub mod Calls
+pub mod Faults
 pub mod Messages

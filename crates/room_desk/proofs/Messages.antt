@@ -1,33 +1,26 @@
 -- Answers to the messages of a stream, one after another, by a history.
-use Rattle.std.proofs.Common.{◌≡◌, ◌≤◌, ℕ, List, [], ◌∷◌, ◌++◌, refl, sym, ap, ◌∙◌, subst, arith, map, take, Result, Ok, Err, Option, inl, inr}
-use Rattle.matchit.specs.Router.{RouteOf}
-use Rattle.matchit.specs.Rows.{RowsOf}
+use Rattle.std.proofs.Common.{◌≡◌, ◌≤◌, ℕ, List, [], ◌∷◌, ◌++◌, refl, sym, ap, ◌∙◌, subst, arith, Result, Ok, Err, Option, inl, inr}
 use Rattle.room_acl.specs.SubjectModel.{SubjectModel}
 use Rattle.room_records.specs.Room.{Room}
 use Rattle.room_records.specs.Shelf.{View}
-use Rattle.room_wire.specs.declared.code.Code.TheVariants.{Delay}
+use Rattle.room_wire.specs.declared.answers.code.Code.TheVariants.{Delay}
 use Rattle.room_wire.specs.declared.fault.WireFault.{WireFault}
 use Rattle.room_wire.specs.declared.fault.WireFault.TheVariants.{BadRoute, UnknownUser, BadRequest, Memory}
-use Rattle.room_wire.specs.declared.message.Message.{Message}
-use Rattle.httparse.specs.Spans.{header_bytes}
-use Rattle.room_wire.specs.Taken.{Shows}
-use Rattle.room_wire.specs.declared.routing.Route.{Route}
-use Rattle.room_wire.specs.declared.stop.Why.{Why}
-use Rattle.room_wire.specs.declared.stop.Why.TheVariants as W
+use Rattle.room_wire.specs.declared.serving.stop.Why.{Why}
+use Rattle.room_wire.specs.declared.serving.stop.Why.TheVariants as W
 use Rattle.std.proofs.KnownBytes.{Appends-nil, Consumes-nil}
 use Rattle.std.proofs.lemmas.List.{append_assoc}
-use Rattle.room_wire.specs.AskOf.{AskModel, Check, Event, ask_of, DecodesAsk}
-use Rattle.room_wire.specs.EventModel.{EventModel}
-use Rattle.room_wire.specs.CheckService.{fault_code, IsCheckAnswer}
-use Rattle.room_wire.specs.Ends.{Serves}
-use Rattle.room_wire.specs.Messages.{MessageModel}
-use Rattle.room_wire.specs.Questions.{QuestionModel}
-use Rattle.room_wire.specs.Routing.{room_rows}
-use Rattle.room_wire.specs.Serving.{Outputs}
+use Rattle.room_wire.specs.Asks.AskOf.{AskModel, Check, Event, ask_of, DecodesAsk}
+use Rattle.room_wire.specs.Asks.EventModel.{EventModel}
+use Rattle.room_wire.specs.Serving.CheckService.{fault_code, IsCheckAnswer}
+use Rattle.room_wire.specs.Serving.Ends.{Serves}
+use Rattle.room_wire.specs.Messages.MessageModel.{MessageModel}
+use Rattle.room_wire.specs.Questions.QuestionModel.{QuestionModel}
+use Rattle.room_wire.specs.Serving.Outputs.{Outputs}
 use Rattle.room_desk.specs.AnswerModel.{AnswerModel, Refused}
 use Rattle.room_desk.specs.History.{History}
 use Rattle.room_desk.specs.Representation.{StandsFor}
-use Rattle.room_desk.specs.Serving.{AnswersOrDelays, AnswersMessage, ask_by, DeskCall, Answered, MayAnswer}
+use Rattle.room_desk.specs.Serving.{AnswersOrDelays, AnswersMessage, DeskCall, Answered, MayAnswer}
 use Rattle.room_desk.proofs.Calls.{no_call, calls_then}
 
 -- an answer that leaves the shelf as it was
@@ -62,33 +55,25 @@ pub asked_is : (ask asked : Result AskModel WireFault) (before : View) (answered
 asked_is ask asked before answered after e x = subst (λ a. Answered a before answered after) (sym e) x
 
 module _ {S : Type 0} (view : S → View) where
-  -- what was lent of a message is the message's
-  pub shown : (rows : RowsOf (RouteOf Route)) (users : List SubjectModel) (message : Message) (m : MessageModel) (before : S) (answered : AnswerModel) (after : S) → Shows message m
-      → Answered (ask_of rows users message.method.now message.target.now (map (header_bytes message.window.now) (take message.count message.spans)) message.body.now)
-      (view before) answered (view after)
-      → MayAnswer view rows users before m answered after
-  shown rows users message m before answered after s x =
-      subst (λ a. Answered a (view before) answered (view after)) (λ i. ask_of rows users (s.method i) (s.target i) (s.fields i) (s.body i)) x
-
   -- the shelf after some messages
-  pub record Served (rows : RowsOf (RouteOf Route)) (users : List SubjectModel) (before : S) (ms : List MessageModel) (out : List ℕ) (after : S) : Type 0 where
+  pub record Served (users : List SubjectModel) (before : S) (ms : List MessageModel) (out : List ℕ) (after : S) : Type 0 where
     pub frame : DeskCall (view before) (view after)
     pub run : (view after).is_intact → (start : Room) (past : History) → StandsFor start past (view before)
-        → (next : History) × Outputs (λ (b : History) (m : MessageModel) (a : AnswerModel) (n : History). AnswersOrDelays start b (ask_by rows users m) a n) past ms out next
+        → (next : History) × Outputs (λ (b : History) (m : MessageModel) (a : AnswerModel) (n : History). AnswersOrDelays start b (ask_of users m) a n) past ms out next
         × StandsFor start next (view after)
 
-  none : (rows : RowsOf (RouteOf Route)) (users : List SubjectModel) (before after : S) (out : List ℕ) → out ≡ [] → after ≡ before → Served rows users before [] out after
-  none rows users before after out e f = subst (λ s. Served rows users before [] out s) (sym f) (record {
+  none : (users : List SubjectModel) (before after : S) (out : List ℕ) → out ≡ [] → after ≡ before → Served users before [] out after
+  none users before after out e f = subst (λ s. Served users before [] out s) (sym f) (record {
     frame = no_call (view before);
     run = λ k start past stands. (past, (e, refl), stands);
   })
 
-  pub served : (rows : RowsOf (RouteOf Route)) (users : List SubjectModel) (before : S) (ms : List MessageModel) (out : List ℕ) (after : S)
-      → Outputs (MayAnswer view rows users) before ms out after → Served rows users before ms out after
-  served rows users before [] out after h = none rows users before after out h.0 h.1
-  served rows users before (m ∷ ms) out after h =
+  pub served : (users : List SubjectModel) (before : S) (ms : List MessageModel) (out : List ℕ) (after : S)
+      → Outputs (MayAnswer view users) before ms out after → Served users before ms out after
+  served users before [] out after h = none users before after out h.0 h.1
+  served users before (m ∷ ms) out after h =
       let first = h.3 in
-      let then = served rows users h.1 ms h.2 after h.4 in record {
+      let then = served users h.1 ms h.2 after h.4 in record {
         frame = calls_then _ _ _ then.frame first.frame;
         run = λ k start past stands.
             let one = first.step (then.frame.was_intact k) start past stands in
@@ -102,23 +87,16 @@ module _ {S : Type 0} (view : S → View) where
     pub run : (view after).is_intact → (start : Room) (past : History) → StandsFor start past (view before)
         → (next : History) × Serves (AnswersMessage users start) past next left later old new why count × StandsFor start next (view after)
 
-  pub served_stream : (rows : RowsOf (RouteOf Route)) (users : List SubjectModel) (before after : S) (left later old new : Option (List ℕ)) (why : Why) (count : ℕ)
-      → rows ≡ room_rows → Serves (MayAnswer view rows users) before after left later old new why count
+  pub served_stream : (users : List SubjectModel) (before after : S) (left later old new : Option (List ℕ)) (why : Why) (count : ℕ)
+      → Serves (MayAnswer view users) before after left later old new why count
       → ServedStream users before after left later old new why count
-  served_stream rows users before after left later old new why count e x =
-      let y = subst (λ r. Serves (MayAnswer view r users) before after left later old new why count) e x in
-      let all = served room_rows users before y.2 y.3 after y.5 in record {
+  served_stream users before after left later old new why count y =
+      let all = served users before y.2 y.3 after y.5 in record {
         frame = all.frame;
         run = λ k start past stands.
             let ran = all.run k start past stands in
             (ran.0, (y.0, y.1, y.2, y.3, y.4, ran.1, y.6, y.7), ran.2);
       }
-
-  pub by_room_rows : (rows : RowsOf (RouteOf Route)) (users : List SubjectModel) (before after : S) (left later old new : Option (List ℕ)) (why : Why) (count : ℕ)
-      → rows ≡ room_rows → Serves (MayAnswer view rows users) before after left later old new why count
-      → Serves (MayAnswer view room_rows users) before after left later old new why count
-  by_room_rows rows users before after left later old new why count e x =
-      subst (λ r. Serves (MayAnswer view r users) before after left later old new why count) e x
 
 -- the end before the first read
 pub nothing_served : {S : Type 0} (may_answer : S → MessageModel → AnswerModel → S → Type 0) (s : S) (left old : Option (List ℕ)) → Serves may_answer s s left left old old W.Memory 0
@@ -141,6 +119,6 @@ pub goes_on : (users : List SubjectModel) (start : Room) (past : History) (ms : 
     → (events : List EventModel) × (next ≡ events ++ past)
 goes_on users start past [] out next h = ([], h.1)
 goes_on users start past (m ∷ ms) out next h =
-    let first = one_step start past h.1 (ask_by room_rows users m) h.0 h.3 in
+    let first = one_step start past h.1 (ask_of users m) h.0 h.3 in
     let rest = goes_on users start h.1 ms h.2 next h.4 in
     (rest.0 ++ first.0, rest.1 ∙ ap (λ b. rest.0 ++ b) first.1 ∙ sym (append_assoc rest.0 first.0 past))

@@ -4,7 +4,7 @@ use Rattle.std.specs.Prelude.{◌&&◌}
 use Rattle.std.specs.List.{AllByRecursion, IsDistinct}
 use Rattle.std.proofs.lemmas.Bool.{and_parts, eqb-true, ne_eqb}
 use Rattle.room_slots.specs.Slots.{next_number}
-use Rattle.room_wire.specs.EventModel.{Request, Open, Close, Slot}
+use Rattle.room_wire.specs.Asks.EventModel.{Request, Open, Close, Slot}
 use Rattle.room_desk.specs.History.{History, session_of, is_open_for, slots_of, Accepted, accepted, accepts, is_for}
 
 -- the latest first, each request has the number after the count of those before it, and is for the slot

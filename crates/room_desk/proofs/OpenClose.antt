@@ -13,7 +13,7 @@ use Rattle.room_records.specs.Rules.{SlotRules, RulesHold}
 use Rattle.room_records.specs.declared.change.Change.TheVariants.{PutSession, DropSlots}
 use Rattle.room_records.specs.Changes.{apply_change, apply_to_sessions}
 use Rattle.room_records.specs.Room.{Room}
-use Rattle.room_wire.specs.EventModel.{Request, EventModel, Open, Close, Slot}
+use Rattle.room_wire.specs.Asks.EventModel.{Request, EventModel, Open, Close, Slot}
 use Rattle.room_desk.specs.History.{History, Session, session_of, with_event, opened_by, closes, is_open_for, is_open, slots_of, accepted, accepts, is_for, state_after}
 use Rattle.room_desk.specs.Representation.{RepresentsHistory, session_row_of, is_open_session, slot_row_of, kept_after}
 

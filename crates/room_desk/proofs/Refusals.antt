@@ -7,7 +7,7 @@ use Rattle.std.proofs.lemmas.Bool.{and_parts, eqb-true}
 use Rattle.std.specs.Cmp.Lexicographic.{bytes_decides}
 use Rattle.room_records.specs.Records.{Records}
 use Rattle.room_records.specs.Room.{Room}
-use Rattle.room_wire.specs.EventModel.{Request, Slot}
+use Rattle.room_wire.specs.Asks.EventModel.{Request, Slot}
 use Rattle.room_desk.specs.History.{History, Session, session_of, with_event, accepted, accepts, is_accepted, is_for, state_after}
 use Rattle.room_desk.specs.Representation.{RepresentsHistory, session_row_of, is_open_session, slot_row_of, kept_after}
 

@@ -7,9 +7,9 @@ use Rattle.std.proofs.lemmas.Bool.{and_parts, and_right, eqb-true, eq-eqb, ne_eq
 use Rattle.room_slots.specs.Slots.{next_number}
 use Rattle.room_records.specs.Room.{Room}
 use Rattle.room_commands.specs.ReplyModel.{Opened}
-use Rattle.room_wire.specs.declared.code.Code.TheVariants.{BadSession, BadSlot, SeqMisordered, SeqFalseRetry, SessionTaken}
-use Rattle.room_wire.specs.EventModel.{EventModel, Request, Open, Close, Slot}
-use Rattle.room_wire.specs.Texts.{command_text, reply_text}
+use Rattle.room_wire.specs.declared.answers.code.Code.TheVariants.{BadSession, BadSlot, SeqMisordered, SeqFalseRetry, SessionTaken}
+use Rattle.room_wire.specs.Asks.EventModel.{EventModel, Request, Open, Close, Slot}
+use Rattle.room_wire.specs.Forms.Texts.{command_text, reply_text}
 use Rattle.room_desk.specs.AnswerModel.{Reply, Refused}
 use Rattle.room_desk.specs.History.{History, Session, session_of, with_event, opened_by, closes, is_open_for, slots_of, accepted, accepts, is_accepted, original_reply, replay, answer_open, answer_close, answer_unaccepted, answer_to, changes_rows}
 use Rattle.room_desk.proofs.Refusals.{accepted_after}

@@ -7,9 +7,9 @@ use Rattle.std.specs.Cmp.Lexicographic.{bytes_decides}
 use Rattle.std.proofs.lemmas.Bool.{false_from_ne_true}
 use Rattle.room_slots.specs.Slots.{next_number}
 use Rattle.room_records.specs.Room.{Room}
-use Rattle.room_wire.specs.declared.code.Code.TheVariants.{SeqMisordered, SeqFalseRetry}
-use Rattle.room_wire.specs.EventModel.{Request, Slot}
-use Rattle.room_wire.specs.Texts.{command_text}
+use Rattle.room_wire.specs.declared.answers.code.Code.TheVariants.{SeqMisordered, SeqFalseRetry}
+use Rattle.room_wire.specs.Asks.EventModel.{Request, Slot}
+use Rattle.room_wire.specs.Forms.Texts.{command_text}
 use Rattle.room_desk.specs.AnswerModel.{AnswerModel, Reply, Refused}
 use Rattle.room_desk.specs.History.{History, session_of, is_open_for, slots_of, Accepted, accepted, is_accepted, original_reply, replay, answer_unaccepted, answer_to}
 use Rattle.room_desk.proofs.Idle.{slot_answer}

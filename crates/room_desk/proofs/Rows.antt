@@ -7,8 +7,8 @@ use Rattle.room_acl.specs.SubjectModel.{SubjectModel}
 use Rattle.room_commands.specs.CommandModel as C
 use Rattle.room_commands.specs.CommandModel.{CommandModel}
 use Rattle.room_records.specs.Room.{Room, fresh_room}
-use Rattle.room_wire.specs.declared.code.Code.TheVariants.{BadSession, BadSlot, SeqMisordered, SeqFalseRetry, SessionTaken}
-use Rattle.room_wire.specs.EventModel.{EventModel, Open, Close, Slot}
+use Rattle.room_wire.specs.declared.answers.code.Code.TheVariants.{BadSession, BadSlot, SeqMisordered, SeqFalseRetry, SessionTaken}
+use Rattle.room_wire.specs.Asks.EventModel.{EventModel, Open, Close, Slot}
 use Rattle.room_desk.specs.AnswerModel.{Reply, Refused}
 use Rattle.room_desk.specs.History.{History, answer_to, accepted}
 

@@ -21,7 +21,7 @@ use Rattle.room_commands.specs.ReplyModel.{reply_model}
 use Rattle.room_commands.specs.Effect.{effect}
 use Rattle.room_tree.specs.Plans.{PlansEffect}
 use Rattle.room_tree.specs.declared.planning.Outcome.{Outcome}
-use Rattle.room_wire.specs.Texts.{command_text, reply_text}
+use Rattle.room_wire.specs.Forms.Texts.{command_text, reply_text}
 use Rattle.room_desk.specs.AnswerModel.{AnswerModel, Reply}
 use Rattle.room_desk.specs.Rows.{HasSlot, Ran, ran_row}
 

@@ -1,9 +1,9 @@
 -- Events that are taken in turn go on by one.
 use Rattle.std.proofs.Common.{◌≡◌, ℕ, ◌+◌, ◌<◌, List, [], ◌∷◌, ◌++◌, map, take, length, get_or, refl, ap, ◌∙◌, sym, subst}
 use Rattle.std.proofs.lemmas.List.{take_more, map-append}
-use Rattle.room_wire.specs.EventModel.{EventModel, event_model}
-use Rattle.room_wire.specs.declared.event.Event.{Event}
-use Rattle.room_wire.specs.declared.answer.Answer.{Answer}
+use Rattle.room_wire.specs.Asks.EventModel.{EventModel, event_model}
+use Rattle.room_wire.specs.declared.asks.event.Event.{Event}
+use Rattle.room_wire.specs.declared.answers.answer.Answer.{Answer}
 use Rattle.room_desk.specs.AnswerModel.{AnswerModel, answer_model}
 use Rattle.room_desk.specs.Representation.{InTurn}
 

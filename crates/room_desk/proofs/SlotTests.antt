@@ -11,9 +11,9 @@ use Rattle.room_slots.specs.declared.verdict.Verdict.TheVariants.{New, Repeat, F
 use Rattle.room_slots.proofs.Counts.{KeepsCount, verdict_unaccepted, verdict_by_count, accepted_if_new, new_if_accepted}
 use Rattle.room_records.specs.Records.{Records}
 use Rattle.room_records.specs.Room.{Room}
-use Rattle.room_wire.specs.EventModel.{Request, Slot}
-use Rattle.room_wire.specs.Texts.{command_text, reply_text}
-use Rattle.room_wire.specs.declared.code.Code.TheVariants.{BadSession, BadSlot}
+use Rattle.room_wire.specs.Asks.EventModel.{Request, Slot}
+use Rattle.room_wire.specs.Forms.Texts.{command_text, reply_text}
+use Rattle.room_wire.specs.declared.answers.code.Code.TheVariants.{BadSession, BadSlot}
 use Rattle.room_commands.specs.Effect.{effect}
 use Rattle.room_desk.specs.AnswerModel.{AnswerModel, Reply, Refused}
 use Rattle.room_desk.specs.History.{History, Session, session_of, is_open_for, slots_of, accepted, Accepted, accepts, is_accepted, answer_to, answer_unaccepted, state_after, original_reply, replay}

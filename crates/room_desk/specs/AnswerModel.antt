@@ -1,5 +1,5 @@
 -- What an answer says, as contracts see it.
-pub use Rattle.room_wire.specs.AnswerModel.{AnswerModel, Reply, Refused, answer_model}
+pub use Rattle.room_wire.specs.Answers.AnswerModel.{AnswerModel, Reply, Refused, answer_model}
 
 -- refused outside the commands of slots
 abbrev pub IsTurnedAway : AnswerModel → Type 0

@@ -10,9 +10,9 @@ use Rattle.room_records.specs.Room.{Room}
 use Rattle.room_commands.specs.ReplyModel.{Done, Opened}
 use Rattle.room_commands.specs.Lawful.{IsLawful}
 use Rattle.room_commands.specs.Effect.{effect}
-use Rattle.room_wire.specs.declared.code.Code.TheVariants.{BadSession, BadSlot, SeqMisordered, SeqFalseRetry, SessionTaken}
-use Rattle.room_wire.specs.EventModel.{EventModel, Request, Open, Close, Slot}
-use Rattle.room_wire.specs.Texts.{command_text, reply_text}
+use Rattle.room_wire.specs.declared.answers.code.Code.TheVariants.{BadSession, BadSlot, SeqMisordered, SeqFalseRetry, SessionTaken}
+use Rattle.room_wire.specs.Asks.EventModel.{EventModel, Request, Open, Close, Slot}
+use Rattle.room_wire.specs.Forms.Texts.{command_text, reply_text}
 use Rattle.room_desk.specs.AnswerModel.{AnswerModel, Reply, Refused}
 
 -- the events so far, the latest first

@@ -11,9 +11,9 @@ use Rattle.room_records.specs.Shelf.{View}
 use Rattle.room_commands.specs.ReplyModel.{IsRefused}
 use Rattle.room_commands.specs.Effect.{effect}
 use Rattle.room_commands.specs.Needs.{NeedsAllowed}
-use Rattle.room_wire.specs.declared.code.Code.TheVariants.{Delay}
-use Rattle.room_wire.specs.EventModel.{EventModel, Open, Close, Slot}
-use Rattle.room_wire.specs.Texts.{command_text}
+use Rattle.room_wire.specs.declared.answers.code.Code.TheVariants.{Delay}
+use Rattle.room_wire.specs.Asks.EventModel.{EventModel, Open, Close, Slot}
+use Rattle.room_wire.specs.Forms.Texts.{command_text}
 use Rattle.room_desk.specs.AnswerModel.{AnswerModel, Refused}
 use Rattle.room_desk.specs.History.{History, Session, session_of, is_open, Accepted, accepted, is_accepted, state_after, original_reply, answer_to}
 

@@ -16,8 +16,8 @@ use Rattle.room_records.specs.Representation.{RepresentsRoom}
 use Rattle.room_commands.specs.CommandModel.{CommandModel}
 use Rattle.room_commands.specs.Effect.{effect}
 use Rattle.room_commands.specs.ReplyModel.{Done, Opened}
-use Rattle.room_wire.specs.declared.code.Code.TheVariants.{BadSession, SeqMisordered, SeqFalseRetry, SessionTaken}
-use Rattle.room_wire.specs.Texts.{command_text, reply_text}
+use Rattle.room_wire.specs.declared.answers.code.Code.TheVariants.{BadSession, SeqMisordered, SeqFalseRetry, SessionTaken}
+use Rattle.room_wire.specs.Forms.Texts.{command_text, reply_text}
 use Rattle.room_desk.specs.AnswerModel.{AnswerModel, Reply, Refused}
 
 -- an OPEN of a name that was opened before

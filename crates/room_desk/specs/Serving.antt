@@ -1,20 +1,16 @@
 -- Runs of messages over a room (our own rules).
 use Rattle.std.specs.Prelude.{◌≡◌, ◌≢◌, ℕ, ◌≤◌, ◌⊎◌, Bool, false, List, ◌∷◌, Result, Ok, Err}
-use Rattle.matchit.specs.Router.{RouteOf}
-use Rattle.matchit.specs.Rows.{RowsOf}
 use Rattle.room_acl.specs.SubjectModel.{SubjectModel}
 use Rattle.room_records.specs.Room.{Room}
 use Rattle.room_records.specs.Shelf.{View}
-use Rattle.room_wire.specs.declared.code.Code.TheVariants.{Delay}
+use Rattle.room_wire.specs.declared.answers.code.Code.TheVariants.{Delay}
 use Rattle.room_wire.specs.declared.fault.WireFault.{WireFault}
-use Rattle.room_wire.specs.declared.routing.Route.{Route}
-use Rattle.room_wire.specs.EventModel.{EventModel}
-use Rattle.room_wire.specs.AskOf.{AskModel, Check, Event, ask_of}
-use Rattle.room_wire.specs.CheckAnswers.{answer_text}
-use Rattle.room_wire.specs.CheckService.{fault_code}
-use Rattle.room_wire.specs.Messages.{MessageModel, fields_of}
-use Rattle.room_wire.specs.Routing.{room_rows}
-use Rattle.room_wire.specs.Serving.{Outputs}
+use Rattle.room_wire.specs.Asks.EventModel.{EventModel}
+use Rattle.room_wire.specs.Asks.AskOf.{AskModel, Check, Event, ask_of}
+use Rattle.room_wire.specs.Questions.CheckAnswers.{answer_text}
+use Rattle.room_wire.specs.Serving.CheckService.{fault_code}
+use Rattle.room_wire.specs.Messages.MessageModel.{MessageModel}
+use Rattle.room_wire.specs.Serving.Outputs.{Outputs}
 use Rattle.room_desk.specs.AnswerModel.{AnswerModel, Reply, Refused, IsTurnedAway}
 use Rattle.room_desk.specs.History.{History, answer_to, changes_rows}
 use Rattle.room_desk.specs.Representation.{RepresentsHistory, StandsFor}
@@ -29,13 +25,9 @@ AnswersAsk start past (Err fault) answered next = (answered ≡ Refused (fault_c
 abbrev pub AnswersOrDelays : Room → History → Result AskModel WireFault → AnswerModel → History → Type 0
 AnswersOrDelays start past ask answered next = AnswersAsk start past ask answered next ⊎ ((answered ≡ Refused Delay) × (next ≡ past))
 
--- what a message asks, by these routes and users
-abbrev pub ask_by : RowsOf (RouteOf Route) → List SubjectModel → MessageModel → Result AskModel WireFault
-ask_by rows users m = ask_of rows users m.head.method m.head.target (fields_of m) m.body
-
--- a message to the routes of a room is answered
+-- a message to a room with these users is answered
 abbrev pub AnswersMessage : List SubjectModel → Room → History → MessageModel → AnswerModel → History → Type 0
-AnswersMessage users start past m answered next = AnswersOrDelays start past (ask_by room_rows users m) answered next
+AnswersMessage users start past m answered next = AnswersOrDelays start past (ask_of users m) answered next
 
 -- a run over messages from a history to a history, with its output; `Serves` of `room_wire` says the same of a whole stream
 abbrev pub IsRun : List SubjectModel → Room → History → List MessageModel → (out : List ℕ) → History → Type 0
@@ -71,5 +63,5 @@ abbrev pub EventAnswered : {S : Type 0} (view : S → View) → S → EventModel
 EventAnswered view before event answered after = Answered (Ok (Event event)) (view before) answered (view after)
 
 -- what a message may be answered over a shelf
-abbrev pub MayAnswer : {S : Type 0} (view : S → View) → RowsOf (RouteOf Route) → List SubjectModel → S → MessageModel → AnswerModel → S → Type 0
-MayAnswer view rows users before m answered after = Answered (ask_by rows users m) (view before) answered (view after)
+abbrev pub MayAnswer : {S : Type 0} (view : S → View) → List SubjectModel → S → MessageModel → AnswerModel → S → Type 0
+MayAnswer view users before m answered after = Answered (ask_of users m) (view before) answered (view after)

@@ -2,8 +2,8 @@
 ghost use Rattle.std.specs.Prelude.{◌≡◌, ◌≢◌, List, [], ◌∷◌, ◌++◌, map, IfOk, OnOk, OnErr, Err, false};
 ghost use Rattle.room_records.specs.Room.{Room};
 ghost use Rattle.room_records.specs.Shelf.{ShelfCall, fault_in};
-ghost use Rattle.room_wire.specs.EventModel.{event_model};
-ghost use Rattle.room_wire.specs.declared.code.Code.TheVariants.{Delay};
+ghost use Rattle.room_wire.specs.Asks.EventModel.{event_model};
+ghost use Rattle.room_wire.specs.declared.answers.code.Code.TheVariants.{Delay};
 ghost use Rattle.room_desk.specs.AnswerModel.{AnswerModel, Refused, answer_model, IsTurnedAway};
 ghost use Rattle.room_desk.specs.History.{History, answer_to, changes_rows};
 ghost use Rattle.room_desk.specs.Representation.{RepresentsHistory, StandsFor, WasAllowed, InTurn, Run};

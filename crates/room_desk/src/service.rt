@@ -1,10 +1,10 @@
 //! What answers the messages of a stream to a room.
-ghost use Rattle.std.specs.Prelude.{map, take, Ok};
-ghost use Rattle.httparse.specs.Spans.{header_bytes};
-ghost use Rattle.room_wire.specs.AskOf.{ask_of};
-ghost use Rattle.room_wire.specs.AskOf as A;
-ghost use Rattle.room_wire.specs.EventModel.{event_model};
-ghost use Rattle.room_wire.specs.Questions.{question_model};
+ghost use Rattle.std.specs.Prelude.{Ok};
+ghost use Rattle.room_wire.specs.Asks.AskOf as A;
+ghost use Rattle.room_wire.specs.Asks.EventModel.{event_model};
+ghost use Rattle.room_wire.specs.Messages.MessageModel.{MessageModel};
+ghost use Rattle.room_wire.specs.Messages.Taken.{Shows};
+ghost use Rattle.room_wire.specs.Questions.QuestionModel.{question_model};
 ghost use Rattle.room_desk.specs.AnswerModel.{answer_model};
 ghost use Rattle.room_desk.specs.Serving.{Answered, EventAnswered, MayAnswer};
 
@@ -36,10 +36,8 @@ impl<S: Shelf> Desk<S> {
 
     /// Answers what a message asks.
     fn serve_message(&mut self, lookup: &Lookup<'_>, message: &Message<'_>) -> Answer
-        ensures { Answered
-            (ask_of lookup.now.routes lookup.now.roster.now message.now.method.now message.now.target.now
-            (map (header_bytes message.now.window.now) (take message.now.count message.now.spans)) message.now.body.now)
-            (S.view self.old) (answer_model result) (S.view self.new) }
+        ensures { (m : MessageModel) → Shows message.now m →
+            MayAnswer S.view lookup.now.roster.now self.old m (answer_model result) self.new }
     {
         match decode(self.alloc, message, &lookup.routes, lookup.roster) {
             Ok(Ask::Check(question)) => self.serve_question(&question),
@@ -50,7 +48,7 @@ impl<S: Shelf> Desk<S> {
 }
 
 impl<'r, S: Shelf> Service<Lookup<'r>> for Desk<S> {
-    ghost may_answer = { λ lookup. MayAnswer S.view lookup.routes lookup.roster.now };
+    ghost may_answer = { λ lookup. MayAnswer S.view lookup.roster.now };
 
     fn answer(&mut self, lookup: &Lookup<'r>, message: &Message<'_>) -> Answer {
         self.serve_message(lookup, message)

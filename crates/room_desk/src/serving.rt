@@ -1,8 +1,7 @@
 //! Serving a room over a reader and a writer.
 ghost use Rattle.std.specs.Prelude.{◌≡◌, []};
 ghost use Rattle.room_records.specs.Room.{Room};
-ghost use Rattle.room_wire.specs.Ends.{Serves};
-ghost use Rattle.room_wire.specs.Routing.{room_rows};
+ghost use Rattle.room_wire.specs.Serving.Ends.{Serves};
 ghost use Rattle.room_desk.specs.History.{History};
 ghost use Rattle.room_desk.specs.Representation.{StandsFor};
 ghost use Rattle.room_desk.specs.Serving.{AnswersMessage, DeskCall, MayAnswer};
@@ -27,7 +26,7 @@ impl<S: Shelf> Desk<S> {
         writer: &mut W,
     ) -> ServeEnd
         ensures frame { DeskCall (S.view self.old) (S.view self.new) }
-        ensures messages { Serves (MayAnswer S.view room_rows roster.now) self.old self.new
+        ensures messages { Serves (MayAnswer S.view roster.now) self.old self.new
             (R.remaining reader.old) (R.remaining reader.new) (W.contents writer.old) (W.contents writer.new) result.why result.count }
         ensures run { (S.view self.new).is_intact → (start : Room) (past : History) → StandsFor start past (S.view self.old) →
             (next : History) × Serves (AnswersMessage roster.now start) past next (R.remaining reader.old) (R.remaining reader.new)
@@ -52,10 +51,9 @@ impl<S: Shelf> Desk<S> {
         reader: &mut R,
         writer: &mut W,
     ) -> ServeEnd
-        requires rows { lookup.now.routes ≡ room_rows }
-        requires empty { buffers.input ≡ [] }
+        requires { buffers.input ≡ [] }
         ensures frame { DeskCall (S.view self.old) (S.view self.new) }
-        ensures messages { Serves (MayAnswer S.view room_rows lookup.now.roster.now) self.old self.new
+        ensures messages { Serves (MayAnswer S.view lookup.now.roster.now) self.old self.new
             (R.remaining reader.old) (R.remaining reader.new) (W.contents writer.old) (W.contents writer.new) result.why result.count }
         ensures run { (S.view self.new).is_intact → (start : Room) (past : History) → StandsFor start past (S.view self.old) →
             (next : History) × Serves (AnswersMessage lookup.now.roster.now start) past next (R.remaining reader.old) (R.remaining reader.new)

@@ -3,8 +3,8 @@ use Rattle.std.proofs.Common.{◌≡◌, ℕ, ◌+◌, ◌%◌, ◌^◌, refl, a
 use Rattle.std.specs.Prelude.{◌==◌, cond}
 use Rattle.room_records.specs.Room.{Room}
 use Rattle.room_commands.specs.CommandModel.{CommandModel}
-use Rattle.room_wire.specs.declared.code.Code.TheVariants.{SeqMisordered}
-use Rattle.room_wire.specs.EventModel.{EventModel, Request, Open, Close, Slot}
+use Rattle.room_wire.specs.declared.answers.code.Code.TheVariants.{SeqMisordered}
+use Rattle.room_wire.specs.Asks.EventModel.{EventModel, Request, Open, Close, Slot}
 use Rattle.room_desk.specs.AnswerModel.{AnswerModel, Refused}
 use Rattle.room_desk.specs.History.{History, Accepted, accepted, answer_unaccepted}
 use Rattle.room_history.specs.Told.{is_counted, latest, answer_again}

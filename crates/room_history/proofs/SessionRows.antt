@@ -4,7 +4,7 @@ use Rattle.std.specs.Prelude.{not, ◌||◌, ◌&&◌}
 use Rattle.std.specs.List.{list_any}
 use Rattle.std.specs.Option.{option_map}
 use Rattle.room_acl.specs.SubjectModel.{SubjectModel}
-use Rattle.room_wire.specs.EventModel.{EventModel}
+use Rattle.room_wire.specs.Asks.EventModel.{EventModel}
 use Rattle.room_desk.specs.History.{Session, with_event, opened_by, closes, is_open_for, slots_of, answer_open, answer_close}
 use Rattle.room_desk.specs.Representation.{session_row_of}
 use Rattle.room_history.specs.Told.{row_is_for, row_slots, row_one_later, row_answer_open, row_answer_close}

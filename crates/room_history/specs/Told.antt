@@ -8,9 +8,9 @@ use Rattle.room_records.specs.declared.session.SessionRow.{SessionRow}
 use Rattle.room_records.specs.Room.{Room}
 use Rattle.room_commands.specs.CommandModel.{CommandModel}
 use Rattle.room_commands.specs.ReplyModel.{Done, Opened}
-use Rattle.room_wire.specs.declared.code.Code.TheVariants.{BadSession, SeqMisordered, SeqFalseRetry, SessionTaken}
-use Rattle.room_wire.specs.EventModel.{EventModel, Open, Close, Slot}
-use Rattle.room_wire.specs.Texts.{command_text, reply_text}
+use Rattle.room_wire.specs.declared.answers.code.Code.TheVariants.{BadSession, SeqMisordered, SeqFalseRetry, SessionTaken}
+use Rattle.room_wire.specs.Asks.EventModel.{EventModel, Open, Close, Slot}
+use Rattle.room_wire.specs.Forms.Texts.{command_text, reply_text}
 use Rattle.room_desk.specs.AnswerModel.{AnswerModel, Reply, Refused}
 use Rattle.room_desk.specs.History.{History, Accepted, closes, opened_by, session_of, is_open_for, slots_of, is_for, accepts, replay}
 use Rattle.room_desk.specs.Representation.{session_row_of}

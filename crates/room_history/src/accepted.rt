@@ -2,7 +2,7 @@
 ghost use Rattle.std.specs.Prelude.{◌≡◌, ◌≤◌, ◌^◌, ◌==◌, ◌&&◌, map, length};
 ghost use Rattle.std.specs.Str.{bytes_eq};
 ghost use Rattle.std.specs.Option.{option_map};
-ghost use Rattle.room_wire.specs.EventModel.{event_model};
+ghost use Rattle.room_wire.specs.Asks.EventModel.{event_model};
 ghost use Rattle.room_slots.specs.Slots.{next_number};
 ghost use Rattle.room_desk.specs.History.{accepted};
 ghost use Rattle.room_history.specs.Told.{accepts_number, is_counted, latest};

@@ -1,7 +1,7 @@
 //! Whose a session is, and when it is open.
 ghost use Rattle.std.specs.Prelude.{◌≡◌, ◌&&◌, not, map};
 ghost use Rattle.std.specs.Option.{option_map};
-ghost use Rattle.room_wire.specs.EventModel.{event_model};
+ghost use Rattle.room_wire.specs.Asks.EventModel.{event_model};
 ghost use Rattle.room_desk.specs.History.{closes, opened_by, session_of, is_open_for, slots_of};
 ghost use Rattle.room_desk.specs.Representation.{session_row_of};
 ghost use Rattle.room_history.specs.Told.{row_is_for, row_slots, row_one_later};

@@ -2,7 +2,7 @@
 ghost use Rattle.std.specs.Prelude.{◌≡◌, IfOk, map};
 ghost use Rattle.room_commands.specs.CommandModel.{command_model};
 ghost use Rattle.room_commands.specs.Effect.{effect};
-ghost use Rattle.room_wire.specs.EventModel.{event_model};
+ghost use Rattle.room_wire.specs.Asks.EventModel.{event_model};
 ghost use Rattle.room_desk.specs.History.{state_after};
 
 use crate::accepted::is_accepted;

@@ -4,7 +4,7 @@ use Rattle.std.proofs.lemmas.List.{take-append-drop}
 use Rattle.std.proofs.Math.Seq.{take-add}
 use Rattle.std.proofs.KnownBytes.{Appends-trans, Appends-kept}
 use Rattle.std.specs.Io.KnownBytes.{Appends, Keeps}
-use Rattle.room_wire.specs.Writers.{Sent, AppendsFront}
+use Rattle.room_wire.specs.Answers.Writers.{Sent, AppendsFront}
 
 pub sent_stop : (a b : Option (List ℕ)) (x y : List ℕ) → Sent a b x false → Sent a b (x ++ y) false
 sent_stop a b x y h = (h.0, h.1 ++ y, ap (λ t. t ++ y) h.2 ∙ append_assoc h.0 h.1 y, h.3)

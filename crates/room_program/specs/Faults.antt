@@ -1,7 +1,7 @@
 -- The faults, their lines and their status.
 use Rattle.std.specs.Prelude.{ℕ, List, codes, Option, Some, None}
-use Rattle.room_wire.specs.declared.stop.Why.{Why}
-use Rattle.room_wire.specs.declared.stop.Why.TheVariants as end
+use Rattle.room_wire.specs.declared.serving.stop.Why.{Why}
+use Rattle.room_wire.specs.declared.serving.stop.Why.TheVariants as end
 use Rattle.room_roster.specs.declared.fault.RosterFault.{RosterFault}
 use Rattle.room_roster.specs.declared.fault.RosterFault.TheVariants as roster
 use Rattle.room_program.specs.declared.fault.Fault.{Fault}

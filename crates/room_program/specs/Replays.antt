@@ -3,9 +3,9 @@ use Rattle.std.specs.Prelude.{◌≡◌, ◌⊎◌, ℕ, List, [], Option, Resul
 use Rattle.room_acl.specs.SubjectModel.{SubjectModel}
 use Rattle.room_records.specs.Room.{fresh_room}
 use Rattle.room_records.specs.Roster.{IsRoster}
-use Rattle.room_wire.specs.declared.stop.Why.{Why}
-use Rattle.room_wire.specs.declared.stop.Why.TheVariants as end
-use Rattle.room_wire.specs.Ends.{Serves}
+use Rattle.room_wire.specs.declared.serving.stop.Why.{Why}
+use Rattle.room_wire.specs.declared.serving.stop.Why.TheVariants as end
+use Rattle.room_wire.specs.Serving.Ends.{Serves}
 use Rattle.room_desk.specs.History.{History}
 use Rattle.room_desk.specs.Serving.{AnswersMessage}
 use Rattle.room_program.specs.declared.fault.Fault.{Fault}

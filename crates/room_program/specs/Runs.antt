@@ -2,9 +2,9 @@
 use Rattle.std.specs.Prelude.{◌≡◌, ◌⊎◌, ℕ, List, [], string_bytes, codes, Option, Some, None, Result, Ok, Err}
 use Rattle.std.specs.Io.KnownBytes.{Appends}
 use Rattle.clap.specs.Words.{Text}
-use Rattle.room_wire.specs.declared.stop.Why.{Why}
-use Rattle.room_wire.specs.CheckService.{MayAnswerCheck}
-use Rattle.room_wire.specs.Ends.{Serves}
+use Rattle.room_wire.specs.declared.serving.stop.Why.{Why}
+use Rattle.room_wire.specs.Serving.CheckService.{MayAnswerCheck}
+use Rattle.room_wire.specs.Serving.Ends.{Serves}
 use Rattle.room_program.specs.declared.fault.Fault.{Fault}
 use Rattle.room_program.specs.declared.fault.Fault.TheVariants as fault
 use Rattle.room_words.specs.declared.job.Job.{Job}
@@ -15,7 +15,7 @@ use Rattle.room_words.specs.CommandLine.{ReadsAs}
 use Rattle.room_program.specs.Ends.{InitEnds, ReportEnds, ServeEnds, SelftestEnds, fault_in}
 use Rattle.room_program.specs.Replays.{Replays}
 use Rattle.room_program.specs.Faults.{fault_line, fault_of}
-use Rattle.room_wire.specs.Writers.{AppendsFront}
+use Rattle.room_wire.specs.Answers.Writers.{AppendsFront}
 
 -- the three streams: the bytes that the input has left, and those that the outputs hold, where they are known
 pub record Streams : Type 0 where

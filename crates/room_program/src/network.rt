@@ -1,7 +1,7 @@
 //! Serving a room over connections.
 ghost use Rattle.std.specs.Prelude.{◌≡◌, ◌≤◌, ◌++◌, List};
 ghost use Rattle.room_records.specs.Room.{Room};
-ghost use Rattle.room_wire.specs.EventModel.{EventModel};
+ghost use Rattle.room_wire.specs.Asks.EventModel.{EventModel};
 ghost use Rattle.room_desk.specs.History.{History};
 ghost use Rattle.room_desk.specs.Representation.{RepresentsHistory};
 

@@ -1,5 +1,5 @@
 //! Writing texts whole.
-ghost use Rattle.room_wire.specs.Writers.{Sent};
+ghost use Rattle.room_wire.specs.Answers.Writers.{Sent};
 
 use std::io::Write;
 

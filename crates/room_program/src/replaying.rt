@@ -5,7 +5,7 @@ ghost use Rattle.room_records.specs.Room.{Room, fresh_room};
 ghost use Rattle.room_desk.specs.History.{History};
 ghost use Rattle.room_desk.specs.Representation.{RepresentsHistory};
 ghost use Rattle.room_desk.specs.Serving.{AnswersMessage};
-ghost use Rattle.room_wire.specs.Ends.{Serves};
+ghost use Rattle.room_wire.specs.Serving.Ends.{Serves};
 ghost use Rattle.room_program.specs.Replays.{done_of, Replays};
 
 use crate::fault::Fault;

@@ -1,7 +1,7 @@
 //! The public calls behind an answer.
 use crate::answers::QUESTION;
 use room_wire::{
-    Routes, Take, check_answer, command_text, decode_check, read_command, rest_of_stream,
+    CheckRoute, Take, check_answer, command_text, decode_check, read_command, rest_of_stream,
     take_message,
 };
 use std::alloc::Global;
@@ -11,12 +11,12 @@ use std::test::Fail;
 #[test]
 fn one_question_by_its_calls(rt: HostRuntime) -> Result<(), Fail> {
     let alloc = rt.alloc();
-    let routes = Routes::check_only(alloc)?;
+    let route = CheckRoute::new(alloc)?;
     let Take::Whole(message) = take_message(QUESTION.as_bytes()) else {
         return Err(Fail::new("no message"));
     };
     assert_eq!(rt; message.size, QUESTION.len());
-    let question = decode_check(alloc, &message, &routes)?;
+    let question = decode_check(alloc, &message, &route)?;
     let text = check_answer(alloc, &question)?;
     assert_eq!(rt;
         text.as_slice(),

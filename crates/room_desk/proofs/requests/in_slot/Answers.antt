@@ -8,8 +8,8 @@ use Rattle.room_records.proofs.Shelves.{call_then}
 use Rattle.room_slots.specs.Slots.{verdict}
 use Rattle.room_slots.specs.declared.verdict.Verdict.{Verdict}
 use Rattle.room_commands.specs.CommandModel.{command_model}
-use Rattle.room_wire.specs.EventModel.{Request, Slot}
-use Rattle.room_wire.specs.Texts.{command_text}
+use Rattle.room_wire.specs.Asks.EventModel.{Request, Slot}
+use Rattle.room_wire.specs.Forms.Texts.{command_text}
 use Rattle.room_desk.specs.AnswerModel.{answer_model}
 use Rattle.room_desk.specs.History.{answer_to, state_after}
 use Rattle.room_desk.specs.Representation.{RepresentsHistory}

@@ -6,8 +6,14 @@ use Rattle.room_records.specs.declared.session.SlotRow.{SlotRow}
 use Rattle.room_records.specs.Changes.{apply_changes, RulesHoldAfterEach}
 use Rattle.room_commands.specs.CommandModel.{command_model}
 use Rattle.room_desk.specs.AnswerModel.{AnswerModel, Reply}
+use Rattle.room_desk.proofs.Faults.{passed_on}
 use Rattle.room_desk.proofs.Running.{planned_row, all_changes, planned_rules, ran}
 use Rattle.room_desk.proofs.requests.run_new.Goals as goal
+
+pub returns-in_err-commit-clause-frame : goal.returns-in_err-commit-clause-frame
+returns-in_err-commit-clause-frame g c =
+    passed_on _ _ _ _ c.from_residual-in_err-commit.result c.from_residual-in_err-commit.ensures.0 c.from_residual-in_err-commit.ensures.1
+    c.in_err-commit.ensures.frame c.in_ok-outcome.ensures.frame
 
 pub returns-clause-ok : goal.returns-clause-ok
 returns-clause-ok g c = λ h d room stand slots has.

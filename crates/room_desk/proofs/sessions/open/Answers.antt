@@ -6,8 +6,8 @@ use Rattle.room_records.specs.declared.change.Change.{Change}
 use Rattle.room_records.specs.declared.change.Change.TheVariants.{PutSession}
 use Rattle.room_records.proofs.Shelves.{call_then}
 use Rattle.room_commands.specs.ReplyModel.{Opened}
-use Rattle.room_wire.specs.Texts.{reply_text}
-use Rattle.room_wire.specs.EventModel.{Open}
+use Rattle.room_wire.specs.Forms.Texts.{reply_text}
+use Rattle.room_wire.specs.Asks.EventModel.{Open}
 use Rattle.room_desk.specs.AnswerModel.{answer_model}
 use Rattle.room_desk.specs.AnswerModel as A
 use Rattle.room_desk.specs.History.{answer_to}

@@ -1,5 +1,5 @@
 use Rattle.std.proofs.Common.{◌≡◌, ◌≤◌, ◌++◌, List}
-use Rattle.room_wire.specs.EventModel.{EventModel}
+use Rattle.room_wire.specs.Asks.EventModel.{EventModel}
 use Rattle.room_records.specs.Room.{Room}
 use Rattle.room_desk.specs.History.{History}
 use Rattle.room_desk.specs.Representation.{RepresentsHistory}

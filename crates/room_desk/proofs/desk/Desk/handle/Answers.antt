@@ -2,7 +2,7 @@ use Rattle.std.proofs.Common.{sym, subst, ◌∷◌, refl, inl, inr}
 use Rattle.room_records.specs.Records.{Records}
 use Rattle.room_records.specs.declared.shelf.ShelfFault.TheVariants.{Store}
 use Rattle.room_records.proofs.Shelves.{none_not_store}
-use Rattle.room_wire.specs.EventModel.{event_model}
+use Rattle.room_wire.specs.Asks.EventModel.{event_model}
 use Rattle.room_desk.specs.Representation.{RepresentsHistory}
 use Rattle.room_desk.proofs.Allowed.{had_rights}
 use Rattle.room_desk.proofs.Calls.{one_call}

@@ -1,8 +1,8 @@
 use Rattle.std.proofs.Common.{◌≡◌, List, [], ◌∷◌, ◌++◌, length, ap, ◌∙◌, arith, map, refl, sym, subst}
 use Rattle.std.proofs.lemmas.List.{take_all, map-append, length_push, same_from_push}
-use Rattle.room_wire.specs.declared.answer.Answer.{Answer}
-use Rattle.room_wire.specs.declared.event.Event.{Event}
-use Rattle.room_wire.specs.EventModel.{event_model}
+use Rattle.room_wire.specs.declared.answers.answer.Answer.{Answer}
+use Rattle.room_wire.specs.declared.asks.event.Event.{Event}
+use Rattle.room_wire.specs.Asks.EventModel.{event_model}
 use Rattle.room_desk.specs.AnswerModel.{answer_model}
 use Rattle.room_desk.specs.Representation.{InTurn, Run, Step}
 use Rattle.room_desk.specs.Serving.{EventAnswered}

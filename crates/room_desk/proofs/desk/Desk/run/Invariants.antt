@@ -1,7 +1,7 @@
 use Rattle.std.proofs.Common.{◌≡◌, ◌≢◌, ◌≤◌, List, [], ◌∷◌, ◌++◌, length, map, take, vec_len, vec_capacity}
 use Rattle.room_records.specs.Room.{Room}
-use Rattle.room_wire.specs.EventModel.{event_model}
-use Rattle.room_wire.specs.declared.code.Code.TheVariants.{Delay}
+use Rattle.room_wire.specs.Asks.EventModel.{event_model}
+use Rattle.room_wire.specs.declared.answers.code.Code.TheVariants.{Delay}
 use Rattle.room_desk.specs.AnswerModel.{AnswerModel, Refused, answer_model}
 use Rattle.room_desk.specs.History.{History}
 use Rattle.room_desk.specs.Representation.{StandsFor, InTurn, Run}

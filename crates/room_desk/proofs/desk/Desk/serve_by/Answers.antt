@@ -1,14 +1,10 @@
-use Rattle.room_desk.proofs.Messages.{served_stream, by_room_rows}
+use Rattle.room_desk.proofs.Messages.{served_stream}
 use Rattle.room_desk.proofs.desk.Desk.serve_by.Goals as goal
 
 pub returns-clause-frame : goal.returns-clause-frame
 returns-clause-frame g c =
-    (served_stream g.S.Shelf.view c.args.lookup.now.routes c.args.lookup.now.roster.now _ _ _ _ _ _ _ _ c.requires.rows c.serve_messages.ensures).frame
+    (served_stream g.S.Shelf.view c.args.lookup.now.roster.now _ _ _ _ _ _ _ _ c.serve_messages.ensures).frame
 
 pub returns-clause-run : goal.returns-clause-run
 returns-clause-run g c =
-    (served_stream g.S.Shelf.view c.args.lookup.now.routes c.args.lookup.now.roster.now _ _ _ _ _ _ _ _ c.requires.rows c.serve_messages.ensures).run
-
-pub returns-clause-messages : goal.returns-clause-messages
-returns-clause-messages g c =
-    by_room_rows g.S.Shelf.view c.args.lookup.now.routes c.args.lookup.now.roster.now _ _ _ _ _ _ _ _ c.requires.rows c.serve_messages.ensures
+    (served_stream g.S.Shelf.view c.args.lookup.now.roster.now _ _ _ _ _ _ _ _ c.serve_messages.ensures).run

@@ -1,4 +1,4 @@
-use Rattle.room_wire.specs.Questions.{question_model}
+use Rattle.room_wire.specs.Questions.QuestionModel.{question_model}
 use Rattle.room_desk.specs.AnswerModel.{answer_model}
 use Rattle.room_desk.proofs.Messages.{question_stays}
 use Rattle.room_desk.proofs.desk.Desk.serve_question.Goals as goal

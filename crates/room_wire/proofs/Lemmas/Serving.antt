@@ -1,0 +1,3 @@
+-- Serving the messages of a stream.
+pub mod Joins
+pub mod Rounds

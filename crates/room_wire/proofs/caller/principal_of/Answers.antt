@@ -1,6 +1,0 @@
-use Rattle.std.proofs.Common.{sym}
-use Rattle.room_wire.proofs.Numerals.{no_principal}
-use Rattle.room_wire.proofs.caller.principal_of.Goals as goal
-
-pub returns-in-Err : goal.returns-in-Err
-returns-in-Err c = sym (no_principal c.args.text.now c.in-Err.ensures.cases.0)

@@ -1,0 +1,10 @@
+use Rattle.std.proofs.Common.{rules, ◌≡◌, Some}
+use Rattle.room_commands.specs.CommandModel.{command_model}
+use Rattle.room_wire.specs.Forms.Commands.{command_of_body}
+use Rattle.room_wire.proofs.Lemmas.Forms.CommandLawful.{asked_is_lawful}
+use Rattle.room_wire.proofs.forms.commands.read_command.Goals as goal
+
+pub returns-in-Ok-Some-clause-lawful : goal.returns-in-Ok-Some-clause-lawful
+returns-in-Ok-Some-clause-lawful c =
+    let asked : command_of_body c.args.body.now ≡ Some (command_model c.in-Ok-Some.command) = search rules in
+    asked_is_lawful c.args.body.now (command_model c.in-Ok-Some.command) c.bytes_of_fit.ensures asked

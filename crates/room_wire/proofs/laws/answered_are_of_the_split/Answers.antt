@@ -1,5 +1,0 @@
-use Rattle.room_wire.proofs.Joins.{answered_front}
-use Rattle.room_wire.proofs.laws.answered_are_of_the_split.Goals as goal
-
-pub returns : goal.returns
-returns c = λ bytes rest out q ms ks after old new why. answered_front bytes rest ms ks out q after old new why

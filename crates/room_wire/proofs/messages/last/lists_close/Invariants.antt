@@ -1,0 +1,9 @@
+use Rattle.std.proofs.Common.{◌≡◌, length}
+use Rattle.room_wire.specs.Messages.Stream.{lists_close}
+use Rattle.room_wire.proofs.messages.last.lists_close.Given as goal
+
+abbrev pub invariant-parts : goal.invariant-parts
+invariant-parts l = lists_close l.rest ≡ lists_close l.value
+
+abbrev pub decreases-parts : goal.decreases-parts
+decreases-parts l = length l.rest

@@ -1,8 +1,0 @@
-use Rattle.matchit.proofs.OnLiterals.{matchit_on_literals}
-use Rattle.room_wire.proofs.routing.check_router.Goals as goal
-
-pub returns : goal.returns
-unfolding matchit_on_literals
-returns c =
-    let a = rw c.new-router.ensures at c.in_ok-insert.ensures in
-    a.1

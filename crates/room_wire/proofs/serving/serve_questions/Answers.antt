@@ -1,4 +1,0 @@
-use Rattle.room_wire.proofs.serving.serve_questions.Goals as goal
-
-pub returns : goal.returns
-returns g c = rw c.requires.rows at c.serve_messages.ensures

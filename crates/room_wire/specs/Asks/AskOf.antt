@@ -1,0 +1,140 @@
+-- What a message asks of a room: a question, an event, or one of the refusals BAD_ROUTE, UNKNOWN_USER and BAD_REQUEST, which
+-- are looked for in this order (our own rules).
+use Rattle.std.specs.Prelude.{◌≡◌, ℕ, ◌^◌, Bool, ◌==◌, ◌||◌, ◌&&◌, not, nat_le, nat_lt, List, [], ◌∷◌, length, slice_index, Option, None, Some, Result, Ok, Err, if◌then◌else◌, option_map, option_and_then, codes}
+use Rattle.std.specs.List.{list_all}
+use Rattle.std.specs.Char.{is_ascii_digit}
+use Rattle.std.specs.Str.Parse.{digits_value}
+use Rattle.serde_json.specs.Data.{Data}
+use Rattle.room_acl.specs.SubjectModel.{SubjectModel}
+use Rattle.room_acl.specs.declared.subject.Subject.{Subject}
+use Rattle.room_records.specs.Names.{is_sid}
+use Rattle.room_records.specs.Roster.{groups_of}
+use Rattle.room_commands.specs.CommandModel.{CommandModel}
+use Rattle.room_wire.specs.declared.asks.ask.Ask.{Ask}
+use Rattle.room_wire.specs.declared.asks.ask.Ask.TheVariants as A
+use Rattle.room_wire.specs.declared.fault.WireFault.{WireFault}
+use Rattle.room_wire.specs.declared.fault.WireFault.TheVariants.{BadRoute, UnknownUser, BadRequest, Memory}
+use Rattle.room_wire.specs.declared.asks.routing.SessionAction.{SessionAction}
+use Rattle.room_wire.specs.declared.asks.routing.SessionAction.TheVariants as S
+use Rattle.room_wire.specs.declared.asks.routing.Action.{Action}
+use Rattle.room_wire.specs.declared.asks.routing.Action.TheVariants as T
+use Rattle.room_wire.specs.Forms.Commands.{command_of_body}
+use Rattle.room_wire.specs.Asks.EventModel.{EventModel, Open, Close, Slot, event_model}
+use Rattle.room_wire.specs.Messages.Fields.{values_named}
+use Rattle.room_wire.specs.Questions.QuestionModel.{QuestionModel, question_model, question_of_body}
+use Rattle.room_wire.specs.Forms.Reading.{json_of, has_count, number_at, principal_from}
+use Rattle.room_wire.specs.Asks.Routing.{TargetModel, target_at, room_rows}
+use Rattle.room_wire.specs.Messages.MessageModel.{MessageModel, fields_of}
+
+-- a question, or an event
+pub data AskModel : Type 0 where
+  Check : QuestionModel → AskModel
+  Event : EventModel → AskModel
+
+abbrev pub ask_model : Ask → AskModel
+ask_model (A.Check question) = Check (question_model question)
+ask_model (A.Event event) = Event (event_model event)
+
+-- the user of this name, with the groups of the roster
+abbrev pub user_called : List SubjectModel → List ℕ → Option SubjectModel
+user_called users name = option_map (λ (groups : List (List ℕ)). record { name = name; groups = groups }) (groups_of users name)
+
+-- the user whom the values of the fields `room-user` name: there is one such field, and it names a user of the roster
+abbrev pub caller_by : List SubjectModel → List (List ℕ) → Option SubjectModel
+caller_by users [] = None
+caller_by users (value ∷ []) = option_and_then (user_called users) (principal_from value)
+caller_by users (value ∷ other ∷ others) = None
+
+abbrev pub sid_from : List ℕ → Option (List ℕ)
+sid_from text = if is_sid text then Some text else None
+
+-- decimal digits, and no zero before others
+abbrev pub is_number : List ℕ → Bool
+is_number text = nat_le 1 (length text) && (list_all is_ascii_digit text && (length text == 1 || not (slice_index text 0 == 48)))
+
+-- the number of this text, below 2^32
+abbrev pub number_from : List ℕ → Option ℕ
+number_from text = if is_number text && nat_lt (digits_value 10 text) (2 ^ 32) then Some (digits_value 10 text) else None
+
+abbrev pub slots_from : ℕ → Option ℕ
+slots_from n = if nat_le 1 n && nat_le n 16 then Some n else None
+
+-- one member, exactly
+abbrev pub slots_in : Data → Option ℕ
+slots_in d = if has_count 1 d then option_and_then slots_from (number_at (codes "slots") d) else None
+
+-- how many slots the body of an OPEN asks: 1 to 16
+abbrev pub slots_of_body : List ℕ → Option ℕ
+slots_of_body body = option_and_then slots_in (json_of body)
+
+abbrev pub open_by : SubjectModel → Option (List ℕ) → Option ℕ → Option EventModel
+open_by caller None slots = None
+open_by caller (Some sid) None = None
+open_by caller (Some sid) (Some slots) = Some (Open caller sid slots)
+
+abbrev pub close_by : SubjectModel → Option (List ℕ) → Option EventModel
+close_by caller sid = option_map (Close caller) sid
+
+abbrev pub request_by : SubjectModel → Option (List ℕ) → (slot seq : Option ℕ) → Option CommandModel → Option EventModel
+request_by caller None slot seq command = None
+request_by caller (Some sid) None seq command = None
+request_by caller (Some sid) (Some slot) None command = None
+request_by caller (Some sid) (Some slot) (Some seq) None = None
+request_by caller (Some sid) (Some slot) (Some seq) (Some command) =
+    Some (Slot (record { caller = caller; sid = sid; slot = slot; seq = seq; command = command }))
+
+-- the event that a user asks; a CLOSE ignores its body
+abbrev pub event_by : SessionAction → SubjectModel → TargetModel → (body : List ℕ) → Option EventModel
+event_by S.Open caller target body = open_by caller (sid_from target.sid) (slots_of_body body)
+event_by S.Close caller target body = close_by caller (sid_from target.sid)
+event_by S.Run caller target body =
+    request_by caller (sid_from target.sid) (number_from target.slot) (number_from target.seq) (command_of_body body)
+
+abbrev pub question_asked : Option QuestionModel → Result AskModel WireFault
+question_asked None = Err BadRequest
+question_asked (Some question) = Ok (Check question)
+
+abbrev pub event_asked : Option EventModel → Result AskModel WireFault
+event_asked None = Err BadRequest
+event_asked (Some event) = Ok (Event event)
+
+abbrev pub session_ask : SessionAction → Option SubjectModel → TargetModel → (body : List ℕ) → Result AskModel WireFault
+session_ask action None target body = Err UnknownUser
+session_ask action (Some caller) target body = event_asked (event_by action caller target body)
+
+abbrev pub ask_by : Action → List SubjectModel → TargetModel → List (List ℕ × List ℕ) → (body : List ℕ) → Result AskModel WireFault
+ask_by T.Check users target fields body = question_asked (question_of_body body)
+ask_by (T.Session action) users target fields body =
+    session_ask action (caller_by users (values_named (codes "room-user") fields)) target body
+
+abbrev pub ask_for : Option TargetModel → List SubjectModel → List (List ℕ × List ℕ) → (body : List ℕ) → Result AskModel WireFault
+ask_for None users fields body = Err BadRoute
+ask_for (Some target) users fields body = ask_by target.action users target fields body
+
+-- what a message asks of a room with these users: the route and its method, then the user, then all else
+abbrev pub ask_of : List SubjectModel → MessageModel → Result AskModel WireFault
+ask_of users m = ask_for (target_at room_rows m.head.method m.head.target) users (fields_of m) m.body
+
+-- the result is what was asked, unless memory was refused
+abbrev pub DecodesAsk : Result AskModel WireFault → Result Ask WireFault → Type 0
+DecodesAsk ask (Ok asked) = ask ≡ Ok (ask_model asked)
+DecodesAsk ask (Err BadRoute) = ask ≡ Err BadRoute
+DecodesAsk ask (Err UnknownUser) = ask ≡ Err UnknownUser
+DecodesAsk ask (Err BadRequest) = ask ≡ Err BadRequest
+DecodesAsk ask (Err Memory) = Unit {0}
+
+-- the result is what was wanted, or a bad request where nothing was, unless memory was refused
+abbrev pub ReadsAs : {X A : Type 0} → (X → A) → Option A → Result X WireFault → Type 0
+ReadsAs show wanted (Ok x) = wanted ≡ Some (show x)
+ReadsAs show wanted (Err BadRequest) = wanted ≡ None
+ReadsAs show wanted (Err Memory) = Unit {0}
+ReadsAs show wanted (Err BadRoute) = ⊥
+ReadsAs show wanted (Err UnknownUser) = ⊥
+
+-- the caller, or an unknown user where there is none, unless memory was refused
+abbrev pub FindsCaller : Option SubjectModel → Result Subject WireFault → Type 0
+FindsCaller wanted (Ok caller) = wanted ≡ Some caller
+FindsCaller wanted (Err UnknownUser) = wanted ≡ None
+FindsCaller wanted (Err Memory) = Unit {0}
+FindsCaller wanted (Err BadRoute) = ⊥
+FindsCaller wanted (Err BadRequest) = ⊥

@@ -1,0 +1,4 @@
+-- JSON forms: commands, replies and entries, and their texts.
+pub mod Commands
+pub mod Reading
+pub mod Texts

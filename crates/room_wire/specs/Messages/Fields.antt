@@ -1,0 +1,44 @@
+-- What the fields of a head say.
+use Rattle.std.specs.Prelude.{◌≡◌, ℕ, Bool, ◌&&◌, List, [], ◌∷◌, map, length, Option, Some, None, if◌then◌else◌, nat_le, codes, bytes_eq}
+use Rattle.std.specs.List.{list_all}
+use Rattle.std.specs.Char.{is_ascii_digit, to_ascii_lowercase}
+use Rattle.std.specs.Str.Parse.{digits_value}
+use Rattle.room_wire.specs.declared.messages.fields.Found.{Found}
+use Rattle.room_wire.specs.declared.messages.fields.Found.TheVariants.{Absent, One, Many}
+
+-- the field has this name, in any case
+abbrev pub is_named : List ℕ → List ℕ × List ℕ → Bool
+is_named name field = bytes_eq (map to_ascii_lowercase field.0) (map to_ascii_lowercase name)
+
+-- the values of the fields of this name, in their order
+abbrev pub values_named : List ℕ → List (List ℕ × List ℕ) → List (List ℕ)
+values_named name [] = []
+values_named name (field ∷ fields) = if is_named name field then field.1 ∷ values_named name fields else values_named name fields
+
+-- 1 to 10 digits
+abbrev pub is_length_text : List ℕ → Bool
+is_length_text text = nat_le 1 (length text) && (nat_le (length text) 10 && list_all is_ascii_digit text)
+
+-- the length that a field's value states, at most 131,072
+abbrev pub stated_length : List ℕ → Option ℕ
+stated_length text = if is_length_text text then (if nat_le (digits_value 10 text) 131072 then Some (digits_value 10 text) else None) else None
+
+-- at most one field states the length
+abbrev pub length_by : List (List ℕ) → Option ℕ
+length_by [] = Some 0
+length_by (text ∷ []) = stated_length text
+length_by (text ∷ other ∷ others) = None
+
+abbrev pub unless_any : List (List ℕ) → Option ℕ → Option ℕ
+unless_any [] n = n
+unless_any (value ∷ values) n = None
+
+-- the length of the body, if the fields state one
+abbrev pub body_length : List (List ℕ × List ℕ) → Option ℕ
+body_length fields = unless_any (values_named (codes "transfer-encoding") fields) (length_by (values_named (codes "content-length") fields))
+
+-- what was found of these values
+abbrev pub IsFound : Found → List (List ℕ) → Type 0
+IsFound Absent values = values ≡ []
+IsFound (One value) values = values ≡ value.now ∷ []
+IsFound Many values = (first second : List ℕ) × (others : List (List ℕ)) × (values ≡ first ∷ second ∷ others)

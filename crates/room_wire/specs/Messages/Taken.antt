@@ -1,0 +1,38 @@
+-- What is taken from the front of the bytes.
+use Rattle.std.specs.Prelude.{◌≡◌, ℕ, ◌<◌, ◌≤◌, ◌⊎◌, List, map, length, take, drop, Some}
+use Rattle.httparse.specs.Grammar.{RequestHead, print_request, ReadsRequest, HasNoRequest, MayBecomeRequest}
+use Rattle.httparse.specs.Spans.{header_bytes}
+use Rattle.room_wire.specs.declared.messages.message.Message.{Message}
+use Rattle.room_wire.specs.declared.messages.message.Take.{Take}
+use Rattle.room_wire.specs.declared.messages.message.Take.TheVariants.{Whole, More, Bad}
+use Rattle.room_wire.specs.Messages.MessageModel.{MessageModel, Reads, NoMessage, NeverMessage, print_message, fields_of, body_after}
+
+-- the parts that were lent are those of the message
+pub record Shows (message : Message) (m : MessageModel) : Type 0 where
+  pub method : message.method.now ≡ m.head.method
+  pub target : message.target.now ≡ m.head.target
+  pub fields : map (header_bytes message.window.now) (take message.count message.spans) ≡ fields_of m
+  pub body : message.body.now ≡ m.body
+  pub minor : message.minor ≡ m.head.minor
+  pub size : message.size ≡ length (print_message m)
+
+-- the head is not whole, in fewer bytes than its limit, and `httparse` waits for the rest of it
+pub record LacksHead (bytes : List ℕ) : Type 0 where
+  pub short : length bytes < 8192
+  pub not_whole : HasNoRequest bytes
+  pub unfinished : MayBecomeRequest bytes
+
+-- the head is whole and within the limits, its fields state the length of a body, and fewer bytes follow
+pub record LacksBody (bytes : List ℕ) : Type 0 where
+  pub head : RequestHead
+  pub rest : List ℕ
+  pub reads : ReadsRequest bytes head rest
+  pub head_fits : length (print_request head) ≤ 8192
+  pub few_fields : length head.fields ≤ 32
+  pub lacks : (size : ℕ) × (body_after head ≡ Some size) × (length rest < size)
+
+-- `Whole`: the message at the front. `More`: there is none yet, the limits allow one, and what is lacking. `Bad`: none can come
+abbrev pub Takes : List ℕ → Take → Type 0
+Takes bytes (Whole message) = (m : MessageModel) × Reads bytes m (drop message.size bytes) × Shows message m
+Takes bytes More = NoMessage bytes × (length bytes < 139264) × (LacksHead bytes ⊎ LacksBody bytes)
+Takes bytes Bad = NeverMessage bytes × (0 < length bytes)

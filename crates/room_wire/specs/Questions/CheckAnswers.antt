@@ -1,0 +1,56 @@
+-- The texts of the answers to questions.
+use Rattle.std.specs.Prelude.{ℕ, List, [], ◌∷◌, Option, None, Some, codes, bit_and}
+use Rattle.serde_json.specs.Data.{Data, array}
+use Rattle.serde_json.specs.Written.{compact_text}
+use Rattle.room_acl.specs.declared.subject.Kind.{Kind}
+use Rattle.room_acl.specs.declared.subject.Kind.TheVariants.{Folder}
+use Rattle.room_acl.specs.declared.subject.Standing.{Standing}
+use Rattle.room_acl.specs.declared.access.Decision.{Decision}
+use Rattle.room_acl.specs.declared.access.Decision.TheVariants.{Allowed, Denied}
+use Rattle.room_acl.specs.declared.inheritance.ListFault.{ListFault}
+use Rattle.room_acl.specs.declared.inheritance.ListFault.TheVariants.{Inval, AttrNotSupp}
+use Rattle.room_acl.specs.SubjectModel.{SubjectModel}
+use Rattle.room_acl.specs.Entries.{EntryModel}
+use Rattle.room_acl.specs.Access.{decision, allowed_mask}
+use Rattle.room_acl.specs.Inheritance.{handed_down, own_entries_fault}
+use Rattle.room_wire.specs.Questions.QuestionModel.{QuestionModel, OfList, OfChild, ListQuestion}
+use Rattle.room_wire.specs.Forms.Texts.{num, obj, ok}
+use Rattle.room_wire.specs.Forms.Texts as T
+
+abbrev pub subject_of : ListQuestion → SubjectModel
+subject_of q = record { name = q.user; groups = q.groups }
+
+abbrev pub standing_of : ListQuestion → Standing
+standing_of q = record { owner = q.owner; group = q.group }
+
+-- the lowest wanted bit that is not allowed, or 0
+abbrev pub bit_of : Decision → ℕ
+bit_of Allowed = 0
+bit_of (Denied bit) = bit
+
+abbrev pub allowed_data : (allowed bit : ℕ) → Data
+allowed_data allowed bit = obj ((codes "allowed", num allowed) ∷ (codes "bit", num bit) ∷ ok ∷ [])
+
+-- the wanted bits that are allowed, and the lowest wanted bit that is not
+abbrev pub list_text : List EntryModel → SubjectModel → Standing → ℕ → List ℕ
+list_text entries subject standing mask =
+    compact_text (allowed_data (bit_and (allowed_mask entries subject standing) mask) (bit_of (decision entries subject standing mask)))
+
+abbrev pub fault_text : ListFault → List ℕ
+fault_text Inval = codes "{\"code\":7,\"error\":\"INVAL\"}"
+fault_text AttrNotSupp = codes "{\"code\":8,\"error\":\"ATTRNOTSUPP\"}"
+
+abbrev pub entries_data : List EntryModel → Data
+entries_data entries = obj (ok ∷ (codes "entries", array (T.entries entries)) ∷ [])
+
+abbrev pub child_text_by : Option ListFault → List EntryModel → List ℕ
+child_text_by (Some fault) handed = fault_text fault
+child_text_by None handed = compact_text (entries_data handed)
+
+-- the fault of the entries as a folder's own, or what they hand down to a child of this kind
+abbrev pub child_text : List EntryModel → Kind → List ℕ
+child_text entries kind = child_text_by (own_entries_fault entries Folder) (handed_down entries kind)
+
+abbrev pub answer_text : QuestionModel → List ℕ
+answer_text (OfList q) = list_text q.entries (subject_of q) (standing_of q) q.mask
+answer_text (OfChild q) = child_text q.entries q.kind

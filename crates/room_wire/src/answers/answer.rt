@@ -1,0 +1,51 @@
+//! What a message is answered.
+ghost use Rattle.std.specs.Prelude.{◌≡◌};
+ghost use Rattle.room_wire.specs.Answers.AnswerModel.{answer_model, answer_status, answer_body, refusal_status};
+
+use crate::answers::code::{Code, refusal_text};
+use http::StatusCode;
+
+/// What a message is answered.
+#[derive(Debug, Drop)]
+pub enum Answer {
+    /// The text of a reply, or of an answered question.
+    Reply(Vec<u8>),
+    Refused(Code),
+}
+
+/// The status of a refusal.
+pub fn refusal_status(code: Code) -> StatusCode
+    ensures { result ≡ refusal_status code }
+{
+    match code {
+        Code::BadSession
+        | Code::BadSlot
+        | Code::SeqMisordered
+        | Code::SeqFalseRetry
+        | Code::SessionTaken => StatusCode::CONFLICT,
+        Code::Delay => StatusCode::SERVICE_UNAVAILABLE,
+        Code::BadHttp | Code::BadRequest => StatusCode::BAD_REQUEST,
+        Code::BadRoute => StatusCode::NOT_FOUND,
+        Code::UnknownUser => StatusCode::FORBIDDEN,
+    }
+}
+
+impl Answer {
+    pub fn status(&self) -> StatusCode
+        ensures { result ≡ answer_status (answer_model self.now) }
+    {
+        match self {
+            Answer::Reply(_) => StatusCode::OK,
+            Answer::Refused(code) => refusal_status(*code),
+        }
+    }
+
+    pub fn body(&self) -> &[u8]
+        ensures { result.now ≡ answer_body (answer_model self.now) }
+    {
+        match self {
+            Answer::Reply(text) => text.as_slice(),
+            Answer::Refused(code) => refusal_text(*code).as_bytes(),
+        }
+    }
+}

@@ -1,0 +1,134 @@
+//! From messages to questions and events.
+ghost use Rattle.std.specs.Prelude.{◌≡◌, map, take};
+ghost use Rattle.httparse.specs.Spans.{header_bytes};
+ghost use Rattle.room_wire.specs.Asks.AskOf.{ask_of, ask_for, DecodesAsk, ReadsAs, open_by, close_by, request_by, event_by, sid_from, number_from, slots_of_body, question_asked};
+ghost use Rattle.room_wire.specs.Forms.Commands.{command_of_body};
+ghost use Rattle.room_wire.specs.Asks.EventModel.{event_model};
+ghost use Rattle.room_wire.specs.Questions.QuestionModel.{question_of_body};
+ghost use Rattle.room_wire.specs.Asks.Routing.{target_model, target_at, room_rows};
+ghost use Rattle.room_wire.specs.Messages.MessageModel.{MessageModel};
+ghost use Rattle.room_wire.specs.Messages.Taken.{Shows};
+
+use crate::asks::ask::Ask;
+use crate::asks::caller::caller_of;
+use crate::asks::event::Event;
+use crate::asks::routing::{Action, Routes, SessionAction, Target};
+use crate::asks::target_parts::{number_in, read_slots, sid_in};
+use crate::fault::WireFault;
+use crate::forms::commands::read_command;
+use crate::messages::message::Message;
+use crate::questions::asking::question_of_body;
+use room_acl::Subject;
+use room_records::Roster;
+use std::alloc::Global;
+
+fn open_event(alloc: Global, subject: Subject, sid: &str, body: &[u8]) -> Result<Event, WireFault>
+    ensures { ReadsAs event_model (open_by subject (sid_from sid.now) (slots_of_body body.now)) result }
+{
+    let sid = sid_in(alloc, sid)?;
+    let slots = read_slots(alloc, body)?;
+    Ok(Event::Open {
+        subject,
+        sid,
+        slots,
+    })
+}
+
+fn close_event(alloc: Global, subject: Subject, sid: &str) -> Result<Event, WireFault>
+    ensures { ReadsAs event_model (close_by subject (sid_from sid.now)) result }
+{
+    let sid = sid_in(alloc, sid)?;
+    Ok(Event::Close { subject, sid })
+}
+
+fn slot_event(
+    alloc: Global,
+    subject: Subject,
+    target: &Target<'_>,
+    body: &[u8],
+) -> Result<Event, WireFault>
+    ensures { ReadsAs event_model (request_by subject (sid_from target.now.sid.now) (number_from target.now.slot.now)
+        (number_from target.now.seq.now) (command_of_body body.now)) result }
+{
+    let sid = sid_in(alloc, target.sid)?;
+    let slot = number_in(target.slot)?;
+    let seq = number_in(target.seq)?;
+    let command = read_command(alloc, body)?;
+    Ok(Event::Slot {
+        subject,
+        sid,
+        slot,
+        seq,
+        command,
+    })
+}
+
+/// The event that a user asks.
+fn read_event(
+    alloc: Global,
+    action: SessionAction,
+    subject: Subject,
+    target: &Target<'_>,
+    body: &[u8],
+) -> Result<Event, WireFault>
+    ensures { ReadsAs event_model (event_by action subject (target_model target.now) body.now) result }
+{
+    match action {
+        SessionAction::Open => open_event(alloc, subject, target.sid, body),
+        SessionAction::Close => close_event(alloc, subject, target.sid),
+        SessionAction::Run => slot_event(alloc, subject, target, body),
+    }
+}
+
+fn check_ask(alloc: Global, body: &[u8]) -> Result<Ask, WireFault>
+    ensures { DecodesAsk (question_asked (question_of_body body.now)) result }
+{
+    match question_of_body(alloc, body) {
+        Ok(Some(question)) => Ok(Ask::Check(question)),
+        Ok(None) => Err(WireFault::BadRequest),
+        Err(_) => Err(WireFault::Memory),
+    }
+}
+
+/// What a message asks, by the parts that were lent of it.
+fn read_ask(
+    alloc: Global,
+    message: &Message<'_>,
+    routes: &Routes,
+    roster: &Roster,
+) -> Result<Ask, WireFault>
+    ensures { DecodesAsk (ask_for (target_at room_rows message.now.method.now message.now.target.now) roster.now
+        (map (header_bytes message.now.window.now) (take message.now.count message.now.spans)) message.now.body.now) result }
+{
+    let Some(target) = routes.target_at(message.method, message.target) else {
+        return Err(WireFault::BadRoute);
+    };
+    match target.action {
+        Action::Check => check_ask(alloc, message.body),
+        Action::Session(action) => {
+            let subject = caller_of(alloc, message, roster)?;
+            let event = read_event(alloc, action, subject, &target, message.body)?;
+            Ok(Ask::Event(event))
+        }
+    }
+}
+
+/// What a message asks of a room. The route and its method are tested first, then the user, then all else.
+///
+/// # Errors
+///
+/// `BadRoute` where the target holds one of `?`, `#` and `%` or is no route, and where the method is none
+/// of its route. But for questions, `UnknownUser` where not exactly one field `room-user` stands in the
+/// head, or its value is no user of the roster. `BadRequest` where a session's name, a slot or a number in
+/// the target is none, and where the body is not as the route wants it; the body of a DELETE is not looked
+/// at. `Memory` where memory was refused.
+pub fn decode(
+    alloc: Global,
+    message: &Message<'_>,
+    routes: &Routes,
+    roster: &Roster,
+) -> Result<Ask, WireFault>
+    ensures { (m : MessageModel) → Shows message.now m → DecodesAsk (ask_of roster.now m) result }
+{
+    read_ask(alloc, message, routes, roster)
+}

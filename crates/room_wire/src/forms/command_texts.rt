@@ -1,0 +1,111 @@
+//! Commands as text: compact JSON, with members in byte order of their names.
+ghost use Rattle.std.specs.Prelude.{◌≡◌, [], ◌∷◌, IfOk, codes};
+ghost use Rattle.serde_json.specs.Data.{array, string};
+ghost use Rattle.serde_json.specs.View.{view};
+ghost use Rattle.room_commands.specs.CommandModel.{command_model};
+ghost use Rattle.room_wire.specs.Forms.Texts.{num, obj, cmd, at, command_data, command_text};
+ghost use Rattle.room_wire.specs.Forms.Texts as T;
+
+use crate::forms::writing::{array_value, entry_values};
+use base64::engine::general_purpose::STANDARD;
+use room_acl::{Entry, ListFlags, Mask, Principal};
+use room_commands::Command;
+use room_records::Path;
+use serde_json::{Value, json};
+use std::alloc::{AllocError, Global};
+
+/// A command that has a path alone.
+fn path_command(alloc: Global, name: &str, path: &Path) -> Result<Value, AllocError>
+    ensures { IfOk result (λ value. view value ≡ obj (cmd name.now ∷ at path.now ∷ [])) }
+{
+    let text = path.text(alloc)?;
+    json!(in alloc; {"cmd": name, "path": text.as_str()})
+}
+
+/// A command that has bytes and a path. Bytes are base64 with padding (RFC 4648).
+fn bytes_command(alloc: Global, name: &str, bytes: &[u8], path: &Path) -> Result<Value, AllocError>
+    ensures { IfOk result (λ value. view value ≡ obj (cmd name.now ∷ (codes "data", T.bytes bytes.now) ∷ at path.now ∷ [])) }
+{
+    let data = STANDARD.encode(alloc, bytes)?;
+    let text = path.text(alloc)?;
+    json!(in alloc; {"cmd": name, "data": data.as_str(), "path": text.as_str()})
+}
+
+fn rename_command(alloc: Global, path: &Path, to: &Path) -> Result<Value, AllocError>
+    ensures { IfOk result (λ value. view value ≡ obj (cmd (codes "RENAME") ∷ at path.now ∷ (codes "to", T.path to.now) ∷ [])) }
+{
+    let from_text = path.text(alloc)?;
+    let to_text = to.text(alloc)?;
+    json!(in alloc; {"cmd": "RENAME", "path": from_text.as_str(), "to": to_text.as_str()})
+}
+
+fn chown_command(
+    alloc: Global,
+    group: &Principal,
+    owner: &Principal,
+    path: &Path,
+) -> Result<Value, AllocError>
+    ensures { IfOk result (λ value. view value
+        ≡ obj (cmd (codes "CHOWN") ∷ (codes "group", string group.now) ∷ (codes "owner", string owner.now) ∷ at path.now ∷ [])) }
+{
+    let text = path.text(alloc)?;
+    json!(in alloc; {"cmd": "CHOWN", "group": group.text(), "owner": owner.text(), "path": text.as_str()})
+}
+
+fn access_command(alloc: Global, mask: Mask, path: &Path) -> Result<Value, AllocError>
+    ensures { IfOk result (λ value. view value ≡ obj (cmd (codes "ACCESS") ∷ (codes "mask", num mask) ∷ at path.now ∷ [])) }
+{
+    let text = path.text(alloc)?;
+    json!(in alloc; {"cmd": "ACCESS", "mask": u64::from(mask.bits()), "path": text.as_str()})
+}
+
+fn set_list_command(
+    alloc: Global,
+    aclflag: ListFlags,
+    entries: &[Entry],
+    path: &Path,
+) -> Result<Value, AllocError>
+    ensures { IfOk result (λ value. view value
+        ≡ obj ((codes "aclflag", num aclflag) ∷ cmd (codes "SETLIST") ∷ (codes "entries", array (T.entries entries.now)) ∷ at path.now ∷ [])) }
+{
+    let items = array_value(entry_values(alloc, entries)?);
+    let text = path.text(alloc)?;
+    json!(in alloc; {"aclflag": u64::from(aclflag.bits()), "cmd": "SETLIST", "entries": items, "path": text.as_str()})
+}
+
+/// The command as a JSON value.
+fn command_value(alloc: Global, command: &Command) -> Result<Value, AllocError>
+    ensures { IfOk result (λ value. view value ≡ command_data (command_model command.now)) }
+{
+    match command {
+        Command::Stat { path } => path_command(alloc, "STAT", path),
+        Command::List { path } => path_command(alloc, "LIST", path),
+        Command::Mkdir { path } => path_command(alloc, "MKDIR", path),
+        Command::Create { bytes, path } => bytes_command(alloc, "CREATE", bytes, path),
+        Command::Read { path } => path_command(alloc, "READ", path),
+        Command::Write { bytes, path } => bytes_command(alloc, "WRITE", bytes, path),
+        Command::Append { bytes, path } => bytes_command(alloc, "APPEND", bytes, path),
+        Command::Remove { path } => path_command(alloc, "REMOVE", path),
+        Command::Rename { path, to } => rename_command(alloc, path, to),
+        Command::GetList { path } => path_command(alloc, "GETLIST", path),
+        Command::SetList {
+            aclflag,
+            entries,
+            path,
+        } => set_list_command(alloc, *aclflag, entries, path),
+        Command::Chown { group, owner, path } => chown_command(alloc, group, owner, path),
+        Command::Access { mask, path } => access_command(alloc, *mask, path),
+    }
+}
+
+/// The command as it is kept and compared.
+///
+/// # Errors
+///
+/// Only where memory was refused.
+pub fn command_text(alloc: Global, command: &Command) -> Result<Vec<u8>, AllocError>
+    ensures { IfOk result (λ text. text.items ≡ command_text (command_model command.now)) }
+{
+    let value = command_value(alloc, command)?;
+    value.to_vec(alloc)
+}

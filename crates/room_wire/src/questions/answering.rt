@@ -1,0 +1,139 @@
+//! Answers to questions.
+ghost use Rattle.std.specs.Prelude.{◌≡◌, IfOk};
+ghost use Rattle.serde_json.specs.View.{view};
+ghost use Rattle.serde_json.specs.Written.{compact_text};
+ghost use Rattle.room_wire.specs.Questions.CheckAnswers.{allowed_data, entries_data, answer_text, list_text, child_text, fault_text, bit_of};
+ghost use Rattle.room_wire.specs.Questions.QuestionModel.{question_model};
+
+use crate::forms::writing::{array_value, entry_values};
+use crate::questions::question::Question;
+use room_acl::{
+    Decision, Entry, Kind, ListFault, Mask, Principal, Standing, Subject, allowed_bits, check_own,
+    decide, hand_down,
+};
+use serde_json::{Value, json};
+use std::alloc::{AllocError, Global};
+
+fn allowed_value(alloc: Global, allowed: u32, bit: u32) -> Result<Value, AllocError>
+    ensures { IfOk result (λ value. view value ≡ allowed_data allowed bit) }
+{
+    json!(in alloc; {"allowed": u64::from(allowed), "bit": u64::from(bit), "code": 0u64})
+}
+
+fn allowed_text(alloc: Global, allowed: u32, bit: u32) -> Result<Vec<u8>, AllocError>
+    ensures { IfOk result (λ text. text.items ≡ compact_text (allowed_data allowed bit)) }
+{
+    let value = allowed_value(alloc, allowed, bit)?;
+    value.to_vec(alloc)
+}
+
+fn bit_of(decision: Decision) -> u32
+    ensures { result ≡ bit_of decision }
+{
+    match decision {
+        Decision::Allowed => 0,
+        Decision::Denied { bit } => bit,
+    }
+}
+
+pub(crate) fn copies(alloc: Global, names: &[Principal]) -> Result<Vec<Principal>, AllocError>
+    ensures { IfOk result (λ copies. copies.items ≡ names.now) }
+{
+    let mut copies = Vec::new(alloc);
+    for name in names {
+        copies.push(name.clone()?)?;
+    }
+    Ok(copies)
+}
+
+fn subject_of(alloc: Global, user: &Principal, groups: &[Principal]) -> Result<Subject, AllocError>
+    ensures { IfOk result (λ s. s ≡ record { name = user.now; groups = groups.now }) }
+{
+    let name = user.clone()?;
+    let groups = copies(alloc, groups)?;
+    Ok(Subject { name, groups })
+}
+
+fn standing_of(owner: &Principal, group: &Principal) -> Result<Standing, AllocError>
+    ensures { IfOk result (λ s. s ≡ record { owner = owner.now; group = group.now }) }
+{
+    let owner = owner.clone()?;
+    let group = group.clone()?;
+    Ok(Standing { owner, group })
+}
+
+fn list_answer(
+    alloc: Global,
+    entries: &[Entry],
+    subject: &Subject,
+    standing: &Standing,
+    mask: Mask,
+) -> Result<Vec<u8>, AllocError>
+    ensures { IfOk result (λ text.
+        text.items ≡ list_text entries.now subject.now standing.now mask) }
+{
+    let allowed = allowed_bits(entries, subject, standing).bits() & mask.bits();
+    let bit = bit_of(decide(entries, subject, standing, mask));
+    allowed_text(alloc, allowed, bit)
+}
+
+fn entries_value(alloc: Global, entries: &[Entry]) -> Result<Value, AllocError>
+    ensures { IfOk result (λ value. view value ≡ entries_data entries.now) }
+{
+    let values = array_value(entry_values(alloc, entries)?);
+    json!(in alloc; {"code": 0u64, "entries": values})
+}
+
+fn entries_text(alloc: Global, entries: &[Entry]) -> Result<Vec<u8>, AllocError>
+    ensures { IfOk result (λ text. text.items ≡ compact_text (entries_data entries.now)) }
+{
+    let value = entries_value(alloc, entries)?;
+    value.to_vec(alloc)
+}
+
+fn fault_text(fault: ListFault) -> &'static str
+    ensures { result.now ≡ fault_text fault }
+{
+    match fault {
+        ListFault::Inval => "{\"code\":7,\"error\":\"INVAL\"}",
+        ListFault::AttrNotSupp => "{\"code\":8,\"error\":\"ATTRNOTSUPP\"}",
+    }
+}
+
+fn child_answer(alloc: Global, entries: &[Entry], kind: Kind) -> Result<Vec<u8>, AllocError>
+    ensures { IfOk result (λ text. text.items ≡ child_text entries.now kind) }
+{
+    match check_own(entries, Kind::Folder) {
+        Ok(()) => {
+            let handed = hand_down(alloc, entries, kind)?;
+            entries_text(alloc, &handed)
+        }
+        Err(fault) => Vec::from_slice(alloc, fault_text(fault).as_bytes()),
+    }
+}
+
+/// The text of the answer: of the first question which of the wanted bits are allowed, and the
+/// lowest that is not or 0; of the second the fault of the entries, or what they hand down.
+///
+/// # Errors
+///
+/// Only where memory was refused.
+pub fn check_answer(alloc: Global, question: &Question) -> Result<Vec<u8>, AllocError>
+    ensures { IfOk result (λ text. text.items ≡ answer_text (question_model question.now)) }
+{
+    match question {
+        Question::List {
+            entries,
+            group,
+            groups,
+            mask,
+            owner,
+            user,
+        } => {
+            let subject = subject_of(alloc, user, groups)?;
+            let standing = standing_of(owner, group)?;
+            list_answer(alloc, entries, &subject, &standing, *mask)
+        }
+        Question::Child { kind, entries } => child_answer(alloc, entries, *kind),
+    }
+}

@@ -1,0 +1,159 @@
+//! Serving messages over a reader and a writer.
+ghost use Rattle.std.specs.Prelude.{◌≡◌, ◌+◌, ◌-◌, ◌^◌, ℕ, List, [], min, length};
+ghost use Rattle.room_wire.specs.Messages.MessageModel.{MessageModel};
+ghost use Rattle.room_wire.specs.Serving.Outputs.{AnswersOne, Outputs, Rounds};
+ghost use Rattle.room_wire.specs.Serving.Ends.{Serves, Refuses};
+
+use crate::answers::answer::Answer;
+use crate::answers::code::Code;
+use crate::answers::sending::send_answer;
+use crate::messages::last::is_last;
+use crate::messages::message::{Message, Take};
+use crate::messages::taking::take_message;
+use crate::serving::buffers::Buffers;
+use crate::serving::input::Input;
+use crate::serving::service::Service;
+use crate::serving::stop::{ServeEnd, Stop, Why};
+use std::io::{Read, Write};
+
+/// Answers one message.
+fn answer_one<C, S: Service<C>, W: Write>(
+    service: &mut S,
+    context: &C,
+    message: &Message<'_>,
+    last: bool,
+    output: &mut Vec<u8>,
+    writer: &mut W,
+) -> bool
+    ensures { AnswersOne (S.may_answer context.now) service.old service.new message.now last
+        (W.contents writer.old) (W.contents writer.new) result }
+{
+    let answer = service.answer(context, message);
+    send_answer(writer, output, &answer, last)
+}
+
+/// Answers the messages among the bytes at hand, one after another, and counts them.
+fn answer_all<C, S: Service<C>, W: Write>(
+    service: &mut S,
+    context: &C,
+    input: &mut Input,
+    output: &mut Vec<u8>,
+    writer: &mut W,
+    start: u64,
+) -> (Stop, u64)
+    ensures { (ms : List MessageModel) × (out : List ℕ)
+        × Rounds input.old input.new (W.contents writer.old) (W.contents writer.new) ms out result.0
+        × Outputs (S.may_answer context.now) service.old ms out service.new
+        × (result.1 ≡ min (start + length ms) (2 ^ 64 - 1)) }
+{
+    let mut count = start;
+    'rounds: loop {
+        let (size, last, sent) = match take_message(input.bytes()) {
+            Take::Whole(message) => {
+                let last = is_last(&message);
+                let sent = answer_one(service, context, &message, last, output, writer);
+                (message.size, last, sent)
+            }
+            Take::More => return (Stop::Dry, count),
+            Take::Bad => return (Stop::Broken, count),
+        };
+        input.take(size);
+        count = count.saturating_add(1);
+        if !sent {
+            return (Stop::Lost, count);
+        }
+        if last {
+            return (Stop::Last, count);
+        }
+    }
+}
+
+/// The end where no message can come any more: the answer 40, once.
+fn refuse<W: Write>(output: &mut Vec<u8>, writer: &mut W, count: u64) -> ServeEnd
+    ensures { Refuses (W.contents writer.old) (W.contents writer.new) count result }
+{
+    let sent = send_answer(writer, output, &Answer::Refused(Code::BadHttp), true);
+    let why = if sent {
+        Why::BadMessage
+    } else {
+        Why::WriteFailed
+    };
+    ServeEnd { why, count }
+}
+
+/// Serves over buffers that are lent.
+fn serve_with<C, S: Service<C>, R: Read, W: Write>(
+    service: &mut S,
+    context: &C,
+    input: &mut Input,
+    output: &mut Vec<u8>,
+    reader: &mut R,
+    writer: &mut W,
+) -> ServeEnd
+    requires { input.old ≡ [] }
+    ensures { Serves (S.may_answer context.now) service.old service.new (R.remaining reader.old) (R.remaining reader.new)
+        (W.contents writer.old) (W.contents writer.new) result.why result.count }
+{
+    let mut count = 0;
+    'reads: for _ in 0..u64::MAX {
+        match input.read_from(reader) {
+            Err(_) => {
+                return ServeEnd {
+                    why: Why::ReadFailed,
+                    count,
+                };
+            }
+            Ok(0) => {
+                if input.bytes().is_empty() {
+                    return ServeEnd {
+                        why: Why::Closed,
+                        count,
+                    };
+                }
+                return refuse(output, writer, count);
+            }
+            Ok(_) => {}
+        }
+        let (stop, total) = answer_all(service, context, input, output, writer, count);
+        count = total;
+        match stop {
+            Stop::Dry => {}
+            Stop::Broken => return refuse(output, writer, count),
+            Stop::Last => {
+                return ServeEnd {
+                    why: Why::Closed,
+                    count,
+                };
+            }
+            Stop::Lost => {
+                return ServeEnd {
+                    why: Why::WriteFailed,
+                    count,
+                };
+            }
+        }
+    }
+    ServeEnd {
+        why: Why::ReadFailed,
+        count,
+    }
+}
+
+/// Answers the messages of a stream by a service until the stream ends.
+///
+/// Each error of a read or write, and a write of 0 bytes, ends it at once; so do 2^64 - 1 reads.
+pub fn serve_messages<C, S: Service<C>, R: Read, W: Write>(
+    service: &mut S,
+    context: &C,
+    buffers: Buffers,
+    reader: &mut R,
+    writer: &mut W,
+) -> ServeEnd
+    requires { buffers.input ≡ [] }
+    ensures { Serves (S.may_answer context.now) service.old service.new (R.remaining reader.old) (R.remaining reader.new)
+        (W.contents writer.old) (W.contents writer.new) result.why result.count }
+{
+    let mut input = buffers.input;
+    let mut output = buffers.output;
+    serve_with(service, context, &mut input, &mut output, reader, writer)
+}
