@@ -15,4 +15,6 @@ pub mod KeptRows
 pub mod Retries
 pub mod Beginnings
 mod Rows
+pub mod Calls
+pub mod Faults
 pub mod Messages

@@ -1,8 +1,8 @@
 -- Answers to the messages of a stream, one after another, by a history.
 use Rattle.std.proofs.Common.{◌≡◌, ◌≤◌, ℕ, List, [], ◌∷◌, ◌++◌, refl, sym, ap, ◌∙◌, subst, arith, Result, Ok, Err, Option, inl, inr}
 use Rattle.room_acl.specs.SubjectModel.{SubjectModel}
-use Rattle.room_records.specs.Records.{Records}
 use Rattle.room_records.specs.Room.{Room}
+use Rattle.room_records.specs.Shelf.{View}
 use Rattle.room_wire.specs.declared.answers.code.Code.TheVariants.{Delay}
 use Rattle.room_wire.specs.declared.fault.WireFault.{WireFault}
 use Rattle.room_wire.specs.declared.fault.WireFault.TheVariants.{BadRoute, UnknownUser, BadRequest, Memory}
@@ -20,100 +20,82 @@ use Rattle.room_wire.specs.Serving.Outputs.{Outputs}
 use Rattle.room_desk.specs.AnswerModel.{AnswerModel, Refused}
 use Rattle.room_desk.specs.History.{History}
 use Rattle.room_desk.specs.Representation.{StandsFor}
-use Rattle.room_desk.specs.Serving.{AnswersOrDelays, AnswersMessage, Answered, MayAnswer}
+use Rattle.room_desk.specs.Serving.{AnswersOrDelays, AnswersMessage, DeskCall, Answered, MayAnswer}
+use Rattle.room_desk.proofs.Calls.{no_call, calls_then}
 
-module _ {S : Type 0} (is_honest is_clean is_declared : S → Type 0) (records : S → Records) (failures : S → ℕ) where
-  -- an answer that leaves the shelf as it was
-  pub stays : (ask : Result AskModel WireFault) (s : S) (answered : AnswerModel)
-      → ((event : EventModel) → ask ≡ Ok (Event event) → answered ≡ Refused Delay)
-      → ((start : Room) (past : History) → AnswersOrDelays start past ask answered past) → Answered is_honest is_clean is_declared records failures ask s answered s
-  stays ask s answered delays says = record {
-    was_honest = λ h. h;
-    was_clean = λ k. k;
-    alive = λ k event is other. absurd (other (delays event is));
-    declared = λ h d. d;
-    never_falls = omega arith;
-    quiet = λ other. refl;
-    step = λ k start past stands. (past, says start past, stands);
-    refused = λ h d away. refl;
-    idle = λ h d start past stands idle. refl;
-  }
+-- an answer that leaves the shelf as it was
+pub stays : (ask : Result AskModel WireFault) (s : View) (answered : AnswerModel)
+    → ((event : EventModel) → ask ≡ Ok (Event event) → answered ≡ Refused Delay)
+    → ((start : Room) (past : History) → AnswersOrDelays start past ask answered past) → Answered ask s answered s
+stays ask s answered delays says = record {
+  frame = no_call s;
+  quiet = λ other. refl;
+  alive = λ k event is other. absurd (other (delays event is));
+  step = λ k start past stands. (past, says start past, stands);
+  refused = λ h d away. refl;
+  idle = λ h d start past stands idle. refl;
+}
 
-  pub question_stays : (q : QuestionModel) (s : S) (answered : AnswerModel) → IsCheckAnswer (Ok q) answered → Answered is_honest is_clean is_declared records failures (Ok (Check q)) s answered s
-  question_stays q s answered (inl e) = stays (Ok (Check q)) s answered (λ event is. absurd (cc)) (λ start past. inl (e, refl))
-  question_stays q s answered (inr e) = stays (Ok (Check q)) s answered (λ event is. absurd (cc)) (λ start past. inr (e, refl))
+pub question_stays : (q : QuestionModel) (s : View) (answered : AnswerModel) → IsCheckAnswer (Ok q) answered → Answered (Ok (Check q)) s answered s
+question_stays q s answered (inl e) = stays (Ok (Check q)) s answered (λ event is. absurd (cc)) (λ start past. inl (e, refl))
+question_stays q s answered (inr e) = stays (Ok (Check q)) s answered (λ event is. absurd (cc)) (λ start past. inr (e, refl))
 
-  -- a refusal changes nothing
-  pub refusal_stays : (fault : WireFault) (ask : Result AskModel WireFault) (s : S) → DecodesAsk ask (Err fault)
-      → Answered is_honest is_clean is_declared records failures ask s (Refused (fault_code fault)) s
-  refusal_stays BadRoute ask s h =
-      subst (λ a. Answered is_honest is_clean is_declared records failures a s (Refused (fault_code BadRoute)) s) (sym h) (stays (Err BadRoute) s _ (λ event is. absurd (cc)) (λ start past. inl (refl, refl)))
-  refusal_stays UnknownUser ask s h =
-      subst (λ a. Answered is_honest is_clean is_declared records failures a s (Refused (fault_code UnknownUser)) s) (sym h) (stays (Err UnknownUser) s _ (λ event is. absurd (cc)) (λ start past. inl (refl, refl)))
-  refusal_stays BadRequest ask s h =
-      subst (λ a. Answered is_honest is_clean is_declared records failures a s (Refused (fault_code BadRequest)) s) (sym h) (stays (Err BadRequest) s _ (λ event is. absurd (cc)) (λ start past. inl (refl, refl)))
-  refusal_stays Memory ask s h = stays ask s _ (λ event is. refl) (λ start past. inr (refl, refl))
+-- a refusal changes nothing
+pub refusal_stays : (fault : WireFault) (ask : Result AskModel WireFault) (s : View) → DecodesAsk ask (Err fault) → Answered ask s (Refused (fault_code fault)) s
+refusal_stays BadRoute ask s h =
+    subst (λ a. Answered a s (Refused (fault_code BadRoute)) s) (sym h) (stays (Err BadRoute) s _ (λ event is. absurd (cc)) (λ start past. inl (refl, refl)))
+refusal_stays UnknownUser ask s h =
+    subst (λ a. Answered a s (Refused (fault_code UnknownUser)) s) (sym h) (stays (Err UnknownUser) s _ (λ event is. absurd (cc)) (λ start past. inl (refl, refl)))
+refusal_stays BadRequest ask s h =
+    subst (λ a. Answered a s (Refused (fault_code BadRequest)) s) (sym h) (stays (Err BadRequest) s _ (λ event is. absurd (cc)) (λ start past. inl (refl, refl)))
+refusal_stays Memory ask s h = stays ask s _ (λ event is. refl) (λ start past. inr (refl, refl))
 
-  pub asked_is : (ask asked : Result AskModel WireFault) (before : S) (answered : AnswerModel) (after : S) → ask ≡ asked
-      → Answered is_honest is_clean is_declared records failures asked before answered after → Answered is_honest is_clean is_declared records failures ask before answered after
-  asked_is ask asked before answered after e x = subst (λ a. Answered is_honest is_clean is_declared records failures a before answered after) (sym e) x
+pub asked_is : (ask asked : Result AskModel WireFault) (before : View) (answered : AnswerModel) (after : View) → ask ≡ asked
+    → Answered asked before answered after → Answered ask before answered after
+asked_is ask asked before answered after e x = subst (λ a. Answered a before answered after) (sym e) x
 
+module _ {S : Type 0} (view : S → View) where
   -- the shelf after some messages
   pub record Served (users : List SubjectModel) (before : S) (ms : List MessageModel) (out : List ℕ) (after : S) : Type 0 where
-    pub was_honest : is_honest after → is_honest before
-    pub was_clean : is_clean after → is_clean before
-    pub declared : is_honest after → is_declared before → is_declared after
-    pub never_falls : failures before ≤ failures after
-    pub run : is_clean after → (start : Room) (past : History) → StandsFor is_honest is_declared records start past before
+    pub frame : DeskCall (view before) (view after)
+    pub run : (view after).is_intact → (start : Room) (past : History) → StandsFor start past (view before)
         → (next : History) × Outputs (λ (b : History) (m : MessageModel) (a : AnswerModel) (n : History). AnswersOrDelays start b (ask_of users m) a n) past ms out next
-        × StandsFor is_honest is_declared records start next after
+        × StandsFor start next (view after)
 
   none : (users : List SubjectModel) (before after : S) (out : List ℕ) → out ≡ [] → after ≡ before → Served users before [] out after
   none users before after out e f = subst (λ s. Served users before [] out s) (sym f) (record {
-    was_honest = λ h. h;
-    was_clean = λ k. k;
-    declared = λ h d. d;
-    never_falls = omega arith;
+    frame = no_call (view before);
     run = λ k start past stands. (past, (e, refl), stands);
   })
 
   pub served : (users : List SubjectModel) (before : S) (ms : List MessageModel) (out : List ℕ) (after : S)
-      → Outputs (MayAnswer is_honest is_clean is_declared records failures users) before ms out after → Served users before ms out after
+      → Outputs (MayAnswer view users) before ms out after → Served users before ms out after
   served users before [] out after h = none users before after out h.0 h.1
   served users before (m ∷ ms) out after h =
       let first = h.3 in
       let then = served users h.1 ms h.2 after h.4 in record {
-        was_honest = λ h. first.was_honest (then.was_honest h);
-        was_clean = λ k. first.was_clean (then.was_clean k);
-        declared = λ h d. then.declared h (first.declared (then.was_honest h) d);
-        never_falls = omega (arith, first.never_falls, then.never_falls);
+        frame = calls_then _ _ _ then.frame first.frame;
         run = λ k start past stands.
-            let one = first.step (then.was_clean k) start past stands in
+            let one = first.step (then.frame.was_intact k) start past stands in
             let rest = then.run k start one.0 one.2 in
             (rest.0, (h.0, one.0, h.2, one.1, rest.1, h.5), rest.2);
       }
 
   -- the shelf after a stream that was served
   pub record ServedStream (users : List SubjectModel) (before after : S) (left later old new : Option (List ℕ)) (why : Why) (count : ℕ) : Type 0 where
-    pub was_honest : is_honest after → is_honest before
-    pub was_clean : is_clean after → is_clean before
-    pub declared : is_honest after → is_declared before → is_declared after
-    pub never_falls : failures before ≤ failures after
-    pub run : is_clean after → (start : Room) (past : History) → StandsFor is_honest is_declared records start past before
-        → (next : History) × Serves (AnswersMessage users start) past next left later old new why count × StandsFor is_honest is_declared records start next after
+    pub frame : DeskCall (view before) (view after)
+    pub run : (view after).is_intact → (start : Room) (past : History) → StandsFor start past (view before)
+        → (next : History) × Serves (AnswersMessage users start) past next left later old new why count × StandsFor start next (view after)
 
   pub served_stream : (users : List SubjectModel) (before after : S) (left later old new : Option (List ℕ)) (why : Why) (count : ℕ)
-      → Serves (MayAnswer is_honest is_clean is_declared records failures users) before after left later old new why count
+      → Serves (MayAnswer view users) before after left later old new why count
       → ServedStream users before after left later old new why count
-  served_stream users before after left later old new why count x =
-      let all = served users before x.2 x.3 after x.5 in record {
-        was_honest = all.was_honest;
-        was_clean = all.was_clean;
-        declared = all.declared;
-        never_falls = all.never_falls;
+  served_stream users before after left later old new why count y =
+      let all = served users before y.2 y.3 after y.5 in record {
+        frame = all.frame;
         run = λ k start past stands.
             let ran = all.run k start past stands in
-            (ran.0, (x.0, x.1, x.2, x.3, x.4, ran.1, x.6, x.7), ran.2);
+            (ran.0, (y.0, y.1, y.2, y.3, y.4, ran.1, y.6, y.7), ran.2);
       }
 
 -- the end before the first read

@@ -7,6 +7,7 @@ use Rattle.room_records.specs.Records.{Records}
 use Rattle.room_records.specs.Rules.{SlotRules}
 use Rattle.room_records.specs.Room.{Room}
 use Rattle.room_records.specs.Representation.{RepresentsRoom}
+use Rattle.room_records.specs.Shelf.{View}
 use Rattle.room_commands.specs.ReplyModel.{IsRefused}
 use Rattle.room_commands.specs.Effect.{effect}
 use Rattle.room_commands.specs.Needs.{NeedsAllowed}
@@ -50,9 +51,9 @@ pub record RepresentsHistory (start : Room) (r : Records) (past : History) : Typ
   pub sessions : (sid : List ℕ) → r.session sid ≡ option_map (session_row_of sid) (session_of past sid)
   pub slots : (sid : List ℕ) (slot : ℕ) → r.slot sid slot ≡ slot_row_of start past sid slot
 
--- while a shelf is honest, its rows stand for a history that began with this room
-abbrev pub StandsFor : {S : Type 0} (is_honest is_declared : S → Type 0) (records : S → Records) → Room → History → S → Type 0
-StandsFor is_honest is_declared records start past s = is_honest s → is_declared s × RepresentsHistory start (records s) past
+-- while a shelf is available, it is laid out and its rows stand for a history that began with this room
+abbrev pub StandsFor : Room → History → View → Type 0
+StandsFor start past shelf = shelf.is_available → shelf.is_laid_out × RepresentsHistory start shelf.records past
 
 -- an event is answered as the history says and joins it, or is answered DELAY and does not
 abbrev pub Step : Room → History → EventModel → AnswerModel → History → Type 0

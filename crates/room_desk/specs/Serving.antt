@@ -1,8 +1,8 @@
 -- Runs of messages over a room (our own rules).
 use Rattle.std.specs.Prelude.{◌≡◌, ◌≢◌, ℕ, ◌≤◌, ◌⊎◌, Bool, false, List, ◌∷◌, Result, Ok, Err}
 use Rattle.room_acl.specs.SubjectModel.{SubjectModel}
-use Rattle.room_records.specs.Records.{Records}
 use Rattle.room_records.specs.Room.{Room}
+use Rattle.room_records.specs.Shelf.{View}
 use Rattle.room_wire.specs.declared.answers.code.Code.TheVariants.{Delay}
 use Rattle.room_wire.specs.declared.fault.WireFault.{WireFault}
 use Rattle.room_wire.specs.Asks.EventModel.{EventModel}
@@ -39,27 +39,29 @@ ask_changes_rows past (Ok (Check question)) = false
 ask_changes_rows past (Ok (Event event)) = changes_rows past event
 ask_changes_rows past (Err fault) = false
 
+-- the frame of a desk's calls, one or many: the store is no better than it was, what it is laid out for stays, and the count of failures never falls
+pub record DeskCall (old new : View) : Type 0 where
+  pub was_intact : new.is_intact → old.is_intact
+  pub was_available : new.is_available → old.is_available
+  pub laid_out : new.is_available → old.is_laid_out → new.is_laid_out
+  pub never_falls : old.failures ≤ new.failures
+
 -- what a shelf is after an answer: the rows stand for the history before it, or for one event more. They are the same rows after a refusal, and
 -- where what was asked changes nothing. The count of failures is the same, save where the answer is DELAY
-pub record Answered {S : Type 0} (is_honest is_clean is_declared : S → Type 0) (records : S → Records) (failures : S → ℕ) (ask : Result AskModel WireFault) (before : S) (answered : AnswerModel) (after : S) : Type 0 where
-  pub was_honest : is_honest after → is_honest before
-  pub was_clean : is_clean after → is_clean before
-  pub declared : is_honest after → is_declared before → is_declared after
-  pub never_falls : failures before ≤ failures after
-  pub quiet : answered ≢ Refused Delay → failures after ≡ failures before
-  pub alive : is_clean after → (event : EventModel) → ask ≡ Ok (Event event) → answered ≢ Refused Delay → is_honest after
-  pub step : is_clean after → (start : Room) (past : History) → StandsFor is_honest is_declared records start past before →
-      (next : History) × AnswersOrDelays start past ask answered next × StandsFor is_honest is_declared records start next after
-  pub refused : is_honest after → is_declared before → IsTurnedAway answered → records after ≡ records before
-  pub idle : is_honest after → is_declared before → (start : Room) (past : History) → RepresentsHistory start (records before) past →
-      ask_changes_rows past ask ≡ false → records after ≡ records before
+pub record Answered (ask : Result AskModel WireFault) (before : View) (answered : AnswerModel) (after : View) : Type 0 where
+  pub frame : DeskCall before after
+  pub quiet : answered ≢ Refused Delay → after.failures ≡ before.failures
+  pub alive : after.is_intact → (event : EventModel) → ask ≡ Ok (Event event) → answered ≢ Refused Delay → after.is_available
+  pub step : after.is_intact → (start : Room) (past : History) → StandsFor start past before →
+      (next : History) × AnswersOrDelays start past ask answered next × StandsFor start next after
+  pub refused : after.is_available → before.is_laid_out → IsTurnedAway answered → after.records ≡ before.records
+  pub idle : after.is_available → before.is_laid_out → (start : Room) (past : History) → RepresentsHistory start before.records past →
+      ask_changes_rows past ask ≡ false → after.records ≡ before.records
 
 -- what a shelf is after an event was answered
-abbrev pub EventAnswered : {S : Type 0} (is_honest is_clean is_declared : S → Type 0) (records : S → Records) (failures : S → ℕ) → S → EventModel → AnswerModel → S → Type 0
-EventAnswered is_honest is_clean is_declared records failures before event answered after =
-    Answered is_honest is_clean is_declared records failures (Ok (Event event)) before answered after
+abbrev pub EventAnswered : {S : Type 0} (view : S → View) → S → EventModel → AnswerModel → S → Type 0
+EventAnswered view before event answered after = Answered (Ok (Event event)) (view before) answered (view after)
 
 -- what a message may be answered over a shelf
-abbrev pub MayAnswer : {S : Type 0} (is_honest is_clean is_declared : S → Type 0) (records : S → Records) (failures : S → ℕ) → List SubjectModel → S → MessageModel → AnswerModel → S → Type 0
-MayAnswer is_honest is_clean is_declared records failures users before m answered after =
-    Answered is_honest is_clean is_declared records failures (ask_of users m) before answered after
+abbrev pub MayAnswer : {S : Type 0} (view : S → View) → List SubjectModel → S → MessageModel → AnswerModel → S → Type 0
+MayAnswer view users before m answered after = Answered (ask_of users m) (view before) answered (view after)

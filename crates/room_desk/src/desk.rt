@@ -1,13 +1,13 @@
 //! The desk: takes events, and answers each.
-ghost use Rattle.std.specs.Prelude.{◌≡◌, ◌≢◌, ◌≤◌, ℕ, List, [], ◌∷◌, ◌++◌, map, IfOk, OnOk, OnErr, Err, false};
+ghost use Rattle.std.specs.Prelude.{◌≡◌, ◌≢◌, List, [], ◌∷◌, ◌++◌, map, IfOk, OnOk, OnErr, Err, false};
 ghost use Rattle.room_records.specs.Room.{Room};
-ghost use Rattle.room_records.specs.Shelf.{FailureCounted};
+ghost use Rattle.room_records.specs.Shelf.{ShelfCall, fault_in};
 ghost use Rattle.room_wire.specs.Asks.EventModel.{event_model};
 ghost use Rattle.room_wire.specs.declared.answers.code.Code.TheVariants.{Delay};
 ghost use Rattle.room_desk.specs.AnswerModel.{AnswerModel, Refused, answer_model, IsTurnedAway};
 ghost use Rattle.room_desk.specs.History.{History, answer_to, changes_rows};
-ghost use Rattle.room_desk.specs.Representation.{RepresentsHistory, StandsFor, WasAllowed, Step, InTurn, Run};
-ghost use Rattle.room_desk.specs.Serving.{EventAnswered};
+ghost use Rattle.room_desk.specs.Representation.{RepresentsHistory, StandsFor, WasAllowed, InTurn, Run};
+ghost use Rattle.room_desk.specs.Serving.{DeskCall, EventAnswered};
 
 use crate::requests::request;
 use crate::sessions::{close, open};
@@ -42,23 +42,17 @@ impl<S: Shelf> Desk<S> {
         shelf
     }
 
-    /// Answers one event as the history says, or gives up with nothing changed while the store is there.
+    /// Answers one event as the history says, or gives up with nothing changed while the store is available.
     fn answer(&mut self, event: &Event) -> Result<Answer, ShelfFault>
-        ensures was_honest { S.is_honest self.new → S.is_honest self.old }
-        ensures was_clean { S.is_clean self.new → S.is_clean self.old }
-        ensures alive { S.is_clean self.new → OnOk result (S.is_honest self.new) }
-        ensures declared { S.is_honest self.new → S.is_declared self.old → S.is_declared self.new }
-        ensures never_falls { S.failures self.old ≤ S.failures self.new }
-        ensures quiet { result ≢ Err ShelfFault.Store → S.failures self.new ≡ S.failures self.old }
-        ensures store { result ≡ Err ShelfFault.Store → FailureCounted (S.failures self.old) (S.failures self.new) }
-        ensures err { S.is_honest self.new → S.is_declared self.old → OnErr result (S.records self.new ≡ S.records self.old) }
-        ensures step { S.is_honest self.new → S.is_declared self.old → (start : Room) (past : History) → RepresentsHistory start (S.records self.old) past →
+        ensures there { (S.view self.new).is_intact → OnOk result (S.view self.new).is_available }
+        ensures frame { ShelfCall (S.view self.old) (S.view self.new) (fault_in result) }
+        ensures step { (S.view self.new).is_available → (S.view self.old).is_laid_out → (start : Room) (past : History) → RepresentsHistory start (S.view self.old).records past →
             IfOk result (λ answer. (answer_model answer ≡ answer_to start past (event_model event.now))
-            × RepresentsHistory start (S.records self.new) (event_model event.now ∷ past)) }
-        ensures refused { S.is_honest self.new → S.is_declared self.old →
-            IfOk result (λ answer. IsTurnedAway (answer_model answer) → S.records self.new ≡ S.records self.old) }
-        ensures idle { S.is_honest self.new → S.is_declared self.old → (start : Room) (past : History) → RepresentsHistory start (S.records self.old) past →
-            changes_rows past (event_model event.now) ≡ false → S.records self.new ≡ S.records self.old }
+            × RepresentsHistory start (S.view self.new).records (event_model event.now ∷ past)) }
+        ensures refused { (S.view self.new).is_available → (S.view self.old).is_laid_out →
+            IfOk result (λ answer. IsTurnedAway (answer_model answer) → (S.view self.new).records ≡ (S.view self.old).records) }
+        ensures idle { (S.view self.new).is_available → (S.view self.old).is_laid_out → (start : Room) (past : History) → RepresentsHistory start (S.view self.old).records past →
+            changes_rows past (event_model event.now) ≡ false → (S.view self.new).records ≡ (S.view self.old).records }
     {
         match event {
             Event::Open {
@@ -87,22 +81,12 @@ impl<S: Shelf> Desk<S> {
 
     /// Answers one event: as the history says, or DELAY with nothing changed. DELAY comes where
     /// memory was refused, or where the shelf failed and counted it; with any other answer no failure
-    /// was counted. Over a clean disk any other answer
-    /// means that the store is still there; of a store that a fault has shut no records are told, and
+    /// was counted. Where the store is intact, any other answer
+    /// means that it is still available; of a store that a fault has shut no records are told, and
     /// each event is answered DELAY.
     pub fn handle(&mut self, event: &Event) -> Answer
-        ensures was_honest { S.is_honest self.new → S.is_honest self.old }
-        ensures was_clean { S.is_clean self.new → S.is_clean self.old }
-        ensures alive { S.is_clean self.new → answer_model result ≢ Refused Delay → S.is_honest self.new }
-        ensures declared { S.is_honest self.new → S.is_declared self.old → S.is_declared self.new }
-        ensures step { S.is_clean self.new → (start : Room) (past : History) → StandsFor S.is_honest S.is_declared S.records start past self.old →
-            (next : History) × Step start past (event_model event.now) (answer_model result) next × StandsFor S.is_honest S.is_declared S.records start next self.new }
+        ensures answered { EventAnswered S.view self.old (event_model event.now) (answer_model result) self.new }
         ensures allowed { (start : Room) (past : History) → WasAllowed start past (event_model event.now) }
-        ensures never_falls { S.failures self.old ≤ S.failures self.new }
-        ensures quiet { answer_model result ≢ Refused Delay → S.failures self.new ≡ S.failures self.old }
-        ensures refused { S.is_honest self.new → S.is_declared self.old → IsTurnedAway (answer_model result) → S.records self.new ≡ S.records self.old }
-        ensures idle { S.is_honest self.new → S.is_declared self.old → (start : Room) (past : History) → RepresentsHistory start (S.records self.old) past →
-            changes_rows past (event_model event.now) ≡ false → S.records self.new ≡ S.records self.old }
     {
         match self.answer(event) {
             Ok(answer) => answer,
@@ -111,19 +95,16 @@ impl<S: Shelf> Desk<S> {
     }
 
     /// Answers events in turn, each as `handle` does. An `Err` changes nothing. Where the last answer is
-    /// not DELAY, the store is still there.
+    /// not DELAY, an intact store is still available.
     pub fn run(&mut self, events: &[Event]) -> Result<Vec<Answer>, AllocError>
-        ensures was_honest { S.is_honest self.new → S.is_honest self.old }
-        ensures was_clean { S.is_clean self.new → S.is_clean self.old }
-        ensures declared { S.is_honest self.new → S.is_declared self.old → S.is_declared self.new }
-        ensures never_falls { S.failures self.old ≤ S.failures self.new }
-        ensures alive { S.is_clean self.new → IfOk result (λ answers. (before : List AnswerModel) (last : AnswerModel) →
-            map answer_model answers.items ≡ before ++ last ∷ [] → last ≢ Refused Delay → S.is_honest self.new) }
-        ensures run { S.is_clean self.new → (start : Room) (past : History) → StandsFor S.is_honest S.is_declared S.records start past self.old →
+        ensures frame { DeskCall (S.view self.old) (S.view self.new) }
+        ensures alive { (S.view self.new).is_intact → IfOk result (λ answers. (before : List AnswerModel) (last : AnswerModel) →
+            map answer_model answers.items ≡ before ++ last ∷ [] → last ≢ Refused Delay → (S.view self.new).is_available) }
+        ensures run { (S.view self.new).is_intact → (start : Room) (past : History) → StandsFor start past (S.view self.old) →
             IfOk result (λ answers. (next : History)
             × Run start past (map event_model events.now) (map answer_model answers.items) next
-            × StandsFor S.is_honest S.is_declared S.records start next self.new) }
-        ensures each { IfOk result (λ answers. InTurn (EventAnswered S.is_honest S.is_clean S.is_declared S.records S.failures)
+            × StandsFor start next (S.view self.new)) }
+        ensures each { IfOk result (λ answers. InTurn (EventAnswered S.view)
             self.old (map event_model events.now) (map answer_model answers.items) self.new) }
         ensures err { OnErr result (self.new ≡ self.old) }
     {

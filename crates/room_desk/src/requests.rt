@@ -1,13 +1,11 @@
 //! Requests in a slot.
-ghost use Rattle.std.specs.Prelude.{◌≡◌, ◌≢◌, ◌≤◌, ◌++◌, IfOk, OnOk, OnErr, Err, [], ◌∷◌, true, false};
+ghost use Rattle.std.specs.Prelude.{◌≡◌, IfOk, OnOk, Err, ◌∷◌, true, false};
 ghost use Rattle.room_slots.specs.Slots.{verdict};
 ghost use Rattle.room_slots.specs.declared.verdict.Verdict.TheVariants.{New};
-ghost use Rattle.room_records.specs.Records.{Records};
 ghost use Rattle.room_records.specs.Rules.{SlotRules};
-ghost use Rattle.room_records.specs.Changes.{apply_changes, RulesHoldAfterEach};
 ghost use Rattle.room_records.specs.Room.{Room};
 ghost use Rattle.room_records.specs.Representation.{RepresentsRoom};
-ghost use Rattle.room_records.specs.Shelf.{FailureCounted};
+ghost use Rattle.room_records.specs.Shelf.{ShelfCall, fault_in};
 ghost use Rattle.room_commands.specs.CommandModel.{command_model};
 ghost use Rattle.room_wire.specs.Asks.EventModel.{Slot};
 ghost use Rattle.room_wire.specs.Forms.Texts.{command_text};
@@ -59,19 +57,13 @@ fn run_new<S: Shelf>(
     request: Vec<u8>,
 ) -> Result<Answer, ShelfFault>
     requires { request.items ≡ command_text (command_model command.now) }
-    ensures was_honest { S.is_honest shelf.new → S.is_honest shelf.old }
-    ensures was_clean { S.is_clean shelf.new → S.is_clean shelf.old }
-    ensures alive { S.is_clean shelf.new → OnOk result (S.is_honest shelf.new) }
-    ensures declared { S.is_honest shelf.new → S.is_declared shelf.old → S.is_declared shelf.new }
-    ensures never_falls { S.failures shelf.old ≤ S.failures shelf.new }
-    ensures quiet { result ≢ Err ShelfFault.Store → S.failures shelf.new ≡ S.failures shelf.old }
-    ensures store { result ≡ Err ShelfFault.Store → FailureCounted (S.failures shelf.old) (S.failures shelf.new) }
-    ensures err { S.is_honest shelf.new → S.is_declared shelf.old → OnErr result (S.records shelf.new ≡ S.records shelf.old) }
+    ensures there { (S.view shelf.new).is_intact → OnOk result (S.view shelf.new).is_available }
+    ensures frame { ShelfCall (S.view shelf.old) (S.view shelf.new) (fault_in result) }
     ensures reply { IfOk result (λ answer. IsTurnedAway (answer_model answer) → ⊥) }
-    ensures ok { S.is_honest shelf.new → S.is_declared shelf.old → (room : Room) → RepresentsRoom (S.records shelf.old).objects room →
-        SlotRules (S.records shelf.old) → HasSlot (S.records shelf.old) sid.now slot →
-        IfOk result (λ answer. Ran (S.records shelf.old) room subject.now (command_model command.now) sid.now slot seq
-        (answer_model answer) (S.records shelf.new)) }
+    ensures ok { (S.view shelf.new).is_available → (S.view shelf.old).is_laid_out → (room : Room) → RepresentsRoom (S.view shelf.old).records.objects room →
+        SlotRules (S.view shelf.old).records → HasSlot (S.view shelf.old).records sid.now slot →
+        IfOk result (λ answer. Ran (S.view shelf.old).records room subject.now (command_model command.now) sid.now slot seq
+        (answer_model answer) (S.view shelf.new).records) }
 {
     let outcome = plan(alloc, shelf, subject, command)?;
     let reply = reply_text(alloc, &outcome.reply)?;
@@ -125,23 +117,17 @@ fn in_slot<S: Shelf>(
     seq: u32,
     command: &Command,
 ) -> Result<Answer, ShelfFault>
-    ensures was_honest { S.is_honest shelf.new → S.is_honest shelf.old }
-    ensures was_clean { S.is_clean shelf.new → S.is_clean shelf.old }
-    ensures alive { S.is_clean shelf.new → OnOk result (S.is_honest shelf.new) }
-    ensures declared { S.is_honest shelf.new → S.is_declared shelf.old → S.is_declared shelf.new }
-    ensures never_falls { S.failures shelf.old ≤ S.failures shelf.new }
-    ensures quiet { result ≢ Err ShelfFault.Store → S.failures shelf.new ≡ S.failures shelf.old }
-    ensures store { result ≡ Err ShelfFault.Store → FailureCounted (S.failures shelf.old) (S.failures shelf.new) }
-    ensures err { S.is_honest shelf.new → S.is_declared shelf.old → OnErr result (S.records shelf.new ≡ S.records shelf.old) }
-    ensures refused { S.is_honest shelf.new → S.is_declared shelf.old →
-        IfOk result (λ answer. IsTurnedAway (answer_model answer) → S.records shelf.new ≡ S.records shelf.old) }
-    ensures step { S.is_honest shelf.new → S.is_declared shelf.old → (start : Room) (past : History) → RepresentsHistory start (S.records shelf.old) past →
-        is_open_for sid.now subject.now (session_of past sid.now) ≡ true → HasSlot (S.records shelf.old) sid.now slot →
+    ensures there { (S.view shelf.new).is_intact → OnOk result (S.view shelf.new).is_available }
+    ensures frame { ShelfCall (S.view shelf.old) (S.view shelf.new) (fault_in result) }
+    ensures refused { (S.view shelf.new).is_available → (S.view shelf.old).is_laid_out →
+        IfOk result (λ answer. IsTurnedAway (answer_model answer) → (S.view shelf.new).records ≡ (S.view shelf.old).records) }
+    ensures step { (S.view shelf.new).is_available → (S.view shelf.old).is_laid_out → (start : Room) (past : History) → RepresentsHistory start (S.view shelf.old).records past →
+        is_open_for sid.now subject.now (session_of past sid.now) ≡ true → HasSlot (S.view shelf.old).records sid.now slot →
         IfOk result (λ answer. (answer_model answer ≡ answer_to start past (Slot (record { caller = subject.now; sid = sid.now; slot = slot; seq = seq; command = command_model command.now })))
-        × RepresentsHistory start (S.records shelf.new) (Slot (record { caller = subject.now; sid = sid.now; slot = slot; seq = seq; command = command_model command.now }) ∷ past)) }
-    ensures idle { S.is_honest shelf.new → S.is_declared shelf.old → (start : Room) (past : History) → RepresentsHistory start (S.records shelf.old) past →
-        is_open_for sid.now subject.now (session_of past sid.now) ≡ true → HasSlot (S.records shelf.old) sid.now slot →
-        changes_rows past (Slot (record { caller = subject.now; sid = sid.now; slot = slot; seq = seq; command = command_model command.now })) ≡ false → S.records shelf.new ≡ S.records shelf.old }
+        × RepresentsHistory start (S.view shelf.new).records (Slot (record { caller = subject.now; sid = sid.now; slot = slot; seq = seq; command = command_model command.now }) ∷ past)) }
+    ensures idle { (S.view shelf.new).is_available → (S.view shelf.old).is_laid_out → (start : Room) (past : History) → RepresentsHistory start (S.view shelf.old).records past →
+        is_open_for sid.now subject.now (session_of past sid.now) ≡ true → HasSlot (S.view shelf.old).records sid.now slot →
+        changes_rows past (Slot (record { caller = subject.now; sid = sid.now; slot = slot; seq = seq; command = command_model command.now })) ≡ false → (S.view shelf.new).records ≡ (S.view shelf.old).records }
 {
     let text = command_text(alloc, command)?;
     let kept = shelf.slot(sid, slot)?;
@@ -163,21 +149,15 @@ pub(crate) fn request<S: Shelf>(
     seq: u32,
     command: &Command,
 ) -> Result<Answer, ShelfFault>
-    ensures was_honest { S.is_honest shelf.new → S.is_honest shelf.old }
-    ensures was_clean { S.is_clean shelf.new → S.is_clean shelf.old }
-    ensures alive { S.is_clean shelf.new → OnOk result (S.is_honest shelf.new) }
-    ensures declared { S.is_honest shelf.new → S.is_declared shelf.old → S.is_declared shelf.new }
-    ensures never_falls { S.failures shelf.old ≤ S.failures shelf.new }
-    ensures quiet { result ≢ Err ShelfFault.Store → S.failures shelf.new ≡ S.failures shelf.old }
-    ensures store { result ≡ Err ShelfFault.Store → FailureCounted (S.failures shelf.old) (S.failures shelf.new) }
-    ensures err { S.is_honest shelf.new → S.is_declared shelf.old → OnErr result (S.records shelf.new ≡ S.records shelf.old) }
-    ensures refused { S.is_honest shelf.new → S.is_declared shelf.old →
-        IfOk result (λ answer. IsTurnedAway (answer_model answer) → S.records shelf.new ≡ S.records shelf.old) }
-    ensures step { S.is_honest shelf.new → S.is_declared shelf.old → (start : Room) (past : History) → RepresentsHistory start (S.records shelf.old) past →
+    ensures there { (S.view shelf.new).is_intact → OnOk result (S.view shelf.new).is_available }
+    ensures frame { ShelfCall (S.view shelf.old) (S.view shelf.new) (fault_in result) }
+    ensures refused { (S.view shelf.new).is_available → (S.view shelf.old).is_laid_out →
+        IfOk result (λ answer. IsTurnedAway (answer_model answer) → (S.view shelf.new).records ≡ (S.view shelf.old).records) }
+    ensures step { (S.view shelf.new).is_available → (S.view shelf.old).is_laid_out → (start : Room) (past : History) → RepresentsHistory start (S.view shelf.old).records past →
         IfOk result (λ answer. (answer_model answer ≡ answer_to start past (Slot (record { caller = subject.now; sid = sid.now; slot = slot; seq = seq; command = command_model command.now })))
-        × RepresentsHistory start (S.records shelf.new) (Slot (record { caller = subject.now; sid = sid.now; slot = slot; seq = seq; command = command_model command.now }) ∷ past)) }
-    ensures idle { S.is_honest shelf.new → S.is_declared shelf.old → (start : Room) (past : History) → RepresentsHistory start (S.records shelf.old) past →
-        changes_rows past (Slot (record { caller = subject.now; sid = sid.now; slot = slot; seq = seq; command = command_model command.now })) ≡ false → S.records shelf.new ≡ S.records shelf.old }
+        × RepresentsHistory start (S.view shelf.new).records (Slot (record { caller = subject.now; sid = sid.now; slot = slot; seq = seq; command = command_model command.now }) ∷ past)) }
+    ensures idle { (S.view shelf.new).is_available → (S.view shelf.old).is_laid_out → (start : Room) (past : History) → RepresentsHistory start (S.view shelf.old).records past →
+        changes_rows past (Slot (record { caller = subject.now; sid = sid.now; slot = slot; seq = seq; command = command_model command.now })) ≡ false → (S.view shelf.new).records ≡ (S.view shelf.old).records }
 {
     let Some(row) = shelf.session(sid)? else {
         return Ok(Answer::Refused(Code::BadSession));

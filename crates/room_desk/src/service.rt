@@ -6,7 +6,7 @@ ghost use Rattle.room_wire.specs.Messages.MessageModel.{MessageModel};
 ghost use Rattle.room_wire.specs.Messages.Taken.{Shows};
 ghost use Rattle.room_wire.specs.Questions.QuestionModel.{question_model};
 ghost use Rattle.room_desk.specs.AnswerModel.{answer_model};
-ghost use Rattle.room_desk.specs.Serving.{Answered, MayAnswer};
+ghost use Rattle.room_desk.specs.Serving.{Answered, EventAnswered, MayAnswer};
 
 use crate::desk::Desk;
 use room_records::{Roster, Shelf};
@@ -23,15 +23,13 @@ pub(crate) struct Lookup<'r> {
 
 impl<S: Shelf> Desk<S> {
     fn serve_question(&mut self, question: &Question) -> Answer
-        ensures { Answered S.is_honest S.is_clean S.is_declared S.records S.failures (Ok (A.Check (question_model question.now)))
-            self.old (answer_model result) self.new }
+        ensures { Answered (Ok (A.Check (question_model question.now))) (S.view self.old) (answer_model result) (S.view self.new) }
     {
         answer_question(self.alloc, question)
     }
 
     fn serve_event(&mut self, event: &Event) -> Answer
-        ensures { Answered S.is_honest S.is_clean S.is_declared S.records S.failures (Ok (A.Event (event_model event.now)))
-            self.old (answer_model result) self.new }
+        ensures { EventAnswered S.view self.old (event_model event.now) (answer_model result) self.new }
     {
         self.handle(event)
     }
@@ -39,8 +37,7 @@ impl<S: Shelf> Desk<S> {
     /// Answers what a message asks.
     fn serve_message(&mut self, lookup: &Lookup<'_>, message: &Message<'_>) -> Answer
         ensures { (m : MessageModel) → Shows message.now m →
-            MayAnswer S.is_honest S.is_clean S.is_declared S.records S.failures lookup.now.roster.now
-            self.old m (answer_model result) self.new }
+            MayAnswer S.view lookup.now.roster.now self.old m (answer_model result) self.new }
     {
         match decode(self.alloc, message, &lookup.routes, lookup.roster) {
             Ok(Ask::Check(question)) => self.serve_question(&question),
@@ -51,7 +48,7 @@ impl<S: Shelf> Desk<S> {
 }
 
 impl<'r, S: Shelf> Service<Lookup<'r>> for Desk<S> {
-    ghost may_answer = { λ lookup. MayAnswer S.is_honest S.is_clean S.is_declared S.records S.failures lookup.roster.now };
+    ghost may_answer = { λ lookup. MayAnswer S.view lookup.roster.now };
 
     fn answer(&mut self, lookup: &Lookup<'r>, message: &Message<'_>) -> Answer {
         self.serve_message(lookup, message)

@@ -1,10 +1,10 @@
 //! Serving a room over a reader and a writer.
-ghost use Rattle.std.specs.Prelude.{◌≡◌, ◌≤◌, []};
+ghost use Rattle.std.specs.Prelude.{◌≡◌, []};
 ghost use Rattle.room_records.specs.Room.{Room};
 ghost use Rattle.room_wire.specs.Serving.Ends.{Serves};
 ghost use Rattle.room_desk.specs.History.{History};
 ghost use Rattle.room_desk.specs.Representation.{StandsFor};
-ghost use Rattle.room_desk.specs.Serving.{AnswersMessage, MayAnswer};
+ghost use Rattle.room_desk.specs.Serving.{AnswersMessage, DeskCall, MayAnswer};
 
 use crate::desk::Desk;
 use crate::service::Lookup;
@@ -25,16 +25,13 @@ impl<S: Shelf> Desk<S> {
         reader: &mut R,
         writer: &mut W,
     ) -> ServeEnd
-        ensures was_honest { S.is_honest self.new → S.is_honest self.old }
-        ensures was_clean { S.is_clean self.new → S.is_clean self.old }
-        ensures declared { S.is_honest self.new → S.is_declared self.old → S.is_declared self.new }
-        ensures never_falls { S.failures self.old ≤ S.failures self.new }
-        ensures messages { Serves (MayAnswer S.is_honest S.is_clean S.is_declared S.records S.failures roster.now) self.old self.new
+        ensures frame { DeskCall (S.view self.old) (S.view self.new) }
+        ensures messages { Serves (MayAnswer S.view roster.now) self.old self.new
             (R.remaining reader.old) (R.remaining reader.new) (W.contents writer.old) (W.contents writer.new) result.why result.count }
-        ensures run { S.is_clean self.new → (start : Room) (past : History) → StandsFor S.is_honest S.is_declared S.records start past self.old →
+        ensures run { (S.view self.new).is_intact → (start : Room) (past : History) → StandsFor start past (S.view self.old) →
             (next : History) × Serves (AnswersMessage roster.now start) past next (R.remaining reader.old) (R.remaining reader.new)
             (W.contents writer.old) (W.contents writer.new) result.why result.count
-            × StandsFor S.is_honest S.is_declared S.records start next self.new }
+            × StandsFor start next (S.view self.new) }
     {
         let (Ok(routes), Ok(buffers)) = (Routes::new(self.alloc), Buffers::new(self.alloc)) else {
             return ServeEnd {
@@ -55,16 +52,13 @@ impl<S: Shelf> Desk<S> {
         writer: &mut W,
     ) -> ServeEnd
         requires { buffers.input ≡ [] }
-        ensures was_honest { S.is_honest self.new → S.is_honest self.old }
-        ensures was_clean { S.is_clean self.new → S.is_clean self.old }
-        ensures declared { S.is_honest self.new → S.is_declared self.old → S.is_declared self.new }
-        ensures never_falls { S.failures self.old ≤ S.failures self.new }
-        ensures messages { Serves (MayAnswer S.is_honest S.is_clean S.is_declared S.records S.failures lookup.now.roster.now) self.old self.new
+        ensures frame { DeskCall (S.view self.old) (S.view self.new) }
+        ensures messages { Serves (MayAnswer S.view lookup.now.roster.now) self.old self.new
             (R.remaining reader.old) (R.remaining reader.new) (W.contents writer.old) (W.contents writer.new) result.why result.count }
-        ensures run { S.is_clean self.new → (start : Room) (past : History) → StandsFor S.is_honest S.is_declared S.records start past self.old →
+        ensures run { (S.view self.new).is_intact → (start : Room) (past : History) → StandsFor start past (S.view self.old) →
             (next : History) × Serves (AnswersMessage lookup.now.roster.now start) past next (R.remaining reader.old) (R.remaining reader.new)
             (W.contents writer.old) (W.contents writer.new) result.why result.count
-            × StandsFor S.is_honest S.is_declared S.records start next self.new }
+            × StandsFor start next (S.view self.new) }
     {
         serve_messages(self, lookup, buffers, reader, writer)
     }

@@ -1,12 +1,11 @@
 //! OPEN and CLOSE of sessions.
-ghost use Rattle.std.specs.Prelude.{◌≡◌, ◌≢◌, ◌≤◌, ◌⊎◌, IfOk, OnOk, OnErr, Err, ◌∷◌, true, false};
+ghost use Rattle.std.specs.Prelude.{◌≡◌, IfOk, OnOk, ◌∷◌, true, false};
 ghost use Rattle.std.specs.Str.{bytes_eq};
-ghost use Rattle.room_records.specs.Records.{Records};
 ghost use Rattle.room_records.specs.Rules.{RulesHold};
 ghost use Rattle.room_records.specs.declared.change.Change.TheVariants.{PutSession, DropSlots};
 ghost use Rattle.room_records.specs.Changes.{apply_change};
 ghost use Rattle.room_records.specs.Room.{Room};
-ghost use Rattle.room_records.specs.Shelf.{FailureCounted};
+ghost use Rattle.room_records.specs.Shelf.{ShelfCall, fault_in};
 ghost use Rattle.room_commands.specs.ReplyModel.{Done, Opened};
 ghost use Rattle.room_wire.specs.Forms.Texts.{reply_text};
 ghost use Rattle.room_wire.specs.Asks.EventModel.{Open, Close};
@@ -78,19 +77,13 @@ fn open_first<S: Shelf>(
     sid: &Sid,
     slots: SlotCount,
 ) -> Result<Answer, ShelfFault>
-    ensures was_honest { S.is_honest shelf.new → S.is_honest shelf.old }
-    ensures was_clean { S.is_clean shelf.new → S.is_clean shelf.old }
-    ensures alive { S.is_clean shelf.new → OnOk result (S.is_honest shelf.new) }
-    ensures declared { S.is_honest shelf.new → S.is_declared shelf.old → S.is_declared shelf.new }
-    ensures never_falls { S.failures shelf.old ≤ S.failures shelf.new }
-    ensures quiet { result ≢ Err ShelfFault.Store → S.failures shelf.new ≡ S.failures shelf.old }
-    ensures store { result ≡ Err ShelfFault.Store → FailureCounted (S.failures shelf.old) (S.failures shelf.new) }
-    ensures err { S.is_honest shelf.new → S.is_declared shelf.old → OnErr result (S.records shelf.new ≡ S.records shelf.old) }
+    ensures there { (S.view shelf.new).is_intact → OnOk result (S.view shelf.new).is_available }
+    ensures frame { ShelfCall (S.view shelf.old) (S.view shelf.new) (fault_in result) }
     ensures reply { IfOk result (λ answer. answer_model answer ≡ A.Reply (reply_text (Opened slots))) }
-    ensures ok { S.is_honest shelf.new → S.is_declared shelf.old →
-        RulesHold (apply_change (PutSession (record { sid = sid.now; owner = subject.now.name; slots = slots; is_open = true })) (S.records shelf.old)) →
-        OnOk result (S.records shelf.new
-        ≡ apply_change (PutSession (record { sid = sid.now; owner = subject.now.name; slots = slots; is_open = true })) (S.records shelf.old)) }
+    ensures ok { (S.view shelf.new).is_available → (S.view shelf.old).is_laid_out →
+        RulesHold (apply_change (PutSession (record { sid = sid.now; owner = subject.now.name; slots = slots; is_open = true })) (S.view shelf.old).records) →
+        OnOk result ((S.view shelf.new).records
+        ≡ apply_change (PutSession (record { sid = sid.now; owner = subject.now.name; slots = slots; is_open = true })) (S.view shelf.old).records) }
 {
     let text = reply_text(alloc, &Reply::Opened(slots))?;
     let changes = [Change::PutSession(opened_row(subject, sid, slots)?)];
@@ -106,21 +99,15 @@ pub(crate) fn open<S: Shelf>(
     sid: &Sid,
     slots: SlotCount,
 ) -> Result<Answer, ShelfFault>
-    ensures was_honest { S.is_honest shelf.new → S.is_honest shelf.old }
-    ensures was_clean { S.is_clean shelf.new → S.is_clean shelf.old }
-    ensures alive { S.is_clean shelf.new → OnOk result (S.is_honest shelf.new) }
-    ensures declared { S.is_honest shelf.new → S.is_declared shelf.old → S.is_declared shelf.new }
-    ensures never_falls { S.failures shelf.old ≤ S.failures shelf.new }
-    ensures quiet { result ≢ Err ShelfFault.Store → S.failures shelf.new ≡ S.failures shelf.old }
-    ensures store { result ≡ Err ShelfFault.Store → FailureCounted (S.failures shelf.old) (S.failures shelf.new) }
-    ensures err { S.is_honest shelf.new → S.is_declared shelf.old → OnErr result (S.records shelf.new ≡ S.records shelf.old) }
-    ensures step { S.is_honest shelf.new → S.is_declared shelf.old → (start : Room) (past : History) → RepresentsHistory start (S.records shelf.old) past →
+    ensures there { (S.view shelf.new).is_intact → OnOk result (S.view shelf.new).is_available }
+    ensures frame { ShelfCall (S.view shelf.old) (S.view shelf.new) (fault_in result) }
+    ensures step { (S.view shelf.new).is_available → (S.view shelf.old).is_laid_out → (start : Room) (past : History) → RepresentsHistory start (S.view shelf.old).records past →
         IfOk result (λ answer. (answer_model answer ≡ answer_to start past (Open subject.now sid.now slots))
-        × RepresentsHistory start (S.records shelf.new) (Open subject.now sid.now slots ∷ past)) }
-    ensures refused { S.is_honest shelf.new → S.is_declared shelf.old →
-        IfOk result (λ answer. IsTurnedAway (answer_model answer) → S.records shelf.new ≡ S.records shelf.old) }
-    ensures idle { S.is_honest shelf.new → S.is_declared shelf.old → (start : Room) (past : History) → RepresentsHistory start (S.records shelf.old) past →
-        changes_rows past (Open subject.now sid.now slots) ≡ false → S.records shelf.new ≡ S.records shelf.old }
+        × RepresentsHistory start (S.view shelf.new).records (Open subject.now sid.now slots ∷ past)) }
+    ensures refused { (S.view shelf.new).is_available → (S.view shelf.old).is_laid_out →
+        IfOk result (λ answer. IsTurnedAway (answer_model answer) → (S.view shelf.new).records ≡ (S.view shelf.old).records) }
+    ensures idle { (S.view shelf.new).is_available → (S.view shelf.old).is_laid_out → (start : Room) (past : History) → RepresentsHistory start (S.view shelf.old).records past →
+        changes_rows past (Open subject.now sid.now slots) ≡ false → (S.view shelf.new).records ≡ (S.view shelf.old).records }
 {
     match shelf.session(sid)? {
         Some(row) => Ok(open_again(alloc, &row, subject, slots)?),
@@ -130,18 +117,12 @@ pub(crate) fn open<S: Shelf>(
 
 /// Ends an open session in one commit: its row is closed, and what its slots kept is dropped.
 fn end_session<S: Shelf>(shelf: &mut S, sid: &Sid, row: SessionRow) -> Result<(), ShelfFault>
-    ensures was_honest { S.is_honest shelf.new → S.is_honest shelf.old }
-    ensures was_clean { S.is_clean shelf.new → S.is_clean shelf.old }
-    ensures alive { S.is_clean shelf.new → OnOk result (S.is_honest shelf.new) }
-    ensures declared { S.is_honest shelf.new → S.is_declared shelf.old → S.is_declared shelf.new }
-    ensures never_falls { S.failures shelf.old ≤ S.failures shelf.new }
-    ensures quiet { result ≢ Err ShelfFault.Store → S.failures shelf.new ≡ S.failures shelf.old }
-    ensures store { result ≡ Err ShelfFault.Store → FailureCounted (S.failures shelf.old) (S.failures shelf.new) }
-    ensures err { S.is_honest shelf.new → S.is_declared shelf.old → OnErr result (S.records shelf.new ≡ S.records shelf.old) }
-    ensures ok { S.is_honest shelf.new → S.is_declared shelf.old →
-        RulesHold (apply_change (PutSession (record { sid = row.sid; owner = row.owner; slots = row.slots; is_open = false })) (S.records shelf.old)) →
-        RulesHold (apply_change (DropSlots sid.now) (apply_change (PutSession (record { sid = row.sid; owner = row.owner; slots = row.slots; is_open = false })) (S.records shelf.old))) →
-        OnOk result (S.records shelf.new ≡ apply_change (DropSlots sid.now) (apply_change (PutSession (record { sid = row.sid; owner = row.owner; slots = row.slots; is_open = false })) (S.records shelf.old))) }
+    ensures there { (S.view shelf.new).is_intact → OnOk result (S.view shelf.new).is_available }
+    ensures frame { ShelfCall (S.view shelf.old) (S.view shelf.new) (fault_in result) }
+    ensures ok { (S.view shelf.new).is_available → (S.view shelf.old).is_laid_out →
+        RulesHold (apply_change (PutSession (record { sid = row.sid; owner = row.owner; slots = row.slots; is_open = false })) (S.view shelf.old).records) →
+        RulesHold (apply_change (DropSlots sid.now) (apply_change (PutSession (record { sid = row.sid; owner = row.owner; slots = row.slots; is_open = false })) (S.view shelf.old).records)) →
+        OnOk result ((S.view shelf.new).records ≡ apply_change (DropSlots sid.now) (apply_change (PutSession (record { sid = row.sid; owner = row.owner; slots = row.slots; is_open = false })) (S.view shelf.old).records)) }
 {
     let closed = SessionRow {
         sid: row.sid,
@@ -160,20 +141,13 @@ fn close_owned<S: Shelf>(
     sid: &Sid,
     row: SessionRow,
 ) -> Result<Answer, ShelfFault>
-    ensures was_honest { S.is_honest shelf.new → S.is_honest shelf.old }
-    ensures was_clean { S.is_clean shelf.new → S.is_clean shelf.old }
-    ensures alive { S.is_clean shelf.new → S.is_honest shelf.old → OnOk result (S.is_honest shelf.new) }
-    ensures declared { S.is_honest shelf.new → S.is_declared shelf.old → S.is_declared shelf.new }
-    ensures never_falls { S.failures shelf.old ≤ S.failures shelf.new }
-    ensures quiet { result ≢ Err ShelfFault.Store → S.failures shelf.new ≡ S.failures shelf.old }
-    ensures store { result ≡ Err ShelfFault.Store → FailureCounted (S.failures shelf.old) (S.failures shelf.new) }
-    ensures err { S.is_honest shelf.new → S.is_declared shelf.old → OnErr result (S.records shelf.new ≡ S.records shelf.old) }
+    ensures frame { ShelfCall (S.view shelf.old) (S.view shelf.new) (fault_in result) }
     ensures reply { IfOk result (λ answer. answer_model answer ≡ A.Reply (reply_text Done)) }
-    ensures idle { row.is_open ≡ false → S.is_honest shelf.new → S.is_declared shelf.old → S.records shelf.new ≡ S.records shelf.old }
-    ensures ok { row.is_open ≡ true → S.is_honest shelf.new → S.is_declared shelf.old →
-        RulesHold (apply_change (PutSession (record { sid = row.sid; owner = row.owner; slots = row.slots; is_open = false })) (S.records shelf.old)) →
-        RulesHold (apply_change (DropSlots sid.now) (apply_change (PutSession (record { sid = row.sid; owner = row.owner; slots = row.slots; is_open = false })) (S.records shelf.old))) →
-        OnOk result (S.records shelf.new ≡ apply_change (DropSlots sid.now) (apply_change (PutSession (record { sid = row.sid; owner = row.owner; slots = row.slots; is_open = false })) (S.records shelf.old))) }
+    ensures idle { row.is_open ≡ false → (S.view shelf.new).is_available → (S.view shelf.old).is_laid_out → (S.view shelf.new).records ≡ (S.view shelf.old).records }
+    ensures ok { row.is_open ≡ true → (S.view shelf.new).is_available → (S.view shelf.old).is_laid_out →
+        RulesHold (apply_change (PutSession (record { sid = row.sid; owner = row.owner; slots = row.slots; is_open = false })) (S.view shelf.old).records) →
+        RulesHold (apply_change (DropSlots sid.now) (apply_change (PutSession (record { sid = row.sid; owner = row.owner; slots = row.slots; is_open = false })) (S.view shelf.old).records)) →
+        OnOk result ((S.view shelf.new).records ≡ apply_change (DropSlots sid.now) (apply_change (PutSession (record { sid = row.sid; owner = row.owner; slots = row.slots; is_open = false })) (S.view shelf.old).records)) }
 {
     let text = reply_text(alloc, &Reply::Done)?;
     if row.is_open {
@@ -189,21 +163,15 @@ pub(crate) fn close<S: Shelf>(
     subject: &Subject,
     sid: &Sid,
 ) -> Result<Answer, ShelfFault>
-    ensures was_honest { S.is_honest shelf.new → S.is_honest shelf.old }
-    ensures was_clean { S.is_clean shelf.new → S.is_clean shelf.old }
-    ensures alive { S.is_clean shelf.new → OnOk result (S.is_honest shelf.new) }
-    ensures declared { S.is_honest shelf.new → S.is_declared shelf.old → S.is_declared shelf.new }
-    ensures never_falls { S.failures shelf.old ≤ S.failures shelf.new }
-    ensures quiet { result ≢ Err ShelfFault.Store → S.failures shelf.new ≡ S.failures shelf.old }
-    ensures store { result ≡ Err ShelfFault.Store → FailureCounted (S.failures shelf.old) (S.failures shelf.new) }
-    ensures err { S.is_honest shelf.new → S.is_declared shelf.old → OnErr result (S.records shelf.new ≡ S.records shelf.old) }
-    ensures step { S.is_honest shelf.new → S.is_declared shelf.old → (start : Room) (past : History) → RepresentsHistory start (S.records shelf.old) past →
+    ensures there { (S.view shelf.new).is_intact → OnOk result (S.view shelf.new).is_available }
+    ensures frame { ShelfCall (S.view shelf.old) (S.view shelf.new) (fault_in result) }
+    ensures step { (S.view shelf.new).is_available → (S.view shelf.old).is_laid_out → (start : Room) (past : History) → RepresentsHistory start (S.view shelf.old).records past →
         IfOk result (λ answer. (answer_model answer ≡ answer_to start past (Close subject.now sid.now))
-        × RepresentsHistory start (S.records shelf.new) (Close subject.now sid.now ∷ past)) }
-    ensures refused { S.is_honest shelf.new → S.is_declared shelf.old →
-        IfOk result (λ answer. IsTurnedAway (answer_model answer) → S.records shelf.new ≡ S.records shelf.old) }
-    ensures idle { S.is_honest shelf.new → S.is_declared shelf.old → (start : Room) (past : History) → RepresentsHistory start (S.records shelf.old) past →
-        changes_rows past (Close subject.now sid.now) ≡ false → S.records shelf.new ≡ S.records shelf.old }
+        × RepresentsHistory start (S.view shelf.new).records (Close subject.now sid.now ∷ past)) }
+    ensures refused { (S.view shelf.new).is_available → (S.view shelf.old).is_laid_out →
+        IfOk result (λ answer. IsTurnedAway (answer_model answer) → (S.view shelf.new).records ≡ (S.view shelf.old).records) }
+    ensures idle { (S.view shelf.new).is_available → (S.view shelf.old).is_laid_out → (start : Room) (past : History) → RepresentsHistory start (S.view shelf.old).records past →
+        changes_rows past (Close subject.now sid.now) ≡ false → (S.view shelf.new).records ≡ (S.view shelf.old).records }
 {
     let Some(row) = shelf.session(sid)? else {
         return Ok(Answer::Refused(Code::BadSession));

@@ -4,6 +4,7 @@ use Rattle.room_records.specs.Records.{Records}
 use Rattle.room_records.specs.Rules.{SlotRules}
 use Rattle.room_records.specs.Room.{Room}
 use Rattle.room_records.specs.Representation.{RepresentsRoom}
+use Rattle.room_records.proofs.Shelves.{call_then}
 use Rattle.room_slots.specs.Slots.{verdict}
 use Rattle.room_slots.specs.declared.verdict.Verdict.{Verdict}
 use Rattle.room_commands.specs.CommandModel.{command_model}
@@ -16,14 +17,17 @@ use Rattle.room_desk.specs.Rows.{HasSlot, Ran, answer_kept}
 use Rattle.room_desk.proofs.SlotTests.{new_answer, new_stands, accepted_if_verdict, old_answer, old_stands}
 use Rattle.room_desk.proofs.requests.in_slot.Goals as goal
 
+pub returns-then-is_new-clause-frame : goal.returns-then-is_new-clause-frame
+returns-then-is_new-clause-frame g c = call_then _ _ _ _ c.run_new.ensures.frame c.in_ok-kept.ensures.frame
+
 pub returns-then-is_new-clause-step : goal.returns-then-is_new-clause-step
 returns-then-is_new-clause-step g c = λ h d start past stand usable has.
     let S = g.S.Shelf in
-    let old = S.records c.args.shelf.now in
-    let after = S.records c.run_new.new.shelf in
+    let old = (S.view c.args.shelf.now).records in
+    let after = (S.view c.run_new.new.shelf).records in
     let q : Request = record { caller = c.args.subject.now; sid = c.args.sid.now; slot = c.args.slot; seq = c.args.seq; command = command_model c.args.command.now } in
-    let read = c.run_new.ensures.was_honest h in
-    let same : S.records c.slot.new.self ≡ old = c.slot.ensures.unchanged.same read d in
+    let read = c.run_new.ensures.frame.was_available h in
+    let same : (S.view c.slot.new.self).records ≡ old = c.slot.ensures.frame.same read d in
     let kept : c.in_ok-kept.kept ≡ old.slot q.sid q.slot = c.in_ok-kept.ensures.value read d in
     let v : Verdict = c.verdict_of-verdict.result in
     let is : v ≡ verdict (old.slot q.sid q.slot) q.seq (command_text q.command) =
@@ -31,7 +35,7 @@ returns-then-is_new-clause-step g c = λ h d start past stand usable has.
     let new = c.is_new.ensures.new c.if-is_new.true in
     let Runs : Records → Type 0 = λ r. (room : Room) → RepresentsRoom r.objects room → SlotRules r → HasSlot r q.sid q.slot →
     IfOk c.run_new.result (λ answer. Ran r room q.caller q.command q.sid q.slot q.seq (answer_model answer) after) in
-    let runs : Runs old = subst Runs same (c.run_new.ensures.ok h (c.slot.ensures.unchanged.declared read d)) in
+    let runs : Runs old = subst Runs same (c.run_new.ensures.ok h (c.slot.ensures.frame.call.laid_out read d)) in
     IfOk-weaker c.run_new.result (λ answer. Ran old (state_after start past) q.caller q.command q.sid q.slot q.seq (answer_model answer) after)
     (λ answer. (answer_model answer ≡ answer_to start past (Slot q)) × RepresentsHistory start after (Slot q ∷ past))
     (λ answer ran. (
@@ -43,9 +47,9 @@ returns-then-is_new-clause-step g c = λ h d start past stand usable has.
 pub returns-then-is_new-clause-idle : goal.returns-then-is_new-clause-idle
 returns-then-is_new-clause-idle g c = λ h d start past stand usable has idle.
     let S = g.S.Shelf in
-    let old = S.records c.args.shelf.now in
+    let old = (S.view c.args.shelf.now).records in
     let q : Request = record { caller = c.args.subject.now; sid = c.args.sid.now; slot = c.args.slot; seq = c.args.seq; command = command_model c.args.command.now } in
-    let read = c.run_new.ensures.was_honest h in
+    let read = c.run_new.ensures.frame.was_available h in
     let kept : c.in_ok-kept.kept ≡ old.slot q.sid q.slot = c.in_ok-kept.ensures.value read d in
     let v : Verdict = c.verdict_of-verdict.result in
     let is : v ≡ verdict (old.slot q.sid q.slot) q.seq (command_text q.command) =
@@ -57,9 +61,9 @@ returns-then-is_new-clause-idle g c = λ h d start past stand usable has idle.
 pub returns-else-is_new-clause-step : goal.returns-else-is_new-clause-step
 returns-else-is_new-clause-step g c = λ h d start past stand usable has.
     let S = g.S.Shelf in
-    let old = S.records c.args.shelf.now in
+    let old = (S.view c.args.shelf.now).records in
     let q : Request = record { caller = c.args.subject.now; sid = c.args.sid.now; slot = c.args.slot; seq = c.args.seq; command = command_model c.args.command.now } in
-    let same : S.records c.slot.new.self ≡ old = c.slot.ensures.unchanged.same h d in
+    let same : (S.view c.slot.new.self).records ≡ old = c.slot.ensures.frame.same h d in
     let kept : c.in_ok-kept.kept ≡ old.slot q.sid q.slot = c.in_ok-kept.ensures.value h d in
     let v : Verdict = c.verdict_of-verdict.result in
     let is : v ≡ verdict (old.slot q.sid q.slot) q.seq (command_text q.command) =

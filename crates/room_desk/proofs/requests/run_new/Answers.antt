@@ -6,29 +6,35 @@ use Rattle.room_records.specs.declared.session.SlotRow.{SlotRow}
 use Rattle.room_records.specs.Changes.{apply_changes, RulesHoldAfterEach}
 use Rattle.room_commands.specs.CommandModel.{command_model}
 use Rattle.room_desk.specs.AnswerModel.{AnswerModel, Reply}
+use Rattle.room_desk.proofs.Faults.{passed_on}
 use Rattle.room_desk.proofs.Running.{planned_row, all_changes, planned_rules, ran}
 use Rattle.room_desk.proofs.requests.run_new.Goals as goal
+
+pub returns-in_err-commit-clause-frame : goal.returns-in_err-commit-clause-frame
+returns-in_err-commit-clause-frame g c =
+    passed_on _ _ _ _ c.from_residual-in_err-commit.result c.from_residual-in_err-commit.ensures.0 c.from_residual-in_err-commit.ensures.1
+    c.in_err-commit.ensures.frame c.in_ok-outcome.ensures.frame
 
 pub returns-clause-ok : goal.returns-clause-ok
 returns-clause-ok g c = λ h d room stand slots has.
     let S = g.S.Shelf in
-    let old = S.records c.args.shelf.now in
+    let old = (S.view c.args.shelf.now).records in
     let caller = c.args.subject.now in
     let command = command_model c.args.command.now in
     let sid = c.args.sid.now in
     let outcome = c.in_ok-outcome.outcome in
-    let read = c.commit.ensures.was_honest h in
-    let same : S.records c.plan.new.shelf ≡ old = c.plan.ensures.unchanged.same read d in
+    let read = c.commit.ensures.frame.was_available h in
+    let same : (S.view c.plan.new.shelf).records ≡ old = c.plan.ensures.frame.same read d in
     let plans = c.in_ok-outcome.ensures.effect read d room stand in
     let row : c.in_ok-row.row ≡ planned_row old room caller command outcome sid c.args.slot c.args.seq plans stand slots has =
     c.in_ok-row.ensures ∙ (λ i. record { sid = sid; slot = c.args.slot; kept = record { seq = c.args.seq; request = c.requires i; reply = c.in_ok-reply.ensures i } }) in
     let all = all_changes old room caller command outcome sid c.args.slot c.args.seq plans stand slots has in
     let items : c.deref.result.now ≡ all = c.deref.ensures.value ∙ c.in-Ok.ensures.items ∙ ap (λ (r : SlotRow). outcome.changes.items ++ PutSlot r ∷ []) row in
     let Hold : List Change → Records → Type 0 = λ cs r. RulesHoldAfterEach cs r in
-    let Made : List Change → Records → Type 0 = λ cs r. S.records c.commit.new.self ≡ apply_changes cs r in
+    let Made : List Change → Records → Type 0 = λ cs r. (S.view c.commit.new.self).records ≡ apply_changes cs r in
     let rules : Hold all old = planned_rules old room caller command outcome sid c.args.slot c.args.seq plans stand slots has in
-    let rules_there : Hold c.deref.result.now (S.records c.plan.new.shelf) = rw (items, same) rules in
-    let made : Made c.deref.result.now (S.records c.plan.new.shelf) = c.in_ok-commit.ensures.ok (g.met.S.Shelf.honest_is_clean c.commit.new.self h) (c.plan.ensures.unchanged.declared read d) rules_there in
+    let rules_there : Hold c.deref.result.now (S.view c.plan.new.shelf).records = rw (items, same) rules in
+    let made : Made c.deref.result.now (S.view c.plan.new.shelf).records = c.in_ok-commit.ensures.ok (g.met.S.Shelf.available_is_intact c.commit.new.self h) (c.plan.ensures.frame.call.laid_out read d) rules_there in
     let after : Made all old = subst (λ cs. Made cs old) items (subst (λ r. Made c.deref.result.now r) same made) in
     ran old room caller command outcome sid c.args.slot c.args.seq plans stand slots has
-    (Reply c.in_ok-reply.reply.items) (S.records c.commit.new.self) (ap (λ text. Reply text) c.in_ok-reply.ensures) after
+    (Reply c.in_ok-reply.reply.items) (S.view c.commit.new.self).records (ap (λ text. Reply text) c.in_ok-reply.ensures) after

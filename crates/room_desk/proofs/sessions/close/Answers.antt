@@ -5,22 +5,26 @@ use Rattle.room_records.specs.Rules.{RulesHold}
 use Rattle.room_records.specs.Changes.{apply_change}
 use Rattle.room_records.specs.declared.change.Change.TheVariants.{PutSession, DropSlots}
 use Rattle.room_records.specs.declared.session.SessionRow.{SessionRow}
+use Rattle.room_records.proofs.Shelves.{call_then}
 use Rattle.room_desk.proofs.Closing.{close_step}
 use Rattle.room_desk.proofs.sessions.close.Goals as goal
+
+pub returns-clause-frame : goal.returns-clause-frame
+returns-clause-frame g c = call_then _ _ _ _ c.close_owned.ensures.frame c.in_ok-row.ensures.frame
 
 pub returns-clause-step : goal.returns-clause-step
 returns-clause-step g c = λ h d start past stand.
     let S = g.S.Shelf in
-    let old = S.records c.args.shelf.now in
+    let old = (S.view c.args.shelf.now).records in
     let sid = c.args.sid.now in
     let row = c.in-Some.row in
-    let read = c.close_owned.ensures.was_honest h in
-    let declared = c.session.ensures.unchanged.declared read d in
-    let same : S.records c.session.new.self ≡ old = c.session.ensures.unchanged.same read d in
+    let read = c.close_owned.ensures.frame.was_available h in
+    let laid_out = c.session.ensures.frame.call.laid_out read d in
+    let same : (S.view c.session.new.self).records ≡ old = c.session.ensures.frame.same read d in
     let some : old.session sid ≡ Some row = sym (c.in_ok-row.ensures.value read d) ∙ c.in-Some.is in
     let mine : bytes_eq row.owner c.args.subject.now.name ≡ true = sym c.owns.ensures ∙ c.if-not-owns.false in
     let shut : SessionRow = record { sid = row.sid; owner = row.owner; slots = row.slots; is_open = false } in
     let Made : Records → Type 0 = λ r. row.is_open ≡ true → RulesHold (apply_change (PutSession shut) r) → RulesHold (apply_change (DropSlots sid) (apply_change (PutSession shut) r))
-    → OnOk c.close_owned.result (S.records c.close_owned.new.shelf ≡ apply_change (DropSlots sid) (apply_change (PutSession shut) r)) in
-    close_step start old past stand sid c.args.subject.now row some mine (S.records c.close_owned.new.shelf) c.close_owned.result c.close_owned.ensures.reply
-    (λ shut. c.close_owned.ensures.idle shut h declared ∙ same) (subst Made same (λ is_open. c.close_owned.ensures.ok is_open h declared))
+    → OnOk c.close_owned.result ((S.view c.close_owned.new.shelf).records ≡ apply_change (DropSlots sid) (apply_change (PutSession shut) r)) in
+    close_step start old past stand sid c.args.subject.now row some mine (S.view c.close_owned.new.shelf).records c.close_owned.result c.close_owned.ensures.reply
+    (λ shut. c.close_owned.ensures.idle shut h laid_out ∙ same) (subst Made same (λ is_open. c.close_owned.ensures.ok is_open h laid_out))

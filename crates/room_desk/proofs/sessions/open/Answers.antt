@@ -4,6 +4,7 @@ use Rattle.room_records.specs.Rules.{RulesHold}
 use Rattle.room_records.specs.Changes.{apply_change}
 use Rattle.room_records.specs.declared.change.Change.{Change}
 use Rattle.room_records.specs.declared.change.Change.TheVariants.{PutSession}
+use Rattle.room_records.proofs.Shelves.{call_then}
 use Rattle.room_commands.specs.ReplyModel.{Opened}
 use Rattle.room_wire.specs.Forms.Texts.{reply_text}
 use Rattle.room_wire.specs.Asks.EventModel.{Open}
@@ -15,25 +16,28 @@ use Rattle.room_desk.proofs.Outcomes.{if_ok_both}
 use Rattle.room_desk.proofs.Answers.{open_unused, open_unused_rules, open_unused_stands}
 use Rattle.room_desk.proofs.sessions.open.Goals as goal
 
+pub returns-in-None-clause-frame : goal.returns-in-None-clause-frame
+returns-in-None-clause-frame g c = call_then _ _ _ _ c.open_first.ensures.frame c.in_ok-row.ensures.frame
+
 pub returns-in-None-clause-step : goal.returns-in-None-clause-step
 returns-in-None-clause-step g c = λ h d start past stand.
     let S = g.S.Shelf in
-    let old = S.records c.args.shelf.now in
+    let old = (S.view c.args.shelf.now).records in
     let caller = c.args.subject.now in
     let sid = c.args.sid.now in
     let event = Open caller sid c.args.slots in
     let change : Change = PutSession (record { sid = sid; owner = caller.name; slots = c.args.slots; is_open = true }) in
-    let read = c.open_first.ensures.was_honest h in
-    let same : S.records c.session.new.self ≡ old = c.session.ensures.unchanged.same read d in
+    let read = c.open_first.ensures.frame.was_available h in
+    let same : (S.view c.session.new.self).records ≡ old = c.session.ensures.frame.same read d in
     let none : old.session sid ≡ None = sym (c.in_ok-row.ensures.value read d) ∙ c.in-None.is in
     let Allowed : Records → Type 0 = λ r. RulesHold (apply_change change r) in
-    let made = c.open_first.ensures.ok h (c.session.ensures.unchanged.declared read d) (subst Allowed (sym same) (open_unused_rules start old past stand sid caller c.args.slots none)) in
-    let Made : Records → Type 0 = λ r. S.records c.open_first.new.shelf ≡ apply_change change r in
+    let made = c.open_first.ensures.ok h (c.session.ensures.frame.call.laid_out read d) (subst Allowed (sym same) (open_unused_rules start old past stand sid caller c.args.slots none)) in
+    let Made : Records → Type 0 = λ r. (S.view c.open_first.new.shelf).records ≡ apply_change change r in
     let Stands : Records → Type 0 = λ r. RepresentsHistory start r (event ∷ past) in
     if_ok_both c.open_first.result
     (λ answer. answer_model answer ≡ A.Reply (reply_text (Opened c.args.slots)))
-    (λ answer. S.records c.open_first.new.shelf ≡ apply_change change (S.records c.session.new.self))
-    (λ answer. (answer_model answer ≡ answer_to start past event) × RepresentsHistory start (S.records c.open_first.new.shelf) (event ∷ past))
+    (λ answer. (S.view c.open_first.new.shelf).records ≡ apply_change change (S.view c.session.new.self).records)
+    (λ answer. (answer_model answer ≡ answer_to start past event) × RepresentsHistory start (S.view c.open_first.new.shelf).records (event ∷ past))
     (λ answer reply after. (
       reply ∙ sym (open_unused start old past stand sid caller c.args.slots none),
       subst Stands (sym (subst Made same after)) (open_unused_stands start old past stand sid caller c.args.slots none),

@@ -6,6 +6,7 @@ use Rattle.room_wire.specs.Asks.EventModel.{event_model}
 use Rattle.room_desk.specs.AnswerModel.{answer_model}
 use Rattle.room_desk.specs.Representation.{InTurn, Run, Step}
 use Rattle.room_desk.specs.Serving.{EventAnswered}
+use Rattle.room_desk.proofs.Calls.{no_call, calls_then}
 use Rattle.room_desk.proofs.Runs.{in_turn_at}
 use Rattle.room_desk.proofs.desk.Desk.run.Goals as goal
 
@@ -13,10 +14,7 @@ pub loop-event-init : goal.loop-event-init
 loop-event-init g c = record {
   room = omega (arith, c.in_ok-answers.ensures.capacity);
   count = c.in_ok-answers.ensures.len;
-  was_honest = λ h. h;
-  was_clean = λ k. k;
-  declared = λ h d. d;
-  never_falls = omega arith;
+  frame = no_call (g.S.Shelf.view c.args.self.now);
   alive = λ k before last is other.
       let none : [] ≡ before ++ last ∷ [] = sym (ap (map answer_model) c.in_ok-answers.ensures.items) ∙ is in
       absurd (omega (arith, ap length none, length_push before last));
@@ -26,7 +24,7 @@ loop-event-init g c = record {
   each =
       let S = g.S.Shelf in
       let None : List Answer → Type 0 = λ answers.
-      InTurn (EventAnswered S.is_honest S.is_clean S.is_declared S.records S.failures) c.args.self.now [] (map answer_model answers) c.args.self.now in
+      InTurn (EventAnswered S.view) c.args.self.now [] (map answer_model answers) c.args.self.now in
       subst None (sym c.in_ok-answers.ensures.items) refl;
 }
 
@@ -34,37 +32,21 @@ pub loop-event-preserved : goal.loop-event-preserved
 loop-event-preserved g c = record {
   room = omega (arith, c.loop-event.invariant.room, c.push.ensures.capacity);
   count = omega (arith, c.loop-event.invariant.count, c.in-Ok.ensures.len);
-  was_honest = λ h. c.loop-event.invariant.was_honest (c.handle.ensures.was_honest h);
-  was_clean = λ k. c.loop-event.invariant.was_clean (c.handle.ensures.was_clean k);
-  declared = λ h d. c.handle.ensures.declared h (c.loop-event.invariant.declared (c.handle.ensures.was_honest h) d);
-  never_falls = omega (arith, c.loop-event.invariant.never_falls, c.handle.ensures.never_falls);
+  frame = calls_then _ _ _ c.handle.ensures.answered.frame c.loop-event.invariant.frame;
   alive = λ k before last is other.
       let told : map answer_model c.push.new.self.items ≡ map answer_model c.loop-event.answers.items ++ answer_model c.handle.result ∷ [] =
       ap (map answer_model) c.in-Ok.ensures.items ∙ map-append answer_model c.loop-event.answers.items (c.handle.result ∷ []) in
       let same = same_from_push (map answer_model c.loop-event.answers.items) before (answer_model c.handle.result) last (sym told ∙ is) in
-      c.handle.ensures.alive k (λ delay. other (sym same.1 ∙ delay));
+      c.handle.ensures.answered.alive k (event_model c.event-item.result) refl (λ delay. other (sym same.1 ∙ delay));
   run = λ k start past stands.
-      let so_far = c.loop-event.invariant.run (c.handle.ensures.was_clean k) start past stands in
-      let step = c.handle.ensures.step k start so_far.0 so_far.2 in
+      let so_far = c.loop-event.invariant.run (c.handle.ensures.answered.frame.was_intact k) start past stands in
+      let step = c.handle.ensures.answered.step k start so_far.0 so_far.2 in
       (step.0, in_turn_at (Step start) past so_far.0 step.0 c.args.events.now c.loop-event.event-index c.event-item.result c.loop-event.answers.items c.push.new.self.items c.handle.result c.loop-event-test.true c.event-item.is c.in-Ok.ensures.items so_far.1 step.1, step.2);
   each =
       let S = g.S.Shelf in
-      let after = c.handle.ensures in
-      let one : EventAnswered S.is_honest S.is_clean S.is_declared S.records S.failures
-      c.loop-event.self (event_model c.event-item.result) (answer_model c.handle.result) c.handle.new.self = record {
-        was_honest = after.was_honest;
-        was_clean = after.was_clean;
-        declared = after.declared;
-        never_falls = after.never_falls;
-        quiet = after.quiet;
-        alive = λ k event is other. after.alive k other;
-        step = after.step;
-        refused = after.refused;
-        idle = after.idle;
-      } in
-      in_turn_at (EventAnswered S.is_honest S.is_clean S.is_declared S.records S.failures) c.args.self.now c.loop-event.self c.handle.new.self
+      in_turn_at (EventAnswered S.view) c.args.self.now c.loop-event.self c.handle.new.self
       c.args.events.now c.loop-event.event-index c.event-item.result c.loop-event.answers.items c.push.new.self.items c.handle.result
-      c.loop-event-test.true c.event-item.is c.in-Ok.ensures.items c.loop-event.invariant.each one;
+      c.loop-event-test.true c.event-item.is c.in-Ok.ensures.items c.loop-event.invariant.each c.handle.ensures.answered;
 }
 
 pub returns-clause-run : goal.returns-clause-run
@@ -76,6 +58,6 @@ returns-clause-run g c = λ k start past stands.
 pub returns-clause-each : goal.returns-clause-each
 returns-clause-each g c =
     let S = g.S.Shelf in
-    let All : List Event → Type 0 = λ events. InTurn (EventAnswered S.is_honest S.is_clean S.is_declared S.records S.failures)
+    let All : List Event → Type 0 = λ events. InTurn (EventAnswered S.view)
     c.args.self.now (map event_model events) (map answer_model c.loop-event.answers.items) c.loop-event.self in
     subst All (take_all c.loop-event.event-index c.args.events.now c.loop-event-test.false) c.loop-event.invariant.each
