@@ -31,7 +31,7 @@ returns-then-is_new-clause-step g c = λ h d start past stand usable has.
     let kept : c.in_ok-kept.kept ≡ old.slot q.sid q.slot = c.in_ok-kept.ensures.value read d in
     let v : Verdict = c.verdict_of-verdict.result in
     let is : v ≡ verdict (old.slot q.sid q.slot) q.seq (command_text q.command) =
-    c.verdict_of-verdict.ensures ∙ (λ i. verdict (kept i) q.seq ((c.deref.ensures.value ∙ c.in_ok-text.ensures) i)) in
+    c.verdict_of-verdict.ensures ∙ (λ i. verdict (kept i) q.seq ((c.deref.ensures.value ∙ c.in_ok-text.ensures.value) i)) in
     let new = c.is_new.ensures.new c.if-is_new.true in
     let Runs : Records → Type 0 = λ r. (room : Room) → RepresentsRoom r.objects room → SlotRules r → HasSlot r q.sid q.slot →
     IfOk c.run_new.result (λ answer. Ran r room q.caller q.command q.sid q.slot q.seq (answer_model answer) after) in
@@ -53,7 +53,7 @@ returns-then-is_new-clause-idle g c = λ h d start past stand usable has idle.
     let kept : c.in_ok-kept.kept ≡ old.slot q.sid q.slot = c.in_ok-kept.ensures.value read d in
     let v : Verdict = c.verdict_of-verdict.result in
     let is : v ≡ verdict (old.slot q.sid q.slot) q.seq (command_text q.command) =
-    c.verdict_of-verdict.ensures ∙ (λ i. verdict (kept i) q.seq ((c.deref.ensures.value ∙ c.in_ok-text.ensures) i)) in
+    c.verdict_of-verdict.ensures ∙ (λ i. verdict (kept i) q.seq ((c.deref.ensures.value ∙ c.in_ok-text.ensures.value) i)) in
     let accepted = accepted_if_verdict start old past stand q usable has v is (c.is_new.ensures.new c.if-is_new.true) in
     let never : true ≡ false = sym accepted ∙ idle in
     absurd cc
@@ -67,7 +67,7 @@ returns-else-is_new-clause-step g c = λ h d start past stand usable has.
     let kept : c.in_ok-kept.kept ≡ old.slot q.sid q.slot = c.in_ok-kept.ensures.value h d in
     let v : Verdict = c.verdict_of-verdict.result in
     let is : v ≡ verdict (old.slot q.sid q.slot) q.seq (command_text q.command) =
-    c.verdict_of-verdict.ensures ∙ (λ i. verdict (kept i) q.seq ((c.deref.ensures.value ∙ c.in_ok-text.ensures) i)) in
+    c.verdict_of-verdict.ensures ∙ (λ i. verdict (kept i) q.seq ((c.deref.ensures.value ∙ c.in_ok-text.ensures.value) i)) in
     let other = c.is_new.ensures.other c.if-is_new.false in
     let Stands : Records → Type 0 = λ r. RepresentsHistory start r (Slot q ∷ past) in (
       c.answer_kept.ensures ∙ ap (λ k. answer_kept v k) kept ∙ sym (old_answer start old past stand q usable has v is other),
