@@ -2,6 +2,7 @@
 #![tactic(auto)]
 
 mod command;
+mod copies;
 mod laws;
 mod reply;
 

@@ -62,6 +62,20 @@ impl Roster {
         Ok(true)
     }
 
+    /// A copy of the roster, which grows in the same allocator. `AllocError` where memory is refused.
+    pub fn clone(&self) -> Result<Roster, AllocError>
+        ensures { IfOk result (λ copy. copy ≡ self.now) }
+    {
+        let mut users = Vec::new(self.alloc);
+        for user in &self.users {
+            users.push(user.clone()?)?;
+        }
+        Ok(Roster {
+            alloc: self.alloc,
+            users,
+        })
+    }
+
     /// The groups of a user, `None` where the user is not there.
     pub fn groups(&self, user: &Principal) -> Option<&[Principal]>
         ensures { option_map (λ groups. groups.now) result ≡ groups_of self.now user.now }

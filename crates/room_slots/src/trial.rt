@@ -75,6 +75,20 @@ impl Trial {
         }
     }
 
+    /// A copy of the slot and its document, which grows in the same allocator. `AllocError` where memory is refused.
+    pub fn clone(&self) -> Result<Trial, AllocError>
+        ensures { IfOk result (λ copy. copy ≡ self.now) }
+    {
+        let kept = match &self.kept {
+            Some(kept) => Some(kept.clone()?),
+            None => None,
+        };
+        Ok(Trial {
+            kept,
+            doc: self.doc.clone()?,
+        })
+    }
+
     // Appends a new piece, and keeps it with its reply.
     fn append_new(&mut self, seq: u32, bytes: &[u8]) -> Result<TrialAnswer, AllocError>
         ensures answer { IfOk result (λ answer. answer_model answer ≡ Reply (self.old.doc ++ bytes.now)) }
@@ -103,6 +117,19 @@ impl Trial {
             unreachable!();
         };
         Ok(TrialAnswer::Reply(kept.reply.clone()?))
+    }
+}
+
+impl TrialAnswer {
+    /// A copy of the answer. `AllocError` where memory is refused.
+    pub fn clone(&self) -> Result<TrialAnswer, AllocError>
+        ensures { IfOk result (λ copy. answer_model copy ≡ answer_model self.now) }
+    {
+        match self {
+            TrialAnswer::Reply(bytes) => Ok(TrialAnswer::Reply(bytes.clone()?)),
+            TrialAnswer::FalseRetry => Ok(TrialAnswer::FalseRetry),
+            TrialAnswer::Misordered => Ok(TrialAnswer::Misordered),
+        }
     }
 }
 

@@ -1,9 +1,10 @@
 //! What a message is answered.
-ghost use Rattle.std.specs.Prelude.{◌≡◌};
+ghost use Rattle.std.specs.Prelude.{◌≡◌, IfOk};
 ghost use Rattle.room_wire.specs.Answers.AnswerModel.{answer_model, answer_status, answer_body, refusal_status};
 
 use crate::answers::code::{Code, refusal_text};
 use http::StatusCode;
+use std::alloc::AllocError;
 
 /// What a message is answered.
 #[derive(Debug, Drop)]
@@ -31,6 +32,16 @@ pub fn refusal_status(code: Code) -> StatusCode
 }
 
 impl Answer {
+    /// A copy of the answer. `AllocError` where memory is refused.
+    pub fn clone(&self) -> Result<Answer, AllocError>
+        ensures { IfOk result (λ copy. answer_model copy ≡ answer_model self.now) }
+    {
+        match self {
+            Answer::Reply(text) => Ok(Answer::Reply(text.clone()?)),
+            Answer::Refused(code) => Ok(Answer::Refused(*code)),
+        }
+    }
+
     pub fn status(&self) -> StatusCode
         ensures { result ≡ answer_status (answer_model self.now) }
     {

@@ -1,5 +1,9 @@
 //! Questions about a list.
+ghost use Rattle.std.specs.Prelude.{◌≡◌, IfOk};
+ghost use Rattle.room_wire.specs.Questions.QuestionModel.{question_model};
+
 use room_acl::{Entry, Kind, Mask, Principal};
+use std::alloc::AllocError;
 
 /// A question about a list.
 #[derive(Debug, Drop)]
@@ -18,4 +22,53 @@ pub enum Question {
         kind: Kind,
         entries: Vec<Entry>,
     },
+}
+
+impl Question {
+    /// A copy of the question. `AllocError` where memory is refused.
+    pub fn clone(&self) -> Result<Question, AllocError>
+        ensures { IfOk result (λ copy. question_model copy ≡ question_model self.now) }
+    {
+        match self {
+            Question::List {
+                entries,
+                group,
+                groups,
+                mask,
+                owner,
+                user,
+            } => Ok(Question::List {
+                entries: copy_entries(entries)?,
+                group: group.clone()?,
+                groups: copy_groups(groups)?,
+                mask: *mask,
+                owner: owner.clone()?,
+                user: user.clone()?,
+            }),
+            Question::Child { kind, entries } => Ok(Question::Child {
+                kind: *kind,
+                entries: copy_entries(entries)?,
+            }),
+        }
+    }
+}
+
+fn copy_entries(entries: &Vec<Entry>) -> Result<Vec<Entry>, AllocError>
+    ensures { IfOk result (λ copy. copy.items ≡ entries.now.items) }
+{
+    let mut copy = Vec::new(*entries.allocator());
+    for entry in entries {
+        copy.push(entry.clone()?)?;
+    }
+    Ok(copy)
+}
+
+fn copy_groups(groups: &Vec<Principal>) -> Result<Vec<Principal>, AllocError>
+    ensures { IfOk result (λ copy. copy.items ≡ groups.now.items) }
+{
+    let mut copy = Vec::new(*groups.allocator());
+    for group in groups {
+        copy.push(group.clone()?)?;
+    }
+    Ok(copy)
 }
