@@ -1,5 +1,5 @@
 -- A new object: what is planned is the effect.
-use Rattle.std.proofs.Common.{◌≡◌, ◌≢◌, ℕ, ◌+◌, ◌<◌, ◌≤◌, refl, ap, sym, ◌∙◌, subst, arith, true, false, inl, inr, List, [], ◌∷◌, ◌++◌, length, Option, None, Some, IsSome, IsNone, unwrap_or}
+use Rattle.std.proofs.Common.{◌≡◌, ◌≢◌, ℕ, ◌+◌, ◌<◌, ◌≤◌, refl, ap, sym, ◌∙◌, subst, arith, false, inl, inr, List, [], ◌∷◌, ◌++◌, length, Option, None, Some, IsSome, IsNone, unwrap_or}
 use Rattle.std.specs.Prelude.{nat_lt, nat_le, Vec}
 use Rattle.std.specs.declared.alloc.Global.{Global}
 use Rattle.std.proofs.lemmas.Bool.Decides.{nat_tests}

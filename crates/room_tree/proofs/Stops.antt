@@ -1,5 +1,5 @@
 -- Stops handed on.
-use Rattle.std.proofs.Common.{◌≡◌, sym, ◌∙◌, ap, subst, Result, Ok, Err, List, [], ◌∷◌, ◌++◌, Option, None, Some}
+use Rattle.std.proofs.Common.{◌≡◌, sym, ◌∙◌, subst, Result, Ok, Err, List, ◌∷◌, ◌++◌, Option, None, Some}
 use Rattle.std.specs.Result.{IsErrAnd}
 use Rattle.room_commands.specs.ReplyModel.{Refusal}
 use Rattle.room_commands.specs.Checks.{first_refusal}

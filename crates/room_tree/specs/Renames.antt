@@ -1,10 +1,9 @@
 -- What the calls that read a room for RENAME say.
-use Rattle.std.specs.Prelude.{◌≡◌, List, [], ◌∷◌, Option, None, if◌then◌else◌}
+use Rattle.std.specs.Prelude.{List, [], ◌∷◌, Option, None, if◌then◌else◌}
 use Rattle.room_acl.specs.SubjectModel.{SubjectModel}
 use Rattle.room_records.specs.Names.{Path, path_eq}
 use Rattle.room_records.specs.Records.{ObjectRecords}
 use Rattle.room_records.specs.Room.{Room, parent_of}
-use Rattle.room_tree.specs.declared.place.Place.{Place}
 use Rattle.room_tree.specs.declared.moving.Move.{Move}
 use Rattle.room_commands.specs.ReplyModel.{Refusal}
 use Rattle.room_commands.specs.Checks.{walk, check_exists, check_absent, check_removal, check_right, right_to_add, check_depth, check_folder_full}

@@ -8,7 +8,6 @@ use Rattle.room_records.proofs.Lists.{all_at, all_append}
 use Rattle.room_records.proofs.Shelves.{read_then}
 use Rattle.room_tree.specs.Depths.{StandsBelow}
 use Rattle.room_tree.proofs.Depths.{NoneBelowEach, itself_below, none_below_file, one_level_more, child_path, none_below_children}
-use Rattle.room_tree.proofs.Outcomes.{ok_not_err}
 use Rattle.room_tree.proofs.depth.+reaches_down.Goals as goal
 
 pub returns-then-levels-eq0-clause-value : goal.returns-then-levels-eq0-clause-value

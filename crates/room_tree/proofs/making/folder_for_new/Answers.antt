@@ -3,8 +3,8 @@ use Rattle.room_records.specs.Names.{Path}
 use Rattle.room_records.specs.Room.{parent_of}
 use Rattle.room_commands.specs.declared.reply.Fault.TheVariants.{Exist}
 use Rattle.room_commands.specs.Checks.{refuse_if, is_root, walk, check_absent, check_right}
-use Rattle.room_tree.proofs.Checking.{skip, stop, off_root, none_passes, first_alone}
-use Rattle.room_tree.proofs.Stops.{handed_on, refused_as, past_head, in_front, past_front, at_head}
+use Rattle.room_tree.proofs.Checking.{skip, off_root, none_passes, first_alone}
+use Rattle.room_tree.proofs.Stops.{handed_on, past_head, in_front, past_front, at_head}
 use Rattle.room_tree.proofs.making.folder_for_new.Goals as goal
 
 pub returns-in_err-above-clause-value : goal.returns-in_err-above-clause-value

@@ -1,4 +1,4 @@
-use Rattle.std.proofs.Common.{◌≡◌, ℕ, ◌+◌, ◌<◌, ◌≤◌, refl, ap, sym, ◌∙◌, subst, Some, take, length, get_or, arith, []}
+use Rattle.std.proofs.Common.{◌≡◌, ℕ, ◌+◌, ◌<◌, ◌≤◌, refl, ap, ◌∙◌, subst, take, length, get_or, arith, []}
 use Rattle.std.proofs.lemmas.List.{get_or_default, take_all}
 use Rattle.room_records.specs.Names.{Path}
 use Rattle.room_records.specs.Records.{Records}

@@ -1,4 +1,4 @@
-use Rattle.std.proofs.Common.{◌≡◌, ap, sym, ◌∙◌}
+use Rattle.std.proofs.Common.{ap, sym, ◌∙◌}
 use Rattle.room_acl.specs.declared.access.Decision.TheVariants.{Denied}
 use Rattle.room_records.specs.Names.{Path}
 use Rattle.room_commands.specs.Checks.{denied_at}
