@@ -35,12 +35,12 @@ impl Shelf for MemShelf {
     ghost use Rattle.room_records.specs.Mem.{mem_records};
 
     ghost view = { λ s. record {
-        records = mem_records s;
-        failures = 0;
-        is_intact = Unit {0};
-        is_available = Unit {0};
-        is_laid_out = Unit {0};
-        crash_may_leave = λ left. left ≡ mem_records s;
+      records = mem_records s;
+      failures = 0;
+      is_intact = Unit {0};
+      is_available = Unit {0};
+      is_laid_out = Unit {0};
+      crash_may_leave = λ left. left ≡ mem_records s;
     } };
 
     ghost available_is_intact = { λ s h. h };

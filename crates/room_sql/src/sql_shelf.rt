@@ -77,13 +77,13 @@ impl<S: Alter> Shelf for SqlShelf<S> {
     ghost use Rattle.room_tables.specs.Rows.{records_of};
 
     ghost view = { λ s. record {
-        records = records_of (state S.Store s.conn).now.trees;
-        failures = s.failures;
-        is_intact = HasCleanDisk (state S.Store s.conn);
-        is_available = HasCleanDisk (state S.Store s.conn) × IsTrue (state S.Store s.conn).is_open;
-        is_laid_out = IsRoomOfVersion1 (state S.Store s.conn).now;
-        crash_may_leave = λ left. HasCleanDisk (state S.Store s.conn)
-            × ((trees : Trees) × (state S.Store s.conn).may_leave trees × (left ≡ records_of trees));
+      records = records_of (state S.Store s.conn).now.trees;
+      failures = s.failures;
+      is_intact = HasCleanDisk (state S.Store s.conn);
+      is_available = HasCleanDisk (state S.Store s.conn) × IsTrue (state S.Store s.conn).is_open;
+      is_laid_out = IsRoomOfVersion1 (state S.Store s.conn).now;
+      crash_may_leave = λ left. HasCleanDisk (state S.Store s.conn)
+          × ((trees : Trees) × (state S.Store s.conn).may_leave trees × (left ≡ records_of trees));
     } };
 
     ghost available_is_intact = { λ s h. h.0 };

@@ -1,5 +1,6 @@
 //! What a command changes and replies.
 ghost use Rattle.std.specs.Prelude.{◌≡◌, [], IfOk};
+ghost use Rattle.room_records.specs.Mem.{AreSameChanges};
 ghost use Rattle.room_records.specs.Shelf.{ShelfRead, fault_in};
 ghost use Rattle.room_commands.specs.CommandModel.{command_model};
 ghost use Rattle.room_records.specs.Room.{Room};
@@ -19,7 +20,7 @@ use crate::setlist::plan_setlist;
 use room_acl::Subject;
 use room_commands::{Command, Reply};
 use room_records::{Change, Shelf, ShelfFault};
-use std::alloc::Global;
+use std::alloc::{AllocError, Global};
 
 /// What a command comes to.
 #[derive(Debug, Drop)]
@@ -29,6 +30,19 @@ pub struct Outcome {
 }
 
 impl Outcome {
+    /// A copy of the outcome: as many changes, each of which does the same to all records. `AllocError` where memory
+    /// is refused.
+    pub fn clone(&self) -> Result<Outcome, AllocError>
+        ensures changes { IfOk result (λ copy. AreSameChanges copy.changes.items self.now.changes.items) }
+        ensures reply { IfOk result (λ copy. reply_model copy.reply ≡ reply_model self.now.reply) }
+    {
+        let changes = copy_changes(*self.changes.allocator(), &self.changes)?;
+        Ok(Outcome {
+            changes,
+            reply: self.reply.clone()?,
+        })
+    }
+
     /// A refusal changes nothing.
     pub(crate) fn refused(alloc: Global, refusal: Refusal) -> Outcome
         ensures none { result.changes.items ≡ [] }
@@ -53,6 +67,17 @@ impl Outcome {
             reply,
         }
     }
+}
+
+fn copy_changes(alloc: Global, changes: &[Change]) -> Result<Vec<Change>, AllocError>
+    ensures { IfOk result (λ copy. AreSameChanges copy.items changes.now) }
+{
+    let mut copy = Vec::new(alloc);
+    for change in changes {
+        let step = change.clone(alloc)?;
+        copy.push(step)?;
+    }
+    Ok(copy)
 }
 
 /// What a command changes and replies, or why it is not planned.

@@ -10,7 +10,7 @@ use Rattle.room_wire.proofs.forms.writing.entry_values.Goals as goal
 pub returns-clause-value : goal.returns-clause-value
 returns-clause-value c =
     ap items_of (c.loop-entry.invariant.values
-        ∙ ap (map entry) (take_all c.loop-entry.entry-index c.args.entries.now (omega (arith, c.loop-entry-test.false))))
+    ∙ ap (map entry) (take_all c.loop-entry.entry-index c.args.entries.now (omega (arith, c.loop-entry-test.false))))
     ∙ entries_are c.args.entries.now
 
 pub returns-clause-lawful : goal.returns-clause-lawful
