@@ -231,7 +231,7 @@ fn a_room_byte_by_byte(rt: HostRuntime) -> Result<(), Fail> {
     }
     let want = answers_to(alloc, PLANNED.len())?;
     let mut writer = Narrow::new(alloc, 10_000, 1, Full::Fails);
-    let mut reader = Dripping::new(sent.as_bytes());
+    let mut reader = ByteReader::new(sent.as_bytes());
     let end = served(alloc, Server::Room, &mut reader, &mut writer)?;
     is_as(
         &end,
