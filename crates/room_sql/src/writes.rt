@@ -1,14 +1,17 @@
 //! The changes, each inside a transaction.
 
-ghost use Rattle.std.specs.Prelude.{◌≡◌, ◌+◌, ◌^◌, ◌<◌, ◌≤◌, [], ◌∷◌, ◌++◌, length, OnOk, OnErr, true, false, IsTrue};
-ghost use Rattle.sqlite.specs.State.{HasCleanDisk, KeepsCommit, Survives};
+ghost use Rattle.std.specs.Prelude.{◌≡◌, ◌+◌, ◌^◌, ◌<◌, ◌≤◌, ℕ, [], ◌∷◌, ◌++◌, length, IfErr, OnOk, OnErr, true, false, IsTrue};
+ghost use Rattle.std.specs.List.{AllByRecursion};
+ghost use Rattle.sqlite.specs.State.{HasCleanDisk, KeepsCommit, Survives, ExecutesInside};
 ghost use Rattle.sqlite.specs.Held.{state};
+ghost use Rattle.sqlite.specs.Values.{bound};
 ghost use Rattle.sqlite_trees.specs.Tree.{Trees};
 ghost use Rattle.room_records.specs.Changes.{apply_change, apply_changes};
 ghost use Rattle.room_records.specs.declared.change.Change.TheVariants.{PutNode, DropNode, PutEntries, PutDoc, PutSession, PutSlot, DropSlots, PutNext};
 ghost use Rattle.room_tables.specs.Rows.{records_of, version_rows, IsVersion1};
 ghost use Rattle.room_tables.specs.Layout.{IsRoomDatabase};
 ghost use Rattle.room_tables.specs.Steps.{Steps, Lists, MayBecome, HasNoSlot, without_slot};
+ghost use Rattle.room_sql.specs.Causes.{statement, RunInTurn, writes_of, writes_of_all, entry_writes, entries_drop, slot_drop, slot_write, IsShort, CommitFails};
 
 use crate::values::{
     entry_row, flag_number, group_text, kept_number, kept_reply, kept_request, kind_number,
@@ -17,8 +20,28 @@ use crate::values::{
 use room_acl::Entry;
 use room_records::{Change, Node, SessionRow, Sid, SlotRow};
 use room_slots::Kept;
-use sqlite::types::ToSql;
+use sqlite::types::{ToSql, ValueRef};
 use sqlite::{Alter, Connection, Error, ErrorCode, Transaction, params};
+
+/// Runs one statement.
+fn run<S: Alter>(
+    tx: &mut Transaction<'_, S>,
+    text: &str,
+    args: &[ValueRef<'_>],
+) -> Result<(), Error>
+    ensures same_reference { tx.new.conn.ghost_name ≡ tx.old.conn.ghost_name }
+    ensures done { HasCleanDisk (state S.Store tx.new.conn.now) → OnOk result ((count : ℕ) × ExecutesInside 0 text.now (bound args.now) (state S.Store tx.old.conn.now) (state S.Store tx.new.conn.now) (Ok count)) }
+    ensures inside { HasCleanDisk (state S.Store tx.new.conn.now) → OnOk result (tx.new.conn.now.in_transaction ≡ true) }
+    ensures kept { HasCleanDisk (state S.Store tx.new.conn.now) → KeepsCommit (state S.Store tx.old.conn.now) (state S.Store tx.new.conn.now) }
+    ensures crash { Survives (state S.Store tx.old.conn.now) (state S.Store tx.new.conn.now) (λ _. ⊥) }
+    ensures ran { HasCleanDisk (state S.Store tx.new.conn.now) → tx.old.conn.now.in_transaction ≡ true →
+        RunInTurn S.Store (statement text.now (bound args.now) ∷ []) tx.old.conn.now tx.new.conn.now result }
+{
+    match tx.execute(text, args) {
+        Ok(_) => Ok(()),
+        Err(error) => Err(error),
+    }
+}
 
 /// Adds or replaces the row of the node's number. Entries and document stay.
 pub(crate) fn put_node<S: Alter>(tx: &mut Transaction<'_, S>, node: &Node) -> Result<(), Error>
@@ -28,6 +51,7 @@ pub(crate) fn put_node<S: Alter>(tx: &mut Transaction<'_, S>, node: &Node) -> Re
     ensures inside { HasCleanDisk (state S.Store tx.new.conn.now) → OnOk result (tx.new.conn.now.in_transaction ≡ true) }
     ensures kept { HasCleanDisk (state S.Store tx.new.conn.now) → KeepsCommit (state S.Store tx.old.conn.now) (state S.Store tx.new.conn.now) }
     ensures crash { Survives (state S.Store tx.old.conn.now) (state S.Store tx.new.conn.now) (λ _. ⊥) }
+    ensures ran { HasCleanDisk (state S.Store tx.new.conn.now) → tx.old.conn.now.in_transaction ≡ true → RunInTurn S.Store (writes_of (PutNode node.now)) tx.old.conn.now tx.new.conn.now result }
 {
     let name = name_text(node);
     let id = node_number(node);
@@ -36,11 +60,11 @@ pub(crate) fn put_node<S: Alter>(tx: &mut Transaction<'_, S>, node: &Node) -> Re
     let owner = owner_text(node);
     let group = group_text(node);
     let aclflag = list_flags(node);
-    tx.execute(
+    run(
+        tx,
         "INSERT INTO node (id, parent, name, kind, owner, grp, aclflag) VALUES (?1, ?2, ?3, ?4, ?5, ?6, ?7) ON CONFLICT (id) DO UPDATE SET parent = excluded.parent, name = excluded.name, kind = excluded.kind, owner = excluded.owner, grp = excluded.grp, aclflag = excluded.aclflag",
         params![id, &parent, name, kind, owner, group, aclflag],
-    )?;
-    Ok(())
+    )
 }
 
 /// Takes the node away, and its entries and document by ON DELETE CASCADE.
@@ -51,9 +75,9 @@ fn drop_node<S: Alter>(tx: &mut Transaction<'_, S>, id: u32) -> Result<(), Error
     ensures inside { HasCleanDisk (state S.Store tx.new.conn.now) → OnOk result (tx.new.conn.now.in_transaction ≡ true) }
     ensures kept { HasCleanDisk (state S.Store tx.new.conn.now) → KeepsCommit (state S.Store tx.old.conn.now) (state S.Store tx.new.conn.now) }
     ensures crash { Survives (state S.Store tx.old.conn.now) (state S.Store tx.new.conn.now) (λ _. ⊥) }
+    ensures ran { HasCleanDisk (state S.Store tx.new.conn.now) → tx.old.conn.now.in_transaction ≡ true → RunInTurn S.Store (writes_of (DropNode id)) tx.old.conn.now tx.new.conn.now result }
 {
-    tx.execute("DELETE FROM node WHERE id = ?1", params![id])?;
-    Ok(())
+    run(tx, "DELETE FROM node WHERE id = ?1", params![id])
 }
 
 /// Takes the object's entries away.
@@ -64,9 +88,9 @@ fn clear_entries<S: Alter>(tx: &mut Transaction<'_, S>, id: u32) -> Result<(), E
     ensures inside { HasCleanDisk (state S.Store tx.new.conn.now) → OnOk result (tx.new.conn.now.in_transaction ≡ true) }
     ensures kept { HasCleanDisk (state S.Store tx.new.conn.now) → KeepsCommit (state S.Store tx.old.conn.now) (state S.Store tx.new.conn.now) }
     ensures crash { Survives (state S.Store tx.old.conn.now) (state S.Store tx.new.conn.now) (λ _. ⊥) }
+    ensures ran { HasCleanDisk (state S.Store tx.new.conn.now) → tx.old.conn.now.in_transaction ≡ true → RunInTurn S.Store (entries_drop id ∷ []) tx.old.conn.now tx.new.conn.now result }
 {
-    tx.execute("DELETE FROM entry WHERE node = ?1", params![id])?;
-    Ok(())
+    run(tx, "DELETE FROM entry WHERE node = ?1", params![id])
 }
 
 /// Puts one more entry behind the object's.
@@ -82,13 +106,14 @@ fn add_one<S: Alter>(
     ensures inside { HasCleanDisk (state S.Store tx.new.conn.now) → OnOk result (tx.new.conn.now.in_transaction ≡ true) }
     ensures kept { HasCleanDisk (state S.Store tx.new.conn.now) → KeepsCommit (state S.Store tx.old.conn.now) (state S.Store tx.new.conn.now) }
     ensures crash { Survives (state S.Store tx.old.conn.now) (state S.Store tx.new.conn.now) (λ _. ⊥) }
+    ensures ran { HasCleanDisk (state S.Store tx.new.conn.now) → tx.old.conn.now.in_transaction ≡ true → RunInTurn S.Store (entry_writes id place (a.now ∷ [])) tx.old.conn.now tx.new.conn.now result }
 {
     let a = entry_row(place, a);
-    tx.execute(
+    run(
+        tx,
         "INSERT INTO entry (node, place, type, flag, mask, who) VALUES (?1, ?2, ?3, ?4, ?5, ?6)",
         &[id.to_sql(), a.place, a.kind, a.flags, a.mask, a.who],
-    )?;
-    Ok(())
+    )
 }
 
 /// Puts two more entries behind the object's, in their order.
@@ -106,10 +131,12 @@ fn add_two<S: Alter>(
     ensures inside { HasCleanDisk (state S.Store tx.new.conn.now) → OnOk result (tx.new.conn.now.in_transaction ≡ true) }
     ensures kept { HasCleanDisk (state S.Store tx.new.conn.now) → KeepsCommit (state S.Store tx.old.conn.now) (state S.Store tx.new.conn.now) }
     ensures crash { Survives (state S.Store tx.old.conn.now) (state S.Store tx.new.conn.now) (λ _. ⊥) }
+    ensures ran { HasCleanDisk (state S.Store tx.new.conn.now) → tx.old.conn.now.in_transaction ≡ true → RunInTurn S.Store (entry_writes id place (a.now ∷ b.now ∷ [])) tx.old.conn.now tx.new.conn.now result }
 {
     let a = entry_row(place, a);
     let b = entry_row(place + 1, b);
-    tx.execute(
+    run(
+        tx,
         "INSERT INTO entry (node, place, type, flag, mask, who) VALUES (?1, ?2, ?3, ?4, ?5, ?6), (?1, ?7, ?8, ?9, ?10, ?11)",
         &[
             id.to_sql(),
@@ -124,8 +151,7 @@ fn add_two<S: Alter>(
             b.mask,
             b.who,
         ],
-    )?;
-    Ok(())
+    )
 }
 
 /// Puts three more entries behind the object's, in their order.
@@ -144,11 +170,13 @@ fn add_three<S: Alter>(
     ensures inside { HasCleanDisk (state S.Store tx.new.conn.now) → OnOk result (tx.new.conn.now.in_transaction ≡ true) }
     ensures kept { HasCleanDisk (state S.Store tx.new.conn.now) → KeepsCommit (state S.Store tx.old.conn.now) (state S.Store tx.new.conn.now) }
     ensures crash { Survives (state S.Store tx.old.conn.now) (state S.Store tx.new.conn.now) (λ _. ⊥) }
+    ensures ran { HasCleanDisk (state S.Store tx.new.conn.now) → tx.old.conn.now.in_transaction ≡ true → RunInTurn S.Store (entry_writes id place (a.now ∷ b.now ∷ c.now ∷ [])) tx.old.conn.now tx.new.conn.now result }
 {
     let a = entry_row(place, a);
     let b = entry_row(place + 1, b);
     let c = entry_row(place + 2, c);
-    tx.execute(
+    run(
+        tx,
         "INSERT INTO entry (node, place, type, flag, mask, who) VALUES (?1, ?2, ?3, ?4, ?5, ?6), (?1, ?7, ?8, ?9, ?10, ?11), (?1, ?12, ?13, ?14, ?15, ?16)",
         &[
             id.to_sql(),
@@ -168,8 +196,7 @@ fn add_three<S: Alter>(
             c.mask,
             c.who,
         ],
-    )?;
-    Ok(())
+    )
 }
 
 /// Puts four more entries behind the object's, in their order.
@@ -189,12 +216,14 @@ fn add_four<S: Alter>(
     ensures inside { HasCleanDisk (state S.Store tx.new.conn.now) → OnOk result (tx.new.conn.now.in_transaction ≡ true) }
     ensures kept { HasCleanDisk (state S.Store tx.new.conn.now) → KeepsCommit (state S.Store tx.old.conn.now) (state S.Store tx.new.conn.now) }
     ensures crash { Survives (state S.Store tx.old.conn.now) (state S.Store tx.new.conn.now) (λ _. ⊥) }
+    ensures ran { HasCleanDisk (state S.Store tx.new.conn.now) → tx.old.conn.now.in_transaction ≡ true → RunInTurn S.Store (entry_writes id place (a.now ∷ b.now ∷ c.now ∷ d.now ∷ [])) tx.old.conn.now tx.new.conn.now result }
 {
     let a = entry_row(place, a);
     let b = entry_row(place + 1, b);
     let c = entry_row(place + 2, c);
     let d = entry_row(place + 3, d);
-    tx.execute(
+    run(
+        tx,
         "INSERT INTO entry (node, place, type, flag, mask, who) VALUES (?1, ?2, ?3, ?4, ?5, ?6), (?1, ?7, ?8, ?9, ?10, ?11), (?1, ?12, ?13, ?14, ?15, ?16), (?1, ?17, ?18, ?19, ?20, ?21)",
         &[
             id.to_sql(),
@@ -219,8 +248,7 @@ fn add_four<S: Alter>(
             d.mask,
             d.who,
         ],
-    )?;
-    Ok(())
+    )
 }
 
 /// The most entries that one statement puts. Each number of them up to this has a text of its own,
@@ -242,6 +270,7 @@ fn add_batch<S: Alter>(
     ensures inside { HasCleanDisk (state S.Store tx.new.conn.now) → OnOk result (tx.old.conn.now.in_transaction ≡ true → tx.new.conn.now.in_transaction ≡ true) }
     ensures kept { HasCleanDisk (state S.Store tx.new.conn.now) → KeepsCommit (state S.Store tx.old.conn.now) (state S.Store tx.new.conn.now) }
     ensures crash { Survives (state S.Store tx.old.conn.now) (state S.Store tx.new.conn.now) (λ _. ⊥) }
+    ensures ran { HasCleanDisk (state S.Store tx.new.conn.now) → tx.old.conn.now.in_transaction ≡ true → RunInTurn S.Store (entry_writes id place batch.now) tx.old.conn.now tx.new.conn.now result }
 {
     match batch {
         [] => Ok(()),
@@ -265,6 +294,7 @@ fn add_entries<S: Alter>(
     ensures inside { HasCleanDisk (state S.Store tx.new.conn.now) → OnOk result (tx.old.conn.now.in_transaction ≡ true → tx.new.conn.now.in_transaction ≡ true) }
     ensures kept { HasCleanDisk (state S.Store tx.new.conn.now) → KeepsCommit (state S.Store tx.old.conn.now) (state S.Store tx.new.conn.now) }
     ensures crash { Survives (state S.Store tx.old.conn.now) (state S.Store tx.new.conn.now) (λ _. ⊥) }
+    ensures ran { HasCleanDisk (state S.Store tx.new.conn.now) → tx.old.conn.now.in_transaction ≡ true → length entries.now < 2 ^ 32 → RunInTurn S.Store (entry_writes id 0 entries.now) tx.old.conn.now tx.new.conn.now result }
 {
     if u32::try_from(entries.len()).is_err() {
         return Err(Error::SqliteFailure(ErrorCode::TooBig));
@@ -289,6 +319,7 @@ pub(crate) fn put_entries<S: Alter>(
     ensures inside { HasCleanDisk (state S.Store tx.new.conn.now) → OnOk result (tx.new.conn.now.in_transaction ≡ true) }
     ensures kept { HasCleanDisk (state S.Store tx.new.conn.now) → KeepsCommit (state S.Store tx.old.conn.now) (state S.Store tx.new.conn.now) }
     ensures crash { Survives (state S.Store tx.old.conn.now) (state S.Store tx.new.conn.now) (λ _. ⊥) }
+    ensures ran { HasCleanDisk (state S.Store tx.new.conn.now) → tx.old.conn.now.in_transaction ≡ true → length entries.now.items < 2 ^ 32 → RunInTurn S.Store (writes_of (PutEntries id entries.now)) tx.old.conn.now tx.new.conn.now result }
 {
     clear_entries(tx, id)?;
     add_entries(tx, id, entries.as_slice())
@@ -302,12 +333,13 @@ fn put_doc<S: Alter>(tx: &mut Transaction<'_, S>, id: u32, bytes: &Vec<u8>) -> R
     ensures inside { HasCleanDisk (state S.Store tx.new.conn.now) → OnOk result (tx.new.conn.now.in_transaction ≡ true) }
     ensures kept { HasCleanDisk (state S.Store tx.new.conn.now) → KeepsCommit (state S.Store tx.old.conn.now) (state S.Store tx.new.conn.now) }
     ensures crash { Survives (state S.Store tx.old.conn.now) (state S.Store tx.new.conn.now) (λ _. ⊥) }
+    ensures ran { HasCleanDisk (state S.Store tx.new.conn.now) → tx.old.conn.now.in_transaction ≡ true → RunInTurn S.Store (writes_of (PutDoc id bytes.now)) tx.old.conn.now tx.new.conn.now result }
 {
-    tx.execute(
+    run(
+        tx,
         "INSERT INTO doc (node, bytes) VALUES (?1, ?2) ON CONFLICT (node) DO UPDATE SET bytes = excluded.bytes",
         params![id, bytes],
-    )?;
-    Ok(())
+    )
 }
 
 /// Adds or replaces the row of a session name. What its slots keep stays.
@@ -318,16 +350,17 @@ fn put_session<S: Alter>(tx: &mut Transaction<'_, S>, row: &SessionRow) -> Resul
     ensures inside { HasCleanDisk (state S.Store tx.new.conn.now) → OnOk result (tx.new.conn.now.in_transaction ≡ true) }
     ensures kept { HasCleanDisk (state S.Store tx.new.conn.now) → KeepsCommit (state S.Store tx.old.conn.now) (state S.Store tx.new.conn.now) }
     ensures crash { Survives (state S.Store tx.old.conn.now) (state S.Store tx.new.conn.now) (λ _. ⊥) }
+    ensures ran { HasCleanDisk (state S.Store tx.new.conn.now) → tx.old.conn.now.in_transaction ≡ true → RunInTurn S.Store (writes_of (PutSession row.now)) tx.old.conn.now tx.new.conn.now result }
 {
     let sid = row.sid.text();
     let owner = row.owner.text();
     let slots = row.slots.get();
     let is_open = flag_number(row.is_open);
-    tx.execute(
+    run(
+        tx,
         "INSERT INTO session (sid, owner, slots, open) VALUES (?1, ?2, ?3, ?4) ON CONFLICT (sid) DO UPDATE SET owner = excluded.owner, slots = excluded.slots, open = excluded.open",
         params![sid, owner, slots, is_open],
-    )?;
-    Ok(())
+    )
 }
 
 /// Takes away what one slot keeps.
@@ -338,13 +371,14 @@ fn drop_slot<S: Alter>(tx: &mut Transaction<'_, S>, sid: &Sid, slot: u32) -> Res
     ensures inside { HasCleanDisk (state S.Store tx.new.conn.now) → OnOk result (tx.new.conn.now.in_transaction ≡ true) }
     ensures kept { HasCleanDisk (state S.Store tx.new.conn.now) → KeepsCommit (state S.Store tx.old.conn.now) (state S.Store tx.new.conn.now) }
     ensures crash { Survives (state S.Store tx.old.conn.now) (state S.Store tx.new.conn.now) (λ _. ⊥) }
+    ensures ran { HasCleanDisk (state S.Store tx.new.conn.now) → tx.old.conn.now.in_transaction ≡ true → RunInTurn S.Store (slot_drop sid.now slot ∷ []) tx.old.conn.now tx.new.conn.now result }
 {
     let sid = sid.text();
-    tx.execute(
+    run(
+        tx,
         "DELETE FROM slot WHERE sid = ?1 AND slot = ?2",
         params![sid, slot],
-    )?;
-    Ok(())
+    )
 }
 
 /// Puts what a slot keeps, which kept nothing.
@@ -360,16 +394,17 @@ fn add_slot<S: Alter>(
     ensures inside { HasCleanDisk (state S.Store tx.new.conn.now) → OnOk result (tx.new.conn.now.in_transaction ≡ true) }
     ensures kept { HasCleanDisk (state S.Store tx.new.conn.now) → KeepsCommit (state S.Store tx.old.conn.now) (state S.Store tx.new.conn.now) }
     ensures crash { Survives (state S.Store tx.old.conn.now) (state S.Store tx.new.conn.now) (λ _. ⊥) }
+    ensures ran { HasCleanDisk (state S.Store tx.new.conn.now) → tx.old.conn.now.in_transaction ≡ true → RunInTurn S.Store (slot_write (record { sid = sid.now; slot = slot; kept = kept.now }) ∷ []) tx.old.conn.now tx.new.conn.now result }
 {
     let sid = sid.text();
     let seq = kept_number(kept);
     let request = kept_request(kept);
     let reply = kept_reply(kept);
-    tx.execute(
+    run(
+        tx,
         "INSERT INTO slot (sid, slot, seq, request, reply) VALUES (?1, ?2, ?3, ?4, ?5)",
         params![sid, slot, seq, request, reply],
-    )?;
-    Ok(())
+    )
 }
 
 /// Adds or replaces what a slot keeps.
@@ -380,6 +415,7 @@ fn put_slot<S: Alter>(tx: &mut Transaction<'_, S>, row: &SlotRow) -> Result<(), 
     ensures inside { HasCleanDisk (state S.Store tx.new.conn.now) → OnOk result (tx.new.conn.now.in_transaction ≡ true) }
     ensures kept { HasCleanDisk (state S.Store tx.new.conn.now) → KeepsCommit (state S.Store tx.old.conn.now) (state S.Store tx.new.conn.now) }
     ensures crash { Survives (state S.Store tx.old.conn.now) (state S.Store tx.new.conn.now) (λ _. ⊥) }
+    ensures ran { HasCleanDisk (state S.Store tx.new.conn.now) → tx.old.conn.now.in_transaction ≡ true → RunInTurn S.Store (writes_of (PutSlot row.now)) tx.old.conn.now tx.new.conn.now result }
 {
     drop_slot(tx, &row.sid, row.slot)?;
     add_slot(tx, &row.sid, row.slot, &row.kept)
@@ -393,10 +429,10 @@ fn drop_slots<S: Alter>(tx: &mut Transaction<'_, S>, sid: &Sid) -> Result<(), Er
     ensures inside { HasCleanDisk (state S.Store tx.new.conn.now) → OnOk result (tx.new.conn.now.in_transaction ≡ true) }
     ensures kept { HasCleanDisk (state S.Store tx.new.conn.now) → KeepsCommit (state S.Store tx.old.conn.now) (state S.Store tx.new.conn.now) }
     ensures crash { Survives (state S.Store tx.old.conn.now) (state S.Store tx.new.conn.now) (λ _. ⊥) }
+    ensures ran { HasCleanDisk (state S.Store tx.new.conn.now) → tx.old.conn.now.in_transaction ≡ true → RunInTurn S.Store (writes_of (DropSlots sid.now)) tx.old.conn.now tx.new.conn.now result }
 {
     let sid = sid.text();
-    tx.execute("DELETE FROM slot WHERE sid = ?1", params![sid])?;
-    Ok(())
+    run(tx, "DELETE FROM slot WHERE sid = ?1", params![sid])
 }
 
 /// Sets the next number, in a row of version 1.
@@ -407,12 +443,13 @@ pub(crate) fn put_next<S: Alter>(tx: &mut Transaction<'_, S>, next: u32) -> Resu
     ensures inside { HasCleanDisk (state S.Store tx.new.conn.now) → OnOk result (tx.new.conn.now.in_transaction ≡ true) }
     ensures kept { HasCleanDisk (state S.Store tx.new.conn.now) → KeepsCommit (state S.Store tx.old.conn.now) (state S.Store tx.new.conn.now) }
     ensures crash { Survives (state S.Store tx.old.conn.now) (state S.Store tx.new.conn.now) (λ _. ⊥) }
+    ensures ran { HasCleanDisk (state S.Store tx.new.conn.now) → tx.old.conn.now.in_transaction ≡ true → RunInTurn S.Store (writes_of (PutNext next)) tx.old.conn.now tx.new.conn.now result }
 {
-    tx.execute(
+    run(
+        tx,
         "INSERT INTO room (one, version, next) VALUES (1, 1, ?1) ON CONFLICT (one) DO UPDATE SET version = excluded.version, next = excluded.next",
         params![next],
-    )?;
-    Ok(())
+    )
 }
 
 fn apply<S: Alter>(tx: &mut Transaction<'_, S>, change: &Change) -> Result<(), Error>
@@ -422,6 +459,7 @@ fn apply<S: Alter>(tx: &mut Transaction<'_, S>, change: &Change) -> Result<(), E
     ensures inside { HasCleanDisk (state S.Store tx.new.conn.now) → OnOk result (tx.new.conn.now.in_transaction ≡ true) }
     ensures kept { HasCleanDisk (state S.Store tx.new.conn.now) → KeepsCommit (state S.Store tx.old.conn.now) (state S.Store tx.new.conn.now) }
     ensures crash { Survives (state S.Store tx.old.conn.now) (state S.Store tx.new.conn.now) (λ _. ⊥) }
+    ensures ran { HasCleanDisk (state S.Store tx.new.conn.now) → tx.old.conn.now.in_transaction ≡ true → IsShort change.now → RunInTurn S.Store (writes_of change.now) tx.old.conn.now tx.new.conn.now result }
 {
     match change {
         Change::PutNode(node) => put_node(tx, node),
@@ -443,6 +481,7 @@ fn apply_all<S: Alter>(tx: &mut Transaction<'_, S>, changes: &[Change]) -> Resul
     ensures inside { HasCleanDisk (state S.Store tx.new.conn.now) → OnOk result (tx.new.conn.now.in_transaction ≡ true) }
     ensures kept { HasCleanDisk (state S.Store tx.new.conn.now) → KeepsCommit (state S.Store tx.old.conn.now) (state S.Store tx.new.conn.now) }
     ensures crash { Survives (state S.Store tx.old.conn.now) (state S.Store tx.new.conn.now) (λ _. ⊥) }
+    ensures ran { HasCleanDisk (state S.Store tx.new.conn.now) → AllByRecursion IsShort changes.now → RunInTurn S.Store (writes_of_all changes.now) tx.old.conn.now tx.new.conn.now result }
 {
     for change in changes {
         apply(tx, change)?;
@@ -458,6 +497,7 @@ pub(crate) fn commit<S: Alter>(conn: &mut Connection<S>, changes: &[Change]) -> 
         IsRoomDatabase (state S.Store conn.new).now × MayBecome changes.now (state S.Store conn.old).now (state S.Store conn.new).now.trees)) }
     ensures version { HasCleanDisk (state S.Store conn.new) → OnOk result (IsRoomDatabase (state S.Store conn.old).now → IsVersion1 (version_rows (state S.Store conn.old).now.trees) →
         IsVersion1 (version_rows (state S.Store conn.new).now.trees)) }
+    ensures failed { HasCleanDisk (state S.Store conn.new) → AllByRecursion IsShort changes.now → IfErr result (CommitFails S.Store changes.now conn.old conn.new) }
     ensures err { HasCleanDisk (state S.Store conn.new) → IsTrue (state S.Store conn.new).is_open → OnErr result ((state S.Store conn.new).now ≡ (state S.Store conn.old).committed) }
     ensures settled { HasCleanDisk (state S.Store conn.new) → OnOk result ((state S.Store conn.new).committed ≡ (state S.Store conn.new).now) }
     ensures kept { HasCleanDisk (state S.Store conn.new) → IsTrue (state S.Store conn.new).is_open → IsTrue (state S.Store conn.old).is_open }

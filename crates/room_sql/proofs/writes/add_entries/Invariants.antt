@@ -1,8 +1,10 @@
-use Rattle.std.proofs.Common.{◌≡◌, ◌≤◌, [], take, drop, length, true}
+use Rattle.std.proofs.Common.{◌≡◌, ◌≤◌, [], take, drop, length, true, Result}
 use Rattle.sqlite.specs.State.{HasCleanDisk, KeepsCommit, Survives}
-use Rattle.sqlite.specs.Held.{state}
+use Rattle.sqlite.specs.Held.{Held, state}
+use Rattle.sqlite.specs.declared.error.Error.{Error}
 use Rattle.sqlite_trees.specs.Tree.{Trees}
 use Rattle.room_tables.specs.Steps.{Lists}
+use Rattle.room_sql.specs.Causes.{RunInTurn, entry_writes}
 use Rattle.room_sql.proofs.writes.add_entries.Given as goal
 
 abbrev pub invariant-loop-batch : goal.invariant-loop-batch
@@ -18,4 +20,7 @@ invariant-loop-batch g l =
       inside : HasCleanDisk now → l.fn.tx.conn.now.in_transaction ≡ true → l.tx.conn.now.in_transaction ≡ true;
       kept : HasCleanDisk now → KeepsCommit old now;
       crash : Survives old now (λ _. ⊥);
+      -- what the statements of the rest make of it, those of all make of the start
+      ran : HasCleanDisk now → l.fn.tx.conn.now.in_transaction ≡ true → (end : Held _) (out : Result (Unit {0}) Error)
+          → RunInTurn g.S.Store (entry_writes l.id l.place (drop l.place l.entries)) l.tx.conn.now end out → RunInTurn g.S.Store (entry_writes l.id 0 l.entries) l.fn.tx.conn.now end out;
     }

@@ -1,10 +1,13 @@
-use Rattle.std.proofs.Common.{◌∙◌, ◌++◌, [], ◌∷◌, ◌+◌, take, sym, ap, arith}
-use Rattle.std.proofs.lemmas.List.{take_more}
+use Rattle.std.proofs.Common.{◌≡◌, ◌∙◌, ◌++◌, ◌<◌, [], ◌∷◌, ◌+◌, Ok, length, take, drop, sym, ap, subst, arith}
+use Rattle.std.proofs.lemmas.List.{take_more, length-drop}
+use Rattle.sqlite_trees.proofs.ListLemmas.{all-get_or}
 use Rattle.sqlite.specs.State.{HasCleanDisk}
 use Rattle.sqlite.specs.Held.{state}
 use Rattle.sqlite.proofs.StateLemmas.{survives_then}
 use Rattle.sqlite.proofs.InsideLemmas.{keeps_then}
 use Rattle.room_tables.proofs.Effects.{steps_more}
+use Rattle.room_sql.specs.Causes.{RunInTurn, IsShort, writes_of, writes_of_all}
+use Rattle.room_sql.proofs.Turns.{turn_none, turn_then, turn_passed, next_change, no_more}
 use Rattle.room_sql.proofs.writes.apply_all.Goals as goal
 
 pub loop-change-preserved : goal.loop-change-preserved
@@ -23,4 +26,42 @@ loop-change-preserved g c =
           keeps_then old mid new (c.loop-change.invariant.kept early) (c.apply.ensures.kept clean);
       inside = c.in_ok-apply.ensures.inside;
       crash = survives_then old mid new _ _ (λ _. ⊥) (λ _ db none. none) (λ _ db none. none) c.loop-change.invariant.crash c.apply.ensures.crash;
+      ran = λ clean short end out after.
+          let midh = c.loop-change.tx.conn.now in
+          let newh = c.apply.new.tx.conn.now in
+          let xs = c.args.changes.now in
+          let k = c.loop-change.change-index in
+          let item = c.change-item.result in
+          let inv = c.loop-change.invariant in
+          let early : HasCleanDisk (state g.S.Store midh) = omega (arith, c.apply.ensures.crash.clean) in
+          let within : k < length xs = omega arith in
+          let few : IsShort item = subst IsShort (sym c.change-item.is) (all-get_or IsShort xs k item short within) in
+          let writes : writes_of_all (drop k xs) ≡ writes_of item ++ writes_of_all (drop (k + 1) xs) = ap writes_of_all (next_change k xs item within c.change-item.is) in
+          inv.ran early short end out (subst (λ ws. RunInTurn g.S.Store ws midh end out) (sym writes)
+          (turn_then g.S.Store (writes_of item) (writes_of_all (drop (k + 1) xs)) midh newh end out (c.in_ok-apply.ensures.ran clean (inv.inside early) few) after));
     }
+
+pub returns-clause-ran : goal.returns-clause-ran
+returns-clause-ran g c clean short =
+    let xs = c.args.changes.now in
+    let k = c.loop-change.change-index in
+    let now = c.loop-change.tx.conn.now in
+    let none : length (drop k xs) ≡ 0 = omega (arith, length-drop k xs) in
+    c.loop-change.invariant.ran clean short now (Ok tt)
+    (subst (λ l. RunInTurn g.S.Store (writes_of_all l) now now (Ok tt)) (sym (no_more (drop k xs) none)) (turn_none g.S.Store now))
+
+pub returns-in_err-apply-clause-ran : goal.returns-in_err-apply-clause-ran
+returns-in_err-apply-clause-ran g c clean short =
+    let midh = c.loop-change.tx.conn.now in
+    let newh = c.apply.new.tx.conn.now in
+    let xs = c.args.changes.now in
+    let k = c.loop-change.change-index in
+    let item = c.change-item.result in
+    let inv = c.loop-change.invariant in
+    let early : HasCleanDisk (state g.S.Store midh) = omega (arith, c.apply.ensures.crash.clean) in
+    let within : k < length xs = omega arith in
+    let few : IsShort item = subst IsShort (sym c.change-item.is) (all-get_or IsShort xs k item short within) in
+    let writes : writes_of_all (drop k xs) ≡ writes_of item ++ writes_of_all (drop (k + 1) xs) = ap writes_of_all (next_change k xs item within c.change-item.is) in
+    let out = c.from_residual-in_err-apply.result in
+    inv.ran early short newh out (subst (λ ws. RunInTurn g.S.Store ws midh newh out) (sym writes)
+    (turn_passed g.S.Store (writes_of item) (writes_of_all (drop (k + 1) xs)) midh newh _ out c.from_residual-in_err-apply.ensures.0 c.from_residual-in_err-apply.ensures.1 (c.in_err-apply.ensures.ran clean (inv.inside early) few)))

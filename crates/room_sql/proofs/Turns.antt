@@ -1,0 +1,87 @@
+-- Statements in turn.
+use Rattle.std.proofs.Common.{◌≡◌, ◌∙◌, ◌+◌, ◌<◌, ℕ, zero, suc, List, [], ◌∷◌, ◌++◌, length, get_or, min, drop, Option, None, Some, unwrap_or, Result, Ok, Err, OnOk, IfErr, IsErr, IsErrAnd, inl, inr, refl, sym, ap, subst, arith}
+use Rattle.std.proofs.Math.Seq.{drop-cons}
+use Rattle.sqlite_value.specs.Order.{Row}
+use Rattle.sqlite_trees.specs.declared.store.Store.{Ghosts}
+use Rattle.sqlite.specs.State.{Survives, ExecutesInside}
+use Rattle.sqlite.specs.Held.{Held, state}
+use Rattle.sqlite.specs.declared.error.Error.{Error}
+use Rattle.room_acl.specs.Entries.{EntryModel}
+use Rattle.room_tables.specs.Rows.{name_of_text}
+use Rattle.room_sql.specs.Causes.{Statement, statement, Ran, RunInTurn, entry_writes}
+
+-- what holds after an Ok
+pub ok_then : {X E : Type 0} (r : Result X E) (P Q : Type 0) → OnOk r P → (P → Q) → OnOk r Q
+ok_then (Ok x) P Q h f = f h
+ok_then (Err e) P Q h f = h
+
+-- the text of a name, and the empty text for none
+pub name_back : (text : List ℕ) → unwrap_or (name_of_text text) [] ≡ text
+name_back [] = refl
+name_back (b ∷ bytes) = refl
+
+module _ {S : Type 0} (store : Ghosts S) where
+  pub turn_none : (a : Held S) → RunInTurn store [] a a (Ok tt)
+  unfolding RunInTurn
+  turn_none a = (refl, refl)
+
+  pub turn_one : (text : List ℕ) (args : Row) (a b : Held S) (count : ℕ) → ExecutesInside 0 text args (state store a) (state store b) (Ok count)
+      → Survives (state store a) (state store b) (λ _. ⊥) → RunInTurn store (statement text args ∷ []) a b (Ok tt)
+  unfolding RunInTurn
+  turn_one text args a b count runs survives = inr (b, count, record { runs = runs; survives = survives }, (refl, refl))
+
+  pub turn_fails : (text : List ℕ) (args : Row) (a b : Held S) (e : Error) → ExecutesInside 0 text args (state store a) (state store b) (Err e)
+      → Survives (state store a) (state store b) (λ _. ⊥) → RunInTurn store (statement text args ∷ []) a b (Err e)
+  unfolding RunInTurn
+  turn_fails text args a b e runs survives = inl (e, refl, record { runs = runs; survives = survives })
+
+  -- the same parameters in other words
+  pub turn_as : (text : List ℕ) (args other : Row) (a b : Held S) (out : Result (Unit {0}) Error) → args ≡ other
+      → RunInTurn store (statement text args ∷ []) a b out → RunInTurn store (statement text other ∷ []) a b out
+  turn_as text args other a b out same ran = subst (λ row. RunInTurn store (statement text row ∷ []) a b out) same ran
+
+  -- statements that ran, and then others
+  pub turn_then : (xs ys : List Statement) (a b c : Held S) (out : Result (Unit {0}) Error) → RunInTurn store xs a b (Ok tt) → RunInTurn store ys b c out → RunInTurn store (xs ++ ys) a c out
+  unfolding RunInTurn
+  turn_then [] ys a b c out first second = subst (λ h. RunInTurn store ys h c out) first.1 second
+  turn_then (x ∷ xs) ys a b c out (inl failed) second = absurd (let bad = failed.1 in cc)
+  turn_then (x ∷ xs) ys a b c out (inr on) second = inr (on.0, on.1, on.2, turn_then xs ys on.0 b c out on.3 second)
+
+  -- others behind one that failed do not run
+  pub turn_stops : (xs ys : List Statement) (a b : Held S) (e : Error) → RunInTurn store xs a b (Err e) → RunInTurn store (xs ++ ys) a b (Err e)
+  unfolding RunInTurn
+  turn_stops [] ys a b e failed = absurd (let bad = failed.0 in cc)
+  turn_stops (x ∷ xs) ys a b e (inl failed) = inl failed
+  turn_stops (x ∷ xs) ys a b e (inr on) = inr (on.0, on.1, on.2, turn_stops xs ys on.0 b e on.3)
+
+  -- an error that was passed on
+  pub turn_passed : (xs ys : List Statement) (a b : Held S) (e : Error) (r : Result (Unit {0}) Error) → IsErr r → IsErrAnd r (λ f. f ≡ e) → RunInTurn store xs a b (Err e) → RunInTurn store (xs ++ ys) a b r
+  turn_passed xs ys a b e (Ok x) err is ran = absurd cc
+  turn_passed xs ys a b e (Err f) err is ran = subst (λ g. RunInTurn store (xs ++ ys) a b (Err g)) (sym is) (turn_stops xs ys a b e ran)
+
+pub err_passed : {X : Type 0} (e : Error) (r : Result X Error) (P : Error → Type 0) → IsErr r → IsErrAnd r (λ f. f ≡ e) → P e → IfErr r P
+err_passed e (Ok x) P err is p = absurd cc
+err_passed e (Err f) P err is p = subst P (sym is) p
+
+pub no_more : {X : Type 0} (xs : List X) → length xs ≡ 0 → xs ≡ []
+no_more [] none = refl
+no_more (x ∷ xs) none = absurd (omega arith)
+
+-- the statements of the next entries, up to four, and then those of the rest
+pub next_writes : (id place : ℕ) (batch more : List EntryModel) → length batch ≡ min 4 (length (batch ++ more)) → 0 < length (batch ++ more)
+    → entry_writes id place (batch ++ more) ≡ entry_writes id place batch ++ entry_writes id (place + length batch) more
+next_writes id place [] more len some = absurd (omega (arith, len, some))
+next_writes id place (a ∷ []) [] len some = refl
+next_writes id place (a ∷ []) (x ∷ more) len some = absurd (omega (arith, len))
+next_writes id place (a ∷ b ∷ []) [] len some = refl
+next_writes id place (a ∷ b ∷ []) (x ∷ more) len some = absurd (omega (arith, len))
+next_writes id place (a ∷ b ∷ c ∷ []) [] len some = refl
+next_writes id place (a ∷ b ∷ c ∷ []) (x ∷ more) len some = absurd (omega (arith, len))
+next_writes id place (a ∷ b ∷ c ∷ d ∷ []) more len some = refl
+next_writes id place (a ∷ b ∷ c ∷ d ∷ e ∷ batch) more len some = absurd (omega (arith, len))
+
+-- the next change, and those behind it
+pub next_change : {X : Type 0} (k : ℕ) (xs : List X) (x : X) → k < length xs → x ≡ get_or xs k x → drop k xs ≡ x ∷ drop (k + 1) xs
+next_change k xs x within is =
+    let more : suc k ≡ k + 1 = omega arith in
+    drop-cons xs k x within ∙ ap (λ y. y ∷ drop (suc k) xs) (sym is) ∙ ap (λ n. x ∷ drop n xs) more
