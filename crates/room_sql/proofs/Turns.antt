@@ -1,6 +1,9 @@
 -- Statements in turn.
-use Rattle.std.proofs.Common.{◌≡◌, ◌∙◌, ◌+◌, ◌<◌, ℕ, zero, suc, List, [], ◌∷◌, ◌++◌, length, get_or, min, drop, Option, None, Some, unwrap_or, Result, Ok, Err, OnOk, IfErr, IsErr, IsErrAnd, inl, inr, refl, sym, ap, subst, arith}
+use Rattle.std.proofs.Common.{◌≡◌, ◌⊎◌, ◌∙◌, ◌+◌, ◌<◌, ◌≤◌, ℕ, zero, suc, List, [], ◌∷◌, ◌++◌, length, get_or, min, drop, Option, None, Some, unwrap_or, Result, Ok, Err, OnOk, IfErr, IsErr, IsErrAnd, inl, inr, refl, sym, ap, subst, arith}
 use Rattle.std.proofs.Math.Seq.{drop-cons}
+use Rattle.std.proofs.Math.Nat.{min-eq_left, min-eq_right, min-le_left}
+use Rattle.std.proofs.lemmas.Bool.{cases_lt}
+use Rattle.std.proofs.lemmas.List.{length-append}
 use Rattle.sqlite_value.specs.Order.{Row}
 use Rattle.sqlite_trees.specs.declared.store.Store.{Ghosts}
 use Rattle.sqlite.specs.State.{Survives, ExecutesInside}
@@ -67,18 +70,39 @@ pub no_more : {X : Type 0} (xs : List X) → length xs ≡ 0 → xs ≡ []
 no_more [] none = refl
 no_more (x ∷ xs) none = absurd (omega arith)
 
+-- a chunk off the front is whole, or nothing is left behind it
+pub chunk_ends : {X : Type 0} (batch more : List X) → length batch ≡ min 4 (length (batch ++ more)) → (length batch ≡ 4) ⊎ (length more ≡ 0)
+chunk_ends batch more len =
+    let total = length (batch ++ more) in
+    elim (cases_lt 3 total) [
+      | inl long ↦ let whole : min 4 total ≡ 4 = min-eq_left (omega (arith, long)) in inl (len ∙ whole)
+      | inr short ↦ let all : min 4 total ≡ total = min-eq_right (omega (arith, short)) in inr (omega (arith, len, all, length-append batch more))
+    ]
+
+pub min_most : {X : Type 0} (batch more : List X) → length batch ≡ min 4 (length (batch ++ more)) → length batch ≤ 4
+min_most batch more len = omega (arith, len, min-le_left 4 (length (batch ++ more)))
+
+pub chunk_some : {X : Type 0} (batch more : List X) → length batch ≡ min 4 (length (batch ++ more)) → 0 < length (batch ++ more) → 0 < length batch
+chunk_some batch more len some = elim (chunk_ends batch more len) [
+  | inl whole ↦ omega (arith, whole)
+  | inr none ↦ omega (arith, none, some, length-append batch more)
+]
+
 -- the statements of the next entries, up to four, and then those of the rest
-pub next_writes : (id place : ℕ) (batch more : List EntryModel) → length batch ≡ min 4 (length (batch ++ more)) → 0 < length (batch ++ more)
+pub next_writes : (id place : ℕ) (batch more : List EntryModel) → 0 < length batch → length batch ≤ 4 → (length batch ≡ 4) ⊎ (length more ≡ 0)
     → entry_writes id place (batch ++ more) ≡ entry_writes id place batch ++ entry_writes id (place + length batch) more
-next_writes id place [] more len some = absurd (omega (arith, len, some))
-next_writes id place (a ∷ []) [] len some = refl
-next_writes id place (a ∷ []) (x ∷ more) len some = absurd (omega (arith, len))
-next_writes id place (a ∷ b ∷ []) [] len some = refl
-next_writes id place (a ∷ b ∷ []) (x ∷ more) len some = absurd (omega (arith, len))
-next_writes id place (a ∷ b ∷ c ∷ []) [] len some = refl
-next_writes id place (a ∷ b ∷ c ∷ []) (x ∷ more) len some = absurd (omega (arith, len))
-next_writes id place (a ∷ b ∷ c ∷ d ∷ []) more len some = refl
-next_writes id place (a ∷ b ∷ c ∷ d ∷ e ∷ batch) more len some = absurd (omega (arith, len))
+next_writes id place [] more some few ends = absurd (omega arith)
+next_writes id place (a ∷ []) [] some few ends = refl
+next_writes id place (a ∷ []) (x ∷ more) some few (inl e) = absurd (omega arith)
+next_writes id place (a ∷ []) (x ∷ more) some few (inr e) = absurd (omega arith)
+next_writes id place (a ∷ b ∷ []) [] some few ends = refl
+next_writes id place (a ∷ b ∷ []) (x ∷ more) some few (inl e) = absurd (omega arith)
+next_writes id place (a ∷ b ∷ []) (x ∷ more) some few (inr e) = absurd (omega arith)
+next_writes id place (a ∷ b ∷ c ∷ []) [] some few ends = refl
+next_writes id place (a ∷ b ∷ c ∷ []) (x ∷ more) some few (inl e) = absurd (omega arith)
+next_writes id place (a ∷ b ∷ c ∷ []) (x ∷ more) some few (inr e) = absurd (omega arith)
+next_writes id place (a ∷ b ∷ c ∷ d ∷ []) more some few ends = refl
+next_writes id place (a ∷ b ∷ c ∷ d ∷ e ∷ batch) more some few ends = absurd (omega arith)
 
 -- the next change, and those behind it
 pub next_change : {X : Type 0} (k : ℕ) (xs : List X) (x : X) → k < length xs → x ≡ get_or xs k x → drop k xs ≡ x ∷ drop (k + 1) xs

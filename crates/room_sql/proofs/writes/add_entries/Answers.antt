@@ -8,7 +8,7 @@ use Rattle.room_tables.specs.Steps.{Lists}
 use Rattle.room_acl.specs.Entries.{EntryModel}
 use Rattle.room_sql.specs.Causes.{RunInTurn, entry_writes}
 use Rattle.room_sql.proofs.Bound.{next_batch}
-use Rattle.room_sql.proofs.Turns.{turn_none, turn_then, turn_passed, next_writes, no_more}
+use Rattle.room_sql.proofs.Turns.{turn_none, turn_then, turn_passed, chunk_ends, min_most, chunk_some, next_writes, no_more}
 use Rattle.room_sql.proofs.writes.add_entries.Goals as goal
 
 pub loop-batch-preserved : goal.loop-batch-preserved
@@ -52,10 +52,11 @@ loop-batch-preserved g c =
           let next = next_batch place xs front batch more inv.within inv.rest steps.1.0 in
           let early : HasCleanDisk (state g.S.Store midh) = omega (arith, c.add_batch.ensures.crash.clean) in
           let len : length batch ≡ min 4 (length (batch ++ more)) = steps.1.1 ∙ ap (λ n. min n (length front)) inv.size ∙ ap (λ (l : List EntryModel). min 4 (length l)) steps.1.0 in
-          let some : 0 < length (batch ++ more) = subst (λ (l : List EntryModel). 0 < length l) steps.1.0 steps.1.2 in
+          let few : length batch ≤ 4 = min_most batch more len in
+          let some : 0 < length batch = chunk_some batch more len (subst (λ (l : List EntryModel). 0 < length l) steps.1.0 steps.1.2) in
           let rest = entry_writes id (place + length batch) (drop (place + length batch) xs) in
           let writes : entry_writes id place (drop place xs) ≡ entry_writes id place batch ++ rest =
-          ap (entry_writes id place) (sym inv.rest ∙ steps.1.0) ∙ next_writes id place batch more len some ∙ ap (λ l. entry_writes id place batch ++ entry_writes id (place + length batch) l) next.1 in
+          ap (entry_writes id place) (sym inv.rest ∙ steps.1.0) ∙ next_writes id place batch more some few (chunk_ends batch more len) ∙ ap (λ l. entry_writes id place batch ++ entry_writes id (place + length batch) l) next.1 in
           inv.ran early was end out (subst (λ ws. RunInTurn g.S.Store ws midh end out) (sym writes)
           (turn_then g.S.Store (entry_writes id place batch) rest midh newh end out (c.in_ok-add_batch.ensures.ran clean (inv.inside early was)) after));
     }
@@ -92,10 +93,11 @@ returns-in_err-add_batch-clause-ran g c clean was short =
     let next = next_batch place xs front batch more inv.within inv.rest steps.1.0 in
     let early : HasCleanDisk (state g.S.Store midh) = omega (arith, c.add_batch.ensures.crash.clean) in
     let len : length batch ≡ min 4 (length (batch ++ more)) = steps.1.1 ∙ ap (λ n. min n (length front)) inv.size ∙ ap (λ (l : List EntryModel). min 4 (length l)) steps.1.0 in
-    let some : 0 < length (batch ++ more) = subst (λ (l : List EntryModel). 0 < length l) steps.1.0 steps.1.2 in
+    let few : length batch ≤ 4 = min_most batch more len in
+    let some : 0 < length batch = chunk_some batch more len (subst (λ (l : List EntryModel). 0 < length l) steps.1.0 steps.1.2) in
     let rest = entry_writes id (place + length batch) (drop (place + length batch) xs) in
     let writes : entry_writes id place (drop place xs) ≡ entry_writes id place batch ++ rest =
-    ap (entry_writes id place) (sym inv.rest ∙ steps.1.0) ∙ next_writes id place batch more len some ∙ ap (λ l. entry_writes id place batch ++ entry_writes id (place + length batch) l) next.1 in
+    ap (entry_writes id place) (sym inv.rest ∙ steps.1.0) ∙ next_writes id place batch more some few (chunk_ends batch more len) ∙ ap (λ l. entry_writes id place batch ++ entry_writes id (place + length batch) l) next.1 in
     let out = c.from_residual-in_err-add_batch.result in
     inv.ran early was newh out (subst (λ ws. RunInTurn g.S.Store ws midh newh out) (sym writes)
     (turn_passed g.S.Store (entry_writes id place batch) rest midh newh _ out c.from_residual-in_err-add_batch.ensures.0 c.from_residual-in_err-add_batch.ensures.1 (c.in_err-add_batch.ensures.ran clean (inv.inside early was))))
