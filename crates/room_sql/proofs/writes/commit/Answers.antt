@@ -21,9 +21,3 @@ returns-clause-err g c clean is =
     let failed = c.commit.ensures.err late in
     subst (λ h. OnErr c.commit.result ((state g.S.Store h).now ≡ (state g.S.Store c.args.conn.now).committed)) same
     (on_err c.commit.result _ _ (λ e h. fails_back (state g.S.Store tx) (state g.S.Store last) (state g.S.Store end) e first inside kept h open_end ∙ before) failed)
-
-pub returns-in_err-apply_all-clause-failed : goal.returns-in_err-apply_all-clause-failed
-returns-in_err-apply_all-clause-failed g c clean short = ?
-
-pub returns-clause-failed : goal.returns-clause-failed
-returns-clause-failed g c clean short = ?
