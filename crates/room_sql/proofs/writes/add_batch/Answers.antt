@@ -1,9 +1,10 @@
-use Rattle.std.proofs.Common.{◌≡◌, ◌++◌, length, sym, arith}
+use Rattle.std.proofs.Common.{◌≡◌, ◌++◌, Ok, length, sym, arith}
 use Rattle.std.proofs.Common.{subst}
 use Rattle.sqlite.specs.Held.{state}
 use Rattle.room_tables.specs.Steps.{Lists}
 use Rattle.room_sql.specs.Causes.{RunInTurn, entry_writes}
 use Rattle.room_sql.proofs.Bound.{one_is, two_is, three_is, four_is, on_same}
+use Rattle.room_sql.proofs.Turns.{turn_none, no_more}
 use Rattle.room_sql.proofs.writes.add_batch.Goals as goal
 
 pub returns-in-len1-clause-ok : goal.returns-in-len1-clause-ok
@@ -61,3 +62,9 @@ returns-in-len4-clause-ran g c clean inside =
     let long : length c.args.batch.now ≡ 4 = omega (arith, c.in-len4.len_at_least, c.in-len4.len_below) in
     let is = four_is c.args.batch.now c.a-item-then-batch-lt5.result c.b-item-then-batch-lt5.result c.c-item-then-batch-lt5.result c.d-item.result long c.a-item-then-batch-lt5.is c.b-item-then-batch-lt5.is c.c-item-then-batch-lt5.is c.d-item.is in
     subst (λ l. RunInTurn g.S.Store (entry_writes c.args.id c.args.place l) c.args.tx.now.conn.now c.add_four.new.tx.conn.now c.add_four.result) (sym is) (c.add_four.ensures.ran clean inside)
+
+pub returns-in-empty-clause-ran : goal.returns-in-empty-clause-ran
+returns-in-empty-clause-ran g c clean inside =
+    let now = c.args.tx.now.conn.now in
+    let none : length c.args.batch.now ≡ 0 = omega (arith, c.in-empty.len_below) in
+    subst (λ l. RunInTurn g.S.Store (entry_writes c.args.id c.args.place l) now now (Ok tt)) (sym (no_more c.args.batch.now none)) (turn_none g.S.Store now)

@@ -98,6 +98,6 @@ returns-in_err-add_batch-clause-ran g c clean was short =
     let rest = entry_writes id (place + length batch) (drop (place + length batch) xs) in
     let writes : entry_writes id place (drop place xs) ≡ entry_writes id place batch ++ rest =
     ap (entry_writes id place) (sym inv.rest ∙ steps.1.0) ∙ next_writes id place batch more some few (chunk_ends batch more len) ∙ ap (λ l. entry_writes id place batch ++ entry_writes id (place + length batch) l) next.1 in
-    let out = c.from_residual-in_err-add_batch.result in
+    let out = c.from_residual.result in
     inv.ran early was newh out (subst (λ ws. RunInTurn g.S.Store ws midh newh out) (sym writes)
-    (turn_passed g.S.Store (entry_writes id place batch) rest midh newh _ out c.from_residual-in_err-add_batch.ensures.0 c.from_residual-in_err-add_batch.ensures.1 (c.in_err-add_batch.ensures.ran clean (inv.inside early was))))
+    (turn_passed g.S.Store (entry_writes id place batch) rest midh newh _ out c.from_residual.ensures.0 c.from_residual.ensures.1 (c.in_err-add_batch.ensures.ran clean (inv.inside early was))))

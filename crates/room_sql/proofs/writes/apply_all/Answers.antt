@@ -62,6 +62,6 @@ returns-in_err-apply-clause-ran g c clean short =
     let within : k < length xs = omega arith in
     let few : IsShort item = subst IsShort (sym c.change-item.is) (all-get_or IsShort xs k item short within) in
     let writes : writes_of_all (drop k xs) ≡ writes_of item ++ writes_of_all (drop (k + 1) xs) = ap writes_of_all (next_change k xs item within c.change-item.is) in
-    let out = c.from_residual-in_err-apply.result in
+    let out = c.from_residual.result in
     inv.ran early short newh out (subst (λ ws. RunInTurn g.S.Store ws midh newh out) (sym writes)
-    (turn_passed g.S.Store (writes_of item) (writes_of_all (drop (k + 1) xs)) midh newh _ out c.from_residual-in_err-apply.ensures.0 c.from_residual-in_err-apply.ensures.1 (c.in_err-apply.ensures.ran clean (inv.inside early) few)))
+    (turn_passed g.S.Store (writes_of item) (writes_of_all (drop (k + 1) xs)) midh newh _ out c.from_residual.ensures.0 c.from_residual.ensures.1 (c.in_err-apply.ensures.ran clean (inv.inside early) few)))

@@ -39,4 +39,4 @@ returns-clause-ran g c clean inside short =
 pub returns-in_err-clear_entries-clause-ran : goal.returns-in_err-clear_entries-clause-ran
 returns-in_err-clear_entries-clause-ran g c clean inside short =
     turn_passed g.S.Store (entries_drop c.args.id ∷ []) (entry_writes c.args.id 0 c.args.entries.now.items) c.args.tx.now.conn.now c.clear_entries.new.tx.conn.now _
-    c.from_residual-in_err-clear_entries.result c.from_residual-in_err-clear_entries.ensures.0 c.from_residual-in_err-clear_entries.ensures.1 (c.in_err-clear_entries.ensures.ran clean inside)
+    c.from_residual.result c.from_residual.ensures.0 c.from_residual.ensures.1 (c.in_err-clear_entries.ensures.ran clean inside)

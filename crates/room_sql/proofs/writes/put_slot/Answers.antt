@@ -31,4 +31,4 @@ pub returns-in_err-drop_slot-clause-ran : goal.returns-in_err-drop_slot-clause-r
 returns-in_err-drop_slot-clause-ran g c clean inside =
     let row = c.args.row.now in
     turn_passed g.S.Store (slot_drop row.sid row.slot ∷ []) (slot_write row ∷ []) c.args.tx.now.conn.now c.drop_slot.new.tx.conn.now _
-    c.from_residual-in_err-drop_slot.result c.from_residual-in_err-drop_slot.ensures.0 c.from_residual-in_err-drop_slot.ensures.1 (c.in_err-drop_slot.ensures.ran clean inside)
+    c.from_residual.result c.from_residual.ensures.0 c.from_residual.ensures.1 (c.in_err-drop_slot.ensures.ran clean inside)
