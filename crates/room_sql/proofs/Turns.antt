@@ -6,12 +6,14 @@ use Rattle.std.proofs.lemmas.Bool.{cases_lt}
 use Rattle.std.proofs.lemmas.List.{length-append}
 use Rattle.sqlite_value.specs.Order.{Row}
 use Rattle.sqlite_trees.specs.declared.store.Store.{Ghosts}
-use Rattle.sqlite.specs.State.{Survives, ExecutesInside}
+use Rattle.sqlite.specs.State.{Survives, IsRolledBack, ExecutesInside}
 use Rattle.sqlite.specs.Held.{Held, state}
+use Rattle.sqlite.specs.Steps.{FailsToCommit}
 use Rattle.sqlite.specs.declared.error.Error.{Error}
 use Rattle.room_acl.specs.Entries.{EntryModel}
+use Rattle.room_records.specs.declared.change.Change.{Change}
 use Rattle.room_tables.specs.Rows.{name_of_text}
-use Rattle.room_sql.specs.Causes.{Statement, statement, Ran, RunInTurn, entry_writes}
+use Rattle.room_sql.specs.Causes.{Statement, statement, Ran, RunInTurn, entry_writes, writes_of_all, begun, CommitFails}
 
 -- what holds after an Ok
 pub ok_then : {X E : Type 0} (r : Result X E) (P Q : Type 0) → OnOk r P → (P → Q) → OnOk r Q
@@ -61,6 +63,27 @@ module _ {S : Type 0} (store : Ghosts S) where
   pub turn_passed : (xs ys : List Statement) (a b : Held S) (e : Error) (r : Result (Unit {0}) Error) → IsErr r → IsErrAnd r (λ f. f ≡ e) → RunInTurn store xs a b (Err e) → RunInTurn store (xs ++ ys) a b r
   turn_passed xs ys a b e (Ok x) err is ran = absurd cc
   turn_passed xs ys a b e (Err f) err is ran = subst (λ g. RunInTurn store (xs ++ ys) a b (Err g)) (sym is) (turn_stops xs ys a b e ran)
+
+  -- a commit whose statement failed, and one whose end failed
+  pub write_failed : (changes : List Change) (old tx last new : Held S) (e : Error) → tx ≡ begun store old → RunInTurn store (writes_of_all changes) tx last (Err e)
+      → IsRolledBack (state store last) (state store new) → Survives (state store last) (state store new) (λ _. ⊥) → CommitFails store changes old new e
+  write_failed changes old tx last new e is ran undone survives = record {
+    last = last;
+    outcome = Err e;
+    ran = subst (λ h. RunInTurn store (writes_of_all changes) h last (Err e)) is ran;
+    counts = survives.counts;
+    cause = inl (refl, undone);
+  }
+
+  pub end_failed : (changes : List Change) (old tx last new : Held S) (e : Error) → tx ≡ begun store old → RunInTurn store (writes_of_all changes) tx last (Ok tt)
+      → FailsToCommit (state store last) (state store new) e → (state store last).faults ≤ (state store new).faults → CommitFails store changes old new e
+  end_failed changes old tx last new e is ran failed counts = record {
+    last = last;
+    outcome = Ok tt;
+    ran = subst (λ h. RunInTurn store (writes_of_all changes) h last (Ok tt)) is ran;
+    counts = counts;
+    cause = inr (refl, failed);
+  }
 
 pub err_passed : {X : Type 0} (e : Error) (r : Result X Error) (P : Error → Type 0) → IsErr r → IsErrAnd r (λ f. f ≡ e) → P e → IfErr r P
 err_passed e (Ok x) P err is p = absurd cc

@@ -1,10 +1,11 @@
--- The statements that a commit runs.
+-- The statements that a commit runs, and how it fails.
 use Rattle.std.specs.Prelude.{◌≡◌, ◌⊎◌, ◌<◌, ◌≤◌, ◌+◌, ◌^◌, ℕ, suc, pos, true, List, [], ◌∷◌, ◌++◌, length, unwrap_or, Result, Ok, Err}
 use Rattle.sqlite_value.specs.declared.value.Value.TheVariants.{Int, Text, Blob}
 use Rattle.sqlite_value.specs.Order.{Row}
 use Rattle.sqlite_trees.specs.declared.store.Store.{Ghosts}
-use Rattle.sqlite.specs.State.{Survives, ExecutesInside}
+use Rattle.sqlite.specs.State.{State, Survives, IsRolledBack, ExecutesInside}
 use Rattle.sqlite.specs.Held.{Held, state}
+use Rattle.sqlite.specs.Steps.{FailsToCommit}
 use Rattle.sqlite.specs.declared.error.Error.{Error}
 use Rattle.room_acl.specs.Entries.{EntryModel}
 use Rattle.room_records.specs.declared.node.Node.{Node}
@@ -91,3 +92,16 @@ module _ {S : Type 0} (store : Ghosts S) where
   RunInTurn (s ∷ more) old new outcome =
       ((e : Error) × (outcome ≡ Err e) × Ran s old new (Err e))
       ⊎ ((mid : Held S) × (count : ℕ) × Ran s old mid (Ok count) × RunInTurn more mid new outcome)
+
+  -- as a transaction begins
+  abbrev pub begun : Held S → Held S
+  begun old = record old { in_transaction = true }
+
+  -- The commit answered a fault: one of its statements answered it, and the transaction was undone, or all of them ran, and
+  -- the end of the transaction answered it. No fault of the disk is forgotten on the way.
+  pub record CommitFails (changes : List Change) (old new : Held S) (e : Error) : Type 0 where
+    pub last : Held S
+    pub outcome : Result (Unit {0}) Error
+    pub ran : RunInTurn (writes_of_all changes) (begun old) last outcome
+    pub counts : (state store last).faults ≤ (state store new).faults
+    pub cause : ((outcome ≡ Err e) × IsRolledBack (state store last) (state store new)) ⊎ ((outcome ≡ Ok tt) × FailsToCommit (state store last) (state store new) e)

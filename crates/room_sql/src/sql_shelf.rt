@@ -78,7 +78,7 @@ impl<S: Alter> Shelf for SqlShelf<S> {
     ghost use Rattle.room_records.specs.Shelf.{ShelfCall, ShelfRead, Tells, fault_in, AreChildren, IsChildCount, IsChildNamed};
     ghost use Rattle.room_tables.specs.Texts.{find_node_text, find_child_text, list_children_text, count_children_text, list_entries_text, find_doc_text, find_session_text, find_slot_text, find_next_text};
     ghost use Rattle.room_sql.specs.Columns.{HasBytes, IsNodeRow, IsLawfulEntryRow, IsSessionRow, IsKeptRow, IsOneNumber, IsOneCount};
-    ghost use Rattle.room_sql.specs.SqlView.{sql_view, ReadCause};
+    ghost use Rattle.room_sql.specs.SqlView.{sql_view, ReadCause, CommitCause};
 
     ghost view = { sql_view S.Store };
 
@@ -250,6 +250,7 @@ impl<S: Alter> Shelf for SqlShelf<S> {
         ensures crash { (sql_view S.Store self.old).is_laid_out → RulesHoldAfterEach changes.now (sql_view S.Store self.old).records →
             (left : Records) → (sql_view S.Store self.new).crash_may_leave left →
             (sql_view S.Store self.old).crash_may_leave left ⊎ (left ≡ apply_changes changes.now (sql_view S.Store self.old).records) }
+        ensures cause { CommitCause S.Store self.old self.new result changes.now }
     {
         let _outside = self.conn.is_autocommit();
         match writes::commit(&mut self.conn, changes) {

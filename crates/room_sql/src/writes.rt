@@ -1,6 +1,6 @@
 //! The changes, each inside a transaction.
 
-ghost use Rattle.std.specs.Prelude.{◌≡◌, ◌+◌, ◌^◌, ◌<◌, ◌≤◌, ℕ, [], ◌∷◌, ◌++◌, length, Ok, OnOk, OnErr, true, false, IsTrue};
+ghost use Rattle.std.specs.Prelude.{◌≡◌, ◌+◌, ◌^◌, ◌<◌, ◌≤◌, ℕ, [], ◌∷◌, ◌++◌, length, Ok, IfErr, OnOk, OnErr, true, false, IsTrue};
 ghost use Rattle.std.specs.List.{AllByRecursion};
 ghost use Rattle.sqlite.specs.State.{HasCleanDisk, KeepsCommit, Survives, ExecutesInside};
 ghost use Rattle.sqlite.specs.Held.{state};
@@ -11,7 +11,7 @@ ghost use Rattle.room_records.specs.declared.change.Change.TheVariants.{PutNode,
 ghost use Rattle.room_tables.specs.Rows.{records_of, version_rows, IsVersion1};
 ghost use Rattle.room_tables.specs.Layout.{IsRoomDatabase};
 ghost use Rattle.room_tables.specs.Steps.{Steps, Lists, MayBecome, HasNoSlot, without_slot};
-ghost use Rattle.room_sql.specs.Causes.{statement, RunInTurn, writes_of, writes_of_all, entry_writes, entries_drop, slot_drop, slot_write, IsShort};
+ghost use Rattle.room_sql.specs.Causes.{statement, RunInTurn, writes_of, writes_of_all, entry_writes, entries_drop, slot_drop, slot_write, IsShort, CommitFails};
 
 use crate::values::{
     entry_row, flag_number, group_text, kept_number, kept_reply, kept_request, kind_number,
@@ -497,6 +497,7 @@ pub(crate) fn commit<S: Alter>(conn: &mut Connection<S>, changes: &[Change]) -> 
         IsRoomDatabase (state S.Store conn.new).now × MayBecome changes.now (state S.Store conn.old).now (state S.Store conn.new).now.trees)) }
     ensures version { HasCleanDisk (state S.Store conn.new) → OnOk result (IsRoomDatabase (state S.Store conn.old).now → IsVersion1 (version_rows (state S.Store conn.old).now.trees) →
         IsVersion1 (version_rows (state S.Store conn.new).now.trees)) }
+    ensures failed { HasCleanDisk (state S.Store conn.new) → AllByRecursion IsShort changes.now → IfErr result (CommitFails S.Store changes.now conn.old conn.new) }
     ensures err { HasCleanDisk (state S.Store conn.new) → IsTrue (state S.Store conn.new).is_open → OnErr result ((state S.Store conn.new).now ≡ (state S.Store conn.old).committed) }
     ensures settled { HasCleanDisk (state S.Store conn.new) → OnOk result ((state S.Store conn.new).committed ≡ (state S.Store conn.new).now) }
     ensures kept { HasCleanDisk (state S.Store conn.new) → IsTrue (state S.Store conn.new).is_open → IsTrue (state S.Store conn.old).is_open }
