@@ -1,5 +1,5 @@
 -- Statements in turn.
-use Rattle.std.proofs.Common.{◌≡◌, ◌⊎◌, ◌∙◌, ◌+◌, ◌<◌, ◌≤◌, ℕ, zero, suc, List, [], ◌∷◌, ◌++◌, length, get_or, min, drop, Option, None, Some, unwrap_or, Result, Ok, Err, OnOk, IfErr, IsErr, IsErrAnd, inl, inr, refl, sym, ap, subst, arith}
+use Rattle.std.proofs.Common.{◌≡◌, ◌⊎◌, ◌∙◌, ◌+◌, ◌<◌, ◌≤◌, ℕ, suc, List, [], ◌∷◌, ◌++◌, length, get_or, min, drop, unwrap_or, Result, Ok, Err, OnOk, IfErr, IsErr, IsErrAnd, inl, inr, refl, sym, ap, subst, arith}
 use Rattle.std.proofs.Math.Seq.{drop-cons}
 use Rattle.std.proofs.Math.Nat.{min-eq_left, min-eq_right, min-le_left}
 use Rattle.std.proofs.lemmas.Bool.{cases_lt}
@@ -13,7 +13,7 @@ use Rattle.sqlite.specs.declared.error.Error.{Error}
 use Rattle.room_acl.specs.Entries.{EntryModel}
 use Rattle.room_records.specs.declared.change.Change.{Change}
 use Rattle.room_tables.specs.Rows.{name_of_text}
-use Rattle.room_sql.specs.Causes.{Statement, statement, Ran, RunInTurn, entry_writes, writes_of_all, begun, CommitFails}
+use Rattle.room_sql.specs.Causes.{Statement, statement, RunInTurn, entry_writes, writes_of_all, begun, CommitFails}
 
 -- what holds after an Ok
 pub ok_then : {X E : Type 0} (r : Result X E) (P Q : Type 0) → OnOk r P → (P → Q) → OnOk r Q

@@ -1,4 +1,4 @@
-use Rattle.std.proofs.Common.{◌+◌, suc, pos, [], ◌∷◌, ◌++◌, Ok, refl, sym, ap, subst, arith}
+use Rattle.std.proofs.Common.{◌+◌, suc, pos, [], ◌∷◌, ◌++◌, Ok, refl, sym, subst, arith}
 use Rattle.sqlite_value.specs.declared.value.Value.TheVariants.{Int}
 use Rattle.sqlite.specs.Held.{state}
 use Rattle.sqlite.specs.State.{ExecutesInside}
