@@ -1,3 +1,4 @@
 mod Calls
 mod Printed
 mod Streams
+mod Told

@@ -23,3 +23,8 @@ answer (Err e) = None
 abbrev pub is_done : {A E : Type 0} → Result A E → Bool
 is_done (Ok a) = true
 is_done (Err e) = false
+
+-- the text that a read was answered, as bytes
+abbrev pub text_answer : {T E : Type 0} → (bytes : T → List ℕ) → Result T E → Option (List ℕ)
+text_answer bytes (Ok text) = Some (bytes text)
+text_answer bytes (Err e) = None

@@ -1,5 +1,6 @@
 //! What a run asks of the machine that it runs on, beside its three streams.
-ghost use Rattle.room_program.specs.Machines.{Call, answer, is_done};
+ghost use Rattle.std.specs.Prelude.{string_bytes};
+ghost use Rattle.room_program.specs.Machines.{Call, answer, is_done, text_answer};
 ghost use Rattle.room_program.specs.Machines.Call.{reads, looks, opens, listens, connects};
 
 use sqlite::Error;
@@ -15,7 +16,7 @@ pub trait Machine<C> {
 
     /// Reads the file at this path as UTF-8 text.
     fn read_text(&mut self, path: &str) -> io::Result<String>
-        ensures read { does self.old (reads path.now (answer result)) self.new };
+        ensures read { does self.old (reads path.now (text_answer string_bytes result)) self.new };
 
     /// Whether a file with bytes in it is at this path.
     fn is_begun(&mut self, path: &str) -> io::Result<bool>
