@@ -72,11 +72,8 @@ impl<'a> Listener for Host<'a> {
     ghost fails = { λ _ _. ⊤ };
 
     fn next_stream(&mut self) -> io::Result<TcpStream> {
-        match &self.listener {
-            Some(listener) => {
-                let (stream, _) = listener.accept()?;
-                Ok(stream)
-            }
+        match &mut self.listener {
+            Some(listener) => listener.next_stream(),
             None => Err(io::Error::from(ErrorKind::NotConnected)),
         }
     }
