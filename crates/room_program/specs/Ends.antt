@@ -1,8 +1,8 @@
 -- How jobs end.
-use Rattle.std.specs.Prelude.{◌≡◌, ◌⊎◌, ℕ, List, Bool, true, false, Option, Some, None, Result, Ok, Err, OnOk}
+use Rattle.std.specs.Prelude.{◌≡◌, ◌⊎◌, ℕ, List, true, Option, Some, None, Result, Ok, Err}
 use Rattle.room_acl.specs.Principals.{IsPrincipal}
 use Rattle.room_program.specs.declared.fault.Fault.{Fault}
-use Rattle.room_program.specs.declared.fault.Fault.TheVariants.{BadName, RoomExists, StoreFailed, Memory, NetworkFailed, WriteFailed, SelftestFailed}
+use Rattle.room_program.specs.declared.fault.Fault.TheVariants.{BadName, StoreFailed, Memory, NetworkFailed, WriteFailed, SelftestFailed}
 use Rattle.room_program.specs.Machines.{Call}
 use Rattle.room_program.specs.Machines.Call.{connects}
 use Rattle.room_program.specs.Files.{MakesAt}

@@ -74,7 +74,7 @@ Adopted g opened taken = IsTrue (has_room opened.schema)
 abbrev pub Made : {S : Type 0} → Ghosts S → (owner group : List ℕ) → (opened : Held S) → Type 0
 Made {S} g owner group opened = (has_a_table opened.schema ≡ false) × (made : Held S)
     × (HasCleanDisk (state g made) → IsTrue (state g made).is_open
-        × (opened.schema ≡ schema_0 → IsRoomDatabase (state g made).now × IsFreshRoom owner group (state g made).now.trees))
+    × (opened.schema ≡ schema_0 → IsRoomDatabase (state g made).now × IsFreshRoom owner group (state g made).now.trees))
     × Survives (state g opened) (state g made) (MayBeMade owner group (state g opened).now)
 
 -- a store that was opened had a table of a room

@@ -9,7 +9,6 @@ use Rattle.room_program.specs.declared.fault.Fault.{Fault}
 use Rattle.room_program.specs.declared.fault.Fault.TheVariants as fault
 use Rattle.room_words.specs.declared.job.Job.{Job}
 use Rattle.room_words.specs.declared.job.Job.TheVariants.{Check, Init, Replay, Serve, Report, Selftest}
-use Rattle.room_words.specs.declared.job.ReportKind.{ReportKind}
 use Rattle.room_words.specs.declared.fault.WordsFault.{WordsFault}
 use Rattle.room_words.specs.declared.fault.WordsFault.TheVariants.{Usage, Help, Memory}
 use Rattle.room_words.specs.CommandLine.{ReadsAs}

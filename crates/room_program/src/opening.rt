@@ -27,10 +27,7 @@ pub(crate) fn open<S: Alter + Drop, M: Machine<Connection<S>>>(
 }
 
 /// The shelf over a store that was opened.
-fn adopt<S: Alter + Drop>(
-    alloc: Global,
-    connection: Connection<S>,
-) -> Result<SqlShelf<S>, Fault>
+fn adopt<S: Alter + Drop>(alloc: Global, connection: Connection<S>) -> Result<SqlShelf<S>, Fault>
     requires { connection.in_transaction ≡ false }
     ensures { Adopts (λ opened shelf. Adopted S.Store opened shelf.conn) connection result }
 {

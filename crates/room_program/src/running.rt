@@ -138,7 +138,7 @@ fn run_report<S: Alter + Drop, M: Machine<Connection<S>>, W: Write, E: Write>(
     errors: &mut E,
 ) -> u8
     ensures { Ends (Reports M.does (λ opened shelf. Adopted S.Store opened shelf.conn) ⟦<SqlShelf<S> as Shelf>⟧.view db.now roster.now kind
-            machine.old machine.new (W.contents output.old) (W.contents output.new))
+        machine.old machine.new (W.contents output.old) (W.contents output.new))
         (E.contents errors.old) (E.contents errors.new) result }
 {
     let done = report(alloc, machine, db, roster, kind, output);
@@ -157,7 +157,7 @@ fn run_replay<C, M: Machine<C>, R: Read, W: Write, E: Write>(
     errors: &mut E,
 ) -> u8
     ensures { Ends (Replays M.does roster.now owner.now group.now machine.old machine.new
-            (R.remaining input.old) (R.remaining input.new) (W.contents output.old) (W.contents output.new))
+        (R.remaining input.old) (R.remaining input.new) (W.contents output.old) (W.contents output.new))
         (E.contents errors.old) (E.contents errors.new) result }
 {
     let done = replay(alloc, machine, roster, owner, group, input, output);
@@ -175,7 +175,7 @@ fn run_serve<S: Alter + Drop, M: Machine<Connection<S>> + Listener, E: Write>(
     errors: &mut E,
 ) -> u8
     ensures { Ends (ServesRoom M.does M.accepts M.fails (λ opened shelf. Adopted S.Store opened shelf.conn) ⟦<SqlShelf<S> as Shelf>⟧.view
-            db.now roster.now port count machine.old machine.new)
+        db.now roster.now port count machine.old machine.new)
         (E.contents errors.old) (E.contents errors.new) result }
 {
     let done = serve(alloc, machine, db, roster, port, count);
@@ -198,15 +198,56 @@ fn run_job<S: Alter + Drop, M: Machine<Connection<S>> + Listener, R: Read, W: Wr
 {
     match job {
         Job::Check => run_check(alloc, input, output, errors),
-        Job::Init { db, owner, group } => run_init(alloc, machine, db.as_str(), owner.as_str(), group.as_str(), errors),
+        Job::Init { db, owner, group } => run_init(
+            alloc,
+            machine,
+            db.as_str(),
+            owner.as_str(),
+            group.as_str(),
+            errors,
+        ),
         Job::Report { db, roster, kind } => {
-            run_report(alloc, machine, db.as_str(), roster.as_str(), *kind, output, errors)
+            run_report(
+                alloc,
+                machine,
+                db.as_str(),
+                roster.as_str(),
+                *kind,
+                output,
+                errors,
+            )
         }
-        Job::Replay { roster, owner, group } => {
-            run_replay(alloc, machine, roster.as_str(), owner.as_str(), group.as_str(), input, output, errors)
+        Job::Replay {
+            roster,
+            owner,
+            group,
+        } => {
+            run_replay(
+                alloc,
+                machine,
+                roster.as_str(),
+                owner.as_str(),
+                group.as_str(),
+                input,
+                output,
+                errors,
+            )
         }
-        Job::Serve { db, roster, port, count } => {
-            run_serve(alloc, machine, db.as_str(), roster.as_str(), *port, *count, errors)
+        Job::Serve {
+            db,
+            roster,
+            port,
+            count,
+        } => {
+            run_serve(
+                alloc,
+                machine,
+                db.as_str(),
+                roster.as_str(),
+                *port,
+                *count,
+                errors,
+            )
         }
         Job::Selftest => run_selftest(alloc, machine, output, errors),
     }
@@ -230,7 +271,13 @@ fn refuse_words<W: Write, E: Write>(fault: &WordsFault, output: &mut W, errors: 
 
 /// Runs the program over a machine, as `run_program` does over the system. Its contract says what
 /// was asked of the machine, and that the run follows what it answered.
-pub fn run_machine<S: Alter + Drop, M: Machine<Connection<S>> + Listener, R: Read, W: Write, E: Write>(
+pub fn run_machine<
+    S: Alter + Drop,
+    M: Machine<Connection<S>> + Listener,
+    R: Read,
+    W: Write,
+    E: Write,
+>(
     alloc: Global,
     machine: &mut M,
     words: &[String],
@@ -260,7 +307,7 @@ pub fn run_program<R: Read, W: Write, E: Write>(
     errors: &mut E,
 ) -> u8
     ensures { (before later : _) × Runs (means ⟦<Host<'static> as Machine<FileConnection>>⟧.does ⟦<Host<'static> as Listener>⟧.accepts ⟦<Host<'static> as Listener>⟧.fails
-            (λ opened shelf. Adopted ⟦<FileStore<File> as Store>⟧ opened shelf.conn) (Made ⟦<FileStore<File> as Store>⟧) IsTaken ⟦<SqlShelf<FileStore<File>> as Shelf>⟧.view)
+        (λ opened shelf. Adopted ⟦<FileStore<File> as Store>⟧ opened shelf.conn) (Made ⟦<FileStore<File> as Store>⟧) IsTaken ⟦<SqlShelf<FileStore<File>> as Shelf>⟧.view)
         before later (texts_of words.now)
         (streams (R.remaining input.old) (W.contents output.old) (E.contents errors.old))
         (streams (R.remaining input.new) (W.contents output.new) (E.contents errors.new)) result }
