@@ -6,7 +6,7 @@ ghost use Rattle.room_acl.specs.Entries.{names_its_kind, clear_inherited, IsEntr
 use crate::flags::Flags;
 use crate::mask::Mask;
 use crate::who::Who;
-use std::alloc::AllocError;
+use std::alloc::{AllocError, Global};
 use std::marker::Model;
 
 /// One entry of an access list: it allows or denies the rights of its mask to whom it names
@@ -27,6 +27,17 @@ impl Model for Entry {
     ghost view = { λ e. record { allow = e.allow; flags = e.flags; mask = e.mask; who = e.who } };
 
     ghost invariant = { λ e. IsEntry (record { allow = e.allow; flags = e.flags; mask = e.mask; who = e.who }) };
+}
+
+/// The same entries once more. AllocError where memory is refused.
+pub fn copy_entries(alloc: Global, entries: &[Entry]) -> Result<Vec<Entry>, AllocError>
+    ensures { IfOk result (λ copy. copy.items ≡ entries.now) }
+{
+    let mut copy = Vec::new(alloc);
+    for entry in entries {
+        copy.push(entry.clone()?)?;
+    }
+    Ok(copy)
 }
 
 impl Entry {
