@@ -71,6 +71,10 @@ handed_down entries kind = filter_map (entry_handed_down kind) entries
 abbrev pub with_inherited : List EntryModel → ℕ → Kind → List EntryModel → List EntryModel
 with_inherited own aclflag kind above = own ++ (if follows aclflag then handed_down above kind else [])
 
+-- the own entries of a whole list: those without the mark
+abbrev pub own_part : List EntryModel → List EntryModel
+own_part entries = filter (λ entry. not (is_inherited entry.flags)) entries
+
 -- the entries that are meant to travel further than to the children
 abbrev pub travelling : List EntryModel → List EntryModel
 travelling entries = filter (λ entry. not (no_propagate entry.flags)) entries

@@ -15,9 +15,11 @@ mod subject;
 mod who;
 
 pub use access::{Decision, allowed_bits, decide};
-pub use entry::Entry;
+pub use entry::{Entry, same_entries};
 pub use flags::Flags;
-pub use inheritance::{ListFault, check_own, hand_down, handing_down_laws, with_inherited};
+pub use inheritance::{
+    ListFault, check_own, hand_down, handing_down_laws, own_part, with_inherited,
+};
 pub use list_flags::ListFlags;
 pub use mask::Mask;
 pub use principal::Principal;

@@ -5,7 +5,7 @@ use Rattle.room_records.specs.declared.node.Node.{Node}
 use Rattle.room_records.specs.Names.{Name, Path}
 use Rattle.room_records.specs.Records.{ObjectRecords}
 use Rattle.room_records.specs.Rules.{ObjectRules}
-use Rattle.room_records.specs.Room.{Object, Room, IsRoom, object_at}
+use Rattle.room_records.specs.Room.{Object, Room, IsRoom, object_at, list_of}
 
 -- reading names upwards by parent numbers gives these
 abbrev pub NamesUpwards : ObjectRecords → List Name → ℕ → Type 0
@@ -17,9 +17,9 @@ NamesUpwards t (name ∷ above) id =
 abbrev pub HasPath : ObjectRecords → Path → ℕ → Type 0
 HasPath t path id = NamesUpwards t (reverse path) id
 
--- which entries the rows hold of an object: its own ones
-abbrev pub stored_entries : Room → Path → Object → List EntryModel
-stored_entries room path o = o.own
+-- which entries the rows hold of an object: its whole list
+abbrev pub stored_entries : Room → Path → List EntryModel
+stored_entries room path = list_of room path
 
 -- the rows of a node show an object
 pub record RowsShowObject (t : ObjectRecords) (node : Node) (room : Room) (path : Path) (o : Object) : Type 0 where
@@ -27,7 +27,7 @@ pub record RowsShowObject (t : ObjectRecords) (node : Node) (room : Room) (path 
   pub owner : node.owner ≡ o.owner
   pub group : node.group ≡ o.group
   pub aclflag : node.aclflag ≡ o.aclflag
-  pub entries : t.entries node.id ≡ stored_entries room path o
+  pub entries : t.entries node.id ≡ stored_entries room path
   pub bytes : unwrap_or (t.document node.id) [] ≡ o.bytes
 
 -- a node and an object at one path

@@ -3,3 +3,4 @@ pub mod Plans
 pub mod Places
 pub mod Depths
 pub mod Renames
+pub mod Renewals

@@ -14,6 +14,7 @@ use Rattle.room_commands.specs.ReplyModel.{reply_model, IsRefused, Refusal}
 use Rattle.room_commands.specs.Effect.{effect, moved}
 use Rattle.room_commands.specs.Needs.{NeedsAllowed}
 use Rattle.room_records.specs.Representation.{RepresentsRoom, HasPath}
+use Rattle.room_tree.specs.Renewals.{ChangesFewRows}
 use Rattle.room_tree.specs.declared.refusal.Stop.{Stop}
 use Rattle.room_tree.specs.Stops.{OrStopped}
 
@@ -46,6 +47,7 @@ pub record PlansEffect (t : ObjectRecords) (room : Room) (caller : SubjectModel)
   pub rules : ObjectRulesHoldAfterEach outcome.changes.items t
   pub leads : RepresentsRoom (apply_all_to_objects outcome.changes.items t) (effect room caller command).room
   pub numbers : KeepsNumbers t (apply_all_to_objects outcome.changes.items t) room caller command
+  pub few : ChangesFewRows t outcome.changes.items
   pub refusal : IsRefused (reply_model outcome.reply) → outcome.changes.items ≡ []
   pub allowed : (IsRefused (reply_model outcome.reply) → ⊥) → NeedsAllowed room caller command
 

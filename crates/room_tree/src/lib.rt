@@ -13,11 +13,13 @@ mod reaching;
 mod reading;
 mod refusal;
 mod removing;
+mod renewing;
 mod setlist;
 mod upwards;
 mod walking;
 
 pub use finding::node_at;
 pub use planning::{Outcome, plan};
+pub use renewing::renew;
 pub use room_commands::{Command, Fault, Reply};
 pub use upwards::list_upwards;

@@ -17,7 +17,7 @@ use crate::place::Place;
 use crate::planning::Outcome;
 use crate::reaching::{as_size, count_children, folder_of_free};
 use crate::refusal::{Refusal, Stop};
-use room_acl::{Kind, ListFlags, Subject};
+use room_acl::{Entry, Kind, ListFlags, Subject, hand_down};
 use room_commands::{Fault, Reply};
 use room_records::{Change, FileName, MAX_CHILDREN, MAX_OBJECTS, Node, Path, Shelf};
 use std::alloc::{AllocError, Global};
@@ -119,14 +119,21 @@ fn new_node(
     })
 }
 
-/// The changes for a new object: the next number first, since each number is below it.
-fn new_object(alloc: Global, id: u32, node: Node) -> Result<Vec<Change>, AllocError>
+/// The changes for a new object with this list: the next number first, since each number is below it.
+fn new_object(
+    alloc: Global,
+    id: u32,
+    node: Node,
+    list: Vec<Entry>,
+) -> Result<Vec<Change>, AllocError>
     requires { id < 2 ^ 32 - 1 }
-    ensures { IfOk result (λ changes. changes.items ≡ Change.PutNext (id + 1) ∷ Change.PutNode node ∷ []) }
+    ensures { IfOk result (λ changes. changes.items
+        ≡ Change.PutNext (id + 1) ∷ Change.PutNode node ∷ Change.PutEntries id list ∷ []) }
 {
     let mut changes = Vec::new(alloc);
     changes.push(Change::PutNext(id + 1))?;
     changes.push(Change::PutNode(node))?;
+    changes.push(Change::PutEntries(id, list))?;
     Ok(changes)
 }
 
@@ -135,12 +142,14 @@ fn new_document(
     alloc: Global,
     id: u32,
     node: Node,
+    list: Vec<Entry>,
     bytes: Vec<u8>,
 ) -> Result<Vec<Change>, AllocError>
     requires { id < 2 ^ 32 - 1 }
-    ensures { IfOk result (λ changes. changes.items ≡ Change.PutNext (id + 1) ∷ Change.PutNode node ∷ Change.PutDoc id bytes ∷ []) }
+    ensures { IfOk result (λ changes. changes.items
+        ≡ Change.PutNext (id + 1) ∷ Change.PutNode node ∷ Change.PutEntries id list ∷ Change.PutDoc id bytes ∷ []) }
 {
-    let mut changes = new_object(alloc, id, node)?;
+    let mut changes = new_object(alloc, id, node, list)?;
     changes.push(Change::PutDoc(id, bytes))?;
     Ok(changes)
 }
@@ -158,7 +167,8 @@ pub(crate) fn plan_mkdir<S: Shelf>(
     let above = folder_for_new(alloc, shelf, subject, path, ADD_SUBDIRECTORY)?;
     let id = number_for_new(shelf, &above)?;
     let node = new_node(subject, path, &above, Kind::Folder, id)?;
-    let changes = new_object(alloc, id, node)?;
+    let list = hand_down(alloc, &above.list, Kind::Folder)?;
+    let changes = new_object(alloc, id, node, list)?;
     Ok(Outcome {
         changes,
         reply: Reply::Done,
@@ -180,8 +190,9 @@ pub(crate) fn plan_create<S: Shelf>(
     check_size(bytes.len() as u64)?;
     let id = number_for_new(shelf, &above)?;
     let node = new_node(subject, path, &above, Kind::File, id)?;
+    let list = hand_down(alloc, &above.list, Kind::File)?;
     let copy = bytes.to_vec(alloc)?;
-    let changes = new_document(alloc, id, node, copy)?;
+    let changes = new_document(alloc, id, node, list, copy)?;
     Ok(Outcome {
         changes,
         reply: Reply::Size(as_size(bytes.len() as u64)),

@@ -1,6 +1,7 @@
 //! RENAME.
 ghost use Rattle.std.specs.Prelude.{◌≡◌, ◌≢◌, ℕ, false, List, [], ◌∷◌, ◌++◌, ◌||◌, Some, IfOk, if◌then◌else◌};
 ghost use Rattle.room_acl.specs.Bits.{IsMask, add_file, add_subdirectory};
+ghost use Rattle.room_acl.specs.Inheritance.{own_part, with_inherited};
 ghost use Rattle.room_records.specs.Names.{IsPath, Path as PathModel};
 ghost use Rattle.room_records.specs.Records.{ObjectRecords};
 ghost use Rattle.room_records.specs.Room.{Object, Room};
@@ -13,7 +14,6 @@ ghost use Rattle.room_tree.specs.Plans.{Plans};
 ghost use Rattle.room_tree.specs.Renames.{IsMove, end_checks, move_rights, move_limits};
 ghost use Rattle.room_tree.specs.Stops.{Passes, refusal_in, stop_fault};
 
-use crate::changing::one_change;
 use crate::depth::check_depth;
 use crate::making::{check_children, last_name};
 use crate::masks::{ADD_FILE, ADD_SUBDIRECTORY};
@@ -22,9 +22,10 @@ use crate::planning::Outcome;
 use crate::reaching::{count_children, folder_of_free, reach_with_folder};
 use crate::refusal::{Refusal, Stop};
 use crate::removing::check_removal;
-use room_acl::{Kind, Subject};
+use crate::renewing::{if_changed, with_list};
+use room_acl::{Entry, Kind, Subject, own_part, with_inherited};
 use room_commands::{Fault, Reply};
-use room_records::{Change, FileName, Node, Path, Shelf};
+use room_records::{FileName, Node, Path, Shelf};
 use std::alloc::{AllocError, Global};
 
 /// An object that is to be moved, its folder, and the folder where it goes.
@@ -165,8 +166,17 @@ fn moved_node(place: Place, into: u32, to: &Path) -> Result<Node, AllocError>
     })
 }
 
-/// RENAME: an object and what is below it go to another path. Only the row of the object changes: what is below
-/// it is found by that row, and lists by walking up.
+/// The list of a found object in another folder.
+fn moved_list(alloc: Global, place: &Place, into: &Place) -> Result<Vec<Entry>, AllocError>
+    ensures { IfOk result (λ list. list.items
+        ≡ with_inherited (own_part place.now.list.items) place.now.aclflag place.now.kind into.now.list.items) }
+{
+    let own = own_part(alloc, &place.list)?;
+    with_inherited(alloc, own, place.aclflag, place.kind, &into.list)
+}
+
+/// RENAME: an object and what is below it go to another path. The row of the object changes, its list to what the new
+/// folder hands down, and the lists below with it.
 pub(crate) fn plan_rename<S: Shelf>(
     alloc: Global,
     shelf: &mut S,
@@ -179,7 +189,12 @@ pub(crate) fn plan_rename<S: Shelf>(
 {
     let moving = allowed_move(alloc, shelf, subject, path, to)?;
     moving.check_limits(shelf, to)?;
+    let list = moved_list(alloc, &moving.place, &moving.into)?;
+    let list = if_changed(&moving.place.list, list);
     let node = moved_node(moving.place, moving.into.id, to)?;
-    let outcome = one_change(alloc, Change::PutNode(node), Reply::Done)?;
-    Ok(outcome)
+    let changes = with_list(alloc, shelf, node, list)?;
+    Ok(Outcome {
+        changes,
+        reply: Reply::Done,
+    })
 }

@@ -15,6 +15,7 @@ use crate::place::Place;
 use crate::planning::Outcome;
 use crate::reaching::reach_to_use;
 use crate::refusal::{Refusal, Stop};
+use crate::renewing::{if_changed, list_in_folder, with_list};
 use room_acl::{Entry, Kind, ListFault, ListFlags, Subject, check_own};
 use room_commands::{Fault, Reply};
 use room_records::{Change, Path, Shelf};
@@ -67,25 +68,7 @@ fn check_lawful(entries: &[Entry], kind: Kind) -> Result<(), Refusal>
     }
 }
 
-/// The row with other list flags, and the own entries.
-fn with_list(
-    alloc: Global,
-    place: Place,
-    aclflag: ListFlags,
-    own: Vec<Entry>,
-) -> Result<Vec<Change>, AllocError>
-    ensures { IfOk result (λ changes. changes.items
-        ≡ Change.PutNode (record (node_of place) { aclflag = aclflag }) ∷ Change.PutEntries place.id own ∷ []) }
-{
-    let id = place.id;
-    let node = place.with_flags(aclflag);
-    let mut changes = Vec::new(alloc);
-    changes.push(Change::PutNode(node))?;
-    changes.push(Change::PutEntries(id, own))?;
-    Ok(changes)
-}
-
-/// SETLIST: other list flags and other own entries.
+/// SETLIST: other list flags and other own entries, with what the folder hands down, and the lists below renewed.
 pub(crate) fn plan_setlist<S: Shelf>(
     alloc: Global,
     shelf: &mut S,
@@ -100,7 +83,10 @@ pub(crate) fn plan_setlist<S: Shelf>(
     let place = reach_to_use(alloc, shelf, subject, path, None, WRITE_ACL)?;
     let own = own_entries(alloc, follows_at(path, aclflag), entries)?;
     check_lawful(own.as_slice(), place.kind)?;
-    let changes = with_list(alloc, place, aclflag, own)?;
+    let list = list_in_folder(alloc, shelf, place.parent, own, aclflag, place.kind)?;
+    let list = if_changed(&place.list, list);
+    let node = place.with_flags(aclflag);
+    let changes = with_list(alloc, shelf, node, list)?;
     Ok(Outcome {
         changes,
         reply: Reply::Done,

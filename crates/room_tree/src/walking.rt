@@ -1,16 +1,15 @@
 //! The walk of a path, from the root down.
-ghost use Rattle.std.specs.Prelude.{◌≡◌, ◌++◌, [], ◌∷◌, IfOk, MatchOption, Err, if◌then◌else◌};
-ghost use Rattle.room_acl.specs.Inheritance.{handed_down};
+ghost use Rattle.std.specs.Prelude.{◌≡◌, ◌++◌, [], ◌∷◌, IfOk, MatchOption};
 ghost use Rattle.room_records.specs.Names.{Path as PathModel};
-ghost use Rattle.room_records.specs.Room.{follows, object_at};
+ghost use Rattle.room_records.specs.Room.{object_at};
 ghost use Rattle.room_records.specs.Shelf.{ShelfRead, fault_in};
 ghost use Rattle.room_commands.specs.Checks.{walk};
-ghost use Rattle.room_tree.specs.Places.{OfRoom, IsPlace, IsWalk, node_of};
+ghost use Rattle.room_tree.specs.Places.{OfRoom, IsPlace, IsWalk};
 ghost use Rattle.room_tree.specs.Stops.{Passes, stop_fault};
 
 use crate::place::Place;
 use crate::refusal::Stop;
-use room_acl::{Entry, Kind, Mask, Subject, with_inherited};
+use room_acl::{Entry, Kind, Mask, Subject};
 use room_commands::Fault;
 use room_records::{FileName, Node, Path, Shelf, ShelfFault};
 use std::alloc::{AllocError, Global};
@@ -24,22 +23,6 @@ pub(crate) enum Walk {
     Found(Place, Option<Place>),
 }
 
-/// The node with its list, under a folder with this list.
-fn place_under<S: Shelf>(
-    alloc: Global,
-    shelf: &mut S,
-    node: Node,
-    above: &[Entry],
-) -> Result<Place, ShelfFault>
-    ensures value { (S.view shelf.new).is_available → (S.view shelf.old).is_laid_out → IfOk result (λ place. (node_of place ≡ node)
-        × (place.list.items ≡ (S.view shelf.old).records.objects.entries node.id ++ (if follows node.aclflag then handed_down above.now node.kind else []))) }
-    ensures frame { ShelfRead (S.view shelf.old) (S.view shelf.new) (fault_in result) }
-{
-    let own = shelf.entries(node.id)?;
-    let list = with_inherited(alloc, own, node.aclflag, node.kind, above)?;
-    Ok(Place::of(node, list))
-}
-
 /// The root, where the rows stand for a room.
 fn root_place<S: Shelf>(shelf: &mut S) -> Result<Option<Place>, ShelfFault>
     ensures value { OfRoom (S.view shelf.old) (S.view shelf.new) (λ t room. IfOk result (λ found.
@@ -49,13 +32,12 @@ fn root_place<S: Shelf>(shelf: &mut S) -> Result<Option<Place>, ShelfFault>
     let Some(root) = shelf.node(1)? else {
         return Ok(None);
     };
-    let own = shelf.entries(1)?;
-    Ok(Some(Place::of(root, own)))
+    let list = shelf.entries(1)?;
+    Ok(Some(Place::of(root, list)))
 }
 
 /// The child of this name, with its list.
 fn child_place<S: Shelf>(
-    alloc: Global,
     shelf: &mut S,
     here: &Place,
     name: &FileName,
@@ -67,13 +49,12 @@ fn child_place<S: Shelf>(
     let Some(node) = shelf.child(here.id, name)? else {
         return Ok(None);
     };
-    let place = place_under(alloc, shelf, node, &here.list)?;
-    Ok(Some(place))
+    let list = shelf.entries(node.id)?;
+    Ok(Some(Place::of(node, list)))
 }
 
 /// Walks a path from the root down, with EXECUTE on each folder on the way. It is refused where a folder on the way is
-/// not there, is none, or does not let the caller through. It carries the list of the folder with it, so each row is
-/// read once.
+/// not there, is none, or does not let the caller through.
 pub(crate) fn walk_path<S: Shelf>(
     alloc: Global,
     shelf: &mut S,
@@ -91,7 +72,7 @@ pub(crate) fn walk_path<S: Shelf>(
     let mut above: Option<Place> = None;
     for index in 0..names.len() {
         here.check_way(alloc, subject, path, index)?;
-        let Some(next) = child_place(alloc, shelf, &here, &names[index])? else {
+        let Some(next) = child_place(shelf, &here, &names[index])? else {
             if index + 1 < names.len() {
                 return Err(Stop::of(Fault::NoEnt));
             }
