@@ -17,3 +17,8 @@ pub mod RowsMoved
 pub mod Depths
 pub mod Renamed
 pub mod ListsUpwards
+pub mod ListsRenewed
+pub mod Renewed
+pub mod RenewingLists
+pub mod RenewingParts
+pub mod RenewingChildren
