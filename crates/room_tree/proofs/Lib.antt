@@ -7,6 +7,8 @@ pub mod StoredLists
 pub mod Outcomes
 pub mod Replies
 pub mod RowsReplaced
+pub mod ListsRenewed
+pub mod Renewed
 pub mod Changed
 pub mod RowsAdded
 pub mod Made
