@@ -1,3 +1,4 @@
+pub mod OwnPart
 pub mod Places
 pub mod Checking
 pub mod Stops
