@@ -22,6 +22,8 @@ use Rattle.room_records.proofs.RulesKept.{same_or_other, if_same, if_other, rule
 use Rattle.room_commands.specs.Checks.{is_at_or_below}
 use Rattle.room_commands.proofs.Renaming.{at_behind}
 use Rattle.room_commands.proofs.RoomsRenamed.{not_both}
+use Rattle.room_tree.specs.declared.place.Place.{Place}
+use Rattle.room_tree.specs.Places.{IsPlace}
 use Rattle.room_tree.specs.Renewals.{list_below, IsRenewed, IsRenewal, RenewsBelow, PutsList, ChangesFewRows, puts_entries, puts_entries_of}
 use Rattle.room_tree.proofs.ListsRenewed.{lists_stay}
 use Rattle.room_tree.proofs.RowsReplaced.{path_of_node}
@@ -145,7 +147,8 @@ pub record Relists (t : ObjectRecords) (room : Room) (path : Path) (list : List 
       → (t.entries id ≡ list_below room path list (reverse rest)) ⊎ IsTrue (list_any (puts_entries_of id) (map put puts))
   pub once : (id : ℕ) → count_by (puts_entries_of id) (map put puts) ≤ 1
 
-rests_same : (path a b : Path) → path ++ a ≡ path ++ b → a ≡ b
+-- one front leaves one rest
+pub rests_same : (path a b : Path) → path ++ a ≡ path ++ b → a ≡ b
 rests_same [] a b same = same
 rests_same (name ∷ path) a b same = rests_same path a b (let tails : path ++ a ≡ path ++ b = cc in tails)
 
@@ -161,6 +164,20 @@ one_or_none false = omega arith
 abbrev pub list_then : ObjectRecords → ℕ → Option (Vec EntryModel Global) → List EntryModel
 list_then t id None = t.entries id
 list_then t id (Some list) = list.items
+
+-- whether a list is another one than the stored one, and which
+abbrev pub IsChangeOf : List EntryModel → List EntryModel → Option (Vec EntryModel Global) → Type 0
+IsChangeOf stored list new = MatchOption new (list ≡ stored) (λ changed. (changed.items ≡ list) × (list ≢ stored))
+
+pub list_then_is : (t : ObjectRecords) (id : ℕ) (stored list : List EntryModel) → t.entries id ≡ stored → (new : Option (Vec EntryModel Global)) → IsChangeOf stored list new
+    → list_then t id new ≡ list
+list_then_is t id stored list is None same = is ∙ sym same
+list_then_is t id stored list is (Some changed) changes = changes.0
+
+pub changes_list : (t : ObjectRecords) (id : ℕ) (stored list : List EntryModel) → t.entries id ≡ stored → (new : Option (Vec EntryModel Global)) → IsChangeOf stored list new
+    → MatchOption new (Unit {0}) (λ changed. changed.items ≢ t.entries id)
+changes_list t id stored list is None same = tt
+changes_list t id stored list is (Some changed) changes = (λ same. changes.1 (sym changes.0 ∙ same ∙ is))
 
 module _ (t : ObjectRecords) (room : Room) (stand : RepresentsRoom t room) (path : Path) (id : ℕ) (here : HasPath t path id) where
   only_here : (rest : Path) → HasPath t (path ++ rest) id → rest ≡ []
@@ -293,3 +310,7 @@ module _ (t : ObjectRecords) (room : Room) (stand : RepresentsRoom t room) (path
         let none = no_others puts in
         omega (arith, more, none);
   }
+
+-- the rows hold the list that was read
+pub stored_at : (t : ObjectRecords) (room : Room) (path : Path) (place : Place) → IsPlace t room path place → t.entries place.id ≡ place.list.items
+stored_at t room path place found = found.is_there.shows.entries ∙ sym found.list
