@@ -71,3 +71,9 @@ lists_alike room other same path = upwards (reverse path)
         let here = reverse (name ∷ above) in
         under_by_part (object_at room here) (list_upwards room above) ∙ ap (λ part. list_of_part part (list_upwards room above)) (same here)
         ∙ ap (list_of_part (list_part (object_at other here))) (upwards above) ∙ sym (under_by_part (object_at other here) (list_upwards other above))
+
+pub same_parts : (a b : Object) → a.own ≡ b.own → a.aclflag ≡ b.aclflag → a.kind ≡ b.kind → list_part (Some a) ≡ list_part (Some b)
+same_parts a b own aclflag kind =
+    let Part : Type 0 = List EntryModel × ℕ × Kind in
+    let part : List EntryModel → ℕ → Kind → Option Part = λ entries flag k. Some (entries, flag, k) in
+    ap (λ entries. part entries a.aclflag a.kind) own ∙ ap (λ flag. part b.own flag a.kind) aclflag ∙ ap (λ k. part b.own b.aclflag k) kind
