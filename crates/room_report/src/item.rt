@@ -5,7 +5,7 @@ ghost use Rattle.room_records.specs.Records.{IsChild};
 ghost use Rattle.room_records.specs.Shelf.{ShelfRead, fault_in, name_of};
 ghost use Rattle.room_report.specs.Walk.{OfRoom, IsItem};
 
-use room_acl::{Entry, Kind, ListFlags, Standing, with_inherited};
+use room_acl::{Entry, Kind, ListFlags, Standing};
 use room_records::{FileName, Node, Shelf, ShelfFault};
 use std::alloc::{AllocError, Global};
 
@@ -45,7 +45,7 @@ pub(crate) fn root_item<S: Shelf>(alloc: Global, shelf: &mut S) -> Result<Option
     }))
 }
 
-/// A child of a folder, with its list: its own entries, then, where it follows, what the folder's list hands down.
+/// A child of a folder, with its list.
 pub(crate) fn item_below<S: Shelf>(
     alloc: Global,
     shelf: &mut S,
@@ -57,8 +57,7 @@ pub(crate) fn item_below<S: Shelf>(
     ensures there { (S.view shelf.new).is_intact → OnOk result (S.view shelf.new).is_available }
     ensures frame { ShelfRead (S.view shelf.old) (S.view shelf.new) (fault_in result) }
 {
-    let own = shelf.entries(node.id)?;
-    let list = with_inherited(alloc, own, node.aclflag, node.kind, &above.list)?;
+    let list = shelf.entries(node.id)?;
     let names = with_name(alloc, &above.names, &node.name)?;
     let standing = Standing {
         owner: node.owner.clone()?,

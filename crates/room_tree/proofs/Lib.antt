@@ -1,7 +1,10 @@
+pub mod OwnPart
 pub mod Places
 pub mod Checking
 pub mod Stops
 pub mod Walks
+pub mod FewRows
+pub mod StoredLists
 pub mod Outcomes
 pub mod Replies
 pub mod RowsReplaced

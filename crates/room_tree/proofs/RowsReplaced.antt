@@ -5,7 +5,7 @@ use Rattle.room_records.specs.declared.node.Node.{Node}
 use Rattle.room_records.specs.Names.{Path, path_eq}
 use Rattle.room_records.specs.Records.{ObjectRecords}
 use Rattle.room_records.specs.Rules.{ObjectRules}
-use Rattle.room_records.specs.Room.{Object, Room, IsRoom, object_at}
+use Rattle.room_records.specs.Room.{Object, Room, IsRoom, object_at, list_of}
 use Rattle.room_records.specs.Representation.{RepresentsRoom, NodeIsObject, RowsShowObject, HasPath}
 use Rattle.room_records.proofs.Paths.{reads_one, one_path}
 use Rattle.room_records.proofs.RoomsMap.{some_is, same_path, path_itself}
@@ -32,7 +32,7 @@ pub record Replaces (t later : ObjectRecords) (room after : Room) (path : Path) 
   pub stands : later.node node.id ≡ Some now
   pub shows : RowsShowObject later now after path now_is
   pub nodes_away : (id : ℕ) → id ≢ node.id → later.node id ≡ t.node id
-  pub entries_away : (id : ℕ) → id ≢ node.id → later.entries id ≡ t.entries id
+  pub lists_away : (q : Path) (id : ℕ) → HasPath t q id → id ≢ node.id → later.entries id ≡ list_of after q
   pub documents_away : (id : ℕ) → id ≢ node.id → later.document id ≡ t.document id
   pub next : later.next ≡ t.next
   pub made : after.made ≡ room.made
@@ -72,7 +72,7 @@ module _ (t later : ObjectRecords) (room after : Room) (path : Path) (o now_is :
           owner = is.shows.owner;
           group = is.shows.group;
           aclflag = is.shows.aclflag;
-          entries = r.entries_away found.id apart ∙ is.shows.entries;
+          entries = ap later.entries number ∙ r.lists_away q id is.at other;
           bytes = ap (λ (d : Option (List ℕ)). unwrap_or d []) (r.documents_away found.id apart) ∙ is.shows.bytes;
         };
       }

@@ -54,8 +54,8 @@ fn list_within<S: Shelf>(
 }
 
 /// The whole list of the object of this number, from scratch: its own entries, which are those without the mark, then,
-/// where it follows, what its folder's list hands down. It reads at most 17 objects, whatever the rows are: the object and the folders above it. Where no object has
-/// the number, the list is empty.
+/// where it follows, what its folder's list hands down. It reads at most 17 objects, whatever the rows are: the object
+/// and the folders above it. Where no object has the number, the list is empty.
 pub fn list_upwards<S: Shelf>(
     alloc: Global,
     shelf: &mut S,

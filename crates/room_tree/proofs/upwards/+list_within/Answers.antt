@@ -1,6 +1,6 @@
 use Rattle.std.proofs.Common.{◌≡◌, ℕ, ◌≤◌, ◌-◌, ap, sym, ◌∙◌, subst, arith, cond, [], ◌++◌, length, Some, List}
 use Rattle.room_acl.specs.Entries.{EntryModel}
-use Rattle.room_acl.specs.Inheritance.{handed_down}
+use Rattle.room_acl.specs.Inheritance.{handed_down, own_part}
 use Rattle.room_records.specs.Records.{ObjectRecords, Records}
 use Rattle.room_records.specs.Representation.{HasPath}
 use Rattle.room_records.specs.Room.{follows}
@@ -11,7 +11,7 @@ use Rattle.room_tree.proofs.upwards.+list_within.Goals as goal
 pub returns-in_default-clause-value : goal.returns-in_default-clause-value
 returns-in_default-clause-value g m c = λ available laid_out t e room stand path at stands short.
     let node = c.args.node.now in
-    c.in_ok-own.ensures.value available laid_out ∙ ap (λ (r : ObjectRecords). r.entries node.id) e
+    c.in_ok-own.ensures ∙ ap own_part (c.as_slice.ensures.value ∙ c.in_ok-stored.ensures.value available laid_out ∙ ap (λ (r : ObjectRecords). r.entries node.id) e)
     ∙ list_ends t room stand path node.id node at stands (sym c.folder_followed.ensures ∙ c.in_default.is)
 
 pub returns-then-levels-eq0-clause-value : goal.returns-then-levels-eq0-clause-value
@@ -50,7 +50,7 @@ returns-clause-value g m c = λ available laid_out t e room stand path at stands
     let given = c.in_ok-given.ensures.value available then_declared t then_same room stand up.folder (subst At (sym number) up.at)
     (own_number t stand.rules folder above there) fits in
     c.in_ok-list.ensures
-    ∙ ap (λ (own : List EntryModel). own ++ cond (follows node.aclflag) (handed_down c.as_slice.result.now node.kind) [])
-    (c.in_ok-own.ensures.value before laid_out ∙ ap (λ (r : ObjectRecords). r.entries node.id) e)
-    ∙ ap (λ (list : List EntryModel). t.entries node.id ++ cond (follows node.aclflag) (handed_down list node.kind) []) (c.as_slice.ensures.value ∙ given)
+    ∙ ap (λ (own : List EntryModel). own ++ cond (follows node.aclflag) (handed_down c.as_slice-2.result.now node.kind) [])
+    (c.in_ok-own.ensures ∙ ap own_part (c.as_slice.ensures.value ∙ c.in_ok-stored.ensures.value before laid_out ∙ ap (λ (r : ObjectRecords). r.entries node.id) e))
+    ∙ ap (λ (list : List EntryModel). own_part (t.entries node.id) ++ cond (follows node.aclflag) (handed_down list node.kind) []) (c.as_slice-2.ensures.value ∙ given)
     ∙ up.list

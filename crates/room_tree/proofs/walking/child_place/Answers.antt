@@ -1,7 +1,4 @@
-use Rattle.std.proofs.Common.{ap, ◌∙◌, subst, None, Some, cond, ◌++◌, List, []}
-use Rattle.room_acl.specs.Entries.{EntryModel}
-use Rattle.room_acl.specs.Inheritance.{handed_down}
-use Rattle.room_records.specs.Room.{follows}
+use Rattle.std.proofs.Common.{ap, ◌∙◌, subst, None, Some}
 use Rattle.room_records.specs.Records.{ObjectRecords, Records}
 use Rattle.room_records.specs.Shelf.{IsChildNamed}
 use Rattle.room_records.proofs.Paths.{no_child}
@@ -16,14 +13,10 @@ returns-in_default-clause-value g c = λ available laid_out t e room stand path 
 
 pub returns-clause-value : goal.returns-clause-value
 returns-clause-value g c = λ available laid_out t e room stand path folder.
-    let before = c.place_under.ensures.frame.call.was_available available in
+    let before = c.entries.ensures.frame.call.was_available available in
     let declared = c.child.ensures.frame.call.laid_out before laid_out in
-    let same = c.child.ensures.frame.same before laid_out in
+    let same = ap (λ (r : Records). r.objects) (c.child.ensures.frame.same before laid_out) ∙ e in
     let Named : ObjectRecords → Type 0 = λ r. IsChildNamed r c.args.here.now.id c.args.name.now (Some c.in-Some.node) in
     let child = subst Named e (rw c.in-Some.is at (c.in_ok-node.ensures.value before laid_out)) in
-    let placed = c.in_ok-place.ensures.value available declared in
-    let node = c.in-Some.node in
-    child_is_place t room stand path c.args.name.now c.args.here.now c.in_ok-place.place node folder child placed.0
-    (placed.1
-    ∙ ap (λ (r : ObjectRecords). r.entries node.id ++ cond (follows node.aclflag) (handed_down c.deref.result.now node.kind) []) (ap (λ (r : Records). r.objects) same ∙ e)
-    ∙ ap (λ (list : List EntryModel). t.entries node.id ++ cond (follows node.aclflag) (handed_down list node.kind) []) c.deref.ensures.value)
+    child_is_place t room stand path c.args.name.now c.args.here.now c.of.result c.in-Some.node folder child c.of.ensures.node
+    (c.of.ensures.list ∙ c.in_ok-list.ensures.value available declared ∙ ap (λ (r : ObjectRecords). r.entries c.in-Some.node.id) same)

@@ -11,4 +11,4 @@ returns-clause-value g c = λ available laid_out t e room stand.
     root_is_place t room stand c.in-Some.root c.of.result
     (sym (rw c.in-Some.is at (c.in_ok-root.ensures.value before laid_out) ∙ ap (λ (r : ObjectRecords). r.node 1) e))
     c.of.ensures.node
-    (c.of.ensures.list ∙ c.in_ok-own.ensures.value available declared ∙ ap (λ (r : Records). r.objects.entries 1) same ∙ ap (λ (r : ObjectRecords). r.entries 1) e)
+    (c.of.ensures.list ∙ c.in_ok-list.ensures.value available declared ∙ ap (λ (r : Records). r.objects.entries 1) same ∙ ap (λ (r : ObjectRecords). r.entries 1) e)
