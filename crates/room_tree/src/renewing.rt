@@ -1,19 +1,19 @@
 //! Lists that change, and those below them.
-ghost use Rattle.std.specs.Prelude.{◌≡◌, ◌≢◌, ◌+◌, ◌≤◌, ◌⊎◌, length, true, false, Some, IfOk, OnOk, MatchOption};
+ghost use Rattle.std.specs.Prelude.{◌≡◌, ◌≢◌, ◌+◌, ◌≤◌, [], ◌∷◌, ◌++◌, length, true, Some, IfOk, OnOk, MatchOption};
 ghost use Rattle.room_acl.specs.Bits.{follows};
-ghost use Rattle.room_acl.specs.Inheritance.{own_part, with_inherited};
+ghost use Rattle.room_acl.specs.Inheritance.{with_inherited};
 ghost use Rattle.room_records.specs.declared.node.Node.{Node as NodeRow};
 ghost use Rattle.room_records.specs.Limits.{max_names};
 ghost use Rattle.room_records.specs.Names.{Path as PathModel};
 ghost use Rattle.room_records.specs.Representation.{HasPath, RepresentsRoom};
-ghost use Rattle.room_records.specs.Room.{Room};
+ghost use Rattle.room_records.specs.Room.{Room, list_under, object_at};
 ghost use Rattle.room_records.specs.Shelf.{ShelfRead, fault_in};
 ghost use Rattle.room_tree.specs.Places.{OfRoom};
 ghost use Rattle.room_tree.specs.Renewals.{AddsRenewals, PutsList, entries_of};
 
 use room_acl::{Entry, Kind, ListFlags, own_part, same_entries, with_inherited};
 use room_records::{Change, MAX_NAMES, Node, Shelf, ShelfFault};
-use std::alloc::Global;
+use std::alloc::{AllocError, Global};
 
 /// A list that changes; None where it is the stored one.
 pub(crate) fn if_changed(stored: &[Entry], list: Vec<Entry>) -> Option<Vec<Entry>>
@@ -69,12 +69,10 @@ fn renewed_list<S: Shelf>(
     node: &Node,
     above: &[Entry],
 ) -> Result<Option<Vec<Entry>>, ShelfFault>
-    ensures value { OfRoom (S.view shelf.old) (S.view shelf.new) (λ t room. IfOk result (λ changed.
-        MatchOption changed
-        ((follows node.now.aclflag ≡ false) ⊎ (t.entries node.now.id
-        ≡ with_inherited (own_part (t.entries node.now.id)) node.now.aclflag node.now.kind above.now))
-        (λ list. (list.items ≡ with_inherited (own_part (t.entries node.now.id)) node.now.aclflag node.now.kind above.now)
-        × (list.items ≢ t.entries node.now.id)))) }
+    ensures value { OfRoom (S.view shelf.old) (S.view shelf.new) (λ t room. (path : PathModel) →
+        HasPath t path node.now.id → t.node node.now.id ≡ Some node.now → IfOk result (λ changed. MatchOption changed
+        (t.entries node.now.id ≡ list_under (object_at room path) above.now)
+        (λ list. (list.items ≡ list_under (object_at room path) above.now) × (list.items ≢ t.entries node.now.id)))) }
     ensures frame { ShelfRead (S.view shelf.old) (S.view shelf.new) (fault_in result) }
 {
     if !node.aclflag.follows() {
@@ -84,6 +82,14 @@ fn renewed_list<S: Shelf>(
     let own = own_part(alloc, stored.as_slice())?;
     let list = with_inherited(alloc, own, node.aclflag, node.kind, above)?;
     Ok(if_changed(stored.as_slice(), list))
+}
+
+/// Adds a change behind the others.
+fn add_change(changes: &mut Vec<Change>, change: Change) -> Result<(), AllocError>
+    ensures { OnOk result (changes.new.items ≡ changes.old.items ++ change ∷ []) }
+{
+    changes.push(change)?;
+    Ok(())
 }
 
 /// Adds the entries of each object below the folder of this number, at most so many levels down, whose list changes
@@ -105,12 +111,13 @@ fn renew_within<S: Shelf>(
     }
     let nodes = shelf.children(id)?;
     for node in &nodes {
-        if let Some(renewed) = renewed_list(alloc, shelf, node, list)? {
-            if let Kind::Folder = node.kind {
-                renew_within(alloc, shelf, node.id, renewed.as_slice(), levels - 1, out)?;
-            }
-            out.push(Change::PutEntries(node.id, renewed))?;
+        let Some(renewed) = renewed_list(alloc, shelf, node, list)? else {
+            continue;
+        };
+        if let Kind::Folder = node.kind {
+            renew_within(alloc, shelf, node.id, renewed.as_slice(), levels - 1, out)?;
         }
+        add_change(out, Change::PutEntries(node.id, renewed))?;
     }
     Ok(())
 }
@@ -148,12 +155,12 @@ pub(crate) fn with_list<S: Shelf>(
     let id = node.id;
     let kind = node.kind;
     let mut changes = Vec::new(alloc);
-    changes.push(Change::PutNode(node))?;
+    add_change(&mut changes, Change::PutNode(node))?;
     if let Some(list) = list {
         if let Kind::Folder = kind {
             renew(alloc, shelf, id, list.as_slice(), &mut changes)?;
         }
-        changes.push(Change::PutEntries(id, list))?;
+        add_change(&mut changes, Change::PutEntries(id, list))?;
     }
     Ok(changes)
 }
