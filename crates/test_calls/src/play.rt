@@ -15,7 +15,7 @@ pub struct Play<S: Shelf> {
     ann: Subject,
 }
 
-impl<S: Shelf> Play<S> {
+impl<S: Shelf + Drop> Play<S> {
     /// The room on this shelf, of `ann`.
     pub fn new(alloc: Global, shelf: S) -> Result<Play<S>, Fail> {
         let ann = Subject {

@@ -17,7 +17,7 @@ fn for_bob(alloc: Global) -> Result<Vec<Entry>, Fail> {
 }
 
 /// Five folders, of which `/a/b` is protected and the others follow.
-fn five_folders<S: Shelf>(play: &mut Play<S>) -> Result<(), Fail> {
+fn five_folders<S: Shelf + Drop>(play: &mut Play<S>) -> Result<(), Fail> {
     play.make_all(&["/a", "/a/b", "/a/b/c", "/a/d", "/e"])?;
     play.expect_lists(&[("/", 2), ("/a", 2), ("/a/b/c", 2), ("/e", 2)])?;
     play.set_list("/a/b", 3, handed_down(ALL, Who::Owner)?)?;
@@ -25,7 +25,7 @@ fn five_folders<S: Shelf>(play: &mut Play<S>) -> Result<(), Fail> {
 }
 
 /// A new list of a folder goes to it and to the one below that follows; sent once more, it goes nowhere.
-fn set_twice<S: Shelf>(play: &mut Play<S>) -> Result<(), Fail> {
+fn set_twice<S: Shelf + Drop>(play: &mut Play<S>) -> Result<(), Fail> {
     let command = play.setting("/a", 1, for_bob(play.alloc)?)?;
     play.expect_puts(&command, &["/a", "/a/d"])?;
     play.expect_lists(&[
@@ -40,7 +40,7 @@ fn set_twice<S: Shelf>(play: &mut Play<S>) -> Result<(), Fail> {
 }
 
 /// What moves to another folder gets one new list, and nothing below whose list stays does.
-fn move_away<S: Shelf>(play: &mut Play<S>) -> Result<(), Fail> {
+fn move_away<S: Shelf + Drop>(play: &mut Play<S>) -> Result<(), Fail> {
     let path = play.at("/a/d")?;
     let to = play.at("/e/d")?;
     play.expect_puts(&Command::Rename { path, to }, &["/e/d"])?;
@@ -52,7 +52,7 @@ fn move_away<S: Shelf>(play: &mut Play<S>) -> Result<(), Fail> {
 }
 
 /// The same of a file; under another name in its folder it keeps its list.
-fn move_a_file<S: Shelf>(play: &mut Play<S>) -> Result<(), Fail> {
+fn move_a_file<S: Shelf + Drop>(play: &mut Play<S>) -> Result<(), Fail> {
     play.create("/a/f")?;
     let path = play.at("/a/f")?;
     let to = play.at("/a/g")?;
@@ -64,7 +64,7 @@ fn move_a_file<S: Shelf>(play: &mut Play<S>) -> Result<(), Fail> {
 }
 
 /// What is made gets its list; other owners, other bytes and removals put none.
-fn make_and_remove<S: Shelf>(play: &mut Play<S>) -> Result<(), Fail> {
+fn make_and_remove<S: Shelf + Drop>(play: &mut Play<S>) -> Result<(), Fail> {
     let path = play.at("/a/h")?;
     play.expect_puts(&Command::Mkdir { path }, &["/a/h"])?;
     play.expect_lists(&[("/a/h", 3)])?;
@@ -84,14 +84,14 @@ fn make_and_remove<S: Shelf>(play: &mut Play<S>) -> Result<(), Fail> {
 }
 
 /// A protected folder that follows again gets a list, and what is below it.
-fn follow_again<S: Shelf>(play: &mut Play<S>) -> Result<(), Fail> {
+fn follow_again<S: Shelf + Drop>(play: &mut Play<S>) -> Result<(), Fail> {
     let entries = vec![in play.alloc; handed_down(ALL, Who::Owner)?]?;
     let command = play.setting("/b", 1, entries)?;
     play.expect_puts(&command, &["/b", "/b/c"])?;
     play.expect_lists(&[("/b", 3), ("/b/c", 3)])
 }
 
-fn lists_follow_their_folder<S: Shelf>(alloc: Global, shelf: S) -> Result<(), Fail> {
+fn lists_follow_their_folder<S: Shelf + Drop>(alloc: Global, shelf: S) -> Result<(), Fail> {
     let mut play = Play::new(alloc, shelf)?;
     five_folders(&mut play)?;
     set_twice(&mut play)?;
@@ -125,7 +125,7 @@ fn is_for_everyone(list: &[Entry]) -> bool {
 }
 
 /// A new list of the root goes to it and to each folder of a chain.
-fn from_the_root_down<S: Shelf>(alloc: Global, shelf: S) -> Result<(), Fail> {
+fn from_the_root_down<S: Shelf + Drop>(alloc: Global, shelf: S) -> Result<(), Fail> {
     let mut play = Play::new(alloc, shelf)?;
     play.make_all(&["/a", "/a/b", "/a/b/c"])?;
     let entries = vec![in alloc; handed_down(ALL, Who::Everyone)?]?;
@@ -175,7 +175,7 @@ fn path_down(alloc: Global, names: usize) -> Result<String, Fail> {
 }
 
 /// An object of so many names is made where it is not the root, and gets as many own entries as there may be.
-fn add_level<S: Shelf>(play: &mut Play<S>, names: usize) -> Result<(), Fail> {
+fn add_level<S: Shelf + Drop>(play: &mut Play<S>, names: usize) -> Result<(), Fail> {
     let path = path_down(play.alloc, names)?;
     if names > 0 {
         play.make_all(&[path.as_str()])?;
@@ -186,7 +186,7 @@ fn add_level<S: Shelf>(play: &mut Play<S>, names: usize) -> Result<(), Fail> {
 }
 
 /// The lists of a chain of 16 names are as long as inheritance can make them, and a new list of the root reaches each.
-fn longest_lists<S: Shelf>(alloc: Global, shelf: S) -> Result<(), Fail> {
+fn longest_lists<S: Shelf + Drop>(alloc: Global, shelf: S) -> Result<(), Fail> {
     let mut play = Play::new(alloc, shelf)?;
     for names in 0..LEVELS {
         add_level(&mut play, names)?;
@@ -212,7 +212,7 @@ fn longest_lists_in_tables(rt: HostRuntime) -> Result<(), Fail> {
 const FILES: usize = 150;
 
 /// A folder, and files in it.
-fn fill<S: Shelf>(play: &mut Play<S>, folder: &str) -> Result<(), Fail> {
+fn fill<S: Shelf + Drop>(play: &mut Play<S>, folder: &str) -> Result<(), Fail> {
     play.make_all(&[folder])?;
     for number in 0..FILES {
         let path = format!(in play.alloc; "{folder}/f{number}")?;
@@ -230,7 +230,7 @@ fn is_for_the_owner(list: &[Entry]) -> bool {
 }
 
 /// A new list of the root reaches some hundred followers in one commit, and no object of a protected folder.
-fn many_followers<S: Shelf>(alloc: Global, shelf: S) -> Result<(), Fail> {
+fn many_followers<S: Shelf + Drop>(alloc: Global, shelf: S) -> Result<(), Fail> {
     let mut play = Play::new(alloc, shelf)?;
     for folder in ["/a", "/b", "/shut"] {
         fill(&mut play, folder)?;
