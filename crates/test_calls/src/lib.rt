@@ -1,5 +1,5 @@
-//! Public calls of the lower crates: each once, their limits, growths that are refused, plans of RENAME, and which lists
-//! a command puts.
+//! Public calls of the lower crates: each once, their limits, growths that are refused, plans of RENAME, and which
+//! lists a command puts.
 #![tactic(auto)]
 
 #[cfg(test)]

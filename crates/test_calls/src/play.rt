@@ -101,12 +101,7 @@ impl<S: Shelf + Drop> Play<S> {
     }
 
     /// SETLIST of these entries at a path.
-    pub fn setting(
-        &self,
-        path: &str,
-        aclflag: u8,
-        entries: Vec<Entry>,
-    ) -> Result<Command, Fail> {
+    pub fn setting(&self, path: &str, aclflag: u8, entries: Vec<Entry>) -> Result<Command, Fail> {
         Ok(Command::SetList {
             aclflag: ListFlags::new(aclflag).ok_or("list flags were refused")?,
             entries,
@@ -152,7 +147,10 @@ impl<S: Shelf + Drop> Play<S> {
         for (path, count) in lists {
             let stored = self.stored_list(path)?;
             let (_, by_command) = self.list_by_command(path)?;
-            must(are_same_entries(stored.as_slice(), by_command.as_slice()), path)?;
+            must(
+                are_same_entries(stored.as_slice(), by_command.as_slice()),
+                path,
+            )?;
             must(stored.len() == *count, path)?;
         }
         self.expect_whole()
@@ -165,14 +163,17 @@ impl<S: Shelf + Drop> Play<S> {
         Ok(numbers_put(self.alloc, changes.as_slice())?.len())
     }
 
-    /// A command is done. It puts the entries of each of these objects once, by their paths afterwards, and of no other,
-    /// and at most three other rows; and all lists are whole.
+    /// A command is done. It puts the entries of each of these objects once, by their paths afterwards, and of no
+    /// other, and at most three other rows; and all lists are whole.
     pub fn expect_puts(&mut self, command: &Command, paths: &[&str]) -> Result<(), Fail> {
         let (changes, reply) = self.planned(command)?;
         must(!is_refused(&reply), "the reply")?;
         let put = numbers_put(self.alloc, changes.as_slice())?;
         must(put.len() == paths.len(), "the number of lists")?;
-        must(changes.len() <= put.len().saturating_add(3), "the number of rows")?;
+        must(
+            changes.len() <= put.len().saturating_add(3),
+            "the number of rows",
+        )?;
         for path in paths {
             let id = self.number_at(path)?.ok_or("no node")?;
             must(put.contains(&id), path)?;
