@@ -1,5 +1,5 @@
-//! What several crates of tests share: names and rosters from texts, rooms, whether lists are whole, rows of databases as
-//! text, files in memory, and readers and writers that are slow, narrow or fail.
+//! What several crates of tests share: names and rosters from texts, rooms, whether lists are whole, rows of databases
+//! as text, files in memory, and readers and writers that are slow, narrow or fail.
 #![tactic(auto)]
 
 mod files;
