@@ -182,7 +182,10 @@ fn add_level<S: Shelf + Drop>(play: &mut Play<S>, names: usize) -> Result<(), Fa
     }
     let aclflag = if names > 0 { 1 } else { 0 };
     let command = play.setting(path.as_str(), aclflag, most_entries(play.alloc, names)?)?;
-    play.expect_puts(&command, &[path.as_str()])
+    must(play.count_puts(&command)? == 1, path.as_str())?;
+    let stored = play.stored_list(path.as_str())?.len();
+    let wanted = names.saturating_add(1).saturating_mul(OWN);
+    must(stored == wanted, path.as_str())
 }
 
 /// The lists of a chain of 16 names are as long as inheritance can make them, and a new list of the root reaches each.
@@ -190,11 +193,11 @@ fn longest_lists<S: Shelf + Drop>(alloc: Global, shelf: S) -> Result<(), Fail> {
     let mut play = Play::new(alloc, shelf)?;
     for names in 0..LEVELS {
         add_level(&mut play, names)?;
-        let path = path_down(alloc, names)?;
-        play.expect_lists(&[(path.as_str(), (names + 1) * OWN)])?;
     }
-    play.set_list("/", 0, handed_down(ALL, Who::Everyone)?)?;
     let lowest = path_down(alloc, LEVELS - 1)?;
+    play.expect_lists(&[(lowest.as_str(), LEVELS * OWN)])?;
+    let command = play.setting("/", 0, vec![in alloc; handed_down(ALL, Who::Everyone)?]?)?;
+    must(play.count_puts(&command)? == LEVELS, "/")?;
     play.expect_lists(&[(lowest.as_str(), (LEVELS - 1) * OWN + 1), ("/", 1)])
 }
 
