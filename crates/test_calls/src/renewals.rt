@@ -212,7 +212,7 @@ fn longest_lists_in_tables(rt: HostRuntime) -> Result<(), Fail> {
 }
 
 /// How many files a folder of the next test has.
-const FILES: usize = 150;
+const FILES: usize = 100;
 
 /// A folder, and files in it.
 fn fill<S: Shelf + Drop>(play: &mut Play<S>, folder: &str) -> Result<(), Fail> {
@@ -241,7 +241,7 @@ fn many_followers<S: Shelf + Drop>(alloc: Global, shelf: S) -> Result<(), Fail> 
     play.set_list("/shut", 2, handed_down(ALL, Who::Owner)?)?;
     let command = play.setting("/", 0, vec![in alloc; handed_down(ALL, Who::Everyone)?]?)?;
     must(play.count_puts(&command)? == 2 * FILES + 3, "/")?;
-    play.expect_lists(&[("/a/f0", 1), ("/b/f149", 1), ("/shut/f0", 1)])?;
+    play.expect_lists(&[("/a/f0", 1), ("/b/f99", 1), ("/shut/f0", 1)])?;
     let (_, list) = play.list_by_command("/shut/f0")?;
     must(is_for_the_owner(list.as_slice()), "/shut/f0")?;
     must(play.count_puts(&command)? == 0, "/")
