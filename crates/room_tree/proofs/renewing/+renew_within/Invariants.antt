@@ -1,5 +1,4 @@
 use Rattle.std.proofs.Common.{◌≡◌, ◌+◌, ◌≤◌, length, take, None, Some}
-use Rattle.room_acl.specs.declared.subject.Kind.TheVariants.{File}
 use Rattle.room_records.specs.declared.node.Node.{Node}
 use Rattle.room_records.specs.Limits.{max_names}
 use Rattle.room_records.specs.Names.{Path}
@@ -18,5 +17,5 @@ invariant-loop-node g l = let s = g.S.Shelf in record {
   frame : ShelfRead (s.view l.fn.shelf) (s.view l.shelf) None;
   children : OfRoom (s.view l.fn.shelf) (s.view l.shelf) (λ t room. AreChildren t l.fn.id l.node-items);
   renews : OfRoom (s.view l.fn.shelf) (s.view l.shelf) (λ t room. (path : Path) → HasPath t path l.fn.id
-      → RenewsSoFar t room path l.fn.list (take l.node-index l.node-items) l.fn.out.items l.out.items);
+      → max_names ≤ length path + l.fn.levels → RenewsSoFar t room path l.fn.list (take l.node-index l.node-items) l.fn.out.items l.out.items);
 }
