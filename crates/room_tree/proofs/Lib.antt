@@ -8,12 +8,16 @@ pub mod StoredLists
 pub mod Outcomes
 pub mod Replies
 pub mod RowsReplaced
+pub mod ListsRenewed
+pub mod Renewed
 pub mod Changed
+pub mod Relisted
 pub mod RowsAdded
 pub mod Made
 pub mod RowsRemoved
 pub mod Marks
 pub mod RowsMoved
+pub mod ListsMoved
 pub mod Depths
 pub mod Renamed
 pub mod ListsUpwards
