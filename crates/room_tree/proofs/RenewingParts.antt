@@ -36,15 +36,15 @@ count_append p xs ys = sum_by-append (λ x. cond (p x) 1 0) xs ys
 
 none_counted : {X : Type 0} (p : X → Bool) (xs : List X) → list_any p xs ≡ false → count_by p xs ≡ 0
 none_counted p [] none = refl
-none_counted p (x ∷ xs) none = by_test (p x) refl none
+none_counted p (x ∷ xs) none = by_test (p x) refl none (none_counted p xs)
   where
-    by_test : (b : Bool) → p x ≡ b → (b || list_any p xs) ≡ false → count_by p (x ∷ xs) ≡ 0
-    by_test true is h = absurd (let f : true ≡ false = h in cc)
-    by_test false is h =
+    by_test : (b : Bool) → p x ≡ b → (b || list_any p xs) ≡ false → (list_any p xs ≡ false → count_by p xs ≡ 0) → count_by p (x ∷ xs) ≡ 0
+    by_test true is h rest = absurd (let f : true ≡ false = h in cc)
+    by_test false is h rest =
         let more = sum_by-cons (λ y. cond (p y) 1 0) x xs in
         let first : cond (p x) 1 0 ≡ 0 = ap (λ b. cond b 1 0) is in
-        let rest : count_by p xs ≡ 0 = none_counted p xs h in
-        omega (arith, more, first, rest)
+        let others : count_by p xs ≡ 0 = rest h in
+        omega (arith, more, first, others)
 
 one_counted : (b : Bool) → cond b 1 0 ≤ 1
 one_counted true = omega arith
@@ -54,11 +54,13 @@ one_counted false = omega arith
 pub put_is_renewed : (t : ObjectRecords) (room : Room) (path : Path) (list : List EntryModel) (changes : List Change) (id : ℕ)
     → AllByRecursion (IsRenewal t room path list) changes → list_any (puts_entries_of id) changes ≡ true → (entries : List EntryModel) × IsRenewed t room path list id entries
 put_is_renewed t room path list [] id each found = absurd (let f : false ≡ true = found in cc)
-put_is_renewed t room path list (PutEntries at entries ∷ changes) id each found = by_test (eqb id at) refl found
+put_is_renewed t room path list (PutEntries at entries ∷ changes) id each found =
+    by_test (eqb id at) refl found (put_is_renewed t room path list changes id each.1)
   where
-    by_test : (b : Bool) → eqb id at ≡ b → (b || list_any (puts_entries_of id) changes) ≡ true → (list_put : List EntryModel) × IsRenewed t room path list id list_put
-    by_test true same h = let Is : ℕ → Type 0 = λ k. IsRenewed t room path list k entries.items in (entries.items, subst Is (sym (eqb-true id at same)) each.0)
-    by_test false other h = put_is_renewed t room path list changes id each.1 h
+    by_test : (b : Bool) → eqb id at ≡ b → (b || list_any (puts_entries_of id) changes) ≡ true → (list_any (puts_entries_of id) changes ≡ true → (list_put : List EntryModel) × IsRenewed t room path list id list_put)
+        → (list_put : List EntryModel) × IsRenewed t room path list id list_put
+    by_test true same h later = let Is : ℕ → Type 0 = λ k. IsRenewed t room path list k entries.items in (entries.items, subst Is (sym (eqb-true id at same)) each.0)
+    by_test false other h later = later h
 put_is_renewed t room path list (PutNode node ∷ changes) id each found = absurd each.0
 put_is_renewed t room path list (DropNode gone ∷ changes) id each found = absurd each.0
 put_is_renewed t room path list (PutDoc at bytes ∷ changes) id each found = absurd each.0
@@ -91,9 +93,6 @@ renews_both t room path list a b c xs ys rules split left right apart first seco
   where
     any_of : (id : ℕ) → list_any (puts_entries_of id) (xs ++ ys) ≡ (list_any (puts_entries_of id) xs || list_any (puts_entries_of id) ys)
     any_of id = list_any-append (puts_entries_of id) xs ys
-
-    Stays : Path → ℕ → Type 0
-    Stays rest id = t.entries id ≡ list_below room path list (reverse rest)
 
     in_first : (rest : Path) (id : ℕ) → a rest → HasPath t (path ++ rest) id → (t.entries id ≡ list_below room path list (reverse rest)) ⊎ IsTrue (list_any (puts_entries_of id) (xs ++ ys))
     in_first rest id here at = elim (first.every rest id here at) [

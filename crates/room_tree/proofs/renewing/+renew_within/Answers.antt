@@ -59,8 +59,8 @@ returns-clause-value g m c = λ available laid_out t e room stand path at file d
     (c.loop-node.invariant.children available laid_out t e room stand) c.loop-node-test.false
     (c.loop-node.invariant.renews available laid_out t e room stand path at deep)
 
-pub loop-node-preserved-in_default : goal.loop-node-preserved-in_default
-loop-node-preserved-in_default g m c =
+pub loop-node-preserved-in_default-2 : goal.loop-node-preserved-in_default-2
+loop-node-preserved-in_default-2 g m c =
     let items = c.deref-node-items.result.now in
     let i = c.loop-node.node-index in
     let child = c.node-item.result in
@@ -80,7 +80,7 @@ loop-node-preserved-in_default g m c =
           one_more_so_far t room stand path c.args.list.now c.args.out.now.items c.args.id items i child c.loop-node.out.items c.loop-node.out.items [] are
           c.loop-node-test.true c.node-item.is
           (c.loop-node.invariant.renews before laid_out t e room stand path at deep)
-          (child_stays t room stand path c.args.list.now (name_of child) child.id here (rw c.in_default.is at told))
+          (child_stays t room stand path c.args.list.now (name_of child) child.id here (rw c.in_default-2.is at told))
           (sym (append-nil c.loop-node.out.items));
     }
 
