@@ -119,7 +119,15 @@ fn renew_within<S: Shelf>(
         let Some(renewed) = renewed_list(alloc, shelf, node, list)? else {
             continue;
         };
-        renew_within(alloc, shelf, node.id, node.kind, renewed.as_slice(), levels - 1, out)?;
+        renew_within(
+            alloc,
+            shelf,
+            node.id,
+            node.kind,
+            renewed.as_slice(),
+            levels - 1,
+            out,
+        )?;
         add_change(out, Change::PutEntries(node.id, renewed))?;
     }
     Ok(())

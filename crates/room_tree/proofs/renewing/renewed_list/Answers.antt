@@ -31,10 +31,10 @@ unfollowed room path o there off above = elim (root_or_below path) [
   | inl root ↦ ap (list_of room) root ∙ list_of_root room o (ap (object_at room) (sym root) ∙ there) ∙ sym plain
   | inr end ↦
       ap (list_of room) end.is
-          ∙ list_of_child room end.folder end.name o (ap (object_at room) (sym end.is) ∙ there)
-          ∙ ap (λ b. o.own ++ cond b (handed_down (list_of room end.folder) o.kind) []) off
-          ∙ append-nil o.own
-          ∙ sym plain
+      ∙ list_of_child room end.folder end.name o (ap (object_at room) (sym end.is) ∙ there)
+      ∙ ap (λ b. o.own ++ cond b (handed_down (list_of room end.folder) o.kind) []) off
+      ∙ append-nil o.own
+      ∙ sym plain
 ]
   where
     plain : list_under (object_at room path) above ≡ o.own

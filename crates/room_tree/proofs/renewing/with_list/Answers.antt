@@ -22,5 +22,5 @@ returns-clause-value g c = λ available laid_out t e room stand path stored at s
       below.added,
       subst Below c.as_slice.ensures.value below.renews,
       c.in_ok-add_change-2.ensures ∙ ap (λ (l : List Change). l ++ put) (below.goes_on ∙ ap (λ (l : List Change). l ++ below.added)
-      (c.in_ok-add_change.ensures ∙ ap (λ (l : List Change). l ++ PutNode c.args.node ∷ []) c.new-changes.ensures)),
+          (c.in_ok-add_change.ensures ∙ ap (λ (l : List Change). l ++ PutNode c.args.node ∷ []) c.new-changes.ensures)),
     )
