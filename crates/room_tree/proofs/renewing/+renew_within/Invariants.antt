@@ -1,5 +1,4 @@
-use Rattle.std.proofs.Common.{◌≡◌, ◌+◌, ◌≤◌, length, take, None, Some}
-use Rattle.room_records.specs.declared.node.Node.{Node}
+use Rattle.std.proofs.Common.{◌+◌, ◌≤◌, length, take, None}
 use Rattle.room_records.specs.Limits.{max_names}
 use Rattle.room_records.specs.Names.{Path}
 use Rattle.room_records.specs.Representation.{HasPath}

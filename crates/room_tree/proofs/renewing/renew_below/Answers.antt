@@ -1,4 +1,4 @@
-use Rattle.std.proofs.Common.{◌≡◌, ap, sym, ◌∙◌, subst, [], append-nil}
+use Rattle.std.proofs.Common.{ap, sym, ◌∙◌, subst, [], append-nil}
 use Rattle.std.specs.Prelude.{OnOk}
 use Rattle.room_records.specs.declared.node.Node.{Node}
 use Rattle.room_records.specs.Records.{ObjectRecords}

@@ -1,4 +1,4 @@
-use Rattle.std.proofs.Common.{◌≡◌, ◌≢◌, ap, sym, ◌∙◌, cond, ◌⊎◌, inl, inr, List, [], ◌∷◌, ◌++◌, append-nil, Option, None, Some, MatchOption, false}
+use Rattle.std.proofs.Common.{◌≡◌, ◌≢◌, ap, sym, ◌∙◌, cond, inl, inr, List, [], ◌++◌, append-nil, Option, None, Some, MatchOption, false}
 use Rattle.std.specs.Prelude.{Vec}
 use Rattle.std.specs.declared.alloc.Global.{Global}
 use Rattle.room_acl.specs.Entries.{EntryModel}
