@@ -34,6 +34,9 @@ left_of_or false e = e
 count_append : {X : Type 0} (p : X → Bool) (xs ys : List X) → count_by p (xs ++ ys) ≡ count_by p xs + count_by p ys
 count_append p xs ys = sum_by-append (λ x. cond (p x) 1 0) xs ys
 
+abbrev one_if : Bool → ℕ
+one_if b = cond b 1 0
+
 none_counted : {X : Type 0} (p : X → Bool) (xs : List X) → list_any p xs ≡ false → count_by p xs ≡ 0
 none_counted p [] none = refl
 none_counted p (x ∷ xs) none = by_test (p x) refl none (none_counted p xs)
@@ -42,11 +45,11 @@ none_counted p (x ∷ xs) none = by_test (p x) refl none (none_counted p xs)
     by_test true is h rest = absurd (let f : true ≡ false = h in cc)
     by_test false is h rest =
         let more = sum_by-cons (λ y. cond (p y) 1 0) x xs in
-        let first : cond (p x) 1 0 ≡ 0 = ap (λ b. cond b 1 0) is in
+        let first : one_if (p x) ≡ 0 = ap one_if is in
         let others : count_by p xs ≡ 0 = rest h in
         omega (arith, more, first, others)
 
-one_counted : (b : Bool) → cond b 1 0 ≤ 1
+one_counted : (b : Bool) → one_if b ≤ 1
 one_counted true = omega arith
 one_counted false = omega arith
 
@@ -203,7 +206,7 @@ module _ (t : ObjectRecords) (room : Room) (path : Path) (list : List EntryModel
           inr (ap (λ b. b || false) (eq-eqb k id same));
       once = λ k.
           let more = sum_by-cons (λ (change : Change). cond (puts_entries_of k change) 1 0) (PutEntries id entries) [] in
-          let one : cond (eqb k id) 1 0 ≤ 1 = one_counted (eqb k id) in
+          let one : one_if (eqb k id) ≤ 1 = one_counted (eqb k id) in
           omega (arith, more, one);
     }
 

@@ -10,7 +10,7 @@ use Rattle.room_tree.proofs.renewing.with_list.Goals as goal
 pub returns-in_default-clause-value : goal.returns-in_default-clause-value
 returns-in_default-clause-value g c = λ available laid_out t e room stand path stored at stands kind.
     let Puts : Option (Vec EntryModel Global) → Type 0 = λ list. PutsList t room path c.args.node list c.add_change.new.changes.items in
-    subst Puts (sym c.in_default.is) (c.in_ok-add_change.ensures ∙ ap (λ (l : List Change). l ++ PutNode c.args.node ∷ []) c.new-changes.ensures)
+    subst Puts (sym c.in_default.is) (c.in_ok-add_change.ensures ∙ ap (λ (l : List Change). l ++ PutNode c.args.node ∷ []) c.new-changes.ensures.items)
 
 pub returns-clause-value : goal.returns-clause-value
 returns-clause-value g c = λ available laid_out t e room stand path stored at stands kind.
@@ -22,5 +22,5 @@ returns-clause-value g c = λ available laid_out t e room stand path stored at s
       below.added,
       subst Below c.as_slice.ensures.value below.renews,
       c.in_ok-add_change-2.ensures ∙ ap (λ (l : List Change). l ++ put) (below.goes_on ∙ ap (λ (l : List Change). l ++ below.added)
-          (c.in_ok-add_change.ensures ∙ ap (λ (l : List Change). l ++ PutNode c.args.node ∷ []) c.new-changes.ensures)),
+          (c.in_ok-add_change.ensures ∙ ap (λ (l : List Change). l ++ PutNode c.args.node ∷ []) c.new-changes.ensures.items)),
     )
