@@ -72,7 +72,8 @@ replaced_plans t room caller command outcome changes path o now_is node now stan
 
 module _ (t : ObjectRecords) (room : Room) (stand : RepresentsRoom t room) (path : Path) (place : Place) (found : IsPlace t room path place) (change : Object → Object)
     (lawful : IsRoom (with_object room path change)) where
-  parts_stay : (change found.object).own ≡ found.object.own → (change found.object).aclflag ≡ found.object.aclflag → (change found.object).kind ≡ found.object.kind
+  parts_stay : (change found.object).own ≡ found.object.own → (change found.object).aclflag ≡ found.object.aclflag
+      → (change found.object).kind ≡ found.object.kind
       → (p : Path) → list_part (object_at (with_object room path change) p) ≡ list_part (object_at room p)
   parts_stay own aclflag kind p = elim (path_same_or_other p path) [
     | inl same ↦
@@ -85,7 +86,8 @@ module _ (t : ObjectRecords) (room : Room) (stand : RepresentsRoom t room) (path
   ]
 
   -- where own entries, list flags and kind stay, all lists stay
-  lists_stay : (change found.object).own ≡ found.object.own → (change found.object).aclflag ≡ found.object.aclflag → (change found.object).kind ≡ found.object.kind
+  lists_stay : (change found.object).own ≡ found.object.own → (change found.object).aclflag ≡ found.object.aclflag
+      → (change found.object).kind ≡ found.object.kind
       → (q : Path) → list_of room q ≡ list_of (with_object room path change) q
   lists_stay own aclflag kind q = sym (lists_alike (with_object room path change) room (parts_stay own aclflag kind) q)
 
@@ -95,7 +97,8 @@ module _ (t : ObjectRecords) (room : Room) (stand : RepresentsRoom t room) (path
   document_replaces file bytes becomes =
       let later = apply_to_objects (PutDoc place.id bytes) t in
       let shows = found.is_there.shows in
-      let stays = lists_stay (ap (λ (o : Object). o.own) becomes) (ap (λ (o : Object). o.aclflag) becomes) (ap (λ (o : Object). o.kind) becomes) in
+      let flags = ap (λ (o : Object). o.aclflag) becomes in
+      let stays = lists_stay (ap (λ (o : Object). o.own) becomes) flags (ap (λ (o : Object). o.kind) becomes) in
       record {
         is_there = found.is_there;
         shape = shape_itself t later refl;

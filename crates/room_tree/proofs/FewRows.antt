@@ -18,13 +18,15 @@ few_none t = record { once = λ id. omega arith; needed = λ id puts there. absu
 
 -- one change that puts no entries
 pub few_document : (t : ObjectRecords) (at : ℕ) (bytes : Vec ℕ Global) → ChangesFewRows t (PutDoc at bytes ∷ [])
-few_document t at bytes = record { once = λ id. omega arith; needed = λ id puts there. absurd (off puts); others = omega arith }
+few_document t at bytes =
+    record { once = λ id. omega arith; needed = λ id puts there. absurd (off puts); others = omega arith }
 
 pub few_row : (t : ObjectRecords) (node : Node) → ChangesFewRows t (PutNode node ∷ [])
 few_row t node = record { once = λ id. omega arith; needed = λ id puts there. absurd (off puts); others = omega arith }
 
 pub few_dropped : (t : ObjectRecords) (gone : ℕ) → ChangesFewRows t (DropNode gone ∷ [])
-few_dropped t gone = record { once = λ id. omega arith; needed = λ id puts there. absurd (off puts); others = omega arith }
+few_dropped t gone =
+    record { once = λ id. omega arith; needed = λ id puts there. absurd (off puts); others = omega arith }
 
 -- the entries of one object alone
 at_most_one : (b : Bool) → 0 + cond b 1 0 ≤ 1
@@ -48,7 +50,8 @@ module _ (t : ObjectRecords) (id : ℕ) (fresh : t.node id ≡ None) where
       there (subst Gone (sym (ap t.node (only_that k id puts) ∙ fresh)) refl)
 
   -- those of a new folder
-  pub few_for_folder : (next : ℕ) (node : Node) (list : Vec EntryModel Global) → ChangesFewRows t (PutNext next ∷ PutNode node ∷ PutEntries id list ∷ [])
+  pub few_for_folder : (next : ℕ) (node : Node) (list : Vec EntryModel Global)
+      → ChangesFewRows t (PutNext next ∷ PutNode node ∷ PutEntries id list ∷ [])
   few_for_folder next node list = record {
     once = λ k. at_most_one (eqb k id);
     needed = λ k puts there. absurd (is_new k puts there);

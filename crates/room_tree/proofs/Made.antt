@@ -133,8 +133,10 @@ module _ (t : ObjectRecords) (room : Room) (caller : SubjectModel) (path : Path)
 
   -- what is there keeps its list
   lists_stay : (q : Path) (p : Object) → object_at room q ≡ Some p → list_of room q ≡ list_of (with_new room path o) q
-  lists_stay q p there = lists_by_objects_above room (with_new room path o) q (λ front rest is. sym (elsewhere_as_before room path o front (λ same.
-      none_is_some p (sym (ap (object_at room) is ∙ nothing_below room stand.lawful rest front (ap (object_at room) same ∙ absent)) ∙ there))))
+  lists_stay q p there = lists_by_objects_above room (with_new room path o) q
+      (λ front rest is. sym (elsewhere_as_before room path o front (λ same.
+      let none = nothing_below room stand.lawful rest front (ap (object_at room) same ∙ absent) in
+      none_is_some p (sym (ap (object_at room) is ∙ none) ∙ there))))
 
   -- and the new object has what its folder hands down
   list_of_new : o.kind ≡ kind → o.aclflag ≡ 1 → o.own ≡ [] → handed_down above.list.items kind ≡ list_of (with_new room path o) path
@@ -147,8 +149,10 @@ module _ (t : ObjectRecords) (room : Room) (caller : SubjectModel) (path : Path)
       let follows_it : handed_down given kind ≡ list [] 1 kind = refl in
       let At : Path → Type 0 = λ p. object_at after p ≡ Some o in
       ap (λ (entries : List EntryModel). handed_down entries kind) folder_list ∙ follows_it
-      ∙ ap (λ entries. list entries 1 kind) (sym own) ∙ ap (λ flag. list o.own flag kind) (sym aclflag) ∙ ap (list o.own o.aclflag) (sym kind_is)
-      ∙ sym (list_of_child after end.folder end.name o (subst At end.is (new_there room path o))) ∙ ap (list_of after) (sym end.is)
+      ∙ ap (λ entries. list entries 1 kind) (sym own) ∙ ap (λ flag. list o.own flag kind) (sym aclflag)
+      ∙ ap (list o.own o.aclflag) (sym kind_is)
+      ∙ sym (list_of_child after end.folder end.name o (subst At end.is (new_there room path o)))
+      ∙ ap (list_of after) (sym end.is)
 
   pub adds : (later : ObjectRecords) → later.node ≡ (apply_to_objects (PutNode node) (apply_to_objects (PutNext (id + 1)) t)).node
       → ((k : ℕ) → k ≢ node.id → later.entries k ≡ t.entries k) → later.entries node.id ≡ handed_down above.list.items kind

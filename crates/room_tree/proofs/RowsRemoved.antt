@@ -117,7 +117,8 @@ module _ (t : ObjectRecords) (room : Room) (stand : RepresentsRoom t room) (path
   -- what stays keeps its list, since nothing of it stands below the removed object
   lists_stay : (q : Path) (p : Object) → object_at room q ≡ Some p → (q ≡ path → ⊥) → list_of room q ≡ list_of (without room path) q
   lists_stay q p there away = lists_by_objects_above room (without room path) q
-      (λ front rest is. sym (elsewhere_left room path front (λ same. not_below q p there away rest (is ∙ ap (λ (f : Path). f ++ rest) same))))
+      (λ front rest is. sym (elsewhere_left room path front (λ same.
+      not_below q p there away rest (is ∙ ap (λ (f : Path). f ++ rest) same))))
 
   still : (k : ℕ) (found : Node) (q : Path) (p : Object) → k ≢ id → NodeIsObject t room k found q p → NodeIsObject later (without room path) k found q p
   still k found q p other at =

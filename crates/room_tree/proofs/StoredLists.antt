@@ -21,7 +21,8 @@ is_present None h = let f = h in cc
 is_present (Some x) h = (x, refl)
 
 -- a number that has a path is a node's
-pub node_at_path : (t : ObjectRecords) (room : Room) → RepresentsRoom t room → (path : Path) (id : ℕ) → HasPath t path id → (node : Node) × (t.node id ≡ Some node)
+pub node_at_path : (t : ObjectRecords) (room : Room) → RepresentsRoom t room → (path : Path) (id : ℕ) → HasPath t path id
+    → (node : Node) × (t.node id ≡ Some node)
 node_at_path t room stand path id at = elim (root_or_below path) [
   | inl root ↦ (
       let At : Path → Type 0 = λ p. HasPath t p id in
@@ -35,7 +36,8 @@ node_at_path t room stand path id at = elim (root_or_below path) [
 ]
 
 -- its rows hold the list of the object there
-pub stored_list : (t : ObjectRecords) (room : Room) → RepresentsRoom t room → (path : Path) (id : ℕ) → HasPath t path id → t.entries id ≡ list_of room path
+pub stored_list : (t : ObjectRecords) (room : Room) → RepresentsRoom t room → (path : Path) (id : ℕ) → HasPath t path id
+    → t.entries id ≡ list_of room path
 stored_list t room stand path id at =
     let node = node_at_path t room stand path id at in
     let found = object_at_node t room stand path id node.0 at node.1 in
@@ -62,18 +64,22 @@ root_by_part None = refl
 root_by_part (Some o) = refl
 
 -- where the objects of two rooms have the same own entries, list flags and kinds, lists are the same
-pub lists_alike : (room other : Room) → ((path : Path) → list_part (object_at room path) ≡ list_part (object_at other path)) → (path : Path) → list_of room path ≡ list_of other path
+pub lists_alike : (room other : Room) → ((path : Path) → list_part (object_at room path) ≡ list_part (object_at other path))
+    → (path : Path) → list_of room path ≡ list_of other path
 lists_alike room other same path = upwards (reverse path)
   where
     upwards : (names : List Name) → list_upwards room names ≡ list_upwards other names
     upwards [] = root_by_part (object_at room []) ∙ ap root_of_part (same []) ∙ sym (root_by_part (object_at other []))
     upwards (name ∷ above) =
         let here = reverse (name ∷ above) in
-        under_by_part (object_at room here) (list_upwards room above) ∙ ap (λ part. list_of_part part (list_upwards room above)) (same here)
-        ∙ ap (list_of_part (list_part (object_at other here))) (upwards above) ∙ sym (under_by_part (object_at other here) (list_upwards other above))
+        under_by_part (object_at room here) (list_upwards room above)
+        ∙ ap (λ part. list_of_part part (list_upwards room above)) (same here)
+        ∙ ap (list_of_part (list_part (object_at other here))) (upwards above)
+        ∙ sym (under_by_part (object_at other here) (list_upwards other above))
 
 pub same_parts : (a b : Object) → a.own ≡ b.own → a.aclflag ≡ b.aclflag → a.kind ≡ b.kind → list_part (Some a) ≡ list_part (Some b)
 same_parts a b own aclflag kind =
     let Part : Type 0 = List EntryModel × ℕ × Kind in
     let part : List EntryModel → ℕ → Kind → Option Part = λ entries flag k. Some (entries, flag, k) in
-    ap (λ entries. part entries a.aclflag a.kind) own ∙ ap (λ flag. part b.own flag a.kind) aclflag ∙ ap (λ k. part b.own b.aclflag k) kind
+    ap (λ entries. part entries a.aclflag a.kind) own ∙ ap (λ flag. part b.own flag a.kind) aclflag
+    ∙ ap (λ k. part b.own b.aclflag k) kind
