@@ -1,10 +1,10 @@
 -- Rows after lists were put, that of one object and those below it.
-use Rattle.std.proofs.Common.{◌≡◌, ◌≢◌, ℕ, ◌+◌, ◌≤◌, refl, ap, sym, ◌∙◌, subst, arith, Bool, true, false, not, cond, eqb, ◌||◌, ◌⊎◌, inl, inr, List, [], ◌∷◌, ◌++◌, map, reverse, append-nil, Option, None, Some, IsSome, IsNone, IsTrue, count_by, MatchOption}
+use Rattle.std.proofs.Common.{◌≡◌, ◌≢◌, ℕ, ◌+◌, ◌≤◌, refl, ap, sym, ◌∙◌, subst, arith, Bool, true, false, not, cond, eqb, ◌||◌, ◌⊎◌, inl, inr, List, [], ◌∷◌, ◌++◌, map, reverse, append-nil, Option, None, Some, IsSome, IsNone, IsTrue, count_by, MatchOption, eq-eqb}
 use Rattle.std.specs.Prelude.{Vec}
 use Rattle.std.specs.declared.alloc.Global.{Global}
 use Rattle.std.specs.List.{AllByRecursion, list_any}
 use Rattle.std.proofs.lemmas.Bool.{eqb-true}
-use Rattle.std.proofs.lemmas.List.{map-append}
+use Rattle.std.proofs.lemmas.List.{map-append, append_cancel_left}
 use Rattle.std.proofs.lemmas.List.Sums.{sum_by-cons, sum_by-append}
 use Rattle.std.proofs.lemmas.List.Folds.{list_any-append}
 use Rattle.room_acl.specs.Entries.{EntryModel}
@@ -147,11 +147,6 @@ pub record Relists (t : ObjectRecords) (room : Room) (path : Path) (list : List 
       → (t.entries id ≡ list_below room path list (reverse rest)) ⊎ IsTrue (list_any (puts_entries_of id) (map put puts))
   pub once : (id : ℕ) → count_by (puts_entries_of id) (map put puts) ≤ 1
 
--- one front leaves one rest
-pub rests_same : (path a b : Path) → path ++ a ≡ path ++ b → a ≡ b
-rests_same [] a b same = same
-rests_same (name ∷ path) a b same = rests_same path a b (let tails : path ++ a ≡ path ++ b = cc in tails)
-
 or_true : (b : Bool) → (b || true) ≡ true
 or_true true = refl
 or_true false = refl
@@ -181,7 +176,7 @@ changes_list t id stored list is (Some changed) changes = (λ same. changes.1 (s
 
 module _ (t : ObjectRecords) (room : Room) (stand : RepresentsRoom t room) (path : Path) (id : ℕ) (here : HasPath t path id) where
   only_here : (rest : Path) → HasPath t (path ++ rest) id → rest ≡ []
-  only_here rest at = rests_same path rest [] (path_of_node t stand.rules (path ++ rest) path id at here ∙ sym (append-nil path))
+  only_here rest at = append_cancel_left path rest [] (path_of_node t stand.rules (path ++ rest) path id at here ∙ sym (append-nil path))
 
   -- where the list stays nothing is put
   relists_nothing : Relists t room path (t.entries id) []
@@ -214,7 +209,7 @@ module _ (t : ObjectRecords) (room : Room) (stand : RepresentsRoom t room) (path
     put_or_kept [] k at =
         let At : Path → Type 0 = λ q. HasPath t q k in
         let same : k ≡ id = reads_one t stand.rules (reverse path) k id (subst At (append-nil path) at) here in
-        inr (any_of_whole k ∙ ap (λ b. list_any (puts_entries_of k) (map put below) || (b || false)) (if_same k id true (eqb k id) same)
+        inr (any_of_whole k ∙ ap (λ b. list_any (puts_entries_of k) (map put below) || (b || false)) (eq-eqb k id same)
         ∙ or_true (list_any (puts_entries_of k) (map put below)))
     put_or_kept (name ∷ rest) k at = elim (renews.every (name ∷ rest) k (λ none. cc) at) [
       | inl stays ↦ inl stays
@@ -269,7 +264,7 @@ module _ (t : ObjectRecords) (room : Room) (stand : RepresentsRoom t room) (path
   (each_weaker (IsRelisted t room path list) (λ k entries. k ≡ id → entries ≡ list_below room path list (reverse rest))
   (λ k entries new same.
   let At : ℕ → Type 0 = λ j. HasPath t (path ++ new.rest) j in
-  let one : new.rest ≡ rest = rests_same path new.rest rest (path_of_node t stand.rules (path ++ new.rest) (path ++ rest) id (subst At same new.at) at) in
+  let one : new.rest ≡ rest = append_cancel_left path new.rest rest (path_of_node t stand.rules (path ++ new.rest) (path ++ rest) id (subst At same new.at) at) in
   new.is_list ∙ ap (λ names. list_below room path list (reverse names)) one) puts r.each)
   (r.every rest id at)
 
