@@ -45,15 +45,15 @@ stored_list t room stand path id at =
 abbrev pub list_part : Option Object → Option (List EntryModel × ℕ × Kind)
 list_part found = option_map (λ (o : Object). (o.own, o.aclflag, o.kind)) found
 
-list_of_part : Option (List EntryModel × ℕ × Kind) → List EntryModel → List EntryModel
+abbrev list_of_part : Option (List EntryModel × ℕ × Kind) → List EntryModel → List EntryModel
 list_of_part None above = []
-list_of_part (Some part) above = with_inherited part.0 part.1.0 part.1.1 above
+list_of_part (Some part) above = with_inherited part.0 part.1 part.2 above
 
 under_by_part : (found : Option Object) (above : List EntryModel) → list_under found above ≡ list_of_part (list_part found) above
 under_by_part None above = refl
 under_by_part (Some o) above = refl
 
-root_of_part : Option (List EntryModel × ℕ × Kind) → List EntryModel
+abbrev root_of_part : Option (List EntryModel × ℕ × Kind) → List EntryModel
 root_of_part None = []
 root_of_part (Some part) = part.0
 

@@ -9,6 +9,7 @@ use room_records::{Change, Shelf};
 use room_report::{access_report, list_report};
 use room_wire::{Answer, Event};
 use std::alloc::Global;
+use test_support::other_list;
 
 /// What an event is answered, and the shelf then.
 pub fn handled<S: Shelf>(alloc: Global, shelf: S, event: &Event) -> (Answer, S) {
@@ -42,6 +43,23 @@ fn reported<S: Shelf>(play: &Play<'_>, shelf: &mut S, kind: Kind) -> Result<Vec<
     match end {
         Ok(()) => Ok(written),
         Err(_) => Err(Fault::Because("a report that is not whole")),
+    }
+}
+
+/// Tells where the stored list of an object is another than its list from scratch.
+pub fn expect_whole_lists<S: Shelf>(
+    play: &Play<'_>,
+    shelf: &mut S,
+    line: usize,
+    told: &mut Told<'_>,
+) -> Result<(), Fault> {
+    match other_list(play.alloc, shelf) {
+        Ok(None) => Ok(()),
+        Ok(Some(id)) => {
+            let text = format!(in play.alloc; "another stored list than from scratch: {id}")?;
+            told.tell(line, text.as_str())
+        }
+        Err(_) => Err(Fault::Because("lists that were not read")),
     }
 }
 

@@ -1,7 +1,8 @@
-//! Random histories: the same answers and the same rooms from the plain body and from the desk over each shelf.
+//! Random histories: the same answers and the same rooms from the plain body and from the desk over each shelf, whose
+//! stored lists are whole after each event.
 use crate::dice::Dice;
 use crate::drafts::{Draft, What, event, session_at};
-use crate::rooms::is_same_room;
+use crate::rooms::{is_same_room, is_whole};
 use room_desk::{Answer, Desk};
 use room_history::{answer_to, count_accepted, state_after};
 use room_model::PlainRoom;
@@ -106,7 +107,7 @@ impl Trio {
         }
     }
 
-    /// All three answer an event alike, and it joins the history.
+    /// All three answer an event alike, it joins the history, and the stored lists are whole.
     fn answer(self, event: Event) -> Result<Trio, Fail> {
         let mut trio = self;
         let plain = answer_to(trio.alloc, &trio.start, trio.past.as_slice(), &event)?;
@@ -117,9 +118,19 @@ impl Trio {
         trio.past.insert(0, event)?;
         trio.count(&plain);
         if plain.body() == from_memory.body() && plain.body() == from_tables.body() {
-            Ok(trio)
+            trio.with_whole_lists()
         } else {
             Err(Fail::new("another answer"))
+        }
+    }
+
+    /// Each stored list on both shelves is the list from scratch.
+    fn with_whole_lists(self) -> Result<Trio, Fail> {
+        let mut trio = self;
+        if is_whole(trio.alloc, &mut trio.memory)? && is_whole(trio.alloc, &mut trio.tables)? {
+            Ok(trio)
+        } else {
+            Err(Fail::new("another list than from scratch"))
         }
     }
 

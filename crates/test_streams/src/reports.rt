@@ -1,5 +1,5 @@
 //! Reports over writers and shelves that fail, and for rosters that no file of examples has.
-use room_acl::{Kind, ListFlags};
+use room_acl::{Kind, ListFlags, hand_down};
 use room_records::{Change, MemShelf, Node, Roster, Shelf, TripShelf};
 use room_report::{ReportFault, access_report, list_report};
 use std::alloc::Global;
@@ -20,10 +20,16 @@ fn plans(alloc: Global) -> Result<Node, Fail> {
     })
 }
 
-/// A fresh room with that folder.
+/// A fresh room with that folder, which follows the root.
 fn with_plans(alloc: Global) -> Result<MemShelf, Fail> {
     let mut shelf = in_memory(alloc)?;
-    let changes = vec![in alloc; Change::PutNext(3), Change::PutNode(plans(alloc)?)]?;
+    let root = shelf.entries(1)?;
+    let list = hand_down(alloc, root.as_slice(), Kind::Folder)?;
+    let changes = vec![in alloc;
+        Change::PutNext(3),
+        Change::PutNode(plans(alloc)?),
+        Change::PutEntries(2, list),
+    ]?;
     shelf.commit(changes.as_slice())?;
     Ok(shelf)
 }

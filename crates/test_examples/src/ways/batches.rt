@@ -4,7 +4,7 @@ use crate::fault::Fault;
 use crate::playing::Play;
 use crate::rooms::in_memory;
 use crate::scenes::{Example, Step};
-use crate::shelves::{do_step, prepared};
+use crate::shelves::{do_step, expect_whole_lists, prepared};
 use crate::told::Told;
 use room_desk::{Answer, Desk};
 use room_records::MemShelf;
@@ -92,6 +92,6 @@ pub fn play(play: &Play<'_>, told: &mut Told<'_>) -> Result<(), Fault> {
             do_step(play, &mut shelf, step, told)?;
         }
     }
-    let _ = flush(play, shelf, &batch, told)?;
-    Ok(())
+    shelf = flush(play, shelf, &batch, told)?;
+    expect_whole_lists(play, &mut shelf, play.line, told)
 }

@@ -1,10 +1,17 @@
-//! Each request as an event, one after another.
+//! Each request as an event, one after another. After each, all stored lists are whole.
 use crate::fault::Fault;
 use crate::playing::Play;
 use crate::scenes::Step;
-use crate::shelves::{answered, do_step, prepared};
+use crate::shelves::{answered, do_step, expect_whole_lists, prepared};
 use crate::told::Told;
-use room_records::Shelf;
+use room_records::{Shelf, ShelfFault};
+
+/// In a room of more objects than this, lists are looked at once, behind the last step of its scene.
+const MANY: u32 = 64;
+
+fn has_few<S: Shelf>(shelf: &mut S) -> Result<bool, ShelfFault> {
+    Ok(shelf.next_id()? <= MANY)
+}
 
 fn take<S: Shelf + Drop>(
     play: &Play<'_>,
@@ -17,8 +24,11 @@ fn take<S: Shelf + Drop>(
         do_step(play, &mut shelf, step, told)?;
         return Ok(shelf);
     };
-    let (answer, shelf) = answered(play, shelf, example.sent.as_slice());
+    let (answer, mut shelf) = answered(play, shelf, example.sent.as_slice());
     told.expect(example.line, answer.body(), example.due.body.as_slice())?;
+    if matches!(has_few(&mut shelf), Ok(true)) {
+        expect_whole_lists(play, &mut shelf, example.line, told)?;
+    }
     Ok(shelf)
 }
 
@@ -27,5 +37,5 @@ pub fn play<S: Shelf + Drop>(play: &Play<'_>, shelf: S, told: &mut Told<'_>) -> 
     for step in play.steps {
         shelf = take(play, shelf, step, told)?;
     }
-    Ok(())
+    expect_whole_lists(play, &mut shelf, play.line, told)
 }

@@ -6,7 +6,7 @@ use crate::fault::Fault;
 use crate::playing::Play;
 use crate::rooms::made;
 use crate::scenes::Step;
-use crate::shelves::{answered, do_step, prepared};
+use crate::shelves::{answered, do_step, expect_whole_lists, prepared};
 use crate::told::Told;
 use room_sql::SqlShelf;
 use sqlite::{Connection, FileStore, Options};
@@ -100,5 +100,5 @@ pub fn play(play: &Play<'_>, told: &mut Told<'_>) -> Result<(), Fault> {
     for step in play.steps {
         shelf = take(play, shelf, step, told)?;
     }
-    Ok(())
+    expect_whole_lists(play, &mut shelf, play.line, told)
 }

@@ -3,7 +3,7 @@ use crate::fault::Fault;
 use crate::playing::Play;
 use crate::rooms::in_memory;
 use crate::scenes::{Example, Step};
-use crate::shelves::{do_step, prepared};
+use crate::shelves::{do_step, expect_whole_lists, prepared};
 use crate::told::Told;
 use crate::ways::serving::{Line, expect_end, serve};
 use room_records::MemShelf;
@@ -91,5 +91,5 @@ pub fn play(play: &Play<'_>, told: &mut Told<'_>) -> Result<(), Fault> {
             }
         }
     }
-    Ok(())
+    expect_whole_lists(play, &mut shelf, play.line, told)
 }

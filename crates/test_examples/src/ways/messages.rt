@@ -2,7 +2,7 @@
 use crate::fault::Fault;
 use crate::playing::Play;
 use crate::scenes::{Example, Step};
-use crate::shelves::{do_step, prepared};
+use crate::shelves::{do_step, expect_whole_lists, prepared};
 use crate::told::Told;
 use crate::ways::serving::{Ended, Line, expect_end, serve};
 use room_records::Shelf;
@@ -115,6 +115,6 @@ pub fn play<S: Shelf + Drop>(
             do_step(play, &mut shelf, step, told)?;
         }
     }
-    let _ = flush(play, shelf, &stream, told)?;
-    Ok(())
+    shelf = flush(play, shelf, &stream, told)?;
+    expect_whole_lists(play, &mut shelf, play.line, told)
 }

@@ -4,7 +4,7 @@ use crate::fault::Fault;
 use crate::playing::Play;
 use crate::rooms::in_memory;
 use crate::scenes::{Example, Step};
-use crate::shelves::{answered, do_step, prepared};
+use crate::shelves::{answered, do_step, expect_whole_lists, prepared};
 use crate::told::Told;
 use room_desk::Answer;
 use room_records::{MemShelf, TripShelf};
@@ -66,5 +66,5 @@ pub fn play(play: &Play<'_>, told: &mut Told<'_>) -> Result<(), Fault> {
             }
         }
     }
-    Ok(())
+    expect_whole_lists(play, &mut shelf, play.line, told)
 }

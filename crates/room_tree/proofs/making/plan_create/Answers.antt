@@ -1,4 +1,7 @@
-use Rattle.std.proofs.Common.{◌≡◌, ◌<◌, ◌^◌, arith, ap, sym, ◌∙◌, [], ◌∷◌, None, length}
+use Rattle.std.proofs.Common.{◌≡◌, ◌<◌, ◌^◌, arith, ap, sym, ◌∙◌, List, [], ◌∷◌, None, length}
+use Rattle.room_acl.specs.declared.subject.Kind.TheVariants.{File}
+use Rattle.room_acl.specs.Entries.{EntryModel}
+use Rattle.room_acl.specs.Inheritance.{handed_down}
 use Rattle.room_records.specs.Records.{Records}
 use Rattle.room_records.specs.Room.{parent_of}
 use Rattle.room_commands.specs.declared.reply.Fault.TheVariants.{Exist}
@@ -49,4 +52,4 @@ returns-clause-effect g c = λ available laid_out t e room stand.
     let size : check_size (length c.args.bytes.now) ≡ None = sym c.in_ok-check_size.ensures in
     let fits : length c.args.bytes.now < 2 ^ 32 = omega (arith, small_by_check (length c.args.bytes.now) size) in
     create_plans t room c.args.subject.now c.args.bytes.now path c.in_ok-above.above c.in_ok-id.id c.in_ok-node.node c.in_ok-list.list c.in_ok-copy.copy _ stand c.in_ok-above.ensures.lawful reached.0 size reached.1
-    number c.in_ok-node.ensures c.in_ok-list.ensures (c.in_ok-copy.ensures.items_if_clones_equal (λ x y is. is)) c.in_ok-changes.ensures (ap Size (c.as_size.ensures fits))
+    number c.in_ok-node.ensures (c.in_ok-list.ensures ∙ ap (λ (list : List EntryModel). handed_down list File) c.deref.ensures.value) (c.in_ok-copy.ensures.items_if_clones_equal (λ x y is. is)) c.in_ok-changes.ensures (ap Size (c.as_size.ensures fits))

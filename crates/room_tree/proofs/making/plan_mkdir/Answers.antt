@@ -1,4 +1,7 @@
-use Rattle.std.proofs.Common.{ap, ◌∙◌, [], ◌∷◌, refl}
+use Rattle.std.proofs.Common.{ap, ◌∙◌, List, [], ◌∷◌, refl}
+use Rattle.room_acl.specs.declared.subject.Kind.TheVariants.{Folder}
+use Rattle.room_acl.specs.Entries.{EntryModel}
+use Rattle.room_acl.specs.Inheritance.{handed_down}
 use Rattle.room_records.specs.Records.{Records}
 use Rattle.room_records.specs.Room.{parent_of}
 use Rattle.room_commands.specs.declared.reply.Fault.TheVariants.{Exist}
@@ -34,4 +37,4 @@ returns-clause-effect g c = λ available laid_out t e room stand.
     let same = ap (λ (r : Records). r.objects) (c.folder_for_new.ensures.frame.same before laid_out) ∙ e in
     let number = c.in_ok-id.ensures.value available declared t same room stand (parent_of path) reached.1 in
     mkdir_plans t room c.args.subject.now path c.in_ok-above.above c.in_ok-id.id c.in_ok-node.node c.in_ok-list.list _ stand c.in_ok-above.ensures.lawful reached.0 reached.1
-    number c.in_ok-node.ensures c.in_ok-list.ensures c.in_ok-changes.ensures refl
+    number c.in_ok-node.ensures (c.in_ok-list.ensures ∙ ap (λ (list : List EntryModel). handed_down list Folder) c.deref.ensures.value) c.in_ok-changes.ensures refl
