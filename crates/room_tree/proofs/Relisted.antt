@@ -1,5 +1,5 @@
 -- SETLIST: what is planned is the effect.
-use Rattle.std.proofs.Common.{◌≡◌, ◌≢◌, ℕ, ◌⊎◌, refl, ap, sym, ◌∙◌, subst, Bool, true, false, cond, inl, inr, List, [], ◌∷◌, ◌++◌, map, drop, length, reverse, append-nil, Option, None, Some, IfSome, unwrap_or}
+use Rattle.std.proofs.Common.{◌≡◌, ℕ, ◌⊎◌, refl, ap, sym, ◌∙◌, subst, Bool, true, false, cond, inl, inr, List, [], ◌∷◌, ◌++◌, map, drop, length, reverse, append-nil, Option, None, Some, IfSome, unwrap_or}
 use Rattle.std.specs.Prelude.{Vec}
 use Rattle.std.specs.declared.alloc.Global.{Global}
 use Rattle.std.proofs.lemmas.List.{reverse-append, append_cancel_left}
@@ -14,7 +14,7 @@ use Rattle.room_records.specs.Names.{Name, Path}
 use Rattle.room_records.specs.Records.{ObjectRecords}
 use Rattle.room_records.specs.Rules.{ObjectRules, IsRoot}
 use Rattle.room_records.specs.Changes.{apply_to_objects, apply_all_to_objects, ObjectRulesHoldAfterEach}
-use Rattle.room_records.specs.Room.{Object, Room, IsRoom, object_at, list_of}
+use Rattle.room_records.specs.Room.{Object, Room, object_at, list_of}
 use Rattle.room_records.specs.Representation.{RepresentsRoom, HasPath, NamesUpwards}
 use Rattle.room_records.proofs.RoomsLists.{list_of_child, list_of_root}
 use Rattle.room_records.proofs.RoomsMap.{some_is, Ends}

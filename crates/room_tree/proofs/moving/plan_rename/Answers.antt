@@ -49,9 +49,9 @@ returns-clause-effect g c = λ available laid_out t e room stand.
     let limits = (c.in_ok-check_limits.ensures.value counting declared t same room stand path allowed.1).0 in
     let lawful = c.in_ok-moving.ensures.lawful in
     let move = c.in_ok-moving.moving in
-    let Changes : List EntryModel → Type 0 = λ stored. IsChangeOf stored c.in_ok-list.list.items c.if_changed.result in
-    let Moved : List EntryModel → Type 0 = λ list. IsChangeOf move.place.list.items list c.if_changed.result in
-    let changes = subst Moved c.in_ok-list.ensures (subst Changes c.deref.ensures.value c.if_changed.ensures) in
+    let Changes : List EntryModel → Type 0 = λ stored. IsChangeOf stored c.in_ok-list.list.items c.if_changed-list.result in
+    let Moved : List EntryModel → Type 0 = λ list. IsChangeOf move.place.list.items list c.if_changed-list.result in
+    let changes = subst Moved c.in_ok-list.ensures (subst Changes c.deref.ensures.value c.if_changed-list.ensures) in
     rename_plans t room caller path to move c.in_ok-node.node _ stand lawful.0 lawful.1
-    (none_passes first (move_limits room path to) allowed.0 ∙ limits) allowed.1 c.in_ok-node.ensures c.if_changed.result changes
+    (none_passes first (move_limits room path to) allowed.0 ∙ limits) allowed.1 c.in_ok-node.ensures c.if_changed-list.result changes
     (λ at stands kind. c.in_ok-changes.ensures.value available declared_at_last t same_at_last room stand path (node_of move.place) at stands kind) refl
