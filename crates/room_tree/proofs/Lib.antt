@@ -21,8 +21,6 @@ pub mod ListsMoved
 pub mod Depths
 pub mod Renamed
 pub mod ListsUpwards
-pub mod ListsRenewed
-pub mod Renewed
 pub mod RenewingLists
 pub mod RenewingParts
 pub mod RenewingChildren

@@ -1,8 +1,8 @@
 -- SETLIST: what is planned is the effect.
-use Rattle.std.proofs.Common.{◌≡◌, ◌≢◌, ℕ, ◌⊎◌, refl, ap, sym, ◌∙◌, subst, Bool, true, false, cond, inl, inr, List, [], ◌∷◌, ◌++◌, map, reverse, append-nil, Option, None, Some, IfSome, unwrap_or}
+use Rattle.std.proofs.Common.{◌≡◌, ℕ, ◌⊎◌, refl, ap, sym, ◌∙◌, subst, Bool, true, false, cond, inl, inr, List, [], ◌∷◌, ◌++◌, map, drop, length, reverse, append-nil, Option, None, Some, IfSome, unwrap_or}
 use Rattle.std.specs.Prelude.{Vec}
 use Rattle.std.specs.declared.alloc.Global.{Global}
-use Rattle.std.proofs.lemmas.List.{reverse-append}
+use Rattle.std.proofs.lemmas.List.{reverse-append, append_cancel_left}
 use Rattle.room_acl.specs.declared.subject.Kind.{Kind}
 use Rattle.room_acl.specs.Bits.{follows}
 use Rattle.room_acl.specs.Entries.{EntryModel}
@@ -14,7 +14,7 @@ use Rattle.room_records.specs.Names.{Name, Path}
 use Rattle.room_records.specs.Records.{ObjectRecords}
 use Rattle.room_records.specs.Rules.{ObjectRules, IsRoot}
 use Rattle.room_records.specs.Changes.{apply_to_objects, apply_all_to_objects, ObjectRulesHoldAfterEach}
-use Rattle.room_records.specs.Room.{Object, Room, IsRoom, object_at, list_of}
+use Rattle.room_records.specs.Room.{Object, Room, object_at, list_of}
 use Rattle.room_records.specs.Representation.{RepresentsRoom, HasPath, NamesUpwards}
 use Rattle.room_records.proofs.RoomsLists.{list_of_child, list_of_root}
 use Rattle.room_records.proofs.RoomsMap.{some_is, Ends}
@@ -37,7 +37,7 @@ use Rattle.room_tree.proofs.Changed.{replaced_plans}
 use Rattle.room_tree.proofs.Checking.{there}
 use Rattle.room_tree.proofs.ListsRenewed.{lists_renewed, lists_away, list_above_stays}
 use Rattle.room_tree.proofs.OwnPart.{root_or_below}
-use Rattle.room_tree.proofs.Renewed.{Puts, put, Relists, IsChangeOf, list_then, list_then_is, changes_list, puts_relist, stored_at, nodes_stay, documents_stay, next_stays, relisted_at, relisted_off, relisted_of_objects, relisted_rules, relisted_few, rests_same}
+use Rattle.room_tree.proofs.Renewed.{Puts, put, Relists, IsChangeOf, list_then, list_then_is, changes_list, puts_relist, stored_at, nodes_stay, documents_stay, next_stays, relisted_at, relisted_off, relisted_of_objects, relisted_rules, relisted_few}
 use Rattle.room_tree.proofs.RowsReplaced.{Replaces, changed_at}
 use Rattle.room_tree.proofs.StoredLists.{stored_list}
 
@@ -75,11 +75,11 @@ module _ (t : ObjectRecords) (room : Room) (stand : RepresentsRoom t room) (path
       ap (entries_of t) parent ∙ stored_list t room stand folder up.1 up.5
 
   module _ (caller : SubjectModel) (flag : ℕ) (sent : List EntryModel) where
-    abbrev own : List EntryModel
-    own = own_entries_of_setlist path flag sent
+    abbrev kept : List EntryModel
+    kept = own_entries_of_setlist path flag sent
 
     abbrev change : Object → Object
-    change o = record o { aclflag = flag; own = own }
+    change o = record o { aclflag = flag; own = kept }
 
     abbrev after : Room
     after = with_object room path change
@@ -94,17 +94,17 @@ module _ (t : ObjectRecords) (room : Room) (stand : RepresentsRoom t room) (path
     at_path = changed_at room path change found.object (there t room path place found)
 
     -- the list that the object has afterwards
-    list_after : list_of after path ≡ with_inherited own flag place.kind (entries_of t place.parent)
-    list_after = by_end (root_or_below path) ∙ ap (λ kind. with_inherited own flag kind (entries_of t place.parent)) (sym found.is_there.shows.kind)
+    list_after : list_of after path ≡ with_inherited kept flag place.kind (entries_of t place.parent)
+    list_after = by_end (root_or_below path) ∙ ap (λ kind. with_inherited kept flag kind (entries_of t place.parent)) (sym found.is_there.shows.kind)
       where
-        by_end : (path ≡ []) ⊎ Ends path → list_of after path ≡ with_inherited own flag found.object.kind (entries_of t place.parent)
+        by_end : (path ≡ []) ⊎ Ends path → list_of after path ≡ with_inherited kept flag found.object.kind (entries_of t place.parent)
         by_end (inl root) =
             ap (list_of after) root ∙ list_of_root after (change found.object) (ap (object_at after) (sym root) ∙ at_path)
-            ∙ sym (nothing_handed_down own flag found.object.kind)
-            ∙ ap (λ above. with_inherited own flag found.object.kind (entries_of t above)) (sym (none_above root))
+            ∙ sym (nothing_handed_down kept flag found.object.kind)
+            ∙ ap (λ above. with_inherited kept flag found.object.kind (entries_of t above)) (sym (none_above root))
         by_end (inr end) =
             ap (list_of after) end.is ∙ list_of_child after end.folder end.name (change found.object) (ap (object_at after) (sym end.is) ∙ at_path)
-            ∙ ap (with_inherited own flag found.object.kind)
+            ∙ ap (with_inherited kept flag found.object.kind)
             (list_above_stays room after path end.folder end.name end.is (elsewhere_unchanged room path change) ∙ sym (folder_above end.folder end.name end.is))
 
     away_from : (q : Path) → is_at_or_below q path ≡ false → object_at after q ≡ object_at room q
@@ -128,10 +128,11 @@ module _ (t : ObjectRecords) (room : Room) (stand : RepresentsRoom t room) (path
           by_test : (b : Bool) → is_at_or_below q path ≡ b → later.entries id ≡ list_of after q
           by_test true below =
               let At : Path → Type 0 = λ p. HasPath t p id in
-              let split = rest_below path q below in
-              relisted_at t room stand path list puts r now _ id (subst At split at)
-              ∙ ap (λ l. list_below room path l _) (sym is)
-              ∙ sym (lists_renewed room after path path (λ below some. elsewhere_unchanged room path change (path ++ below) (λ same. some (rests_same path below [] (same ∙ sym (append-nil path))))) _)
+              let rest : Path = drop (length path) q in
+              let split : q ≡ path ++ rest = rest_below path q below in
+              relisted_at t room stand path list puts r now rest id (subst At split at)
+              ∙ ap (λ l. list_below room path l (reverse rest)) (sym is)
+              ∙ sym (lists_renewed room after path path (λ below some. elsewhere_unchanged room path change (path ++ below) (λ same. some (append_cancel_left path below [] (same ∙ sym (append-nil path))))) rest)
               ∙ ap (list_of after) (sym split)
           by_test false off =
               relisted_off t room stand path list puts r now q id at off ∙ stored_list t room stand q id at ∙ sym (lists_away room after path away_from q off)
@@ -173,7 +174,7 @@ module _ (t : ObjectRecords) (room : Room) (stand : RepresentsRoom t room) (path
 
     -- the row, its list where that changes, and those below lead to the room with other list flags and own entries
     pub setlist_plans : first_refusal (checks room caller (C.SetList flag sent path)) ≡ None
-        → (list : List EntryModel) → list ≡ with_inherited own flag place.kind (entries_of t place.parent) → (new : Option (Vec EntryModel Global)) → IsChangeOf place.list.items list new
+        → (list : List EntryModel) → list ≡ with_inherited kept flag place.kind (entries_of t place.parent) → (new : Option (Vec EntryModel Global)) → IsChangeOf place.list.items list new
         → (outcome : Outcome) → PutsList t room path now new outcome.changes.items → reply_model outcome.reply ≡ Done → PlansEffect t room caller (C.SetList flag sent path) outcome
     setlist_plans passed list is new changes outcome planned replied =
         let stored = stored_at t room path place found in

@@ -143,7 +143,8 @@ pub rename_plans : (t : ObjectRecords) (room : Room) (caller : SubjectModel) (pa
     → IsPath path → IsPath to → first_refusal (checks room caller (C.Rename path to)) ≡ None → IsMove t room path to move
     → ((folder : Path) (name : Name) → to ≡ folder ++ name ∷ [] → now ≡ record (node_of move.place) { parent = Some move.into.id; name = Some name })
     → (new : Option (Vec EntryModel Global)) → IsChangeOf move.place.list.items (moved_list move) new
-    → PutsList t room path now new outcome.changes.items → reply_model outcome.reply ≡ Done → PlansEffect t room caller (C.Rename path to) outcome
+    → (HasPath t path now.id → t.node now.id ≡ Some (node_of move.place) → (node_of move.place).kind ≡ now.kind → PutsList t room path now new outcome.changes.items)
+    → reply_model outcome.reply ≡ Done → PlansEffect t room caller (C.Rename path to) outcome
 rename_plans t room caller path to move now outcome stand is_path is_to passed found row new changes planned replied =
     let command = C.Rename path to in
     let a = all_none (checks room caller command) passed in
@@ -190,8 +191,10 @@ rename_plans t room caller path to move now outcome stand is_path is_to passed f
         let place = move.place in
         let there = found.place.is_there in
         let stored = stored_at t room path place found.place in
-        let what = puts_relist t room stand path place.id there.at now m.id new (changes_list t place.id place.list.items (moved_list move) stored new changes)
-        outcome.changes.items planned in
+        let Here : ℕ → Type 0 = λ k. HasPath t path k in
+        let puts = planned (subst Here (sym m.id) there.at) (ap t.node m.id ∙ there.node_stands) (sym m.kind) in
+        let changed = changes_list t place.id place.list.items (moved_list move) stored new changes in
+        let what = puts_relist t room stand path place.id there.at now m.id new changed outcome.changes.items puts in
         let list = list_then t place.id new in
         let in_folder : parent_of to ≡ up = ap parent_of is ∙ parent_of_end up name in
         let own : own_part place.list.items ≡ o.own = ap own_part found.place.list ∙ own_part_of_list room stand.lawful path o there.object_stands in

@@ -1,17 +1,17 @@
 -- Rows after lists were put, that of one object and those below it.
-use Rattle.std.proofs.Common.{◌≡◌, ◌≢◌, ℕ, ◌+◌, ◌≤◌, refl, ap, sym, ◌∙◌, subst, arith, Bool, true, false, not, cond, eqb, ◌||◌, ◌⊎◌, inl, inr, List, [], ◌∷◌, ◌++◌, map, reverse, append-nil, Option, None, Some, IsSome, IsNone, IsTrue, count_by, MatchOption}
+use Rattle.std.proofs.Common.{◌≡◌, ◌≢◌, ℕ, ◌+◌, ◌≤◌, refl, ap, sym, ◌∙◌, subst, arith, Bool, true, false, not, cond, eqb, ◌||◌, ◌⊎◌, inl, inr, List, [], ◌∷◌, ◌++◌, map, reverse, append-nil, Option, None, Some, IsTrue, count_by, MatchOption, eq-eqb}
 use Rattle.std.specs.Prelude.{Vec}
 use Rattle.std.specs.declared.alloc.Global.{Global}
 use Rattle.std.specs.List.{AllByRecursion, list_any}
 use Rattle.std.proofs.lemmas.Bool.{eqb-true}
-use Rattle.std.proofs.lemmas.List.{map-append}
+use Rattle.std.proofs.lemmas.List.{map-append, append_cancel_left}
 use Rattle.std.proofs.lemmas.List.Sums.{sum_by-cons, sum_by-append}
 use Rattle.std.proofs.lemmas.List.Folds.{list_any-append}
 use Rattle.room_acl.specs.Entries.{EntryModel}
 use Rattle.room_records.specs.declared.node.Node.{Node}
 use Rattle.room_records.specs.declared.change.Change.{Change}
 use Rattle.room_records.specs.declared.change.Change.TheVariants.{PutNode, DropNode, PutEntries, PutDoc, PutSession, PutSlot, DropSlots, PutNext}
-use Rattle.room_records.specs.Names.{Name, Path}
+use Rattle.room_records.specs.Names.{Path}
 use Rattle.room_records.specs.Records.{ObjectRecords}
 use Rattle.room_records.specs.Rules.{ObjectRules}
 use Rattle.room_records.specs.Changes.{apply_to_objects, apply_all_to_objects, IsOfObjects, ObjectRulesHoldAfterEach}
@@ -97,16 +97,27 @@ entries_kept (p ∷ puts) s id each =
 pub put_found : (P : ℕ → List EntryModel → Type 0) (puts : Puts) (id : ℕ) → EachPut P puts → IsTrue (list_any (puts_entries_of id) (map put puts))
     → (entries : List EntryModel) × P id entries
 put_found P [] id each none = absurd (let f : false ≡ true = none in cc)
-put_found P (p ∷ puts) id each found = by_test (eqb id p.0) refl found
+put_found P (p ∷ puts) id each found = by_test (eqb id p.0) refl found (put_found P puts id each.1)
   where
-    by_test : (b : Bool) → eqb id p.0 ≡ b → IsTrue (b || list_any (puts_entries_of id) (map put puts)) → (entries : List EntryModel) × P id entries
-    by_test true same h = (let For : ℕ → Type 0 = λ k. P k p.1.items in (p.1.items, subst For (sym (eqb-true id p.0 same)) each.0))
-    by_test false other h = put_found P puts id each.1 h
+    by_test : (b : Bool) → eqb id p.0 ≡ b → IsTrue (b || list_any (puts_entries_of id) (map put puts))
+        → (IsTrue (list_any (puts_entries_of id) (map put puts)) → (entries : List EntryModel) × P id entries) → (entries : List EntryModel) × P id entries
+    by_test true same h rest = (let For : ℕ → Type 0 = λ k. P k p.1.items in (p.1.items, subst For (sym (eqb-true id p.0 same)) each.0))
+    by_test false other h rest = rest h
+
+abbrev one_if : Bool → ℕ
+one_if b = cond b 1 0
+
+one_or_none : (b : Bool) → one_if b ≤ 1
+one_or_none true = omega arith
+one_or_none false = omega arith
+
+not_counted : (a b : ℕ) → a ≢ b → one_if (eqb a b) ≡ 0
+not_counted a b other = if_other a b 1 0 other
 
 none_put : (puts : Puts) (id : ℕ) → EachPut (λ at entries. at ≢ id) puts → count_by (puts_entries_of id) (map put puts) ≡ 0
 none_put [] id each = refl
 none_put (p ∷ puts) id each =
-    let first : cond (eqb id p.0) 1 0 ≡ 0 = if_other id p.0 1 0 (λ same. each.0 (sym same)) in
+    let first = not_counted id p.0 (λ same. each.0 (sym same)) in
     let more = sum_by-cons (λ (change : Change). cond (puts_entries_of id change) 1 0) (put p) (map put puts) in
     let rest = none_put puts id each.1 in
     omega (arith, first, more, rest)
@@ -147,18 +158,9 @@ pub record Relists (t : ObjectRecords) (room : Room) (path : Path) (list : List 
       → (t.entries id ≡ list_below room path list (reverse rest)) ⊎ IsTrue (list_any (puts_entries_of id) (map put puts))
   pub once : (id : ℕ) → count_by (puts_entries_of id) (map put puts) ≤ 1
 
--- one front leaves one rest
-pub rests_same : (path a b : Path) → path ++ a ≡ path ++ b → a ≡ b
-rests_same [] a b same = same
-rests_same (name ∷ path) a b same = rests_same path a b (let tails : path ++ a ≡ path ++ b = cc in tails)
-
 or_true : (b : Bool) → (b || true) ≡ true
 or_true true = refl
 or_true false = refl
-
-one_or_none : (b : Bool) → cond b 1 0 ≤ 1
-one_or_none true = omega arith
-one_or_none false = omega arith
 
 -- the list of an object from then on: what is put, or else what it was
 abbrev pub list_then : ObjectRecords → ℕ → Option (Vec EntryModel Global) → List EntryModel
@@ -181,16 +183,20 @@ changes_list t id stored list is (Some changed) changes = (λ same. changes.1 (s
 
 module _ (t : ObjectRecords) (room : Room) (stand : RepresentsRoom t room) (path : Path) (id : ℕ) (here : HasPath t path id) where
   only_here : (rest : Path) → HasPath t (path ++ rest) id → rest ≡ []
-  only_here rest at = rests_same path rest [] (path_of_node t stand.rules (path ++ rest) path id at here ∙ sym (append-nil path))
+  only_here rest at = append_cancel_left path rest [] (path_of_node t stand.rules (path ++ rest) path id at here ∙ sym (append-nil path))
 
   -- where the list stays nothing is put
   relists_nothing : Relists t room path (t.entries id) []
   relists_nothing = record {
     each = tt;
-    every = λ rest k at. inl (stored_list t room stand (path ++ rest) k at ∙ sym (lists_stay room path rest)
-    ∙ ap (λ list. list_below room path list (reverse rest)) (sym (stored_list t room stand path id here)));
+    every = λ rest k at. inl (stays rest k at);
     once = λ k. omega arith;
   }
+    where
+      stays : (rest : Path) (k : ℕ) → HasPath t (path ++ rest) k → t.entries k ≡ list_below room path (t.entries id) (reverse rest)
+      stays rest k at =
+          stored_list t room stand (path ++ rest) k at ∙ sym (lists_stay room path rest)
+          ∙ ap (λ list. list_below room path list (reverse rest)) (sym (stored_list t room stand path id here))
 
   module _ (list : Vec EntryModel Global) (changes : list.items ≢ t.entries id) (below : Puts) (renews : RenewsBelow t room path list.items (map put below))
       (each : EachPut (IsRenewed t room path list.items) below) where
@@ -198,8 +204,10 @@ module _ (t : ObjectRecords) (room : Room) (stand : RepresentsRoom t room) (path
     whole = below ++ (id, list) ∷ []
 
     not_here : EachPut (λ k entries. k ≢ id) below
-    not_here = each_weaker (IsRenewed t room path list.items) (λ k entries. k ≢ id)
-    (λ k entries new same. let At : ℕ → Type 0 = λ j. HasPath t (path ++ new.rest) j in new.below (only_here new.rest (subst At same new.at))) below each
+    not_here = each_weaker (IsRenewed t room path list.items) (λ k entries. k ≢ id) other below each
+      where
+        other : (k : ℕ) (entries : List EntryModel) → IsRenewed t room path list.items k entries → k ≢ id
+        other k entries new same = let At : ℕ → Type 0 = λ j. HasPath t (path ++ new.rest) j in new.below (only_here new.rest (subst At same new.at))
 
     any_of_whole : (k : ℕ) → list_any (puts_entries_of k) (map put whole) ≡ (list_any (puts_entries_of k) (map put below) || (eqb k id || false))
     any_of_whole k = ap (list_any (puts_entries_of k)) (map-append put below ((id, list) ∷ [])) ∙ list_any-append (puts_entries_of k) (map put below) (PutEntries id list ∷ [])
@@ -214,7 +222,7 @@ module _ (t : ObjectRecords) (room : Room) (stand : RepresentsRoom t room) (path
     put_or_kept [] k at =
         let At : Path → Type 0 = λ q. HasPath t q k in
         let same : k ≡ id = reads_one t stand.rules (reverse path) k id (subst At (append-nil path) at) here in
-        inr (any_of_whole k ∙ ap (λ b. list_any (puts_entries_of k) (map put below) || (b || false)) (if_same k id true (eqb k id) same)
+        inr (any_of_whole k ∙ ap (λ b. list_any (puts_entries_of k) (map put below) || (b || false)) (eq-eqb k id same)
         ∙ or_true (list_any (puts_entries_of k) (map put below)))
     put_or_kept (name ∷ rest) k at = elim (renews.every (name ∷ rest) k (λ none. cc) at) [
       | inl stays ↦ inl stays
@@ -226,20 +234,23 @@ module _ (t : ObjectRecords) (room : Room) (stand : RepresentsRoom t room) (path
       | inl same ↦
           let none = none_put below k (each_weaker (λ j entries. j ≢ id) (λ j entries. j ≢ k) (λ j entries other is. other (is ∙ same)) below not_here) in
           omega (arith, count_of_whole k, none, one_or_none (eqb k id))
-      | inr other ↦ omega (arith, count_of_whole k, renews.once k, if_other k id 1 0 other)
+      | inr other ↦ omega (arith, count_of_whole k, renews.once k, not_counted k id other)
     ]
 
     relists_whole : Relists t room path list.items whole
     relists_whole =
         let At : Path → Type 0 = λ q. HasPath t q id in
-        let weaker : EachPut (IsRelisted t room path list.items) below = each_weaker (IsRenewed t room path list.items) (IsRelisted t room path list.items)
-        (λ k entries new. record { rest = new.rest; at = new.at; is_list = new.is_list; changes = new.changes }) below each in
+        let weaker : EachPut (IsRelisted t room path list.items) below =
+        each_weaker (IsRenewed t room path list.items) (IsRelisted t room path list.items) as_relisted below each in
         let top : IsRelisted t room path list.items id list.items = record { rest = []; at = subst At (sym (append-nil path)) here; is_list = refl; changes = changes } in
         record {
           each = each_append (IsRelisted t room path list.items) below ((id, list) ∷ []) weaker (top, tt);
           every = put_or_kept;
           once = once_in_whole;
         }
+      where
+        as_relisted : (k : ℕ) (entries : List EntryModel) → IsRenewed t room path list.items k entries → IsRelisted t room path list.items k entries
+        as_relisted k entries new = record { rest = new.rest; at = new.at; is_list = new.is_list; changes = new.changes }
 
   -- what is planned puts the lists that change
   pub puts_relist : (now : Node) → now.id ≡ id → (new : Option (Vec EntryModel Global)) → MatchOption new (Unit {0}) (λ list. list.items ≢ t.entries id) → (planned : List Change)
@@ -265,22 +276,26 @@ module _ (t : ObjectRecords) (room : Room) (stand : RepresentsRoom t room) (path
 
   -- an object at or below the path has the list that follows there
   pub relisted_at : (rest : Path) (id : ℕ) → HasPath t (path ++ rest) id → relisted.entries id ≡ list_below room path list (reverse rest)
-  relisted_at rest id at = entries_put puts first id (list_below room path list (reverse rest))
-  (each_weaker (IsRelisted t room path list) (λ k entries. k ≡ id → entries ≡ list_below room path list (reverse rest))
-  (λ k entries new same.
-  let At : ℕ → Type 0 = λ j. HasPath t (path ++ new.rest) j in
-  let one : new.rest ≡ rest = rests_same path new.rest rest (path_of_node t stand.rules (path ++ new.rest) (path ++ rest) id (subst At same new.at) at) in
-  new.is_list ∙ ap (λ names. list_below room path list (reverse names)) one) puts r.each)
-  (r.every rest id at)
+  relisted_at rest id at =
+      let each : EachPut (λ k entries. k ≡ id → entries ≡ list_below room path list (reverse rest)) puts =
+      each_weaker (IsRelisted t room path list) (λ k entries. k ≡ id → entries ≡ list_below room path list (reverse rest)) one_list puts r.each in
+      entries_put puts first id (list_below room path list (reverse rest)) each (r.every rest id at)
+    where
+      one_list : (k : ℕ) (entries : List EntryModel) → IsRelisted t room path list k entries → k ≡ id → entries ≡ list_below room path list (reverse rest)
+      one_list k entries new same =
+          let At : ℕ → Type 0 = λ j. HasPath t (path ++ new.rest) j in
+          let one : new.rest ≡ rest = append_cancel_left path new.rest rest (path_of_node t stand.rules (path ++ new.rest) (path ++ rest) id (subst At same new.at) at) in
+          new.is_list ∙ ap (λ names. list_below room path list (reverse names)) one
 
   -- and each other one what it had
   pub relisted_off : (q : Path) (id : ℕ) → HasPath t q id → is_at_or_below q path ≡ false → relisted.entries id ≡ t.entries id
-  relisted_off q id at off = entries_kept puts first id
-  (each_weaker (IsRelisted t room path list) (λ k entries. k ≢ id)
-  (λ k entries new same.
-  let At : ℕ → Type 0 = λ j. HasPath t (path ++ new.rest) j in
-  let one : q ≡ path ++ new.rest = path_of_node t stand.rules q (path ++ new.rest) id at (subst At same new.at) in
-  not_both (is_at_or_below q path) (ap (λ p. is_at_or_below p path) one ∙ at_behind path new.rest) off) puts r.each)
+  relisted_off q id at off = entries_kept puts first id (each_weaker (IsRelisted t room path list) (λ k entries. k ≢ id) other puts r.each)
+    where
+      other : (k : ℕ) (entries : List EntryModel) → IsRelisted t room path list k entries → k ≢ id
+      other k entries new same =
+          let At : ℕ → Type 0 = λ j. HasPath t (path ++ new.rest) j in
+          let one : q ≡ path ++ new.rest = path_of_node t stand.rules q (path ++ new.rest) id at (subst At same new.at) in
+          not_both (is_at_or_below q path) (ap (λ p. is_at_or_below p path) one ∙ at_behind path new.rest) off
 
   pub relisted_of_objects : AllByRecursion IsOfObjects (PutNode now ∷ map put puts)
   relisted_of_objects = (tt, of_objects puts)

@@ -1,11 +1,13 @@
-use Rattle.std.proofs.Common.{ap, ◌∙◌, ◌∷◌, ◌++◌, ◌||◌}
+use Rattle.std.proofs.Common.{refl, ap, ◌∙◌, subst, List, ◌∷◌, ◌++◌, ◌||◌}
+use Rattle.room_acl.specs.Entries.{EntryModel}
 use Rattle.room_records.specs.Records.{Records}
 use Rattle.room_commands.specs.declared.reply.Fault.TheVariants.{Inval}
 use Rattle.room_commands.specs.Checks.{refuse_if, is_root, is_at_or_below}
+use Rattle.room_tree.specs.Places.{node_of}
 use Rattle.room_tree.specs.Renames.{end_checks, move_rights, move_limits}
-use Rattle.room_commands.specs.ReplyModel.{reply_model}
 use Rattle.room_tree.proofs.Checking.{none_passes}
 use Rattle.room_tree.proofs.Renamed.{rename_plans}
+use Rattle.room_tree.proofs.Renewed.{IsChangeOf}
 use Rattle.room_tree.proofs.Stops.{handed_on, in_front, past_front}
 use Rattle.room_tree.proofs.moving.plan_rename.Goals as goal
 
@@ -46,7 +48,10 @@ returns-clause-effect g c = λ available laid_out t e room stand.
     let allowed = c.in_ok-moving.ensures.value before laid_out t e room stand in
     let limits = (c.in_ok-check_limits.ensures.value counting declared t same room stand path allowed.1).0 in
     let lawful = c.in_ok-moving.ensures.lawful in
-    let planned = c.in_ok-changes.ensures.value available declared_at_last t same_at_last room stand path ? ? ? ? in
-    rename_plans t room caller path to c.in_ok-moving.moving c.in_ok-node.node c.in_ok-outcome.outcome stand lawful.0 lawful.1
-    (none_passes first (move_limits room path to) allowed.0 ∙ limits) allowed.1 c.in_ok-node.ensures
-    ? ? ? refl
+    let move = c.in_ok-moving.moving in
+    let Changes : List EntryModel → Type 0 = λ stored. IsChangeOf stored c.in_ok-list.list.items c.if_changed-list.result in
+    let Moved : List EntryModel → Type 0 = λ list. IsChangeOf move.place.list.items list c.if_changed-list.result in
+    let changes = subst Moved c.in_ok-list.ensures (subst Changes c.deref.ensures.value c.if_changed-list.ensures) in
+    rename_plans t room caller path to move c.in_ok-node.node _ stand lawful.0 lawful.1
+    (none_passes first (move_limits room path to) allowed.0 ∙ limits) allowed.1 c.in_ok-node.ensures c.if_changed-list.result changes
+    (λ at stands kind. c.in_ok-changes.ensures.value available declared_at_last t same_at_last room stand path (node_of move.place) at stands kind) refl

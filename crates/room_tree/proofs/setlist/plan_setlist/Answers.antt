@@ -1,8 +1,11 @@
-use Rattle.std.proofs.Common.{◌≡◌, ap, sym, ◌∙◌, [], ◌∷◌, refl}
+use Rattle.std.proofs.Common.{◌≡◌, ap, sym, ◌∙◌, subst, List, [], ◌∷◌, Some, refl}
 use Rattle.std.specs.List.{filter_map}
 use Rattle.room_acl.specs.Inheritance.{own_entries_fault}
+use Rattle.room_acl.specs.Entries.{EntryModel}
 use Rattle.room_acl.specs.Inheritance.{with_inherited}
 use Rattle.room_records.specs.Records.{Records}
+use Rattle.room_records.specs.declared.node.Node.{Node}
+use Rattle.room_records.specs.Representation.{HasPath}
 use Rattle.room_records.specs.Room.{object_at}
 use Rattle.room_commands.specs.SetList.{own_entries_of_setlist}
 use Rattle.room_tree.specs.Places.{node_of, kept_entry}
@@ -11,6 +14,7 @@ use Rattle.room_commands.specs.Checks.{walk, check_exists, check_right, check_la
 use Rattle.room_tree.proofs.Checking.{none_passes, first_alone, there}
 use Rattle.room_tree.proofs.Marks.{kept_is}
 use Rattle.room_tree.proofs.Relisted.{setlist_plans}
+use Rattle.room_tree.proofs.Renewed.{IsChangeOf}
 use Rattle.room_tree.proofs.Stops.{handed_on, in_front}
 use Rattle.room_tree.proofs.setlist.plan_setlist.Goals as goal
 
@@ -61,5 +65,16 @@ returns-clause-effect g c = λ available laid_out t e room stand.
     let passed = whole ∙ sym c.in_ok-check_lawful.ensures in
     let list = c.in_ok-list.ensures.value listing laid_out_then t same room stand
     ∙ ap (λ es. with_inherited es flag place.kind (entries_of t place.parent)) own in
-    let planned = c.in_ok-changes.ensures.value available laid_out_at_last t same_at_last room stand path (node_of place) ? ? ? in
-    setlist_plans t room stand path place reached.1 caller flag sent passed c.in_ok-list.list.items list ? ? _ ? refl
+    let node = node_of place in
+    let now = record node { aclflag = flag } in
+    let shows = reached.1.is_there in
+    let is : c.with_flags-node.result ≡ now = c.with_flags-node.ensures in
+    let Here : Node → Type 0 = λ n. HasPath t path n.id in
+    let Stands : Node → Type 0 = λ n. t.node n.id ≡ Some node in
+    let Kind : Node → Type 0 = λ n. node.kind ≡ n.kind in
+    let Puts : Node → Type 0 = λ n. PutsList t room path n c.if_changed-list.result c.in_ok-changes.changes.items in
+    let planned = subst Puts is (c.in_ok-changes.ensures.value available laid_out_at_last t same_at_last room stand path node
+    (subst Here (sym is) shows.at) (subst Stands (sym is) shows.node_stands) (subst Kind (sym is) refl)) in
+    let Changes : List EntryModel → Type 0 = λ stored. IsChangeOf stored c.in_ok-list.list.items c.if_changed-list.result in
+    let changes = subst Changes c.deref.ensures.value c.if_changed-list.ensures in
+    setlist_plans t room stand path place reached.1 caller flag sent passed c.in_ok-list.list.items list c.if_changed-list.result changes _ planned refl
