@@ -1,11 +1,10 @@
 -- Lists in a room where the list of one object changed, or where it went elsewhere.
-use Rattle.std.proofs.Common.{◌≡◌, ◌≢◌, refl, ap, sym, ◌∙◌, Bool, true, false, List, [], ◌∷◌, ◌++◌, reverse, append-nil, append_assoc}
+use Rattle.std.proofs.Common.{◌≡◌, ◌≢◌, ◌+◌, refl, ap, sym, ◌∙◌, arith, Bool, true, false, List, [], ◌∷◌, ◌++◌, length, length-append, reverse, append-nil, append_assoc}
 use Rattle.std.proofs.lemmas.List.{reverse-append, reverse-reverse}
 use Rattle.room_records.specs.Names.{Name, Path}
 use Rattle.room_records.specs.Room.{Room, object_at, list_of, list_under}
 use Rattle.room_records.proofs.RoomsLists.{list_in_folder, lists_by_objects_above}
 use Rattle.room_commands.specs.Checks.{is_at_or_below}
-use Rattle.room_commands.specs.Effect.{renamed}
 use Rattle.room_commands.proofs.RoomsRenamed.{below_more, not_both}
 use Rattle.room_tree.specs.Renewals.{list_below}
 
@@ -55,3 +54,11 @@ pub lists_away_from_both : (room after : Room) (path to : Path)
     → (q : Path) → is_at_or_below q path ≡ false → is_at_or_below q to ≡ false → list_of after q ≡ list_of room q
 lists_away_from_both room after path to same q off off_to =
     lists_by_objects_above after room q (λ front rest split. same front (front_off q path front rest split off) (front_off q to front rest split off_to))
+
+-- the folder of an object that alone changed keeps its list
+pub list_above_stays : (room after : Room) (path folder : Path) (name : Name) → path ≡ folder ++ name ∷ []
+    → ((q : Path) → (q ≡ path → ⊥) → object_at after q ≡ object_at room q) → list_of after folder ≡ list_of room folder
+list_above_stays room after path folder name is same = lists_by_objects_above after room folder (λ front rest split. same front (λ top.
+    let long : length folder ≡ length front + length rest = ap length split ∙ length-append front rest in
+    let longer : length path ≡ length folder + 1 = ap length is ∙ length-append folder (name ∷ []) in
+    omega (arith, long, longer, ap length top)))

@@ -15,16 +15,19 @@ use Rattle.room_records.specs.Names.{Name, Path}
 use Rattle.room_records.specs.Records.{ObjectRecords}
 use Rattle.room_records.specs.Rules.{ObjectRules}
 use Rattle.room_records.specs.Changes.{apply_to_objects, apply_all_to_objects, IsOfObjects, ObjectRulesHoldAfterEach}
-use Rattle.room_records.specs.Room.{Room, list_of}
-use Rattle.room_records.specs.Representation.{RepresentsRoom, HasPath, NamesUpwards}
-use Rattle.room_records.proofs.Paths.{reads_one, object_at_node}
+use Rattle.room_records.specs.Room.{Room}
+use Rattle.room_records.specs.Representation.{RepresentsRoom, HasPath}
+use Rattle.room_records.proofs.Paths.{reads_one}
 use Rattle.room_records.proofs.RulesKept.{same_or_other, if_same, if_other, rules_put_entries}
 use Rattle.room_commands.specs.Checks.{is_at_or_below}
 use Rattle.room_commands.proofs.Renaming.{at_behind}
 use Rattle.room_commands.proofs.RoomsRenamed.{not_both}
+use Rattle.room_tree.specs.declared.place.Place.{Place}
+use Rattle.room_tree.specs.Places.{IsPlace}
 use Rattle.room_tree.specs.Renewals.{list_below, IsRenewed, IsRenewal, RenewsBelow, PutsList, ChangesFewRows, puts_entries, puts_entries_of}
 use Rattle.room_tree.proofs.ListsRenewed.{lists_stay}
 use Rattle.room_tree.proofs.RowsReplaced.{path_of_node}
+use Rattle.room_tree.proofs.StoredLists.{node_at_path, stored_list}
 
 -- lists that are put, by the numbers of their objects
 abbrev pub Puts : Type 0
@@ -144,18 +147,8 @@ pub record Relists (t : ObjectRecords) (room : Room) (path : Path) (list : List 
       → (t.entries id ≡ list_below room path list (reverse rest)) ⊎ IsTrue (list_any (puts_entries_of id) (map put puts))
   pub once : (id : ℕ) → count_by (puts_entries_of id) (map put puts) ≤ 1
 
-is_node_of : (t : ObjectRecords) → ObjectRules t → (names : List Name) (id : ℕ) → NamesUpwards t names id → (n : Node) × (t.node id ≡ Some n)
-is_node_of t rules [] id at = elim (some_of (t.node 1) rules.has_root) [ | (n, is) ↦ (n, ap t.node at ∙ is) ]
-  where
-    some_of : (o : Option Node) → IsSome o → (n : Node) × (o ≡ Some n)
-    some_of None h = let f = h in cc
-    some_of (Some n) h = (n, refl)
-is_node_of t rules (name ∷ above) id at = (at.0, at.2)
-
-pub node_at_path : (t : ObjectRecords) → ObjectRules t → (path : Path) (id : ℕ) → HasPath t path id → (n : Node) × (t.node id ≡ Some n)
-node_at_path t rules path id at = is_node_of t rules (reverse path) id at
-
-rests_same : (path a b : Path) → path ++ a ≡ path ++ b → a ≡ b
+-- one front leaves one rest
+pub rests_same : (path a b : Path) → path ++ a ≡ path ++ b → a ≡ b
 rests_same [] a b same = same
 rests_same (name ∷ path) a b same = rests_same path a b (let tails : path ++ a ≡ path ++ b = cc in tails)
 
@@ -172,89 +165,95 @@ abbrev pub list_then : ObjectRecords → ℕ → Option (Vec EntryModel Global) 
 list_then t id None = t.entries id
 list_then t id (Some list) = list.items
 
-module _ (t : ObjectRecords) (room : Room) (stand : RepresentsRoom t room) where
-  -- the rows hold the list of each object
-  pub stored_list : (q : Path) (id : ℕ) → HasPath t q id → t.entries id ≡ list_of room q
-  stored_list q id at =
-      let node = node_at_path t stand.rules q id at in
-      let object = object_at_node t room stand q id node.0 at node.1 in
-      ap t.entries (sym (stand.rules.numbered id node.0 node.1).0) ∙ object.2.entries
+-- whether a list is another one than the stored one, and which
+abbrev pub IsChangeOf : List EntryModel → List EntryModel → Option (Vec EntryModel Global) → Type 0
+IsChangeOf stored list new = MatchOption new (list ≡ stored) (λ changed. (changed.items ≡ list) × (list ≢ stored))
 
-  module _ (path : Path) (id : ℕ) (here : HasPath t path id) where
-    only_here : (rest : Path) → HasPath t (path ++ rest) id → rest ≡ []
-    only_here rest at = rests_same path rest [] (path_of_node t stand.rules (path ++ rest) path id at here ∙ sym (append-nil path))
+pub list_then_is : (t : ObjectRecords) (id : ℕ) (stored list : List EntryModel) → t.entries id ≡ stored → (new : Option (Vec EntryModel Global)) → IsChangeOf stored list new
+    → list_then t id new ≡ list
+list_then_is t id stored list is None same = is ∙ sym same
+list_then_is t id stored list is (Some changed) changes = changes.0
 
-    -- where the list stays nothing is put
-    relists_nothing : Relists t room path (t.entries id) []
-    relists_nothing = record {
-      each = tt;
-      every = λ rest k at. inl (stored_list (path ++ rest) k at ∙ sym (lists_stay room path rest)
-      ∙ ap (λ list. list_below room path list (reverse rest)) (sym (stored_list path id here)));
-      once = λ k. omega arith;
-    }
+pub changes_list : (t : ObjectRecords) (id : ℕ) (stored list : List EntryModel) → t.entries id ≡ stored → (new : Option (Vec EntryModel Global)) → IsChangeOf stored list new
+    → MatchOption new (Unit {0}) (λ changed. changed.items ≢ t.entries id)
+changes_list t id stored list is None same = tt
+changes_list t id stored list is (Some changed) changes = (λ same. changes.1 (sym changes.0 ∙ same ∙ is))
 
-    module _ (list : Vec EntryModel Global) (changes : list.items ≢ t.entries id) (below : Puts) (renews : RenewsBelow t room path list.items (map put below))
-        (each : EachPut (IsRenewed t room path list.items) below) where
-      abbrev whole : Puts
-      whole = below ++ (id, list) ∷ []
+module _ (t : ObjectRecords) (room : Room) (stand : RepresentsRoom t room) (path : Path) (id : ℕ) (here : HasPath t path id) where
+  only_here : (rest : Path) → HasPath t (path ++ rest) id → rest ≡ []
+  only_here rest at = rests_same path rest [] (path_of_node t stand.rules (path ++ rest) path id at here ∙ sym (append-nil path))
 
-      not_here : EachPut (λ k entries. k ≢ id) below
-      not_here = each_weaker (IsRenewed t room path list.items) (λ k entries. k ≢ id)
-      (λ k entries new same. let At : ℕ → Type 0 = λ j. HasPath t (path ++ new.rest) j in new.below (only_here new.rest (subst At same new.at))) below each
+  -- where the list stays nothing is put
+  relists_nothing : Relists t room path (t.entries id) []
+  relists_nothing = record {
+    each = tt;
+    every = λ rest k at. inl (stored_list t room stand (path ++ rest) k at ∙ sym (lists_stay room path rest)
+    ∙ ap (λ list. list_below room path list (reverse rest)) (sym (stored_list t room stand path id here)));
+    once = λ k. omega arith;
+  }
 
-      any_of_whole : (k : ℕ) → list_any (puts_entries_of k) (map put whole) ≡ (list_any (puts_entries_of k) (map put below) || (eqb k id || false))
-      any_of_whole k = ap (list_any (puts_entries_of k)) (map-append put below ((id, list) ∷ [])) ∙ list_any-append (puts_entries_of k) (map put below) (PutEntries id list ∷ [])
+  module _ (list : Vec EntryModel Global) (changes : list.items ≢ t.entries id) (below : Puts) (renews : RenewsBelow t room path list.items (map put below))
+      (each : EachPut (IsRenewed t room path list.items) below) where
+    abbrev whole : Puts
+    whole = below ++ (id, list) ∷ []
 
-      count_of_whole : (k : ℕ) → count_by (puts_entries_of k) (map put whole) ≡ count_by (puts_entries_of k) (map put below) + cond (eqb k id) 1 0
-      count_of_whole k =
-          let apart = sum_by-append (λ (change : Change). cond (puts_entries_of k change) 1 0) (map put below) (PutEntries id list ∷ []) in
-          ap (count_by (puts_entries_of k)) (map-append put below ((id, list) ∷ [])) ∙ apart ∙ omega arith
+    not_here : EachPut (λ k entries. k ≢ id) below
+    not_here = each_weaker (IsRenewed t room path list.items) (λ k entries. k ≢ id)
+    (λ k entries new same. let At : ℕ → Type 0 = λ j. HasPath t (path ++ new.rest) j in new.below (only_here new.rest (subst At same new.at))) below each
 
-      put_or_kept : (rest : Path) (k : ℕ) → HasPath t (path ++ rest) k
-          → (t.entries k ≡ list_below room path list.items (reverse rest)) ⊎ IsTrue (list_any (puts_entries_of k) (map put whole))
-      put_or_kept [] k at =
-          let At : Path → Type 0 = λ q. HasPath t q k in
-          let same : k ≡ id = reads_one t stand.rules (reverse path) k id (subst At (append-nil path) at) here in
-          inr (any_of_whole k ∙ ap (λ b. list_any (puts_entries_of k) (map put below) || (b || false)) (if_same k id true (eqb k id) same)
-          ∙ or_true (list_any (puts_entries_of k) (map put below)))
-      put_or_kept (name ∷ rest) k at = elim (renews.every (name ∷ rest) k (λ none. cc) at) [
-        | inl stays ↦ inl stays
-        | inr found ↦ inr (any_of_whole k ∙ ap (λ b. b || (eqb k id || false)) found)
-      ]
+    any_of_whole : (k : ℕ) → list_any (puts_entries_of k) (map put whole) ≡ (list_any (puts_entries_of k) (map put below) || (eqb k id || false))
+    any_of_whole k = ap (list_any (puts_entries_of k)) (map-append put below ((id, list) ∷ [])) ∙ list_any-append (puts_entries_of k) (map put below) (PutEntries id list ∷ [])
 
-      once_in_whole : (k : ℕ) → count_by (puts_entries_of k) (map put whole) ≤ 1
-      once_in_whole k = elim (same_or_other k id) [
-        | inl same ↦
-            let none = none_put below k (each_weaker (λ j entries. j ≢ id) (λ j entries. j ≢ k) (λ j entries other is. other (is ∙ same)) below not_here) in
-            omega (arith, count_of_whole k, none, one_or_none (eqb k id))
-        | inr other ↦ omega (arith, count_of_whole k, renews.once k, if_other k id 1 0 other)
-      ]
+    count_of_whole : (k : ℕ) → count_by (puts_entries_of k) (map put whole) ≡ count_by (puts_entries_of k) (map put below) + cond (eqb k id) 1 0
+    count_of_whole k =
+        let apart = sum_by-append (λ (change : Change). cond (puts_entries_of k change) 1 0) (map put below) (PutEntries id list ∷ []) in
+        ap (count_by (puts_entries_of k)) (map-append put below ((id, list) ∷ [])) ∙ apart ∙ omega arith
 
-      relists_whole : Relists t room path list.items whole
-      relists_whole =
-          let At : Path → Type 0 = λ q. HasPath t q id in
-          let weaker : EachPut (IsRelisted t room path list.items) below = each_weaker (IsRenewed t room path list.items) (IsRelisted t room path list.items)
-          (λ k entries new. record { rest = new.rest; at = new.at; is_list = new.is_list; changes = new.changes }) below each in
-          let top : IsRelisted t room path list.items id list.items = record { rest = []; at = subst At (sym (append-nil path)) here; is_list = refl; changes = changes } in
-          record {
-            each = each_append (IsRelisted t room path list.items) below ((id, list) ∷ []) weaker (top, tt);
-            every = put_or_kept;
-            once = once_in_whole;
-          }
+    put_or_kept : (rest : Path) (k : ℕ) → HasPath t (path ++ rest) k
+        → (t.entries k ≡ list_below room path list.items (reverse rest)) ⊎ IsTrue (list_any (puts_entries_of k) (map put whole))
+    put_or_kept [] k at =
+        let At : Path → Type 0 = λ q. HasPath t q k in
+        let same : k ≡ id = reads_one t stand.rules (reverse path) k id (subst At (append-nil path) at) here in
+        inr (any_of_whole k ∙ ap (λ b. list_any (puts_entries_of k) (map put below) || (b || false)) (if_same k id true (eqb k id) same)
+        ∙ or_true (list_any (puts_entries_of k) (map put below)))
+    put_or_kept (name ∷ rest) k at = elim (renews.every (name ∷ rest) k (λ none. cc) at) [
+      | inl stays ↦ inl stays
+      | inr found ↦ inr (any_of_whole k ∙ ap (λ b. b || (eqb k id || false)) found)
+    ]
 
-    -- what is planned puts the lists that change
-    pub puts_relist : (now : Node) → now.id ≡ id → (new : Option (Vec EntryModel Global)) → MatchOption new (Unit {0}) (λ list. list.items ≢ t.entries id) → (planned : List Change)
-        → PutsList t room path now new planned → (puts : Puts) × (planned ≡ PutNode now ∷ map put puts) × Relists t room path (list_then t id new) puts
-    puts_relist now same None changes planned is = ([], is, relists_nothing)
-    puts_relist now same (Some list) changes planned (added, renews, is) =
-        let split = split_renewals t room path list.items added renews.each in
-        let Renews : List Change → Type 0 = λ cs. RenewsBelow t room path list.items cs in
-        let lists : added ++ PutEntries now.id list ∷ [] ≡ map put (split.0 ++ (id, list) ∷ []) =
-        ap (λ cs. cs ++ PutEntries now.id list ∷ []) split.1 ∙ ap (λ k. map put split.0 ++ PutEntries k list ∷ []) same ∙ sym (map-append put split.0 ((id, list) ∷ [])) in (
-          split.0 ++ (id, list) ∷ [],
-          is ∙ ap (λ cs. PutNode now ∷ cs) lists,
-          relists_whole list changes split.0 (subst Renews split.1 renews) split.2,
-        )
+    once_in_whole : (k : ℕ) → count_by (puts_entries_of k) (map put whole) ≤ 1
+    once_in_whole k = elim (same_or_other k id) [
+      | inl same ↦
+          let none = none_put below k (each_weaker (λ j entries. j ≢ id) (λ j entries. j ≢ k) (λ j entries other is. other (is ∙ same)) below not_here) in
+          omega (arith, count_of_whole k, none, one_or_none (eqb k id))
+      | inr other ↦ omega (arith, count_of_whole k, renews.once k, if_other k id 1 0 other)
+    ]
+
+    relists_whole : Relists t room path list.items whole
+    relists_whole =
+        let At : Path → Type 0 = λ q. HasPath t q id in
+        let weaker : EachPut (IsRelisted t room path list.items) below = each_weaker (IsRenewed t room path list.items) (IsRelisted t room path list.items)
+        (λ k entries new. record { rest = new.rest; at = new.at; is_list = new.is_list; changes = new.changes }) below each in
+        let top : IsRelisted t room path list.items id list.items = record { rest = []; at = subst At (sym (append-nil path)) here; is_list = refl; changes = changes } in
+        record {
+          each = each_append (IsRelisted t room path list.items) below ((id, list) ∷ []) weaker (top, tt);
+          every = put_or_kept;
+          once = once_in_whole;
+        }
+
+  -- what is planned puts the lists that change
+  pub puts_relist : (now : Node) → now.id ≡ id → (new : Option (Vec EntryModel Global)) → MatchOption new (Unit {0}) (λ list. list.items ≢ t.entries id) → (planned : List Change)
+      → PutsList t room path now new planned → (puts : Puts) × (planned ≡ PutNode now ∷ map put puts) × Relists t room path (list_then t id new) puts
+  puts_relist now same None changes planned is = ([], is, relists_nothing)
+  puts_relist now same (Some list) changes planned (added, renews, is) =
+      let split = split_renewals t room path list.items added renews.each in
+      let Renews : List Change → Type 0 = λ cs. RenewsBelow t room path list.items cs in
+      let lists : added ++ PutEntries now.id list ∷ [] ≡ map put (split.0 ++ (id, list) ∷ []) =
+      ap (λ cs. cs ++ PutEntries now.id list ∷ []) split.1 ∙ ap (λ k. map put split.0 ++ PutEntries k list ∷ []) same ∙ sym (map-append put split.0 ((id, list) ∷ [])) in (
+        split.0 ++ (id, list) ∷ [],
+        is ∙ ap (λ cs. PutNode now ∷ cs) lists,
+        relists_whole list changes split.0 (subst Renews split.1 renews) split.2,
+      )
 
 -- the rows after a row is put, and the lists
 module _ (t : ObjectRecords) (room : Room) (stand : RepresentsRoom t room) (path : Path) (list : List EntryModel) (puts : Puts) (r : Relists t room path list puts) (now : Node) where
@@ -295,7 +294,7 @@ module _ (t : ObjectRecords) (room : Room) (stand : RepresentsRoom t room) (path
   pub relisted_rules : ObjectRules first → ObjectRulesHoldAfterEach (PutNode now ∷ map put puts) t × ObjectRules relisted
   relisted_rules rules =
       let there = each_weaker (IsRelisted t room path list) (λ id entries. (m : Node) × (first.node id ≡ Some m))
-      (λ id entries new. let node = node_at_path t stand.rules (path ++ new.rest) id new.at in there_after id node.0 node.1) puts r.each in
+      (λ id entries new. let node = node_at_path t room stand (path ++ new.rest) id new.at in there_after id node.0 node.1) puts r.each in
       let after = rules_kept puts first rules there in
       ((rules, after.0), after.1)
 
@@ -311,3 +310,7 @@ module _ (t : ObjectRecords) (room : Room) (stand : RepresentsRoom t room) (path
         let none = no_others puts in
         omega (arith, more, none);
   }
+
+-- the rows hold the list that was read
+pub stored_at : (t : ObjectRecords) (room : Room) (path : Path) (place : Place) → IsPlace t room path place → t.entries place.id ≡ place.list.items
+stored_at t room path place found = found.is_there.shows.entries ∙ sym found.list

@@ -9,7 +9,7 @@ use Rattle.room_records.specs.Names.{Name, Path, IsFileName}
 use Rattle.room_records.specs.Records.{ObjectRecords, IsChild}
 use Rattle.room_records.specs.Rules.{ObjectRules, IsRoot}
 use Rattle.room_records.specs.Changes.{apply_to_objects}
-use Rattle.room_records.specs.Room.{Object, Room, IsRoom, object_at}
+use Rattle.room_records.specs.Room.{Object, Room, IsRoom, object_at, list_of}
 use Rattle.room_records.specs.Representation.{RepresentsRoom, NodeIsObject, RowsShowObject, HasPath, NamesUpwards}
 use Rattle.room_records.proofs.RoomsMap.{some_is, none_is_some}
 use Rattle.room_records.proofs.RulesKept.{same_or_other, if_same, if_other, some_or_none}
@@ -105,7 +105,7 @@ pub record Adds (t later : ObjectRecords) (room after : Room) (path : Path) (o :
   pub rules : ObjectRules later
   pub stands : later.node node.id ≡ Some node
   pub nodes_away : (id : ℕ) → id ≢ node.id → later.node id ≡ t.node id
-  pub entries_away : (id : ℕ) → id ≢ node.id → later.entries id ≡ t.entries id
+  pub lists_away : (q : Path) (id : ℕ) → HasPath t q id → later.entries id ≡ list_of after q
   pub documents_away : (id : ℕ) → id ≢ node.id → later.document id ≡ t.document id
   pub folder : Path
   pub name : Name
@@ -152,7 +152,7 @@ module _ (t later : ObjectRecords) (room after : Room) (path : Path) (o : Object
           owner = is.shows.owner;
           group = is.shows.group;
           aclflag = is.shows.aclflag;
-          entries = a.entries_away found.id other_number ∙ is.shows.entries;
+          entries = ap later.entries number ∙ a.lists_away q id is.at;
           bytes = ap (λ (d : Option (List ℕ)). unwrap_or d []) (a.documents_away found.id other_number) ∙ is.shows.bytes;
         };
       }

@@ -8,11 +8,11 @@ use Rattle.room_records.specs.Names.{Name, Path, IsFileName}
 use Rattle.room_records.specs.Records.{ObjectRecords, IsChild}
 use Rattle.room_records.specs.Rules.{ObjectRules, IsRoot}
 use Rattle.room_records.specs.Changes.{apply_to_objects}
-use Rattle.room_records.specs.Room.{Object, Room, IsRoom, object_at}
+use Rattle.room_records.specs.Room.{Object, Room, IsRoom, object_at, list_of}
 use Rattle.room_records.specs.Representation.{RepresentsRoom, NodeIsObject, HasPath, NamesUpwards}
 use Rattle.room_records.proofs.Paths.{root_only, reads_one, child_is_at, object_at_node}
 use Rattle.room_records.proofs.RoomsMap.{some_is, none_is_some, Ends, ends}
-use Rattle.room_records.proofs.RulesKept.{same_or_other, if_same, if_other, some_or_none}
+use Rattle.room_records.proofs.RulesKept.{same_or_other, if_same, if_other, some_or_none, shape_itself, names_by_shape}
 use Rattle.room_commands.specs.Checks.{is_at_or_below}
 use Rattle.room_commands.specs.Effect.{renamed, moved}
 use Rattle.room_tree.proofs.Changed.{none_and_some}
@@ -42,7 +42,7 @@ moved_child q path to name below =
     ∙ sym (append_assoc to (drop (length path) q) (name ∷ []))
     ∙ ap (λ b. cond b (to ++ drop (length path) q) q ++ name ∷ []) (sym below)
 
-moved_off : (q path to : Path) → is_at_or_below q path ≡ false → moved path to q ≡ q
+pub moved_off : (q path to : Path) → is_at_or_below q path ≡ false → moved path to q ≡ q
 moved_off q path to off = ap (λ b. cond b (to ++ drop (length path) q) q) off
 
 -- what is at the path goes to the new one
@@ -51,7 +51,7 @@ moved_top path to =
     let here : is_at_or_below path path ≡ true = ap (λ p. is_at_or_below p path) (sym (append-nil path)) ∙ at_behind path [] in
     ap (λ b. cond b (to ++ drop (length path) path) path) here ∙ ap (λ r. to ++ r) (drop_all (length path) path (omega arith)) ∙ append-nil to
 
-moved_rest : (path to rest : Path) → moved path to (path ++ rest) ≡ to ++ rest
+pub moved_rest : (path to rest : Path) → moved path to (path ++ rest) ≡ to ++ rest
 moved_rest path to rest = by_rest rest
   where
     by_rest : (r : Path) → moved path to (path ++ r) ≡ to ++ r
@@ -79,6 +79,14 @@ pub record MovesNode (t : ObjectRecords) (room : Room) (path up : Path) (last : 
   pub group : now.group ≡ node.group
   pub aclflag : now.aclflag ≡ node.aclflag
   pub lawful : IsRoom (renamed room path (up ++ last ∷ []))
+
+-- the rows after it, where each list is that of the room after
+pub record MovesLists (t rows : ObjectRecords) (now : Node) (room : Room) (path to : Path) : Type 0 where
+  pub nodes : rows.node ≡ (apply_to_objects (PutNode now) t).node
+  pub documents : rows.document ≡ t.document
+  pub next : rows.next ≡ t.next
+  pub rules : ObjectRules rows
+  pub lists : (q : Path) (id : ℕ) → HasPath t q id → rows.entries id ≡ list_of (renamed room path to) (moved path to q)
 
 module _ (t : ObjectRecords) (room : Room) (stand : RepresentsRoom t room) (path up : Path) (last : Name) (o : Object) (node now : Node) (above : ℕ)
     (m : MovesNode t room path up last o node now above) where
@@ -167,8 +175,8 @@ module _ (t : ObjectRecords) (room : Room) (stand : RepresentsRoom t room) (path
       ]
 
   -- numbers are kept
-  pub moved_keeps : (q : Path) (id : ℕ) → HasPath t q id → HasPath later (moved path to q) id
-  moved_keeps q id at =
+  keeps_place : (q : Path) (id : ℕ) → HasPath t q id → HasPath later (moved path to q) id
+  keeps_place q id at =
       let Here : Path → Type 0 = λ p. HasPath later (moved path to p) id in
       subst Here (reverse-reverse q) (names_moved (reverse q) id at)
 
@@ -257,88 +265,100 @@ module _ (t : ObjectRecords) (room : Room) (stand : RepresentsRoom t room) (path
     next = stand.rules.next;
   }
 
-  -- what a node shows moves with it
-  moved_is : (id : ℕ) (found : Node) (q : Path) (p : Object) → NodeIsObject t room id found q p → (after : Node) × NodeIsObject later (renamed room path to) id after (moved path to q) p
-  moved_is id found q p is = elim (same_or_other id node.id) [
-    | inl same ↦
-        let same_node : node ≡ found = some_is node found (sym m.is_there.node_stands ∙ ap t.node (sym same) ∙ is.node_stands) in (
-          now,
-          record {
-            at = moved_keeps q id is.at;
-            node_stands = put id same;
-            object_stands = stands_there;
-            shows = record {
-              kind = m.kind ∙ ap (λ (n : Node). n.kind) same_node ∙ is.shows.kind;
-              owner = m.owner ∙ ap (λ (n : Node). n.owner) same_node ∙ is.shows.owner;
-              group = m.group ∙ ap (λ (n : Node). n.group) same_node ∙ is.shows.group;
-              aclflag = m.aclflag ∙ ap (λ (n : Node). n.aclflag) same_node ∙ is.shows.aclflag;
-              entries = ap t.entries (m.id ∙ ap (λ (n : Node). n.id) same_node) ∙ is.shows.entries;
-              bytes = ap (λ k. unwrap_or (t.document k) []) (m.id ∙ ap (λ (n : Node). n.id) same_node) ∙ is.shows.bytes;
-            };
-          },
-        )
-    | inr other ↦ (
-      found,
-      record {
-        at = moved_keeps q id is.at;
-        node_stands = away id other ∙ is.node_stands;
-        object_stands = stands_there;
-        shows = record {
-          kind = is.shows.kind;
-          owner = is.shows.owner;
-          group = is.shows.group;
-          aclflag = is.shows.aclflag;
-          entries = is.shows.entries;
-          bytes = is.shows.bytes;
-        };
-      },
-    )
-  ]
-    where
-      stands_there : object_at (renamed room path to) (moved path to q) ≡ Some p
-      stands_there = at_moved room stand.lawful path to o m.apart m.is_there.object_stands m.free q p is.object_stands
-
-  same_row : (id : ℕ) (a b : Node) → later.node id ≡ Some a → later.node id ≡ Some b → a ≡ b
-  same_row id a b x y = some_is a b (sym x ∙ y)
-
   old_node : (id : ℕ) (found : Node) → later.node id ≡ Some found → (before : Node) × (t.node id ≡ Some before)
   old_node id found stands = elim (back id found stands) [
     | inl new ↦ (node, ap t.node new.0 ∙ m.is_there.node_stands)
     | inr old ↦ (found, old.1)
   ]
 
-  abbrev Found : Path → Object → Type 0
-  Found q p = (id : ℕ) × (found : Node) × NodeIsObject later (renamed room path to) id found q p
+  -- with other entries, where each is the list of its object in the room after
+  module _ (rows : ObjectRecords) (w : MovesLists t rows now room path to) where
+    row_after : (id : ℕ) → rows.node id ≡ later.node id
+    row_after id = ap (λ (f : ℕ → Option Node). f id) w.nodes
 
-  pub moved_represents : RepresentsRoom (apply_to_objects (PutNode now) t) (renamed room path to)
-  moved_represents = record {
-    rules = rules_moved;
-    lawful = m.lawful;
-    nodes = λ id found stands.
-        let before = old_node id found stands in
-        let was = stand.nodes id before.0 before.1 in
-        let after = moved_is id before.0 was.0 was.1 was.2 in
-        let Row : Node → Type 0 = λ n. NodeIsObject later (renamed room path to) id n (moved path to was.0) was.1 in
-        (moved path to was.0, was.1, subst Row (same_row id after.0 found after.1.node_stands stands) after.1);
-    objects = λ q p stands. by_stand q p (stands_after room stand.lawful path to o m.apart m.is_there.object_stands m.free q p stands);
-    next = stand.next;
-  }
-    where
-      there : (q : Path) (p : Object) → object_at room q ≡ Some p → Found (moved path to q) p
-      there q p stands =
-          let was = stand.objects q p stands in
-          let after = moved_is was.0 was.1 q p was.2 in
-          (was.0, after.0, after.1)
+    bytes_after : (id : ℕ) → unwrap_or (rows.document id) [] ≡ unwrap_or (t.document id) []
+    bytes_after id = ap (λ (f : ℕ → Option (List ℕ)). unwrap_or (f id) []) w.documents
 
-      by_stand : (q : Path) (p : Object) → Stands room stand.lawful path to o m.apart m.is_there.object_stands m.free q p → Found q p
-      by_stand q p (Moved _ _ rest same stands) =
-          let At : Path → Type 0 = λ x. Found x p in subst At (moved_rest path to rest ∙ sym same) (there (path ++ rest) p stands)
-      by_stand q p (Stayed _ _ off off_to stands) =
-          let At : Path → Type 0 = λ x. Found x p in subst At (moved_off q path to off) (there q p stands)
+    -- numbers are kept
+    pub moved_keeps : (q : Path) (id : ℕ) → HasPath t q id → HasPath rows (moved path to q) id
+    moved_keeps q id at = names_by_shape later rows (shape_itself later rows w.nodes) (reverse (moved path to q)) id (keeps_place q id at)
 
-  pub none_new_moved : (id : ℕ) → IsNone (t.node id) → IsSome (later.node id) → ⊥
-  none_new_moved id none some = elim (some_or_none (later.node id)) [
-    | inl gone ↦ (let There : Option Node → Type 0 = λ x. IsSome x in none_and_some {X = Node} None refl (subst There gone some))
-    | inr found ↦ (let There : Option Node → Type 0 = λ x. IsSome x in
-        none_and_some (t.node id) none (subst There (sym (old_node id found.0 found.1).1) refl))
-  ]
+    -- what a node shows moves with it
+    moved_is : (id : ℕ) (found : Node) (q : Path) (p : Object) → NodeIsObject t room id found q p → (after : Node) × NodeIsObject rows (renamed room path to) id after (moved path to q) p
+    moved_is id found q p is = elim (same_or_other id node.id) [
+      | inl same ↦
+          let same_node : node ≡ found = some_is node found (sym m.is_there.node_stands ∙ ap t.node (sym same) ∙ is.node_stands) in (
+            now,
+            record {
+              at = moved_keeps q id is.at;
+              node_stands = row_after id ∙ put id same;
+              object_stands = stands_there;
+              shows = record {
+                kind = m.kind ∙ ap (λ (n : Node). n.kind) same_node ∙ is.shows.kind;
+                owner = m.owner ∙ ap (λ (n : Node). n.owner) same_node ∙ is.shows.owner;
+                group = m.group ∙ ap (λ (n : Node). n.group) same_node ∙ is.shows.group;
+                aclflag = m.aclflag ∙ ap (λ (n : Node). n.aclflag) same_node ∙ is.shows.aclflag;
+                entries = ap rows.entries (m.id ∙ sym same) ∙ w.lists q id is.at;
+                bytes = bytes_after now.id ∙ ap (λ k. unwrap_or (t.document k) []) (m.id ∙ ap (λ (n : Node). n.id) same_node) ∙ is.shows.bytes;
+              };
+            },
+          )
+      | inr other ↦ (
+        found,
+        record {
+          at = moved_keeps q id is.at;
+          node_stands = row_after id ∙ away id other ∙ is.node_stands;
+          object_stands = stands_there;
+          shows = record {
+            kind = is.shows.kind;
+            owner = is.shows.owner;
+            group = is.shows.group;
+            aclflag = is.shows.aclflag;
+            entries = ap rows.entries (stand.rules.numbered id found is.node_stands).0 ∙ w.lists q id is.at;
+            bytes = bytes_after found.id ∙ is.shows.bytes;
+          };
+        },
+      )
+    ]
+      where
+        stands_there : object_at (renamed room path to) (moved path to q) ≡ Some p
+        stands_there = at_moved room stand.lawful path to o m.apart m.is_there.object_stands m.free q p is.object_stands
+
+    same_row : (id : ℕ) (a b : Node) → rows.node id ≡ Some a → rows.node id ≡ Some b → a ≡ b
+    same_row id a b x y = some_is a b (sym x ∙ y)
+
+    abbrev Found : Path → Object → Type 0
+    Found q p = (id : ℕ) × (found : Node) × NodeIsObject rows (renamed room path to) id found q p
+
+    pub moved_represents : RepresentsRoom rows (renamed room path to)
+    moved_represents = record {
+      rules = w.rules;
+      lawful = m.lawful;
+      nodes = λ id found stands.
+          let before = old_node id found (sym (row_after id) ∙ stands) in
+          let was = stand.nodes id before.0 before.1 in
+          let after = moved_is id before.0 was.0 was.1 was.2 in
+          let Row : Node → Type 0 = λ n. NodeIsObject rows (renamed room path to) id n (moved path to was.0) was.1 in
+          (moved path to was.0, was.1, subst Row (same_row id after.0 found after.1.node_stands stands) after.1);
+      objects = λ q p stands. by_stand q p (stands_after room stand.lawful path to o m.apart m.is_there.object_stands m.free q p stands);
+      next = w.next ∙ stand.next;
+    }
+      where
+        there : (q : Path) (p : Object) → object_at room q ≡ Some p → Found (moved path to q) p
+        there q p stands =
+            let was = stand.objects q p stands in
+            let after = moved_is was.0 was.1 q p was.2 in
+            (was.0, after.0, after.1)
+
+        by_stand : (q : Path) (p : Object) → Stands room stand.lawful path to o m.apart m.is_there.object_stands m.free q p → Found q p
+        by_stand q p (Moved _ _ rest same stands) =
+            let At : Path → Type 0 = λ x. Found x p in subst At (moved_rest path to rest ∙ sym same) (there (path ++ rest) p stands)
+        by_stand q p (Stayed _ _ off off_to stands) =
+            let At : Path → Type 0 = λ x. Found x p in subst At (moved_off q path to off) (there q p stands)
+
+    pub none_new_moved : (id : ℕ) → IsNone (t.node id) → IsSome (rows.node id) → ⊥
+    none_new_moved id none some = elim (some_or_none (later.node id)) [
+      | inl gone ↦ (let There : Option Node → Type 0 = λ x. IsSome x in none_and_some {X = Node} None refl (subst There (row_after id ∙ gone) some))
+      | inr found ↦ (let There : Option Node → Type 0 = λ x. IsSome x in
+          none_and_some (t.node id) none (subst There (sym (old_node id found.0 found.1).1) refl))
+    ]

@@ -1,5 +1,5 @@
 -- Rows without one node stand for the room without its object.
-use Rattle.std.proofs.Common.{◌≡◌, ◌≢◌, ℕ, refl, ap, sym, ◌∙◌, subst, inl, inr, List, [], ◌∷◌, ◌++◌, reverse, length, Option, None, Some, IsSome, IsNone, IfSome, false, unwrap_or}
+use Rattle.std.proofs.Common.{◌≡◌, ◌≢◌, ℕ, refl, ap, sym, ◌∙◌, subst, inl, inr, List, [], ◌∷◌, ◌++◌, reverse, length, Option, None, Some, IsSome, IsNone, IfSome, false, unwrap_or, append-nil, append_assoc}
 use Rattle.std.proofs.lemmas.List.{reverse-append}
 use Rattle.room_records.specs.declared.node.Node.{Node}
 use Rattle.room_records.specs.declared.change.Change.TheVariants.{DropNode}
@@ -8,11 +8,12 @@ use Rattle.room_records.specs.Records.{ObjectRecords, IsChild}
 use Rattle.room_records.specs.Rules.{ObjectRules, IsRoot}
 use Rattle.room_records.specs.Changes.{apply_to_objects}
 use Rattle.room_records.specs.Shelf.{name_of}
-use Rattle.room_records.specs.Room.{Object, Room, IsRoom, object_at, children}
+use Rattle.room_records.specs.Room.{Object, Room, IsRoom, object_at, children, list_of}
 use Rattle.room_records.specs.Representation.{RepresentsRoom, NodeIsObject, HasPath, NamesUpwards}
 use Rattle.room_records.proofs.Folders.{child_named}
 use Rattle.room_records.proofs.Paths.{root_only, reads_one, child_is_at, object_at_node}
-use Rattle.room_records.proofs.RoomsMap.{none_is_some, Ends}
+use Rattle.room_records.proofs.RoomsMap.{none_is_some, Ends, nothing_below}
+use Rattle.room_records.proofs.RoomsLists.{lists_by_objects_above}
 use Rattle.room_records.proofs.RoomsChildren.{nothing_in_empty}
 use Rattle.room_records.proofs.RulesKept.{same_or_other, if_same, if_other, some_or_none}
 use Rattle.room_commands.specs.CommandModel as C
@@ -25,6 +26,7 @@ use Rattle.room_tree.specs.Plans.{PlansEffect}
 use Rattle.room_commands.specs.ReplyModel.{Done, reply_model}
 use Rattle.room_acl.specs.SubjectModel.{SubjectModel}
 use Rattle.room_tree.proofs.Changed.{none_and_some}
+use Rattle.room_tree.proofs.FewRows.{few_dropped}
 use Rattle.room_commands.proofs.EffectIsRoom.{changed_is_room}
 use Rattle.room_tree.proofs.Made.{ends_of}
 use Rattle.room_tree.proofs.Outcomes.{success_plans}
@@ -106,6 +108,17 @@ module _ (t : ObjectRecords) (room : Room) (stand : RepresentsRoom t room) (path
     names_stay above parent up (λ same. childless k found stands (inside ∙ ap Some same)),
   )
 
+  not_below : (q : Path) (p : Object) → object_at room q ≡ Some p → (q ≡ path → ⊥) → (rest : Path) → q ≡ path ++ rest → ⊥
+  not_below q p there away [] is = away (is ∙ append-nil path)
+  not_below q p there away (name ∷ rest) is =
+      let none = nothing_below room stand.lawful rest (path ++ name ∷ []) (empty name) in
+      none_is_some p (sym (ap (object_at room) (is ∙ sym (append_assoc path (name ∷ []) rest)) ∙ none) ∙ there)
+
+  -- what stays keeps its list, since nothing of it stands below the removed object
+  lists_stay : (q : Path) (p : Object) → object_at room q ≡ Some p → (q ≡ path → ⊥) → list_of room q ≡ list_of (without room path) q
+  lists_stay q p there away = lists_by_objects_above room (without room path) q
+      (λ front rest is. sym (elsewhere_left room path front (λ same. not_below q p there away rest (is ∙ ap (λ (f : Path). f ++ rest) same))))
+
   still : (k : ℕ) (found : Node) (q : Path) (p : Object) → k ≢ id → NodeIsObject t room k found q p → NodeIsObject later (without room path) k found q p
   still k found q p other at =
       let number : found.id ≡ k = (stand.rules.numbered k found at.node_stands).0 in
@@ -122,7 +135,7 @@ module _ (t : ObjectRecords) (room : Room) (stand : RepresentsRoom t room) (path
           owner = at.shows.owner;
           group = at.shows.group;
           aclflag = at.shows.aclflag;
-          entries = if_other found.id id [] (t.entries found.id) apart ∙ at.shows.entries;
+          entries = if_other found.id id [] (t.entries found.id) apart ∙ at.shows.entries ∙ lists_stay q p at.object_stands away;
           bytes = ap (λ (d : Option (List ℕ)). unwrap_or d []) (if_other found.id id None (t.document found.id) apart) ∙ at.shows.bytes;
         };
       }
@@ -172,7 +185,7 @@ remove_plans t room caller path place outcome stand found passed root_off is_pat
     let lawful = changed_is_room room caller (C.Remove path) is_path stand.lawful passed in
     let node = node_of place in
     success_plans t room caller (C.Remove path) outcome stand (DropNode place.id ∷ []) passed replied planned (tt, tt)
-    (rules_dropped t room stand path place.id node found.object found.is_there end empty lawful, tt)
+    (rules_dropped t room stand path place.id node found.object found.is_there end empty lawful, tt) (few_dropped t place.id)
     (removed t room stand path place.id node found.object found.is_there end empty lawful)
     (λ q k at stands there. removed_keeps t room stand path place.id node found.object found.is_there end empty lawful q k at there)
     (λ k absent present. absurd (none_made t room stand path place.id node found.object found.is_there end empty lawful k absent present))

@@ -45,15 +45,15 @@ stored_list t room stand path id at =
 abbrev pub list_part : Option Object → Option (List EntryModel × ℕ × Kind)
 list_part found = option_map (λ (o : Object). (o.own, o.aclflag, o.kind)) found
 
-list_of_part : Option (List EntryModel × ℕ × Kind) → List EntryModel → List EntryModel
+abbrev list_of_part : Option (List EntryModel × ℕ × Kind) → List EntryModel → List EntryModel
 list_of_part None above = []
-list_of_part (Some part) above = with_inherited part.0 part.1.0 part.1.1 above
+list_of_part (Some part) above = with_inherited part.0 part.1 part.2 above
 
 under_by_part : (found : Option Object) (above : List EntryModel) → list_under found above ≡ list_of_part (list_part found) above
 under_by_part None above = refl
 under_by_part (Some o) above = refl
 
-root_of_part : Option (List EntryModel × ℕ × Kind) → List EntryModel
+abbrev root_of_part : Option (List EntryModel × ℕ × Kind) → List EntryModel
 root_of_part None = []
 root_of_part (Some part) = part.0
 
@@ -71,3 +71,9 @@ lists_alike room other same path = upwards (reverse path)
         let here = reverse (name ∷ above) in
         under_by_part (object_at room here) (list_upwards room above) ∙ ap (λ part. list_of_part part (list_upwards room above)) (same here)
         ∙ ap (list_of_part (list_part (object_at other here))) (upwards above) ∙ sym (under_by_part (object_at other here) (list_upwards other above))
+
+pub same_parts : (a b : Object) → a.own ≡ b.own → a.aclflag ≡ b.aclflag → a.kind ≡ b.kind → list_part (Some a) ≡ list_part (Some b)
+same_parts a b own aclflag kind =
+    let Part : Type 0 = List EntryModel × ℕ × Kind in
+    let part : List EntryModel → ℕ → Kind → Option Part = λ entries flag k. Some (entries, flag, k) in
+    ap (λ entries. part entries a.aclflag a.kind) own ∙ ap (λ flag. part b.own flag a.kind) aclflag ∙ ap (λ k. part b.own b.aclflag k) kind

@@ -8,6 +8,7 @@ use Rattle.room_tree.specs.Places.{node_of}
 use Rattle.room_commands.specs.ReplyModel.{Size}
 use Rattle.room_tree.proofs.Checking.{none_passes, first_alone, small_by_check, bytes_there}
 use Rattle.room_tree.proofs.Changed.{is_document, replaced_plans, document_replaces}
+use Rattle.room_tree.proofs.FewRows.{few_document}
 use Rattle.room_commands.proofs.EffectIsRoom.{appended_is_room}
 use Rattle.room_commands.proofs.Rights.{all_none}
 use Rattle.room_tree.proofs.Stops.{handed_on, stopped_by, at_head, in_front, past_front}
@@ -61,4 +62,4 @@ returns-clause-effect g c = λ available laid_out t e room stand.
     let r = document_replaces t room stand path place reached.1 change (appended_is_room room caller bytes path stand.lawful passed) file all_bytes (ap (λ (b : List ℕ). record reached.1.object { bytes = b }) (sym is)) in
     replaced_plans t room caller (C.Append c.args.bytes.now path) c.in_ok-outcome.outcome (PutDoc place.id all_bytes ∷ []) path reached.1.object (change reached.1.object) (node_of place) (node_of place) stand
     r passed (c.in_ok-outcome.ensures.reply fits ∙ ap Size long) c.in_ok-outcome.ensures.changes
-    (tt, tt) (r.rules, tt) (λ q. refl)
+    (tt, tt) (r.rules, tt) (few_document t place.id all_bytes) (λ q. refl)

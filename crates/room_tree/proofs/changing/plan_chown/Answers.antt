@@ -6,6 +6,7 @@ use Rattle.room_commands.specs.CommandModel as C
 use Rattle.room_tree.specs.Places.{node_of}
 use Rattle.room_commands.specs.ReplyModel.{reply_model}
 use Rattle.room_tree.proofs.Changed.{replaced_plans, row_replaces}
+use Rattle.room_tree.proofs.FewRows.{few_row}
 use Rattle.room_commands.proofs.EffectIsRoom.{chown_is_room}
 use Rattle.room_tree.proofs.Stops.{handed_on}
 use Rattle.room_tree.proofs.changing.plan_chown.Goals as goal
@@ -27,7 +28,7 @@ returns-clause-effect g c = λ available laid_out t e room stand.
     let is = c.in_ok-node.ensures in
     let r = row_replaces t room stand path place reached.1 change (chown_is_room room caller group owner path stand.lawful reached.0) node
     (record { id = ap (λ (n : Node). n.id) is; parent = ap (λ (n : Node). n.parent) is; name = ap (λ (n : Node). n.name) is; kind = ap (λ (n : Node). n.kind) is })
-    (ap (λ (n : Node). n.owner) is) (ap (λ (n : Node). n.group) is) (ap (λ (n : Node). n.aclflag) is ∙ reached.1.is_there.shows.aclflag) refl refl refl in
+    (ap (λ (n : Node). n.owner) is) (ap (λ (n : Node). n.group) is) (ap (λ (n : Node). n.aclflag) is ∙ reached.1.is_there.shows.aclflag) refl refl refl refl in
     replaced_plans t room caller (C.Chown c.args.group.now c.args.owner.now path) c.in_ok-outcome.outcome (PutNode node ∷ []) path reached.1.object (change reached.1.object) (node_of place) node stand
     r reached.0 (ap reply_model c.in_ok-outcome.ensures.reply) c.in_ok-outcome.ensures.changes
-    (tt, tt) (r.rules, tt) (λ q. refl)
+    (tt, tt) (r.rules, tt) (few_row t node) (λ q. refl)

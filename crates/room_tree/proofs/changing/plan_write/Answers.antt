@@ -7,6 +7,7 @@ use Rattle.room_tree.specs.Places.{node_of}
 use Rattle.room_commands.specs.ReplyModel.{Size}
 use Rattle.room_tree.proofs.Checking.{none_passes, first_alone, small_by_check}
 use Rattle.room_tree.proofs.Changed.{is_document, replaced_plans, document_replaces}
+use Rattle.room_tree.proofs.FewRows.{few_document}
 use Rattle.room_commands.proofs.EffectIsRoom.{written_is_room}
 use Rattle.room_commands.proofs.Rights.{all_none}
 use Rattle.room_tree.proofs.Stops.{handed_on, in_front}
@@ -47,4 +48,4 @@ returns-clause-effect g c = λ available laid_out t e room stand.
     let r = document_replaces t room stand path place reached.1 change (written_is_room room caller bytes path stand.lawful passed) file copy (ap (λ (b : List ℕ). record reached.1.object { bytes = b }) (sym same)) in
     replaced_plans t room caller (C.Write c.args.bytes.now path) c.in_ok-outcome.outcome (PutDoc place.id copy ∷ []) path reached.1.object (change reached.1.object) (node_of place) (node_of place) stand
     r passed (c.in_ok-outcome.ensures.reply fits ∙ ap (λ (b : List ℕ). Size (length b)) same) c.in_ok-outcome.ensures.changes
-    (tt, tt) (r.rules, tt) (λ q. refl)
+    (tt, tt) (r.rules, tt) (few_document t place.id copy) (λ q. refl)

@@ -33,5 +33,5 @@ returns-clause-effect g c = λ available laid_out t e room stand.
     let declared = c.folder_for_new.ensures.frame.call.laid_out before laid_out in
     let same = ap (λ (r : Records). r.objects) (c.folder_for_new.ensures.frame.same before laid_out) ∙ e in
     let number = c.in_ok-id.ensures.value available declared t same room stand (parent_of path) reached.1 in
-    mkdir_plans t room c.args.subject.now path c.in_ok-above.above c.in_ok-id.id c.in_ok-node.node _ stand c.in_ok-above.ensures.lawful reached.0 reached.1
-    number c.in_ok-node.ensures c.in_ok-changes.ensures refl
+    mkdir_plans t room c.args.subject.now path c.in_ok-above.above c.in_ok-id.id c.in_ok-node.node c.in_ok-list.list _ stand c.in_ok-above.ensures.lawful reached.0 reached.1
+    number c.in_ok-node.ensures c.in_ok-list.ensures c.in_ok-changes.ensures refl

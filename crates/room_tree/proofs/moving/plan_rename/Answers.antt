@@ -37,12 +37,16 @@ returns-clause-effect g c = λ available laid_out t e room stand.
     let caller = c.args.subject.now in
     let to = c.args.to.now in
     let first = refuse_if (is_root path || is_root to || is_at_or_below to path) Inval ∷ (end_checks room caller path to ++ move_rights room caller path to) in
-    let before = c.check_limits.ensures.frame.call.was_available available in
+    let counting = c.with_list.ensures.frame.call.was_available available in
+    let before = c.check_limits.ensures.frame.call.was_available counting in
     let declared = c.allowed_move.ensures.frame.call.laid_out before laid_out in
     let same = ap (λ (r : Records). r.objects) (c.allowed_move.ensures.frame.same before laid_out) ∙ e in
+    let declared_at_last = c.check_limits.ensures.frame.call.laid_out counting declared in
+    let same_at_last = ap (λ (r : Records). r.objects) (c.check_limits.ensures.frame.same counting declared) ∙ same in
     let allowed = c.in_ok-moving.ensures.value before laid_out t e room stand in
-    let limits = (c.in_ok-check_limits.ensures.value available declared t same room stand path allowed.1).0 in
+    let limits = (c.in_ok-check_limits.ensures.value counting declared t same room stand path allowed.1).0 in
     let lawful = c.in_ok-moving.ensures.lawful in
+    let planned = c.in_ok-changes.ensures.value available declared_at_last t same_at_last room stand path ? ? ? ? in
     rename_plans t room caller path to c.in_ok-moving.moving c.in_ok-node.node c.in_ok-outcome.outcome stand lawful.0 lawful.1
     (none_passes first (move_limits room path to) allowed.0 ∙ limits) allowed.1 c.in_ok-node.ensures
-    c.in_ok-outcome.ensures.changes (ap reply_model c.in_ok-outcome.ensures.reply)
+    ? ? ? refl
