@@ -77,6 +77,8 @@ struct Trio {
     tables: SqlShelf<MemStore>,
     replies: u32,
     refusals: u32,
+    /// How many requests were done that answer nothing else.
+    done: u32,
 }
 
 /// What a desk over a shelf answers.
@@ -96,6 +98,7 @@ impl Trio {
             tables: in_tables(alloc)?,
             replies: 0,
             refusals: 0,
+            done: 0,
         })
     }
 
@@ -104,6 +107,9 @@ impl Trio {
         match answer {
             Answer::Reply(_) => self.replies = self.replies.wrapping_add(1),
             Answer::Refused(_) => self.refusals = self.refusals.wrapping_add(1),
+        }
+        if answer.body() == br#"{"code":0}"#.as_slice() {
+            self.done = self.done.wrapping_add(1);
         }
     }
 
@@ -167,6 +173,35 @@ fn random_histories(rt: HostRuntime) -> Result<(), Fail> {
         let trio = random_history(rt.alloc(), seed)?;
         // Neither replies nor refusals alone.
         assert!(rt; 40 < trio.replies && 20 < trio.refusals, "{seed}");
+        trio.compare_rooms()?;
+    }
+    Ok(())
+}
+
+/// A history of `ann` alone, of requests that make, list, move and remove.
+fn history_of_lists(alloc: Global, seed: u32) -> Result<Trio, Fail> {
+    let mut dice = Dice::new(seed);
+    let mut draft = Draft {
+        what: What::Open,
+        user: 0,
+        session: 0,
+        seed: 0,
+    };
+    let mut trio = Trio::new(alloc)?.answer(event(alloc, &draft)?)?;
+    for number in 1..EVENTS {
+        draft.what = What::RunOnLists(number);
+        draft.seed = dice.seed();
+        trio = trio.answer(event(alloc, &draft)?)?;
+    }
+    Ok(trio)
+}
+
+#[test]
+fn random_lists(rt: HostRuntime) -> Result<(), Fail> {
+    for seed in [366, 197] {
+        let trio = history_of_lists(rt.alloc(), seed)?;
+        // Neither successes nor refusals alone.
+        assert!(rt; 60 < trio.done && trio.done < 160, "{seed}");
         trio.compare_rooms()?;
     }
     Ok(())
