@@ -57,6 +57,6 @@ own_part_of_list room lawful path o there =
           ap (λ p. own_part (list_of room p)) root ∙ ap own_part (list_of_root room o (ap (object_at room) (sym root) ∙ there)) ∙ own_part_of_own o.own all
       | inr end ↦
           ap (λ p. own_part (list_of room p)) end.is
-              ∙ ap own_part (list_of_child room end.folder end.name o (ap (object_at room) (sym end.is) ∙ there))
-              ∙ own_part_with_inherited o.own o.aclflag o.kind (list_of room end.folder) all
+          ∙ ap own_part (list_of_child room end.folder end.name o (ap (object_at room) (sym end.is) ∙ there))
+          ∙ own_part_with_inherited o.own o.aclflag o.kind (list_of room end.folder) all
     ]

@@ -1,9 +1,10 @@
 -- Renewal below a folder, one child after the other; and below what has nothing below it.
-use Rattle.std.proofs.Common.{◌≡◌, ◌≢◌, ℕ, zero, suc, ◌+◌, ◌<◌, ◌≤◌, refl, ap, sym, ◌∙◌, subst, arith, true, false, ◌⊎◌, inl, inr, List, [], ◌∷◌, ◌++◌, length, append_assoc, length-append, Option, None, Some, unwrap_or}
-use Rattle.std.specs.List.{AllByRecursion, Contains, slice_index_or}
+use Rattle.std.proofs.Common.{◌≡◌, ◌≢◌, ℕ, zero, suc, ◌+◌, ◌<◌, ◌≤◌, refl, ap, sym, ◌∙◌, subst, arith, true, false, ◌⊎◌, inl, inr, List, [], ◌∷◌, ◌++◌, take, drop, get_or, length, append-nil, append_assoc, length-append, Option, None, Some, unwrap_or}
+use Rattle.std.specs.List.{AllByRecursion, slice_index_or}
 use Rattle.std.specs.declared.cmp.Ordering.TheVariants.{Less, Greater}
 use Rattle.std.specs.Ordering.{ordering_reverse}
 use Rattle.std.proofs.lemmas.Cmp.{nat_list_cmp_total}
+use Rattle.std.proofs.lemmas.List.{take_more, take_all, take-append-drop}
 use Rattle.room_acl.specs.Entries.{EntryModel}
 use Rattle.room_acl.specs.declared.subject.Kind.TheVariants.{File, Folder}
 use Rattle.room_records.specs.declared.change.Change.{Change}
@@ -17,7 +18,7 @@ use Rattle.room_records.specs.Shelf.{AreChildren, InNameOrder, name_of}
 use Rattle.room_records.proofs.Folders.{object_child}
 use Rattle.room_records.proofs.Paths.{object_at_node}
 use Rattle.room_records.proofs.RoomsMap.{none_is_some, nothing_below, nothing_in_a_file, path_of_object}
-use Rattle.room_tree.specs.Renewals.{RenewsBelow}
+use Rattle.room_tree.specs.Renewals.{AddsRenewals, RenewsBelow}
 use Rattle.room_tree.proofs.RenewingParts.{Renews, renews_both, BeginsWith}
 use Rattle.room_tree.proofs.StoredLists.{node_at_path}
 
@@ -149,13 +150,50 @@ module _ (t : ObjectRecords) (room : Room) (stand : RepresentsRoom t room) (path
           omega (arith, short, whole, long)
 
   -- below a file
-  pub renews_file : (id : ℕ) (node : Node) → HasPath t path id → t.node id ≡ Some node → node.kind ≡ File → RenewsBelow t room path list []
-  renews_file id node here stands file = renews_nothing none
+  pub renews_file : (id : ℕ) → HasPath t path id → ((node : Node) → t.node id ≡ Some node → node.kind ≡ File) → RenewsBelow t room path list []
+  renews_file id here file = renews_nothing none
     where
       none : (rest : Path) (k : ℕ) → rest ≢ [] → HasPath t (path ++ rest) k → ⊥
       none [] k some at = some refl
       none (name ∷ rest) k some at =
-          let itself = object_at_node t room stand path id node here stands in
+          let node = node_at_path t room stand path id here in
+          let itself = object_at_node t room stand path id node.0 here node.1 in
           let found = object_of (path ++ name ∷ rest) k at in
-          let no_child = nothing_in_a_file room stand.lawful path itself.0 itself.1 (λ folder. let f : File ≡ Folder = sym file ∙ itself.2.kind ∙ folder in cc) name in
+          let no_child = nothing_in_a_file room stand.lawful path itself.0 itself.1
+          (λ folder. let f : File ≡ Folder = sym (file node.0 node.1) ∙ itself.2.kind ∙ folder in cc) name in
           none_is_some found.0 (sym (nothing_below room stand.lawful rest (path ++ name ∷ []) no_child) ∙ ap (object_at room) (append_assoc path (name ∷ []) rest) ∙ found.1)
+
+-- changes go on with those below the nodes so far
+pub record RenewsSoFar (t : ObjectRecords) (room : Room) (path : Path) (list : List EntryModel) (nodes : List Node) (old new : List Change) : Type 0 where
+  pub added : List Change
+  pub goes_on : new ≡ old ++ added
+  pub renews : Renews t room path list (UnderOne nodes) added
+
+module _ (t : ObjectRecords) (room : Room) (stand : RepresentsRoom t room) (path : Path) (list : List EntryModel) (old : List Change) where
+  pub none_so_far : RenewsSoFar t room path list [] old old
+  none_so_far = record { added = []; goes_on = sym (append-nil old); renews = renews_none t room stand path list }
+
+  -- with the changes for one child more
+  pub one_more_so_far : (id : ℕ) (nodes : List Node) (i : ℕ) (node : Node) (new now ys : List Change) → AreChildren t id nodes → i < length nodes → node ≡ get_or nodes i node
+      → RenewsSoFar t room path list (take i nodes) old new → Renews t room path list (BeginsWith (name_of node)) ys → now ≡ new ++ ys
+      → RenewsSoFar t room path list (take (i + 1) nodes) old now
+  one_more_so_far id nodes i node new now ys are below is so last goes_on =
+      let more : take (i + 1) nodes ≡ take i nodes ++ node ∷ [] = take_more nodes i node below ∙ ap (λ n. take i nodes ++ n ∷ []) (sym is) in
+      let split : nodes ≡ (take i nodes ++ node ∷ []) ++ drop (i + 1) nodes = sym (take-append-drop (i + 1) nodes) ∙ ap (λ front. front ++ drop (i + 1) nodes) more in
+      let order = order_of_front (take i nodes ++ node ∷ []) (drop (i + 1) nodes) (subst InNameOrder split are.in_order) in
+      let Below : List Node → Type 0 = λ front. Renews t room path list (UnderOne front) (so.added ++ ys) in
+      record {
+        added = so.added ++ ys;
+        goes_on = goes_on ∙ ap (λ before. before ++ ys) so.goes_on ∙ append_assoc old so.added ys;
+        renews = subst Below (sym more) (renews_more t room stand path list (take i nodes) node so.added ys order so.renews last);
+      }
+
+  -- all children
+  pub all_so_far : (id : ℕ) (nodes : List Node) (i : ℕ) (new : List Change) → HasPath t path id → AreChildren t id nodes → length nodes ≤ i
+      → RenewsSoFar t room path list (take i nodes) old new → AddsRenewals t room path list old new
+  all_so_far id nodes i new here are end so =
+      let Below : List Node → Type 0 = λ front. Renews t room path list (UnderOne front) so.added in record {
+        added = so.added;
+        goes_on = so.goes_on;
+        renews = renews_children t room stand path list id nodes so.added here are (subst Below (take_all i nodes end) so.renews);
+      }

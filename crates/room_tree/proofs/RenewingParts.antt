@@ -1,5 +1,5 @@
 -- Renewal below a path, put together from parts: an object and what is below it, and one child after the other.
-use Rattle.std.proofs.Common.{◌≡◌, ◌≢◌, ℕ, ◌+◌, ◌<◌, ◌≤◌, refl, ap, sym, ◌∙◌, subst, arith, Bool, true, false, cond, eqb, eq-eqb, ◌||◌, ◌⊎◌, inl, inr, List, [], ◌∷◌, ◌++◌, reverse, append_assoc}
+use Rattle.std.proofs.Common.{◌≡◌, ◌≢◌, ℕ, ◌+◌, ◌≤◌, refl, ap, sym, ◌∙◌, subst, arith, Bool, true, false, cond, eqb, eq-eqb, ◌||◌, ◌⊎◌, inl, inr, List, [], ◌∷◌, ◌++◌, reverse, append_assoc}
 use Rattle.std.specs.Prelude.{Vec, IsTrue}
 use Rattle.std.specs.List.{AllByRecursion, count_by, list_any}
 use Rattle.std.specs.declared.alloc.Global.{Global}
@@ -34,19 +34,22 @@ left_of_or false e = e
 count_append : {X : Type 0} (p : X → Bool) (xs ys : List X) → count_by p (xs ++ ys) ≡ count_by p xs + count_by p ys
 count_append p xs ys = sum_by-append (λ x. cond (p x) 1 0) xs ys
 
+abbrev one_if : Bool → ℕ
+one_if b = cond b 1 0
+
 none_counted : {X : Type 0} (p : X → Bool) (xs : List X) → list_any p xs ≡ false → count_by p xs ≡ 0
 none_counted p [] none = refl
-none_counted p (x ∷ xs) none = by_test (p x) refl none
+none_counted p (x ∷ xs) none = by_test (p x) refl none (none_counted p xs)
   where
-    by_test : (b : Bool) → p x ≡ b → (b || list_any p xs) ≡ false → count_by p (x ∷ xs) ≡ 0
-    by_test true is h = absurd (let f : true ≡ false = h in cc)
-    by_test false is h =
+    by_test : (b : Bool) → p x ≡ b → (b || list_any p xs) ≡ false → (list_any p xs ≡ false → count_by p xs ≡ 0) → count_by p (x ∷ xs) ≡ 0
+    by_test true is h rest = absurd (let f : true ≡ false = h in cc)
+    by_test false is h rest =
         let more = sum_by-cons (λ y. cond (p y) 1 0) x xs in
-        let first : cond (p x) 1 0 ≡ 0 = ap (λ b. cond b 1 0) is in
-        let rest : count_by p xs ≡ 0 = none_counted p xs h in
-        omega (arith, more, first, rest)
+        let first : one_if (p x) ≡ 0 = ap one_if is in
+        let others : count_by p xs ≡ 0 = rest h in
+        omega (arith, more, first, others)
 
-one_counted : (b : Bool) → cond b 1 0 ≤ 1
+one_counted : (b : Bool) → one_if b ≤ 1
 one_counted true = omega arith
 one_counted false = omega arith
 
@@ -54,11 +57,13 @@ one_counted false = omega arith
 pub put_is_renewed : (t : ObjectRecords) (room : Room) (path : Path) (list : List EntryModel) (changes : List Change) (id : ℕ)
     → AllByRecursion (IsRenewal t room path list) changes → list_any (puts_entries_of id) changes ≡ true → (entries : List EntryModel) × IsRenewed t room path list id entries
 put_is_renewed t room path list [] id each found = absurd (let f : false ≡ true = found in cc)
-put_is_renewed t room path list (PutEntries at entries ∷ changes) id each found = by_test (eqb id at) refl found
+put_is_renewed t room path list (PutEntries at entries ∷ changes) id each found =
+    by_test (eqb id at) refl found (put_is_renewed t room path list changes id each.1)
   where
-    by_test : (b : Bool) → eqb id at ≡ b → (b || list_any (puts_entries_of id) changes) ≡ true → (list_put : List EntryModel) × IsRenewed t room path list id list_put
-    by_test true same h = let Is : ℕ → Type 0 = λ k. IsRenewed t room path list k entries.items in (entries.items, subst Is (sym (eqb-true id at same)) each.0)
-    by_test false other h = put_is_renewed t room path list changes id each.1 h
+    by_test : (b : Bool) → eqb id at ≡ b → (b || list_any (puts_entries_of id) changes) ≡ true → (list_any (puts_entries_of id) changes ≡ true → (list_put : List EntryModel) × IsRenewed t room path list id list_put)
+        → (list_put : List EntryModel) × IsRenewed t room path list id list_put
+    by_test true same h later = let Is : ℕ → Type 0 = λ k. IsRenewed t room path list k entries.items in (entries.items, subst Is (sym (eqb-true id at same)) each.0)
+    by_test false other h later = later h
 put_is_renewed t room path list (PutNode node ∷ changes) id each found = absurd each.0
 put_is_renewed t room path list (DropNode gone ∷ changes) id each found = absurd each.0
 put_is_renewed t room path list (PutDoc at bytes ∷ changes) id each found = absurd each.0
@@ -91,9 +96,6 @@ renews_both t room path list a b c xs ys rules split left right apart first seco
   where
     any_of : (id : ℕ) → list_any (puts_entries_of id) (xs ++ ys) ≡ (list_any (puts_entries_of id) xs || list_any (puts_entries_of id) ys)
     any_of id = list_any-append (puts_entries_of id) xs ys
-
-    Stays : Path → ℕ → Type 0
-    Stays rest id = t.entries id ≡ list_below room path list (reverse rest)
 
     in_first : (rest : Path) (id : ℕ) → a rest → HasPath t (path ++ rest) id → (t.entries id ≡ list_below room path list (reverse rest)) ⊎ IsTrue (list_any (puts_entries_of id) (xs ++ ys))
     in_first rest id here at = elim (first.every rest id here at) [
@@ -204,7 +206,7 @@ module _ (t : ObjectRecords) (room : Room) (path : Path) (list : List EntryModel
           inr (ap (λ b. b || false) (eq-eqb k id same));
       once = λ k.
           let more = sum_by-cons (λ (change : Change). cond (puts_entries_of k change) 1 0) (PutEntries id entries) [] in
-          let one : cond (eqb k id) 1 0 ≤ 1 = one_counted (eqb k id) in
+          let one : one_if (eqb k id) ≤ 1 = one_counted (eqb k id) in
           omega (arith, more, one);
     }
 

@@ -92,21 +92,26 @@ fn add_change(changes: &mut Vec<Change>, change: Change) -> Result<(), AllocErro
     Ok(())
 }
 
-/// Adds the entries of each object below the folder of this number, at most so many levels down, whose list changes
-/// where the folder gets this list.
+/// Adds the entries of each object below the one of this number and kind, at most so many levels down, whose list
+/// changes where it gets this list: those below a child first, then the child's.
 fn renew_within<S: Shelf>(
     alloc: Global,
     shelf: &mut S,
     id: u32,
+    kind: Kind,
     list: &[Entry],
     levels: usize,
     out: &mut Vec<Change>,
 ) -> Result<(), ShelfFault>
     ensures value { OfRoom (S.view shelf.old) (S.view shelf.new) (λ t room. (path : PathModel) → HasPath t path id →
-        max_names ≤ length path + levels → OnOk result (AddsRenewals t room path list.now out.old.items out.new.items)) }
+        (kind ≡ Kind.File → (node : NodeRow) → t.node id ≡ Some node → node.kind ≡ Kind.File) → max_names ≤ length path + levels →
+        OnOk result (AddsRenewals t room path list.now out.old.items out.new.items)) }
     ensures frame { ShelfRead (S.view shelf.old) (S.view shelf.new) (fault_in result) }
 {
     if levels == 0 {
+        return Ok(());
+    }
+    if let Kind::File = kind {
         return Ok(());
     }
     let nodes = shelf.children(id)?;
@@ -114,9 +119,15 @@ fn renew_within<S: Shelf>(
         let Some(renewed) = renewed_list(alloc, shelf, node, list)? else {
             continue;
         };
-        if let Kind::Folder = node.kind {
-            renew_within(alloc, shelf, node.id, renewed.as_slice(), levels - 1, out)?;
-        }
+        renew_within(
+            alloc,
+            shelf,
+            node.id,
+            node.kind,
+            renewed.as_slice(),
+            levels - 1,
+            out,
+        )?;
         add_change(out, Change::PutEntries(node.id, renewed))?;
     }
     Ok(())
@@ -137,7 +148,27 @@ pub fn renew<S: Shelf>(
         OnOk result (AddsRenewals (S.view shelf.old).records.objects room path list.now out.old.items out.new.items) }
     ensures frame { ShelfRead (S.view shelf.old) (S.view shelf.new) (fault_in result) }
 {
-    renew_within(alloc, shelf, id, list, MAX_NAMES, out)
+    renew_within(alloc, shelf, id, Kind::Folder, list, MAX_NAMES, out)
+}
+
+/// The same below an object of this kind: a file has nothing below it.
+fn renew_below<S: Shelf>(
+    alloc: Global,
+    shelf: &mut S,
+    id: u32,
+    kind: Kind,
+    list: &[Entry],
+    out: &mut Vec<Change>,
+) -> Result<(), ShelfFault>
+    ensures value { OfRoom (S.view shelf.old) (S.view shelf.new) (λ t room. (path : PathModel) (node : NodeRow) →
+        HasPath t path id → t.node id ≡ Some node → node.kind ≡ kind →
+        OnOk result (AddsRenewals t room path list.now out.old.items out.new.items)) }
+    ensures frame { ShelfRead (S.view shelf.old) (S.view shelf.new) (fault_in result) }
+{
+    if let Kind::File = kind {
+        return Ok(());
+    }
+    renew(alloc, shelf, id, list, out)
 }
 
 /// The changes that put a row, and its list where it changes, with those below.
@@ -156,11 +187,10 @@ pub(crate) fn with_list<S: Shelf>(
     let kind = node.kind;
     let mut changes = Vec::new(alloc);
     add_change(&mut changes, Change::PutNode(node))?;
-    if let Some(list) = list {
-        if let Kind::Folder = kind {
-            renew(alloc, shelf, id, list.as_slice(), &mut changes)?;
-        }
-        add_change(&mut changes, Change::PutEntries(id, list))?;
-    }
+    let Some(list) = list else {
+        return Ok(changes);
+    };
+    renew_below(alloc, shelf, id, kind, list.as_slice(), &mut changes)?;
+    add_change(&mut changes, Change::PutEntries(id, list))?;
     Ok(changes)
 }
