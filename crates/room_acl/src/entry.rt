@@ -6,7 +6,7 @@ ghost use Rattle.room_acl.specs.Entries.{names_its_kind, clear_inherited, IsEntr
 use crate::flags::Flags;
 use crate::mask::Mask;
 use crate::who::Who;
-use std::alloc::AllocError;
+use std::alloc::{AllocError, Global};
 use std::marker::Model;
 
 /// One entry of an access list: it allows or denies the rights of its mask to whom it names
@@ -43,6 +43,17 @@ pub fn same_entries(a: &[Entry], b: &[Entry]) -> bool
         }
     }
     true
+}
+
+/// The same entries once more. AllocError where memory is refused.
+pub fn copy_entries(alloc: Global, entries: &[Entry]) -> Result<Vec<Entry>, AllocError>
+    ensures { IfOk result (λ copy. copy.items ≡ entries.now) }
+{
+    let mut copy = Vec::new(alloc);
+    for entry in entries {
+        copy.push(entry.clone()?)?;
+    }
+    Ok(copy)
 }
 
 impl Entry {

@@ -23,6 +23,17 @@ impl Model for Principal {
     ghost invariant = { λ p. IsPrincipal (string_bytes p.text) };
 }
 
+/// The same names once more, in the same order and from the same allocator. AllocError where memory is refused.
+pub fn copy_principals(names: &Vec<Principal>) -> Result<Vec<Principal>, AllocError>
+    ensures { IfOk result (λ copy. copy.items ≡ names.now.items) }
+{
+    let mut copy = Vec::new(*names.allocator());
+    for name in names {
+        copy.push(name.clone()?)?;
+    }
+    Ok(copy)
+}
+
 impl Principal {
     /// The principal of this name: Ok(None) where the text is none. AllocError where memory is refused.
     pub fn new(alloc: Global, text: &str) -> Result<Option<Principal>, AllocError>

@@ -1,7 +1,7 @@
 //! Who asks, and what the object is.
 ghost use Rattle.std.specs.Prelude.{◌≡◌, IfOk};
 
-use crate::principal::Principal;
+use crate::principal::{Principal, copy_principals};
 use std::alloc::AllocError;
 use std::marker::Model;
 
@@ -37,20 +37,9 @@ impl Subject {
         ensures { IfOk result (λ copy. copy ≡ self.now) }
     {
         let name = self.name.clone()?;
-        let groups = clone_of(&self.groups)?;
+        let groups = copy_principals(&self.groups)?;
         Ok(Subject { name, groups })
     }
-}
-
-/// The same names in the same order.
-fn clone_of(names: &Vec<Principal>) -> Result<Vec<Principal>, AllocError>
-    ensures { IfOk result (λ copy. copy.items ≡ names.now.items) }
-{
-    let mut copy = Vec::new(*names.allocator());
-    for name in names {
-        copy.push(name.clone()?)?;
-    }
-    Ok(copy)
 }
 
 /// Whose an object is.

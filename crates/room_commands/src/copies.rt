@@ -1,19 +1,9 @@
-//! Copies of the lists and places of commands and replies, each in the allocator of what it is a copy of.
+//! Copies of the names and places of replies, each in the allocator of what it is a copy of.
 ghost use Rattle.std.specs.Prelude.{◌≡◌, IfOk};
 
-use room_acl::{Entry, Kind};
+use room_acl::Kind;
 use room_records::{FileName, Path};
 use std::alloc::AllocError;
-
-pub(crate) fn copy_entries(entries: &Vec<Entry>) -> Result<Vec<Entry>, AllocError>
-    ensures { IfOk result (λ copy. copy.items ≡ entries.now.items) }
-{
-    let mut copy = Vec::new(*entries.allocator());
-    for entry in entries {
-        copy.push(entry.clone()?)?;
-    }
-    Ok(copy)
-}
 
 pub(crate) fn copy_names(names: &Vec<(FileName, Kind)>) -> Result<Vec<(FileName, Kind)>, AllocError>
     ensures { IfOk result (λ copy. copy.items ≡ names.now.items) }

@@ -21,6 +21,7 @@ use Rattle.room_commands.specs.ReplyModel.{reply_model}
 use Rattle.room_commands.specs.Effect.{effect}
 use Rattle.room_tree.specs.Plans.{PlansEffect}
 use Rattle.room_tree.specs.declared.planning.Outcome.{Outcome}
+use Rattle.room_wire.specs.Asks.EventModel.{Request}
 use Rattle.room_wire.specs.Forms.Texts.{command_text, reply_text}
 use Rattle.room_desk.specs.AnswerModel.{AnswerModel, Reply}
 use Rattle.room_desk.specs.Rows.{HasSlot, Ran, ran_row}
@@ -97,13 +98,13 @@ rules_with_slot (change ∷ changes) r row objects each of_objects slots has =
     (record { objects = each.0; slots = after }, rules_with_slot changes (apply_change change r) row each.0 each.1 of_objects.1 after has_after)
 
 -- what was committed for a command that was planned, where the slot row keeps the text of its reply
-module _ (r : Records) (room : Room) (caller : SubjectModel) (command : CommandModel) (outcome : Outcome) (sid : List ℕ) (slot seq : ℕ)
-    (plans : PlansEffect r.objects room caller command outcome) (stand : RepresentsRoom r.objects room) (slots : SlotRules r) (has : HasSlot r sid slot) where
+module _ (r : Records) (room : Room) (q : Request) (outcome : Outcome)
+    (plans : PlansEffect r.objects room q.caller q.command outcome) (stand : RepresentsRoom r.objects room) (slots : SlotRules r) (has : HasSlot r q.sid q.slot) where
   abbrev pub planned_row : SlotRow
   planned_row = record {
-    sid = sid;
-    slot = slot;
-    kept = record { seq = seq; request = command_text command; reply = reply_text (reply_model outcome.reply) };
+    sid = q.sid;
+    slot = q.slot;
+    kept = record { seq = q.seq; request = command_text q.command; reply = reply_text (reply_model outcome.reply) };
   }
 
   abbrev pub all_changes : List Change
@@ -112,8 +113,8 @@ module _ (r : Records) (room : Room) (caller : SubjectModel) (command : CommandM
   pub planned_rules : RulesHoldAfterEach all_changes r
   planned_rules = rules_with_slot outcome.changes.items r planned_row stand.rules plans.rules plans.of_tree slots has
 
-  same_row : planned_row ≡ ran_row room caller command sid slot seq
-  same_row = ap (λ reply. record { sid = sid; slot = slot; kept = record { seq = seq; request = command_text command; reply = reply_text reply } }) plans.reply
+  same_row : planned_row ≡ ran_row room q
+  same_row = ap (λ reply. record { sid = q.sid; slot = q.slot; kept = record { seq = q.seq; request = command_text q.command; reply = reply_text reply } }) plans.reply
 
   abbrev changed : Records
   changed = apply_changes outcome.changes.items r
@@ -125,16 +126,16 @@ module _ (r : Records) (room : Room) (caller : SubjectModel) (command : CommandM
   kept = slots_kept outcome.changes.items r plans.of_tree
 
   pub ran : (answered : AnswerModel) (new : Records) → answered ≡ Reply (reply_text (reply_model outcome.reply)) → new ≡ apply_changes all_changes r
-      → Ran r room caller command sid slot seq answered new
+      → Ran r room q answered new
   ran answered new says after =
-      let Objects : ObjectRecords → Type 0 = λ t. RepresentsRoom t (effect room caller command).room in
+      let Objects : ObjectRecords → Type 0 = λ t. RepresentsRoom t (effect room q.caller q.command).room in
       record {
         changed = changed;
         session = sessions;
         kept = kept;
         objects = subst Objects (sym (objects_of_changes outcome.changes.items r)) plans.leads;
-        rules = put_slot_rules changed (ran_row room caller command sid slot seq) (same_slot_rules r changed sessions kept slots)
-            (record { row = has.row; stands = ap (λ (f : List ℕ → Option SessionRow). f sid) sessions ∙ has.stands; below = has.below });
+        rules = put_slot_rules changed (ran_row room q) (same_slot_rules r changed sessions kept slots)
+            (record { row = has.row; stands = ap (λ (f : List ℕ → Option SessionRow). f q.sid) sessions ∙ has.stands; below = has.below });
         leaves = after ∙ changes_then outcome.changes.items (PutSlot planned_row) r ∙ ap (λ row. apply_change (PutSlot row) changed) same_row;
         says = says ∙ ap (λ reply. Reply (reply_text reply)) plans.reply;
       }

@@ -108,7 +108,7 @@ module _ (start : Room) (r : Records) (past : History) (stand : RepresentsHistor
         pub new_answer : v ≡ New → answer_to start past (Slot q) ≡ Reply (reply_text (effect (state_after start past) q.caller q.command).reply)
         new_answer new = rw (usable, below, sym accepted_is ∙ accepted_if_verdict new) refl
 
-        pub new_stands : v ≡ New → (answered : AnswerModel) (s : Records) → Ran r (state_after start past) q.caller q.command q.sid q.slot q.seq answered s
+        pub new_stands : v ≡ New → (answered : AnswerModel) (s : Records) → Ran r (state_after start past) q answered s
             → RepresentsHistory start s (Slot q ∷ past)
         new_stands new answered s ran =
             let P : Records → Type 0 = λ t. RepresentsHistory start t (Slot q ∷ past) in

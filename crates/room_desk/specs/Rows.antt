@@ -17,6 +17,7 @@ use Rattle.room_commands.specs.CommandModel.{CommandModel}
 use Rattle.room_commands.specs.Effect.{effect}
 use Rattle.room_commands.specs.ReplyModel.{Done, Opened}
 use Rattle.room_wire.specs.declared.answers.code.Code.TheVariants.{BadSession, SeqMisordered, SeqFalseRetry, SessionTaken}
+use Rattle.room_wire.specs.Asks.EventModel.{Request}
 use Rattle.room_wire.specs.Forms.Texts.{command_text, reply_text}
 use Rattle.room_desk.specs.AnswerModel.{AnswerModel, Reply, Refused}
 
@@ -38,22 +39,22 @@ pub record HasSlot (r : Records) (sid : List ℕ) (slot : ℕ) : Type 0 where
   pub below : slot < row.slots
 
 -- the row that a request leaves in its slot
-abbrev pub ran_row : Room → SubjectModel → CommandModel → List ℕ → ℕ → ℕ → SlotRow
-ran_row room caller command sid slot seq = record {
-  sid = sid;
-  slot = slot;
-  kept = record { seq = seq; request = command_text command; reply = reply_text (effect room caller command).reply };
+abbrev pub ran_row : Room → Request → SlotRow
+ran_row room q = record {
+  sid = q.sid;
+  slot = q.slot;
+  kept = record { seq = q.seq; request = command_text q.command; reply = reply_text (effect room q.caller q.command).reply };
 }
 
 -- a command was run: its reply, and the records after its changes and its slot row
-pub record Ran (r : Records) (room : Room) (caller : SubjectModel) (command : CommandModel) (sid : List ℕ) (slot seq : ℕ) (answered : AnswerModel) (new : Records) : Type 0 where
+pub record Ran (r : Records) (room : Room) (q : Request) (answered : AnswerModel) (new : Records) : Type 0 where
   pub changed : Records
   pub session : changed.session ≡ r.session
   pub kept : changed.slot ≡ r.slot
-  pub objects : RepresentsRoom changed.objects (effect room caller command).room
-  pub rules : SlotRules (apply_change (PutSlot (ran_row room caller command sid slot seq)) changed)
-  pub leaves : new ≡ apply_change (PutSlot (ran_row room caller command sid slot seq)) changed
-  pub says : answered ≡ Reply (reply_text (effect room caller command).reply)
+  pub objects : RepresentsRoom changed.objects (effect room q.caller q.command).room
+  pub rules : SlotRules (apply_change (PutSlot (ran_row room q)) changed)
+  pub leaves : new ≡ apply_change (PutSlot (ran_row room q)) changed
+  pub says : answered ≡ Reply (reply_text (effect room q.caller q.command).reply)
 
 -- what a request is answered that is not new to its slot
 abbrev pub answer_kept : Verdict → Option KeptModel → AnswerModel

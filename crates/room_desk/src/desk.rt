@@ -9,7 +9,7 @@ ghost use Rattle.room_desk.specs.History.{History, answer_to, changes_rows};
 ghost use Rattle.room_desk.specs.Representation.{RepresentsHistory, StandsFor, WasAllowed, InTurn, Run};
 ghost use Rattle.room_desk.specs.Serving.{DeskCall, EventAnswered};
 
-use crate::requests::request;
+use crate::requests::{SlotRequest, request};
 use crate::sessions::{close, open};
 use room_records::{Shelf, ShelfFault};
 use room_wire::{Answer, Code, Event};
@@ -67,15 +67,16 @@ impl<S: Shelf> Desk<S> {
                 slot,
                 seq,
                 command,
-            } => request(
-                self.alloc,
-                &mut self.shelf,
-                subject,
-                sid,
-                *slot,
-                *seq,
-                command,
-            ),
+            } => {
+                let asked = SlotRequest {
+                    subject,
+                    sid,
+                    slot: *slot,
+                    seq: *seq,
+                    command,
+                };
+                request(self.alloc, &mut self.shelf, &asked)
+            }
         }
     }
 

@@ -16,5 +16,6 @@ pub use laws::{
     an_accepted_request_was_allowed, an_idle_event_changes_nothing, no_number_is_accepted_twice,
     the_kept_row_tells_the_answer,
 };
+pub use requests::SlotRequest;
 pub use room_wire::Answer;
 pub use run_laws::runs_in_turn_are_one_run;

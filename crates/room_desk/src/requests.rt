@@ -6,7 +6,6 @@ ghost use Rattle.room_records.specs.Rules.{SlotRules};
 ghost use Rattle.room_records.specs.Room.{Room};
 ghost use Rattle.room_records.specs.Representation.{RepresentsRoom};
 ghost use Rattle.room_records.specs.Shelf.{ShelfCall, fault_in};
-ghost use Rattle.room_commands.specs.CommandModel.{command_model};
 ghost use Rattle.room_wire.specs.Asks.EventModel.{Slot};
 ghost use Rattle.room_wire.specs.Forms.Texts.{command_text};
 ghost use Rattle.room_desk.specs.AnswerModel.{answer_model, IsTurnedAway};
@@ -22,22 +21,51 @@ use room_slots::{Kept, Verdict, classify};
 use room_tree::plan;
 use room_wire::{Answer, Code, command_text, reply_text};
 use std::alloc::{AllocError, Global};
+use std::marker::Model;
+
+/// A request to a slot, borrowed from its event.
+#[derive(Debug, Drop)]
+pub struct SlotRequest<'a> {
+    /// Who asks.
+    pub subject: &'a Subject,
+    /// The session.
+    pub sid: &'a Sid,
+    /// The slot of the session, from 0.
+    pub slot: u32,
+    /// The number of the request in its slot.
+    pub seq: u32,
+    /// What is asked for.
+    pub command: &'a Command,
+}
+
+impl<'a> Model for SlotRequest<'a> {
+    ghost use Rattle.room_commands.specs.CommandModel.{command_model};
+    ghost use Rattle.room_wire.specs.Asks.EventModel.{Request};
+
+    ghost Value = { Request };
+
+    ghost view = { λ q. record {
+      caller = q.subject.now;
+      sid = q.sid.now;
+      slot = q.slot;
+      seq = q.seq;
+      command = command_model q.command.now;
+    } };
+}
 
 /// The row that a request leaves in its slot: its number, its command text and its reply.
-fn slot_row(
-    sid: &Sid,
-    slot: u32,
-    seq: u32,
-    request: Vec<u8>,
-    reply: &Vec<u8>,
-) -> Result<SlotRow, AllocError>
-    ensures { IfOk result (λ row. row ≡ record { sid = sid.now; slot = slot; kept = record { seq = seq; request = request.items; reply = reply.now.items } }) }
+fn slot_row(asked: &SlotRequest, request: Vec<u8>, reply: &Vec<u8>) -> Result<SlotRow, AllocError>
+    ensures { IfOk result (λ row. row ≡ record {
+      sid = asked.now.sid;
+      slot = asked.now.slot;
+      kept = record { seq = asked.now.seq; request = request.items; reply = reply.now.items };
+    }) }
 {
     Ok(SlotRow {
-        sid: sid.clone()?,
-        slot,
+        sid: asked.sid.clone()?,
+        slot: asked.slot,
         kept: Kept {
-            seq,
+            seq: asked.seq,
             request,
             reply: reply.clone()?,
         },
@@ -49,25 +77,20 @@ fn slot_row(
 fn run_new<S: Shelf>(
     alloc: Global,
     shelf: &mut S,
-    subject: &Subject,
-    sid: &Sid,
-    slot: u32,
-    seq: u32,
-    command: &Command,
+    asked: &SlotRequest,
     request: Vec<u8>,
 ) -> Result<Answer, ShelfFault>
-    requires { request.items ≡ command_text (command_model command.now) }
+    requires { request.items ≡ command_text asked.now.command }
     ensures there { (S.view shelf.new).is_intact → OnOk result (S.view shelf.new).is_available }
     ensures frame { ShelfCall (S.view shelf.old) (S.view shelf.new) (fault_in result) }
     ensures reply { IfOk result (λ answer. IsTurnedAway (answer_model answer) → ⊥) }
     ensures ok { (S.view shelf.new).is_available → (S.view shelf.old).is_laid_out → (room : Room) → RepresentsRoom (S.view shelf.old).records.objects room →
-        SlotRules (S.view shelf.old).records → HasSlot (S.view shelf.old).records sid.now slot →
-        IfOk result (λ answer. Ran (S.view shelf.old).records room subject.now (command_model command.now) sid.now slot seq
-        (answer_model answer) (S.view shelf.new).records) }
+        SlotRules (S.view shelf.old).records → HasSlot (S.view shelf.old).records asked.now.sid asked.now.slot →
+        IfOk result (λ answer. Ran (S.view shelf.old).records room asked.now (answer_model answer) (S.view shelf.new).records) }
 {
-    let outcome = plan(alloc, shelf, subject, command)?;
+    let outcome = plan(alloc, shelf, asked.subject, asked.command)?;
     let reply = reply_text(alloc, &outcome.reply)?;
-    let row = slot_row(sid, slot, seq, request, &reply)?;
+    let row = slot_row(asked, request, &reply)?;
     let mut changes = outcome.changes;
     let Ok(()) = changes.push(Change::PutSlot(row)) else {
         return Err(ShelfFault::Memory);
@@ -111,29 +134,25 @@ fn answer_kept(verdict: Verdict, kept: Option<Kept>) -> Answer
 fn in_slot<S: Shelf>(
     alloc: Global,
     shelf: &mut S,
-    subject: &Subject,
-    sid: &Sid,
-    slot: u32,
-    seq: u32,
-    command: &Command,
+    asked: &SlotRequest,
 ) -> Result<Answer, ShelfFault>
     ensures there { (S.view shelf.new).is_intact → OnOk result (S.view shelf.new).is_available }
     ensures frame { ShelfCall (S.view shelf.old) (S.view shelf.new) (fault_in result) }
     ensures refused { (S.view shelf.new).is_available → (S.view shelf.old).is_laid_out →
         IfOk result (λ answer. IsTurnedAway (answer_model answer) → (S.view shelf.new).records ≡ (S.view shelf.old).records) }
     ensures step { (S.view shelf.new).is_available → (S.view shelf.old).is_laid_out → (start : Room) (past : History) → RepresentsHistory start (S.view shelf.old).records past →
-        is_open_for sid.now subject.now (session_of past sid.now) ≡ true → HasSlot (S.view shelf.old).records sid.now slot →
-        IfOk result (λ answer. (answer_model answer ≡ answer_to start past (Slot (record { caller = subject.now; sid = sid.now; slot = slot; seq = seq; command = command_model command.now })))
-        × RepresentsHistory start (S.view shelf.new).records (Slot (record { caller = subject.now; sid = sid.now; slot = slot; seq = seq; command = command_model command.now }) ∷ past)) }
+        is_open_for asked.now.sid asked.now.caller (session_of past asked.now.sid) ≡ true → HasSlot (S.view shelf.old).records asked.now.sid asked.now.slot →
+        IfOk result (λ answer. (answer_model answer ≡ answer_to start past (Slot asked.now))
+        × RepresentsHistory start (S.view shelf.new).records (Slot asked.now ∷ past)) }
     ensures idle { (S.view shelf.new).is_available → (S.view shelf.old).is_laid_out → (start : Room) (past : History) → RepresentsHistory start (S.view shelf.old).records past →
-        is_open_for sid.now subject.now (session_of past sid.now) ≡ true → HasSlot (S.view shelf.old).records sid.now slot →
-        changes_rows past (Slot (record { caller = subject.now; sid = sid.now; slot = slot; seq = seq; command = command_model command.now })) ≡ false → (S.view shelf.new).records ≡ (S.view shelf.old).records }
+        is_open_for asked.now.sid asked.now.caller (session_of past asked.now.sid) ≡ true → HasSlot (S.view shelf.old).records asked.now.sid asked.now.slot →
+        changes_rows past (Slot asked.now) ≡ false → (S.view shelf.new).records ≡ (S.view shelf.old).records }
 {
-    let text = command_text(alloc, command)?;
-    let kept = shelf.slot(sid, slot)?;
-    let verdict = verdict_of(&kept, seq, &text);
+    let text = command_text(alloc, asked.command)?;
+    let kept = shelf.slot(asked.sid, asked.slot)?;
+    let verdict = verdict_of(&kept, asked.seq, &text);
     if is_new(verdict) {
-        run_new(alloc, shelf, subject, sid, slot, seq, command, text)
+        run_new(alloc, shelf, asked, text)
     } else {
         Ok(answer_kept(verdict, kept))
     }
@@ -143,30 +162,26 @@ fn in_slot<S: Shelf>(
 pub(crate) fn request<S: Shelf>(
     alloc: Global,
     shelf: &mut S,
-    subject: &Subject,
-    sid: &Sid,
-    slot: u32,
-    seq: u32,
-    command: &Command,
+    asked: &SlotRequest,
 ) -> Result<Answer, ShelfFault>
     ensures there { (S.view shelf.new).is_intact → OnOk result (S.view shelf.new).is_available }
     ensures frame { ShelfCall (S.view shelf.old) (S.view shelf.new) (fault_in result) }
     ensures refused { (S.view shelf.new).is_available → (S.view shelf.old).is_laid_out →
         IfOk result (λ answer. IsTurnedAway (answer_model answer) → (S.view shelf.new).records ≡ (S.view shelf.old).records) }
     ensures step { (S.view shelf.new).is_available → (S.view shelf.old).is_laid_out → (start : Room) (past : History) → RepresentsHistory start (S.view shelf.old).records past →
-        IfOk result (λ answer. (answer_model answer ≡ answer_to start past (Slot (record { caller = subject.now; sid = sid.now; slot = slot; seq = seq; command = command_model command.now })))
-        × RepresentsHistory start (S.view shelf.new).records (Slot (record { caller = subject.now; sid = sid.now; slot = slot; seq = seq; command = command_model command.now }) ∷ past)) }
+        IfOk result (λ answer. (answer_model answer ≡ answer_to start past (Slot asked.now))
+        × RepresentsHistory start (S.view shelf.new).records (Slot asked.now ∷ past)) }
     ensures idle { (S.view shelf.new).is_available → (S.view shelf.old).is_laid_out → (start : Room) (past : History) → RepresentsHistory start (S.view shelf.old).records past →
-        changes_rows past (Slot (record { caller = subject.now; sid = sid.now; slot = slot; seq = seq; command = command_model command.now })) ≡ false → (S.view shelf.new).records ≡ (S.view shelf.old).records }
+        changes_rows past (Slot asked.now) ≡ false → (S.view shelf.new).records ≡ (S.view shelf.old).records }
 {
-    let Some(row) = shelf.session(sid)? else {
+    let Some(row) = shelf.session(asked.sid)? else {
         return Ok(Answer::Refused(Code::BadSession));
     };
-    if !is_usable(&row, subject) {
+    if !is_usable(&row, asked.subject) {
         return Ok(Answer::Refused(Code::BadSession));
     }
-    if slot >= row.slots.get() {
+    if asked.slot >= row.slots.get() {
         return Ok(Answer::Refused(Code::BadSlot));
     }
-    in_slot(alloc, shelf, subject, sid, slot, seq, command)
+    in_slot(alloc, shelf, asked)
 }

@@ -30,11 +30,6 @@ abbrev pub row_one_later : List ℕ → EventModel → Option SessionRow → Opt
 row_one_later sid event None = option_map (session_row_of sid) (opened_by sid event)
 row_one_later sid event (Some row) = Some (record row { is_open = row.is_open && not (closes row.sid row.owner event) })
 
--- a request with this number is accepted where so many were before it in its slot, whatever its command
-abbrev pub accepts_number : History → ℕ → SubjectModel → List ℕ → ℕ → ℕ → Bool
-accepts_number past count caller sid slot seq =
-    is_open_for sid caller (session_of past sid) && (nat_lt slot (slots_of (session_of past sid)) && (seq == next_number count))
-
 -- the event is a request of this slot that is accepted where so many were before it there
 abbrev pub is_counted : History → ℕ → EventModel → List ℕ → ℕ → Bool
 is_counted past count (Open caller name slots) sid slot = false

@@ -1,14 +1,13 @@
 //! Which requests are accepted, counted from the history.
-ghost use Rattle.std.specs.Prelude.{◌≡◌, ◌≤◌, ◌^◌, ◌==◌, ◌&&◌, map, length};
-ghost use Rattle.std.specs.Str.{bytes_eq};
+ghost use Rattle.std.specs.Prelude.{◌≡◌, ◌≤◌, ◌^◌, ◌==◌, map, length};
 ghost use Rattle.std.specs.Option.{option_map};
 ghost use Rattle.room_wire.specs.Asks.EventModel.{event_model};
 ghost use Rattle.room_slots.specs.Slots.{next_number};
-ghost use Rattle.room_desk.specs.History.{accepted};
-ghost use Rattle.room_history.specs.Told.{accepts_number, is_counted, latest};
+ghost use Rattle.room_desk.specs.History.{accepted, accepts, is_accepted, is_for};
+ghost use Rattle.room_history.specs.Told.{is_counted, latest};
 
 use crate::sessions::{is_open_for, slots_of};
-use room_acl::Subject;
+use room_desk::SlotRequest;
 use room_records::Sid;
 use room_wire::Event;
 
@@ -21,18 +20,19 @@ fn is_next(count: usize, seq: u32) -> bool
 }
 
 /// Whether a request is accepted where so many were before it in its slot.
-fn accepts(past: &[Event], count: usize, caller: &Subject, sid: &Sid, slot: u32, seq: u32) -> bool
+fn accepts(past: &[Event], count: usize, asked: &SlotRequest) -> bool
     requires { count ≤ 2 ^ 63 }
-    ensures { result ≡ accepts_number (map event_model past.now) count caller.now sid.now slot seq }
+    ensures { result ≡ accepts (map event_model past.now) count asked.now }
 {
-    is_open_for(past, sid, caller) && (slot < slots_of(past, sid) && is_next(count, seq))
+    is_open_for(past, asked.sid, asked.subject)
+        && (asked.slot < slots_of(past, asked.sid) && is_next(count, asked.seq))
 }
 
-/// Whether the session and the slot that a request names are these.
-fn is_for(name: &Sid, at: u32, sid: &Sid, slot: u32) -> bool
-    ensures { result ≡ (bytes_eq sid.now name.now && (slot == at)) }
+/// Whether a request is to this slot of this session.
+fn is_for(asked: &SlotRequest, sid: &Sid, slot: u32) -> bool
+    ensures { result ≡ is_for sid.now slot asked.now }
 {
-    sid.text() == name.text() && slot == at
+    sid.text() == asked.sid.text() && slot == asked.slot
 }
 
 /// Whether an event is a request of this slot that is accepted where so many were before it there.
@@ -48,8 +48,17 @@ fn is_counted(past: &[Event], count: usize, event: &Event, sid: &Sid, slot: u32)
             sid: name,
             slot: at,
             seq,
-            command: _,
-        } => { is_for(name, *at, sid, slot) && accepts(past, count, subject, name, *at, *seq) }
+            command,
+        } => {
+            let asked = SlotRequest {
+                subject,
+                sid: name,
+                slot: *at,
+                seq: *seq,
+                command,
+            };
+            is_for(&asked, sid, slot) && accepts(past, count, &asked)
+        }
     }
 }
 
@@ -87,9 +96,9 @@ pub(crate) fn last_accepted<'a>(past: &'a [Event], sid: &Sid, slot: u32) -> Opti
 }
 
 /// Whether a request is accepted after a past.
-pub(crate) fn is_accepted(past: &[Event], caller: &Subject, sid: &Sid, slot: u32, seq: u32) -> bool
-    ensures { result ≡ accepts_number (map event_model past.now) (length (accepted (map event_model past.now) sid.now slot)) caller.now sid.now slot seq }
+pub(crate) fn is_accepted(past: &[Event], asked: &SlotRequest) -> bool
+    ensures { result ≡ is_accepted (map event_model past.now) asked.now }
 {
-    let count = count_accepted(past, sid, slot);
-    accepts(past, count, caller, sid, slot, seq)
+    let count = count_accepted(past, asked.sid, asked.slot);
+    accepts(past, count, asked)
 }

@@ -1,7 +1,6 @@
 //! What an event is answered.
 ghost use Rattle.std.specs.Prelude.{◌≡◌, IfOk, map};
 ghost use Rattle.std.specs.Str.{bytes_eq};
-ghost use Rattle.room_acl.specs.SubjectModel.{SubjectModel};
 ghost use Rattle.room_commands.specs.CommandModel.{command_model};
 ghost use Rattle.room_commands.specs.Effect.{effect};
 ghost use Rattle.room_wire.specs.Asks.EventModel.{event_model, Slot};
@@ -15,9 +14,9 @@ use crate::sessions::{Told, is_open_for, session_of, slots_of};
 use crate::state::state_after;
 use room_acl::Subject;
 use room_commands::{Command, Reply};
-use room_desk::Answer;
+use room_desk::{Answer, SlotRequest};
 use room_model::PlainRoom;
-use room_records::{Sid, SlotCount};
+use room_records::SlotCount;
 use room_wire::{Code, Event, command_text, reply_text};
 use std::alloc::{AllocError, Global};
 
@@ -119,19 +118,16 @@ fn answer_unaccepted(
     alloc: Global,
     start: &PlainRoom,
     past: &[Event],
-    sid: &Sid,
-    slot: u32,
-    seq: u32,
-    command: &Command,
+    asked: &SlotRequest,
 ) -> Result<Answer, AllocError>
-    ensures { IfOk result (λ answer. (caller : SubjectModel) → answer_model answer ≡ answer_unaccepted start.now
-        (record { caller = caller; sid = sid.now; slot = slot; seq = seq; command = command_model command.now }) (accepted (map event_model past.now) sid.now slot)) }
+    ensures { IfOk result (λ answer. answer_model answer ≡ answer_unaccepted start.now asked.now
+        (accepted (map event_model past.now) asked.now.sid asked.now.slot)) }
 {
-    let Some(last) = last_accepted(past, sid, slot) else {
+    let Some(last) = last_accepted(past, asked.sid, asked.slot) else {
         return Ok(Answer::Refused(Code::SeqMisordered));
     };
-    if seq as usize == count_accepted(past, sid, slot) % 4294967296 {
-        answer_again(alloc, start, command, last)
+    if asked.seq as usize == count_accepted(past, asked.sid, asked.slot) % 4294967296 {
+        answer_again(alloc, start, asked.command, last)
     } else {
         Ok(Answer::Refused(Code::SeqMisordered))
     }
@@ -142,25 +138,21 @@ fn answer_request(
     alloc: Global,
     start: &PlainRoom,
     past: &[Event],
-    caller: &Subject,
-    sid: &Sid,
-    slot: u32,
-    seq: u32,
-    command: &Command,
+    asked: &SlotRequest,
 ) -> Result<Answer, AllocError>
-    ensures { IfOk result (λ answer. answer_model answer ≡ answer_to start.now (map event_model past.now)
-        (Slot (record { caller = caller.now; sid = sid.now; slot = slot; seq = seq; command = command_model command.now }))) }
+    ensures { IfOk result (λ answer. answer_model answer ≡ answer_to start.now (map event_model past.now) (Slot asked.now)) }
 {
-    if !is_open_for(past, sid, caller) {
+    if !is_open_for(past, asked.sid, asked.subject) {
         return Ok(Answer::Refused(Code::BadSession));
     }
-    if slot >= slots_of(past, sid) {
+    if asked.slot >= slots_of(past, asked.sid) {
         return Ok(Answer::Refused(Code::BadSlot));
     }
-    if is_accepted(past, caller, sid, slot, seq) {
-        return Ok(Answer::Reply(original_reply(alloc, start, past, caller, command)?));
+    if is_accepted(past, asked) {
+        let reply = original_reply(alloc, start, past, asked.subject, asked.command)?;
+        return Ok(Answer::Reply(reply));
     }
-    answer_unaccepted(alloc, start, past, sid, slot, seq, command)
+    answer_unaccepted(alloc, start, past, asked)
 }
 
 /// What an event is answered after a past, the latest event first, that began with a room.
@@ -190,6 +182,15 @@ pub fn answer_to(
             slot,
             seq,
             command,
-        } => answer_request(alloc, start, past, subject, sid, *slot, *seq, command),
+        } => {
+            let asked = SlotRequest {
+                subject,
+                sid,
+                slot: *slot,
+                seq: *seq,
+                command,
+            };
+            answer_request(alloc, start, past, &asked)
+        }
     }
 }

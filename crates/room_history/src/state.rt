@@ -8,6 +8,7 @@ ghost use Rattle.room_desk.specs.History.{state_after};
 use crate::accepted::is_accepted;
 use room_acl::Subject;
 use room_commands::Command;
+use room_desk::SlotRequest;
 use room_model::PlainRoom;
 use room_wire::Event;
 use std::alloc::{AllocError, Global};
@@ -47,7 +48,14 @@ pub fn state_after(
             seq,
             command,
         } => {
-            if is_accepted(earlier, subject, sid, *slot, *seq) {
+            let asked = SlotRequest {
+                subject,
+                sid,
+                slot: *slot,
+                seq: *seq,
+                command,
+            };
+            if is_accepted(earlier, &asked) {
                 room_left(alloc, &room, subject, command)
             } else {
                 Ok(room)

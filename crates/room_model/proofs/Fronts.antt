@@ -1,5 +1,5 @@
 -- The fronts of a path, one after another.
-use Rattle.std.proofs.Common.{◌≡◌, ℕ, zero, suc, ◌+◌, ◌<◌, ◌≤◌, refl, ap, sym, ◌∙◌, arith, List, [], ◌∷◌, ◌++◌, map, take, length, get_or, Option}
+use Rattle.std.proofs.Common.{◌≡◌, ℕ, zero, suc, ◌+◌, ◌<◌, ◌≤◌, refl, ap, ◌∙◌, arith, List, [], ◌∷◌, ◌++◌, map, take, length, get_or, Option}
 use Rattle.std.proofs.lemmas.List.{map_more, take_all, length-map}
 use Rattle.room_records.specs.Names.{Name, Path}
 use Rattle.room_commands.specs.ReplyModel.{Refusal}

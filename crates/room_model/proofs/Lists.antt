@@ -1,12 +1,8 @@
 -- The list of an object, from the root down, and what is in a folder, from the last object on.
-use Rattle.std.proofs.Common.{◌≡◌, ℕ, zero, suc, ◌+◌, ◌-◌, ◌<◌, ◌≤◌, refl, ap, sym, ◌∙◌, subst, arith, Bool, true, false, cond, List, [], ◌∷◌, ◌++◌, take, drop, length, reverse, get_or, Option, None, Some}
-use Rattle.std.specs.List.{filter_map}
-use Rattle.std.specs.Option.{option_map}
-use Rattle.std.proofs.lemmas.List.{take_more, drop_more, reverse-append, reverse-reverse}
-use Rattle.room_acl.specs.declared.subject.Kind.{Kind}
-use Rattle.room_acl.specs.Entries.{EntryModel}
+use Rattle.std.proofs.Common.{◌≡◌, ℕ, ◌+◌, ◌<◌, ap, sym, ◌∙◌, [], ◌∷◌, ◌++◌, take, length, reverse, get_or}
+use Rattle.std.proofs.lemmas.List.{take_more, reverse-append, reverse-reverse}
 use Rattle.room_records.specs.Names.{Name, Path}
-use Rattle.room_records.specs.Room.{Object, Room, object_at, list_under, list_upwards, list_of, child_in, name_in, by_name}
+use Rattle.room_records.specs.Room.{Room, object_at, list_under, list_upwards, list_of}
 
 -- the list of what is in a folder, by the folder's list
 pub list_below : (room : Room) (folder : Path) (name : Name) → list_of room (folder ++ name ∷ []) ≡ list_under (object_at room (folder ++ name ∷ [])) (list_of room folder)

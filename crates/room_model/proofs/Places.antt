@@ -1,9 +1,9 @@
 -- Places and their folders.
-use Rattle.std.proofs.Common.{◌≡◌, ℕ, zero, suc, ◌+◌, ◌<◌, ◌≤◌, refl, ap, sym, ◌∙◌, arith, Bool, true, false, cond, ◌&&◌, List, [], ◌∷◌, ◌++◌, take, length, get_or, Option, None, Some}
+use Rattle.std.proofs.Common.{◌≡◌, ℕ, zero, suc, ◌+◌, refl, arith, Bool, true, false, cond, ◌&&◌, [], ◌∷◌, take, length, get_or, Option, None, Some}
 use Rattle.std.specs.List.{AllByRecursion, starts_with}
 use Rattle.std.proofs.lemmas.List.{length-take}
-use Rattle.room_records.specs.Names.{Name, Path, IsPath, IsFileName, name_eq, path_eq}
-use Rattle.room_records.specs.Room.{name_in, parent_of}
+use Rattle.room_records.specs.Names.{Name, Path, IsPath, IsFileName, name_eq}
+use Rattle.room_records.specs.Room.{name_in}
 
 take_names : (n : ℕ) (path : Path) → AllByRecursion IsFileName path → AllByRecursion IsFileName (take n path)
 take_names zero path h = tt
@@ -16,9 +16,6 @@ take_is_path n path h = record {
   short = omega (arith, length-take n path, h.short);
   names = take_names n path h.names;
 }
-
-pub parent_is_path : (path : Path) → IsPath path → IsPath (parent_of path)
-parent_is_path path h = take_is_path _ path h
 
 inside_one : (b rest : Bool) (found named : Option Name) → (b && rest) ≡ true → (rest ≡ true → found ≡ named) → found ≡ cond b named None
 inside_one true rest found named h below = below h

@@ -6,7 +6,7 @@ ghost use Rattle.room_records.specs.Changes.{apply_change};
 use crate::names::Sid;
 use crate::node::Node;
 use crate::session::{SessionRow, SlotRow};
-use room_acl::Entry;
+use room_acl::{Entry, copy_entries};
 use std::alloc::{AllocError, Global};
 
 /// One change of the rows.
@@ -46,24 +46,4 @@ impl Change {
             Change::PutNext(next) => Ok(Change::PutNext(*next)),
         }
     }
-}
-
-pub(crate) fn copy_entries(alloc: Global, entries: &[Entry]) -> Result<Vec<Entry>, AllocError>
-    ensures { IfOk result (λ copy. copy.items ≡ entries.now) }
-{
-    let mut copy = Vec::new(alloc);
-    for entry in entries {
-        copy.push(copy_entry(entry)?)?;
-    }
-    Ok(copy)
-}
-
-fn copy_entry(entry: &Entry) -> Result<Entry, AllocError>
-    ensures { IfOk result (λ copy. copy ≡ entry.now) }
-{
-    let who = entry.who().clone()?;
-    let Some(copy) = Entry::new(entry.allow(), entry.flags(), entry.mask(), who) else {
-        unreachable!()
-    };
-    Ok(copy)
 }

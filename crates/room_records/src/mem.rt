@@ -6,14 +6,14 @@ mod fresh;
 mod nodes;
 mod sessions;
 
-use crate::change::{Change, copy_entries};
+use crate::change::Change;
 use crate::names::{FileName, Sid};
 use crate::node::Node;
 use crate::session::SessionRow;
 use crate::shelf::{Shelf, ShelfFault};
 use crate::table::Table;
 use nodes::NodeIndex;
-use room_acl::Entry;
+use room_acl::{Entry, copy_entries};
 use room_slots::Kept;
 use sessions::Sessions;
 use std::alloc::Global;

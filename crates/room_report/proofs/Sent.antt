@@ -2,7 +2,7 @@
 use Rattle.std.proofs.Common.{◌≡◌, ℕ, ◌+◌, List, [], ◌++◌, take, drop, refl, sym, ap, subst, ◌∙◌, append_assoc, append-nil, Option, Result, Ok, Err}
 use Rattle.std.proofs.lemmas.List.{take-append-drop}
 use Rattle.std.proofs.Math.Seq.{take-add}
-use Rattle.std.proofs.KnownBytes.{Appends-trans, Appends-kept, Appends-nil}
+use Rattle.std.proofs.KnownBytes.{Appends-trans, Appends-kept}
 use Rattle.std.specs.Io.KnownBytes.{Appends, Keeps}
 use Rattle.std.specs.Prelude.{OnOk}
 use Rattle.room_report.specs.Lines.{IsBeginningOf}
@@ -19,10 +19,6 @@ front_more a b c bytes at n h k = subst (Appends a c) (sym (take-add at n bytes)
 -- the writer took n more, and no more
 pub front_some : (a b c : Option (List ℕ)) (bytes : List ℕ) (at n : ℕ) → Appends a b (take at bytes) → Appends b c (take n (drop at bytes)) → AppendsFront a c bytes
 front_some a b c bytes at n h k = (take (at + n) bytes, drop (at + n) bytes, sym (take-append-drop (at + n) bytes), front_more a b c bytes at n h k)
-
--- nothing was written
-pub nothing_sent : (a : Option (List ℕ)) (bytes : List ℕ) → AppendsFront a a bytes
-nothing_sent a bytes = ([], bytes, refl, Appends-nil a)
 
 -- a part was written, and its front is a front of the whole
 pub front_of_more : (a b : Option (List ℕ)) (x y : List ℕ) → AppendsFront a b x → AppendsFront a b (x ++ y)

@@ -7,7 +7,6 @@ use Rattle.matchit.specs.Rows.{RowsOf, param_token}
 use Rattle.matchit.specs.Seek.{first}
 use Rattle.room_wire.specs.declared.asks.routing.Route.{Route}
 use Rattle.room_wire.specs.declared.asks.routing.Route.TheVariants as R
-use Rattle.room_wire.specs.declared.asks.routing.SessionAction.{SessionAction}
 use Rattle.room_wire.specs.declared.asks.routing.SessionAction.TheVariants.{Open, Close, Run}
 use Rattle.room_wire.specs.declared.asks.routing.Action.{Action}
 use Rattle.room_wire.specs.declared.asks.routing.Action.TheVariants.{Check, Session}

@@ -13,7 +13,7 @@ use Rattle.room_commands.specs.declared.reply.Fault.{Fault}
 use Rattle.room_commands.specs.declared.reply.Fault.TheVariants as F
 use Rattle.room_commands.specs.CommandModel.{CommandModel}
 use Rattle.room_commands.specs.CommandModel as C
-use Rattle.room_commands.specs.ReplyModel.{ReplyModel, Refusal}
+use Rattle.room_commands.specs.ReplyModel.{ReplyModel}
 use Rattle.room_commands.specs.ReplyModel as T
 
 abbrev pub num : ℕ → Data

@@ -2,7 +2,7 @@
 ghost use Rattle.std.specs.Prelude.{◌≡◌, IfOk};
 ghost use Rattle.room_wire.specs.Questions.QuestionModel.{question_model};
 
-use room_acl::{Entry, Kind, Mask, Principal};
+use room_acl::{Entry, Kind, Mask, Principal, copy_entries, copy_principals};
 use std::alloc::AllocError;
 
 /// A question about a list.
@@ -38,37 +38,17 @@ impl Question {
                 owner,
                 user,
             } => Ok(Question::List {
-                entries: copy_entries(entries)?,
+                entries: copy_entries(*entries.allocator(), entries)?,
                 group: group.clone()?,
-                groups: copy_groups(groups)?,
+                groups: copy_principals(groups)?,
                 mask: *mask,
                 owner: owner.clone()?,
                 user: user.clone()?,
             }),
             Question::Child { kind, entries } => Ok(Question::Child {
                 kind: *kind,
-                entries: copy_entries(entries)?,
+                entries: copy_entries(*entries.allocator(), entries)?,
             }),
         }
     }
-}
-
-fn copy_entries(entries: &Vec<Entry>) -> Result<Vec<Entry>, AllocError>
-    ensures { IfOk result (λ copy. copy.items ≡ entries.now.items) }
-{
-    let mut copy = Vec::new(*entries.allocator());
-    for entry in entries {
-        copy.push(entry.clone()?)?;
-    }
-    Ok(copy)
-}
-
-fn copy_groups(groups: &Vec<Principal>) -> Result<Vec<Principal>, AllocError>
-    ensures { IfOk result (λ copy. copy.items ≡ groups.now.items) }
-{
-    let mut copy = Vec::new(*groups.allocator());
-    for group in groups {
-        copy.push(group.clone()?)?;
-    }
-    Ok(copy)
 }

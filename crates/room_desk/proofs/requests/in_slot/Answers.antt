@@ -7,7 +7,6 @@ use Rattle.room_records.specs.Representation.{RepresentsRoom}
 use Rattle.room_records.proofs.Shelves.{call_then}
 use Rattle.room_slots.specs.Slots.{verdict}
 use Rattle.room_slots.specs.declared.verdict.Verdict.{Verdict}
-use Rattle.room_commands.specs.CommandModel.{command_model}
 use Rattle.room_wire.specs.Asks.EventModel.{Request, Slot}
 use Rattle.room_wire.specs.Forms.Texts.{command_text}
 use Rattle.room_desk.specs.AnswerModel.{answer_model}
@@ -25,18 +24,20 @@ returns-then-is_new-clause-step g c = λ h d start past stand usable has.
     let S = g.S.Shelf in
     let old = (S.view c.args.shelf.now).records in
     let after = (S.view c.run_new.new.shelf).records in
-    let q : Request = record { caller = c.args.subject.now; sid = c.args.sid.now; slot = c.args.slot; seq = c.args.seq; command = command_model c.args.command.now } in
+    let q : Request = c.args.asked.now in
     let read = c.run_new.ensures.frame.was_available h in
     let same : (S.view c.slot.new.self).records ≡ old = c.slot.ensures.frame.same read d in
-    let kept : c.in_ok-kept.kept ≡ old.slot q.sid q.slot = c.in_ok-kept.ensures.value read d in
+    let kept : c.in_ok-kept.kept ≡ old.slot q.sid q.slot = c.in_ok-kept.ensures.value read d ∙ ap (λ (p : Request). old.slot p.sid p.slot) c.asked.view_is in
     let v : Verdict = c.verdict_of-verdict.result in
     let is : v ≡ verdict (old.slot q.sid q.slot) q.seq (command_text q.command) =
-    c.verdict_of-verdict.ensures ∙ (λ i. verdict (kept i) q.seq ((c.deref.ensures.value ∙ c.in_ok-text.ensures.value) i)) in
+    c.verdict_of-verdict.ensures
+    ∙ (λ i. verdict (kept i) c.asked.inside.seq ((c.deref.ensures.value ∙ c.in_ok-text.ensures.value) i))
+    ∙ ap (λ (p : Request). verdict (old.slot q.sid q.slot) p.seq (command_text p.command)) c.asked.view_is in
     let new = c.is_new.ensures.new c.if-is_new.true in
     let Runs : Records → Type 0 = λ r. (room : Room) → RepresentsRoom r.objects room → SlotRules r → HasSlot r q.sid q.slot →
-    IfOk c.run_new.result (λ answer. Ran r room q.caller q.command q.sid q.slot q.seq (answer_model answer) after) in
+    IfOk c.run_new.result (λ answer. Ran r room q (answer_model answer) after) in
     let runs : Runs old = subst Runs same (c.run_new.ensures.ok h (c.slot.ensures.frame.call.laid_out read d)) in
-    IfOk-weaker c.run_new.result (λ answer. Ran old (state_after start past) q.caller q.command q.sid q.slot q.seq (answer_model answer) after)
+    IfOk-weaker c.run_new.result (λ answer. Ran old (state_after start past) q (answer_model answer) after)
     (λ answer. (answer_model answer ≡ answer_to start past (Slot q)) × RepresentsHistory start after (Slot q ∷ past))
     (λ answer ran. (
       ran.says ∙ sym (new_answer start old past stand q usable has v is new),
@@ -48,12 +49,14 @@ pub returns-then-is_new-clause-idle : goal.returns-then-is_new-clause-idle
 returns-then-is_new-clause-idle g c = λ h d start past stand usable has idle.
     let S = g.S.Shelf in
     let old = (S.view c.args.shelf.now).records in
-    let q : Request = record { caller = c.args.subject.now; sid = c.args.sid.now; slot = c.args.slot; seq = c.args.seq; command = command_model c.args.command.now } in
+    let q : Request = c.args.asked.now in
     let read = c.run_new.ensures.frame.was_available h in
-    let kept : c.in_ok-kept.kept ≡ old.slot q.sid q.slot = c.in_ok-kept.ensures.value read d in
+    let kept : c.in_ok-kept.kept ≡ old.slot q.sid q.slot = c.in_ok-kept.ensures.value read d ∙ ap (λ (p : Request). old.slot p.sid p.slot) c.asked.view_is in
     let v : Verdict = c.verdict_of-verdict.result in
     let is : v ≡ verdict (old.slot q.sid q.slot) q.seq (command_text q.command) =
-    c.verdict_of-verdict.ensures ∙ (λ i. verdict (kept i) q.seq ((c.deref.ensures.value ∙ c.in_ok-text.ensures.value) i)) in
+    c.verdict_of-verdict.ensures
+    ∙ (λ i. verdict (kept i) c.asked.inside.seq ((c.deref.ensures.value ∙ c.in_ok-text.ensures.value) i))
+    ∙ ap (λ (p : Request). verdict (old.slot q.sid q.slot) p.seq (command_text p.command)) c.asked.view_is in
     let accepted = accepted_if_verdict start old past stand q usable has v is (c.is_new.ensures.new c.if-is_new.true) in
     let never : true ≡ false = sym accepted ∙ idle in
     absurd cc
@@ -62,12 +65,14 @@ pub returns-else-is_new-clause-step : goal.returns-else-is_new-clause-step
 returns-else-is_new-clause-step g c = λ h d start past stand usable has.
     let S = g.S.Shelf in
     let old = (S.view c.args.shelf.now).records in
-    let q : Request = record { caller = c.args.subject.now; sid = c.args.sid.now; slot = c.args.slot; seq = c.args.seq; command = command_model c.args.command.now } in
+    let q : Request = c.args.asked.now in
     let same : (S.view c.slot.new.self).records ≡ old = c.slot.ensures.frame.same h d in
-    let kept : c.in_ok-kept.kept ≡ old.slot q.sid q.slot = c.in_ok-kept.ensures.value h d in
+    let kept : c.in_ok-kept.kept ≡ old.slot q.sid q.slot = c.in_ok-kept.ensures.value h d ∙ ap (λ (p : Request). old.slot p.sid p.slot) c.asked.view_is in
     let v : Verdict = c.verdict_of-verdict.result in
     let is : v ≡ verdict (old.slot q.sid q.slot) q.seq (command_text q.command) =
-    c.verdict_of-verdict.ensures ∙ (λ i. verdict (kept i) q.seq ((c.deref.ensures.value ∙ c.in_ok-text.ensures.value) i)) in
+    c.verdict_of-verdict.ensures
+    ∙ (λ i. verdict (kept i) c.asked.inside.seq ((c.deref.ensures.value ∙ c.in_ok-text.ensures.value) i))
+    ∙ ap (λ (p : Request). verdict (old.slot q.sid q.slot) p.seq (command_text p.command)) c.asked.view_is in
     let other = c.is_new.ensures.other c.if-is_new.false in
     let Stands : Records → Type 0 = λ r. RepresentsHistory start r (Slot q ∷ past) in (
       c.answer_kept.ensures ∙ ap (λ k. answer_kept v k) kept ∙ sym (old_answer start old past stand q usable has v is other),

@@ -5,6 +5,9 @@ use Rattle.room_records.specs.declared.change.Change.TheVariants.{PutSlot}
 use Rattle.room_records.specs.declared.session.SlotRow.{SlotRow}
 use Rattle.room_records.specs.Changes.{apply_changes, RulesHoldAfterEach}
 use Rattle.room_commands.specs.CommandModel.{command_model}
+use Rattle.room_wire.specs.Asks.EventModel.{Request}
+use Rattle.room_wire.specs.Forms.Texts.{command_text}
+use Rattle.room_desk.specs.Rows.{HasSlot, Ran}
 use Rattle.room_desk.specs.AnswerModel.{AnswerModel, Reply}
 use Rattle.room_desk.proofs.Faults.{passed_on}
 use Rattle.room_desk.proofs.Running.{planned_row, all_changes, planned_rules, ran}
@@ -16,25 +19,38 @@ returns-in_err-commit-clause-frame g c =
     c.in_err-commit.ensures.frame c.in_ok-outcome.ensures.frame
 
 pub returns-clause-ok : goal.returns-clause-ok
-returns-clause-ok g c = λ h d room stand slots has.
+returns-clause-ok g c = λ h d room stand slots there.
     let S = g.S.Shelf in
     let old = (S.view c.args.shelf.now).records in
-    let caller = c.args.subject.now in
-    let command = command_model c.args.command.now in
-    let sid = c.args.sid.now in
+    let q : Request = record {
+      caller = c.asked.inside.subject.now;
+      sid = c.asked.inside.sid.now;
+      slot = c.asked.inside.slot;
+      seq = c.asked.inside.seq;
+      command = command_model c.asked.inside.command.now;
+    } in
+    let is_asked : q ≡ c.args.asked.now = c.asked.view_is in
+    let has : HasSlot old q.sid q.slot = subst (λ (p : Request). HasSlot old p.sid p.slot) (sym is_asked) there in
     let outcome = c.in_ok-outcome.outcome in
     let read = c.commit.ensures.frame.was_available h in
     let same : (S.view c.plan.new.shelf).records ≡ old = c.plan.ensures.frame.same read d in
     let plans = c.in_ok-outcome.ensures.effect read d room stand in
-    let row : c.in_ok-row.row ≡ planned_row old room caller command outcome sid c.args.slot c.args.seq plans stand slots has =
-    c.in_ok-row.ensures ∙ (λ i. record { sid = sid; slot = c.args.slot; kept = record { seq = c.args.seq; request = c.requires i; reply = c.in_ok-reply.ensures i } }) in
-    let all = all_changes old room caller command outcome sid c.args.slot c.args.seq plans stand slots has in
+    let row : c.in_ok-row.row ≡ planned_row old room q outcome plans stand slots has =
+    c.in_ok-row.ensures
+    ∙ ap (λ (p : Request). record {
+      sid = p.sid;
+      slot = p.slot;
+      kept = record { seq = p.seq; request = c.args.request.items; reply = c.in_ok-reply.reply.items };
+    }) (sym is_asked)
+    ∙ (λ i. record { sid = q.sid; slot = q.slot; kept = record { seq = q.seq; request = (c.requires ∙ ap (λ (p : Request). command_text p.command) (sym is_asked)) i; reply = c.in_ok-reply.ensures i } }) in
+    let all = all_changes old room q outcome plans stand slots has in
     let items : c.deref.result.now ≡ all = c.deref.ensures.value ∙ c.in-Ok.ensures.items ∙ ap (λ (r : SlotRow). outcome.changes.items ++ PutSlot r ∷ []) row in
     let Hold : List Change → Records → Type 0 = λ cs r. RulesHoldAfterEach cs r in
     let Made : List Change → Records → Type 0 = λ cs r. (S.view c.commit.new.self).records ≡ apply_changes cs r in
-    let rules : Hold all old = planned_rules old room caller command outcome sid c.args.slot c.args.seq plans stand slots has in
+    let rules : Hold all old = planned_rules old room q outcome plans stand slots has in
     let rules_there : Hold c.deref.result.now (S.view c.plan.new.shelf).records = rw (items, same) rules in
     let made : Made c.deref.result.now (S.view c.plan.new.shelf).records = c.in_ok-commit.ensures.ok (g.met.S.Shelf.available_is_intact c.commit.new.self h) (c.plan.ensures.frame.call.laid_out read d) rules_there in
     let after : Made all old = subst (λ cs. Made cs old) items (subst (λ r. Made c.deref.result.now r) same made) in
-    ran old room caller command outcome sid c.args.slot c.args.seq plans stand slots has
-    (Reply c.in_ok-reply.reply.items) (S.view c.commit.new.self).records (ap (λ text. Reply text) c.in_ok-reply.ensures) after
+    subst (λ p. Ran old room p (Reply c.in_ok-reply.reply.items) (S.view c.commit.new.self).records) is_asked
+    (ran old room q outcome plans stand slots has
+    (Reply c.in_ok-reply.reply.items) (S.view c.commit.new.self).records (ap (λ text. Reply text) c.in_ok-reply.ensures) after)

@@ -1,4 +1,4 @@
-use Rattle.std.proofs.Common.{◌≡◌, ap, sym, ◌∙◌, Some, true, arith, rules}
+use Rattle.std.proofs.Common.{ap, sym, ◌∙◌, Some, true, rules}
 use Rattle.room_model.proofs.Places.{name_inside, name_outside}
 use Rattle.room_model.proofs.names.name_in.Goals as goal
 use Rattle.room_model.proofs.names.name_in.Goals.{else-path-folder-via-then-path-folder+else-starts_with, else-path-folder-via-else-path-folder}

@@ -1,12 +1,12 @@
 -- The parts of a target that is ASCII are UTF-8.
-use Rattle.std.proofs.Common.{◌≡◌, ℕ, ◌-◌, ◌&&◌, Bool, true, false, List, [], ◌∷◌, length, cond, leb, take, drop, refl}
+use Rattle.std.proofs.Common.{◌≡◌, ℕ, ◌-◌, ◌&&◌, Bool, true, false, List, [], ◌∷◌, length, cond, leb, take, drop}
 use Rattle.std.specs.Prelude.{nat_lt}
 use Rattle.std.specs.List.{AllByRecursion, list_all}
 use Rattle.std.specs.Str.{IsAscii, IsUtf8}
 use Rattle.std.proofs.lemmas.Bool.{and_parts, ltb-true}
 use Rattle.std.proofs.lemmas.Str.{IsUtf8-from_ascii, IsUtf8-nil, IsAscii-take, IsAscii-drop}
 use Rattle.std.proofs.lemmas.Str.Ascii.{IsAscii-nil, IsAscii-cons}
-use Rattle.matchit.specs.Params.{walk, part_of, wild_from, wild_stop, after_token}
+use Rattle.matchit.specs.Params.{walk, wild_from, wild_stop, after_token}
 use Rattle.room_wire.specs.Asks.Routing.{is_ascii}
 
 pub ascii_by : (text : List ℕ) → is_ascii text ≡ true → IsAscii text

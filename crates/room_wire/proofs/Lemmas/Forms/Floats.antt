@@ -1,6 +1,6 @@
 -- No text of ours has a float, so each is written.
-use Rattle.std.proofs.Common.{◌≡◌, ℕ, Bool, true, false, ◌||◌, List, [], ◌∷◌, map, refl, ap, Option, None, Some}
-use Rattle.serde_json.specs.Data.{item, array}
+use Rattle.std.proofs.Common.{◌≡◌, ℕ, false, ◌||◌, List, [], ◌∷◌, map, refl, ap, Option, None, Some}
+use Rattle.serde_json.specs.Data.{item}
 use Rattle.serde_json.specs.View.{items_of}
 use Rattle.serde_json.specs.Written.{has_float, items_have_float}
 use Rattle.room_acl.specs.declared.subject.Kind.{Kind}

@@ -1,4 +1,4 @@
-use Rattle.std.proofs.Common.{◌≡◌, ap, ◌∙◌}
+use Rattle.std.proofs.Common.{ap, ◌∙◌}
 use Rattle.room_commands.specs.Checks.{first_refusal, prefix_fault}
 use Rattle.room_model.proofs.Fronts.{fronts_all}
 use Rattle.room_model.proofs.room.PlainRoom.walk.Goals as goal

@@ -1,5 +1,4 @@
 use Rattle.std.proofs.Common.{◌≡◌, map, take}
-use Rattle.room_records.specs.Names.{Path}
 use Rattle.room_commands.specs.Checks.{prefix_fault, proper_prefixes}
 use Rattle.room_model.proofs.room.PlainRoom.walk.Given as goal
 

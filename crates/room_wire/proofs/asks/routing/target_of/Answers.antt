@@ -1,7 +1,4 @@
-use Rattle.std.proofs.Common.{◌≡◌, true, ap, sym, subst, ◌∙◌, ℕ, List}
-use Rattle.std.specs.List.{AllByRecursion}
-use Rattle.std.specs.Str.{IsUtf8}
-use Rattle.matchit.specs.Params.{walk}
+use Rattle.std.proofs.Common.{◌≡◌, true, ap, sym, ◌∙◌}
 use Rattle.room_wire.specs.Asks.Routing.{is_ascii}
 use Rattle.room_wire.proofs.Lemmas.Asks.TargetTexts.{walk_texts}
 use Rattle.room_wire.proofs.asks.routing.target_of.Goals as goal

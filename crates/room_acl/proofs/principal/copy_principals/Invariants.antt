@@ -1,5 +1,5 @@
 use Rattle.std.proofs.Common.{◌≡◌, take}
-use Rattle.room_acl.proofs.subject.clone_of.Given as goal
+use Rattle.room_acl.proofs.principal.copy_principals.Given as goal
 
 -- the names copied so far
 abbrev pub invariant-loop-name : goal.invariant-loop-name
