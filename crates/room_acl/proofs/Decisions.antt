@@ -106,13 +106,6 @@ module _ (entries : List EntryModel) (caller : SubjectModel) (standing : Standin
       λ low. decides_denied refused low _ refl,
     )
 
--- what a walk over the entries refuses decides
-pub decision-by_refused : (entries : List EntryModel) (caller : SubjectModel) (standing : Standing) (wanted bits refused : ℕ) → bits ≡ wanted
-    → ((bit : ℕ) → has_bit refused bit ≡ (has_bit bits bit && not (entries_allow entries caller standing bit)))
-    → decision_by (find (has_bit refused) named_bits) ≡ decision entries caller standing wanted
-decision-by_refused entries caller standing wanted bits refused same is =
-    λ i. decision_by (find (λ bit. (is bit ∙ ap (λ n. has_bit n bit && not (entries_allow entries caller standing bit)) same) i) named_bits)
-
 module _ (entries : List EntryModel) (caller : SubjectModel) (standing : Standing) (wanted : ℕ) (result : Decision) where
   pub allowed_in_words : result ≡ decision entries caller standing wanted → IsMask wanted → (result ≡ Allowed) ↔ AllowsMask entries caller standing wanted
   allowed_in_words is mask =

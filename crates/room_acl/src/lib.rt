@@ -10,6 +10,7 @@ mod flags;
 mod inheritance;
 mod list_flags;
 mod mask;
+mod pending;
 mod principal;
 mod subject;
 mod who;
@@ -22,6 +23,7 @@ pub use inheritance::{
 };
 pub use list_flags::ListFlags;
 pub use mask::Mask;
+pub use pending::Pending;
 pub use principal::{Principal, copy_principals};
 pub use subject::{Kind, Standing, Subject};
 pub use who::Who;

@@ -9,6 +9,8 @@ mod lists;
 #[cfg(test)]
 mod model;
 #[cfg(test)]
+mod pending;
+#[cfg(test)]
 mod plans;
 #[cfg(test)]
 mod play;
