@@ -2,7 +2,7 @@
 ghost use Rattle.std.specs.Prelude.{◌≡◌, ℕ, [], ◌&&◌, not, IsTrue, ◌↔◌};
 ghost use Rattle.std.specs.List.{list_any, find};
 ghost use Rattle.std.specs.Str.{bytes_eq};
-ghost use Rattle.room_acl.specs.Bits.{all_rights, has_bit, named_bits};
+ghost use Rattle.room_acl.specs.Bits.{all_rights, has_bit, named_bits, IsMask};
 ghost use Rattle.room_acl.specs.Access.{decision, decision_by, allowed_mask, matches, applies, entries_allow, AllowsBit, AllowsMask, IsLowestRefused};
 ghost use Rattle.room_acl.specs.Pending.{decision_with, refuses_with};
 
@@ -44,7 +44,9 @@ fn after_all(entries: &[Entry], subject: &Subject, standing: &Standing, wanted: 
         ≡ decision entries.now subject.now standing.now wanted }
     ensures bits { (bit : ℕ) → refuses_with [] subject.now standing.now result bit
         ≡ (has_bit wanted bit && not (entries_allow entries.now subject.now standing.now bit)) }
+    ensures named { IsMask wanted }
 {
+    let _ = wanted.bits();
     let mut pending = Pending::new(wanted, subject, standing);
     for entry in entries {
         pending.take(entry, subject, standing);

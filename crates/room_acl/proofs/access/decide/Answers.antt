@@ -6,7 +6,7 @@ pub returns-clause-value : goal.returns-clause-value
 returns-clause-value c = c.end.ensures c.args.subject.now c.args.standing.now ∙ c.after_all.ensures.answers
 
 pub returns-clause-allowed : goal.returns-clause-allowed
-returns-clause-allowed c = allowed_in_words _ _ _ _ _ (returns-clause-value c) c.wanted-is-mask
+returns-clause-allowed c = allowed_in_words _ _ _ _ _ (returns-clause-value c) c.after_all.ensures.named
 
 pub returns-clause-denied : goal.returns-clause-denied
-returns-clause-denied c = denied_in_words _ _ _ _ _ (returns-clause-value c) c.wanted-is-mask
+returns-clause-denied c = denied_in_words _ _ _ _ _ (returns-clause-value c) c.after_all.ensures.named
