@@ -1,8 +1,8 @@
 use Rattle.room_acl.proofs.Steps.{walked_on, walked_all, same_decision}
 use Rattle.room_acl.proofs.access.after_all.Goals as goal
 
-pub loop-entry-begins : goal.loop-entry-begins
-loop-entry-begins c = record { at = c.new.ensures.bits c.args.entries.now }
+pub loop-entry-init : goal.loop-entry-init
+loop-entry-init c = record { at = c.new.ensures.bits c.args.entries.now }
 
 pub loop-entry-preserved : goal.loop-entry-preserved
 loop-entry-preserved c =
