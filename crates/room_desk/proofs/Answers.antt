@@ -66,6 +66,9 @@ module _ (start : Room) (r : Records) (past : History) (stand : RepresentsHistor
     pub open_known_idle : (row : SessionRow) → r.session name ≡ Some row → changes_rows past (Open caller name slots) ≡ false
     open_known_idle row some = rw (session_of_row row some).here refl
 
+    pub open_unused_changes : r.session name ≡ None → changes_rows past (Open caller name slots) ≡ true
+    open_unused_changes none = rw (no_session none) refl
+
     pub open_unused_rules : r.session name ≡ None → RulesHold (apply_change (PutSession (record { sid = name; owner = caller.name; slots = slots; is_open = true })) r)
     open_unused_rules none = rules_after_open start r past stand caller name slots (no_session none)
 

@@ -3,6 +3,7 @@ pub mod Refusals
 pub mod Acceptance
 pub mod Allowed
 pub mod Outcomes
+pub mod Crashes
 pub mod OpenClose
 pub mod Answers
 pub mod Closing

@@ -24,7 +24,7 @@ use Rattle.room_tree.specs.declared.planning.Outcome.{Outcome}
 use Rattle.room_wire.specs.Asks.EventModel.{Request}
 use Rattle.room_wire.specs.Forms.Texts.{command_text, reply_text}
 use Rattle.room_desk.specs.AnswerModel.{AnswerModel, Reply}
-use Rattle.room_desk.specs.Rows.{HasSlot, Ran, ran_row}
+use Rattle.room_desk.specs.Rows.{HasSlot, Ran, RanTo, ran_row}
 
 pub objects_of_changes : (changes : List Change) (r : Records) → (apply_changes changes r).objects ≡ apply_all_to_objects changes r.objects
 objects_of_changes [] r = refl
@@ -139,3 +139,12 @@ module _ (r : Records) (room : Room) (q : Request) (outcome : Outcome)
         leaves = after ∙ changes_then outcome.changes.items (PutSlot planned_row) r ∙ ap (λ row. apply_change (PutSlot row) changed) same_row;
         says = says ∙ ap (λ reply. Reply (reply_text reply)) plans.reply;
       }
+
+  pub rules_of : (all : List Change) (from : Records) → all ≡ all_changes → from ≡ r → RulesHoldAfterEach all from
+  rules_of all from items same = rw (items, same) planned_rules
+
+  pub ran_to : (all : List Change) (from : Records) → all ≡ all_changes → from ≡ r → (left : Records) → left ≡ apply_changes all from
+      → RanTo r room q left
+  ran_to all from items same left after =
+      ran (Reply (reply_text (effect room q.caller q.command).reply)) left (sym (ap (λ reply. Reply (reply_text reply)) plans.reply))
+      (after ∙ (λ i. apply_changes (items i) (same i)))

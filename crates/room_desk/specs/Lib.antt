@@ -1,4 +1,5 @@
 pub mod AnswerModel
+pub mod Crashes
 pub mod History
 pub mod Representation
 pub mod Rows

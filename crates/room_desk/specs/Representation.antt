@@ -15,7 +15,7 @@ use Rattle.room_wire.specs.declared.answers.code.Code.TheVariants.{Delay}
 use Rattle.room_wire.specs.Asks.EventModel.{EventModel, Open, Close, Slot}
 use Rattle.room_wire.specs.Forms.Texts.{command_text}
 use Rattle.room_desk.specs.AnswerModel.{AnswerModel, Refused}
-use Rattle.room_desk.specs.History.{History, Session, session_of, is_open, Accepted, accepted, is_accepted, state_after, original_reply, answer_to}
+use Rattle.room_desk.specs.History.{History, Session, session_of, is_open, Accepted, accepted, is_accepted, state_after, original_reply, answer_to, changes_rows}
 
 -- the row of a session
 abbrev pub session_row_of : List ℕ → Session → SessionRow
@@ -50,6 +50,10 @@ pub record RepresentsHistory (start : Room) (r : Records) (past : History) : Typ
   pub rules : SlotRules r
   pub sessions : (sid : List ℕ) → r.session sid ≡ option_map (session_row_of sid) (session_of past sid)
   pub slots : (sid : List ℕ) (slot : ℕ) → r.slot sid slot ≡ slot_row_of start past sid slot
+
+-- the rows stand for the history with this event, which changes what is kept
+abbrev pub StandsWith : Room → History → EventModel → Records → Type 0
+StandsWith start past event r = (changes_rows past event ≡ true) × RepresentsHistory start r (event ∷ past)
 
 -- while a shelf is available, it is laid out and its rows stand for a history that began with this room
 abbrev pub StandsFor : Room → History → View → Type 0

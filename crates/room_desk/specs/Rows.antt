@@ -56,6 +56,10 @@ pub record Ran (r : Records) (room : Room) (q : Request) (answered : AnswerModel
   pub leaves : new ≡ apply_change (PutSlot (ran_row room q)) changed
   pub says : answered ≡ Reply (reply_text (effect room q.caller q.command).reply)
 
+-- the records after a command was run
+abbrev pub RanTo : Records → Room → Request → Records → Type 0
+RanTo r room q new = Ran r room q (Reply (reply_text (effect room q.caller q.command).reply)) new
+
 -- what a request is answered that is not new to its slot
 abbrev pub answer_kept : Verdict → Option KeptModel → AnswerModel
 answer_kept Repeat (Some kept) = Reply kept.reply

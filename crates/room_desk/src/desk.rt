@@ -5,8 +5,9 @@ ghost use Rattle.room_records.specs.Shelf.{ShelfCall, fault_in};
 ghost use Rattle.room_wire.specs.Asks.EventModel.{event_model};
 ghost use Rattle.room_wire.specs.declared.answers.code.Code.TheVariants.{Delay};
 ghost use Rattle.room_desk.specs.AnswerModel.{AnswerModel, Refused, answer_model, IsTurnedAway};
-ghost use Rattle.room_desk.specs.History.{History, answer_to, changes_rows};
-ghost use Rattle.room_desk.specs.Representation.{RepresentsHistory, StandsFor, WasAllowed, InTurn, Run};
+ghost use Rattle.room_desk.specs.Crashes.{LeavesOldOrNew, LeavesNew};
+ghost use Rattle.room_desk.specs.History.{History, answer_to, changes_rows, ReportsChange};
+ghost use Rattle.room_desk.specs.Representation.{RepresentsHistory, StandsFor, StandsWith, WasAllowed, InTurn, Run};
 ghost use Rattle.room_desk.specs.Serving.{DeskCall, EventAnswered};
 
 use crate::requests::{SlotRequest, request};
@@ -53,6 +54,11 @@ impl<S: Shelf> Desk<S> {
             IfOk result (λ answer. IsTurnedAway (answer_model answer) → (S.view self.new).records ≡ (S.view self.old).records) }
         ensures idle { (S.view self.new).is_available → (S.view self.old).is_laid_out → (start : Room) (past : History) → RepresentsHistory start (S.view self.old).records past →
             changes_rows past (event_model event.now) ≡ false → (S.view self.new).records ≡ (S.view self.old).records }
+        ensures crash { (S.view self.new).is_intact → (start : Room) (past : History) → StandsFor start past (S.view self.old) →
+            LeavesOldOrNew (S.view self.old) (S.view self.new) (StandsWith start past (event_model event.now)) }
+        ensures settled { (S.view self.new).is_intact → (start : Room) (past : History) → StandsFor start past (S.view self.old) →
+            IfOk result (λ answer. ReportsChange past (event_model event.now) (answer_model answer) →
+            LeavesNew (S.view self.new) (StandsWith start past (event_model event.now))) }
     {
         match event {
             Event::Open {

@@ -11,8 +11,9 @@ ghost use Rattle.room_wire.specs.Forms.Texts.{reply_text};
 ghost use Rattle.room_wire.specs.Asks.EventModel.{Open, Close};
 ghost use Rattle.room_desk.specs.AnswerModel.{answer_model, IsTurnedAway};
 ghost use Rattle.room_desk.specs.AnswerModel as A;
-ghost use Rattle.room_desk.specs.History.{History, answer_to, changes_rows};
-ghost use Rattle.room_desk.specs.Representation.{RepresentsHistory};
+ghost use Rattle.room_desk.specs.Crashes.{LeavesOldOrNew, LeavesNew};
+ghost use Rattle.room_desk.specs.History.{History, answer_to, changes_rows, ReportsChange};
+ghost use Rattle.room_desk.specs.Representation.{RepresentsHistory, StandsFor, StandsWith};
 ghost use Rattle.room_desk.specs.Rows.{answer_open_again, is_usable};
 
 use room_acl::Subject;
@@ -84,6 +85,14 @@ fn open_first<S: Shelf>(
         RulesHold (apply_change (PutSession (record { sid = sid.now; owner = subject.now.name; slots = slots; is_open = true })) (S.view shelf.old).records) →
         OnOk result ((S.view shelf.new).records
         ≡ apply_change (PutSession (record { sid = sid.now; owner = subject.now.name; slots = slots; is_open = true })) (S.view shelf.old).records) }
+    ensures crash { (S.view shelf.old).is_laid_out →
+        RulesHold (apply_change (PutSession (record { sid = sid.now; owner = subject.now.name; slots = slots; is_open = true })) (S.view shelf.old).records) →
+        LeavesOldOrNew (S.view shelf.old) (S.view shelf.new) (λ left.
+        left ≡ apply_change (PutSession (record { sid = sid.now; owner = subject.now.name; slots = slots; is_open = true })) (S.view shelf.old).records) }
+    ensures settled { (S.view shelf.new).is_intact → (S.view shelf.old).is_laid_out →
+        RulesHold (apply_change (PutSession (record { sid = sid.now; owner = subject.now.name; slots = slots; is_open = true })) (S.view shelf.old).records) →
+        OnOk result (LeavesNew (S.view shelf.new) (λ left.
+        left ≡ apply_change (PutSession (record { sid = sid.now; owner = subject.now.name; slots = slots; is_open = true })) (S.view shelf.old).records)) }
 {
     let text = reply_text(alloc, &Reply::Opened(slots))?;
     let changes = [Change::PutSession(opened_row(subject, sid, slots)?)];
@@ -108,6 +117,11 @@ pub(crate) fn open<S: Shelf>(
         IfOk result (λ answer. IsTurnedAway (answer_model answer) → (S.view shelf.new).records ≡ (S.view shelf.old).records) }
     ensures idle { (S.view shelf.new).is_available → (S.view shelf.old).is_laid_out → (start : Room) (past : History) → RepresentsHistory start (S.view shelf.old).records past →
         changes_rows past (Open subject.now sid.now slots) ≡ false → (S.view shelf.new).records ≡ (S.view shelf.old).records }
+    ensures crash { (S.view shelf.new).is_intact → (start : Room) (past : History) → StandsFor start past (S.view shelf.old) →
+        LeavesOldOrNew (S.view shelf.old) (S.view shelf.new) (StandsWith start past (Open subject.now sid.now slots)) }
+    ensures settled { (S.view shelf.new).is_intact → (start : Room) (past : History) → StandsFor start past (S.view shelf.old) →
+        IfOk result (λ answer. ReportsChange past (Open subject.now sid.now slots) (answer_model answer) →
+        LeavesNew (S.view shelf.new) (StandsWith start past (Open subject.now sid.now slots))) }
 {
     match shelf.session(sid)? {
         Some(row) => Ok(open_again(alloc, &row, subject, slots)?),
@@ -123,6 +137,16 @@ fn end_session<S: Shelf>(shelf: &mut S, sid: &Sid, row: SessionRow) -> Result<()
         RulesHold (apply_change (PutSession (record { sid = row.sid; owner = row.owner; slots = row.slots; is_open = false })) (S.view shelf.old).records) →
         RulesHold (apply_change (DropSlots sid.now) (apply_change (PutSession (record { sid = row.sid; owner = row.owner; slots = row.slots; is_open = false })) (S.view shelf.old).records)) →
         OnOk result ((S.view shelf.new).records ≡ apply_change (DropSlots sid.now) (apply_change (PutSession (record { sid = row.sid; owner = row.owner; slots = row.slots; is_open = false })) (S.view shelf.old).records)) }
+    ensures crash { (S.view shelf.old).is_laid_out →
+        RulesHold (apply_change (PutSession (record { sid = row.sid; owner = row.owner; slots = row.slots; is_open = false })) (S.view shelf.old).records) →
+        RulesHold (apply_change (DropSlots sid.now) (apply_change (PutSession (record { sid = row.sid; owner = row.owner; slots = row.slots; is_open = false })) (S.view shelf.old).records)) →
+        LeavesOldOrNew (S.view shelf.old) (S.view shelf.new) (λ left.
+        left ≡ apply_change (DropSlots sid.now) (apply_change (PutSession (record { sid = row.sid; owner = row.owner; slots = row.slots; is_open = false })) (S.view shelf.old).records)) }
+    ensures settled { (S.view shelf.new).is_intact → (S.view shelf.old).is_laid_out →
+        RulesHold (apply_change (PutSession (record { sid = row.sid; owner = row.owner; slots = row.slots; is_open = false })) (S.view shelf.old).records) →
+        RulesHold (apply_change (DropSlots sid.now) (apply_change (PutSession (record { sid = row.sid; owner = row.owner; slots = row.slots; is_open = false })) (S.view shelf.old).records)) →
+        OnOk result (LeavesNew (S.view shelf.new) (λ left.
+        left ≡ apply_change (DropSlots sid.now) (apply_change (PutSession (record { sid = row.sid; owner = row.owner; slots = row.slots; is_open = false })) (S.view shelf.old).records))) }
 {
     let closed = SessionRow {
         sid: row.sid,
@@ -148,6 +172,16 @@ fn close_owned<S: Shelf>(
         RulesHold (apply_change (PutSession (record { sid = row.sid; owner = row.owner; slots = row.slots; is_open = false })) (S.view shelf.old).records) →
         RulesHold (apply_change (DropSlots sid.now) (apply_change (PutSession (record { sid = row.sid; owner = row.owner; slots = row.slots; is_open = false })) (S.view shelf.old).records)) →
         OnOk result ((S.view shelf.new).records ≡ apply_change (DropSlots sid.now) (apply_change (PutSession (record { sid = row.sid; owner = row.owner; slots = row.slots; is_open = false })) (S.view shelf.old).records)) }
+    ensures crash { (S.view shelf.old).is_laid_out →
+        RulesHold (apply_change (PutSession (record { sid = row.sid; owner = row.owner; slots = row.slots; is_open = false })) (S.view shelf.old).records) →
+        RulesHold (apply_change (DropSlots sid.now) (apply_change (PutSession (record { sid = row.sid; owner = row.owner; slots = row.slots; is_open = false })) (S.view shelf.old).records)) →
+        LeavesOldOrNew (S.view shelf.old) (S.view shelf.new) (λ left.
+        (row.is_open ≡ true) × (left ≡ apply_change (DropSlots sid.now) (apply_change (PutSession (record { sid = row.sid; owner = row.owner; slots = row.slots; is_open = false })) (S.view shelf.old).records))) }
+    ensures settled { row.is_open ≡ true → (S.view shelf.new).is_intact → (S.view shelf.old).is_laid_out →
+        RulesHold (apply_change (PutSession (record { sid = row.sid; owner = row.owner; slots = row.slots; is_open = false })) (S.view shelf.old).records) →
+        RulesHold (apply_change (DropSlots sid.now) (apply_change (PutSession (record { sid = row.sid; owner = row.owner; slots = row.slots; is_open = false })) (S.view shelf.old).records)) →
+        OnOk result (LeavesNew (S.view shelf.new) (λ left.
+        left ≡ apply_change (DropSlots sid.now) (apply_change (PutSession (record { sid = row.sid; owner = row.owner; slots = row.slots; is_open = false })) (S.view shelf.old).records))) }
 {
     let text = reply_text(alloc, &Reply::Done)?;
     if row.is_open {
@@ -172,6 +206,11 @@ pub(crate) fn close<S: Shelf>(
         IfOk result (λ answer. IsTurnedAway (answer_model answer) → (S.view shelf.new).records ≡ (S.view shelf.old).records) }
     ensures idle { (S.view shelf.new).is_available → (S.view shelf.old).is_laid_out → (start : Room) (past : History) → RepresentsHistory start (S.view shelf.old).records past →
         changes_rows past (Close subject.now sid.now) ≡ false → (S.view shelf.new).records ≡ (S.view shelf.old).records }
+    ensures crash { (S.view shelf.new).is_intact → (start : Room) (past : History) → StandsFor start past (S.view shelf.old) →
+        LeavesOldOrNew (S.view shelf.old) (S.view shelf.new) (StandsWith start past (Close subject.now sid.now)) }
+    ensures settled { (S.view shelf.new).is_intact → (start : Room) (past : History) → StandsFor start past (S.view shelf.old) →
+        IfOk result (λ answer. ReportsChange past (Close subject.now sid.now) (answer_model answer) →
+        LeavesNew (S.view shelf.new) (StandsWith start past (Close subject.now sid.now))) }
 {
     let Some(row) = shelf.session(sid)? else {
         return Ok(Answer::Refused(Code::BadSession));
