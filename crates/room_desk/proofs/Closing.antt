@@ -74,7 +74,7 @@ module _ (start : Room) (r : Records) (past : History) (stand : RepresentsHistor
 
   -- an open session changes
   pub close_changes : row.is_open ≡ true → changes_rows past (Close caller name) ≡ true
-  close_changes open = usable start r past stand name caller row some ∙ rw (mine, open) refl
+  close_changes opened = usable start r past stand name caller row some ∙ rw (mine, opened) refl
 
   -- where the answer reports a change, the session was open
   pub close_settled : (result : Result Answer ShelfFault) (Left : Type 0) → (row.is_open ≡ true → OnOk result Left)
