@@ -51,10 +51,10 @@ impl Entry {
         ensures same { result ≡ true → self.now ≡ other.now }
         ensures other { result ≡ false → self.now ≢ other.now }
     {
-        self.allow == other.allow
+        self.who.is_same(&other.who)
+            && self.allow == other.allow
             && self.flags == other.flags
             && self.mask == other.mask
-            && self.who.is_same(&other.who)
     }
 
     /// The entry of these parts: None where a user's name stands with IDENTIFIER_GROUP, or a group's without.
