@@ -41,10 +41,13 @@ tables: build
 crash: build
 	tests/crash/run
 
-# Times `check`, a room in memory, a served room, its tables, `replay` and the reports. Needs sqlite3 and strace.
+# Times `check`, a room in memory, a served room, its tables, SETLIST over many followers, `replay` and the reports, and
+# counts the instructions of a request. Needs sqlite3, strace and valgrind.
 bench: build
 	bench/check
 	bench/room
 	bench/serve
 	bench/tables
+	bench/setlist
 	bench/report
+	bench/instructions

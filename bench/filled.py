@@ -1,31 +1,48 @@
 """Rooms of many objects, filled with the `sqlite3` program.
 
-Folders of 100 folders of 99 documents each, every inner folder with four entries of its own.
+Folders of 100 folders of 99 documents each, every inner folder with four entries of its own. The rows of entries are
+whole lists: a document has six entries, those of its folder and those of the root.
 """
+import os
 import subprocess
+import sys
 
+sys.path.insert(0, os.path.join(os.path.dirname(os.path.abspath(__file__)), "..", "tools"))
 from served import Room
+from whole_lists import with_inherited
 
 USERS = 100
 ROSTER = "[users]\n" + "".join(f'u{n:02} = ["g{n % 10}", "all"]\n' for n in range(USERS))
+ROOT = [(0, 3, 0x1F07FF, "OWNER@"), (0, 3, 0x1200A9, "GROUP@")]  # as `init` makes it
+OWN = [(place % 2, 67 if place else 3, 1 << place, f"{'g' if place else 'u0'}{place}") for place in range(4)]
+
+
+def list_rows(number, entries):
+    """The statement that puts a list."""
+    rows = ", ".join(f"({number}, {place}, {kind}, {flag}, {mask}, '{who}')" for place, (kind, flag, mask, who) in enumerate(entries))
+    return f"INSERT INTO entry VALUES {rows};"
 
 
 def rows(objects):
     """The rows of a room with this number of objects besides the root and the outer folders."""
     number, top, out = 1, 1, ["BEGIN;"]
+    outer = with_inherited([], 1, True, ROOT)
+    inner = with_inherited(OWN, 1, True, outer)
+    document = with_inherited([], 1, False, inner)
     for folder in range(objects // 100):
         if folder % 100 == 0:
             number += 1
             top = number
             out.append(f"INSERT INTO node VALUES ({top}, 1, 't{folder:03}', 1, 'u00', 'g0', 1);")
+            out.append(list_rows(top, outer))
         number += 1
         parent = number
         out.append(f"INSERT INTO node VALUES ({parent}, {top}, 'f{folder:03}', 1, 'u00', 'g0', 1);")
-        for place in range(4):
-            out.append(f"INSERT INTO entry VALUES ({parent}, {place}, {place % 2}, {67 if place else 3}, {1 << place}, '{'g' if place else 'u0'}{place}');")
+        out.append(list_rows(parent, inner))
         for child in range(99):
             number += 1
             out.append(f"INSERT INTO node VALUES ({number}, {parent}, 'd{child:02}', 0, 'u{child:02}', 'all', 1);")
+            out.append(list_rows(number, document))
             out.append(f"INSERT INTO doc VALUES ({number}, x'00');")
     out.append(f"UPDATE room SET next = {number + 1};")
     out.append("COMMIT;")

@@ -1,9 +1,11 @@
 -- Facts on bits that several proofs use.
-use Rattle.std.proofs.Common.{◌≡◌, ℕ, ◌*◌, ◌^◌, ◌<◌, ◌≤◌, refl, ap, sym, ◌∙◌, arith, ◌⊎◌, ◌≢◌, inl, inr, subst, lit<, Bool, true, false, List, [], ◌∷◌}
+use Rattle.std.proofs.Common.{◌≡◌, ℕ, ◌*◌, ◌^◌, ◌<◌, ◌≤◌, refl, ap, sym, ◌∙◌, arith, ◌⊎◌, ◌≢◌, inl, inr, subst}
+use Rattle.std.proofs.Common.{lit<, Bool, true, false, List, [], ◌∷◌}
 use Rattle.std.specs.Prelude.{bit_and, bit_or, bit_xor, not, ◌&&◌, ◌||◌, ◌==◌, cond, nat_lt}
 use Rattle.std.specs.List.{list_any, list_all}
 use Rattle.std.specs.Int.{bit_at}
-use Rattle.std.proofs.lemmas.Nat.Bits.{and_pow, bit_at-lt, bit_at_and, bit_at_or, bit_at_xor, bit_at-zero, bit_at-pow_same, bit_at-pow_other, bit_at_above, same_from_bits}
+use Rattle.std.proofs.lemmas.Nat.Bits.{and_pow, bit_at-lt, bit_at_and, bit_at_or, bit_at_xor, bit_at-zero}
+use Rattle.std.proofs.lemmas.Nat.Bits.{bit_at-pow_same, bit_at-pow_other, bit_at_above, same_from_bits}
 use Rattle.std.proofs.lemmas.Bool.{cases_eq, cases_lt, eq-eqb, ne_eqb, agree_below_at, and_parts, ltb-true}
 use Rattle.room_acl.specs.Bits.{all_rights, has_bit, identifier_group, IsMask, named_bits, mask_of, mask_of_places}
 
@@ -31,12 +33,15 @@ has_bit-or a b i =
 pub has_bit-without : (a b i : ℕ) → has_bit (bit_xor a (bit_and a b)) i ≡ (has_bit a i && not (has_bit b i))
 has_bit-without a b i =
     elim (bit_cases a i) [
-      | inl p ↦ elim (bit_cases b i) [ inl q ↦ rw (bit_at_xor, bit_at_and, p, q) refl | inr q ↦ rw (bit_at_xor, bit_at_and, p, q) refl ]
-      | inr p ↦ elim (bit_cases b i) [ inl q ↦ rw (bit_at_xor, bit_at_and, p, q) refl | inr q ↦ rw (bit_at_xor, bit_at_and, p, q) refl ]
+      | inl p ↦ elim (bit_cases b i)
+          [ inl q ↦ rw (bit_at_xor, bit_at_and, p, q) refl | inr q ↦ rw (bit_at_xor, bit_at_and, p, q) refl ]
+      | inr p ↦ elim (bit_cases b i)
+          [ inl q ↦ rw (bit_at_xor, bit_at_and, p, q) refl | inr q ↦ rw (bit_at_xor, bit_at_and, p, q) refl ]
     ]
 
 -- IDENTIFIER_GROUP alone
-pub group_alone : (f : ℕ) → ((bit_and f 64 ≡ 0) × (identifier_group f ≡ false)) ⊎ ((bit_and f 64 ≡ 64) × (identifier_group f ≡ true))
+pub group_alone : (f : ℕ)
+    → ((bit_and f 64 ≡ 0) × (identifier_group f ≡ false)) ⊎ ((bit_and f 64 ≡ 64) × (identifier_group f ≡ true))
 group_alone f =
     elim (bit_cases f 6) [
       | inl p ↦ inl (and_pow f 6 ∙ ap (λ b. b * 64) p, ap (λ b. b == 1) p)
@@ -67,7 +72,8 @@ or_and true false false = refl
 or_and false y t = refl
 
 -- the bits of a mask made of places
-pub has_bit-mask_of_places : (test : ℕ → Bool) (places : List ℕ) (i : ℕ) → has_bit (mask_of_places test places) i ≡ (list_any (λ p. p == i) places && test i)
+pub has_bit-mask_of_places : (test : ℕ → Bool) (places : List ℕ) (i : ℕ)
+    → has_bit (mask_of_places test places) i ≡ (list_any (λ p. p == i) places && test i)
 has_bit-mask_of_places test [] i = rw bit_at-zero refl
 has_bit-mask_of_places test (p ∷ ps) i =
     has_bit-or (cond (test p) (2 ^ p) 0) (mask_of_places test ps) i
@@ -75,7 +81,8 @@ has_bit-mask_of_places test (p ∷ ps) i =
     ∙ ap (λ b. ((p == i) && test i) || b) (has_bit-mask_of_places test ps i)
     ∙ or_and (p == i) (list_any (λ q. q == i) ps) (test i)
 
-none_above : (places : List ℕ) (i : ℕ) → list_all (λ p. nat_lt p 21) places ≡ true → 21 ≤ i → list_any (λ p. p == i) places ≡ false
+none_above : (places : List ℕ) (i : ℕ) → list_all (λ p. nat_lt p 21) places ≡ true
+    → 21 ≤ i → list_any (λ p. p == i) places ≡ false
 none_above [] i below above = refl
 none_above (p ∷ ps) i below above =
     let parts = and_parts (nat_lt p 21) (list_all (λ q. nat_lt q 21) ps) below in
@@ -87,7 +94,8 @@ pub named_is_mask : (i : ℕ) → list_any (λ p. p == i) named_bits ≡ has_bit
 named_is_mask i =
     elim (cases_lt i 21) [
       | inl below ↦ agree_below_at (λ k. list_any (λ p. p == k) named_bits) (λ k. has_bit all_rights k) 21 i refl below
-      | inr above ↦ none_above named_bits i refl above ∙ ap (λ b. b == 1) (sym (bit_at_above all_rights 21 i (lit< tt) above))
+      | inr above ↦ none_above named_bits i refl above
+          ∙ ap (λ b. b == 1) (sym (bit_at_above all_rights 21 i (lit< tt) above))
     ]
 
 pub has_bit-mask_of : (test : ℕ → Bool) (i : ℕ) → has_bit (mask_of test) i ≡ (has_bit all_rights i && test i)
@@ -96,8 +104,15 @@ has_bit-mask_of test i = has_bit-mask_of_places test named_bits i ∙ ap (λ b. 
 bit_of_test : (a b i : ℕ) → has_bit a i ≡ has_bit b i → bit_at a i ≡ bit_at b i
 bit_of_test a b i same =
     elim (bit_cases a i) [
-      | inl p ↦ elim (bit_cases b i) [ inl q ↦ p ∙ sym q | inr q ↦ (let h : false ≡ true = ap (λ n. n == 1) (sym p) ∙ same ∙ ap (λ n. n == 1) q in cc) ]
-      | inr p ↦ elim (bit_cases b i) [ inl q ↦ (let h : true ≡ false = ap (λ n. n == 1) (sym p) ∙ same ∙ ap (λ n. n == 1) q in cc) | inr q ↦ p ∙ sym q ]
+      | inl p ↦ elim (bit_cases b i) [
+        | inl q ↦ p ∙ sym q
+        | inr q ↦ (let h : false ≡ true = ap (λ n. n == 1) (sym p) ∙ same ∙ ap (λ n. n == 1) q in cc)
+      ]
+      | inr p ↦ elim (bit_cases b i) [
+        | inl q ↦
+            (let h : true ≡ false = ap (λ n. n == 1) (sym p) ∙ same ∙ ap (λ n. n == 1) q in cc)
+        | inr q ↦ p ∙ sym q
+      ]
     ]
 
 -- two numbers with the same bits are equal
@@ -110,7 +125,8 @@ all_but_refused true false = refl
 all_but_refused false a = refl
 
 -- all rights but the refused ones are the allowed ones
-pub rights_but_refused : (test : ℕ → Bool) (refused : ℕ) → ((bit : ℕ) → has_bit refused bit ≡ (has_bit all_rights bit && not (test bit)))
+pub rights_but_refused : (test : ℕ → Bool) (refused : ℕ)
+    → ((bit : ℕ) → has_bit refused bit ≡ (has_bit all_rights bit && not (test bit)))
     → bit_xor all_rights (bit_and all_rights refused) ≡ mask_of test
 rights_but_refused test refused is = same_bits _ _ (λ bit.
     has_bit-without all_rights refused bit
@@ -131,7 +147,9 @@ IsMask-mask_of test = same_bits _ _ (λ bit.
     ∙ sym (has_bit-mask_of test bit))
 
 -- a mask has rights alone
-pub wanted_is_named : (wanted bit : ℕ) → IsMask wanted → has_bit wanted bit ≡ true → list_any (λ p. p == bit) named_bits ≡ true
+pub wanted_is_named : (wanted bit : ℕ) → IsMask wanted
+    → has_bit wanted bit ≡ true → list_any (λ p. p == bit) named_bits ≡ true
 wanted_is_named wanted bit mask wants =
-    let both : (has_bit wanted bit && has_bit all_rights bit) ≡ true = sym (has_bit-and wanted all_rights bit) ∙ ap (λ n. has_bit n bit) mask ∙ wants in
+    let both : (has_bit wanted bit && has_bit all_rights bit) ≡ true =
+    sym (has_bit-and wanted all_rights bit) ∙ ap (λ n. has_bit n bit) mask ∙ wants in
     named_is_mask bit ∙ (and_parts (has_bit wanted bit) (has_bit all_rights bit) both).1

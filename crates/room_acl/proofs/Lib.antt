@@ -6,4 +6,4 @@ pub mod Decisions
 pub mod Travelling
 pub mod Marks
 mod Names
-mod Rows
+mod Examples

@@ -1,5 +1,6 @@
 -- The first of rising numbers that passes a test is the lowest that does.
-use Rattle.std.proofs.Common.{◌≡◌, ℕ, ◌+◌, ◌<◌, ◌≤◌, refl, ap, sym, ◌∙◌, arith, Bool, true, false, List, [], ◌∷◌, Some, None, inl, inr, ◌⊎◌}
+use Rattle.std.proofs.Common.{◌≡◌, ℕ, ◌+◌, ◌<◌, ◌≤◌, refl, ap, sym, ◌∙◌, arith, Bool, true, false, List, []}
+use Rattle.std.proofs.Common.{◌∷◌, Some, None, inl, inr, ◌⊎◌}
 use Rattle.std.specs.Prelude.{◌&&◌, ◌||◌, ◌==◌, cond, nat_le}
 use Rattle.std.specs.List.{find, list_any}
 use Rattle.std.proofs.lemmas.Bool.{and_parts, leb-true, cases_eq, ne_eqb}
@@ -14,9 +15,11 @@ is_in xs n = list_any (λ x. x == n) xs
 
 among_cases : (x n : ℕ) (xs : List ℕ) → is_in (x ∷ xs) n ≡ true → (x ≡ n) ⊎ (is_in xs n ≡ true)
 among_cases x n xs among =
-    elim (cases_eq x n) [ inl same ↦ inl same | inr other ↦ inr (ap (λ b. b || is_in xs n) (sym (ne_eqb x n other)) ∙ among) ]
+    elim (cases_eq x n)
+    [ inl same ↦ inl same | inr other ↦ inr (ap (λ b. b || is_in xs n) (sym (ne_eqb x n other)) ∙ among) ]
 
-found_first : (test : ℕ → Bool) (x k : ℕ) (xs : List ℕ) (b : Bool) → test x ≡ b → cond b (Some x) (find test xs) ≡ Some k
+found_first : (test : ℕ → Bool) (x k : ℕ) (xs : List ℕ) (b : Bool)
+    → test x ≡ b → cond b (Some x) (find test xs) ≡ Some k
     → (find test xs ≡ Some k → test k ≡ true) → test k ≡ true
 found_first test x k xs true is found later =
     let here : Some x ≡ Some k = found in
@@ -36,7 +39,8 @@ none_first test x n xs false is found (inr among) later = later found among
 
 pub none_passes : (test : ℕ → Bool) (xs : List ℕ) (n : ℕ) → find test xs ≡ None → is_in xs n ≡ true → test n ≡ false
 none_passes test [] n found among = let no : false ≡ true = among in cc
-none_passes test (x ∷ xs) n found among = none_first test x n xs _ refl found (among_cases x n xs among) (none_passes test xs n)
+none_passes test (x ∷ xs) n found among =
+    none_first test x n xs _ refl found (among_cases x n xs among) (none_passes test xs n)
 
 pub in_rising : (low : ℕ) (xs : List ℕ) (n : ℕ) → is_rising low xs ≡ true → is_in xs n ≡ true → low ≤ n
 in_rising low [] n rising among = let no : false ≡ true = among in cc
@@ -48,7 +52,8 @@ in_rising low (x ∷ xs) n rising among =
       | inr later ↦ (let past : x + 1 ≤ n = in_rising (x + 1) xs n parts.1 later in omega arith)
     ]
 
-lower_first : (test : ℕ → Bool) (x k n : ℕ) (xs : List ℕ) (b : Bool) → test x ≡ b → cond b (Some x) (find test xs) ≡ Some k → n < k
+lower_first : (test : ℕ → Bool) (x k n : ℕ) (xs : List ℕ) (b : Bool)
+    → test x ≡ b → cond b (Some x) (find test xs) ≡ Some k → n < k
     → is_rising (x + 1) xs ≡ true → (x ≡ n) ⊎ (is_in xs n ≡ true)
     → (find test xs ≡ Some k → is_in xs n ≡ true → test n ≡ false) → test n ≡ false
 lower_first test x k n xs true is found below rising (inl same) later =
@@ -63,7 +68,8 @@ lower_first test x k n xs true is found below rising (inr among) later =
 lower_first test x k n xs false is found below rising (inl same) later = ap test (sym same) ∙ is
 lower_first test x k n xs false is found below rising (inr among) later = later found among
 
-pub lower_fails : (test : ℕ → Bool) (low : ℕ) (xs : List ℕ) (k n : ℕ) → is_rising low xs ≡ true → find test xs ≡ Some k → n < k → is_in xs n ≡ true → test n ≡ false
+pub lower_fails : (test : ℕ → Bool) (low : ℕ) (xs : List ℕ) (k n : ℕ) → is_rising low xs ≡ true
+    → find test xs ≡ Some k → n < k → is_in xs n ≡ true → test n ≡ false
 lower_fails test low [] k n rising found below among = let no : false ≡ true = among in cc
 lower_fails test low (x ∷ xs) k n rising found below among =
     let parts = and_parts (nat_le low x) (is_rising (x + 1) xs) rising in

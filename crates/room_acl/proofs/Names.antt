@@ -1,12 +1,21 @@
 -- The names of rights and flags agree with their numbers and their places.
 use Rattle.std.proofs.Common.{◌≡◌, ◌-◌, ◌+◌, ◌^◌, ℕ, refl, lit<, true, false, List, [], ◌∷◌, map}
-use Rattle.room_acl.specs.Bits.{read_data, list_directory, write_data, add_file, append_data, add_subdirectory, read_named_attrs, write_named_attrs, execute, delete_child, read_attributes, write_attributes, write_retention, write_retention_hold, delete_object, read_acl, write_acl, write_owner, synchronize, all_rights, named_bits, file_inherit_flag, directory_inherit_flag, no_propagate_flag, inherit_only_flag, identifier_group_flag, inherited_flag, inheritance_flags, all_flags, auto_inherit_flag, protected_flag, defaulted_flag, IsListFlags, file_inherit, directory_inherit, no_propagate, inherit_only, identifier_group, is_inherited}
+use Rattle.room_acl.specs.Bits.{read_data, list_directory, write_data, add_file, append_data, add_subdirectory}
+use Rattle.room_acl.specs.Bits.{read_named_attrs, write_named_attrs, execute, delete_child, read_attributes}
+use Rattle.room_acl.specs.Bits.{write_attributes, write_retention, write_retention_hold, delete_object, read_acl}
+use Rattle.room_acl.specs.Bits.{write_acl, write_owner, synchronize, all_rights, named_bits, file_inherit_flag}
+use Rattle.room_acl.specs.Bits.{directory_inherit_flag, no_propagate_flag, inherit_only_flag, identifier_group_flag}
+use Rattle.room_acl.specs.Bits.{inherited_flag, inheritance_flags, all_flags, auto_inherit_flag, protected_flag}
+use Rattle.room_acl.specs.Bits.{defaulted_flag, IsListFlags, file_inherit, directory_inherit, no_propagate}
+use Rattle.room_acl.specs.Bits.{inherit_only, identifier_group, is_inherited}
 use Rattle.room_acl.specs.Inheritance.{mark_alone, mark_for_folders, mark_for_files, mark_for_both}
 
 rights : List ℕ
 rights =
-    read_data ∷ write_data ∷ append_data ∷ read_named_attrs ∷ write_named_attrs ∷ execute ∷ delete_child ∷ read_attributes
-    ∷ write_attributes ∷ write_retention ∷ write_retention_hold ∷ delete_object ∷ read_acl ∷ write_acl ∷ write_owner ∷ synchronize ∷ []
+    read_data ∷ write_data ∷ append_data ∷ read_named_attrs
+    ∷ write_named_attrs ∷ execute ∷ delete_child ∷ read_attributes
+    ∷ write_attributes ∷ write_retention ∷ write_retention_hold
+    ∷ delete_object ∷ read_acl ∷ write_acl ∷ write_owner ∷ synchronize ∷ []
 
 places_of_rights : map (λ place. 2 ^ place) named_bits ≡ rights
 unfolding rights
@@ -21,13 +30,15 @@ names_for_folders = (refl, refl, refl)
 all_flags_number : (inheritance_flags ≡ 0x0F) × (all_flags ≡ 0xCF)
 all_flags_number = (refl, refl)
 
-list_flags_number : IsListFlags (auto_inherit_flag + protected_flag + defaulted_flag) × (auto_inherit_flag + protected_flag + defaulted_flag + 1 ≡ 8)
+list_flags_number : IsListFlags (auto_inherit_flag + protected_flag + defaulted_flag)
+    × (auto_inherit_flag + protected_flag + defaulted_flag + 1 ≡ 8)
 list_flags_number = (lit< tt, refl)
 
 -- each test looks at its own flag and at no other
 tests_of_flags :
     (file_inherit file_inherit_flag ≡ true) × (file_inherit (all_flags - file_inherit_flag) ≡ false)
-    × (directory_inherit directory_inherit_flag ≡ true) × (directory_inherit (all_flags - directory_inherit_flag) ≡ false)
+    × (directory_inherit directory_inherit_flag ≡ true)
+    × (directory_inherit (all_flags - directory_inherit_flag) ≡ false)
     × (no_propagate no_propagate_flag ≡ true) × (no_propagate (all_flags - no_propagate_flag) ≡ false)
     × (inherit_only inherit_only_flag ≡ true) × (inherit_only (all_flags - inherit_only_flag) ≡ false)
     × (identifier_group identifier_group_flag ≡ true) × (identifier_group (all_flags - identifier_group_flag) ≡ false)

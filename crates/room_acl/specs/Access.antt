@@ -45,7 +45,8 @@ abbrev pub allows_bit : List EntryModel → SubjectModel → Standing → ℕ �
 allows_bit entries caller standing bit = entries_allow entries caller standing bit
 
 -- the same in the standard's words: some applying allow entry names the bit, and no earlier applying entry names it
-pub record EntriesAllow (entries : List EntryModel) (caller : SubjectModel) (standing : Standing) (bit : ℕ) : Type 0 where
+pub record EntriesAllow (entries : List EntryModel)
+    (caller : SubjectModel) (standing : Standing) (bit : ℕ) : Type 0 where
   pub earlier : List EntryModel
   pub entry : EntryModel
   pub later : List EntryModel
@@ -59,10 +60,12 @@ AllowsBit entries caller standing bit = EntriesAllow entries caller standing bit
 
 -- a mask is allowed where each of its bits is
 abbrev pub AllowsMask : List EntryModel → SubjectModel → Standing → ℕ → Type 0
-AllowsMask entries caller standing wanted = (bit : ℕ) → IsTrue (has_bit wanted bit) → AllowsBit entries caller standing bit
+AllowsMask entries caller standing wanted = (bit : ℕ)
+    → IsTrue (has_bit wanted bit) → AllowsBit entries caller standing bit
 
 -- the refused right is the lowest wanted one that is not allowed
-pub record IsLowestRefused (entries : List EntryModel) (caller : SubjectModel) (standing : Standing) (wanted refused : ℕ) : Type 0 where
+pub record IsLowestRefused (entries : List EntryModel) (caller : SubjectModel)
+    (standing : Standing) (wanted refused : ℕ) : Type 0 where
   pub bit : ℕ
   pub value : refused ≡ 2 ^ bit
   pub is_wanted : IsTrue (has_bit wanted bit)

@@ -63,10 +63,13 @@ synchronize = 0x100000
 -- all of them, 0x1F07FF
 abbrev pub all_rights : ℕ
 all_rights =
-    read_data + write_data + append_data + read_named_attrs + write_named_attrs + execute + delete_child + read_attributes
-    + write_attributes + write_retention + write_retention_hold + delete_object + read_acl + write_acl + write_owner + synchronize
+    read_data + write_data + append_data + read_named_attrs
+    + write_named_attrs + execute + delete_child + read_attributes
+    + write_attributes + write_retention + write_retention_hold
+    + delete_object + read_acl + write_acl + write_owner + synchronize
 
--- those of a reader who changes nothing, 0x1200A9: a file's bytes, a folder's names, what is below it, attributes and the list
+-- those of a reader who changes nothing, 0x1200A9: a file's bytes,
+-- a folder's names, what is below it, attributes and the list
 abbrev pub reading_rights : ℕ
 reading_rights = read_data + read_named_attrs + execute + read_attributes + read_acl + synchronize
 
@@ -158,7 +161,8 @@ is_inherited flags = has_bit flags 7
 abbrev pub without_inherited : ℕ → ℕ
 without_inherited flags = flags - bit_and flags inherited_flag
 
--- whether an object with these list flags follows its folder: AUTO_INHERIT set and PROTECTED clear, whatever its folder's flags are (our own rule)
+-- whether an object with these list flags follows its folder: AUTO_INHERIT set and PROTECTED clear, whatever its
+-- folder's flags are (our own rule)
 abbrev pub follows : ℕ → Bool
 follows aclflag = has_bit aclflag 0 && not (has_bit aclflag 1)
 

@@ -17,7 +17,8 @@ pub record EntryModel : Type 0 where
 abbrev pub clear_inherited : EntryModel → EntryModel
 clear_inherited entry = record entry { flags = without_inherited entry.flags }
 
--- IDENTIFIER_GROUP tells a group's name from a user's. Beside the three special names it is ignored, and kept (RFC 8881, section 6.2.1.4)
+-- IDENTIFIER_GROUP tells a group's name from a user's. Beside the three
+-- special names it is ignored, and kept (RFC 8881, section 6.2.1.4)
 abbrev pub names_its_kind : ℕ → Who → Bool
 names_its_kind flags Owner = true
 names_its_kind flags Group = true

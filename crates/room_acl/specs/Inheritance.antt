@@ -1,12 +1,15 @@
 -- What a folder's list hands down, and which entries an object may have of its own. All of it is our own rule.
-use Rattle.std.specs.Prelude.{◌≡◌, ℕ, ◌+◌, Bool, true, false, not, ◌||◌, List, [], ◌++◌, length, nat_lt, Option, None, Some, bit_and, bit_or, ◌==◌, if◌then◌else◌, IsTrue}
+use Rattle.std.specs.Prelude.{◌≡◌, ℕ, ◌+◌, Bool, true, false, not, ◌||◌, List, [], ◌++◌, length, nat_lt, Option, None}
+use Rattle.std.specs.Prelude.{Some, bit_and, bit_or, ◌==◌, if◌then◌else◌, IsTrue}
 use Rattle.std.specs.List.{filter, filter_map, list_all, AllByRecursion}
 use Rattle.std.specs.Option.{option_map}
 use Rattle.room_acl.specs.declared.subject.Kind.{Kind}
 use Rattle.room_acl.specs.declared.subject.Kind.TheVariants.{File, Folder}
 use Rattle.room_acl.specs.declared.inheritance.ListFault.{ListFault}
 use Rattle.room_acl.specs.declared.inheritance.ListFault.TheVariants.{Inval, AttrNotSupp}
-use Rattle.room_acl.specs.Bits.{file_inherit_flag, directory_inherit_flag, inherit_only_flag, identifier_group_flag, inherited_flag, inheritance_flags, file_inherit, directory_inherit, no_propagate, inherit_only, is_inherited, follows}
+use Rattle.room_acl.specs.Bits.{file_inherit_flag, directory_inherit_flag, inherit_only_flag, identifier_group_flag}
+use Rattle.room_acl.specs.Bits.{inherited_flag, inheritance_flags, file_inherit, directory_inherit, no_propagate}
+use Rattle.room_acl.specs.Bits.{inherit_only, is_inherited, follows}
 use Rattle.room_acl.specs.Entries.{EntryModel, IsEntry}
 
 -- the flags that an entry given may have: the mark, and what it hands on in its turn
@@ -57,7 +60,8 @@ flags_handed_down kind flags = in_column kind (row_of flags)
 
 -- and IDENTIFIER_GROUP where the source has it
 abbrev pub flags_with_group : Kind → ℕ → Option ℕ
-flags_with_group kind flags = option_map (λ given. bit_or given (bit_and flags identifier_group_flag)) (flags_handed_down kind flags)
+flags_with_group kind flags =
+    option_map (λ given. bit_or given (bit_and flags identifier_group_flag)) (flags_handed_down kind flags)
 
 -- type, mask and who stay
 abbrev pub entry_handed_down : Kind → EntryModel → Option EntryModel
@@ -67,9 +71,14 @@ entry_handed_down kind entry = option_map (λ flags. record entry { flags = flag
 abbrev pub handed_down : List EntryModel → Kind → List EntryModel
 handed_down entries kind = filter_map (entry_handed_down kind) entries
 
--- a list with these own entries: they stand first, and then, where the object follows, what the list of its folder hands down
+-- a list with these own entries: they stand first, and then, where
+-- the object follows, what the list of its folder hands down
 abbrev pub with_inherited : List EntryModel → ℕ → Kind → List EntryModel → List EntryModel
 with_inherited own aclflag kind above = own ++ (if follows aclflag then handed_down above kind else [])
+
+-- the own entries of a whole list: those without the mark
+abbrev pub own_part : List EntryModel → List EntryModel
+own_part entries = filter (λ entry. not (is_inherited entry.flags)) entries
 
 -- the entries that are meant to travel further than to the children
 abbrev pub travelling : List EntryModel → List EntryModel
@@ -77,11 +86,13 @@ travelling entries = filter (λ entry. not (no_propagate entry.flags)) entries
 
 -- handing down twice is handing down once what is meant to travel
 abbrev pub HandsDownTwice : Type 0
-HandsDownTwice = (entries : List EntryModel) (kind : Kind) → handed_down (handed_down entries Folder) kind ≡ handed_down (travelling entries) kind
+HandsDownTwice = (entries : List EntryModel) (kind : Kind)
+    → handed_down (handed_down entries Folder) kind ≡ handed_down (travelling entries) kind
 
 -- what is handed down has the mark
 abbrev pub HandsDownMarked : Type 0
-HandsDownMarked = (entries : List EntryModel) (kind : Kind) → IsTrue (list_all (λ entry. is_inherited entry.flags) (handed_down entries kind))
+HandsDownMarked = (entries : List EntryModel) (kind : Kind)
+    → IsTrue (list_all (λ entry. is_inherited entry.flags) (handed_down entries kind))
 
 -- on a folder INHERIT_ONLY needs something to hand down, and on a file nothing is handed down
 abbrev pub may_be_own : Kind → EntryModel → Bool
@@ -90,11 +101,13 @@ may_be_own File entry = bit_and entry.flags inheritance_flags == 0
 
 -- what lawful entries hand down is lawful entries
 abbrev pub HandsDownEntries : Type 0
-HandsDownEntries = (entries : List EntryModel) (kind : Kind) → AllByRecursion IsEntry entries → AllByRecursion IsEntry (handed_down entries kind)
+HandsDownEntries = (entries : List EntryModel) (kind : Kind)
+    → AllByRecursion IsEntry entries → AllByRecursion IsEntry (handed_down entries kind)
 
 -- and where they arrive they may be own entries
 abbrev pub HandsDownToOwn : Type 0
-HandsDownToOwn = (entries : List EntryModel) (kind : Kind) → IsTrue (list_all (may_be_own kind) (handed_down entries kind))
+HandsDownToOwn = (entries : List EntryModel) (kind : Kind)
+    → IsTrue (list_all (may_be_own kind) (handed_down entries kind))
 
 -- own entries in one list
 abbrev pub max_own_entries : ℕ

@@ -3,4 +3,5 @@ pub mod Principals
 pub mod SubjectModel
 pub mod Entries
 pub mod Access
+pub mod Pending
 pub mod Inheritance

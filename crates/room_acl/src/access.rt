@@ -1,12 +1,15 @@
 //! Who is allowed what.
-ghost use Rattle.std.specs.Prelude.{◌≡◌, ℕ, ◌&&◌, not, IsTrue, ◌↔◌};
+ghost use Rattle.std.specs.Prelude.{◌≡◌, ℕ, [], ◌&&◌, not, IsTrue, ◌↔◌};
 ghost use Rattle.std.specs.List.{list_any, find};
 ghost use Rattle.std.specs.Str.{bytes_eq};
-ghost use Rattle.room_acl.specs.Bits.{all_rights, has_bit, named_bits};
-ghost use Rattle.room_acl.specs.Access.{decision, decision_by, allowed_mask, matches, applies, entries_allow, AllowsBit, AllowsMask, IsLowestRefused};
+ghost use Rattle.room_acl.specs.Bits.{all_rights, has_bit, named_bits, IsMask};
+ghost use Rattle.room_acl.specs.Access.{decision, decision_by, allowed_mask, matches, applies, entries_allow};
+ghost use Rattle.room_acl.specs.Access.{AllowsBit, AllowsMask, IsLowestRefused};
+ghost use Rattle.room_acl.specs.Pending.{decision_with, refuses_with};
 
 use crate::entry::Entry;
 use crate::mask::{ALL_RIGHTS, Mask};
+use crate::pending::Pending;
 use crate::principal::Principal;
 use crate::subject::{Standing, Subject};
 use crate::who::Who;
@@ -33,26 +36,23 @@ pub fn decide(entries: &[Entry], subject: &Subject, standing: &Standing, wanted:
     ensures denied { (bit : ℕ) → (result ≡ Decision.Denied bit)
         ↔ IsLowestRefused entries.now subject.now standing.now wanted bit }
 {
-    decision_of(refused_bits(entries, subject, standing, wanted.bits()))
+    after_all(entries, subject, standing, wanted).end()
 }
 
-/// The wanted bits that the entries do not allow, in one walk.
-fn refused_bits(entries: &[Entry], subject: &Subject, standing: &Standing, wanted: u32) -> u32
-    ensures { (bit : ℕ) → has_bit result bit
+/// The decision of the wanted rights after these entries.
+fn after_all(entries: &[Entry], subject: &Subject, standing: &Standing, wanted: Mask) -> Pending
+    ensures answers { decision_with [] subject.now standing.now result
+        ≡ decision entries.now subject.now standing.now wanted }
+    ensures bits { (bit : ℕ) → refuses_with [] subject.now standing.now result bit
         ≡ (has_bit wanted bit && not (entries_allow entries.now subject.now standing.now bit)) }
+    ensures named { IsMask wanted }
 {
-    let mut left = wanted;
-    let mut denied = 0u32;
+    let _ = wanted.bits();
+    let mut pending = Pending::new(wanted, subject, standing);
     for entry in entries {
-        if applies(entry, subject, standing) {
-            let decided = left & entry.mask().bits();
-            if !entry.allow() {
-                denied |= decided;
-            }
-            left ^= decided;
-        }
+        pending.take(entry, subject, standing);
     }
-    denied | left
+    pending
 }
 
 /// The places of the rights, the lowest first.
@@ -76,7 +76,7 @@ pub fn allowed_bits(entries: &[Entry], subject: &Subject, standing: &Standing) -
     ensures allowed { (bit : ℕ) → IsTrue (has_bit result bit)
         ↔ (IsTrue (has_bit all_rights bit) × AllowsBit entries.now subject.now standing.now bit) }
 {
-    let refused = refused_bits(entries, subject, standing, ALL_RIGHTS);
+    let refused = after_all(entries, subject, standing, Mask::ALL).refused();
     Mask::of_named(ALL_RIGHTS ^ (ALL_RIGHTS & refused))
 }
 

@@ -1,5 +1,5 @@
 //! Entries of an access list.
-ghost use Rattle.std.specs.Prelude.{◌≡◌, IsSome, IfSome, IfOk, ◌↔◌, IsTrue};
+ghost use Rattle.std.specs.Prelude.{◌≡◌, ◌≢◌, true, false, IsSome, IfSome, IfOk, ◌↔◌, IsTrue};
 ghost use Rattle.room_acl.specs.Bits.{identifier_group};
 ghost use Rattle.room_acl.specs.Entries.{names_its_kind, clear_inherited, IsEntry};
 
@@ -29,6 +29,22 @@ impl Model for Entry {
     ghost invariant = { λ e. IsEntry (record { allow = e.allow; flags = e.flags; mask = e.mask; who = e.who }) };
 }
 
+/// Whether two lists have the same entries in the same order.
+pub fn same_entries(a: &[Entry], b: &[Entry]) -> bool
+    ensures same { result ≡ true → a.now ≡ b.now }
+    ensures other { result ≡ false → a.now ≢ b.now }
+{
+    if a.len() != b.len() {
+        return false;
+    }
+    for index in 0..a.len() {
+        if !a[index].is_same(&b[index]) {
+            return false;
+        }
+    }
+    true
+}
+
 /// The same entries once more. AllocError where memory is refused.
 pub fn copy_entries(alloc: Global, entries: &[Entry]) -> Result<Vec<Entry>, AllocError>
     ensures { IfOk result (λ copy. copy.items ≡ entries.now) }
@@ -41,6 +57,17 @@ pub fn copy_entries(alloc: Global, entries: &[Entry]) -> Result<Vec<Entry>, Allo
 }
 
 impl Entry {
+    /// Whether the other entry has the same type, flags, mask and name.
+    fn is_same(&self, other: &Entry) -> bool
+        ensures same { result ≡ true → self.now ≡ other.now }
+        ensures other { result ≡ false → self.now ≢ other.now }
+    {
+        self.allow == other.allow
+            && self.flags == other.flags
+            && self.mask == other.mask
+            && self.who.is_same(&other.who)
+    }
+
     /// The entry of these parts: None where a user's name stands with IDENTIFIER_GROUP, or a group's without.
     /// Beside OWNER@, GROUP@ and EVERYONE@ that flag is ignored, and kept. Takes no memory.
     pub fn new(allow: bool, flags: Flags, mask: Mask, who: Who) -> Option<Entry>

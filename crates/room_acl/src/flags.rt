@@ -1,6 +1,7 @@
 //! Flags of an entry.
 ghost use Rattle.std.specs.Prelude.{◌≡◌, ℕ, ◌<◌, ◌↔◌, IsSome, IfSome};
-ghost use Rattle.room_acl.specs.Bits.{IsFlags, has_bit, file_inherit, directory_inherit, no_propagate, inherit_only, identifier_group, is_inherited, without_inherited};
+ghost use Rattle.room_acl.specs.Bits.{IsFlags, has_bit, file_inherit, directory_inherit, no_propagate, inherit_only};
+ghost use Rattle.room_acl.specs.Bits.{identifier_group, is_inherited, without_inherited};
 
 use std::marker::Model;
 

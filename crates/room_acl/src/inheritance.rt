@@ -3,7 +3,9 @@ ghost use Rattle.std.specs.Prelude.{◌≡◌, IfOk, IfSome, IsOk, ◌↔◌, �
 ghost use Rattle.std.specs.List.{list_all};
 ghost use Rattle.std.specs.Result.{result_err};
 ghost use Rattle.room_acl.specs.Bits.{identifier_group};
-ghost use Rattle.room_acl.specs.Inheritance.{handed_down, with_inherited, own_entries_fault, may_be_own, flags_handed_down, flags_with_group, row_of, max_own_entries, HandsDownTwice, HandsDownMarked, HandsDownEntries, HandsDownToOwn};
+ghost use Rattle.room_acl.specs.Inheritance.{handed_down, own_part, with_inherited, own_entries_fault, may_be_own};
+ghost use Rattle.room_acl.specs.Inheritance.{flags_handed_down, flags_with_group, row_of, max_own_entries};
+ghost use Rattle.room_acl.specs.Inheritance.{HandsDownTwice, HandsDownMarked, HandsDownEntries, HandsDownToOwn};
 
 use crate::entry::Entry;
 use crate::flags::{
@@ -52,6 +54,19 @@ pub fn hand_down(alloc: Global, entries: &[Entry], kind: Kind) -> Result<Vec<Ent
         }
     }
     Ok(given)
+}
+
+/// The own entries of a whole list: those without the mark, in their order. AllocError where memory is refused.
+pub fn own_part(alloc: Global, entries: &[Entry]) -> Result<Vec<Entry>, AllocError>
+    ensures { IfOk result (λ own. own.items ≡ own_part entries.now) }
+{
+    let mut own = Vec::new(alloc);
+    for entry in entries {
+        if !entry.flags().is_inherited() {
+            own.push(entry.clone()?)?;
+        }
+    }
+    Ok(own)
 }
 
 /// The list of an object: its own entries, and then, where it follows, what the list of its folder hands

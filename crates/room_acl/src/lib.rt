@@ -10,16 +10,20 @@ mod flags;
 mod inheritance;
 mod list_flags;
 mod mask;
+mod pending;
 mod principal;
 mod subject;
 mod who;
 
 pub use access::{Decision, allowed_bits, decide};
-pub use entry::{Entry, copy_entries};
+pub use entry::{Entry, copy_entries, same_entries};
 pub use flags::Flags;
-pub use inheritance::{ListFault, check_own, hand_down, handing_down_laws, with_inherited};
+pub use inheritance::{
+    ListFault, check_own, hand_down, handing_down_laws, own_part, with_inherited,
+};
 pub use list_flags::ListFlags;
 pub use mask::Mask;
+pub use pending::Pending;
 pub use principal::{Principal, copy_principals};
 pub use subject::{Kind, Standing, Subject};
 pub use who::Who;

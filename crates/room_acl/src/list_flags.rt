@@ -4,8 +4,7 @@ ghost use Rattle.room_acl.specs.Bits.{IsListFlags, follows};
 
 use std::marker::Model;
 
-/// The flags of a whole list (RFC 8881, section 6.4.3.2): AUTO_INHERIT 1, PROTECTED 2, DEFAULTED 4, in any
-/// combination.
+/// The flags of a whole list (RFC 8881, section 6.4.3.2): AUTO_INHERIT 1, PROTECTED 2, DEFAULTED 4, in any combination.
 #[derive(Clone, Copy, Debug, PartialEq, Eq)]
 pub struct ListFlags {
     bits: u8,

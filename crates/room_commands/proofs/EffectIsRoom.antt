@@ -1,5 +1,6 @@
 -- A command leaves a room.
-use Rattle.std.proofs.Common.{◌≡◌, ℕ, ◌+◌, ◌-◌, ◌<◌, ◌≤◌, refl, ap, sym, ◌∙◌, subst, arith, Bool, true, false, cond, ◌||◌, List, [], ◌∷◌, ◌++◌, length, Option, None, Some, nat_lt}
+use Rattle.std.proofs.Common.{◌≡◌, ℕ, ◌+◌, ◌-◌, ◌<◌, ◌≤◌, refl, ap, sym, ◌∙◌, subst, arith, Bool, true, false, cond}
+use Rattle.std.proofs.Common.{◌||◌, List, [], ◌∷◌, ◌++◌, length, Option, None, Some, nat_lt}
 use Rattle.std.specs.List.{list_all}
 use Rattle.std.proofs.lemmas.Bool.{ltb-false, or_parts}
 use Rattle.std.proofs.lemmas.List.{length-append}
@@ -19,10 +20,12 @@ use Rattle.room_commands.specs.CommandModel as C
 use Rattle.room_commands.specs.ReplyModel.{Refusal}
 use Rattle.room_commands.specs.Lawful.{IsLawful}
 use Rattle.room_commands.specs.SetList.{own_entries_of_setlist}
-use Rattle.room_commands.specs.Checks.{first_refusal, checks, is_root, is_at_or_below, bytes_of, bytes_at, check_absent, check_folder_full, check_lawful, walk, kind_of}
+use Rattle.room_commands.specs.Checks.{first_refusal, checks, is_root, is_at_or_below, bytes_of, bytes_at, check_absent}
+use Rattle.room_commands.specs.Checks.{check_folder_full, check_lawful, walk, kind_of}
 use Rattle.room_commands.specs.Effect.{changed, effect, effect_by, new_object, with_new, renamed}
 use Rattle.room_commands.proofs.Rights.{AllNone, all_none}
-use Rattle.room_commands.proofs.ChecksTell.{not_refused, exists_there, absent_there, file_there, file_is_no_folder, small_enough, not_full_there, walk_ends_in_folder, depth_there}
+use Rattle.room_commands.proofs.ChecksTell.{not_refused, exists_there, absent_there, file_there, file_is_no_folder}
+use Rattle.room_commands.proofs.ChecksTell.{small_enough, not_full_there, walk_ends_in_folder, depth_there}
 use Rattle.room_commands.proofs.RoomsNew.{with_new_is_room}
 use Rattle.room_commands.proofs.RoomsObject.{with_object_is_room}
 use Rattle.room_commands.proofs.RoomsWithout.{without_is_room}
@@ -39,7 +42,8 @@ not_root_is path h same = let e : true ≡ false = ap is_root same ∙ h in cc
 
 module _ (room : Room) (caller : SubjectModel) (lawful : IsRoom room) where
   -- a new object in the folder at the end of a walk
-  new_is_room : (path : Path) (o : Object) → IsPath path → is_root path ≡ false → walk room caller path ≡ None → check_absent room path ≡ None
+  new_is_room : (path : Path) (o : Object) → IsPath path → is_root path ≡ false
+      → walk room caller path ≡ None → check_absent room path ≡ None
       → check_folder_full room (parent_of path) ≡ None → IsObject o → IsRoom (with_new room path o)
   new_is_room path o is_path not_root walked absent not_full is_object =
       let end = not_root_ends path not_root in
@@ -57,7 +61,8 @@ module _ (room : Room) (caller : SubjectModel) (lawful : IsRoom room) where
   object_lawful = object_there_is_lawful room lawful
 
 -- RENAME, where its checks pass
-renaming : (room : Room) (caller : SubjectModel) (path to : Path) → IsPath to → IsRoom room → AllNone (checks room caller (C.Rename path to)) → IsRoom (renamed room path to)
+renaming : (room : Room) (caller : SubjectModel) (path to : Path) → IsPath to → IsRoom room
+    → AllNone (checks room caller (C.Rename path to)) → IsRoom (renamed room path to)
 renaming room caller path to is_path lawful a =
     let roots = or_parts (is_root path || is_root to) (is_at_or_below to path) (not_refused _ _ a.0) in
     let two = or_parts (is_root path) (is_root to) roots.0 in
@@ -82,7 +87,8 @@ renaming room caller path to is_path lawful a =
           subst Fits end.is (depth_there room path to a.1.1.1.1.1.1.1.0 q other there below);
       not_full = λ other.
           let NotFull : Path → Type 0 = λ p. length (children room p) < max_children in
-          subst NotFull in_folder (not_full_there room (parent_of to) (full_checked (path_eq (parent_of path) (parent_of to)) refl (λ same. other (same ∙ in_folder)) a.1.1.1.1.1.1.1.1.0));
+          subst NotFull in_folder (not_full_there room (parent_of to) (full_checked
+          (path_eq (parent_of path) (parent_of to)) refl (λ same. other (same ∙ in_folder)) a.1.1.1.1.1.1.1.1.0));
     }))
   where
     root_off : (p : Path) → is_root p ≡ false → is_at_or_below [] p ≡ false
@@ -94,21 +100,31 @@ renaming room caller path to is_path lawful a =
     full_checked true is other h = absurd (other (same_path (parent_of path) (parent_of to) is))
     full_checked false is other h = h
 
-few_by_fault : (entries : List EntryModel) (kind : Kind) → check_lawful (own_entries_fault entries kind) ≡ None → length entries ≤ max_own_entries
+few_by_fault : (entries : List EntryModel) (kind : Kind)
+    → check_lawful (own_entries_fault entries kind) ≡ None → length entries ≤ max_own_entries
 few_by_fault entries kind h = by_test (nat_lt max_own_entries (length entries)) refl h
   where
     by_test : (b : Bool) → nat_lt max_own_entries (length entries) ≡ b
-        → check_lawful (cond b (Some Inval) (cond (list_all (may_be_own kind) entries) None (Some AttrNotSupp))) ≡ None → length entries ≤ max_own_entries
+        → check_lawful (cond b (Some Inval) (cond (list_all (may_be_own kind) entries) None (Some AttrNotSupp))) ≡ None
+        → length entries ≤ max_own_entries
     by_test true is refused = absurd (none_is_some _ (sym refused))
     by_test false is passes = ltb-false max_own_entries (length entries) is
 
-pub created_is_room : (room : Room) (caller : SubjectModel) (bytes : List ℕ) (path : Path) → IsPath path → IsRoom room → first_refusal (checks room caller (C.Create bytes path)) ≡ None → IsRoom (changed room caller (C.Create bytes path))
+pub created_is_room : (room : Room) (caller : SubjectModel) (bytes : List ℕ) (path : Path) → IsPath path → IsRoom room →
+    first_refusal (checks room caller (C.Create bytes path)) ≡ None → IsRoom (changed room caller (C.Create bytes path))
 created_is_room room caller bytes path is_path lawful passed =
     let a = all_none (checks room caller (C.Create bytes path)) passed in
-    new_is_room room caller lawful path (new_object room caller path File bytes) is_path (not_refused _ _ a.0) a.1.0 a.1.1.0 a.1.1.1.1.1.0
-    (record { few_entries = omega arith; own_entries = refl; small = small_enough room (length bytes) a.1.1.1.1.0; folder = λ is. absurd (file_is_no_folder File refl is) })
+    new_is_room room caller lawful path (new_object room caller path File bytes)
+    is_path (not_refused _ _ a.0) a.1.0 a.1.1.0 a.1.1.1.1.1.0
+    (record {
+      few_entries = omega arith;
+      own_entries = refl;
+      small = small_enough room (length bytes) a.1.1.1.1.0;
+      folder = λ is. absurd (file_is_no_folder File refl is);
+    })
 
-pub written_is_room : (room : Room) (caller : SubjectModel) (bytes : List ℕ) (path : Path) → IsRoom room → first_refusal (checks room caller (C.Write bytes path)) ≡ None → IsRoom (changed room caller (C.Write bytes path))
+pub written_is_room : (room : Room) (caller : SubjectModel) (bytes : List ℕ) (path : Path) → IsRoom room
+    → first_refusal (checks room caller (C.Write bytes path)) ≡ None → IsRoom (changed room caller (C.Write bytes path))
 written_is_room room caller bytes path lawful passed =
     let a = all_none (checks room caller (C.Write bytes path)) passed in
     with_object_is_room room path (λ o. record o { bytes = bytes }) (λ o. refl) lawful
@@ -119,7 +135,8 @@ written_is_room room caller bytes path lawful passed =
       folder = λ is. absurd (file_is_no_folder o.kind (file_there room path o there a.1.1.0) is);
     })
 
-pub appended_is_room : (room : Room) (caller : SubjectModel) (bytes : List ℕ) (path : Path) → IsRoom room → first_refusal (checks room caller (C.Append bytes path)) ≡ None → IsRoom (changed room caller (C.Append bytes path))
+pub appended_is_room : (room : Room) (caller : SubjectModel) (bytes : List ℕ) (path : Path) → IsRoom room →
+    first_refusal (checks room caller (C.Append bytes path)) ≡ None → IsRoom (changed room caller (C.Append bytes path))
 appended_is_room room caller bytes path lawful passed =
     let a = all_none (checks room caller (C.Append bytes path)) passed in
     with_object_is_room room path (λ o. record o { bytes = o.bytes ++ bytes }) (λ o. refl) lawful
@@ -133,10 +150,13 @@ appended_is_room room caller bytes path lawful passed =
       folder = λ is. absurd (file_is_no_folder o.kind (file_there room path o there a.1.1.0) is);
     })
 
-pub setlist_is_room : (room : Room) (caller : SubjectModel) (aclflag : ℕ) (sent : List EntryModel) (path : Path) → IsRoom room → first_refusal (checks room caller (C.SetList aclflag sent path)) ≡ None → IsRoom (changed room caller (C.SetList aclflag sent path))
+pub setlist_is_room : (room : Room) (caller : SubjectModel) (aclflag : ℕ) (sent : List EntryModel) (path : Path)
+    → IsRoom room → first_refusal (checks room caller (C.SetList aclflag sent path)) ≡ None
+    → IsRoom (changed room caller (C.SetList aclflag sent path))
 setlist_is_room room caller aclflag sent path lawful passed =
     let a = all_none (checks room caller (C.SetList aclflag sent path)) passed in
-    with_object_is_room room path (λ o. record o { aclflag = aclflag; own = own_entries_of_setlist path aclflag sent }) (λ o. refl) lawful
+    with_object_is_room room path
+    (λ o. record o { aclflag = aclflag; own = own_entries_of_setlist path aclflag sent }) (λ o. refl) lawful
     (λ o there. record {
       few_entries = few_by_fault (own_entries_of_setlist path aclflag sent) (kind_of (object_at room path)) a.1.1.1.0;
       own_entries = no_mark_left path aclflag sent;
@@ -144,7 +164,9 @@ setlist_is_room room caller aclflag sent path lawful passed =
       folder = (object_lawful room caller lawful path o there).folder;
     })
 
-pub chown_is_room : (room : Room) (caller : SubjectModel) (group owner : List ℕ) (path : Path) → IsRoom room → first_refusal (checks room caller (C.Chown group owner path)) ≡ None → IsRoom (changed room caller (C.Chown group owner path))
+pub chown_is_room : (room : Room) (caller : SubjectModel) (group owner : List ℕ) (path : Path)
+    → IsRoom room → first_refusal (checks room caller (C.Chown group owner path)) ≡ None
+    → IsRoom (changed room caller (C.Chown group owner path))
 chown_is_room room caller group owner path lawful passed =
     with_object_is_room room path (λ o. record o { owner = owner; group = group }) (λ o. refl) lawful
     (λ o there. record {
@@ -164,24 +186,33 @@ changed_is_room room caller (C.GetList path) is_lawful lawful passed = lawful
 changed_is_room room caller (C.Access mask path) is_lawful lawful passed = lawful
 changed_is_room room caller (C.Mkdir path) is_lawful lawful passed =
     let a = all_none (checks room caller (C.Mkdir path)) passed in
-    new_is_room room caller lawful path (new_object room caller path Folder []) is_lawful (not_refused _ _ a.0) a.1.0 a.1.1.0 a.1.1.1.1.0
+    new_is_room room caller lawful path (new_object room caller path Folder [])
+    is_lawful (not_refused _ _ a.0) a.1.0 a.1.1.0 a.1.1.1.1.0
     (record { few_entries = omega arith; own_entries = refl; small = omega arith; folder = λ is. refl })
-changed_is_room room caller (C.Create bytes path) is_lawful lawful passed = created_is_room room caller bytes path is_lawful.1 lawful passed
-changed_is_room room caller (C.Write bytes path) is_lawful lawful passed = written_is_room room caller bytes path lawful passed
-changed_is_room room caller (C.Append bytes path) is_lawful lawful passed = appended_is_room room caller bytes path lawful passed
+changed_is_room room caller (C.Create bytes path) is_lawful lawful passed =
+    created_is_room room caller bytes path is_lawful.1 lawful passed
+changed_is_room room caller (C.Write bytes path) is_lawful lawful passed =
+    written_is_room room caller bytes path lawful passed
+changed_is_room room caller (C.Append bytes path) is_lawful lawful passed =
+    appended_is_room room caller bytes path lawful passed
 changed_is_room room caller (C.Remove path) is_lawful lawful passed =
     let a = all_none (checks room caller (C.Remove path)) passed in
     without_is_room room path lawful (not_root_is path (not_refused _ _ a.0))
-    (nothing_in_empty room path (omega (arith, ltb-false 0 (length (children room path)) (not_refused _ _ a.1.1.1.1.0))))
+    (nothing_in_empty room path
+    (omega (arith, ltb-false 0 (length (children room path)) (not_refused _ _ a.1.1.1.1.0))))
 changed_is_room room caller (C.Rename path to) is_lawful lawful passed =
     renaming room caller path to is_lawful.1 lawful (all_none (checks room caller (C.Rename path to)) passed)
-changed_is_room room caller (C.SetList aclflag sent path) is_lawful lawful passed = setlist_is_room room caller aclflag sent path lawful passed
-changed_is_room room caller (C.Chown group owner path) is_lawful lawful passed = chown_is_room room caller group owner path lawful passed
+changed_is_room room caller (C.SetList aclflag sent path) is_lawful lawful passed =
+    setlist_is_room room caller aclflag sent path lawful passed
+changed_is_room room caller (C.Chown group owner path) is_lawful lawful passed =
+    chown_is_room room caller group owner path lawful passed
 
 -- every command leaves a room
-pub effect_is_room : (room : Room) (caller : SubjectModel) (command : CommandModel) → IsLawful command → IsRoom room → IsRoom (effect room caller command).room
+pub effect_is_room : (room : Room) (caller : SubjectModel) (command : CommandModel)
+    → IsLawful command → IsRoom room → IsRoom (effect room caller command).room
 effect_is_room room caller command is_lawful lawful = by_value (first_refusal (checks room caller command)) refl
   where
-    by_value : (o : Option Refusal) → first_refusal (checks room caller command) ≡ o → IsRoom (effect_by room caller command o).room
+    by_value : (o : Option Refusal) → first_refusal (checks room caller command) ≡ o
+        → IsRoom (effect_by room caller command o).room
     by_value None passed = changed_is_room room caller command is_lawful lawful passed
     by_value (Some refusal) refused = lawful

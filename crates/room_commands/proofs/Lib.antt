@@ -9,4 +9,4 @@ pub mod ChecksTell
 pub mod SetListKept
 pub mod EffectIsRoom
 pub mod RoomLaws
-mod Rows
+mod Examples

@@ -27,7 +27,8 @@ at_behind [] rest = refl
 at_behind (name ∷ front) rest = rw (name_same name) (at_behind front rest)
 
 -- at or below, another path is equal exactly where the rests are
-pub eq_by_rest : (path rest k : Path) → is_at_or_below k path ≡ true → path_eq rest (drop (length path) k) ≡ path_eq (path ++ rest) k
+pub eq_by_rest : (path rest k : Path) → is_at_or_below k path ≡ true
+    → path_eq rest (drop (length path) k) ≡ path_eq (path ++ rest) k
 eq_by_rest [] rest k below = refl
 eq_by_rest (name ∷ path) rest [] below = let no : false ≡ true = below in cc
 eq_by_rest (name ∷ path) rest (other ∷ k) below =
@@ -39,14 +40,17 @@ eq_not_below [] rest k below = let no : true ≡ false = below in cc
 eq_not_below (name ∷ path) rest [] below = refl
 eq_not_below (name ∷ path) rest (other ∷ k) below = by_first (name_eq name other) below (eq_not_below path rest k)
   where
-    by_first : (b : Bool) → (b && is_at_or_below k path) ≡ false → (is_at_or_below k path ≡ false → path_eq (path ++ rest) k ≡ false) → (b && path_eq (path ++ rest) k) ≡ false
+    by_first : (b : Bool) → (b && is_at_or_below k path) ≡ false
+        → (is_at_or_below k path ≡ false → path_eq (path ++ rest) k ≡ false) → (b && path_eq (path ++ rest) k) ≡ false
     by_first true off rest_off = rest_off off
     by_first false off rest_off = refl
 
-one_moved : (path to rest k : Path) → is_at_or_below k to ≡ false → path_eq (to ++ rest) (moved path to k) ≡ path_eq (path ++ rest) k
+one_moved : (path to rest k : Path) → is_at_or_below k to ≡ false
+    → path_eq (to ++ rest) (moved path to k) ≡ path_eq (path ++ rest) k
 one_moved path to rest k free = by_place (is_at_or_below k path) refl
   where
-    by_place : (b : Bool) → is_at_or_below k path ≡ b → path_eq (to ++ rest) (moved path to k) ≡ path_eq (path ++ rest) k
+    by_place : (b : Bool) → is_at_or_below k path ≡ b
+        → path_eq (to ++ rest) (moved path to k) ≡ path_eq (path ++ rest) k
     by_place true below =
         ap (λ b. path_eq (to ++ rest) (cond b (to ++ drop (length path) k) k)) below
         ∙ eq_behind to rest (drop (length path) k) ∙ eq_by_rest path rest k below
@@ -56,8 +60,10 @@ one_moved path to rest k free = by_place (is_at_or_below k path) refl
 
 -- below the new place stands what stood below the old one
 pub lookup_moved : (path to rest : Path) (es : List (Path × Object)) → NoneBelow to es
-    → lookup (path_eq (to ++ rest)) (map (λ (e : Path × Object). (moved path to e.0, e.1)) es) ≡ lookup (path_eq (path ++ rest)) es
+    → lookup (path_eq (to ++ rest)) (map (λ (e : Path × Object). (moved path to e.0, e.1)) es)
+    ≡ lookup (path_eq (path ++ rest)) es
 lookup_moved path to rest [] free = refl
 lookup_moved path to rest (e ∷ es) free =
-    ap (λ b. cond b (Some e.1) (lookup (path_eq (to ++ rest)) (map (λ (f : Path × Object). (moved path to f.0, f.1)) es))) (one_moved path to rest e.0 free.0)
+    ap (λ b. cond b (Some e.1) (lookup (path_eq (to ++ rest))
+    (map (λ (f : Path × Object). (moved path to f.0, f.1)) es))) (one_moved path to rest e.0 free.0)
     ∙ ap (cond (path_eq (path ++ rest) e.0) (Some e.1)) (lookup_moved path to rest es free.1)

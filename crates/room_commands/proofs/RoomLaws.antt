@@ -1,5 +1,6 @@
 -- What the definitions of rooms and commands mean: refusals, successes, a READ after a WRITE, a RENAME.
-use Rattle.std.proofs.Common.{◌≡◌, ℕ, refl, ap, sym, ◌∙◌, Bool, true, false, not, cond, ◌||◌, List, [], ◌∷◌, ◌++◌, map, Option, None, Some, is_some, option_map}
+use Rattle.std.proofs.Common.{◌≡◌, ℕ, refl, ap, sym, ◌∙◌, Bool, true, false, not, cond, ◌||◌, List, [], ◌∷◌, ◌++◌, map}
+use Rattle.std.proofs.Common.{Option, None, Some, is_some, option_map}
 use Rattle.std.proofs.lemmas.Bool.{or_parts}
 use Rattle.room_acl.specs.declared.subject.Kind.{Kind}
 use Rattle.room_acl.specs.declared.subject.Kind.TheVariants.{File, Folder}
@@ -13,8 +14,10 @@ use Rattle.room_records.proofs.RoomsLists.{without_bytes, lists_without_bytes}
 use Rattle.room_commands.specs.CommandModel.{CommandModel}
 use Rattle.room_commands.specs.CommandModel as C
 use Rattle.room_commands.specs.ReplyModel.{Bytes, Refusal, IsRefused}
-use Rattle.room_commands.specs.Checks.{first_refusal, checks, is_kind, check_exists, check_file, check_folder, check_right, right_on, denied_at, refuse_if, prefix_fault, proper_prefixes, walk, bytes_of, bytes_at, is_root, is_at_or_below}
-use Rattle.room_commands.specs.declared.reply.Fault.TheVariants.{NoEnt, NotDir, IsDir}
+use Rattle.room_commands.specs.Checks.{first_refusal, checks, is_kind, check_exists, check_file, check_folder}
+use Rattle.room_commands.specs.Checks.{check_right, right_on, denied_at, refuse_if, prefix_refusal, proper_prefixes}
+use Rattle.room_commands.specs.Checks.{walk, bytes_of, bytes_at, is_root, is_at_or_below}
+use Rattle.room_commands.specs.declared.reply.RefusalCode.TheVariants.{NoEnt, NotDir, IsDir}
 use Rattle.room_commands.specs.Effect.{effect, effect_by, changed, reply, with_object, renamed}
 use Rattle.room_commands.specs.Needs.{NeedsAllowed}
 use Rattle.room_commands.proofs.Rights.{all_none, rights_of_success}
@@ -22,7 +25,8 @@ use Rattle.room_commands.proofs.ChecksTell.{not_refused, exists_there, absent_th
 use Rattle.room_commands.proofs.RoomsObject.{at_changed, after_change}
 use Rattle.room_commands.proofs.RoomsRenamed.{at_new_place, at_old_place, away}
 
-reply_is_no_refusal : (room : Room) (caller : SubjectModel) (command : CommandModel) → IsRefused (reply room caller command) → ⊥
+reply_is_no_refusal : (room : Room) (caller : SubjectModel) (command : CommandModel)
+    → IsRefused (reply room caller command) → ⊥
 reply_is_no_refusal room caller (C.Stat path) h = h
 reply_is_no_refusal room caller (C.ListNames path) h = h
 reply_is_no_refusal room caller (C.Mkdir path) h = h
@@ -38,15 +42,18 @@ reply_is_no_refusal room caller (C.Chown group owner path) h = h
 reply_is_no_refusal room caller (C.Access mask path) h = h
 
 -- a refused command leaves the room
-pub refused_leaves : (room : Room) (caller : SubjectModel) (command : CommandModel) → IsRefused (effect room caller command).reply → (effect room caller command).room ≡ room
+pub refused_leaves : (room : Room) (caller : SubjectModel) (command : CommandModel)
+    → IsRefused (effect room caller command).reply → (effect room caller command).room ≡ room
 refused_leaves room caller command = by_value (first_refusal (checks room caller command))
   where
-    by_value : (o : Option Refusal) → IsRefused (effect_by room caller command o).reply → (effect_by room caller command o).room ≡ room
+    by_value : (o : Option Refusal) → IsRefused (effect_by room caller command o).reply
+        → (effect_by room caller command o).room ≡ room
     by_value None h = absurd (reply_is_no_refusal room caller command h)
     by_value (Some refusal) h = refl
 
 -- a command that is not refused passed every check
-pub passed_if_not_refused : (room : Room) (caller : SubjectModel) (command : CommandModel) → (IsRefused (effect room caller command).reply → ⊥) → first_refusal (checks room caller command) ≡ None
+pub passed_if_not_refused : (room : Room) (caller : SubjectModel) (command : CommandModel)
+    → (IsRefused (effect room caller command).reply → ⊥) → first_refusal (checks room caller command) ≡ None
 passed_if_not_refused room caller command = by_value (first_refusal (checks room caller command))
   where
     by_value : (o : Option Refusal) → (IsRefused (effect_by room caller command o).reply → ⊥) → o ≡ None
@@ -54,26 +61,33 @@ passed_if_not_refused room caller command = by_value (first_refusal (checks room
     by_value (Some refusal) h = absurd (h tt)
 
 -- and had every right that it needs
-pub success_had_rights : (room : Room) (caller : SubjectModel) (command : CommandModel) → (IsRefused (effect room caller command).reply → ⊥) → NeedsAllowed room caller command
-success_had_rights room caller command h = rights_of_success room caller command (passed_if_not_refused room caller command h)
+pub success_had_rights : (room : Room) (caller : SubjectModel) (command : CommandModel)
+    → (IsRefused (effect room caller command).reply → ⊥) → NeedsAllowed room caller command
+success_had_rights room caller command h =
+    rights_of_success room caller command (passed_if_not_refused room caller command h)
 
-pub room_if_passed : (room : Room) (caller : SubjectModel) (command : CommandModel) → first_refusal (checks room caller command) ≡ None → (effect room caller command).room ≡ changed room caller command
+pub room_if_passed : (room : Room) (caller : SubjectModel) (command : CommandModel) →
+    first_refusal (checks room caller command) ≡ None → (effect room caller command).room ≡ changed room caller command
 room_if_passed room caller command passed = ap (λ o. (effect_by room caller command o).room) passed
 
-pub reply_if_passed : (room : Room) (caller : SubjectModel) (command : CommandModel) → first_refusal (checks room caller command) ≡ None → (effect room caller command).reply ≡ reply room caller command
+pub reply_if_passed : (room : Room) (caller : SubjectModel) (command : CommandModel)
+    → first_refusal (checks room caller command) ≡ None → (effect room caller command).reply ≡ reply room caller command
 reply_if_passed room caller command passed = ap (λ o. (effect_by room caller command o).reply) passed
 
 -- two rooms that differ in bytes alone check alike
-module _ (room other : Room) (caller : SubjectModel) (alike : (path : Path) → without_bytes (object_at room path) ≡ without_bytes (object_at other path)) where
+module _ (room other : Room) (caller : SubjectModel)
+    (alike : (path : Path) → without_bytes (object_at room path) ≡ without_bytes (object_at other path)) where
   some_alike : (path : Path) → is_some (object_at room path) ≡ is_some (object_at other path)
-  some_alike path = some_of_bare (object_at room path) ∙ ap is_some (alike path) ∙ sym (some_of_bare (object_at other path))
+  some_alike path = some_of_bare (object_at room path)
+      ∙ ap is_some (alike path) ∙ sym (some_of_bare (object_at other path))
     where
       some_of_bare : (o : Option Object) → is_some o ≡ is_some (without_bytes o)
       some_of_bare None = refl
       some_of_bare (Some o) = refl
 
   kind_alike : (kind : Kind) (path : Path) → is_kind kind (object_at room path) ≡ is_kind kind (object_at other path)
-  kind_alike kind path = kind_of_bare kind (object_at room path) ∙ ap (is_kind kind) (alike path) ∙ sym (kind_of_bare kind (object_at other path))
+  kind_alike kind path = kind_of_bare kind (object_at room path)
+      ∙ ap (is_kind kind) (alike path) ∙ sym (kind_of_bare kind (object_at other path))
     where
       kind_of_bare : (k : Kind) (o : Option Object) → is_kind k o ≡ is_kind k (without_bytes o)
       kind_of_bare File None = refl
@@ -98,7 +112,8 @@ module _ (room other : Room) (caller : SubjectModel) (alike : (path : Path) → 
   right_alike path wanted =
       here (object_at room path)
       ∙ ap (λ entries. right_by path wanted entries (object_at room path)) (lists_without_bytes room other alike path)
-      ∙ bare (object_at room path) ∙ ap (right_by path wanted (list_of other path)) (alike path) ∙ sym (bare (object_at other path))
+      ∙ bare (object_at room path) ∙ ap (right_by path wanted (list_of other path)) (alike path)
+      ∙ sym (bare (object_at other path))
       ∙ sym (there (object_at other path))
     where
       here : (o : Option Object) → right_on room caller path wanted o ≡ right_by path wanted (list_of room path) o
@@ -109,61 +124,76 @@ module _ (room other : Room) (caller : SubjectModel) (alike : (path : Path) → 
       there None = refl
       there (Some o) = refl
 
-      bare : (o : Option Object) → right_by path wanted (list_of other path) o ≡ right_by path wanted (list_of other path) (without_bytes o)
+      bare : (o : Option Object)
+          → right_by path wanted (list_of other path) o ≡ right_by path wanted (list_of other path) (without_bytes o)
       bare None = refl
       bare (Some o) = refl
 
-  prefix_alike : (path : Path) → prefix_fault room caller path ≡ prefix_fault other caller path
+  prefix_alike : (path : Path) → prefix_refusal room caller path ≡ prefix_refusal other caller path
   prefix_alike path = (λ i. first_refusal (exists_alike path i ∷ folder_alike path i ∷ right_alike path execute i ∷ []))
 
   walk_alike : (path : Path) → walk room caller path ≡ walk other caller path
   walk_alike path = (λ i. first_refusal (map (λ front. prefix_alike front i) (proper_prefixes path)))
 
   read_alike : (path : Path) → checks room caller (C.Read path) ≡ checks other caller (C.Read path)
-  read_alike path = (λ i. walk_alike path i ∷ exists_alike path i ∷ file_alike path i ∷ right_alike path read_data i ∷ [])
+  read_alike path =
+      (λ i. walk_alike path i ∷ exists_alike path i ∷ file_alike path i ∷ right_alike path read_data i ∷ [])
 
 bytes_stay_out : (room : Room) (path : Path) (new : List ℕ → List ℕ) (q : Path)
-    → without_bytes (object_at (with_object room path (λ o. record o { bytes = new o.bytes })) q) ≡ without_bytes (object_at room q)
+    → without_bytes (object_at (with_object room path (λ o. record o { bytes = new o.bytes })) q)
+    ≡ without_bytes (object_at room q)
 bytes_stay_out room path new q =
-    ap without_bytes (after_change room path (λ o. record o { bytes = new o.bytes }) q) ∙ by_test (path_eq q path) (object_at room q)
+    ap without_bytes (after_change room path (λ o. record o { bytes = new o.bytes }) q)
+    ∙ by_test (path_eq q path) (object_at room q)
   where
-    by_test : (b : Bool) (o : Option Object) → without_bytes (cond b (option_map (λ (f : Object). record f { bytes = new f.bytes }) o) o) ≡ without_bytes o
+    by_test : (b : Bool) (o : Option Object)
+        → without_bytes (cond b (option_map (λ (f : Object). record f { bytes = new f.bytes }) o) o) ≡ without_bytes o
     by_test true None = refl
     by_test true (Some o) = refl
     by_test false o = refl
 
-read_back : (room : Room) (caller : SubjectModel) (path : Path) (new : List ℕ → List ℕ) → first_refusal (checks room caller (C.Read path)) ≡ None
-    → (effect (with_object room path (λ o. record o { bytes = new o.bytes })) caller (C.Read path)).reply ≡ Bytes (new (bytes_at room path))
+read_back : (room : Room) (caller : SubjectModel) (path : Path) (new : List ℕ → List ℕ)
+    → first_refusal (checks room caller (C.Read path)) ≡ None
+    → (effect (with_object room path (λ o. record o { bytes = new o.bytes })) caller (C.Read path)).reply
+    ≡ Bytes (new (bytes_at room path))
 read_back room caller path new passed =
     let later = with_object room path (λ o. record o { bytes = new o.bytes }) in
     let again = ap first_refusal (read_alike later room caller (bytes_stay_out room path new) path) ∙ passed in
     let there = exists_there room path (all_none (checks room caller (C.Read path)) passed).1.0 in
     reply_if_passed later caller (C.Read path) again
-    ∙ ap (λ o. Bytes (bytes_of o)) (at_changed room path (λ o. record o { bytes = new o.bytes }) ∙ ap (option_map (λ (o : Object). record o { bytes = new o.bytes })) there.1)
+    ∙ ap (λ o. Bytes (bytes_of o)) (at_changed room path (λ o. record o { bytes = new o.bytes })
+    ∙ ap (option_map (λ (o : Object). record o { bytes = new o.bytes })) there.1)
     ∙ ap (λ o. Bytes (new (bytes_of o))) (sym there.1)
 
 -- what was written is read
 pub read_after_write : (room : Room) (caller : SubjectModel) (path : Path) (bytes : List ℕ)
-    → (IsRefused (effect room caller (C.Write bytes path)).reply → ⊥) → (IsRefused (effect room caller (C.Read path)).reply → ⊥)
+    → (IsRefused (effect room caller (C.Write bytes path)).reply → ⊥)
+    → (IsRefused (effect room caller (C.Read path)).reply → ⊥)
     → (effect (effect room caller (C.Write bytes path)).room caller (C.Read path)).reply ≡ Bytes bytes
 read_after_write room caller path bytes may_write may_read =
-    ap (λ r. (effect r caller (C.Read path)).reply) (room_if_passed room caller (C.Write bytes path) (passed_if_not_refused room caller (C.Write bytes path) may_write))
+    ap (λ r. (effect r caller (C.Read path)).reply) (room_if_passed room caller
+    (C.Write bytes path) (passed_if_not_refused room caller (C.Write bytes path) may_write))
     ∙ read_back room caller path (λ old. bytes) (passed_if_not_refused room caller (C.Read path) may_read)
 
 -- what was appended is read behind what was there
 pub read_after_append : (room : Room) (caller : SubjectModel) (path : Path) (bytes : List ℕ)
-    → (IsRefused (effect room caller (C.Append bytes path)).reply → ⊥) → (IsRefused (effect room caller (C.Read path)).reply → ⊥)
-    → (effect (effect room caller (C.Append bytes path)).room caller (C.Read path)).reply ≡ Bytes (bytes_at room path ++ bytes)
+    → (IsRefused (effect room caller (C.Append bytes path)).reply → ⊥)
+    → (IsRefused (effect room caller (C.Read path)).reply → ⊥)
+    → (effect (effect room caller (C.Append bytes path)).room caller (C.Read path)).reply
+    ≡ Bytes (bytes_at room path ++ bytes)
 read_after_append room caller path bytes may_append may_read =
-    ap (λ r. (effect r caller (C.Read path)).reply) (room_if_passed room caller (C.Append bytes path) (passed_if_not_refused room caller (C.Append bytes path) may_append))
+    ap (λ r. (effect r caller (C.Read path)).reply) (room_if_passed room caller
+    (C.Append bytes path) (passed_if_not_refused room caller (C.Append bytes path) may_append))
     ∙ read_back room caller path (λ old. old ++ bytes) (passed_if_not_refused room caller (C.Read path) may_read)
 
-module _ (room : Room) (caller : SubjectModel) (path to : Path) (lawful : IsRoom room) (success : IsRefused (effect room caller (C.Rename path to)).reply → ⊥) where
+module _ (room : Room) (caller : SubjectModel) (path to : Path) (lawful : IsRoom room)
+    (success : IsRefused (effect room caller (C.Rename path to)).reply → ⊥) where
   passed : first_refusal (checks room caller (C.Rename path to)) ≡ None
   passed = passed_if_not_refused room caller (C.Rename path to) success
 
   apart : is_at_or_below to path ≡ false
-  apart = (or_parts (is_root path || is_root to) (is_at_or_below to path) (not_refused _ _ (all_none (checks room caller (C.Rename path to)) passed).0)).1
+  apart = (or_parts (is_root path || is_root to) (is_at_or_below to path)
+      (not_refused _ _ (all_none (checks room caller (C.Rename path to)) passed).0)).1
 
   moving : (o : Object) × (object_at room path ≡ Some o)
   moving = exists_there room path (all_none (checks room caller (C.Rename path to)) passed).1.1.0
@@ -175,11 +205,17 @@ module _ (room : Room) (caller : SubjectModel) (path to : Path) (lawful : IsRoom
   later_is = room_if_passed room caller (C.Rename path to) passed
 
   -- a RENAME moves a subtree
-  pub rename_moves : (rest : Path) → object_at (effect room caller (C.Rename path to)).room (to ++ rest) ≡ object_at room (path ++ rest)
-  rename_moves rest = ap (λ r. object_at r (to ++ rest)) later_is ∙ at_new_place room lawful path to moving.0 apart moving.1 free rest
+  pub rename_moves : (rest : Path)
+      → object_at (effect room caller (C.Rename path to)).room (to ++ rest) ≡ object_at room (path ++ rest)
+  rename_moves rest = ap (λ r. object_at r (to ++ rest)) later_is
+      ∙ at_new_place room lawful path to moving.0 apart moving.1 free rest
 
-  pub rename_leaves_nothing : (rest : Path) → object_at (effect room caller (C.Rename path to)).room (path ++ rest) ≡ None
-  rename_leaves_nothing rest = ap (λ r. object_at r (path ++ rest)) later_is ∙ at_old_place room lawful path to moving.0 apart moving.1 free rest
+  pub rename_leaves_nothing : (rest : Path)
+      → object_at (effect room caller (C.Rename path to)).room (path ++ rest) ≡ None
+  rename_leaves_nothing rest =
+      ap (λ r. object_at r (path ++ rest)) later_is ∙ at_old_place room lawful path to moving.0 apart moving.1 free rest
 
-  pub rename_spares : (q : Path) → is_at_or_below q path ≡ false → is_at_or_below q to ≡ false → object_at (effect room caller (C.Rename path to)).room q ≡ object_at room q
-  rename_spares q off_path off_to = ap (λ r. object_at r q) later_is ∙ away room lawful path to moving.0 apart moving.1 free q off_path off_to
+  pub rename_spares : (q : Path) → is_at_or_below q path ≡ false → is_at_or_below q to ≡ false
+      → object_at (effect room caller (C.Rename path to)).room q ≡ object_at room q
+  rename_spares q off_path off_to =
+      ap (λ r. object_at r q) later_is ∙ away room lawful path to moving.0 apart moving.1 free q off_path off_to

@@ -1,5 +1,6 @@
 -- A room with one object more.
-use Rattle.std.proofs.Common.{◌≡◌, ◌<◌, ◌≤◌, refl, ap, sym, ◌∙◌, subst, arith, Bool, true, false, cond, ◌⊎◌, inl, inr, [], ◌∷◌, ◌++◌, length, None, Some, IsSome, is_some}
+use Rattle.std.proofs.Common.{◌≡◌, ◌<◌, ◌≤◌, refl, ap, sym, ◌∙◌, subst, arith, Bool, true, false, cond, ◌⊎◌, inl, inr}
+use Rattle.std.proofs.Common.{[], ◌∷◌, ◌++◌, length, None, Some, IsSome, is_some}
 use Rattle.std.proofs.lemmas.List.{same_from_push}
 use Rattle.room_acl.specs.declared.subject.Kind.TheVariants.{Folder}
 use Rattle.room_records.specs.Limits.{max_children}
@@ -21,28 +22,35 @@ module _ (room : Room) (path : Path) (o : Object) where
   elsewhere_as_before q apart = ap (λ b. cond b (Some o) (object_at room q)) (other_path q path apart)
 
   -- what was there still is
-  pub old_stays : object_at room path ≡ None → (q : Path) (other : Object) → object_at room q ≡ Some other → object_at (with_new room path o) q ≡ Some other
+  pub old_stays : object_at room path ≡ None → (q : Path) (other : Object)
+      → object_at room q ≡ Some other → object_at (with_new room path o) q ≡ Some other
   old_stays free q other is =
       elsewhere_as_before q (λ same. none_is_some other (sym free ∙ ap (object_at room) (sym same) ∙ is)) ∙ is
 
   -- what is there is the new object, or was there
-  pub new_or_old : (q : Path) (other : Object) → object_at (with_new room path o) q ≡ Some other → ((q ≡ path) × (o ≡ other)) ⊎ (object_at room q ≡ Some other)
+  pub new_or_old : (q : Path) (other : Object) → object_at (with_new room path o) q ≡ Some other
+      → ((q ≡ path) × (o ≡ other)) ⊎ (object_at room q ≡ Some other)
   new_or_old q other is = by_test (path_eq q path) refl is
     where
-      by_test : (b : Bool) → path_eq q path ≡ b → cond b (Some o) (object_at room q) ≡ Some other → ((q ≡ path) × (o ≡ other)) ⊎ (object_at room q ≡ Some other)
+      by_test : (b : Bool) → path_eq q path ≡ b → cond b (Some o) (object_at room q) ≡ Some other
+          → ((q ≡ path) × (o ≡ other)) ⊎ (object_at room q ≡ Some other)
       by_test true here h = inl (same_path q path here, some_is o other h)
       by_test false there h = inr h
 
-  pub some_new_or_old : (q : Path) → IsSome (object_at (with_new room path o) q) → (q ≡ path) ⊎ IsSome (object_at room q)
+  pub some_new_or_old : (q : Path) → IsSome (object_at (with_new room path o) q)
+      → (q ≡ path) ⊎ IsSome (object_at room q)
   some_new_or_old q is = by_test (path_eq q path) refl is
     where
-      by_test : (b : Bool) → path_eq q path ≡ b → is_some (cond b (Some o) (object_at room q)) ≡ true → (q ≡ path) ⊎ IsSome (object_at room q)
+      by_test : (b : Bool) → path_eq q path ≡ b → is_some (cond b (Some o) (object_at room q)) ≡ true
+          → (q ≡ path) ⊎ IsSome (object_at room q)
       by_test true here h = inl (same_path q path here)
       by_test false there h = inr h
 
 -- a new object in a folder that is not full leaves a room
-pub with_new_is_room : (room : Room) (folder : Path) (name : Name) (o : Object) → IsRoom room → IsPath (folder ++ name ∷ []) → IsObject o
-    → object_at room (folder ++ name ∷ []) ≡ None → (above : Object) → object_at room folder ≡ Some above → above.kind ≡ Folder
+pub with_new_is_room : (room : Room) (folder : Path) (name : Name) (o : Object)
+    → IsRoom room → IsPath (folder ++ name ∷ []) → IsObject o
+    → object_at room (folder ++ name ∷ []) ≡ None → (above : Object)
+    → object_at room folder ≡ Some above → above.kind ≡ Folder
     → length (children room folder) < max_children → IsRoom (with_new room (folder ++ name ∷ []) o)
 with_new_is_room room folder name o lawful is_path is_object free above stands is_folder not_full = record {
   root = (lawful.root.0, old_stays room (folder ++ name ∷ []) o free [] lawful.root.0 lawful.root.1, lawful.root.2);
@@ -51,8 +59,10 @@ with_new_is_room room folder name o lawful is_path is_object free above stands i
   few = λ other. few other (path_eq other folder) refl;
 }
   where
-    parents : (q : Path) (n : Name) (child : Object) → object_at (with_new room (folder ++ name ∷ []) o) (q ++ n ∷ []) ≡ Some child
-        → (parent : Object) × (object_at (with_new room (folder ++ name ∷ []) o) q ≡ Some parent) × (parent.kind ≡ Folder)
+    parents : (q : Path) (n : Name) (child : Object)
+        → object_at (with_new room (folder ++ name ∷ []) o) (q ++ n ∷ []) ≡ Some child
+        → (parent : Object) × (object_at (with_new room (folder ++ name ∷ []) o) q ≡ Some parent)
+        × (parent.kind ≡ Folder)
     parents q n child is = elim (new_or_old room (folder ++ name ∷ []) o (q ++ n ∷ []) child is) [
       | inl here ↦
           let same = same_from_push q folder n name here.0 in
@@ -62,18 +72,23 @@ with_new_is_room room folder name o lawful is_path is_object free above stands i
           (parent.0, old_stays room (folder ++ name ∷ []) o free q parent.0 parent.1, parent.2)
     ]
 
-    few : (other : Path) (b : Bool) → path_eq other folder ≡ b → length (children (with_new room (folder ++ name ∷ []) o) other) ≤ max_children
+    few : (other : Path) (b : Bool) → path_eq other folder ≡ b
+        → length (children (with_new room (folder ++ name ∷ []) o) other) ≤ max_children
     few other true here =
         let same = same_path other folder here in
-        let more = one_more_child room (with_new room (folder ++ name ∷ []) o) other other name o.kind (λ n there. elim (some_new_or_old room (folder ++ name ∷ []) o (other ++ n ∷ []) there) [
+        let more = one_more_child room (with_new room (folder ++ name ∷ []) o) other other name o.kind
+        (λ n there. elim (some_new_or_old room (folder ++ name ∷ []) o (other ++ n ∷ []) there) [
           | inl new ↦ inl (same_from_push other folder n name new).1
           | inr old ↦ inr old
         ]) in
-        let before : length (children room other) < max_children = (let P : Path → Type 0 = λ p. length (children room p) < max_children in subst P (sym same) not_full) in
+        let before : length (children room other) < max_children =
+        (let P : Path → Type 0 = λ p. length (children room p) < max_children in subst P (sym same) not_full) in
         omega (arith, more, before)
     few other false there =
-        let same = no_more_children room (with_new room (folder ++ name ∷ []) o) other other (λ n is. elim (some_new_or_old room (folder ++ name ∷ []) o (other ++ n ∷ []) is) [
-          | inl new ↦ absurd (let e : false ≡ true = sym there ∙ ap (λ p. path_eq p folder) (same_from_push other folder n name new).0 ∙ path_itself folder in cc)
+        let same = no_more_children room (with_new room (folder ++ name ∷ []) o) other other
+        (λ n is. elim (some_new_or_old room (folder ++ name ∷ []) o (other ++ n ∷ []) is) [
+          | inl new ↦ absurd (let e : false ≡ true = sym there
+              ∙ ap (λ p. path_eq p folder) (same_from_push other folder n name new).0 ∙ path_itself folder in cc)
           | inr old ↦ old
         ]) in
         omega (arith, same, lawful.few other)

@@ -1,5 +1,6 @@
 -- A room with a subtree moved.
-use Rattle.std.proofs.Common.{◌≡◌, refl, ap, sym, ◌∙◌, Bool, true, false, cond, ◌&&◌, ◌⊎◌, inl, inr, List, [], ◌∷◌, ◌++◌, map, drop, length, append_assoc, None, Some}
+use Rattle.std.proofs.Common.{◌≡◌, refl, ap, sym, ◌∙◌, Bool, true, false, cond, ◌&&◌, ◌⊎◌, inl, inr, List, [], ◌∷◌}
+use Rattle.std.proofs.Common.{◌++◌, map, drop, length, append_assoc, None, Some}
 use Rattle.std.specs.Map.{lookup}
 use Rattle.std.proofs.lemmas.Bool.{and_parts}
 use Rattle.room_records.specs.Names.{Name, Path, path_eq, name_eq}
@@ -48,7 +49,8 @@ abbrev pub move : Path → Path → Path × Object → Path × Object
 move path to e = (moved path to e.0, e.1)
 
 -- a path away from both places keeps what it has
-pub lookup_away : (path to q : Path) → is_at_or_below q path ≡ false → is_at_or_below q to ≡ false → (es : List (Path × Object))
+pub lookup_away : (path to q : Path) → is_at_or_below q path ≡ false
+    → is_at_or_below q to ≡ false → (es : List (Path × Object))
     → lookup (path_eq q) (map (move path to) es) ≡ lookup (path_eq q) es
 lookup_away path to q off_path off_to [] = refl
 lookup_away path to q off_path off_to (e ∷ es) =
@@ -59,33 +61,41 @@ lookup_away path to q off_path off_to (e ∷ es) =
     by_place false off = ap (λ b. path_eq q (cond b (to ++ drop (length path) e.0) e.0)) off
     by_place true below =
         ap (λ b. path_eq q (cond b (to ++ drop (length path) e.0) e.0)) below
-        ∙ other_path q (to ++ drop (length path) e.0) (λ same. not_both (is_at_or_below q to) (ap (λ p. is_at_or_below p to) same ∙ at_behind to (drop (length path) e.0)) off_to)
-        ∙ sym (other_path q e.0 (λ same. not_both (is_at_or_below q path) (ap (λ p. is_at_or_below p path) same ∙ below) off_path))
+        ∙ other_path q (to ++ drop (length path) e.0) (λ same. not_both (is_at_or_below q to)
+        (ap (λ p. is_at_or_below p to) same ∙ at_behind to (drop (length path) e.0)) off_to)
+        ∙ sym (other_path q e.0 (λ same.
+        not_both (is_at_or_below q path) (ap (λ p. is_at_or_below p path) same ∙ below) off_path))
 
 -- nothing is left at the old place
-lookup_left : (path to rest : Path) → is_at_or_below to path ≡ false → is_at_or_below path to ≡ false → (es : List (Path × Object))
+lookup_left : (path to rest : Path) → is_at_or_below to path ≡ false
+    → is_at_or_below path to ≡ false → (es : List (Path × Object))
     → lookup (path_eq (path ++ rest)) (map (move path to) es) ≡ None
 lookup_left path to rest apart apart' [] = refl
 lookup_left path to rest apart apart' (e ∷ es) =
-    ap (λ b. cond b (Some e.1) (lookup (path_eq (path ++ rest)) (map (move path to) es))) (by_place (is_at_or_below e.0 path) refl)
+    ap (λ b. cond b (Some e.1) (lookup (path_eq (path ++ rest)) (map (move path to) es)))
+    (by_place (is_at_or_below e.0 path) refl)
     ∙ lookup_left path to rest apart apart' es
   where
     by_place : (b : Bool) → is_at_or_below e.0 path ≡ b → path_eq (path ++ rest) (moved path to e.0) ≡ false
     by_place false off =
         ap (λ b. path_eq (path ++ rest) (cond b (to ++ drop (length path) e.0) e.0)) off
-        ∙ other_path (path ++ rest) e.0 (λ same. not_both (is_at_or_below e.0 path) (ap (λ p. is_at_or_below p path) (sym same) ∙ at_behind path rest) off)
+        ∙ other_path (path ++ rest) e.0 (λ same.
+        not_both (is_at_or_below e.0 path) (ap (λ p. is_at_or_below p path) (sym same) ∙ at_behind path rest) off)
     by_place true below =
         ap (λ b. path_eq (path ++ rest) (cond b (to ++ drop (length path) e.0) e.0)) below
-        ∙ other_path (path ++ rest) (to ++ drop (length path) e.0) (λ same. elim (one_continues path to rest (drop (length path) e.0) same) [
+        ∙ other_path (path ++ rest) (to ++ drop (length path) e.0)
+        (λ same. elim (one_continues path to rest (drop (length path) e.0) same) [
           | inl below_to ↦ not_both (is_at_or_below path to) below_to apart'
           | inr below_path ↦ not_both (is_at_or_below to path) below_path apart
         ])
 
-none_below : (to : Path) (es : List (Path × Object)) → ((k : Path) (o : Object) → StandsIn es k o → is_at_or_below k to ≡ false) → NoneBelow to es
+none_below : (to : Path) (es : List (Path × Object))
+    → ((k : Path) (o : Object) → StandsIn es k o → is_at_or_below k to ≡ false) → NoneBelow to es
 none_below to [] off = tt
 none_below to (e ∷ es) off = (off e.0 e.1 (inl (refl, refl)), none_below to es (λ k o there. off k o (inr there)))
 
-module _ (room : Room) (lawful : IsRoom room) (path to : Path) (o : Object) (apart : is_at_or_below to path ≡ false) (there : object_at room path ≡ Some o) (free : object_at room to ≡ None) where
+module _ (room : Room) (lawful : IsRoom room) (path to : Path) (o : Object) (apart : is_at_or_below to path ≡ false)
+    (there : object_at room path ≡ Some o) (free : object_at room to ≡ None) where
   -- no object is at the new place or below it
   pub off_to : (k : Path) (other : Object) → object_at room k ≡ Some other → is_at_or_below k to ≡ false
   off_to k other is = by_test (is_at_or_below k to) refl
@@ -93,10 +103,12 @@ module _ (room : Room) (lawful : IsRoom room) (path to : Path) (o : Object) (apa
       by_test : (b : Bool) → is_at_or_below k to ≡ b → b ≡ false
       by_test false off = refl
       by_test true below =
-          absurd (none_is_some other (sym (nothing_below room lawful (drop (length to) k) to free) ∙ ap (object_at room) (sym (rest_below to k below)) ∙ is))
+          absurd (none_is_some other (sym (nothing_below room lawful (drop (length to) k) to free)
+          ∙ ap (object_at room) (sym (rest_below to k below)) ∙ is))
 
   pub free_list : NoneBelow to room.objects
-  free_list = none_below to room.objects (λ k other stands. off_to k other (standing_found room.objects lawful.once k other stands))
+  free_list = none_below to room.objects
+      (λ k other stands. off_to k other (standing_found room.objects lawful.once k other stands))
 
   apart_too : is_at_or_below path to ≡ false
   apart_too = off_to path o there
@@ -110,21 +122,27 @@ module _ (room : Room) (lawful : IsRoom room) (path to : Path) (o : Object) (apa
   at_old_place rest = lookup_left path to rest apart apart_too room.objects
 
   -- all else stays
-  pub away : (q : Path) → is_at_or_below q path ≡ false → is_at_or_below q to ≡ false → object_at (renamed room path to) q ≡ object_at room q
+  pub away : (q : Path) → is_at_or_below q path ≡ false → is_at_or_below q to ≡ false
+      → object_at (renamed room path to) q ≡ object_at room q
   away q off_path off_new = lookup_away path to q off_path off_new room.objects
 
   -- an object stands where its path was moved
-  pub at_moved : (q : Path) (other : Object) → object_at room q ≡ Some other → object_at (renamed room path to) (moved path to q) ≡ Some other
+  pub at_moved : (q : Path) (other : Object) → object_at room q ≡ Some other
+      → object_at (renamed room path to) (moved path to q) ≡ Some other
   at_moved q other is = by_test (is_at_or_below q path) refl
     where
-      by_test : (b : Bool) → is_at_or_below q path ≡ b → object_at (renamed room path to) (cond b (to ++ drop (length path) q) q) ≡ Some other
-      by_test true below = at_new_place (drop (length path) q) ∙ ap (object_at room) (sym (rest_below path q below)) ∙ is
+      by_test : (b : Bool) → is_at_or_below q path ≡ b
+          → object_at (renamed room path to) (cond b (to ++ drop (length path) q) q) ≡ Some other
+      by_test true below = at_new_place (drop (length path) q)
+          ∙ ap (object_at room) (sym (rest_below path q below)) ∙ is
       by_test false off = away q off (off_to q other is) ∙ is
 
   -- a path that has an object afterwards: below the new place, or away from both
   pub data Stands : Path → Object → Type 0 where
-    Moved : (q : Path) (other : Object) (rest : Path) → q ≡ to ++ rest → object_at room (path ++ rest) ≡ Some other → Stands q other
-    Stayed : (q : Path) (other : Object) → is_at_or_below q path ≡ false → is_at_or_below q to ≡ false → object_at room q ≡ Some other → Stands q other
+    Moved : (q : Path) (other : Object) (rest : Path) → q ≡ to ++ rest
+        → object_at room (path ++ rest) ≡ Some other → Stands q other
+    Stayed : (q : Path) (other : Object) → is_at_or_below q path ≡ false
+        → is_at_or_below q to ≡ false → object_at room q ≡ Some other → Stands q other
 
   pub stands_after : (q : Path) (other : Object) → object_at (renamed room path to) q ≡ Some other → Stands q other
   stands_after q other is = by_test (is_at_or_below q to) refl (is_at_or_below q path) refl
@@ -135,5 +153,6 @@ module _ (room : Room) (lawful : IsRoom room) (path to : Path) (o : Object) (apa
           let same = rest_below to q below in
           Moved q other rest same (sym (at_new_place rest) ∙ ap (object_at (renamed room path to)) (sym same) ∙ is)
       by_test false off true below =
-          absurd (none_is_some other (sym (at_old_place (drop (length path) q)) ∙ ap (object_at (renamed room path to)) (sym (rest_below path q below)) ∙ is))
+          absurd (none_is_some other (sym (at_old_place (drop (length path) q))
+          ∙ ap (object_at (renamed room path to)) (sym (rest_below path q below)) ∙ is))
       by_test false off false off_path = Stayed q other off_path off (sym (away q off_path off) ∙ is)

@@ -1,5 +1,6 @@
 -- A room without the object at one path.
-use Rattle.std.proofs.Common.{◌≡◌, refl, ap, sym, ◌∙◌, arith, Bool, true, false, not, cond, List, [], ◌∷◌, ◌++◌, filter, None, Some, IsSome, is_some}
+use Rattle.std.proofs.Common.{◌≡◌, refl, ap, sym, ◌∙◌, arith, Bool, true, false, not, cond, List, [], ◌∷◌, ◌++◌}
+use Rattle.std.proofs.Common.{filter, None, Some, IsSome, is_some}
 use Rattle.std.specs.Map.{lookup}
 use Rattle.std.proofs.lemmas.Map.Entries.{lookup-filter-keys}
 use Rattle.room_records.specs.Names.{Name, Path, path_eq}
@@ -19,31 +20,38 @@ module _ (room : Room) (path : Path) where
       (λ k here. ap not (other_path path k (λ same. apart (same_path q k here ∙ sym same)))) room.objects
 
   -- what is there was there, and not at the path
-  pub left_was_there : (q : Path) (o : Object) → object_at (without room path) q ≡ Some o → (q ≡ path → ⊥) × (object_at room q ≡ Some o)
+  pub left_was_there : (q : Path) (o : Object) → object_at (without room path) q ≡ Some o
+      → (q ≡ path → ⊥) × (object_at room q ≡ Some o)
   left_was_there q o is =
-      let apart : q ≡ path → ⊥ = (λ same. none_is_some o (sym at_removed ∙ ap (object_at (without room path)) (sym same) ∙ is)) in
+      let apart : q ≡ path → ⊥ =
+      (λ same. none_is_some o (sym at_removed ∙ ap (object_at (without room path)) (sym same) ∙ is)) in
       (apart, sym (elsewhere_left q apart) ∙ is)
 
   some_was_there : (q : Path) → IsSome (object_at (without room path) q) → IsSome (object_at room q)
   some_was_there q is = by_test (path_eq q path) refl
     where
       by_test : (b : Bool) → path_eq q path ≡ b → IsSome (object_at room q)
-      by_test true here = absurd (let e : false ≡ true = sym (ap is_some at_removed) ∙ ap (λ p. is_some (object_at (without room path) p)) (sym (same_path q path here)) ∙ is in cc)
+      by_test true here = absurd (let e : false ≡ true = sym (ap is_some at_removed)
+          ∙ ap (λ p. is_some (object_at (without room path) p)) (sym (same_path q path here)) ∙ is in cc)
       by_test false there =
-          let apart : q ≡ path → ⊥ = (λ same. let e : false ≡ true = sym there ∙ ap (λ p. path_eq p path) same ∙ path_itself path in cc) in
+          let apart : q ≡ path → ⊥ =
+          (λ same. let e : false ≡ true = sym there ∙ ap (λ p. path_eq p path) same ∙ path_itself path in cc) in
           ap is_some (sym (elsewhere_left q apart)) ∙ is
 
-none_after_filter : (keeps : Path × Object → Bool) (test : Path → Bool) (es : List (Path × Object)) → lookup test es ≡ None → lookup test (filter keeps es) ≡ None
+none_after_filter : (keeps : Path × Object → Bool) (test : Path → Bool) (es : List (Path × Object))
+    → lookup test es ≡ None → lookup test (filter keeps es) ≡ None
 none_after_filter keeps test [] none = refl
 none_after_filter keeps test (e ∷ es) none = by_test (keeps e) (test e.0) refl none (none_after_filter keeps test es)
   where
-    by_test : (b t : Bool) → test e.0 ≡ t → cond t (Some e.1) (lookup test es) ≡ None → (lookup test es ≡ None → lookup test (filter keeps es) ≡ None)
+    by_test : (b t : Bool) → test e.0 ≡ t → cond t (Some e.1) (lookup test es) ≡ None
+        → (lookup test es ≡ None → lookup test (filter keeps es) ≡ None)
         → lookup test (cond b (e ∷ filter keeps es) (filter keeps es)) ≡ None
     by_test b true passes some rest = absurd (none_is_some e.1 (sym some))
     by_test true false fails none' rest = ap (λ t. cond t (Some e.1) (lookup test (filter keeps es))) fails ∙ rest none'
     by_test false false fails none' rest = rest none'
 
-filter_objects : (keeps : Path × Object → Bool) (es : List (Path × Object)) → AreObjects es → AreObjects (filter keeps es)
+filter_objects : (keeps : Path × Object → Bool) (es : List (Path × Object))
+    → AreObjects es → AreObjects (filter keeps es)
 filter_objects keeps [] once = tt
 filter_objects keeps (e ∷ es) once = by_test (keeps e) (filter_objects keeps es once.3)
   where
@@ -52,16 +60,19 @@ filter_objects keeps (e ∷ es) once = by_test (keeps e) (filter_objects keeps e
     by_test false rest = rest
 
 -- the removal of an object other than the root, with nothing in it, leaves a room
-pub without_is_room : (room : Room) (path : Path) → IsRoom room → ([] ≡ path → ⊥) → ((n : Name) → object_at room (path ++ n ∷ []) ≡ None) → IsRoom (without room path)
+pub without_is_room : (room : Room) (path : Path) → IsRoom room → ([] ≡ path → ⊥)
+    → ((n : Name) → object_at room (path ++ n ∷ []) ≡ None) → IsRoom (without room path)
 without_is_room room path lawful not_root empty = record {
   root = (lawful.root.0, elsewhere_left room path [] not_root ∙ lawful.root.1, lawful.root.2);
   parents = λ q n child is.
       let was = left_was_there room path (q ++ n ∷ []) child is in
       let above = lawful.parents q n child was.1 in
-      let apart : q ≡ path → ⊥ = (λ same. none_is_some child (sym (empty n) ∙ ap (λ p. object_at room (p ++ n ∷ [])) (sym same) ∙ was.1)) in
+      let apart : q ≡ path → ⊥ =
+      (λ same. none_is_some child (sym (empty n) ∙ ap (λ p. object_at room (p ++ n ∷ [])) (sym same) ∙ was.1)) in
       (above.0, elsewhere_left room path q apart ∙ above.1, above.2);
   once = filter_objects (λ (e : Path × Object). not (path_eq path e.0)) room.objects lawful.once;
   few = λ folder.
-      let fewer = no_more_children room (without room path) folder folder (λ n there. some_was_there room path (folder ++ n ∷ []) there) in
+      let fewer = no_more_children room (without room path) folder folder
+      (λ n there. some_was_there room path (folder ++ n ∷ []) there) in
       omega (arith, fewer, lawful.few folder);
 }

@@ -1,6 +1,7 @@
--- The checks of a command, in order. The first that fails gives the reply. Which right a command needs follows the meaning of
--- the bits in RFC 8881, section 6.2.1.3.1; the order, the codes and the limits are our own rules.
-use Rattle.std.specs.Prelude.{ℕ, ◌+◌, ◌-◌, Bool, true, false, not, ◌&&◌, ◌||◌, List, [], ◌∷◌, map, length, Option, None, Some, if◌then◌else◌, is_some, nat_lt, nat_le}
+-- The checks of a command, in order. The first that fails gives the reply. Which right a command needs follows the
+-- meaning of the bits in RFC 8881, section 6.2.1.3.1; the order, the codes and the limits are our own rules.
+use Rattle.std.specs.Prelude.{ℕ, ◌+◌, ◌-◌, Bool, true, false, not, ◌&&◌, ◌||◌, List, [], ◌∷◌, map, length, Option, None}
+use Rattle.std.specs.Prelude.{Some, if◌then◌else◌, is_some, nat_lt, nat_le}
 use Rattle.std.specs.List.{list_any, starts_with}
 use Rattle.room_acl.specs.declared.subject.Kind.{Kind}
 use Rattle.room_acl.specs.declared.subject.Kind.TheVariants.{File, Folder}
@@ -8,7 +9,8 @@ use Rattle.room_acl.specs.declared.access.Decision.{Decision}
 use Rattle.room_acl.specs.declared.access.Decision.TheVariants.{Allowed, Denied}
 use Rattle.room_acl.specs.declared.inheritance.ListFault.{ListFault}
 use Rattle.room_acl.specs.declared.inheritance.ListFault.TheVariants as L
-use Rattle.room_acl.specs.Bits.{read_data, list_directory, write_data, add_file, append_data, add_subdirectory, execute, delete_child, read_attributes, delete_object, read_acl, write_acl, write_owner}
+use Rattle.room_acl.specs.Bits.{read_data, list_directory, write_data, add_file, append_data, add_subdirectory, execute}
+use Rattle.room_acl.specs.Bits.{delete_child, read_attributes, delete_object, read_acl, write_acl, write_owner}
 use Rattle.room_acl.specs.SubjectModel.{SubjectModel}
 use Rattle.room_acl.specs.Access.{decision}
 use Rattle.room_acl.specs.Inheritance.{own_entries_fault}
@@ -16,8 +18,10 @@ use Rattle.room_records.specs.Limits.{max_names, max_children, max_document, max
 use Rattle.room_records.specs.Names.{Path, name_eq, path_eq}
 use Rattle.room_commands.specs.CommandModel.{CommandModel}
 use Rattle.room_commands.specs.CommandModel as C
-use Rattle.room_commands.specs.declared.reply.Fault.{Fault}
-use Rattle.room_commands.specs.declared.reply.Fault.TheVariants.{NoEnt, NotDir, IsDir, Exist, Access, NotEmpty, Inval, AttrNotSupp, FBig, TooDeep, FolderFull, RoomFull}
+use Rattle.room_commands.specs.declared.reply.RefusalCode.{RefusalCode}
+use Rattle.room_commands.specs.declared.reply.RefusalCode.TheVariants.{NoEnt, NotDir, IsDir, Exist, Access, NotEmpty}
+use Rattle.room_commands.specs.declared.reply.RefusalCode.TheVariants.{Inval, AttrNotSupp, FBig, TooDeep, FolderFull}
+use Rattle.room_commands.specs.declared.reply.RefusalCode.TheVariants.{RoomFull}
 use Rattle.room_records.specs.Room.{Object, Room, object_at, list_of, standing_of, parent_of, children}
 use Rattle.room_commands.specs.ReplyModel.{Refusal}
 use Rattle.room_commands.specs.SetList.{own_entries_of_setlist}
@@ -29,11 +33,11 @@ first_refusal (None ∷ others) = first_refusal others
 first_refusal (Some x ∷ others) = Some x
 
 -- a refusal other than that of a right
-abbrev pub refusal_without_place : Fault → Refusal
+abbrev pub refusal_without_place : RefusalCode → Refusal
 refusal_without_place code = record { code = code; place = None }
 
 -- refused with this code where a test holds
-abbrev pub refuse_if : Bool → Fault → Option Refusal
+abbrev pub refuse_if : Bool → RefusalCode → Option Refusal
 refuse_if true code = Some (refusal_without_place code)
 refuse_if false code = None
 
@@ -86,12 +90,13 @@ proper_prefixes [] = []
 proper_prefixes (name ∷ path) = [] ∷ map (λ front. name ∷ front) (proper_prefixes path)
 
 -- a folder on the way is there, is a folder, and allows EXECUTE
-abbrev pub prefix_fault : Room → SubjectModel → Path → Option Refusal
-prefix_fault room caller front = first_refusal (check_exists room front ∷ check_folder room front ∷ check_right room caller front execute ∷ [])
+abbrev pub prefix_refusal : Room → SubjectModel → Path → Option Refusal
+prefix_refusal room caller front =
+    first_refusal (check_exists room front ∷ check_folder room front ∷ check_right room caller front execute ∷ [])
 
 -- the walk: the first fault on the way to a path (our own rule)
 abbrev pub walk : Room → SubjectModel → Path → Option Refusal
-walk room caller path = first_refusal (map (prefix_fault room caller) (proper_prefixes path))
+walk room caller path = first_refusal (map (prefix_refusal room caller) (proper_prefixes path))
 
 -- the folder has room for one child more
 abbrev pub check_folder_full : Room → Path → Option Refusal
@@ -125,7 +130,8 @@ removal_refusal path (Some r) (Some s) = Some (record { code = Access; place = S
 
 -- DELETE on the object or DELETE_CHILD on its folder (RFC 8881, section 6.2.1.3.2, without its fallback to ADD_FILE)
 abbrev pub check_removal : Room → SubjectModel → Path → Option Refusal
-check_removal room caller path = removal_refusal path (check_right room caller path delete_object) (check_right room caller (parent_of path) delete_child)
+check_removal room caller path = removal_refusal path (check_right room caller path delete_object)
+    (check_right room caller (parent_of path) delete_child)
 
 -- what adding the object to another folder needs
 abbrev pub right_to_add : Room → Path → ℕ
@@ -134,7 +140,8 @@ right_to_add room path = if is_kind Folder (object_at room path) then add_subdir
 -- no object of the moved subtree would have too many names
 abbrev pub check_depth : Room → Path → Path → Option Refusal
 check_depth room path to =
-    refuse_if (list_any (λ (e : Path × Object). is_at_or_below e.0 path && nat_lt max_names (length to + (length e.0 - length path))) room.objects) TooDeep
+    refuse_if (list_any (λ (e : Path × Object).
+    is_at_or_below e.0 path && nat_lt max_names (length to + (length e.0 - length path))) room.objects) TooDeep
 
 -- the own entries are lawful
 abbrev pub check_lawful : Option ListFault → Option Refusal
@@ -148,17 +155,23 @@ kind_of (Some o) = o.kind
 
 -- the checks of each command (our own rule)
 abbrev pub checks : Room → SubjectModel → CommandModel → List (Option Refusal)
-checks room caller (C.Stat path) = walk room caller path ∷ check_exists room path ∷ check_right room caller path read_attributes ∷ []
-checks room caller (C.ListNames path) = walk room caller path ∷ check_exists room path ∷ check_folder room path ∷ check_right room caller path list_directory ∷ []
+checks room caller (C.Stat path) =
+    walk room caller path ∷ check_exists room path ∷ check_right room caller path read_attributes ∷ []
+checks room caller (C.ListNames path) = walk room caller path ∷ check_exists room path
+    ∷ check_folder room path ∷ check_right room caller path list_directory ∷ []
 checks room caller (C.Mkdir path) =
-    refuse_if (is_root path) Exist ∷ walk room caller path ∷ check_absent room path ∷ check_right room caller (parent_of path) add_subdirectory
+    refuse_if (is_root path) Exist ∷ walk room caller path ∷ check_absent room path
+    ∷ check_right room caller (parent_of path) add_subdirectory
     ∷ check_folder_full room (parent_of path) ∷ check_room_full room ∷ []
 checks room caller (C.Create bytes path) =
-    refuse_if (is_root path) Exist ∷ walk room caller path ∷ check_absent room path ∷ check_right room caller (parent_of path) add_file
+    refuse_if (is_root path) Exist ∷ walk room caller path ∷ check_absent room path
+    ∷ check_right room caller (parent_of path) add_file
     ∷ check_size (length bytes) ∷ check_folder_full room (parent_of path) ∷ check_room_full room ∷ []
-checks room caller (C.Read path) = walk room caller path ∷ check_exists room path ∷ check_file room path ∷ check_right room caller path read_data ∷ []
+checks room caller (C.Read path) =
+    walk room caller path ∷ check_exists room path ∷ check_file room path ∷ check_right room caller path read_data ∷ []
 checks room caller (C.Write bytes path) =
-    walk room caller path ∷ check_exists room path ∷ check_file room path ∷ check_right room caller path write_data ∷ check_size (length bytes) ∷ []
+    walk room caller path ∷ check_exists room path ∷ check_file room path
+    ∷ check_right room caller path write_data ∷ check_size (length bytes) ∷ []
 checks room caller (C.Append bytes path) =
     walk room caller path ∷ check_exists room path ∷ check_file room path ∷ check_right room caller path append_data
     ∷ check_size (length (bytes_at room path) + length bytes) ∷ []
@@ -167,12 +180,16 @@ checks room caller (C.Remove path) =
     ∷ refuse_if (nat_lt 0 (length (children room path))) NotEmpty ∷ []
 checks room caller (C.Rename path to) =
     refuse_if (is_root path || is_root to || is_at_or_below to path) Inval
-    ∷ walk room caller path ∷ check_exists room path ∷ walk room caller to ∷ check_absent room to ∷ check_removal room caller path
+    ∷ walk room caller path ∷ check_exists room path ∷ walk room caller to
+    ∷ check_absent room to ∷ check_removal room caller path
     ∷ check_right room caller (parent_of to) (right_to_add room path) ∷ check_depth room path to
     ∷ (if path_eq (parent_of path) (parent_of to) then None else check_folder_full room (parent_of to)) ∷ []
-checks room caller (C.GetList path) = walk room caller path ∷ check_exists room path ∷ check_right room caller path read_acl ∷ []
+checks room caller (C.GetList path) =
+    walk room caller path ∷ check_exists room path ∷ check_right room caller path read_acl ∷ []
 checks room caller (C.SetList aclflag entries path) =
     walk room caller path ∷ check_exists room path ∷ check_right room caller path write_acl
-    ∷ check_lawful (own_entries_fault (own_entries_of_setlist path aclflag entries) (kind_of (object_at room path))) ∷ []
-checks room caller (C.Chown group owner path) = walk room caller path ∷ check_exists room path ∷ check_right room caller path write_owner ∷ []
+    ∷ check_lawful (own_entries_fault (own_entries_of_setlist path aclflag entries) (kind_of (object_at room path)))
+    ∷ []
+checks room caller (C.Chown group owner path) =
+    walk room caller path ∷ check_exists room path ∷ check_right room caller path write_owner ∷ []
 checks room caller (C.Access mask path) = walk room caller path ∷ check_exists room path ∷ []

@@ -1,5 +1,6 @@
 -- The effect of a command: a room and a reply (our own rule).
-use Rattle.std.specs.Prelude.{ℕ, ◌+◌, not, List, [], ◌∷◌, ◌++◌, map, length, drop, Option, None, Some, if◌then◌else◌, bit_and}
+use Rattle.std.specs.Prelude.{ℕ, ◌+◌, not, List, [], ◌∷◌, ◌++◌, map, length, drop, Option, None, Some}
+use Rattle.std.specs.Prelude.{if◌then◌else◌, bit_and}
 use Rattle.std.specs.List.{filter}
 use Rattle.room_acl.specs.declared.subject.Kind.{Kind}
 use Rattle.room_acl.specs.declared.subject.Kind.TheVariants.{File, Folder}
@@ -10,7 +11,8 @@ use Rattle.room_records.specs.Names.{Path, path_eq}
 use Rattle.room_commands.specs.CommandModel.{CommandModel}
 use Rattle.room_commands.specs.CommandModel as C
 use Rattle.room_records.specs.Room.{Object, Room, object_at, list_of, standing_of, parent_of, children}
-use Rattle.room_commands.specs.ReplyModel.{ReplyModel, Done, Stat, Names, Size, Bytes, Entries, Allowed, Refused, Refusal, Attributes}
+use Rattle.room_commands.specs.ReplyModel.{ReplyModel, Done, Stat, Names, Size, Bytes, Entries, Allowed, Refused}
+use Rattle.room_commands.specs.ReplyModel.{Refusal, Attributes}
 use Rattle.room_commands.specs.SetList.{own_entries_of_setlist}
 use Rattle.room_commands.specs.Checks.{first_refusal, checks, bytes_at, is_at_or_below}
 
@@ -86,7 +88,8 @@ size_of room path Folder = length (children room path)
 
 -- what STAT answers
 abbrev pub attributes_of : Room → Path → Object → Attributes
-attributes_of room path o = record { aclflag = o.aclflag; group = o.group; kind = o.kind; owner = o.owner; size = size_of room path o.kind }
+attributes_of room path o =
+    record { aclflag = o.aclflag; group = o.group; kind = o.kind; owner = o.owner; size = size_of room path o.kind }
 
 -- what it replies where no check fails
 abbrev pub reply : Room → SubjectModel → CommandModel → ReplyModel

@@ -1,7 +1,9 @@
--- The rights that a command needs, by the meaning of the bits in RFC 8881, section 6.2.1.3.1. Which command is which operation is our own rule.
+-- The rights that a command needs, by the meaning of the bits in RFC 8881, section 6.2.1.3.1. Which command is which
+-- operation is our own rule.
 use Rattle.std.specs.Prelude.{ℕ, Bool, false, List, [], ◌∷◌, ◌++◌, map, Option, None, Some, is_none, IsTrue}
 use Rattle.std.specs.List.{list_any, list_all}
-use Rattle.room_acl.specs.Bits.{read_data, list_directory, write_data, add_file, append_data, add_subdirectory, execute, delete_child, read_attributes, delete_object, read_acl, write_acl, write_owner}
+use Rattle.room_acl.specs.Bits.{read_data, list_directory, write_data, add_file, append_data, add_subdirectory, execute}
+use Rattle.room_acl.specs.Bits.{delete_child, read_attributes, delete_object, read_acl, write_acl, write_owner}
 use Rattle.room_acl.specs.SubjectModel.{SubjectModel}
 use Rattle.room_acl.specs.Access.{refused_bit}
 use Rattle.room_records.specs.Names.{Path}
@@ -45,7 +47,8 @@ needs room (C.Read path) = need path read_data ∷ on_the_way path
 needs room (C.Write bytes path) = need path write_data ∷ on_the_way path
 needs room (C.Append bytes path) = need path append_data ∷ on_the_way path
 needs room (C.Remove path) = to_remove path ∷ on_the_way path
-needs room (C.Rename path to) = to_remove path ∷ need (parent_of to) (right_to_add room path) ∷ on_the_way path ++ on_the_way to
+needs room (C.Rename path to) =
+    to_remove path ∷ need (parent_of to) (right_to_add room path) ∷ on_the_way path ++ on_the_way to
 needs room (C.GetList path) = need path read_acl ∷ on_the_way path
 needs room (C.SetList aclflag entries path) = need path write_acl ∷ on_the_way path
 needs room (C.Chown group owner path) = need path write_owner ∷ on_the_way path

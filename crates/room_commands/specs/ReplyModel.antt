@@ -3,13 +3,13 @@ use Rattle.std.specs.Prelude.{ℕ, List, Option}
 use Rattle.room_acl.specs.declared.subject.Kind.{Kind}
 use Rattle.room_acl.specs.Entries.{EntryModel}
 use Rattle.room_records.specs.Names.{Name, Path}
-use Rattle.room_commands.specs.declared.reply.Fault.{Fault}
+use Rattle.room_commands.specs.declared.reply.RefusalCode.{RefusalCode}
 use Rattle.room_commands.specs.declared.reply.Reply.{Reply}
 use Rattle.room_commands.specs.declared.reply.Reply.TheVariants as R
 
 -- why a command was refused
 pub record Refusal : Type 0 where
-  pub code : Fault
+  pub code : RefusalCode
   -- the path and the bit of an access that was denied
   pub place : Option (Path × ℕ)
 

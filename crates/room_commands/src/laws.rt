@@ -42,11 +42,14 @@ pub fn a_success_had_every_right()
 /// written, and right after an APPEND what was there with the new bytes behind it.
 pub fn a_read_gives_what_was_written()
     ensures written { (room : Room) (caller : SubjectModel) (path : Path) (bytes : List ℕ) →
-        (IsRefused (effect room caller (Write bytes path)).reply → ⊥) → (IsRefused (effect room caller (Read path)).reply → ⊥) →
+        (IsRefused (effect room caller (Write bytes path)).reply → ⊥)
+        → (IsRefused (effect room caller (Read path)).reply → ⊥) →
         (effect (effect room caller (Write bytes path)).room caller (Read path)).reply ≡ Bytes bytes }
     ensures appended { (room : Room) (caller : SubjectModel) (path : Path) (bytes : List ℕ) →
-        (IsRefused (effect room caller (Append bytes path)).reply → ⊥) → (IsRefused (effect room caller (Read path)).reply → ⊥) →
-        (effect (effect room caller (Append bytes path)).room caller (Read path)).reply ≡ Bytes (bytes_at room path ++ bytes) }
+        (IsRefused (effect room caller (Append bytes path)).reply → ⊥)
+        → (IsRefused (effect room caller (Read path)).reply → ⊥) →
+        (effect (effect room caller (Append bytes path)).room caller (Read path)).reply
+        ≡ Bytes (bytes_at room path ++ bytes) }
 {}
 
 /// A RENAME moves a subtree: what stood at and below the old path stands at and below the new one,
@@ -54,7 +57,8 @@ pub fn a_read_gives_what_was_written()
 pub fn a_rename_moves_a_subtree()
     ensures moved { (room : Room) (caller : SubjectModel) (path to : Path) → IsRoom room →
         (IsRefused (effect room caller (Rename path to)).reply → ⊥) →
-        (rest : Path) → object_at (effect room caller (Rename path to)).room (to ++ rest) ≡ object_at room (path ++ rest) }
+        (rest : Path) → object_at (effect room caller (Rename path to)).room (to ++ rest)
+        ≡ object_at room (path ++ rest) }
     ensures gone { (room : Room) (caller : SubjectModel) (path to : Path) → IsRoom room →
         (IsRefused (effect room caller (Rename path to)).reply → ⊥) →
         (rest : Path) → object_at (effect room caller (Rename path to)).room (path ++ rest) ≡ None }
@@ -69,15 +73,20 @@ pub fn a_rename_moves_a_subtree()
 /// folders above it, and on nothing else in the room.
 pub fn a_list_is_own_entries_and_inherited_ones()
     ensures root { (room : Room) (o : Object) → object_at room [] ≡ Some o → list_of room [] ≡ o.own }
-    ensures below { (room : Room) (path : Path) (name : Name) (o : Object) → object_at room (path ++ name ∷ []) ≡ Some o →
-        list_of room (path ++ name ∷ []) ≡ o.own ++ (if follows o.aclflag then handed_down (list_of room path) o.kind else []) }
+    ensures below { (room : Room) (path : Path) (name : Name) (o : Object)
+        → object_at room (path ++ name ∷ []) ≡ Some o →
+        list_of room (path ++ name ∷ [])
+        ≡ o.own ++ (if follows o.aclflag then handed_down (list_of room path) o.kind else []) }
     ensures above { (room other : Room) (path : Path) →
-        ((front rest : Path) → path ≡ front ++ rest → object_at room front ≡ object_at other front) → list_of room path ≡ list_of other path }
+        ((front rest : Path) → path ≡ front ++ rest → object_at room front ≡ object_at other front)
+        → list_of room path ≡ list_of other path }
 {}
 
 /// A folder's names are those of the objects in it, each with its kind, rising strictly by bytes.
 pub fn a_folder_names_what_is_in_it()
     ensures names { (room : Room) (folder : Path) (name : Name) (kind : Kind) →
-        Contains (children room folder) (name, kind) ↔ ((o : Object) × (object_at room (folder ++ name ∷ []) ≡ Some o) × (o.kind ≡ kind)) }
-    ensures order { (room : Room) (folder : Path) → IsStrictlySortedBy name_cmp (map (λ (child : Name × Kind). child.0) (children room folder)) }
+        Contains (children room folder) (name, kind)
+        ↔ ((o : Object) × (object_at room (folder ++ name ∷ []) ≡ Some o) × (o.kind ≡ kind)) }
+    ensures order { (room : Room) (folder : Path)
+        → IsStrictlySortedBy name_cmp (map (λ (child : Name × Kind). child.0) (children room folder)) }
 {}

@@ -12,4 +12,4 @@ pub use laws::{
     a_list_is_own_entries_and_inherited_ones, a_read_gives_what_was_written,
     a_refused_command_leaves_the_room, a_rename_moves_a_subtree, a_success_had_every_right,
 };
-pub use reply::{Fault, Reply};
+pub use reply::{RefusalCode, Reply};

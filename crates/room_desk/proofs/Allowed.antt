@@ -11,7 +11,8 @@ use Rattle.room_wire.specs.Asks.EventModel.{EventModel, Open, Close, Slot}
 use Rattle.room_desk.specs.History.{History, state_after}
 use Rattle.room_desk.specs.Representation.{WasAllowed}
 
-none_if_not_refused : (room : Room) (caller : SubjectModel) (command : CommandModel) (o : Option Refusal) → (IsRefused (effect_by room caller command o).reply → ⊥) → o ≡ None
+none_if_not_refused : (room : Room) (caller : SubjectModel) (command : CommandModel) (o : Option Refusal)
+    → (IsRefused (effect_by room caller command o).reply → ⊥) → o ≡ None
 none_if_not_refused room caller command None h = refl
 none_if_not_refused room caller command (Some refusal) h = absurd (h tt)
 
@@ -20,4 +21,5 @@ had_rights start past (Open caller sid slots) = tt
 had_rights start past (Close caller sid) = tt
 had_rights start past (Slot q) = λ yes success.
     rights_of_success (state_after start past) q.caller q.command
-    (none_if_not_refused (state_after start past) q.caller q.command (first_refusal (checks (state_after start past) q.caller q.command)) success)
+    (none_if_not_refused (state_after start past) q.caller q.command
+    (first_refusal (checks (state_after start past) q.caller q.command)) success)

@@ -11,7 +11,8 @@ use Rattle.room_desk.specs.Representation.{RepresentsHistory}
 use Rattle.room_desk.proofs.Idle.{none_some}
 
 -- rows of a room with no session and no slot stand for the history without events
-pub stand_at_first : (start : Room) (r : Records) → RepresentsRoom r.objects start → ((sid : List ℕ) → r.session sid ≡ None) → ((sid : List ℕ) (slot : ℕ) → r.slot sid slot ≡ None)
+pub stand_at_first : (start : Room) (r : Records) → RepresentsRoom r.objects start
+    → ((sid : List ℕ) → r.session sid ≡ None) → ((sid : List ℕ) (slot : ℕ) → r.slot sid slot ≡ None)
     → RepresentsHistory start r []
 stand_at_first start r room no_session no_slot = record {
   room = room;
@@ -28,8 +29,10 @@ pub state_is_room : (start : Room) (past : History) → IsRoom start → AreLawf
 state_is_room start [] lawful commands = lawful
 state_is_room start (Open caller sid slots ∷ past) lawful commands = state_is_room start past lawful commands
 state_is_room start (Close caller sid ∷ past) lawful commands = state_is_room start past lawful commands
-state_is_room start (Slot q ∷ past) lawful commands = by_test (is_accepted past q) (state_is_room start past lawful commands.1)
+state_is_room start (Slot q ∷ past) lawful commands =
+    by_test (is_accepted past q) (state_is_room start past lawful commands.1)
   where
-    by_test : (b : Bool) → IsRoom (state_after start past) → IsRoom (cond b (effect (state_after start past) q.caller q.command).room (state_after start past))
+    by_test : (b : Bool) → IsRoom (state_after start past)
+        → IsRoom (cond b (effect (state_after start past) q.caller q.command).room (state_after start past))
     by_test true room = effect_is_room (state_after start past) q.caller q.command commands.0 room
     by_test false room = room

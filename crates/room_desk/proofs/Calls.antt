@@ -1,5 +1,5 @@
 -- Calls of a desk one after the other.
-use Rattle.std.proofs.Common.{◌≤◌, Option, arith}
+use Rattle.std.proofs.Common.{Option, arith}
 use Rattle.room_records.specs.declared.shelf.ShelfFault.{ShelfFault}
 use Rattle.room_records.specs.Shelf.{View, ShelfCall}
 use Rattle.room_desk.specs.Serving.{DeskCall}

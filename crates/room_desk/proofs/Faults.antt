@@ -5,7 +5,8 @@ use Rattle.room_records.specs.Shelf.{View, ShelfCall, ShelfRead, fault_in}
 use Rattle.room_records.proofs.Shelves.{call_then}
 
 -- the fault of a call after a read
-pub passed_on : {T : Type 0} (a b c : View) (fault : ShelfFault) (r : Result T ShelfFault) → IsErr r → IsErrAnd r (λ e. e ≡ fault)
+pub passed_on : {T : Type 0} (a b c : View) (fault : ShelfFault) (r : Result T ShelfFault)
+    → IsErr r → IsErrAnd r (λ e. e ≡ fault)
     → ShelfCall b c (Some fault) → ShelfRead a b None → ShelfCall a c (fault_in r)
 passed_on a b c fault (Ok x) err is second first = absurd cc
 passed_on a b c fault (Err e) err is second first =

@@ -1,5 +1,6 @@
 -- An event that changes nothing: the rows that stand for a history stand for the longer one too.
-use Rattle.std.proofs.Common.{◌≡◌, ℕ, refl, ap, sym, ◌∙◌, subst, Bool, true, false, not, cond, ◌||◌, List, [], ◌∷◌, Option, None, Some, is_some, option_map}
+use Rattle.std.proofs.Common.{◌≡◌, ℕ, refl, ap, sym, ◌∙◌, subst, Bool, true, false, not, cond, ◌||◌, List, [], ◌∷◌}
+use Rattle.std.proofs.Common.{Option, None, Some, is_some, option_map}
 use Rattle.std.specs.Prelude.{◌&&◌, nat_lt, if◌then◌else◌}
 use Rattle.std.specs.List.{list_any}
 use Rattle.std.specs.Str.{bytes_eq}
@@ -12,7 +13,9 @@ use Rattle.room_records.specs.Room.{Room}
 use Rattle.room_wire.specs.Asks.EventModel.{EventModel, Request, Open, Close, Slot}
 use Rattle.room_wire.specs.declared.answers.code.Code.TheVariants.{BadSession, BadSlot}
 use Rattle.room_desk.specs.AnswerModel.{AnswerModel, Reply, Refused, IsTurnedAway}
-use Rattle.room_desk.specs.History.{History, Session, session_of, with_event, opened_by, closes, is_open, is_open_for, slots_of, accepted, is_accepted, state_after, answer_open, answer_close, answer_unaccepted, answer_to, original_reply, changes_rows}
+use Rattle.room_desk.specs.History.{History, Session, session_of, with_event, opened_by, closes, is_open, is_open_for}
+use Rattle.room_desk.specs.History.{slots_of, accepted, is_accepted, state_after, answer_open, answer_close}
+use Rattle.room_desk.specs.History.{answer_unaccepted, answer_to, original_reply, changes_rows}
 use Rattle.room_desk.specs.Representation.{RepresentsHistory, session_row_of, is_open_session, slot_row_of, kept_after}
 use Rattle.room_desk.proofs.Refusals.{stand_after_refusal, state_stays}
 
@@ -26,41 +29,53 @@ none_some x e = cc
 abbrev later : Session → EventModel → Session
 later session event = record session { since = event ∷ session.since }
 
-row_if_open_stays : (sid : List ℕ) (session : Session) (event : EventModel) → is_open sid (later session event) ≡ is_open sid session
+row_if_open_stays : (sid : List ℕ) (session : Session) (event : EventModel)
+    → is_open sid (later session event) ≡ is_open sid session
     → session_row_of sid (later session event) ≡ session_row_of sid session
-row_if_open_stays sid session event same = (λ i. record { sid = sid; owner = session.owner; slots = session.slots; is_open = same i })
+row_if_open_stays sid session event same =
+    (λ i. record { sid = sid; owner = session.owner; slots = session.slots; is_open = same i })
 
 -- an OPEN of a name that was opened before
-pub row_after_open : (caller : SubjectModel) (name : List ℕ) (slots : ℕ) (sid : List ℕ) (o : Option Session) → (bytes_eq sid name ≡ true → o ≡ None → ⊥)
-    → option_map (session_row_of sid) (with_event o (opened_by sid (Open caller name slots)) (Open caller name slots)) ≡ option_map (session_row_of sid) o
+pub row_after_open : (caller : SubjectModel) (name : List ℕ) (slots : ℕ) (sid : List ℕ) (o : Option Session)
+    → (bytes_eq sid name ≡ true → o ≡ None → ⊥)
+    → option_map (session_row_of sid) (with_event o (opened_by sid (Open caller name slots)) (Open caller name slots))
+    ≡ option_map (session_row_of sid) o
 row_after_open caller name slots sid (Some session) used = refl
 row_after_open caller name slots sid None used = by_test (bytes_eq sid name) refl
   where
     by_test : (b : Bool) → bytes_eq sid name ≡ b
-        → option_map (session_row_of sid) (cond b (Some (record { owner = caller.name; slots = slots; since = [] })) None) ≡ None
+        → option_map (session_row_of sid)
+        (cond b (Some (record { owner = caller.name; slots = slots; since = [] })) None) ≡ None
     by_test true here = absurd (used here refl)
     by_test false there = refl
 
 -- a CLOSE that ends nothing
-pub row_after_close : (caller : SubjectModel) (name : List ℕ) (sid : List ℕ) (o : Option Session) → (bytes_eq sid name ≡ true → is_open_for sid caller o ≡ false)
+pub row_after_close : (caller : SubjectModel) (name : List ℕ) (sid : List ℕ) (o : Option Session)
+    → (bytes_eq sid name ≡ true → is_open_for sid caller o ≡ false)
     → option_map (session_row_of sid) (with_event o None (Close caller name)) ≡ option_map (session_row_of sid) o
 row_after_close caller name sid None ends_none = refl
 row_after_close caller name sid (Some session) ends_none =
-    ap Some (row_if_open_stays sid session (Close caller name) (by_tests (bytes_eq sid name) refl (bytes_eq session.owner caller.name) refl))
+    ap Some (row_if_open_stays sid session (Close caller name)
+    (by_tests (bytes_eq sid name) refl (bytes_eq session.owner caller.name) refl))
   where
     by_tests : (b : Bool) → bytes_eq sid name ≡ b → (c : Bool) → bytes_eq session.owner caller.name ≡ c
-        → not (closes sid session.owner (Close caller name) || list_any (closes sid session.owner) session.since) ≡ is_open sid session
-    by_tests false there c c_is = ap (λ t. not ((t && bytes_eq session.owner caller.name) || list_any (closes sid session.owner) session.since)) there
+        → not (closes sid session.owner (Close caller name) || list_any (closes sid session.owner) session.since)
+        ≡ is_open sid session
+    by_tests false there c c_is = ap (λ t.
+        not ((t && bytes_eq session.owner caller.name) || list_any (closes sid session.owner) session.since)) there
     by_tests true here false other =
-        ap (λ t. not ((t && bytes_eq session.owner caller.name) || list_any (closes sid session.owner) session.since)) here
+        ap (λ t. not ((t && bytes_eq session.owner caller.name) || list_any (closes sid session.owner) session.since))
+        here
         ∙ ap (λ t. not (t || list_any (closes sid session.owner) session.since)) other
     by_tests true here true own =
-        ap (λ t. not ((t && bytes_eq session.owner caller.name) || list_any (closes sid session.owner) session.since)) here
+        ap (λ t. not ((t && bytes_eq session.owner caller.name) || list_any (closes sid session.owner) session.since))
+        here
         ∙ ap (λ t. not (t || list_any (closes sid session.owner) session.since)) own
         ∙ sym (sym (ap (λ t. t && is_open sid session) own) ∙ ends_none here)
 
 -- whether a session is open is in its row
-pub open_in_row : (sid : List ℕ) (a b : Option Session) → option_map (session_row_of sid) a ≡ option_map (session_row_of sid) b → is_open_session sid a ≡ is_open_session sid b
+pub open_in_row : (sid : List ℕ) (a b : Option Session) → option_map (session_row_of sid) a
+    ≡ option_map (session_row_of sid) b → is_open_session sid a ≡ is_open_session sid b
 open_in_row sid a b same = as_row a ∙ ap open_by_row same ∙ sym (as_row b)
   where
     open_by_row : Option SessionRow → Bool
@@ -72,14 +87,19 @@ open_in_row sid a b same = as_row a ∙ ap open_by_row same ∙ sym (as_row b)
     as_row (Some session) = refl
 
 pub slot_by_row : (start : Room) (past : History) (event : EventModel) (sid : List ℕ) (slot : ℕ)
-    → option_map (session_row_of sid) (session_of (event ∷ past) sid) ≡ option_map (session_row_of sid) (session_of past sid)
-    → accepted (event ∷ past) sid slot ≡ accepted past sid slot → slot_row_of start (event ∷ past) sid slot ≡ slot_row_of start past sid slot
+    → option_map (session_row_of sid) (session_of (event ∷ past) sid)
+    ≡ option_map (session_row_of sid) (session_of past sid)
+    → accepted (event ∷ past) sid slot ≡ accepted past sid slot
+    → slot_row_of start (event ∷ past) sid slot ≡ slot_row_of start past sid slot
 slot_by_row start past event sid slot rows same =
-    ap (λ b. cond b (kept_after start (accepted (event ∷ past) sid slot)) None) (open_in_row sid (session_of (event ∷ past) sid) (session_of past sid) rows)
+    ap (λ b. cond b (kept_after start (accepted (event ∷ past) sid slot)) None)
+    (open_in_row sid (session_of (event ∷ past) sid) (session_of past sid) rows)
     ∙ ap (λ a. cond (is_open_session sid (session_of past sid)) (kept_after start a) None) same
 
-stand_later : (start : Room) (r : Records) (past : History) (event : EventModel) → state_after start (event ∷ past) ≡ state_after start past
-    → ((sid : List ℕ) → option_map (session_row_of sid) (session_of (event ∷ past) sid) ≡ option_map (session_row_of sid) (session_of past sid))
+stand_later : (start : Room) (r : Records) (past : History) (event : EventModel)
+    → state_after start (event ∷ past) ≡ state_after start past
+    → ((sid : List ℕ) → option_map (session_row_of sid) (session_of (event ∷ past) sid)
+    ≡ option_map (session_row_of sid) (session_of past sid))
     → ((sid : List ℕ) (slot : ℕ) → accepted (event ∷ past) sid slot ≡ accepted past sid slot)
     → RepresentsHistory start r past → RepresentsHistory start r (event ∷ past)
 stand_later start r past event state rows slots stand = record {
@@ -90,11 +110,13 @@ stand_later start r past event state rows slots stand = record {
 }
 
 -- the rows stay as they are where the event changes none
-pub stand_after_idle : (start : Room) (r : Records) (past : History) (event : EventModel) → changes_rows past event ≡ false → RepresentsHistory start r past → RepresentsHistory start r (event ∷ past)
+pub stand_after_idle : (start : Room) (r : Records) (past : History) (event : EventModel)
+    → changes_rows past event ≡ false → RepresentsHistory start r past → RepresentsHistory start r (event ∷ past)
 stand_after_idle start r past (Open caller name slots) idle stand =
     stand_later start r past (Open caller name slots) refl
     (λ sid. row_after_open caller name slots sid (session_of past sid)
-    (λ here unused. true≢false (sym (ap (λ o. not (is_some o)) (ap (session_of past) (sym ((bytes_decides sid name).0 here)) ∙ unused)) ∙ idle)))
+    (λ here unused. true≢false (sym
+    (ap (λ o. not (is_some o)) (ap (session_of past) (sym ((bytes_decides sid name).0 here)) ∙ unused)) ∙ idle)))
     (λ sid slot. refl) stand
 stand_after_idle start r past (Close caller name) idle stand =
     stand_later start r past (Close caller name) refl
@@ -103,7 +125,8 @@ stand_after_idle start r past (Close caller name) idle stand =
     (λ sid slot. refl) stand
 stand_after_idle start r past (Slot q) idle stand = stand_after_refusal start r past q idle stand
 
-pub state_after_idle : (start : Room) (past : History) (event : EventModel) → changes_rows past event ≡ false → state_after start (event ∷ past) ≡ state_after start past
+pub state_after_idle : (start : Room) (past : History) (event : EventModel)
+    → changes_rows past event ≡ false → state_after start (event ∷ past) ≡ state_after start past
 state_after_idle start past (Open caller name slots) idle = refl
 state_after_idle start past (Close caller name) idle = refl
 state_after_idle start past (Slot q) idle = state_stays start past q idle
@@ -113,10 +136,12 @@ abbrev pub slot_answer : Room → History → Request → Bool → Bool → Bool
 slot_answer start past q usable below taken =
     if not usable then Refused BadSession
     else (if not below then Refused BadSlot
-    else (if taken then Reply (original_reply start (record { request = q; before = past })) else answer_unaccepted start q (accepted past q.sid q.slot)))
+    else (if taken then Reply (original_reply start (record { request = q; before = past }))
+    else answer_unaccepted start q (accepted past q.sid q.slot)))
 
 -- what is refused outside the commands of slots changes nothing
-pub refused_is_idle : (start : Room) (past : History) (event : EventModel) → IsTurnedAway (answer_to start past event) → changes_rows past event ≡ false
+pub refused_is_idle : (start : Room) (past : History) (event : EventModel)
+    → IsTurnedAway (answer_to start past event) → changes_rows past event ≡ false
 refused_is_idle start past (Open caller sid slots) refused = by_session (session_of past sid) refused
   where
     by_session : (o : Option Session) → IsTurnedAway (answer_open caller sid slots o) → not (is_some o) ≡ false
@@ -124,7 +149,9 @@ refused_is_idle start past (Open caller sid slots) refused = by_session (session
     by_session (Some session) away = refl
 refused_is_idle start past (Close caller sid) refused = by_session (session_of past sid) refused
   where
-    by_owner : (session : Session) (b : Bool) → bytes_eq session.owner caller.name ≡ b → IsTurnedAway (answer_close caller (Some session)) → (bytes_eq session.owner caller.name && is_open sid session) ≡ false
+    by_owner : (session : Session) (b : Bool) → bytes_eq session.owner caller.name ≡ b
+        → IsTurnedAway (answer_close caller (Some session))
+        → (bytes_eq session.owner caller.name && is_open sid session) ≡ false
     by_owner session false other away = ap (λ b. b && is_open sid session) other
     by_owner session true own away = absurd (rw own at away)
 

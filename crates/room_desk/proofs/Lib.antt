@@ -2,7 +2,8 @@ pub mod Runs
 pub mod Refusals
 pub mod Acceptance
 pub mod Allowed
-pub mod Outcomes
+pub mod Results
+pub mod Crashes
 pub mod OpenClose
 pub mod Answers
 pub mod Closing
@@ -14,7 +15,7 @@ pub mod Repeats
 pub mod KeptRows
 pub mod Retries
 pub mod Beginnings
-mod Rows
+mod Examples
 pub mod Calls
 pub mod Faults
 pub mod Messages

@@ -1,5 +1,6 @@
 -- Answers to the messages of a stream, one after another, by a history.
-use Rattle.std.proofs.Common.{◌≡◌, ◌≤◌, ℕ, List, [], ◌∷◌, ◌++◌, refl, sym, ap, ◌∙◌, subst, arith, Result, Ok, Err, Option, inl, inr}
+use Rattle.std.proofs.Common.{◌≡◌, ℕ, List, [], ◌∷◌, ◌++◌, refl, sym, ap, ◌∙◌, subst, arith, Result}
+use Rattle.std.proofs.Common.{Ok, Err, Option, inl, inr}
 use Rattle.room_acl.specs.SubjectModel.{SubjectModel}
 use Rattle.room_records.specs.Room.{Room}
 use Rattle.room_records.specs.Shelf.{View}
@@ -22,6 +23,7 @@ use Rattle.room_desk.specs.History.{History}
 use Rattle.room_desk.specs.Representation.{StandsFor}
 use Rattle.room_desk.specs.Serving.{AnswersOrDelays, AnswersMessage, DeskCall, Answered, MayAnswer}
 use Rattle.room_desk.proofs.Calls.{no_call, calls_then}
+use Rattle.room_desk.proofs.Crashes.{nothing_settled}
 
 -- an answer that leaves the shelf as it was
 pub stays : (ask : Result AskModel WireFault) (s : View) (answered : AnswerModel)
@@ -34,35 +36,43 @@ stays ask s answered delays says = record {
   step = λ k start past stands. (past, says start past, stands);
   refused = λ h d away. refl;
   idle = λ h d start past stands idle. refl;
+  crash = λ k start past stands left may. inl may;
+  settled = λ k start past stands changes other. absurd (nothing_settled past ask answered delays changes other);
 }
 
-pub question_stays : (q : QuestionModel) (s : View) (answered : AnswerModel) → IsCheckAnswer (Ok q) answered → Answered (Ok (Check q)) s answered s
-question_stays q s answered (inl e) = stays (Ok (Check q)) s answered (λ event is. absurd (cc)) (λ start past. inl (e, refl))
-question_stays q s answered (inr e) = stays (Ok (Check q)) s answered (λ event is. absurd (cc)) (λ start past. inr (e, refl))
+pub question_stays : (q : QuestionModel) (s : View) (answered : AnswerModel)
+    → IsCheckAnswer (Ok q) answered → Answered (Ok (Check q)) s answered s
+question_stays q s answered (inl e) =
+    stays (Ok (Check q)) s answered (λ event is. absurd (cc)) (λ start past. inl (e, refl))
+question_stays q s answered (inr e) =
+    stays (Ok (Check q)) s answered (λ event is. absurd (cc)) (λ start past. inr (e, refl))
 
 -- a refusal changes nothing
-pub refusal_stays : (fault : WireFault) (ask : Result AskModel WireFault) (s : View) → DecodesAsk ask (Err fault) → Answered ask s (Refused (fault_code fault)) s
+pub refusal_stays : (fault : WireFault) (ask : Result AskModel WireFault) (s : View)
+    → DecodesAsk ask (Err fault) → Answered ask s (Refused (fault_code fault)) s
 refusal_stays BadRoute ask s h =
-    subst (λ a. Answered a s (Refused (fault_code BadRoute)) s) (sym h) (stays (Err BadRoute) s _ (λ event is. absurd (cc)) (λ start past. inl (refl, refl)))
+    subst (λ a. Answered a s (Refused (fault_code BadRoute)) s) (sym h)
+    (stays (Err BadRoute) s _ (λ event is. absurd (cc)) (λ start past. inl (refl, refl)))
 refusal_stays UnknownUser ask s h =
-    subst (λ a. Answered a s (Refused (fault_code UnknownUser)) s) (sym h) (stays (Err UnknownUser) s _ (λ event is. absurd (cc)) (λ start past. inl (refl, refl)))
+    subst (λ a. Answered a s (Refused (fault_code UnknownUser)) s) (sym h)
+    (stays (Err UnknownUser) s _ (λ event is. absurd (cc)) (λ start past. inl (refl, refl)))
 refusal_stays BadRequest ask s h =
-    subst (λ a. Answered a s (Refused (fault_code BadRequest)) s) (sym h) (stays (Err BadRequest) s _ (λ event is. absurd (cc)) (λ start past. inl (refl, refl)))
+    subst (λ a. Answered a s (Refused (fault_code BadRequest)) s) (sym h)
+    (stays (Err BadRequest) s _ (λ event is. absurd (cc)) (λ start past. inl (refl, refl)))
 refusal_stays Memory ask s h = stays ask s _ (λ event is. refl) (λ start past. inr (refl, refl))
-
-pub asked_is : (ask asked : Result AskModel WireFault) (before : View) (answered : AnswerModel) (after : View) → ask ≡ asked
-    → Answered asked before answered after → Answered ask before answered after
-asked_is ask asked before answered after e x = subst (λ a. Answered a before answered after) (sym e) x
 
 module _ {S : Type 0} (view : S → View) where
   -- the shelf after some messages
-  pub record Served (users : List SubjectModel) (before : S) (ms : List MessageModel) (out : List ℕ) (after : S) : Type 0 where
+  pub record Served (users : List SubjectModel) (before : S)
+      (ms : List MessageModel) (out : List ℕ) (after : S) : Type 0 where
     pub frame : DeskCall (view before) (view after)
     pub run : (view after).is_intact → (start : Room) (past : History) → StandsFor start past (view before)
-        → (next : History) × Outputs (λ (b : History) (m : MessageModel) (a : AnswerModel) (n : History). AnswersOrDelays start b (ask_of users m) a n) past ms out next
+        → (next : History) × Outputs (λ (b : History) (m : MessageModel) (a : AnswerModel) (n : History).
+        AnswersOrDelays start b (ask_of users m) a n) past ms out next
         × StandsFor start next (view after)
 
-  none : (users : List SubjectModel) (before after : S) (out : List ℕ) → out ≡ [] → after ≡ before → Served users before [] out after
+  none : (users : List SubjectModel) (before after : S) (out : List ℕ)
+      → out ≡ [] → after ≡ before → Served users before [] out after
   none users before after out e f = subst (λ s. Served users before [] out s) (sym f) (record {
     frame = no_call (view before);
     run = λ k start past stands. (past, (e, refl), stands);
@@ -82,12 +92,15 @@ module _ {S : Type 0} (view : S → View) where
       }
 
   -- the shelf after a stream that was served
-  pub record ServedStream (users : List SubjectModel) (before after : S) (left later old new : Option (List ℕ)) (why : Why) (count : ℕ) : Type 0 where
+  pub record ServedStream (users : List SubjectModel) (before after : S)
+      (left later old new : Option (List ℕ)) (why : Why) (count : ℕ) : Type 0 where
     pub frame : DeskCall (view before) (view after)
     pub run : (view after).is_intact → (start : Room) (past : History) → StandsFor start past (view before)
-        → (next : History) × Serves (AnswersMessage users start) past next left later old new why count × StandsFor start next (view after)
+        → (next : History) × Serves (AnswersMessage users start) past next left later old new why count
+        × StandsFor start next (view after)
 
-  pub served_stream : (users : List SubjectModel) (before after : S) (left later old new : Option (List ℕ)) (why : Why) (count : ℕ)
+  pub served_stream : (users : List SubjectModel) (before after : S)
+      (left later old new : Option (List ℕ)) (why : Why) (count : ℕ)
       → Serves (MayAnswer view users) before after left later old new why count
       → ServedStream users before after left later old new why count
   served_stream users before after left later old new why count y =
@@ -99,14 +112,18 @@ module _ {S : Type 0} (view : S → View) where
       }
 
 -- the end before the first read
-pub nothing_served : {S : Type 0} (may_answer : S → MessageModel → AnswerModel → S → Type 0) (s : S) (left old : Option (List ℕ)) → Serves may_answer s s left left old old W.Memory 0
-nothing_served may_answer s left old = ([], [], [], [], Consumes-nil left, (refl, refl), omega arith, (refl, refl, Appends-nil old))
+pub nothing_served : {S : Type 0} (may_answer : S → MessageModel → AnswerModel → S → Type 0)
+    (s : S) (left old : Option (List ℕ)) → Serves may_answer s s left left old old W.Memory 0
+nothing_served may_answer s left old =
+    ([], [], [], [], Consumes-nil left, (refl, refl), omega arith, (refl, refl, Appends-nil old))
 
-pub memory_end : (users : List SubjectModel) (start : Room) (past : History) (left old : Option (List ℕ)) → Serves (AnswersMessage users start) past past left left old old W.Memory 0
+pub memory_end : (users : List SubjectModel) (start : Room) (past : History) (left old : Option (List ℕ))
+    → Serves (AnswersMessage users start) past past left left old old W.Memory 0
 memory_end users start past left old = nothing_served (AnswersMessage users start) past left old
 
 -- an answer leaves the history or puts one event before it
-one_step : (start : Room) (past next : History) (ask : Result AskModel WireFault) (answered : AnswerModel) → AnswersOrDelays start past ask answered next → (events : List EventModel) × (next ≡ events ++ past)
+one_step : (start : Room) (past next : History) (ask : Result AskModel WireFault) (answered : AnswerModel)
+    → AnswersOrDelays start past ask answered next → (events : List EventModel) × (next ≡ events ++ past)
 one_step start past next (Ok (Check q)) answered (inl h) = ([], h.1)
 one_step start past next (Ok (Event e)) answered (inl h) = (e ∷ [], h.1)
 one_step start past next (Err f) answered (inl h) = ([], h.1)
@@ -115,7 +132,8 @@ one_step start past next (Ok (Event e)) answered (inr h) = ([], h.1)
 one_step start past next (Err f) answered (inr h) = ([], h.1)
 
 -- a stream that was served goes on with the history
-pub goes_on : (users : List SubjectModel) (start : Room) (past : History) (ms : List MessageModel) (out : List ℕ) (next : History) → Outputs (AnswersMessage users start) past ms out next
+pub goes_on : (users : List SubjectModel) (start : Room) (past : History) (ms : List MessageModel)
+    (out : List ℕ) (next : History) → Outputs (AnswersMessage users start) past ms out next
     → (events : List EventModel) × (next ≡ events ++ past)
 goes_on users start past [] out next h = ([], h.1)
 goes_on users start past (m ∷ ms) out next h =

@@ -1,5 +1,6 @@
 -- The same event again, right after itself: it gets the same answer, and changes nothing.
-use Rattle.std.proofs.Common.{◌≡◌, ℕ, suc, ◌+◌, ◌%◌, ◌^◌, refl, ap, sym, ◌∙◌, arith, Bool, true, false, not, cond, ◌||◌, List, [], ◌∷◌, length, Option, None, Some, is_some, nat_lt}
+use Rattle.std.proofs.Common.{◌≡◌, ℕ, suc, ◌+◌, ◌%◌, ◌^◌, refl, ap, sym, ◌∙◌, arith, Bool, true, false, not, cond, ◌||◌}
+use Rattle.std.proofs.Common.{List, [], ◌∷◌, length, Option, None, Some, is_some, nat_lt}
 use Rattle.std.specs.Prelude.{◌&&◌, ◌==◌, if◌then◌else◌}
 use Rattle.std.specs.List.{list_any}
 use Rattle.std.specs.Str.{bytes_eq}
@@ -7,17 +8,21 @@ use Rattle.std.proofs.lemmas.Bool.{and_parts, and_right, eqb-true, eq-eqb, ne_eq
 use Rattle.room_slots.specs.Slots.{next_number}
 use Rattle.room_records.specs.Room.{Room}
 use Rattle.room_commands.specs.ReplyModel.{Opened}
-use Rattle.room_wire.specs.declared.answers.code.Code.TheVariants.{BadSession, BadSlot, SeqMisordered, SeqFalseRetry, SessionTaken}
+use Rattle.room_wire.specs.declared.answers.code.Code.TheVariants.{BadSession, BadSlot, SeqMisordered, SeqFalseRetry}
+use Rattle.room_wire.specs.declared.answers.code.Code.TheVariants.{SessionTaken}
 use Rattle.room_wire.specs.Asks.EventModel.{EventModel, Request, Open, Close, Slot}
 use Rattle.room_wire.specs.Forms.Texts.{command_text, reply_text}
 use Rattle.room_desk.specs.AnswerModel.{Reply, Refused}
-use Rattle.room_desk.specs.History.{History, Session, session_of, with_event, opened_by, closes, is_open_for, slots_of, accepted, accepts, is_accepted, original_reply, replay, answer_open, answer_close, answer_unaccepted, answer_to, changes_rows}
+use Rattle.room_desk.specs.History.{History, Session, session_of, with_event, opened_by, closes, is_open_for, slots_of}
+use Rattle.room_desk.specs.History.{accepted, accepts, is_accepted, original_reply, replay, answer_open, answer_close}
+use Rattle.room_desk.specs.History.{answer_unaccepted, answer_to, changes_rows}
 use Rattle.room_desk.proofs.Refusals.{accepted_after}
 use Rattle.room_desk.proofs.Acceptance.{for_itself, number}
 use Rattle.room_desk.proofs.Idle.{itself, slot_answer}
 
 -- a request changes no session
-usable_after : (sid : List ℕ) (q r : Request) (o : Option Session) → is_open_for sid r.caller (with_event o None (Slot q)) ≡ is_open_for sid r.caller o
+usable_after : (sid : List ℕ) (q r : Request) (o : Option Session)
+    → is_open_for sid r.caller (with_event o None (Slot q)) ≡ is_open_for sid r.caller o
 usable_after sid q r None = refl
 usable_after sid q r (Some session) = refl
 
@@ -29,10 +34,13 @@ pub next_differs : (n : ℕ) → next_number n ≡ next_number (suc n) → ⊥
 next_differs n e = let f : (n + 1) % 2 ^ 32 ≡ (suc n + 1) % 2 ^ 32 = e in omega (arith, f)
 
 -- an accepted request is the first of its slot
-accepted_first : (past : History) (q : Request) → is_accepted past q ≡ true → accepted (Slot q ∷ past) q.sid q.slot ≡ record { request = q; before = past } ∷ accepted past q.sid q.slot
+accepted_first : (past : History) (q : Request) → is_accepted past q ≡ true
+    → accepted (Slot q ∷ past) q.sid q.slot ≡ record { request = q; before = past } ∷ accepted past q.sid q.slot
 accepted_first past q taken =
-    ap (λ b. cond (b && is_accepted past q) (record { request = q; before = past } ∷ accepted past q.sid q.slot) (accepted past q.sid q.slot)) (for_itself q)
-    ∙ ap (λ b. cond b (record { request = q; before = past } ∷ accepted past q.sid q.slot) (accepted past q.sid q.slot)) taken
+    ap (λ b. cond (b && is_accepted past q) (record { request = q; before = past } ∷ accepted past q.sid q.slot)
+    (accepted past q.sid q.slot)) (for_itself q)
+    ∙ ap (λ b. cond b (record { request = q; before = past } ∷ accepted past q.sid q.slot) (accepted past q.sid q.slot))
+    taken
 
 -- an accepted request is not accepted again
 pub not_accepted_again : (past : History) (q : Request) → is_accepted (Slot q ∷ past) q ≡ false
@@ -40,32 +48,40 @@ not_accepted_again past q = by_test (is_accepted past q) refl
   where
     by_test : (b : Bool) → is_accepted past q ≡ b → is_accepted (Slot q ∷ past) q ≡ false
     by_test true taken =
-        let count : length (accepted (Slot q ∷ past) q.sid q.slot) ≡ suc (length (accepted past q.sid q.slot)) = ap length (accepted_first past q taken) in
+        let count : length (accepted (Slot q ∷ past) q.sid q.slot) ≡ suc (length (accepted past q.sid q.slot)) =
+        ap length (accepted_first past q taken) in
         let parts = and_parts (is_open_for q.sid q.caller (session_of past q.sid)) _ taken in
-        let seq = eqb-true q.seq (next_number (length (accepted past q.sid q.slot))) (and_parts (nat_lt q.slot (slots_of (session_of past q.sid))) _ parts.1).1 in
+        let seq = eqb-true q.seq (next_number (length (accepted past q.sid q.slot)))
+        (and_parts (nat_lt q.slot (slots_of (session_of past q.sid))) _ parts.1).1 in
         let no_more : (q.seq == next_number (length (accepted (Slot q ∷ past) q.sid q.slot))) ≡ false =
-        ne_eqb q.seq (next_number (length (accepted (Slot q ∷ past) q.sid q.slot))) (λ e. next_differs (length (accepted past q.sid q.slot)) (sym seq ∙ e ∙ ap next_number count)) in
+        ne_eqb q.seq (next_number (length (accepted (Slot q ∷ past) q.sid q.slot)))
+        (λ e. next_differs (length (accepted past q.sid q.slot)) (sym seq ∙ e ∙ ap next_number count)) in
         and_right (is_open_for q.sid q.caller (session_of (Slot q ∷ past) q.sid)) _
         (and_right (nat_lt q.slot (slots_of (session_of (Slot q ∷ past) q.sid))) _ no_more)
     by_test false refused =
         ap (λ a. accepts (Slot q ∷ past) (length a) q) (accepted_after past q refused q.sid q.slot)
-        ∙ ap (λ b. b && (nat_lt q.slot (slots_of (session_of (Slot q ∷ past) q.sid)) && (q.seq == next_number (length (accepted past q.sid q.slot))))) (usable_after q.sid q q (session_of past q.sid))
-        ∙ ap (λ n. is_open_for q.sid q.caller (session_of past q.sid) && (nat_lt q.slot n && (q.seq == next_number (length (accepted past q.sid q.slot))))) (slots_after q (session_of past q.sid))
+        ∙ ap (λ b. b && (nat_lt q.slot (slots_of (session_of (Slot q ∷ past) q.sid)) && (q.seq
+        == next_number (length (accepted past q.sid q.slot))))) (usable_after q.sid q q (session_of past q.sid))
+        ∙ ap (λ n. is_open_for q.sid q.caller (session_of past q.sid) && (nat_lt q.slot n
+        && (q.seq == next_number (length (accepted past q.sid q.slot))))) (slots_after q (session_of past q.sid))
         ∙ refused
 
 -- the event again changes no row
 pub again_is_idle : (past : History) (event : EventModel) → changes_rows (event ∷ past) event ≡ false
 again_is_idle past (Open caller sid slots) = by_session (session_of past sid)
   where
-    by_session : (o : Option Session) → not (is_some (with_event o (opened_by sid (Open caller sid slots)) (Open caller sid slots))) ≡ false
-    by_session None = ap (λ b. not (is_some {T = Session} (cond b (Some (record { owner = caller.name; slots = slots; since = [] })) None))) (itself sid)
+    by_session : (o : Option Session)
+        → not (is_some (with_event o (opened_by sid (Open caller sid slots)) (Open caller sid slots))) ≡ false
+    by_session None = ap (λ b. not (is_some {T = Session}
+        (cond b (Some (record { owner = caller.name; slots = slots; since = [] })) None))) (itself sid)
     by_session (Some session) = refl
 again_is_idle past (Close caller sid) = by_session (session_of past sid)
   where
     by_owner : (session : Session) (b : Bool) → bytes_eq session.owner caller.name ≡ b
         → (b && not ((bytes_eq sid sid && b) || list_any (closes sid session.owner) session.since)) ≡ false
     by_owner session false other = refl
-    by_owner session true own = ap (λ b. not ((b && true) || list_any (closes sid session.owner) session.since)) (itself sid)
+    by_owner session true own =
+        ap (λ b. not ((b && true) || list_any (closes sid session.owner) session.since)) (itself sid)
 
     by_session : (o : Option Session) → is_open_for sid caller (with_event o None (Close caller sid)) ≡ false
     by_session None = refl
@@ -74,45 +90,62 @@ again_is_idle past (Slot q) = not_accepted_again past q
 
 -- the last accepted request of a slot, sent again
 answer_to_last : (start : Room) (past : History) (q : Request) → is_accepted past q ≡ true
-    → answer_unaccepted start q (record { request = q; before = past } ∷ accepted past q.sid q.slot) ≡ Reply (original_reply start (record { request = q; before = past }))
+    → answer_unaccepted start q (record { request = q; before = past } ∷ accepted past q.sid q.slot)
+    ≡ Reply (original_reply start (record { request = q; before = past }))
 answer_to_last start past q taken =
-    ap (λ b. if b then (if bytes_eq (command_text q.command) (command_text q.command) then replay start (record { request = q; before = past }) else Refused SeqFalseRetry) else Refused SeqMisordered)
-    (eq-eqb q.seq (length (record { request = q; before = past } ∷ accepted past q.sid q.slot) % 2 ^ 32) (number start past q taken))
-    ∙ ap (λ b. if b then replay start (record { request = q; before = past }) else Refused SeqFalseRetry) (itself (command_text q.command))
+    ap (λ b. if b then (if bytes_eq (command_text q.command) (command_text q.command) then replay start
+    (record { request = q; before = past }) else Refused SeqFalseRetry) else Refused SeqMisordered)
+    (eq-eqb q.seq (length (record { request = q; before = past } ∷ accepted past q.sid q.slot) % 2 ^ 32)
+    (number start past q taken))
+    ∙ ap (λ b. if b then replay start (record { request = q; before = past }) else Refused SeqFalseRetry)
+    (itself (command_text q.command))
 
 -- the same event again gets the same answer
-pub same_answer_again : (start : Room) (past : History) (event : EventModel) → answer_to start (event ∷ past) event ≡ answer_to start past event
+pub same_answer_again : (start : Room) (past : History) (event : EventModel)
+    → answer_to start (event ∷ past) event ≡ answer_to start past event
 same_answer_again start past (Open caller sid slots) = by_session (session_of past sid)
   where
-    by_session : (o : Option Session) → answer_open caller sid slots (with_event o (opened_by sid (Open caller sid slots)) (Open caller sid slots)) ≡ answer_open caller sid slots o
+    by_session : (o : Option Session) → answer_open caller sid slots
+        (with_event o (opened_by sid (Open caller sid slots)) (Open caller sid slots)) ≡ answer_open caller sid slots o
     by_session None =
-        ap (λ b. answer_open caller sid slots (cond b (Some (record { owner = caller.name; slots = slots; since = [] })) None)) (itself sid)
-        ∙ ap (λ b. if b then (if slots == slots then Reply (reply_text (Opened slots)) else Refused SessionTaken) else Refused SessionTaken) (itself caller.name)
+        ap (λ b. answer_open caller sid slots
+        (cond b (Some (record { owner = caller.name; slots = slots; since = [] })) None)) (itself sid)
+        ∙ ap (λ b. if b then (if slots == slots then Reply (reply_text (Opened slots)) else Refused SessionTaken)
+        else Refused SessionTaken) (itself caller.name)
         ∙ ap (λ b. if b then Reply (reply_text (Opened slots)) else Refused SessionTaken) (eq-eqb slots slots refl)
     by_session (Some session) = refl
 same_answer_again start past (Close caller sid) = by_session (session_of past sid)
   where
-    by_session : (o : Option Session) → answer_close caller (with_event o None (Close caller sid)) ≡ answer_close caller o
+    by_session : (o : Option Session)
+        → answer_close caller (with_event o None (Close caller sid)) ≡ answer_close caller o
     by_session None = refl
     by_session (Some session) = refl
 same_answer_again start past (Slot q) = by_test (is_accepted past q) refl
   where
-    usable : is_open_for q.sid q.caller (session_of (Slot q ∷ past) q.sid) ≡ is_open_for q.sid q.caller (session_of past q.sid)
+    usable : is_open_for q.sid q.caller (session_of (Slot q ∷ past) q.sid)
+        ≡ is_open_for q.sid q.caller (session_of past q.sid)
     usable = usable_after q.sid q q (session_of past q.sid)
 
-    below : nat_lt q.slot (slots_of (session_of (Slot q ∷ past) q.sid)) ≡ nat_lt q.slot (slots_of (session_of past q.sid))
+    below : nat_lt q.slot (slots_of (session_of (Slot q ∷ past) q.sid))
+        ≡ nat_lt q.slot (slots_of (session_of past q.sid))
     below = ap (nat_lt q.slot) (slots_after q (session_of past q.sid))
 
-    by_test : (b : Bool) → is_accepted past q ≡ b → answer_to start (Slot q ∷ past) (Slot q) ≡ answer_to start past (Slot q)
+    by_test : (b : Bool) → is_accepted past q ≡ b
+        → answer_to start (Slot q ∷ past) (Slot q) ≡ answer_to start past (Slot q)
     by_test true taken =
         (λ i. slot_answer start (Slot q ∷ past) q (usable i) (below i) (not_accepted_again past q i))
         ∙ ap (λ a. if not (is_open_for q.sid q.caller (session_of past q.sid)) then Refused BadSession
-        else (if not (nat_lt q.slot (slots_of (session_of past q.sid))) then Refused BadSlot else answer_unaccepted start q a)) (accepted_first past q taken)
+        else (if not (nat_lt q.slot (slots_of (session_of past q.sid))) then Refused BadSlot
+        else answer_unaccepted start q a)) (accepted_first past q taken)
         ∙ ap (λ a. if not (is_open_for q.sid q.caller (session_of past q.sid)) then Refused BadSession
-        else (if not (nat_lt q.slot (slots_of (session_of past q.sid))) then Refused BadSlot else a)) (answer_to_last start past q taken)
-        ∙ ap (slot_answer start past q (is_open_for q.sid q.caller (session_of past q.sid)) (nat_lt q.slot (slots_of (session_of past q.sid)))) (sym taken)
+        else (if not (nat_lt q.slot (slots_of (session_of past q.sid))) then Refused BadSlot else a))
+        (answer_to_last start past q taken)
+        ∙ ap (slot_answer start past q (is_open_for q.sid q.caller (session_of past q.sid))
+        (nat_lt q.slot (slots_of (session_of past q.sid)))) (sym taken)
     by_test false refused =
         (λ i. slot_answer start (Slot q ∷ past) q (usable i) (below i) (not_accepted_again past q i))
         ∙ ap (λ a. if not (is_open_for q.sid q.caller (session_of past q.sid)) then Refused BadSession
-        else (if not (nat_lt q.slot (slots_of (session_of past q.sid))) then Refused BadSlot else answer_unaccepted start q a)) (accepted_after past q refused q.sid q.slot)
-        ∙ ap (slot_answer start past q (is_open_for q.sid q.caller (session_of past q.sid)) (nat_lt q.slot (slots_of (session_of past q.sid)))) (sym refused)
+        else (if not (nat_lt q.slot (slots_of (session_of past q.sid))) then Refused BadSlot
+        else answer_unaccepted start q a)) (accepted_after past q refused q.sid q.slot)
+        ∙ ap (slot_answer start past q (is_open_for q.sid q.caller (session_of past q.sid))
+        (nat_lt q.slot (slots_of (session_of past q.sid)))) (sym refused)

@@ -1,5 +1,6 @@
 -- Events that are taken in turn go on by one.
-use Rattle.std.proofs.Common.{◌≡◌, ℕ, ◌+◌, ◌<◌, List, [], ◌∷◌, ◌++◌, map, take, length, get_or, refl, ap, ◌∙◌, sym, subst}
+use Rattle.std.proofs.Common.{◌≡◌, ℕ, ◌+◌, ◌<◌, List, [], ◌∷◌, ◌++◌, map, take, length, get_or}
+use Rattle.std.proofs.Common.{refl, ap, ◌∙◌, sym, subst}
 use Rattle.std.proofs.lemmas.List.{take_more, map-append}
 use Rattle.room_wire.specs.Asks.EventModel.{EventModel, event_model}
 use Rattle.room_wire.specs.declared.asks.event.Event.{Event}
@@ -8,8 +9,10 @@ use Rattle.room_desk.specs.AnswerModel.{AnswerModel, answer_model}
 use Rattle.room_desk.specs.Representation.{InTurn}
 
 module _ {S : Type 0} (answers : S → EventModel → AnswerModel → S → Type 0) where
-  pub in_turn_more : (before mid after : S) (events : List EventModel) (told : List AnswerModel) (event : EventModel) (answered : AnswerModel) →
-      InTurn answers before events told mid → answers mid event answered after → InTurn answers before (events ++ event ∷ []) (told ++ answered ∷ []) after
+  pub in_turn_more : (before mid after : S) (events : List EventModel)
+      (told : List AnswerModel) (event : EventModel) (answered : AnswerModel) →
+      InTurn answers before events told mid → answers mid event answered after
+      → InTurn answers before (events ++ event ∷ []) (told ++ answered ∷ []) after
   in_turn_more before mid after [] [] event answered is step =
       (after, (let P : S → Type 0 = λ s. answers s event answered after in subst P is step), refl)
   in_turn_more before mid after [] (a ∷ others) event answered none step = absurd none
@@ -18,13 +21,18 @@ module _ {S : Type 0} (answers : S → EventModel → AnswerModel → S → Type
       (r.0, r.1, in_turn_more r.0 mid after es others event answered r.2 step)
 
   -- the same as the loop over the events goes on
-  pub in_turn_at : (before mid after : S) (events : List Event) (i : ℕ) (event : Event) (old new : List Answer) (answered : Answer) →
+  pub in_turn_at : (before mid after : S) (events : List Event) (i : ℕ)
+      (event : Event) (old new : List Answer) (answered : Answer) →
       i < length events → event ≡ get_or events i event → new ≡ old ++ answered ∷ []
-      → InTurn answers before (map event_model (take i events)) (map answer_model old) mid → answers mid (event_model event) (answer_model answered) after
+      → InTurn answers before (map event_model (take i events)) (map answer_model old) mid
+      → answers mid (event_model event) (answer_model answered) after
       → InTurn answers before (map event_model (take (i + 1) events)) (map answer_model new) after
   in_turn_at before mid after events i event old new answered below is grown so_far step =
       let es : map event_model (take (i + 1) events) ≡ map event_model (take i events) ++ event_model event ∷ [] =
-      ap (map event_model) (take_more events i event below) ∙ map-append event_model (take i events) (get_or events i event ∷ [])
+      ap (map event_model) (take_more events i event below)
+      ∙ map-append event_model (take i events) (get_or events i event ∷ [])
       ∙ ap (λ e. map event_model (take i events) ++ event_model e ∷ []) (sym is) in
-      let as_told : map answer_model new ≡ map answer_model old ++ answer_model answered ∷ [] = ap (map answer_model) grown ∙ map-append answer_model old (answered ∷ []) in
-      rw (es, as_told) (in_turn_more before mid after (map event_model (take i events)) (map answer_model old) (event_model event) (answer_model answered) so_far step)
+      let as_told : map answer_model new ≡ map answer_model old ++ answer_model answered ∷ [] =
+      ap (map answer_model) grown ∙ map-append answer_model old (answered ∷ []) in
+      rw (es, as_told) (in_turn_more before mid after (map event_model (take i events))
+      (map answer_model old) (event_model event) (answer_model answered) so_far step)

@@ -1,7 +1,8 @@
--- Histories: whose a session is, which requests are accepted, what the room is, and what is answered.
--- Slots and their numbers are those of RFC 8881, sections 2.10.6.1 and 18.46; who owns a session name, when it is open, and that
--- the first number is 1 are our own rules.
-use Rattle.std.specs.Prelude.{◌≡◌, ℕ, ◌%◌, ◌^◌, Bool, true, false, not, ◌&&◌, ◌==◌, List, [], ◌∷◌, length, Option, None, Some, if◌then◌else◌, nat_lt, is_some}
+-- Histories: whose a session is, which requests are accepted, what the room is, and what is answered. Slots and their
+-- numbers are those of RFC 8881, sections 2.10.6.1 and 18.46; who owns a session name, when it is open, and that the
+-- first number is 1 are our own rules.
+use Rattle.std.specs.Prelude.{◌≡◌, ℕ, ◌%◌, ◌^◌, Bool, true, false, not, ◌&&◌, ◌==◌, List, [], ◌∷◌, length, Option}
+use Rattle.std.specs.Prelude.{None, Some, if◌then◌else◌, nat_lt, is_some}
 use Rattle.std.specs.List.{list_any}
 use Rattle.std.specs.Str.{bytes_eq}
 use Rattle.room_acl.specs.SubjectModel.{SubjectModel}
@@ -10,7 +11,8 @@ use Rattle.room_records.specs.Room.{Room}
 use Rattle.room_commands.specs.ReplyModel.{Done, Opened}
 use Rattle.room_commands.specs.Lawful.{IsLawful}
 use Rattle.room_commands.specs.Effect.{effect}
-use Rattle.room_wire.specs.declared.answers.code.Code.TheVariants.{BadSession, BadSlot, SeqMisordered, SeqFalseRetry, SessionTaken}
+use Rattle.room_wire.specs.declared.answers.code.Code.TheVariants.{BadSession, BadSlot, SeqMisordered, SeqFalseRetry}
+use Rattle.room_wire.specs.declared.answers.code.Code.TheVariants.{SessionTaken}
 use Rattle.room_wire.specs.Asks.EventModel.{EventModel, Request, Open, Close, Slot}
 use Rattle.room_wire.specs.Forms.Texts.{command_text, reply_text}
 use Rattle.room_desk.specs.AnswerModel.{AnswerModel, Reply, Refused}
@@ -27,7 +29,8 @@ pub record Session : Type 0 where
 
 -- the session that an event would open, if the name was never opened
 abbrev pub opened_by : List ℕ → EventModel → Option Session
-opened_by sid (Open caller name slots) = if bytes_eq sid name then Some (record { owner = caller.name; slots = slots; since = [] }) else None
+opened_by sid (Open caller name slots) =
+    if bytes_eq sid name then Some (record { owner = caller.name; slots = slots; since = [] }) else None
 opened_by sid (Close caller name) = None
 opened_by sid (Slot request) = None
 
@@ -66,10 +69,12 @@ pub record Accepted : Type 0 where
   pub request : Request
   pub before : History
 
--- a request that is accepted where so many were before it in its slot: its number is the one after their count, modulo 2^32 (RFC 8881, section 2.10.6.1)
+-- a request that is accepted where so many were before it in its slot: its number is the one after their count, modulo
+-- 2^32 (RFC 8881, section 2.10.6.1)
 abbrev pub accepts : History → ℕ → Request → Bool
 accepts past count q =
-    is_open_for q.sid q.caller (session_of past q.sid) && (nat_lt q.slot (slots_of (session_of past q.sid)) && (q.seq == next_number count))
+    is_open_for q.sid q.caller (session_of past q.sid)
+    && (nat_lt q.slot (slots_of (session_of past q.sid)) && (q.seq == next_number count))
 
 -- the request is to this slot
 abbrev pub is_for : List ℕ → ℕ → Request → Bool
@@ -94,7 +99,8 @@ abbrev pub state_after : Room → History → Room
 state_after start [] = start
 state_after start (Open caller name slots ∷ past) = state_after start past
 state_after start (Close caller name ∷ past) = state_after start past
-state_after start (Slot q ∷ past) = if is_accepted past q then (effect (state_after start past) q.caller q.command).room else state_after start past
+state_after start (Slot q ∷ past) = if is_accepted past q
+    then (effect (state_after start past) q.caller q.command).room else state_after start past
 
 -- the commands of all requests are lawful
 abbrev pub AreLawful : History → Type 0
@@ -111,12 +117,14 @@ original_reply start a = reply_text (effect (state_after start a.before) a.reque
 abbrev pub replay : Room → Accepted → AnswerModel
 replay start a = Reply (original_reply start a)
 
--- a request that is not accepted, in a session that its caller may use: a repeat, a false retry (RFC 8881, section 2.10.6.1.3.1) or misordered
+-- a request that is not accepted, in a session that its caller may use:
+-- a repeat, a false retry (RFC 8881, section 2.10.6.1.3.1) or misordered
 abbrev pub answer_unaccepted : Room → Request → List Accepted → AnswerModel
 answer_unaccepted start q [] = Refused SeqMisordered
 answer_unaccepted start q (last ∷ earlier) =
     if q.seq == length (last ∷ earlier) % 2 ^ 32
-    then (if bytes_eq (command_text q.command) (command_text last.request.command) then replay start last else Refused SeqFalseRetry)
+    then (if bytes_eq (command_text q.command) (command_text last.request.command)
+    then replay start last else Refused SeqFalseRetry)
     else Refused SeqMisordered
 
 -- an OPEN of an unused name, or of an open one of the caller with the same slots, succeeds (our own rule)
@@ -124,13 +132,15 @@ abbrev pub answer_open : SubjectModel → List ℕ → ℕ → Option Session �
 answer_open caller sid slots None = Reply (reply_text (Opened slots))
 answer_open caller sid slots (Some session) =
     if bytes_eq session.owner caller.name
-    then (if is_open sid session then (if slots == session.slots then Reply (reply_text (Opened slots)) else Refused SessionTaken) else Refused BadSession)
+    then (if is_open sid session then (if slots == session.slots
+    then Reply (reply_text (Opened slots)) else Refused SessionTaken) else Refused BadSession)
     else Refused SessionTaken
 
 -- a CLOSE by the owner succeeds, also of a closed session (our own rule)
 abbrev pub answer_close : SubjectModel → Option Session → AnswerModel
 answer_close caller None = Refused BadSession
-answer_close caller (Some session) = if bytes_eq session.owner caller.name then Reply (reply_text Done) else Refused BadSession
+answer_close caller (Some session) =
+    if bytes_eq session.owner caller.name then Reply (reply_text Done) else Refused BadSession
 
 -- what an event is answered after a past
 abbrev pub answer_to : Room → History → EventModel → AnswerModel
@@ -142,7 +152,8 @@ answer_to start past (Slot q) =
     else (if is_accepted past q then Reply (original_reply start (record { request = q; before = past }))
     else answer_unaccepted start q (accepted past q.sid q.slot)))
 
--- an OPEN of an unused name, a CLOSE that ends a session, and an accepted request change what is kept; nothing else does
+-- an OPEN of an unused name, a CLOSE that ends a session, and
+-- an accepted request change what is kept; nothing else does
 abbrev pub changes_rows : History → EventModel → Bool
 changes_rows past (Open caller sid slots) = not (is_some (session_of past sid))
 changes_rows past (Close caller sid) = is_open_for sid caller (session_of past sid)

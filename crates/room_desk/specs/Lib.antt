@@ -1,6 +1,7 @@
 pub mod AnswerModel
+pub mod Crashes
 pub mod History
 pub mod Representation
-pub mod Rows
+pub mod RowAnswers
 pub mod Serving
 pub mod Verdicts

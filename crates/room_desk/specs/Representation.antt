@@ -1,5 +1,6 @@
 -- Rows that stand for a history, and runs (our own rules).
-use Rattle.std.specs.Prelude.{◌≡◌, ◌⊎◌, ℕ, ◌%◌, ◌^◌, Bool, true, false, List, [], ◌∷◌, length, Option, None, Some, if◌then◌else◌}
+use Rattle.std.specs.Prelude.{◌≡◌, ◌⊎◌, ℕ, ◌%◌, ◌^◌, Bool, true, false, List, [], ◌∷◌, length, Option}
+use Rattle.std.specs.Prelude.{None, Some, if◌then◌else◌}
 use Rattle.std.specs.Option.{option_map}
 use Rattle.room_slots.specs.KeptModel.{KeptModel}
 use Rattle.room_records.specs.declared.session.SessionRow.{SessionRow}
@@ -15,11 +16,13 @@ use Rattle.room_wire.specs.declared.answers.code.Code.TheVariants.{Delay}
 use Rattle.room_wire.specs.Asks.EventModel.{EventModel, Open, Close, Slot}
 use Rattle.room_wire.specs.Forms.Texts.{command_text}
 use Rattle.room_desk.specs.AnswerModel.{AnswerModel, Refused}
-use Rattle.room_desk.specs.History.{History, Session, session_of, is_open, Accepted, accepted, is_accepted, state_after, original_reply, answer_to}
+use Rattle.room_desk.specs.History.{History, Session, session_of, is_open, Accepted, accepted, is_accepted, state_after}
+use Rattle.room_desk.specs.History.{original_reply, answer_to, changes_rows}
 
 -- the row of a session
 abbrev pub session_row_of : List ℕ → Session → SessionRow
-session_row_of sid session = record { sid = sid; owner = session.owner; slots = session.slots; is_open = is_open sid session }
+session_row_of sid session =
+    record { sid = sid; owner = session.owner; slots = session.slots; is_open = is_open sid session }
 
 -- the name was opened and not closed since
 abbrev pub is_open_session : List ℕ → Option Session → Bool
@@ -51,6 +54,10 @@ pub record RepresentsHistory (start : Room) (r : Records) (past : History) : Typ
   pub sessions : (sid : List ℕ) → r.session sid ≡ option_map (session_row_of sid) (session_of past sid)
   pub slots : (sid : List ℕ) (slot : ℕ) → r.slot sid slot ≡ slot_row_of start past sid slot
 
+-- the rows stand for the history with this event, which changes what is kept
+abbrev pub StandsWith : Room → History → EventModel → Records → Type 0
+StandsWith start past event r = (changes_rows past event ≡ true) × RepresentsHistory start r (event ∷ past)
+
 -- while a shelf is available, it is laid out and its rows stand for a history that began with this room
 abbrev pub StandsFor : Room → History → View → Type 0
 StandsFor start past shelf = shelf.is_available → shelf.is_laid_out × RepresentsHistory start shelf.records past
@@ -61,7 +68,8 @@ Step start past event answered next =
     ((answered ≡ answer_to start past event) × (next ≡ event ∷ past)) ⊎ ((answered ≡ Refused Delay) × (next ≡ past))
 
 -- events in turn, with one answer for each: each is answered from what the one before it left
-abbrev pub InTurn : {S : Type 0} → (S → EventModel → AnswerModel → S → Type 0) → S → List EventModel → List AnswerModel → S → Type 0
+abbrev pub InTurn : {S : Type 0} → (S → EventModel → AnswerModel → S → Type 0)
+    → S → List EventModel → List AnswerModel → S → Type 0
 InTurn answers before [] [] after = after ≡ before
 InTurn {S} answers before (event ∷ events) (answered ∷ later) after =
     (next : S) × answers before event answered next × InTurn answers next events later after
@@ -77,4 +85,5 @@ abbrev pub WasAllowed : Room → History → EventModel → Type 0
 WasAllowed start past (Open caller sid slots) = Unit {0}
 WasAllowed start past (Close caller sid) = Unit {0}
 WasAllowed start past (Slot q) =
-    is_accepted past q ≡ true → (IsRefused (effect (state_after start past) q.caller q.command).reply → ⊥) → NeedsAllowed (state_after start past) q.caller q.command
+    is_accepted past q ≡ true → (IsRefused (effect (state_after start past) q.caller q.command).reply → ⊥)
+    → NeedsAllowed (state_after start past) q.caller q.command

@@ -1,6 +1,7 @@
 -- Runs of messages over a room (our own rules).
-use Rattle.std.specs.Prelude.{◌≡◌, ◌≢◌, ℕ, ◌≤◌, ◌⊎◌, Bool, false, List, ◌∷◌, Result, Ok, Err}
+use Rattle.std.specs.Prelude.{◌≡◌, ◌≢◌, ℕ, ◌≤◌, ◌⊎◌, Bool, true, false, List, ◌∷◌, Result, Ok, Err}
 use Rattle.room_acl.specs.SubjectModel.{SubjectModel}
+use Rattle.room_records.specs.Records.{Records}
 use Rattle.room_records.specs.Room.{Room}
 use Rattle.room_records.specs.Shelf.{View}
 use Rattle.room_wire.specs.declared.answers.code.Code.TheVariants.{Delay}
@@ -12,8 +13,9 @@ use Rattle.room_wire.specs.Serving.CheckService.{fault_code}
 use Rattle.room_wire.specs.Messages.MessageModel.{MessageModel}
 use Rattle.room_wire.specs.Serving.Outputs.{Outputs}
 use Rattle.room_desk.specs.AnswerModel.{AnswerModel, Reply, Refused, IsTurnedAway}
+use Rattle.room_desk.specs.Crashes.{LeavesOldOrNew, LeavesNew}
 use Rattle.room_desk.specs.History.{History, answer_to, changes_rows}
-use Rattle.room_desk.specs.Representation.{RepresentsHistory, StandsFor}
+use Rattle.room_desk.specs.Representation.{RepresentsHistory, StandsFor, StandsWith}
 
 -- what was asked is answered: a question and a refusal change nothing, and an event joins the history
 abbrev pub AnswersAsk : Room → History → Result AskModel WireFault → AnswerModel → History → Type 0
@@ -23,13 +25,15 @@ AnswersAsk start past (Err fault) answered next = (answered ≡ Refused (fault_c
 
 -- it is answered, or is answered DELAY and changes nothing
 abbrev pub AnswersOrDelays : Room → History → Result AskModel WireFault → AnswerModel → History → Type 0
-AnswersOrDelays start past ask answered next = AnswersAsk start past ask answered next ⊎ ((answered ≡ Refused Delay) × (next ≡ past))
+AnswersOrDelays start past ask answered next =
+    AnswersAsk start past ask answered next ⊎ ((answered ≡ Refused Delay) × (next ≡ past))
 
 -- a message to a room with these users is answered
 abbrev pub AnswersMessage : List SubjectModel → Room → History → MessageModel → AnswerModel → History → Type 0
 AnswersMessage users start past m answered next = AnswersOrDelays start past (ask_of users m) answered next
 
--- a run over messages from a history to a history, with its output; `Serves` of `room_wire` says the same of a whole stream
+-- a run over messages from a history to a history, with its
+-- output; `Serves` of `room_wire` says the same of a whole stream
 abbrev pub IsRun : List SubjectModel → Room → History → List MessageModel → (out : List ℕ) → History → Type 0
 IsRun users start past ms out next = Outputs (AnswersMessage users start) past ms out next
 
@@ -39,24 +43,40 @@ ask_changes_rows past (Ok (Check question)) = false
 ask_changes_rows past (Ok (Event event)) = changes_rows past event
 ask_changes_rows past (Err fault) = false
 
--- the frame of a desk's calls, one or many: the store is no better than it was, what it is laid out for stays, and the count of failures never falls
+-- the rows stand for the history with the event that was asked, which changes what is kept
+abbrev pub StandsWithAsked : Room → History → Result AskModel WireFault → Records → Type 0
+StandsWithAsked start past (Ok (Check question)) r = ⊥
+StandsWithAsked start past (Ok (Event event)) r = StandsWith start past event r
+StandsWithAsked start past (Err fault) r = ⊥
+
+-- the frame of a desk's calls, one or many: the store is no better than it was, what it is laid out for stays, and the
+-- count of failures never falls
 pub record DeskCall (old new : View) : Type 0 where
   pub was_intact : new.is_intact → old.is_intact
   pub was_available : new.is_available → old.is_available
   pub laid_out : new.is_available → old.is_laid_out → new.is_laid_out
   pub never_falls : old.failures ≤ new.failures
 
--- what a shelf is after an answer: the rows stand for the history before it, or for one event more. They are the same rows after a refusal, and
--- where what was asked changes nothing. The count of failures is the same, save where the answer is DELAY
-pub record Answered (ask : Result AskModel WireFault) (before : View) (answered : AnswerModel) (after : View) : Type 0 where
+-- what a shelf is after an answer: the rows stand for the history before it, or for one event more. They are the same
+-- rows after a refusal, and where what was asked changes nothing. The count of failures is the same, save where the
+-- answer is DELAY. A crash leaves what it could leave before, or, of an event that changes what is kept, the rows that
+-- stand for the history with it; those alone, where the answer is not DELAY
+pub record Answered (ask : Result AskModel WireFault) (before : View)
+    (answered : AnswerModel) (after : View) : Type 0 where
   pub frame : DeskCall before after
   pub quiet : answered ≢ Refused Delay → after.failures ≡ before.failures
-  pub alive : after.is_intact → (event : EventModel) → ask ≡ Ok (Event event) → answered ≢ Refused Delay → after.is_available
+  pub alive : after.is_intact → (event : EventModel) → ask ≡ Ok (Event event)
+      → answered ≢ Refused Delay → after.is_available
   pub step : after.is_intact → (start : Room) (past : History) → StandsFor start past before →
       (next : History) × AnswersOrDelays start past ask answered next × StandsFor start next after
   pub refused : after.is_available → before.is_laid_out → IsTurnedAway answered → after.records ≡ before.records
-  pub idle : after.is_available → before.is_laid_out → (start : Room) (past : History) → RepresentsHistory start before.records past →
+  pub idle : after.is_available → before.is_laid_out → (start : Room) (past : History)
+      → RepresentsHistory start before.records past →
       ask_changes_rows past ask ≡ false → after.records ≡ before.records
+  pub crash : after.is_intact → (start : Room) (past : History) → StandsFor start past before →
+      LeavesOldOrNew before after (StandsWithAsked start past ask)
+  pub settled : after.is_intact → (start : Room) (past : History) → StandsFor start past before →
+      ask_changes_rows past ask ≡ true → answered ≢ Refused Delay → LeavesNew after (StandsWithAsked start past ask)
 
 -- what a shelf is after an event was answered
 abbrev pub EventAnswered : {S : Type 0} (view : S → View) → S → EventModel → AnswerModel → S → Type 0

@@ -5,8 +5,9 @@ ghost use Rattle.room_records.specs.Shelf.{ShelfCall, fault_in};
 ghost use Rattle.room_wire.specs.Asks.EventModel.{event_model};
 ghost use Rattle.room_wire.specs.declared.answers.code.Code.TheVariants.{Delay};
 ghost use Rattle.room_desk.specs.AnswerModel.{AnswerModel, Refused, answer_model, IsTurnedAway};
-ghost use Rattle.room_desk.specs.History.{History, answer_to, changes_rows};
-ghost use Rattle.room_desk.specs.Representation.{RepresentsHistory, StandsFor, WasAllowed, InTurn, Run};
+ghost use Rattle.room_desk.specs.Crashes.{LeavesOldOrNew, LeavesNew};
+ghost use Rattle.room_desk.specs.History.{History, answer_to, changes_rows, ReportsChange};
+ghost use Rattle.room_desk.specs.Representation.{RepresentsHistory, StandsFor, StandsWith, WasAllowed, InTurn, Run};
 ghost use Rattle.room_desk.specs.Serving.{DeskCall, EventAnswered};
 
 use crate::requests::{SlotRequest, request};
@@ -46,13 +47,23 @@ impl<S: Shelf> Desk<S> {
     fn answer(&mut self, event: &Event) -> Result<Answer, ShelfFault>
         ensures there { (S.view self.new).is_intact → OnOk result (S.view self.new).is_available }
         ensures frame { ShelfCall (S.view self.old) (S.view self.new) (fault_in result) }
-        ensures step { (S.view self.new).is_available → (S.view self.old).is_laid_out → (start : Room) (past : History) → RepresentsHistory start (S.view self.old).records past →
+        ensures step { (S.view self.new).is_available → (S.view self.old).is_laid_out
+            → (start : Room) (past : History) → RepresentsHistory start (S.view self.old).records past →
             IfOk result (λ answer. (answer_model answer ≡ answer_to start past (event_model event.now))
             × RepresentsHistory start (S.view self.new).records (event_model event.now ∷ past)) }
         ensures refused { (S.view self.new).is_available → (S.view self.old).is_laid_out →
-            IfOk result (λ answer. IsTurnedAway (answer_model answer) → (S.view self.new).records ≡ (S.view self.old).records) }
-        ensures idle { (S.view self.new).is_available → (S.view self.old).is_laid_out → (start : Room) (past : History) → RepresentsHistory start (S.view self.old).records past →
+            IfOk result (λ answer. IsTurnedAway (answer_model answer)
+            → (S.view self.new).records ≡ (S.view self.old).records) }
+        ensures idle { (S.view self.new).is_available → (S.view self.old).is_laid_out
+            → (start : Room) (past : History) → RepresentsHistory start (S.view self.old).records past →
             changes_rows past (event_model event.now) ≡ false → (S.view self.new).records ≡ (S.view self.old).records }
+        ensures crash { (S.view self.new).is_intact → (start : Room) (past : History)
+            → StandsFor start past (S.view self.old) →
+            LeavesOldOrNew (S.view self.old) (S.view self.new) (StandsWith start past (event_model event.now)) }
+        ensures settled { (S.view self.new).is_intact → (start : Room) (past : History)
+            → StandsFor start past (S.view self.old) →
+            IfOk result (λ answer. ReportsChange past (event_model event.now) (answer_model answer) →
+            LeavesNew (S.view self.new) (StandsWith start past (event_model event.now))) }
     {
         match event {
             Event::Open {
@@ -82,9 +93,8 @@ impl<S: Shelf> Desk<S> {
 
     /// Answers one event: as the history says, or DELAY with nothing changed. DELAY comes where
     /// memory was refused, or where the shelf failed and counted it; with any other answer no failure
-    /// was counted. Where the store is intact, any other answer
-    /// means that it is still available; of a store that a fault has shut no records are told, and
-    /// each event is answered DELAY.
+    /// was counted. Where the store is intact, any other answer means that it is still available; of
+    /// a store that a fault has shut no records are told, and each event is answered DELAY.
     pub fn handle(&mut self, event: &Event) -> Answer
         ensures answered { EventAnswered S.view self.old (event_model event.now) (answer_model result) self.new }
         ensures allowed { (start : Room) (past : History) → WasAllowed start past (event_model event.now) }
@@ -99,9 +109,12 @@ impl<S: Shelf> Desk<S> {
     /// not DELAY, an intact store is still available.
     pub fn run(&mut self, events: &[Event]) -> Result<Vec<Answer>, AllocError>
         ensures frame { DeskCall (S.view self.old) (S.view self.new) }
-        ensures alive { (S.view self.new).is_intact → IfOk result (λ answers. (before : List AnswerModel) (last : AnswerModel) →
-            map answer_model answers.items ≡ before ++ last ∷ [] → last ≢ Refused Delay → (S.view self.new).is_available) }
-        ensures run { (S.view self.new).is_intact → (start : Room) (past : History) → StandsFor start past (S.view self.old) →
+        ensures alive { (S.view self.new).is_intact
+            → IfOk result (λ answers. (before : List AnswerModel) (last : AnswerModel) →
+            map answer_model answers.items ≡ before ++ last ∷ []
+            → last ≢ Refused Delay → (S.view self.new).is_available) }
+        ensures run { (S.view self.new).is_intact → (start : Room) (past : History)
+            → StandsFor start past (S.view self.old) →
             IfOk result (λ answers. (next : History)
             × Run start past (map event_model events.now) (map answer_model answers.items) next
             × StandsFor start next (S.view self.new)) }

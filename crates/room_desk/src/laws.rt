@@ -1,6 +1,7 @@
 //! Laws of histories. Each function here does nothing: its contract is what the definitions are meant
 //! to say, proved of them.
-ghost use Rattle.std.specs.Prelude.{◌≡◌, ◌≢◌, ◌≤◌, ◌↔◌, ℕ, ◌^◌, true, false, List, [], ◌∷◌, None, map, length, nat_eq, nat_lt};
+ghost use Rattle.std.specs.Prelude.{◌≡◌, ◌≢◌, ◌≤◌, ◌↔◌, ℕ, ◌^◌, true, false, List, [], ◌∷◌, None, map};
+ghost use Rattle.std.specs.Prelude.{length, nat_eq, nat_lt};
 ghost use Rattle.std.specs.List.{AllByRecursion, IsDistinct};
 ghost use Rattle.room_slots.specs.Slots.{next_number, verdict};
 ghost use Rattle.room_slots.specs.declared.verdict.Verdict.TheVariants.{New};
@@ -11,15 +12,18 @@ ghost use Rattle.room_wire.specs.Asks.EventModel.{EventModel, Request, Slot};
 ghost use Rattle.room_wire.specs.declared.answers.code.Code.TheVariants.{SeqFalseRetry, SeqMisordered};
 ghost use Rattle.room_wire.specs.Forms.Texts.{command_text};
 ghost use Rattle.room_desk.specs.AnswerModel.{Reply, Refused, IsTurnedAway};
-ghost use Rattle.room_desk.specs.History.{History, Accepted, session_of, is_open_for, slots_of, accepted, is_accepted, is_for, AreLawful, state_after, original_reply, answer_to, changes_rows};
+ghost use Rattle.room_desk.specs.History.{History, Accepted, session_of, is_open_for, slots_of, accepted, is_accepted};
+ghost use Rattle.room_desk.specs.History.{is_for, AreLawful, state_after, original_reply, answer_to, changes_rows};
 ghost use Rattle.room_desk.specs.Representation.{RepresentsHistory, WasAllowed, slot_row_of};
 ghost use Rattle.room_desk.specs.Verdicts.{answer_by};
 
 /// An event that is sent again at once gets its first answer, byte for byte, and changes nothing: not
 /// the room, and no row that stands for the history.
 pub fn a_repeated_event_changes_nothing()
-    ensures answer { (start : Room) (past : History) (event : EventModel) → answer_to start (event ∷ past) event ≡ answer_to start past event }
-    ensures room { (start : Room) (past : History) (event : EventModel) → state_after start (event ∷ event ∷ past) ≡ state_after start (event ∷ past) }
+    ensures answer { (start : Room) (past : History) (event : EventModel)
+        → answer_to start (event ∷ past) event ≡ answer_to start past event }
+    ensures room { (start : Room) (past : History) (event : EventModel)
+        → state_after start (event ∷ event ∷ past) ≡ state_after start (event ∷ past) }
     ensures rows { (start : Room) (r : Records) (past : History) (event : EventModel) →
         RepresentsHistory start r (event ∷ past) → RepresentsHistory start r (event ∷ event ∷ past) }
 {}
@@ -28,7 +32,8 @@ pub fn a_repeated_event_changes_nothing()
 pub fn a_refused_event_changes_nothing()
     ensures room { (start : Room) (past : History) (event : EventModel) → IsTurnedAway (answer_to start past event) →
         state_after start (event ∷ past) ≡ state_after start past }
-    ensures rows { (start : Room) (r : Records) (past : History) (event : EventModel) → IsTurnedAway (answer_to start past event) →
+    ensures rows { (start : Room) (r : Records) (past : History) (event : EventModel)
+        → IsTurnedAway (answer_to start past event) →
         RepresentsHistory start r past → RepresentsHistory start r (event ∷ past) }
 {}
 
@@ -36,7 +41,8 @@ pub fn a_refused_event_changes_nothing()
 pub fn an_idle_event_changes_nothing()
     ensures room { (start : Room) (past : History) (event : EventModel) → changes_rows past event ≡ false →
         state_after start (event ∷ past) ≡ state_after start past }
-    ensures rows { (start : Room) (r : Records) (past : History) (event : EventModel) → changes_rows past event ≡ false →
+    ensures rows { (start : Room) (r : Records) (past : History) (event : EventModel)
+        → changes_rows past event ≡ false →
         RepresentsHistory start r past → RepresentsHistory start r (event ∷ past) }
 {}
 
@@ -58,23 +64,25 @@ pub fn no_number_is_accepted_twice()
         AllByRecursion (λ (a : Accepted). is_for sid slot a.request ≡ true) (accepted past sid slot) }
 {}
 
-/// In an open session of the caller, and a slot of it in which a request was accepted: the last number with
-/// the same command gets the original reply of the last accepted request, byte for byte, however much came
-/// in between; with another command it is a false retry; and a number that is neither the last nor the next
-/// is misordered.
+/// In an open session of the caller, and a slot of it in which a request was accepted: the last number with the same
+/// command gets the original reply of the last accepted request, byte for byte, however much came in between; with
+/// another command it is a false retry; and a number that is neither the last nor the next is misordered.
 pub fn a_repeat_gets_its_first_reply()
     ensures repeat { (start : Room) (past : History) (q : Request) (last : Accepted) (earlier : List Accepted) →
-        is_open_for q.sid q.caller (session_of past q.sid) ≡ true → nat_lt q.slot (slots_of (session_of past q.sid)) ≡ true →
+        is_open_for q.sid q.caller (session_of past q.sid) ≡ true
+        → nat_lt q.slot (slots_of (session_of past q.sid)) ≡ true →
         accepted past q.sid q.slot ≡ last ∷ earlier →
         q.seq ≡ last.request.seq → command_text q.command ≡ command_text last.request.command →
         answer_to start past (Slot q) ≡ Reply (original_reply start last) }
     ensures false_retry { (start : Room) (past : History) (q : Request) (last : Accepted) (earlier : List Accepted) →
-        is_open_for q.sid q.caller (session_of past q.sid) ≡ true → nat_lt q.slot (slots_of (session_of past q.sid)) ≡ true →
+        is_open_for q.sid q.caller (session_of past q.sid) ≡ true
+        → nat_lt q.slot (slots_of (session_of past q.sid)) ≡ true →
         accepted past q.sid q.slot ≡ last ∷ earlier →
         q.seq ≡ last.request.seq → command_text q.command ≢ command_text last.request.command →
         answer_to start past (Slot q) ≡ Refused SeqFalseRetry }
     ensures misordered { (start : Room) (past : History) (q : Request) (last : Accepted) (earlier : List Accepted) →
-        is_open_for q.sid q.caller (session_of past q.sid) ≡ true → nat_lt q.slot (slots_of (session_of past q.sid)) ≡ true →
+        is_open_for q.sid q.caller (session_of past q.sid) ≡ true
+        → nat_lt q.slot (slots_of (session_of past q.sid)) ≡ true →
         accepted past q.sid q.slot ≡ last ∷ earlier →
         q.seq ≢ last.request.seq → q.seq ≢ next_number (length (last ∷ earlier)) →
         answer_to start past (Slot q) ≡ Refused SeqMisordered }
@@ -84,19 +92,24 @@ pub fn a_repeat_gets_its_first_reply()
 /// and a request is accepted exactly where the test finds it new.
 pub fn the_kept_row_tells_the_answer()
     ensures answer { (start : Room) (past : History) (q : Request) →
-        is_open_for q.sid q.caller (session_of past q.sid) ≡ true → nat_lt q.slot (slots_of (session_of past q.sid)) ≡ true →
-        answer_to start past (Slot q) ≡ answer_by (verdict (slot_row_of start past q.sid q.slot) q.seq (command_text q.command))
+        is_open_for q.sid q.caller (session_of past q.sid) ≡ true
+        → nat_lt q.slot (slots_of (session_of past q.sid)) ≡ true →
+        answer_to start past (Slot q)
+        ≡ answer_by (verdict (slot_row_of start past q.sid q.slot) q.seq (command_text q.command))
         (original_reply start (record { request = q; before = past })) (slot_row_of start past q.sid q.slot) }
     ensures accepted { (start : Room) (past : History) (q : Request) →
-        is_open_for q.sid q.caller (session_of past q.sid) ≡ true → nat_lt q.slot (slots_of (session_of past q.sid)) ≡ true →
-        (verdict (slot_row_of start past q.sid q.slot) q.seq (command_text q.command) ≡ New) ↔ (is_accepted past q ≡ true) }
+        is_open_for q.sid q.caller (session_of past q.sid) ≡ true
+        → nat_lt q.slot (slots_of (session_of past q.sid)) ≡ true →
+        (verdict (slot_row_of start past q.sid q.slot) q.seq (command_text q.command) ≡ New)
+        ↔ (is_accepted past q ≡ true) }
 {}
 
 /// Rows that stand for a room, with no session and no slot, stand for the history without events that
 /// begins with that room.
 pub fn a_history_begins_with_a_room()
     ensures { (start : Room) (r : Records) → RepresentsRoom r.objects start →
-        ((sid : List ℕ) → r.session sid ≡ None) → ((sid : List ℕ) (slot : ℕ) → r.slot sid slot ≡ None) → RepresentsHistory start r [] }
+        ((sid : List ℕ) → r.session sid ≡ None)
+        → ((sid : List ℕ) (slot : ℕ) → r.slot sid slot ≡ None) → RepresentsHistory start r [] }
 {}
 
 /// A history of lawful commands that begins with a room leaves a room.

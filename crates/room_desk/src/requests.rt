@@ -9,9 +9,10 @@ ghost use Rattle.room_records.specs.Shelf.{ShelfCall, fault_in};
 ghost use Rattle.room_wire.specs.Asks.EventModel.{Slot};
 ghost use Rattle.room_wire.specs.Forms.Texts.{command_text};
 ghost use Rattle.room_desk.specs.AnswerModel.{answer_model, IsTurnedAway};
-ghost use Rattle.room_desk.specs.History.{History, session_of, is_open_for, answer_to, changes_rows};
-ghost use Rattle.room_desk.specs.Representation.{RepresentsHistory};
-ghost use Rattle.room_desk.specs.Rows.{HasSlot, Ran, answer_kept};
+ghost use Rattle.room_desk.specs.Crashes.{LeavesOldOrNew, LeavesNew};
+ghost use Rattle.room_desk.specs.History.{History, session_of, is_open_for, answer_to, changes_rows, ReportsChange};
+ghost use Rattle.room_desk.specs.Representation.{RepresentsHistory, StandsFor, StandsWith};
+ghost use Rattle.room_desk.specs.RowAnswers.{HasSlot, Ran, RanTo, answer_kept};
 
 use crate::sessions::is_usable;
 use room_acl::Subject;
@@ -84,9 +85,19 @@ fn run_new<S: Shelf>(
     ensures there { (S.view shelf.new).is_intact → OnOk result (S.view shelf.new).is_available }
     ensures frame { ShelfCall (S.view shelf.old) (S.view shelf.new) (fault_in result) }
     ensures reply { IfOk result (λ answer. IsTurnedAway (answer_model answer) → ⊥) }
-    ensures ok { (S.view shelf.new).is_available → (S.view shelf.old).is_laid_out → (room : Room) → RepresentsRoom (S.view shelf.old).records.objects room →
+    ensures ok { (S.view shelf.new).is_available → (S.view shelf.old).is_laid_out
+        → (room : Room) → RepresentsRoom (S.view shelf.old).records.objects room →
         SlotRules (S.view shelf.old).records → HasSlot (S.view shelf.old).records asked.now.sid asked.now.slot →
-        IfOk result (λ answer. Ran (S.view shelf.old).records room asked.now (answer_model answer) (S.view shelf.new).records) }
+        IfOk result (λ answer. Ran (S.view shelf.old).records room
+        asked.now (answer_model answer) (S.view shelf.new).records) }
+    ensures crash { (S.view shelf.new).is_intact → (S.view shelf.old).is_available → (S.view shelf.old).is_laid_out →
+        (room : Room) → RepresentsRoom (S.view shelf.old).records.objects room →
+        SlotRules (S.view shelf.old).records → HasSlot (S.view shelf.old).records asked.now.sid asked.now.slot →
+        LeavesOldOrNew (S.view shelf.old) (S.view shelf.new) (RanTo (S.view shelf.old).records room asked.now) }
+    ensures settled { (S.view shelf.new).is_intact → (S.view shelf.old).is_available → (S.view shelf.old).is_laid_out →
+        (room : Room) → RepresentsRoom (S.view shelf.old).records.objects room →
+        SlotRules (S.view shelf.old).records → HasSlot (S.view shelf.old).records asked.now.sid asked.now.slot →
+        OnOk result (LeavesNew (S.view shelf.new) (RanTo (S.view shelf.old).records room asked.now)) }
 {
     let outcome = plan(alloc, shelf, asked.subject, asked.command)?;
     let reply = reply_text(alloc, &outcome.reply)?;
@@ -139,14 +150,30 @@ fn in_slot<S: Shelf>(
     ensures there { (S.view shelf.new).is_intact → OnOk result (S.view shelf.new).is_available }
     ensures frame { ShelfCall (S.view shelf.old) (S.view shelf.new) (fault_in result) }
     ensures refused { (S.view shelf.new).is_available → (S.view shelf.old).is_laid_out →
-        IfOk result (λ answer. IsTurnedAway (answer_model answer) → (S.view shelf.new).records ≡ (S.view shelf.old).records) }
-    ensures step { (S.view shelf.new).is_available → (S.view shelf.old).is_laid_out → (start : Room) (past : History) → RepresentsHistory start (S.view shelf.old).records past →
-        is_open_for asked.now.sid asked.now.caller (session_of past asked.now.sid) ≡ true → HasSlot (S.view shelf.old).records asked.now.sid asked.now.slot →
+        IfOk result (λ answer. IsTurnedAway (answer_model answer)
+        → (S.view shelf.new).records ≡ (S.view shelf.old).records) }
+    ensures step { (S.view shelf.new).is_available → (S.view shelf.old).is_laid_out
+        → (start : Room) (past : History) → RepresentsHistory start (S.view shelf.old).records past →
+        is_open_for asked.now.sid asked.now.caller (session_of past asked.now.sid) ≡ true
+        → HasSlot (S.view shelf.old).records asked.now.sid asked.now.slot →
         IfOk result (λ answer. (answer_model answer ≡ answer_to start past (Slot asked.now))
         × RepresentsHistory start (S.view shelf.new).records (Slot asked.now ∷ past)) }
-    ensures idle { (S.view shelf.new).is_available → (S.view shelf.old).is_laid_out → (start : Room) (past : History) → RepresentsHistory start (S.view shelf.old).records past →
-        is_open_for asked.now.sid asked.now.caller (session_of past asked.now.sid) ≡ true → HasSlot (S.view shelf.old).records asked.now.sid asked.now.slot →
+    ensures idle { (S.view shelf.new).is_available → (S.view shelf.old).is_laid_out
+        → (start : Room) (past : History) → RepresentsHistory start (S.view shelf.old).records past →
+        is_open_for asked.now.sid asked.now.caller (session_of past asked.now.sid) ≡ true
+        → HasSlot (S.view shelf.old).records asked.now.sid asked.now.slot →
         changes_rows past (Slot asked.now) ≡ false → (S.view shelf.new).records ≡ (S.view shelf.old).records }
+    ensures crash { (S.view shelf.new).is_intact → (S.view shelf.old).is_laid_out →
+        (start : Room) (past : History) → RepresentsHistory start (S.view shelf.old).records past →
+        is_open_for asked.now.sid asked.now.caller (session_of past asked.now.sid) ≡ true →
+        HasSlot (S.view shelf.old).records asked.now.sid asked.now.slot →
+        LeavesOldOrNew (S.view shelf.old) (S.view shelf.new) (StandsWith start past (Slot asked.now)) }
+    ensures settled { (S.view shelf.new).is_intact → (S.view shelf.old).is_laid_out →
+        (start : Room) (past : History) → RepresentsHistory start (S.view shelf.old).records past →
+        is_open_for asked.now.sid asked.now.caller (session_of past asked.now.sid) ≡ true →
+        HasSlot (S.view shelf.old).records asked.now.sid asked.now.slot →
+        IfOk result (λ answer. ReportsChange past (Slot asked.now) (answer_model answer) →
+        LeavesNew (S.view shelf.new) (StandsWith start past (Slot asked.now))) }
 {
     let text = command_text(alloc, asked.command)?;
     let kept = shelf.slot(asked.sid, asked.slot)?;
@@ -167,12 +194,22 @@ pub(crate) fn request<S: Shelf>(
     ensures there { (S.view shelf.new).is_intact → OnOk result (S.view shelf.new).is_available }
     ensures frame { ShelfCall (S.view shelf.old) (S.view shelf.new) (fault_in result) }
     ensures refused { (S.view shelf.new).is_available → (S.view shelf.old).is_laid_out →
-        IfOk result (λ answer. IsTurnedAway (answer_model answer) → (S.view shelf.new).records ≡ (S.view shelf.old).records) }
-    ensures step { (S.view shelf.new).is_available → (S.view shelf.old).is_laid_out → (start : Room) (past : History) → RepresentsHistory start (S.view shelf.old).records past →
+        IfOk result (λ answer. IsTurnedAway (answer_model answer)
+        → (S.view shelf.new).records ≡ (S.view shelf.old).records) }
+    ensures step { (S.view shelf.new).is_available → (S.view shelf.old).is_laid_out
+        → (start : Room) (past : History) → RepresentsHistory start (S.view shelf.old).records past →
         IfOk result (λ answer. (answer_model answer ≡ answer_to start past (Slot asked.now))
         × RepresentsHistory start (S.view shelf.new).records (Slot asked.now ∷ past)) }
-    ensures idle { (S.view shelf.new).is_available → (S.view shelf.old).is_laid_out → (start : Room) (past : History) → RepresentsHistory start (S.view shelf.old).records past →
+    ensures idle { (S.view shelf.new).is_available → (S.view shelf.old).is_laid_out
+        → (start : Room) (past : History) → RepresentsHistory start (S.view shelf.old).records past →
         changes_rows past (Slot asked.now) ≡ false → (S.view shelf.new).records ≡ (S.view shelf.old).records }
+    ensures crash { (S.view shelf.new).is_intact → (start : Room) (past : History)
+        → StandsFor start past (S.view shelf.old) →
+        LeavesOldOrNew (S.view shelf.old) (S.view shelf.new) (StandsWith start past (Slot asked.now)) }
+    ensures settled { (S.view shelf.new).is_intact → (start : Room) (past : History)
+        → StandsFor start past (S.view shelf.old) →
+        IfOk result (λ answer. ReportsChange past (Slot asked.now) (answer_model answer) →
+        LeavesNew (S.view shelf.new) (StandsWith start past (Slot asked.now))) }
 {
     let Some(row) = shelf.session(asked.sid)? else {
         return Ok(Answer::Refused(Code::BadSession));

@@ -23,7 +23,8 @@ pub(crate) struct Lookup<'r> {
 
 impl<S: Shelf> Desk<S> {
     fn serve_question(&mut self, question: &Question) -> Answer
-        ensures { Answered (Ok (A.Check (question_model question.now))) (S.view self.old) (answer_model result) (S.view self.new) }
+        ensures { Answered (Ok (A.Check (question_model question.now)))
+            (S.view self.old) (answer_model result) (S.view self.new) }
     {
         answer_question(self.alloc, question)
     }

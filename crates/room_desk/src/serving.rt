@@ -27,9 +27,12 @@ impl<S: Shelf> Desk<S> {
     ) -> ServeEnd
         ensures frame { DeskCall (S.view self.old) (S.view self.new) }
         ensures messages { Serves (MayAnswer S.view roster.now) self.old self.new
-            (R.remaining reader.old) (R.remaining reader.new) (W.contents writer.old) (W.contents writer.new) result.why result.count }
-        ensures run { (S.view self.new).is_intact → (start : Room) (past : History) → StandsFor start past (S.view self.old) →
-            (next : History) × Serves (AnswersMessage roster.now start) past next (R.remaining reader.old) (R.remaining reader.new)
+            (R.remaining reader.old) (R.remaining reader.new) (W.contents writer.old)
+            (W.contents writer.new) result.why result.count }
+        ensures run { (S.view self.new).is_intact → (start : Room) (past : History)
+            → StandsFor start past (S.view self.old) →
+            (next : History) × Serves (AnswersMessage roster.now start)
+            past next (R.remaining reader.old) (R.remaining reader.new)
             (W.contents writer.old) (W.contents writer.new) result.why result.count
             × StandsFor start next (S.view self.new) }
     {
@@ -54,9 +57,12 @@ impl<S: Shelf> Desk<S> {
         requires { buffers.input ≡ [] }
         ensures frame { DeskCall (S.view self.old) (S.view self.new) }
         ensures messages { Serves (MayAnswer S.view lookup.now.roster.now) self.old self.new
-            (R.remaining reader.old) (R.remaining reader.new) (W.contents writer.old) (W.contents writer.new) result.why result.count }
-        ensures run { (S.view self.new).is_intact → (start : Room) (past : History) → StandsFor start past (S.view self.old) →
-            (next : History) × Serves (AnswersMessage lookup.now.roster.now start) past next (R.remaining reader.old) (R.remaining reader.new)
+            (R.remaining reader.old) (R.remaining reader.new) (W.contents writer.old)
+            (W.contents writer.new) result.why result.count }
+        ensures run { (S.view self.new).is_intact → (start : Room) (past : History)
+            → StandsFor start past (S.view self.old) →
+            (next : History) × Serves (AnswersMessage lookup.now.roster.now start)
+            past next (R.remaining reader.old) (R.remaining reader.new)
             (W.contents writer.old) (W.contents writer.new) result.why result.count
             × StandsFor start next (S.view self.new) }
     {

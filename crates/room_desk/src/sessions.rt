@@ -11,9 +11,10 @@ ghost use Rattle.room_wire.specs.Forms.Texts.{reply_text};
 ghost use Rattle.room_wire.specs.Asks.EventModel.{Open, Close};
 ghost use Rattle.room_desk.specs.AnswerModel.{answer_model, IsTurnedAway};
 ghost use Rattle.room_desk.specs.AnswerModel as A;
-ghost use Rattle.room_desk.specs.History.{History, answer_to, changes_rows};
-ghost use Rattle.room_desk.specs.Representation.{RepresentsHistory};
-ghost use Rattle.room_desk.specs.Rows.{answer_open_again, is_usable};
+ghost use Rattle.room_desk.specs.Crashes.{LeavesOldOrNew, LeavesNew};
+ghost use Rattle.room_desk.specs.History.{History, answer_to, changes_rows, ReportsChange};
+ghost use Rattle.room_desk.specs.Representation.{RepresentsHistory, StandsFor, StandsWith};
+ghost use Rattle.room_desk.specs.RowAnswers.{answer_open_again, is_usable};
 
 use room_acl::Subject;
 use room_commands::Reply;
@@ -59,7 +60,8 @@ fn open_again(
 
 /// The row of a session that opens.
 fn opened_row(subject: &Subject, sid: &Sid, slots: SlotCount) -> Result<SessionRow, AllocError>
-    ensures { IfOk result (λ row. row ≡ record { sid = sid.now; owner = subject.now.name; slots = slots; is_open = true }) }
+    ensures { IfOk result (λ row. row
+        ≡ record { sid = sid.now; owner = subject.now.name; slots = slots; is_open = true }) }
 {
     Ok(SessionRow {
         sid: sid.clone()?,
@@ -81,9 +83,43 @@ fn open_first<S: Shelf>(
     ensures frame { ShelfCall (S.view shelf.old) (S.view shelf.new) (fault_in result) }
     ensures reply { IfOk result (λ answer. answer_model answer ≡ A.Reply (reply_text (Opened slots))) }
     ensures ok { (S.view shelf.new).is_available → (S.view shelf.old).is_laid_out →
-        RulesHold (apply_change (PutSession (record { sid = sid.now; owner = subject.now.name; slots = slots; is_open = true })) (S.view shelf.old).records) →
+        RulesHold (apply_change (PutSession (record {
+          sid = sid.now;
+          owner = subject.now.name;
+          slots = slots;
+          is_open = true;
+        })) (S.view shelf.old).records) →
         OnOk result ((S.view shelf.new).records
-        ≡ apply_change (PutSession (record { sid = sid.now; owner = subject.now.name; slots = slots; is_open = true })) (S.view shelf.old).records) }
+        ≡ apply_change (PutSession (record { sid = sid.now; owner = subject.now.name; slots = slots; is_open = true }))
+        (S.view shelf.old).records) }
+    ensures crash { (S.view shelf.old).is_laid_out →
+        RulesHold (apply_change (PutSession (record {
+          sid = sid.now;
+          owner = subject.now.name;
+          slots = slots;
+          is_open = true;
+        })) (S.view shelf.old).records) →
+        LeavesOldOrNew (S.view shelf.old) (S.view shelf.new) (λ left.
+        left ≡ apply_change (PutSession (record {
+          sid = sid.now;
+          owner = subject.now.name;
+          slots = slots;
+          is_open = true;
+        })) (S.view shelf.old).records) }
+    ensures settled { (S.view shelf.new).is_intact → (S.view shelf.old).is_laid_out →
+        RulesHold (apply_change (PutSession (record {
+          sid = sid.now;
+          owner = subject.now.name;
+          slots = slots;
+          is_open = true;
+        })) (S.view shelf.old).records) →
+        OnOk result (LeavesNew (S.view shelf.new) (λ left.
+        left ≡ apply_change (PutSession (record {
+          sid = sid.now;
+          owner = subject.now.name;
+          slots = slots;
+          is_open = true;
+        })) (S.view shelf.old).records)) }
 {
     let text = reply_text(alloc, &Reply::Opened(slots))?;
     let changes = [Change::PutSession(opened_row(subject, sid, slots)?)];
@@ -101,13 +137,24 @@ pub(crate) fn open<S: Shelf>(
 ) -> Result<Answer, ShelfFault>
     ensures there { (S.view shelf.new).is_intact → OnOk result (S.view shelf.new).is_available }
     ensures frame { ShelfCall (S.view shelf.old) (S.view shelf.new) (fault_in result) }
-    ensures step { (S.view shelf.new).is_available → (S.view shelf.old).is_laid_out → (start : Room) (past : History) → RepresentsHistory start (S.view shelf.old).records past →
+    ensures step { (S.view shelf.new).is_available → (S.view shelf.old).is_laid_out
+        → (start : Room) (past : History) → RepresentsHistory start (S.view shelf.old).records past →
         IfOk result (λ answer. (answer_model answer ≡ answer_to start past (Open subject.now sid.now slots))
         × RepresentsHistory start (S.view shelf.new).records (Open subject.now sid.now slots ∷ past)) }
     ensures refused { (S.view shelf.new).is_available → (S.view shelf.old).is_laid_out →
-        IfOk result (λ answer. IsTurnedAway (answer_model answer) → (S.view shelf.new).records ≡ (S.view shelf.old).records) }
-    ensures idle { (S.view shelf.new).is_available → (S.view shelf.old).is_laid_out → (start : Room) (past : History) → RepresentsHistory start (S.view shelf.old).records past →
-        changes_rows past (Open subject.now sid.now slots) ≡ false → (S.view shelf.new).records ≡ (S.view shelf.old).records }
+        IfOk result (λ answer. IsTurnedAway (answer_model answer)
+        → (S.view shelf.new).records ≡ (S.view shelf.old).records) }
+    ensures idle { (S.view shelf.new).is_available → (S.view shelf.old).is_laid_out
+        → (start : Room) (past : History) → RepresentsHistory start (S.view shelf.old).records past →
+        changes_rows past (Open subject.now sid.now slots) ≡ false
+        → (S.view shelf.new).records ≡ (S.view shelf.old).records }
+    ensures crash { (S.view shelf.new).is_intact → (start : Room) (past : History)
+        → StandsFor start past (S.view shelf.old) →
+        LeavesOldOrNew (S.view shelf.old) (S.view shelf.new) (StandsWith start past (Open subject.now sid.now slots)) }
+    ensures settled { (S.view shelf.new).is_intact → (start : Room) (past : History)
+        → StandsFor start past (S.view shelf.old) →
+        IfOk result (λ answer. ReportsChange past (Open subject.now sid.now slots) (answer_model answer) →
+        LeavesNew (S.view shelf.new) (StandsWith start past (Open subject.now sid.now slots))) }
 {
     match shelf.session(sid)? {
         Some(row) => Ok(open_again(alloc, &row, subject, slots)?),
@@ -120,9 +167,61 @@ fn end_session<S: Shelf>(shelf: &mut S, sid: &Sid, row: SessionRow) -> Result<()
     ensures there { (S.view shelf.new).is_intact → OnOk result (S.view shelf.new).is_available }
     ensures frame { ShelfCall (S.view shelf.old) (S.view shelf.new) (fault_in result) }
     ensures ok { (S.view shelf.new).is_available → (S.view shelf.old).is_laid_out →
-        RulesHold (apply_change (PutSession (record { sid = row.sid; owner = row.owner; slots = row.slots; is_open = false })) (S.view shelf.old).records) →
-        RulesHold (apply_change (DropSlots sid.now) (apply_change (PutSession (record { sid = row.sid; owner = row.owner; slots = row.slots; is_open = false })) (S.view shelf.old).records)) →
-        OnOk result ((S.view shelf.new).records ≡ apply_change (DropSlots sid.now) (apply_change (PutSession (record { sid = row.sid; owner = row.owner; slots = row.slots; is_open = false })) (S.view shelf.old).records)) }
+        RulesHold (apply_change (PutSession (record {
+          sid = row.sid;
+          owner = row.owner;
+          slots = row.slots;
+          is_open = false;
+        })) (S.view shelf.old).records) →
+        RulesHold (apply_change (DropSlots sid.now) (apply_change (PutSession (record {
+          sid = row.sid;
+          owner = row.owner;
+          slots = row.slots;
+          is_open = false;
+        })) (S.view shelf.old).records)) →
+        OnOk result ((S.view shelf.new).records ≡ apply_change (DropSlots sid.now)
+        (apply_change (PutSession (record { sid = row.sid; owner = row.owner; slots = row.slots; is_open = false }))
+        (S.view shelf.old).records)) }
+    ensures crash { (S.view shelf.old).is_laid_out →
+        RulesHold (apply_change (PutSession (record {
+          sid = row.sid;
+          owner = row.owner;
+          slots = row.slots;
+          is_open = false;
+        })) (S.view shelf.old).records) →
+        RulesHold (apply_change (DropSlots sid.now) (apply_change (PutSession (record {
+          sid = row.sid;
+          owner = row.owner;
+          slots = row.slots;
+          is_open = false;
+        })) (S.view shelf.old).records)) →
+        LeavesOldOrNew (S.view shelf.old) (S.view shelf.new) (λ left.
+        left ≡ apply_change (DropSlots sid.now) (apply_change (PutSession (record {
+          sid = row.sid;
+          owner = row.owner;
+          slots = row.slots;
+          is_open = false;
+        })) (S.view shelf.old).records)) }
+    ensures settled { (S.view shelf.new).is_intact → (S.view shelf.old).is_laid_out →
+        RulesHold (apply_change (PutSession (record {
+          sid = row.sid;
+          owner = row.owner;
+          slots = row.slots;
+          is_open = false;
+        })) (S.view shelf.old).records) →
+        RulesHold (apply_change (DropSlots sid.now) (apply_change (PutSession (record {
+          sid = row.sid;
+          owner = row.owner;
+          slots = row.slots;
+          is_open = false;
+        })) (S.view shelf.old).records)) →
+        OnOk result (LeavesNew (S.view shelf.new) (λ left.
+        left ≡ apply_change (DropSlots sid.now) (apply_change (PutSession (record {
+          sid = row.sid;
+          owner = row.owner;
+          slots = row.slots;
+          is_open = false;
+        })) (S.view shelf.old).records))) }
 {
     let closed = SessionRow {
         sid: row.sid,
@@ -143,11 +242,65 @@ fn close_owned<S: Shelf>(
 ) -> Result<Answer, ShelfFault>
     ensures frame { ShelfCall (S.view shelf.old) (S.view shelf.new) (fault_in result) }
     ensures reply { IfOk result (λ answer. answer_model answer ≡ A.Reply (reply_text Done)) }
-    ensures idle { row.is_open ≡ false → (S.view shelf.new).is_available → (S.view shelf.old).is_laid_out → (S.view shelf.new).records ≡ (S.view shelf.old).records }
+    ensures idle { row.is_open ≡ false → (S.view shelf.new).is_available
+        → (S.view shelf.old).is_laid_out → (S.view shelf.new).records ≡ (S.view shelf.old).records }
     ensures ok { row.is_open ≡ true → (S.view shelf.new).is_available → (S.view shelf.old).is_laid_out →
-        RulesHold (apply_change (PutSession (record { sid = row.sid; owner = row.owner; slots = row.slots; is_open = false })) (S.view shelf.old).records) →
-        RulesHold (apply_change (DropSlots sid.now) (apply_change (PutSession (record { sid = row.sid; owner = row.owner; slots = row.slots; is_open = false })) (S.view shelf.old).records)) →
-        OnOk result ((S.view shelf.new).records ≡ apply_change (DropSlots sid.now) (apply_change (PutSession (record { sid = row.sid; owner = row.owner; slots = row.slots; is_open = false })) (S.view shelf.old).records)) }
+        RulesHold (apply_change (PutSession (record {
+          sid = row.sid;
+          owner = row.owner;
+          slots = row.slots;
+          is_open = false;
+        })) (S.view shelf.old).records) →
+        RulesHold (apply_change (DropSlots sid.now) (apply_change (PutSession (record {
+          sid = row.sid;
+          owner = row.owner;
+          slots = row.slots;
+          is_open = false;
+        })) (S.view shelf.old).records)) →
+        OnOk result ((S.view shelf.new).records ≡ apply_change (DropSlots sid.now)
+        (apply_change (PutSession (record { sid = row.sid; owner = row.owner; slots = row.slots; is_open = false }))
+        (S.view shelf.old).records)) }
+    ensures crash { (S.view shelf.old).is_laid_out →
+        RulesHold (apply_change (PutSession (record {
+          sid = row.sid;
+          owner = row.owner;
+          slots = row.slots;
+          is_open = false;
+        })) (S.view shelf.old).records) →
+        RulesHold (apply_change (DropSlots sid.now) (apply_change (PutSession (record {
+          sid = row.sid;
+          owner = row.owner;
+          slots = row.slots;
+          is_open = false;
+        })) (S.view shelf.old).records)) →
+        LeavesOldOrNew (S.view shelf.old) (S.view shelf.new) (λ left.
+        (row.is_open ≡ true) × (left ≡ apply_change (DropSlots sid.now) (apply_change (PutSession (record {
+          sid =
+              row.sid;
+          owner = row.owner;
+          slots = row.slots;
+          is_open = false;
+        })) (S.view shelf.old).records))) }
+    ensures settled { row.is_open ≡ true → (S.view shelf.new).is_intact → (S.view shelf.old).is_laid_out →
+        RulesHold (apply_change (PutSession (record {
+          sid = row.sid;
+          owner = row.owner;
+          slots = row.slots;
+          is_open = false;
+        })) (S.view shelf.old).records) →
+        RulesHold (apply_change (DropSlots sid.now) (apply_change (PutSession (record {
+          sid = row.sid;
+          owner = row.owner;
+          slots = row.slots;
+          is_open = false;
+        })) (S.view shelf.old).records)) →
+        OnOk result (LeavesNew (S.view shelf.new) (λ left.
+        left ≡ apply_change (DropSlots sid.now) (apply_change (PutSession (record {
+          sid = row.sid;
+          owner = row.owner;
+          slots = row.slots;
+          is_open = false;
+        })) (S.view shelf.old).records))) }
 {
     let text = reply_text(alloc, &Reply::Done)?;
     if row.is_open {
@@ -165,13 +318,24 @@ pub(crate) fn close<S: Shelf>(
 ) -> Result<Answer, ShelfFault>
     ensures there { (S.view shelf.new).is_intact → OnOk result (S.view shelf.new).is_available }
     ensures frame { ShelfCall (S.view shelf.old) (S.view shelf.new) (fault_in result) }
-    ensures step { (S.view shelf.new).is_available → (S.view shelf.old).is_laid_out → (start : Room) (past : History) → RepresentsHistory start (S.view shelf.old).records past →
+    ensures step { (S.view shelf.new).is_available → (S.view shelf.old).is_laid_out
+        → (start : Room) (past : History) → RepresentsHistory start (S.view shelf.old).records past →
         IfOk result (λ answer. (answer_model answer ≡ answer_to start past (Close subject.now sid.now))
         × RepresentsHistory start (S.view shelf.new).records (Close subject.now sid.now ∷ past)) }
     ensures refused { (S.view shelf.new).is_available → (S.view shelf.old).is_laid_out →
-        IfOk result (λ answer. IsTurnedAway (answer_model answer) → (S.view shelf.new).records ≡ (S.view shelf.old).records) }
-    ensures idle { (S.view shelf.new).is_available → (S.view shelf.old).is_laid_out → (start : Room) (past : History) → RepresentsHistory start (S.view shelf.old).records past →
-        changes_rows past (Close subject.now sid.now) ≡ false → (S.view shelf.new).records ≡ (S.view shelf.old).records }
+        IfOk result (λ answer. IsTurnedAway (answer_model answer)
+        → (S.view shelf.new).records ≡ (S.view shelf.old).records) }
+    ensures idle { (S.view shelf.new).is_available → (S.view shelf.old).is_laid_out
+        → (start : Room) (past : History) → RepresentsHistory start (S.view shelf.old).records past →
+        changes_rows past (Close subject.now sid.now) ≡ false
+        → (S.view shelf.new).records ≡ (S.view shelf.old).records }
+    ensures crash { (S.view shelf.new).is_intact → (start : Room) (past : History)
+        → StandsFor start past (S.view shelf.old) →
+        LeavesOldOrNew (S.view shelf.old) (S.view shelf.new) (StandsWith start past (Close subject.now sid.now)) }
+    ensures settled { (S.view shelf.new).is_intact → (start : Room) (past : History)
+        → StandsFor start past (S.view shelf.old) →
+        IfOk result (λ answer. ReportsChange past (Close subject.now sid.now) (answer_model answer) →
+        LeavesNew (S.view shelf.new) (StandsWith start past (Close subject.now sid.now))) }
 {
     let Some(row) = shelf.session(sid)? else {
         return Ok(Answer::Refused(Code::BadSession));

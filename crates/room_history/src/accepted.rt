@@ -4,7 +4,7 @@ ghost use Rattle.std.specs.Option.{option_map};
 ghost use Rattle.room_wire.specs.Asks.EventModel.{event_model};
 ghost use Rattle.room_slots.specs.Slots.{next_number};
 ghost use Rattle.room_desk.specs.History.{accepted, accepts, is_accepted, is_for};
-ghost use Rattle.room_history.specs.Told.{is_counted, latest};
+ghost use Rattle.room_history.specs.Past.{is_counted, latest};
 
 use crate::sessions::{is_open_for, slots_of};
 use room_desk::SlotRequest;
@@ -82,7 +82,8 @@ pub fn count_accepted(past: &[Event], sid: &Sid, slot: u32) -> usize
 /// The last accepted request of a slot, and behind it the events before it.
 #[tactic(auto, using(crate::proofs::Counting::is_latest, crate::proofs::Counting::no_more))]
 pub(crate) fn last_accepted<'a>(past: &'a [Event], sid: &Sid, slot: u32) -> Option<&'a [Event]>
-    ensures { option_map (λ s. map event_model s.now) result ≡ latest (accepted (map event_model past.now) sid.now slot) }
+    ensures { option_map (λ s. map event_model s.now) result
+        ≡ latest (accepted (map event_model past.now) sid.now slot) }
 {
     let Some((event, earlier)) = past.split_first() else {
         return None;

@@ -7,10 +7,10 @@ ghost use Rattle.room_wire.specs.Asks.EventModel.{event_model, Slot};
 ghost use Rattle.room_wire.specs.Forms.Texts.{command_text, reply_text};
 ghost use Rattle.room_desk.specs.AnswerModel.{answer_model};
 ghost use Rattle.room_desk.specs.History.{answer_to, answer_unaccepted, accepted, state_after};
-ghost use Rattle.room_history.specs.Told.{row_answer_open, row_answer_close, answer_again};
+ghost use Rattle.room_history.specs.Past.{row_answer_open, row_answer_close, answer_again};
 
 use crate::accepted::{count_accepted, is_accepted, last_accepted};
-use crate::sessions::{Told, is_open_for, session_of, slots_of};
+use crate::sessions::{PlainSession, is_open_for, session_of, slots_of};
 use crate::state::state_after;
 use room_acl::Subject;
 use room_commands::{Command, Reply};
@@ -25,18 +25,18 @@ fn answer_open(
     alloc: Global,
     caller: &Subject,
     slots: SlotCount,
-    told: &Option<Told>,
+    session: &Option<PlainSession>,
 ) -> Result<Answer, AllocError>
-    ensures { IfOk result (λ answer. answer_model answer ≡ row_answer_open caller.now slots told.now) }
+    ensures { IfOk result (λ answer. answer_model answer ≡ row_answer_open caller.now slots session.now) }
 {
-    if let Some(told) = told {
-        if told.owner.text() != caller.name.text() {
+    if let Some(session) = session {
+        if session.owner.text() != caller.name.text() {
             return Ok(Answer::Refused(Code::SessionTaken));
         }
-        if !told.is_open {
+        if !session.is_open {
             return Ok(Answer::Refused(Code::BadSession));
         }
-        if slots.get() != told.slots.get() {
+        if slots.get() != session.slots.get() {
             return Ok(Answer::Refused(Code::SessionTaken));
         }
     }
@@ -44,13 +44,17 @@ fn answer_open(
 }
 
 /// A CLOSE, by what its name is before it.
-fn answer_close(alloc: Global, caller: &Subject, told: &Option<Told>) -> Result<Answer, AllocError>
-    ensures { IfOk result (λ answer. answer_model answer ≡ row_answer_close caller.now told.now) }
+fn answer_close(
+    alloc: Global,
+    caller: &Subject,
+    session: &Option<PlainSession>,
+) -> Result<Answer, AllocError>
+    ensures { IfOk result (λ answer. answer_model answer ≡ row_answer_close caller.now session.now) }
 {
-    let Some(told) = told else {
+    let Some(session) = session else {
         return Ok(Answer::Refused(Code::BadSession));
     };
-    if told.owner.text() == caller.name.text() {
+    if session.owner.text() == caller.name.text() {
         Ok(Answer::Reply(reply_text(alloc, &Reply::Done)?))
     } else {
         Ok(Answer::Refused(Code::BadSession))
@@ -65,7 +69,8 @@ fn original_reply(
     caller: &Subject,
     command: &Command,
 ) -> Result<Vec<u8>, AllocError>
-    ensures { IfOk result (λ text. text.items ≡ reply_text (effect (state_after start.now (map event_model past.now)) caller.now (command_model command.now)).reply) }
+    ensures { IfOk result (λ text. text.items ≡ reply_text
+        (effect (state_after start.now (map event_model past.now)) caller.now (command_model command.now)).reply) }
 {
     let room = state_after(alloc, start, past)?;
     let outcome = room.run_command(alloc, caller, command)?;
@@ -73,7 +78,8 @@ fn original_reply(
 }
 
 fn is_same_command(alloc: Global, a: &Command, b: &Command) -> Result<bool, AllocError>
-    ensures { IfOk result (λ same. same ≡ bytes_eq (command_text (command_model a.now)) (command_text (command_model b.now))) }
+    ensures { IfOk result (λ same. same
+        ≡ bytes_eq (command_text (command_model a.now)) (command_text (command_model b.now))) }
 {
     let a = command_text(alloc, a)?;
     let b = command_text(alloc, b)?;
@@ -87,7 +93,8 @@ fn answer_again(
     command: &Command,
     last: &[Event],
 ) -> Result<Answer, AllocError>
-    ensures { IfOk result (λ answer. answer_model answer ≡ answer_again start.now (command_model command.now) (map event_model last.now)) }
+    ensures { IfOk result (λ answer. answer_model answer
+        ≡ answer_again start.now (command_model command.now) (map event_model last.now)) }
 {
     match last.split_first() {
         Some(
@@ -140,7 +147,8 @@ fn answer_request(
     past: &[Event],
     asked: &SlotRequest,
 ) -> Result<Answer, AllocError>
-    ensures { IfOk result (λ answer. answer_model answer ≡ answer_to start.now (map event_model past.now) (Slot asked.now)) }
+    ensures { IfOk result (λ answer. answer_model answer
+        ≡ answer_to start.now (map event_model past.now) (Slot asked.now)) }
 {
     if !is_open_for(past, asked.sid, asked.subject) {
         return Ok(Answer::Refused(Code::BadSession));
@@ -167,7 +175,8 @@ pub fn answer_to(
     past: &[Event],
     event: &Event,
 ) -> Result<Answer, AllocError>
-    ensures { IfOk result (λ answer. answer_model answer ≡ answer_to start.now (map event_model past.now) (event_model event.now)) }
+    ensures { IfOk result (λ answer. answer_model answer
+        ≡ answer_to start.now (map event_model past.now) (event_model event.now)) }
 {
     match event {
         Event::Open {

@@ -12,5 +12,5 @@ mod state;
 
 pub use accepted::count_accepted;
 pub use answers::answer_to;
-pub use sessions::{Told, session_of};
+pub use sessions::{PlainSession, session_of};
 pub use state::state_after;

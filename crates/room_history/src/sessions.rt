@@ -4,7 +4,7 @@ ghost use Rattle.std.specs.Option.{option_map};
 ghost use Rattle.room_wire.specs.Asks.EventModel.{event_model};
 ghost use Rattle.room_desk.specs.History.{closes, opened_by, session_of, is_open_for, slots_of};
 ghost use Rattle.room_desk.specs.Representation.{session_row_of};
-ghost use Rattle.room_history.specs.Told.{row_is_for, row_slots, row_one_later};
+ghost use Rattle.room_history.specs.Past.{row_is_for, row_slots, row_one_later};
 
 use room_acl::{Principal, Subject};
 use room_records::{Sid, SlotCount};
@@ -13,14 +13,14 @@ use std::marker::Model;
 
 /// A session as its events tell it.
 #[derive(Drop)]
-pub struct Told<'a> {
+pub struct PlainSession<'a> {
     pub sid: &'a Sid,
     pub owner: &'a Principal,
     pub slots: SlotCount,
     pub is_open: bool,
 }
 
-impl<'a> Model for Told<'a> {
+impl<'a> Model for PlainSession<'a> {
     ghost use Rattle.room_records.specs.declared.session.SessionRow.{SessionRow};
 
     ghost Value = { SessionRow };
@@ -29,7 +29,7 @@ impl<'a> Model for Told<'a> {
 }
 
 /// The session that an event opens, if the name was never opened.
-fn opened_by<'a>(event: &'a Event, sid: &'a Sid) -> Option<Told<'a>>
+fn opened_by<'a>(event: &'a Event, sid: &'a Sid) -> Option<PlainSession<'a>>
     ensures { result ≡ option_map (session_row_of sid.now) (opened_by sid.now (event_model event.now)) }
 {
     match event {
@@ -39,7 +39,7 @@ fn opened_by<'a>(event: &'a Event, sid: &'a Sid) -> Option<Told<'a>>
             slots,
         } => {
             if sid.text() == name.text() {
-                Some(Told {
+                Some(PlainSession {
                     sid,
                     owner: &subject.name,
                     slots: *slots,
@@ -68,30 +68,37 @@ fn closes(event: &Event, sid: &Sid, owner: &Principal) -> bool
 }
 
 /// The session one event later.
-fn after<'a>(told: &Told<'a>, event: &Event) -> Told<'a>
-    ensures { result ≡ record told.now { is_open = told.now.is_open && not (closes told.now.sid told.now.owner (event_model event.now)) } }
+fn after<'a>(session: &PlainSession<'a>, event: &Event) -> PlainSession<'a>
+    ensures { result ≡ record session.now {
+      is_open = session.now.is_open
+          && not (closes session.now.sid session.now.owner (event_model event.now));
+    } }
 {
-    let is_open = told.is_open && !closes(event, told.sid, told.owner);
-    Told {
-        sid: told.sid,
-        owner: told.owner,
-        slots: told.slots,
+    let is_open = session.is_open && !closes(event, session.sid, session.owner);
+    PlainSession {
+        sid: session.sid,
+        owner: session.owner,
+        slots: session.slots,
         is_open,
     }
 }
 
-fn one_later<'a>(told: &Option<Told<'a>>, event: &'a Event, sid: &'a Sid) -> Option<Told<'a>>
-    ensures { result ≡ row_one_later sid.now (event_model event.now) told.now }
+fn one_later<'a>(
+    session: &Option<PlainSession<'a>>,
+    event: &'a Event,
+    sid: &'a Sid,
+) -> Option<PlainSession<'a>>
+    ensures { result ≡ row_one_later sid.now (event_model event.now) session.now }
 {
-    match told {
-        Some(told) => Some(after(told, event)),
+    match session {
+        Some(session) => Some(after(session, event)),
         None => opened_by(event, sid),
     }
 }
 
 /// Whose a session name is: its first OPEN decides for good.
 #[tactic(auto, using(crate::proofs::SessionRows::row_after))]
-pub fn session_of<'a>(past: &'a [Event], sid: &'a Sid) -> Option<Told<'a>>
+pub fn session_of<'a>(past: &'a [Event], sid: &'a Sid) -> Option<PlainSession<'a>>
     ensures { result ≡ option_map (session_row_of sid.now) (session_of (map event_model past.now) sid.now) }
 {
     let Some((event, earlier)) = past.split_first() else {
@@ -100,20 +107,20 @@ pub fn session_of<'a>(past: &'a [Event], sid: &'a Sid) -> Option<Told<'a>>
     one_later(&session_of(earlier, sid), event, sid)
 }
 
-fn told_is_for(told: &Option<Told>, caller: &Subject) -> bool
-    ensures { result ≡ row_is_for caller.now told.now }
+fn session_is_for(session: &Option<PlainSession>, caller: &Subject) -> bool
+    ensures { result ≡ row_is_for caller.now session.now }
 {
-    match told {
-        Some(told) => told.owner.text() == caller.name.text() && told.is_open,
+    match session {
+        Some(session) => session.owner.text() == caller.name.text() && session.is_open,
         None => false,
     }
 }
 
-fn told_slots(told: &Option<Told>) -> u32
-    ensures { result ≡ row_slots told.now }
+fn session_slots(session: &Option<PlainSession>) -> u32
+    ensures { result ≡ row_slots session.now }
 {
-    match told {
-        Some(told) => told.slots.get(),
+    match session {
+        Some(session) => session.slots.get(),
         None => 0,
     }
 }
@@ -123,7 +130,7 @@ fn told_slots(told: &Option<Told>) -> u32
 pub(crate) fn is_open_for(past: &[Event], sid: &Sid, caller: &Subject) -> bool
     ensures { result ≡ is_open_for sid.now caller.now (session_of (map event_model past.now) sid.now) }
 {
-    told_is_for(&session_of(past, sid), caller)
+    session_is_for(&session_of(past, sid), caller)
 }
 
 /// How many slots a session has.
@@ -131,5 +138,5 @@ pub(crate) fn is_open_for(past: &[Event], sid: &Sid, caller: &Subject) -> bool
 pub(crate) fn slots_of(past: &[Event], sid: &Sid) -> u32
     ensures { result ≡ slots_of (session_of (map event_model past.now) sid.now) }
 {
-    told_slots(&session_of(past, sid))
+    session_slots(&session_of(past, sid))
 }

@@ -1,5 +1,6 @@
 -- Flags without the mark are flags, and bits of masks are a mask.
-use Rattle.std.proofs.Common.{◌≡◌, ℕ, ◌+◌, ◌-◌, ◌*◌, ◌^◌, ◌<◌, ◌≤◌, refl, ap, sym, ◌∙◌, subst, arith, Bool, true, false, ◌⊎◌, inl, inr, bit_and, min, ltb}
+use Rattle.std.proofs.Common.{◌≡◌, ℕ, ◌+◌, ◌-◌, ◌*◌, ◌^◌, ◌<◌, ◌≤◌, refl, ap, sym, ◌∙◌, subst, arith, Bool, true}
+use Rattle.std.proofs.Common.{false, ◌⊎◌, inl, inr, bit_and, min, ltb}
 use Rattle.std.specs.Int.{bit_at}
 use Rattle.std.proofs.lemmas.Nat.Bits.{and_pow, bit_at_and, bit_at_cat_low, bit_at_above, bit_at-lt, same_from_bits}
 use Rattle.std.proofs.lemmas.Bool.Decides.{nat_tests}
@@ -22,7 +23,8 @@ lower : (g : ℕ) → g < 128 → IsFlags (1 * 2 ^ 7 + g) → IsFlags g
 lower g small lawful = same_from_bits (bit_and g 0xCF) g (λ i. bit_at_and g 0xCF i ∙ (elim (below_or_not i 7) [
   | inl low ↦ (
       let same = bit_at_cat_low 1 7 g i low in
-      let kept : min (bit_at (1 * 2 ^ 7 + g) i) (bit_at 0xCF i) ≡ bit_at (1 * 2 ^ 7 + g) i = sym (bit_at_and (1 * 2 ^ 7 + g) 0xCF i) ∙ ap (λ n. bit_at n i) lawful in
+      let kept : min (bit_at (1 * 2 ^ 7 + g) i) (bit_at 0xCF i) ≡ bit_at (1 * 2 ^ 7 + g) i =
+      sym (bit_at_and (1 * 2 ^ 7 + g) 0xCF i) ∙ ap (λ n. bit_at n i) lawful in
       ap (λ b. min b (bit_at 0xCF i)) (sym same) ∙ kept ∙ same)
   | inr high ↦ (let none = bit_at_above g 7 i small high in omega (arith, none))
 ]))
@@ -49,5 +51,7 @@ least_of_three o n x y m e f h = omega arith
 -- the bits of two masks
 pub common_is_mask : (a b : ℕ) → IsMask b → IsMask (bit_and a b)
 common_is_mask a b lawful = same_from_bits (bit_and (bit_and a b) 0x1F07FF) (bit_and a b) (λ i.
-    least_of_three (bit_at (bit_and (bit_and a b) 0x1F07FF) i) (bit_at (bit_and a b) i) (bit_at a i) (bit_at b i) (bit_at 0x1F07FF i)
-    (bit_at_and (bit_and a b) 0x1F07FF i) (bit_at_and a b i) (sym (bit_at_and b 0x1F07FF i) ∙ ap (λ n. bit_at n i) lawful))
+    least_of_three (bit_at (bit_and (bit_and a b) 0x1F07FF) i)
+    (bit_at (bit_and a b) i) (bit_at a i) (bit_at b i) (bit_at 0x1F07FF i)
+    (bit_at_and (bit_and a b) 0x1F07FF i) (bit_at_and a b i)
+    (sym (bit_at_and b 0x1F07FF i) ∙ ap (λ n. bit_at n i) lawful))

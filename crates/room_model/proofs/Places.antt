@@ -1,5 +1,6 @@
 -- Places and their folders.
-use Rattle.std.proofs.Common.{◌≡◌, ℕ, zero, suc, ◌+◌, refl, arith, Bool, true, false, cond, ◌&&◌, [], ◌∷◌, take, length, get_or, Option, None, Some}
+use Rattle.std.proofs.Common.{◌≡◌, ℕ, zero, suc, ◌+◌, refl, arith, Bool, true, false, cond, ◌&&◌, [], ◌∷◌, take}
+use Rattle.std.proofs.Common.{length, get_or, Option, None, Some}
 use Rattle.std.specs.List.{AllByRecursion, starts_with}
 use Rattle.std.proofs.lemmas.List.{length-take}
 use Rattle.room_records.specs.Names.{Name, Path, IsPath, IsFileName, name_eq}
@@ -17,22 +18,26 @@ take_is_path n path h = record {
   names = take_names n path h.names;
 }
 
-inside_one : (b rest : Bool) (found named : Option Name) → (b && rest) ≡ true → (rest ≡ true → found ≡ named) → found ≡ cond b named None
+inside_one : (b rest : Bool) (found named : Option Name) → (b && rest) ≡ true
+    → (rest ≡ true → found ≡ named) → found ≡ cond b named None
 inside_one true rest found named h below = below h
 inside_one false rest found named h below = absurd (cc)
 
 -- one name longer, and beginning with the folder: it is in the folder
-pub name_inside : (folder path : Path) (d : Name) → length path ≡ length folder + 1 → starts_with name_eq path folder ≡ true
+pub name_inside : (folder path : Path) (d : Name)
+    → length path ≡ length folder + 1 → starts_with name_eq path folder ≡ true
     → Some (get_or path (length folder) d) ≡ name_in folder path
 name_inside [] [] d long begins = absurd (omega arith)
 name_inside [] (name ∷ []) d long begins = refl
 name_inside [] (name ∷ other ∷ path) d long begins = absurd (omega arith)
 name_inside (a ∷ folder) [] d long begins = absurd (omega arith)
 name_inside (a ∷ folder) (b ∷ path) d long begins =
-    inside_one (name_eq a b) (starts_with name_eq path folder) (Some (get_or path (length folder) d)) (name_in folder path) begins
+    inside_one (name_eq a b) (starts_with name_eq path folder)
+    (Some (get_or path (length folder) d)) (name_in folder path) begins
     (λ rest. name_inside folder path d (omega arith) rest)
 
-outside_one : (b rest : Bool) (named : Option Name) (long : Type 0) → (long → (b && rest) ≡ true → ⊥) → ((long → rest ≡ true → ⊥) → None ≡ named)
+outside_one : (b rest : Bool) (named : Option Name) (long : Type 0)
+    → (long → (b && rest) ≡ true → ⊥) → ((long → rest ≡ true → ⊥) → None ≡ named)
     → None ≡ cond b named None
 outside_one true rest named long h below = below h
 outside_one false rest named long h below = refl

@@ -1,3 +1,3 @@
 pub mod Edits
 pub mod Depth
-pub mod Outcomes
+pub mod Effects

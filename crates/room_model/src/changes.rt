@@ -6,7 +6,8 @@ ghost use Rattle.room_acl.specs.Access.{allowed_mask};
 ghost use Rattle.room_commands.specs.CommandModel.{command_model};
 ghost use Rattle.room_commands.specs.ReplyModel.{reply_model, Stat, Names, Size, Bytes, Entries, Allowed};
 ghost use Rattle.room_commands.specs.Checks.{checks, first_refusal, bytes_at};
-ghost use Rattle.room_commands.specs.Effect.{with_new, new_object, changed, reply, size_of, attributes_of, object_or_default};
+ghost use Rattle.room_commands.specs.Effect.{with_new, new_object, changed, reply, size_of, attributes_of};
+ghost use Rattle.room_commands.specs.Effect.{object_or_default};
 
 use crate::names::parent_of;
 use crate::object::{Edit, PlainObject, copy_entries};
@@ -80,7 +81,8 @@ impl PlainRoom {
     ) -> Result<PlainRoom, AllocError>
         requires folder { IsSome (object_at self.now (parent_of path.now)) }
         requires few { self.now.made < max_objects }
-        ensures { IfOk result (λ room. room ≡ with_new self.now path.now (new_object self.now caller.now path.now kind bytes.items)) }
+        ensures { IfOk result (λ room. room
+            ≡ with_new self.now path.now (new_object self.now caller.now path.now kind bytes.items)) }
     {
         let Some(folder) = self.object_at(parent_of(path)) else {
             unreachable!()
@@ -128,7 +130,8 @@ impl PlainRoom {
 
     fn stat_reply(&self, alloc: Global, path: &[FileName]) -> Result<Reply, AllocError>
         requires { IsSome (object_at self.now path.now) }
-        ensures { IfOk result (λ answer. reply_model answer ≡ Stat (attributes_of self.now path.now (object_or_default self.now path.now))) }
+        ensures { IfOk result (λ answer. reply_model answer
+            ≡ Stat (attributes_of self.now path.now (object_or_default self.now path.now))) }
     {
         let Some(object) = self.object_at(path) else {
             unreachable!()
@@ -158,7 +161,8 @@ impl PlainRoom {
 
     fn list_reply(&self, alloc: Global, path: &[FileName]) -> Result<Reply, AllocError>
         requires { IsSome (object_at self.now path.now) }
-        ensures { IfOk result (λ answer. reply_model answer ≡ Entries (object_or_default self.now path.now).aclflag (list_of self.now path.now)) }
+        ensures { IfOk result (λ answer. reply_model answer
+            ≡ Entries (object_or_default self.now path.now).aclflag (list_of self.now path.now)) }
     {
         let Some(object) = self.object_at(path) else {
             unreachable!()
@@ -179,7 +183,8 @@ impl PlainRoom {
     ) -> Result<Reply, AllocError>
         requires { IsSome (object_at self.now path.now) }
         ensures { IfOk result (λ answer. reply_model answer
-            ≡ Allowed (bit_and mask (allowed_mask (list_of self.now path.now) caller.now (standing_of (object_or_default self.now path.now))))) }
+            ≡ Allowed (bit_and mask (allowed_mask (list_of self.now path.now)
+            caller.now (standing_of (object_or_default self.now path.now))))) }
     {
         let Some(object) = self.object_at(path) else {
             unreachable!()

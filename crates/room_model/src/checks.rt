@@ -7,14 +7,16 @@ ghost use Rattle.room_records.specs.Limits.{max_names};
 ghost use Rattle.room_records.specs.Names.{IsPath};
 ghost use Rattle.room_records.specs.Room.{object_at};
 ghost use Rattle.room_model.specs.Depth.{any_too_deep};
-ghost use Rattle.room_commands.specs.Checks.{check_right, check_exists, check_absent, check_folder, check_file, walk, prefix_fault, check_folder_full, check_room_full, check_size, bytes_at, check_removal, right_to_add, check_depth, check_lawful, is_kind, kind_of};
+ghost use Rattle.room_commands.specs.Checks.{check_right, check_exists, check_absent, check_folder, check_file, walk};
+ghost use Rattle.room_commands.specs.Checks.{prefix_refusal, check_folder_full, check_room_full, check_size, bytes_at};
+ghost use Rattle.room_commands.specs.Checks.{check_removal, right_to_add, check_depth, check_lawful, is_kind, kind_of};
 
 use crate::names::{is_at_or_below, parent_of, path_of};
 use crate::refusal::{Refusal, first_refusal, refuse_if};
 use crate::rights::{ADD_FILE, ADD_SUBDIRECTORY, DELETE, DELETE_CHILD, EXECUTE};
 use crate::room::PlainRoom;
 use room_acl::{Decision, Entry, Kind, ListFault, Mask, Subject, check_own, decide};
-use room_commands::Fault;
+use room_commands::RefusalCode;
 use room_records::FileName;
 use std::alloc::{AllocError, Global};
 
@@ -41,7 +43,7 @@ impl PlainRoom {
         ensures { IfOk result (λ check. check ≡ check_right self.now caller.now path.now wanted) }
     {
         let Some(object) = self.object_at(path) else {
-            return Ok(refuse_if(true, Fault::NoEnt));
+            return Ok(refuse_if(true, RefusalCode::NoEnt));
         };
         let Some(mask) = Mask::new(wanted) else {
             unreachable!()
@@ -52,7 +54,7 @@ impl PlainRoom {
             Decision::Denied { bit } => {
                 let at = path_of(alloc, path)?;
                 Ok(Some(Refusal {
-                    code: Fault::Access,
+                    code: RefusalCode::Access,
                     place: Some((at, bit)),
                 }))
             }
@@ -75,25 +77,25 @@ impl PlainRoom {
     pub fn check_exists(&self, path: &[FileName]) -> Option<Refusal>
         ensures { result ≡ check_exists self.now path.now }
     {
-        refuse_if(self.object_at(path).is_none(), Fault::NoEnt)
+        refuse_if(self.object_at(path).is_none(), RefusalCode::NoEnt)
     }
 
     pub fn check_absent(&self, path: &[FileName]) -> Option<Refusal>
         ensures { result ≡ check_absent self.now path.now }
     {
-        refuse_if(self.object_at(path).is_some(), Fault::Exist)
+        refuse_if(self.object_at(path).is_some(), RefusalCode::Exist)
     }
 
     pub fn check_folder(&self, path: &[FileName]) -> Option<Refusal>
         ensures { result ≡ check_folder self.now path.now }
     {
-        refuse_if(self.is_kind(Kind::File, path), Fault::NotDir)
+        refuse_if(self.is_kind(Kind::File, path), RefusalCode::NotDir)
     }
 
     pub fn check_file(&self, path: &[FileName]) -> Option<Refusal>
         ensures { result ≡ check_file self.now path.now }
     {
-        refuse_if(self.is_kind(Kind::Folder, path), Fault::IsDir)
+        refuse_if(self.is_kind(Kind::Folder, path), RefusalCode::IsDir)
     }
 
     /// The first fault on the way to a path.
@@ -109,20 +111,20 @@ impl PlainRoom {
     {
         let mut checks = Vec::new(alloc);
         for count in 0..path.len() {
-            checks.push(self.prefix_fault(alloc, caller, &path[..count])?)?;
+            checks.push(self.prefix_refusal(alloc, caller, &path[..count])?)?;
         }
         Ok(first_refusal(checks))
     }
 
     /// A front of a path is there, is a folder, and allows EXECUTE.
-    fn prefix_fault(
+    fn prefix_refusal(
         &self,
         alloc: Global,
         caller: &Subject,
         front: &[FileName],
     ) -> Result<Option<Refusal>, AllocError>
         requires { IsPath front.now }
-        ensures { IfOk result (λ check. check ≡ prefix_fault self.now caller.now front.now) }
+        ensures { IfOk result (λ check. check ≡ prefix_refusal self.now caller.now front.now) }
     {
         let right = self.check_right(alloc, caller, front, EXECUTE)?;
         let checks = vec![in alloc; self.check_exists(front), self.check_folder(front), right]?;
@@ -137,13 +139,13 @@ impl PlainRoom {
         ensures { IfOk result (λ check. check ≡ check_folder_full self.now folder.now) }
     {
         let children = self.children(alloc, folder)?;
-        Ok(refuse_if(MAX_CHILDREN <= children.len(), Fault::FolderFull))
+        Ok(refuse_if(MAX_CHILDREN <= children.len(), RefusalCode::FolderFull))
     }
 
     pub fn check_room_full(&self) -> Option<Refusal>
         ensures { result ≡ check_room_full self.now }
     {
-        refuse_if(MAX_OBJECTS <= self.made(), Fault::RoomFull)
+        refuse_if(MAX_OBJECTS <= self.made(), RefusalCode::RoomFull)
     }
 
     /// The bytes of a document.
@@ -173,7 +175,7 @@ impl PlainRoom {
         }
         let at = path_of(alloc, path)?;
         Ok(Some(Refusal {
-            code: Fault::Access,
+            code: RefusalCode::Access,
             place: Some((at, DELETE)),
         }))
     }
@@ -194,7 +196,7 @@ impl PlainRoom {
     pub fn check_depth(&self, path: &[FileName], to: &[FileName]) -> Option<Refusal>
         ensures { result ≡ check_depth self.now path.now to.now }
     {
-        refuse_if(self.is_too_deep(path, to), Fault::TooDeep)
+        refuse_if(self.is_too_deep(path, to), RefusalCode::TooDeep)
     }
 
     fn is_too_deep(&self, path: &[FileName], to: &[FileName]) -> bool
@@ -219,8 +221,8 @@ impl PlainRoom {
         };
         match check_own(own, kind) {
             Ok(()) => None,
-            Err(ListFault::Inval) => refuse_if(true, Fault::Inval),
-            Err(ListFault::AttrNotSupp) => refuse_if(true, Fault::AttrNotSupp),
+            Err(ListFault::Inval) => refuse_if(true, RefusalCode::Inval),
+            Err(ListFault::AttrNotSupp) => refuse_if(true, RefusalCode::AttrNotSupp),
         }
     }
 }
@@ -236,7 +238,7 @@ fn is_deep(above: usize, below: usize) -> bool
 pub fn check_size(size: usize) -> Option<Refusal>
     ensures { result ≡ check_size size }
 {
-    refuse_if(MAX_DOCUMENT < size, Fault::FBig)
+    refuse_if(MAX_DOCUMENT < size, RefusalCode::FBig)
 }
 
 /// More than 65,536 bytes in two parts.
@@ -244,5 +246,5 @@ pub fn check_sizes(some: &[u8], more: &[u8]) -> Option<Refusal>
     ensures { result ≡ check_size (length some.now + length more.now) }
 {
     let fits = some.len() <= MAX_DOCUMENT && more.len() <= MAX_DOCUMENT - some.len();
-    refuse_if(!fits, Fault::FBig)
+    refuse_if(!fits, RefusalCode::FBig)
 }

@@ -16,7 +16,7 @@ use crate::rights::{
 use crate::room::PlainRoom;
 use crate::setlist::own_entries_of_setlist;
 use room_acl::{Entry, ListFlags, Subject};
-use room_commands::{Command, Fault};
+use room_commands::{Command, RefusalCode};
 use room_records::{FileName, Path};
 use std::alloc::{AllocError, Global};
 
@@ -72,7 +72,7 @@ impl PlainRoom {
     {
         let at = path.names();
         let folder = parent_of(at);
-        let root = refuse_if(is_root(at), Fault::Exist);
+        let root = refuse_if(is_root(at), RefusalCode::Exist);
         let way = self.walk(alloc, caller, at)?;
         let right = self.check_right(alloc, caller, folder, ADD_SUBDIRECTORY)?;
         let full = self.check_folder_full(alloc, folder)?;
@@ -85,7 +85,7 @@ impl PlainRoom {
     {
         let at = path.names();
         let folder = parent_of(at);
-        let root = refuse_if(is_root(at), Fault::Exist);
+        let root = refuse_if(is_root(at), RefusalCode::Exist);
         let way = self.walk(alloc, caller, at)?;
         let right = self.check_right(alloc, caller, folder, ADD_FILE)?;
         let size = check_size(bytes.len());
@@ -147,11 +147,11 @@ impl PlainRoom {
         ensures { IfOk result (λ done. done.items ≡ checks self.now caller.now (C.Remove path.now)) }
     {
         let at = path.names();
-        let root = refuse_if(is_root(at), Fault::Inval);
+        let root = refuse_if(is_root(at), RefusalCode::Inval);
         let way = self.walk(alloc, caller, at)?;
         let right = self.check_removal(alloc, caller, at)?;
         let children = self.children(alloc, at)?;
-        let empty = refuse_if(0 < children.len(), Fault::NotEmpty);
+        let empty = refuse_if(0 < children.len(), RefusalCode::NotEmpty);
         Ok(vec![in alloc; root, way, self.check_exists(at), right, empty]?)
     }
 
@@ -161,7 +161,7 @@ impl PlainRoom {
         let at = path.names();
         let to = to.names();
         let bad = is_root(at) || is_root(to) || is_at_or_below(to, at);
-        let inval = refuse_if(bad, Fault::Inval);
+        let inval = refuse_if(bad, RefusalCode::Inval);
         let way = self.walk(alloc, caller, at)?;
         let way_to = self.walk(alloc, caller, to)?;
         let removal = self.check_removal(alloc, caller, at)?;
@@ -182,7 +182,8 @@ impl PlainRoom {
         path: &[FileName],
         to: &[FileName],
     ) -> Result<Option<Refusal>, AllocError>
-        ensures { IfOk result (λ check. check ≡ (if path_eq (parent_of path.now) (parent_of to.now) then None else check_folder_full self.now (parent_of to.now))) }
+        ensures { IfOk result (λ check. check ≡ (if path_eq (parent_of path.now) (parent_of to.now)
+            then None else check_folder_full self.now (parent_of to.now))) }
     {
         if is_same(parent_of(path), parent_of(to)) {
             Ok(None)
@@ -208,7 +209,8 @@ impl PlainRoom {
         entries: &[Entry],
         path: &Path,
     ) -> Checks
-        ensures { IfOk result (λ done. done.items ≡ checks self.now caller.now (C.SetList aclflag entries.now path.now)) }
+        ensures { IfOk result (λ done. done.items
+            ≡ checks self.now caller.now (C.SetList aclflag entries.now path.now)) }
     {
         let at = path.names();
         let way = self.walk(alloc, caller, at)?;

@@ -2,7 +2,7 @@
 ghost use Rattle.std.specs.Prelude.{◌≡◌, IfOk};
 ghost use Rattle.room_commands.specs.CommandModel.{command_model};
 ghost use Rattle.room_commands.specs.ReplyModel.{reply_model, Refused};
-ghost use Rattle.room_model.specs.Outcomes.{IsEffect};
+ghost use Rattle.room_model.specs.Effects.{IsEffect};
 
 use crate::refusal::{Refusal, first_refusal};
 use crate::room::PlainRoom;
@@ -12,19 +12,20 @@ use std::alloc::{AllocError, Global};
 
 /// What a command comes to.
 #[derive(Debug, Drop)]
-pub struct Outcome {
+pub struct PlainEffect {
     pub room: PlainRoom,
     pub reply: Reply,
 }
 
 impl PlainRoom {
-    /// Runs a command: the first check that fails gives the reply, and the room stays. The room itself is left as it is.
+    /// Runs a command: the first check that fails gives the reply,
+    /// and the room stays. The room itself is left as it is.
     pub fn run_command(
         &self,
         alloc: Global,
         caller: &Subject,
         command: &Command,
-    ) -> Result<Outcome, AllocError>
+    ) -> Result<PlainEffect, AllocError>
         ensures { IfOk result (IsEffect self.now caller.now (command_model command.now)) }
     {
         let checks = self.checks(alloc, caller, command)?;
@@ -32,12 +33,12 @@ impl PlainRoom {
             Some(refusal) => {
                 let room = self.clone(alloc)?;
                 let reply = refused(refusal);
-                Ok(Outcome { room, reply })
+                Ok(PlainEffect { room, reply })
             }
             None => {
                 let room = self.changed(alloc, caller, command)?;
                 let reply = self.reply(alloc, caller, command)?;
-                Ok(Outcome { room, reply })
+                Ok(PlainEffect { room, reply })
             }
         }
     }

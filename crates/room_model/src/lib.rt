@@ -17,7 +17,7 @@ mod rights;
 mod room;
 mod setlist;
 
-pub use effect::Outcome;
+pub use effect::PlainEffect;
 pub use names::Names;
 pub use object::PlainObject;
 pub use refusal::Refusal;

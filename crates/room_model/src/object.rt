@@ -54,7 +54,14 @@ impl PlainObject {
         own: Vec<Entry>,
         bytes: Vec<u8>,
     ) -> PlainObject
-        ensures { result ≡ record { kind = kind; owner = standing.owner; group = standing.group; aclflag = aclflag; own = own.items; bytes = bytes.items } }
+        ensures { result ≡ record {
+          kind = kind;
+          owner = standing.owner;
+          group = standing.group;
+          aclflag = aclflag;
+          own = own.items;
+          bytes = bytes.items;
+        } }
     {
         PlainObject {
             kind,

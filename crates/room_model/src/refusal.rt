@@ -2,14 +2,14 @@
 ghost use Rattle.std.specs.Prelude.{◌≡◌, Option, None, if◌then◌else◌};
 ghost use Rattle.room_commands.specs.Checks.{refusal_without_place, refuse_if, first_refusal};
 
-use room_commands::Fault;
+use room_commands::RefusalCode;
 use room_records::Path;
 use std::marker::Model;
 
 /// Why a command is refused. For a denied access the place is the path whose list was asked, and the lowest bit.
 #[derive(Debug, Drop)]
 pub struct Refusal {
-    pub code: Fault,
+    pub code: RefusalCode,
     pub place: Option<(Path, u32)>,
 }
 
@@ -22,7 +22,7 @@ impl Model for Refusal {
 }
 
 /// Refused with this code where a test holds.
-pub fn refuse_if(test: bool, code: Fault) -> Option<Refusal>
+pub fn refuse_if(test: bool, code: RefusalCode) -> Option<Refusal>
     ensures { result ≡ refuse_if test code }
 {
     if test {

@@ -6,7 +6,8 @@ ghost use Rattle.room_acl.specs.Bits.{IsMask};
 ghost use Rattle.room_acl.specs.Entries.{EntryModel, names_its_kind};
 ghost use Rattle.room_records.specs.Limits.{max_objects};
 ghost use Rattle.room_records.specs.Names.{Path as PathModel, path_eq};
-ghost use Rattle.room_records.specs.Room.{Object, fresh_room, object_at, list_of, list_under, root_list, follows, children, child_in, by_name};
+ghost use Rattle.room_records.specs.Room.{Object, fresh_room, object_at, list_of, list_under, root_list, follows};
+ghost use Rattle.room_records.specs.Room.{children, child_in, by_name};
 ghost use Rattle.room_commands.specs.Effect.{with_new, with_object, without, renamed, moved};
 ghost use Rattle.room_model.specs.Edits.{apply_edit, edit_at};
 
@@ -89,7 +90,8 @@ impl PlainRoom {
         None
     }
 
-    /// The list of an object, from the root down: its own entries, then, where it follows, what its folder's list hands down.
+    /// The list of an object, from the root down: its own entries,
+    /// then, where it follows, what its folder's list hands down.
     #[tactic(auto, using(crate::proofs::Lists::list_one_below))]
     pub fn list_of(&self, alloc: Global, path: &[FileName]) -> Result<Vec<Entry>, AllocError>
         ensures { IfOk result (λ list. list.items ≡ list_of self.now path.now) }

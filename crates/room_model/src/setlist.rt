@@ -44,7 +44,8 @@ fn is_inherited(flags: Flags) -> bool
 }
 
 fn without_inherited(alloc: Global, sent: &[Entry]) -> Result<Vec<Entry>, AllocError>
-    ensures { IfOk result (λ own. own.items ≡ filter (λ (entry : EntryModel). not (is_inherited entry.flags)) sent.now) }
+    ensures { IfOk result (λ own. own.items
+        ≡ filter (λ (entry : EntryModel). not (is_inherited entry.flags)) sent.now) }
 {
     let mut own = Vec::new(alloc);
     for entry in sent {

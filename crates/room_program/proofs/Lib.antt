@@ -1,3 +1,5 @@
 mod Calls
+mod Jobs
 mod Printed
 mod Streams
+mod Told

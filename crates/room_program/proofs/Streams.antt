@@ -1,5 +1,5 @@
 -- One stream after another.
-use Rattle.std.proofs.Common.{◌≡◌, ℕ, List, [], ◌++◌, refl, sym, ap, ◌∙◌}
+use Rattle.std.proofs.Common.{ℕ, List, [], ◌++◌, refl, sym, ap, ◌∙◌}
 use Rattle.std.proofs.lemmas.List.{append_assoc}
 use Rattle.room_acl.specs.SubjectModel.{SubjectModel}
 use Rattle.room_records.specs.Room.{Room}
@@ -11,7 +11,8 @@ use Rattle.room_desk.specs.Serving.{AnswersMessage, IsRun, MayAnswer}
 use Rattle.room_desk.proofs.Messages.{goes_on}
 use Rattle.room_program.specs.Streams.{AnswersSome, GoesOn}
 
-pub ran : (users : List SubjectModel) (start : Room) (past : History) (ms : List MessageModel) (out : List ℕ) (next : History) → IsRun users start past ms out next → GoesOn users start past next
+pub ran : (users : List SubjectModel) (start : Room) (past : History) (ms : List MessageModel)
+    (out : List ℕ) (next : History) → IsRun users start past ms out next → GoesOn users start past next
 ran users start past ms out next run =
     let on = goes_on users start past ms out next run in
     record { messages = ms; output = out; run = run; events = on.0; on = on.1 }
@@ -19,7 +20,8 @@ ran users start past ms out next run =
 pub stays : (users : List SubjectModel) (start : Room) (past : History) → GoesOn users start past past
 stays users start past = record { messages = []; output = []; run = (refl, refl); events = []; on = refl }
 
-pub goes_further : (users : List SubjectModel) (start : Room) (past next last : History) → GoesOn users start past next → GoesOn users start next last → GoesOn users start past last
+pub goes_further : (users : List SubjectModel) (start : Room) (past next last : History)
+    → GoesOn users start past next → GoesOn users start next last → GoesOn users start past last
 goes_further users start past next last a b = record {
   messages = a.messages ++ b.messages;
   output = a.output ++ b.output;

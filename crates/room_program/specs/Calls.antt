@@ -8,4 +8,5 @@ Accepted {L} accepts (suc n) old new = (before : L) × Accepted accepts n old be
 
 -- fewer were, and then one could not be
 abbrev pub AcceptsFewer : {L : Type 0} → (accepts fails : L → L → Type 0) → ℕ → L → L → Type 0
-AcceptsFewer {L} accepts fails count old new = (n : ℕ) × (n < count) × (last : L) × Accepted accepts n old last × fails last new
+AcceptsFewer {L} accepts fails count old new =
+    (n : ℕ) × (n < count) × (last : L) × Accepted accepts n old last × fails last new

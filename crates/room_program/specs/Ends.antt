@@ -1,8 +1,13 @@
--- How jobs over files end.
-use Rattle.std.specs.Prelude.{◌≡◌, ◌⊎◌, ℕ, List, Option, Some, None, Result, Ok, Err}
+-- How jobs end.
+use Rattle.std.specs.Prelude.{◌≡◌, ◌⊎◌, ℕ, List, true, Option, Some, None, Result, Ok, Err}
 use Rattle.room_acl.specs.Principals.{IsPrincipal}
 use Rattle.room_program.specs.declared.fault.Fault.{Fault}
-use Rattle.room_program.specs.declared.fault.Fault.TheVariants.{BadName, CannotReadRoster, BadRoster, RoomExists, NotARoom, StoreFailed, Memory, NetworkFailed, BadMessage, ReadFailed, WriteFailed, SelftestFailed}
+use Rattle.room_program.specs.declared.fault.Fault.TheVariants.{BadName, StoreFailed, Memory, NetworkFailed}
+use Rattle.room_program.specs.declared.fault.Fault.TheVariants.{WriteFailed, SelftestFailed}
+use Rattle.room_program.specs.Machines.{Call}
+use Rattle.room_program.specs.Machines.Call.{connects}
+use Rattle.room_program.specs.Files.{MakesAt}
+use Rattle.room_program.specs.Calls.{Accepted}
 
 -- a name that is no principal, or want of memory
 abbrev pub IsNameFault : List ℕ → Fault → Type 0
@@ -18,70 +23,40 @@ IsNamesFault owner group BadName = ¬ AreNames owner group
 IsNamesFault owner group Memory = Unit {0}
 IsNamesFault owner group other = ⊥
 
--- a roster's file is no text, its text no roster, or memory is wanting
-abbrev pub IsRosterFault : Fault → Type 0
-IsRosterFault CannotReadRoster = Unit {0}
-IsRosterFault BadRoster = Unit {0}
-IsRosterFault Memory = Unit {0}
-IsRosterFault other = ⊥
+-- `init`: `bad name` comes only where a name is no principal, and then no store is opened; else a room is made in the
+-- store at the path
+abbrev pub InitEnds : {M C : Type 0} → (does : M → Call C → M → Type 0) → (made taken : C → Type 0)
+    → (db owner group : List ℕ) → (old new : M) → Result (Unit {0}) Fault → Type 0
+InitEnds does made taken db owner group old new done =
+    ((fault : Fault) × (done ≡ Err fault) × IsNamesFault owner group fault × (new ≡ old))
+    ⊎ (AreNames owner group × MakesAt does made taken db old new done)
 
--- a store that can't be opened
-abbrev pub IsStoreFault : Fault → Type 0
-IsStoreFault StoreFailed = Unit {0}
-IsStoreFault Memory = Unit {0}
-IsStoreFault other = ⊥
-
--- a file that is taken for a room
-abbrev pub IsTakingFault : Fault → Type 0
-IsTakingFault NotARoom = Unit {0}
-IsTakingFault StoreFailed = Unit {0}
-IsTakingFault Memory = Unit {0}
-IsTakingFault other = ⊥
-
--- a room that can't be made
-abbrev pub IsMakingFault : Fault → Type 0
-IsMakingFault RoomExists = Unit {0}
-IsMakingFault StoreFailed = Unit {0}
-IsMakingFault Memory = Unit {0}
-IsMakingFault other = ⊥
-
--- `init`: it is done only where both names are principals; `bad name` comes only where one is none, and the store's faults only where both are
-abbrev pub InitEnds : (owner group : List ℕ) → Result (Unit {0}) Fault → Type 0
-InitEnds owner group (Ok done) = AreNames owner group
-InitEnds owner group (Err BadName) = ¬ AreNames owner group
-InitEnds owner group (Err Memory) = Unit {0}
-InitEnds owner group (Err RoomExists) = AreNames owner group
-InitEnds owner group (Err StoreFailed) = AreNames owner group
-InitEnds owner group (Err other) = ⊥
-
--- the faults of `report`
+-- the faults of a report that was begun
 abbrev pub ReportEnds : Result (Unit {0}) Fault → Type 0
 ReportEnds (Ok done) = Unit {0}
-ReportEnds (Err CannotReadRoster) = Unit {0}
-ReportEnds (Err BadRoster) = Unit {0}
-ReportEnds (Err NotARoom) = Unit {0}
 ReportEnds (Err StoreFailed) = Unit {0}
 ReportEnds (Err Memory) = Unit {0}
 ReportEnds (Err WriteFailed) = Unit {0}
 ReportEnds (Err other) = ⊥
 
--- the faults of `serve`
+-- the faults of serving connections
 abbrev pub ServeEnds : Result (Unit {0}) Fault → Type 0
 ServeEnds (Ok done) = Unit {0}
-ServeEnds (Err CannotReadRoster) = Unit {0}
-ServeEnds (Err BadRoster) = Unit {0}
-ServeEnds (Err NotARoom) = Unit {0}
-ServeEnds (Err StoreFailed) = Unit {0}
-ServeEnds (Err Memory) = Unit {0}
 ServeEnds (Err NetworkFailed) = Unit {0}
 ServeEnds (Err other) = ⊥
 
 -- the faults of `selftest`
-abbrev pub SelftestEnds : Result (Unit {0}) Fault → Type 0
-SelftestEnds (Ok done) = Unit {0}
-SelftestEnds (Err Memory) = Unit {0}
-SelftestEnds (Err SelftestFailed) = Unit {0}
-SelftestEnds (Err other) = ⊥
+abbrev pub IsSelftestFault : Fault → Type 0
+IsSelftestFault Memory = Unit {0}
+IsSelftestFault SelftestFailed = Unit {0}
+IsSelftestFault other = ⊥
+
+-- `selftest`: it is done only after a connection to itself was made, and one was accepted
+abbrev pub SelftestEnds : {M C : Type 0} → (does : M → Call C → M → Type 0)
+    → (accepts : M → M → Type 0) → (old new : M) → Result (Unit {0}) Fault → Type 0
+SelftestEnds {M} does accepts old new (Ok done) =
+    (bound : M) × does old (connects true) bound × Accepted accepts 1 bound new
+SelftestEnds does accepts old new (Err fault) = IsSelftestFault fault
 
 -- the fault of a job that is not done
 abbrev pub fault_in : Result (Unit {0}) Fault → Option Fault

@@ -5,7 +5,9 @@ use Rattle.room_wire.specs.declared.serving.stop.Why.TheVariants as end
 use Rattle.room_roster.specs.declared.fault.RosterFault.{RosterFault}
 use Rattle.room_roster.specs.declared.fault.RosterFault.TheVariants as roster
 use Rattle.room_program.specs.declared.fault.Fault.{Fault}
-use Rattle.room_program.specs.declared.fault.Fault.TheVariants.{BadName, CannotReadRoster, BadRoster, RoomExists, NotARoom, StoreFailed, Memory, NetworkFailed, BadMessage, ReadFailed, WriteFailed, SelftestFailed}
+use Rattle.room_program.specs.declared.fault.Fault.TheVariants.{BadName, CannotReadRoster, BadRoster, RoomExists}
+use Rattle.room_program.specs.declared.fault.Fault.TheVariants.{NotARoom, StoreFailed, Memory, NetworkFailed}
+use Rattle.room_program.specs.declared.fault.Fault.TheVariants.{BadMessage, ReadFailed, WriteFailed, SelftestFailed}
 
 -- the line of a fault on standard error
 abbrev pub fault_line : Fault → List ℕ

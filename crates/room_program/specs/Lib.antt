@@ -1,6 +1,9 @@
 pub mod Calls
 pub mod Ends
 pub mod Faults
+pub mod Files
+pub mod Machines
 pub mod Replays
+pub mod Rooms
 pub mod Runs
 pub mod Streams

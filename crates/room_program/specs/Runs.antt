@@ -12,7 +12,10 @@ use Rattle.room_words.specs.declared.job.Job.TheVariants.{Check, Init, Replay, S
 use Rattle.room_words.specs.declared.fault.WordsFault.{WordsFault}
 use Rattle.room_words.specs.declared.fault.WordsFault.TheVariants.{Usage, Help, Memory}
 use Rattle.room_words.specs.CommandLine.{ReadsAs}
-use Rattle.room_program.specs.Ends.{InitEnds, ReportEnds, ServeEnds, SelftestEnds, fault_in}
+use Rattle.room_records.specs.Shelf.{View}
+use Rattle.room_program.specs.Machines.{Call}
+use Rattle.room_program.specs.Ends.{InitEnds, SelftestEnds, fault_in}
+use Rattle.room_program.specs.Rooms.{Reports, ServesRoom}
 use Rattle.room_program.specs.Replays.{Replays}
 use Rattle.room_program.specs.Faults.{fault_line, fault_of}
 use Rattle.room_wire.specs.Answers.Writers.{AppendsFront}
@@ -26,7 +29,8 @@ pub record Streams : Type 0 where
 abbrev pub streams : (input output errors : Option (List ℕ)) → Streams
 streams i o e = record { input = i; output = o; errors = e }
 
--- no fault: status 0, and nothing on standard error; a fault: status 1, and its line, or a beginning where standard error fails
+-- no fault: status 0, and nothing on standard error; a fault:
+-- status 1, and its line, or a beginning where standard error fails
 abbrev pub EndsWith : Option Fault → (old new : Option (List ℕ)) → ℕ → Type 0
 EndsWith None old new status = (status ≡ 0) × Appends old new []
 EndsWith (Some f) old new status = (status ≡ 1) × AppendsFront old new (fault_line f)
@@ -38,7 +42,8 @@ Ends may_end old new status = (done : Result (Unit {0}) Fault) × may_end done �
 -- `check` serves questions from the input to the output, and its status tells how that ended
 abbrev pub Checks : Streams → Streams → ℕ → Type 0
 Checks old new status =
-    (why : Why) × (count : ℕ) × Serves MayAnswerCheck tt tt old.input new.input old.output new.output why count × EndsWith (fault_of why) old.errors new.errors status
+    (why : Why) × (count : ℕ) × Serves MayAnswerCheck tt tt old.input new.input old.output new.output why count
+    × EndsWith (fault_of why) old.errors new.errors status
 
 -- a text goes to the output, and where that fails it is a fault
 abbrev pub Shows : List ℕ → Streams → Streams → ℕ → Type 0
@@ -46,27 +51,55 @@ Shows text old new status =
     (Appends old.output new.output text × EndsWith None old.errors new.errors status)
     ⊎ (AppendsFront old.output new.output text × EndsWith (Some fault.WriteFailed) old.errors new.errors status)
 
--- the line `selftest ok` goes to the output, or a fault is told
-abbrev pub Tries : Streams → Streams → ℕ → Type 0
-Tries old new status = Shows (codes "selftest ok\n") old new status ⊎ ((new.output ≡ old.output) × Ends SelftestEnds old.errors new.errors status)
+-- what a machine does, and what its stores are: `does` are its calls, `accepts` and `fails` those of its listener
+pub record Means (M C Shelf : Type 0) : Type 1 where
+  pub does : M → Call C → M → Type 0
+  pub accepts : M → M → Type 0
+  pub fails : M → M → Type 0
+  -- a shelf is the store that was opened, as it is adopted
+  pub adopts : C → Shelf → Type 0
+  -- a fresh room of an owner and a group was made in a store
+  pub made : (owner group : List ℕ) → C → Type 0
+  -- a table of a room is in a store
+  pub taken : C → Type 0
+  pub view : Shelf → View
 
--- `replay` serves the fresh room of this owner and group, and its status tells how that ended
-abbrev pub RunsReplay : (owner group : List ℕ) → Streams → Streams → ℕ → Type 0
-RunsReplay owner group old new status =
-    (done : Result (Unit {0}) Fault) × Replays owner group old.input new.input old.output new.output done × EndsWith (fault_in done) old.errors new.errors status
+abbrev pub means : {M C Shelf : Type 0} → (does : M → Call C → M → Type 0)
+    → (accepts fails : M → M → Type 0) → (adopts : C → Shelf → Type 0)
+    → (made : (owner group : List ℕ) → C → Type 0) → (taken : C → Type 0) → (view : Shelf → View) → Means M C Shelf
+means d a f p m t v = record { does = d; accepts = a; fails = f; adopts = p; made = m; taken = t; view = v }
 
-abbrev pub RunsJob : Job → Streams → Streams → ℕ → Type 0
-RunsJob Check old new status = Checks old new status
+-- the line `selftest ok` goes to the output after a connection was served, or a fault is told
+abbrev pub Tries : {M C : Type 0} → (does : M → Call C → M → Type 0)
+    → (accepts : M → M → Type 0) → (before later : M) → Streams → Streams → ℕ → Type 0
+Tries does accepts before later old new status =
+    (SelftestEnds does accepts before later (Ok tt) × Shows (codes "selftest ok\n") old new status)
+    ⊎ ((new.output ≡ old.output) × (fault : Fault) × SelftestEnds does accepts before later (Err fault)
+    × EndsWith (Some fault) old.errors new.errors status)
+
+abbrev pub RunsJob : {M C Shelf : Type 0} → Means M C Shelf → (before later : M) → Job → Streams → Streams → ℕ → Type 0
+RunsJob m before later Check old new status = (later ≡ before) × Checks old new status
 -- nothing is read, and nothing is written but a fault's line
-RunsJob (Init db owner group) old new status =
-    (new.input ≡ old.input) × (new.output ≡ old.output) × Ends (InitEnds (string_bytes owner) (string_bytes group)) old.errors new.errors status
+RunsJob m before later (Init db owner group) old new status =
+    (new.input ≡ old.input) × (new.output ≡ old.output)
+    × Ends (InitEnds m.does (m.made (string_bytes owner) (string_bytes group)) m.taken
+    (string_bytes db) (string_bytes owner) (string_bytes group) before later)
+    old.errors new.errors status
 -- nothing is read, and the output is the report's
-RunsJob (Report db roster kind) old new status = (new.input ≡ old.input) × Ends ReportEnds old.errors new.errors status
+RunsJob m before later (Report db roster kind) old new status =
+    (new.input ≡ old.input) × Ends (Reports m.does m.adopts m.view (string_bytes db)
+    (string_bytes roster) kind before later old.output new.output) old.errors new.errors status
 -- messages from the input are answered to the output
-RunsJob (Replay roster owner group) old new status = RunsReplay (string_bytes owner) (string_bytes group) old new status
+RunsJob m before later (Replay roster owner group) old new status =
+    Ends (Replays m.does (string_bytes roster) (string_bytes owner) (string_bytes group)
+    before later old.input new.input old.output new.output) old.errors new.errors status
 -- neither stream is touched
-RunsJob (Serve db roster port count) old new status = (new.input ≡ old.input) × (new.output ≡ old.output) × Ends ServeEnds old.errors new.errors status
-RunsJob Selftest old new status = (new.input ≡ old.input) × Tries old new status
+RunsJob m before later (Serve db roster port count) old new status =
+    (new.input ≡ old.input) × (new.output ≡ old.output)
+    × Ends (ServesRoom m.does m.accepts m.fails m.adopts m.view (string_bytes db)
+    (string_bytes roster) port count before later) old.errors new.errors status
+RunsJob m before later Selftest old new status =
+    (new.input ≡ old.input) × Tries m.does m.accepts before later old new status
 
 -- why words name no job; nothing is read
 abbrev pub RefusesWords : WordsFault → Streams → Streams → ℕ → Type 0
@@ -76,10 +109,14 @@ RefusesWords (Help text) old new status = Shows (string_bytes text) old new stat
 RefusesWords Memory old new status =
     (new.output ≡ old.output) × EndsWith (Some fault.Memory) old.errors new.errors status
 
--- the words are read, and their job is run or their fault told
-abbrev pub RunsRead : Result Job WordsFault → Streams → Streams → ℕ → Type 0
-RunsRead (Ok job) old new status = RunsJob job old new status
-RunsRead (Err f) old new status = (new.input ≡ old.input) × RefusesWords f old new status
+-- the words are read, and their job is run or their fault told, which asks nothing of the machine
+abbrev pub RunsRead : {M C Shelf : Type 0} → Means M C Shelf
+    → (before later : M) → Result Job WordsFault → Streams → Streams → ℕ → Type 0
+RunsRead m before later (Ok job) old new status = RunsJob m before later job old new status
+RunsRead m before later (Err f) old new status =
+    (later ≡ before) × (new.input ≡ old.input) × RefusesWords f old new status
 
-abbrev pub Runs : List Text → Streams → Streams → ℕ → Type 0
-Runs words old new status = (read : Result Job WordsFault) × ReadsAs words read × RunsRead read old new status
+abbrev pub Runs : {M C Shelf : Type 0} → Means M C Shelf
+    → (before later : M) → List Text → Streams → Streams → ℕ → Type 0
+Runs m before later words old new status =
+    (read : Result Job WordsFault) × ReadsAs words read × RunsRead m before later read old new status

@@ -5,7 +5,9 @@
 #![tactic(auto)]
 
 mod fault;
+mod host;
 mod listening;
+mod machine;
 mod making;
 mod names;
 mod network;
@@ -19,7 +21,9 @@ mod selftest;
 mod serving;
 
 pub use fault::Fault;
+pub use host::{FileConnection, Host};
 pub use listening::Listener;
+pub use machine::Machine;
 pub use network::serve_listener;
 pub use room_words::{Job, ReportKind, WordsFault, read_words};
-pub use running::run_program;
+pub use running::{run_machine, run_program};

@@ -44,7 +44,8 @@ fn finish(stream: &TcpStream) {
 fn serve_stream<S: Shelf>(stream: &TcpStream, desk: &mut Desk<S>, roster: &Roster)
     ensures frame { DeskCall (S.view desk.old) (S.view desk.new) }
     ensures messages { AnswersSome S.view roster.now desk.old desk.new }
-    ensures run { (S.view desk.new).is_intact → (start : Room) (past : History) → StandsFor start past (S.view desk.old) →
+    ensures run { (S.view desk.new).is_intact → (start : Room) (past : History)
+        → StandsFor start past (S.view desk.old) →
         (next : History) × GoesOn roster.now start past next × StandsFor start next (S.view desk.new) }
 {
     // An answer goes out at once, not with the next one.
@@ -69,7 +70,8 @@ pub fn serve_listener<S: Shelf, L: Listener>(
     ensures fewer { OnErr result (AcceptsFewer L.accepts L.fails count listener.old listener.new) }
     ensures frame { DeskCall (S.view desk.old) (S.view desk.new) }
     ensures messages { AnswersSome S.view roster.now desk.old desk.new }
-    ensures run { (S.view desk.new).is_intact → (start : Room) (past : History) → StandsFor start past (S.view desk.old) →
+    ensures run { (S.view desk.new).is_intact → (start : Room) (past : History)
+        → StandsFor start past (S.view desk.old) →
         (next : History) × GoesOn roster.now start past next × StandsFor start next (S.view desk.new) }
 {
     for served in 0..count {

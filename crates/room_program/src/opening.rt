@@ -1,52 +1,37 @@
 //! The room in a file.
-ghost use Rattle.std.specs.Prelude.{◌≡◌, false, IfOk, IfErr};
-ghost use Rattle.room_program.specs.Ends.{IsStoreFault, IsTakingFault};
+ghost use Rattle.std.specs.Prelude.{◌≡◌, false, IfOk};
+ghost use Rattle.room_program.specs.Files.{Adopted, Adopts, OpensRoom, OpensStore, TakesRoom};
 
 use crate::fault::Fault;
+use crate::machine::Machine;
 use room_sql::{OpenFault, SqlShelf};
-use sqlite::{Connection, Error, ErrorCode};
-use sqlite_std_file::File;
-use sqlite_store::FileStore;
-use std::fs;
+use sqlite::{Alter, Connection, Error, ErrorCode};
+use std::alloc::Global;
 use std::io::ErrorKind;
 
-/// A connection to a file.
-pub(crate) type FileConnection = Connection<FileStore<File>>;
-
-/// Opens the file at this path, or makes it.
-pub(crate) fn open(rt: &HostRuntime, path: &str) -> Result<FileConnection, Fault>
+/// Opens the store at this path, or makes it.
+pub(crate) fn open<S: Alter + Drop, M: Machine<Connection<S>>>(
+    machine: &mut M,
+    path: &str,
+) -> Result<Connection<S>, Fault>
+    ensures opened { OpensStore M.does path.now machine.old machine.new result }
     ensures outside { IfOk result (λ c. c.in_transaction ≡ false) }
-    ensures fault { IfErr result IsStoreFault }
 {
-    match Connection::open(rt, path) {
-        Ok(connection) => Ok(connection),
+    match machine.open(path) {
+        // A store that was just opened is outside a transaction.
+        Ok(connection) if connection.is_autocommit() => Ok(connection),
+        Ok(_) => Err(Fault::StoreFailed),
         Err(Error::SqliteFailure(ErrorCode::OutOfMemory)) => Err(Fault::Memory),
         Err(_) => Err(Fault::StoreFailed),
     }
 }
 
-/// Whether a file with bytes in it is at this path. To open an empty one would begin a database in it.
-fn is_begun(rt: &HostRuntime, path: &str) -> Result<bool, Fault>
-    ensures { IfErr result IsStoreFault }
+/// The shelf over a store that was opened.
+fn adopt<S: Alter + Drop>(alloc: Global, connection: Connection<S>) -> Result<SqlShelf<S>, Fault>
+    requires { connection.in_transaction ≡ false }
+    ensures { Adopts (λ opened shelf. Adopted S.Store opened shelf.conn) connection result }
 {
-    match fs::metadata(rt, path) {
-        Ok(found) => Ok(found.len() > 0),
-        Err(error) if error.kind() == ErrorKind::NotFound => Ok(false),
-        Err(error) if error.kind() == ErrorKind::OutOfMemory => Err(Fault::Memory),
-        Err(_) => Err(Fault::StoreFailed),
-    }
-}
-
-/// Takes the room in the file at this path. A file that is not there is no room and is not made, and
-/// an empty one is no room and stays empty.
-pub(crate) fn take_room(rt: &HostRuntime, path: &str) -> Result<SqlShelf<FileStore<File>>, Fault>
-    ensures { IfErr result IsTakingFault }
-{
-    if !is_begun(rt, path)? {
-        return Err(Fault::NotARoom);
-    }
-    let connection = open(rt, path)?;
-    match SqlShelf::adopt(rt.alloc(), connection) {
+    match SqlShelf::adopt(alloc, connection) {
         Ok(shelf) => Ok(shelf),
         Err((OpenFault::NotARoom, _)) => Err(Fault::NotARoom),
         Err((OpenFault::Memory, _)) => Err(Fault::Memory),
@@ -54,8 +39,35 @@ pub(crate) fn take_room(rt: &HostRuntime, path: &str) -> Result<SqlShelf<FileSto
     }
 }
 
-/// Closes the room's file, so that the log beside it is copied into it. Where that fails, both files
-/// together hold the room still.
-pub(crate) fn close_room(shelf: SqlShelf<FileStore<File>>) {
-    let _ = shelf.into_connection().close();
+/// Opens the store at this path, and takes the room in it.
+fn open_room<S: Alter + Drop, M: Machine<Connection<S>>>(
+    alloc: Global,
+    machine: &mut M,
+    path: &str,
+) -> Result<SqlShelf<S>, Fault>
+    ensures { OpensRoom M.does (λ opened shelf. Adopted S.Store opened shelf.conn)
+        path.now machine.old machine.new result }
+{
+    match open(machine, path) {
+        Ok(connection) => adopt(alloc, connection),
+        Err(fault) => Err(fault),
+    }
+}
+
+/// Takes the room in the file at this path. A file that is not there is no room and is not made, and
+/// an empty one is no room and stays empty.
+pub(crate) fn take_room<S: Alter + Drop, M: Machine<Connection<S>>>(
+    alloc: Global,
+    machine: &mut M,
+    path: &str,
+) -> Result<SqlShelf<S>, Fault>
+    ensures { TakesRoom M.does (λ opened shelf. Adopted S.Store opened shelf.conn)
+        path.now machine.old machine.new result }
+{
+    match machine.is_begun(path) {
+        Ok(true) => open_room(alloc, machine, path),
+        Ok(false) => Err(Fault::NotARoom),
+        Err(error) if error.kind() == ErrorKind::OutOfMemory => Err(Fault::Memory),
+        Err(_) => Err(Fault::StoreFailed),
+    }
 }

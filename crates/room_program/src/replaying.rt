@@ -9,6 +9,7 @@ ghost use Rattle.room_wire.specs.Serving.Ends.{Serves};
 ghost use Rattle.room_program.specs.Replays.{done_of, Replays};
 
 use crate::fault::Fault;
+use crate::machine::Machine;
 use crate::names::standing;
 use crate::rosters::roster_at;
 use room_acl::Standing;
@@ -20,7 +21,8 @@ use std::io::{Read, Write};
 
 /// A desk over a fresh room in memory.
 pub(crate) fn fresh_desk(alloc: Global, standing: Standing) -> Result<Desk<MemShelf>, Fault>
-    ensures stands { IfOk result (λ desk. RepresentsHistory (fresh_room standing.owner standing.group) (mem_records desk) []) }
+    ensures stands { IfOk result
+        (λ desk. RepresentsHistory (fresh_room standing.owner standing.group) (mem_records desk) []) }
     ensures fault { IfErr result (λ fault. fault ≡ Fault.Memory) }
 {
     let Standing { owner, group } = standing;
@@ -50,8 +52,10 @@ fn serve_to_end<R: Read, W: Write>(
     reader: &mut R,
     writer: &mut W,
 ) -> Result<(), Fault>
-    ensures { (start : Room) (past : History) → RepresentsHistory start (mem_records desk) past → (why : Why) × (count : ℕ) × (next : History) × (result ≡ done_of why)
-        × Serves (AnswersMessage roster.now start) past next (R.remaining reader.old) (R.remaining reader.new) (W.contents writer.old) (W.contents writer.new) why count }
+    ensures { (start : Room) (past : History) → RepresentsHistory start (mem_records desk) past
+        → (why : Why) × (count : ℕ) × (next : History) × (result ≡ done_of why)
+        × Serves (AnswersMessage roster.now start) past next (R.remaining reader.old)
+        (R.remaining reader.new) (W.contents writer.old) (W.contents writer.new) why count }
 {
     let mut desk = desk;
     let end = desk.serve(roster, reader, writer);
@@ -60,18 +64,29 @@ fn serve_to_end<R: Read, W: Write>(
 }
 
 /// Serves a fresh room in memory, of this owner and group, to the users of the roster at this path.
-pub(crate) fn replay<R: Read, W: Write>(
-    rt: &HostRuntime,
+pub(crate) fn replay<C, M: Machine<C>, R: Read, W: Write>(
+    alloc: Global,
+    machine: &mut M,
     roster: &str,
     owner: &str,
     group: &str,
     reader: &mut R,
     writer: &mut W,
 ) -> Result<(), Fault>
-    ensures { Replays owner.now group.now (R.remaining reader.old) (R.remaining reader.new) (W.contents writer.old) (W.contents writer.new) result }
+    ensures { Replays M.does roster.now owner.now group.now machine.old machine.new
+        (R.remaining reader.old) (R.remaining reader.new) (W.contents writer.old) (W.contents writer.new) result }
 {
-    let standing = standing(rt.alloc(), owner, group)?;
-    let roster = roster_at(rt, roster)?;
-    let desk = fresh_desk(rt.alloc(), standing)?;
+    let standing = match standing(alloc, owner, group) {
+        Ok(standing) => standing,
+        Err(fault) => return Err(fault),
+    };
+    let roster = match roster_at(alloc, machine, roster) {
+        Ok(roster) => roster,
+        Err(fault) => return Err(fault),
+    };
+    let desk = match fresh_desk(alloc, standing) {
+        Ok(desk) => desk,
+        Err(fault) => return Err(fault),
+    };
     serve_to_end(desk, &roster, reader, writer)
 }

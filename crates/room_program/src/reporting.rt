@@ -1,16 +1,23 @@
 //! Reports of the room in a file.
-ghost use Rattle.room_program.specs.Ends.{ReportEnds};
+ghost use Rattle.std.specs.Prelude.{◌≡◌};
+ghost use Rattle.room_program.specs.Files.{Adopted};
+ghost use Rattle.room_program.specs.Rooms.{Reports, WritesReport, told_as};
 
 use crate::fault::Fault;
+use crate::machine::Machine;
 use crate::opening::take_room;
 use crate::rosters::roster_at;
+use room_records::{Roster, Shelf};
 use room_report::{ReportFault, access_report, list_report};
+use room_sql::SqlShelf;
 use room_words::ReportKind;
+use sqlite::{Alter, Connection};
+use std::alloc::Global;
 use std::io::Write;
 
 /// The fault of a report that is not whole.
 fn told(written: Result<(), ReportFault>) -> Result<(), Fault>
-    ensures { ReportEnds result }
+    ensures { result ≡ told_as written }
 {
     match written {
         Ok(()) => Ok(()),
@@ -20,21 +27,71 @@ fn told(written: Result<(), ReportFault>) -> Result<(), Fault>
     }
 }
 
+/// Writes who may do what.
+fn report_access<R: Shelf, W: Write>(
+    alloc: Global,
+    shelf: &mut R,
+    roster: &Roster,
+    writer: &mut W,
+) -> Result<(), Fault>
+    ensures { WritesReport R.view ReportKind.Access roster.now shelf.old
+        shelf.new (W.contents writer.old) (W.contents writer.new) result }
+{
+    told(access_report(alloc, shelf, roster, writer))
+}
+
+/// Writes every list.
+fn report_lists<R: Shelf, W: Write>(
+    alloc: Global,
+    shelf: &mut R,
+    roster: &Roster,
+    writer: &mut W,
+) -> Result<(), Fault>
+    ensures { WritesReport R.view ReportKind.Lists roster.now shelf.old
+        shelf.new (W.contents writer.old) (W.contents writer.new) result }
+{
+    // The roster is in the contract alone.
+    let _users = roster;
+    told(list_report(alloc, shelf, writer))
+}
+
+/// Writes a report of the room on a shelf.
+fn write_report<R: Shelf, W: Write>(
+    alloc: Global,
+    shelf: &mut R,
+    roster: &Roster,
+    kind: ReportKind,
+    writer: &mut W,
+) -> Result<(), Fault>
+    ensures { WritesReport R.view kind roster.now shelf.old shelf.new
+        (W.contents writer.old) (W.contents writer.new) result }
+{
+    match kind {
+        ReportKind::Access => report_access(alloc, shelf, roster, writer),
+        ReportKind::Lists => report_lists(alloc, shelf, roster, writer),
+    }
+}
+
 /// Writes a report of the room in the file at `db`, with the roster at `roster`.
-pub(crate) fn report<W: Write>(
-    rt: &HostRuntime,
+pub(crate) fn report<S: Alter + Drop, M: Machine<Connection<S>>, W: Write>(
+    alloc: Global,
+    machine: &mut M,
     db: &str,
     roster: &str,
     kind: ReportKind,
     writer: &mut W,
 ) -> Result<(), Fault>
-    ensures { ReportEnds result }
+    ensures { Reports M.does (λ opened shelf. Adopted S.Store opened shelf.conn)
+        ⟦<SqlShelf<S> as Shelf>⟧.view db.now roster.now kind
+        machine.old machine.new (W.contents writer.old) (W.contents writer.new) result }
 {
-    let roster = roster_at(rt, roster)?;
-    let mut shelf = take_room(rt, db)?;
-    let written = match kind {
-        ReportKind::Access => access_report(rt.alloc(), &mut shelf, &roster, writer),
-        ReportKind::Lists => list_report(rt.alloc(), &mut shelf, writer),
+    let roster = match roster_at(alloc, machine, roster) {
+        Ok(roster) => roster,
+        Err(fault) => return Err(fault),
     };
-    told(written)
+    let mut shelf = match take_room(alloc, machine, db) {
+        Ok(shelf) => shelf,
+        Err(fault) => return Err(fault),
+    };
+    write_report(alloc, &mut shelf, &roster, kind, writer)
 }

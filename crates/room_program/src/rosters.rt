@@ -1,19 +1,34 @@
 //! The roster in a file.
-ghost use Rattle.std.specs.Prelude.{IfErr};
-ghost use Rattle.room_program.specs.Ends.{IsRosterFault};
+ghost use Rattle.room_program.specs.Files.{GivesRoster, TakesRoster};
 
 use crate::fault::Fault;
+use crate::machine::Machine;
 use room_records::Roster;
-use room_roster::read_roster;
-use std::fs;
+use room_roster::{RosterFault, read_roster};
+use std::alloc::Global;
 use std::io::ErrorKind;
 
-/// Reads the roster in the file at this path.
-pub(crate) fn roster_at(rt: &HostRuntime, path: &str) -> Result<Roster, Fault>
-    ensures { IfErr result IsRosterFault }
+/// The roster of a text.
+fn roster_of(alloc: Global, text: &str) -> Result<Roster, Fault>
+    ensures { GivesRoster text.now result }
 {
-    match fs::read_to_string(rt, path) {
-        Ok(text) => read_roster(rt.alloc(), text.as_str()).map_err(Fault::of_roster),
+    match read_roster(alloc, text) {
+        Ok(roster) => Ok(roster),
+        Err(RosterFault::Memory) => Err(Fault::Memory),
+        Err(RosterFault::Bad) => Err(Fault::BadRoster),
+    }
+}
+
+/// Reads the roster in the file at this path.
+pub(crate) fn roster_at<C, M: Machine<C>>(
+    alloc: Global,
+    machine: &mut M,
+    path: &str,
+) -> Result<Roster, Fault>
+    ensures { TakesRoster M.does path.now machine.old machine.new result }
+{
+    match machine.read_text(path) {
+        Ok(text) => roster_of(alloc, text.as_str()),
         Err(error) if error.kind() == ErrorKind::OutOfMemory => Err(Fault::Memory),
         Err(_) => Err(Fault::CannotReadRoster),
     }

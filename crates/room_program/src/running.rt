@@ -1,18 +1,32 @@
 //! A run of the program, from its words to its exit status.
 ghost use Rattle.std.specs.Prelude.{◌≡◌};
 ghost use Rattle.room_words.specs.CommandLine.{texts_of};
-ghost use Rattle.room_program.specs.Ends.{InitEnds, ReportEnds, ServeEnds, fault_in};
-ghost use Rattle.room_program.specs.Runs.{Checks, Ends, EndsWith, RefusesWords, Runs, RunsJob, RunsReplay, Shows, Tries, streams};
+ghost use Rattle.room_program.specs.Ends.{InitEnds, fault_in};
+ghost use Rattle.room_program.specs.Files.{Adopted, IsTaken, Made};
+ghost use Rattle.room_program.specs.Replays.{Replays};
+ghost use Rattle.room_program.specs.Rooms.{Reports, ServesRoom};
+ghost use Rattle.room_program.specs.Runs.{Checks, Ends, EndsWith, RefusesWords, Runs, RunsJob, Shows};
+ghost use Rattle.room_program.specs.Runs.{Tries, means, streams};
 
 use crate::fault::Fault;
+use crate::host::{FileConnection, Host};
+use crate::listening::Listener;
+use crate::machine::Machine;
 use crate::making::init;
 use crate::printing::print_all;
 use crate::replaying::replay;
 use crate::reporting::report;
 use crate::selftest::selftest;
 use crate::serving::serve;
+use room_records::Shelf;
+use room_sql::SqlShelf;
 use room_wire::serve_checks;
 use room_words::{Job, ReportKind, WordsFault, read_words};
+use sqlite::{Alter, Connection};
+use sqlite_std_file::File;
+use sqlite_store::FileStore;
+use sqlite_trees::store::Store;
+use std::alloc::Global;
 use std::io::{Read, Write};
 
 /// The job was done.
@@ -48,7 +62,7 @@ fn fault_in(done: Result<(), Fault>) -> Option<Fault>
 
 /// Answers questions from the input to the output.
 fn run_check<R: Read, W: Write, E: Write>(
-    rt: &HostRuntime,
+    alloc: Global,
     input: &mut R,
     output: &mut W,
     errors: &mut E,
@@ -57,31 +71,8 @@ fn run_check<R: Read, W: Write, E: Write>(
         (streams (R.remaining input.old) (W.contents output.old) (E.contents errors.old))
         (streams (R.remaining input.new) (W.contents output.new) (E.contents errors.new)) result }
 {
-    let end = serve_checks(rt.alloc(), input, output);
+    let end = serve_checks(alloc, input, output);
     end_with(Fault::of_end(end.why), errors)
-}
-
-/// Makes a room in a file.
-fn run_init<E: Write>(rt: &HostRuntime, db: &str, owner: &str, group: &str, errors: &mut E) -> u8
-    ensures { Ends (InitEnds owner.now group.now) (E.contents errors.old) (E.contents errors.new) result }
-{
-    let done = init(rt, db, owner, group);
-    tell(done, errors)
-}
-
-/// Writes a report of the room in a file.
-fn run_report<W: Write, E: Write>(
-    rt: &HostRuntime,
-    db: &str,
-    roster: &str,
-    kind: ReportKind,
-    output: &mut W,
-    errors: &mut E,
-) -> u8
-    ensures { Ends ReportEnds (E.contents errors.old) (E.contents errors.new) result }
-{
-    let done = report(rt, db, roster, kind, output);
-    tell(done, errors)
 }
 
 /// Tells the fault of a job, if it is not done.
@@ -89,39 +80,6 @@ fn tell<E: Write>(done: Result<(), Fault>, errors: &mut E) -> u8
     ensures { EndsWith (fault_in done) (E.contents errors.old) (E.contents errors.new) result }
 {
     end_with(fault_in(done), errors)
-}
-
-/// Serves the room in a file.
-fn run_serve<E: Write>(
-    rt: &HostRuntime,
-    db: &str,
-    roster: &str,
-    port: u16,
-    count: u32,
-    errors: &mut E,
-) -> u8
-    ensures { Ends ServeEnds (E.contents errors.old) (E.contents errors.new) result }
-{
-    let done = serve(rt, db, roster, port, count);
-    tell(done, errors)
-}
-
-/// Serves a fresh room from the input to the output.
-fn run_replay<R: Read, W: Write, E: Write>(
-    rt: &HostRuntime,
-    roster: &str,
-    owner: &str,
-    group: &str,
-    input: &mut R,
-    output: &mut W,
-    errors: &mut E,
-) -> u8
-    ensures { RunsReplay owner.now group.now
-        (streams (R.remaining input.old) (W.contents output.old) (E.contents errors.old))
-        (streams (R.remaining input.new) (W.contents output.new) (E.contents errors.new)) result }
-{
-    let done = replay(rt, roster, owner, group, input, output);
-    tell(done, errors)
 }
 
 /// Writes a text to the output.
@@ -138,36 +96,131 @@ fn show<W: Write, E: Write>(text: &str, output: &mut W, errors: &mut E) -> u8
 }
 
 /// Tries a room in memory over a socket.
-fn run_selftest<W: Write, E: Write>(rt: &HostRuntime, output: &mut W, errors: &mut E) -> u8
-    ensures { Tries
+fn run_selftest<C, M: Machine<C> + Listener, W: Write, E: Write>(
+    alloc: Global,
+    machine: &mut M,
+    output: &mut W,
+    errors: &mut E,
+) -> u8
+    ensures { Tries M.does M.accepts machine.old machine.new
         (streams None (W.contents output.old) (E.contents errors.old))
         (streams None (W.contents output.new) (E.contents errors.new)) result }
 {
-    match selftest(rt) {
+    match selftest(alloc, machine) {
         Ok(()) => show("selftest ok\n", output, errors),
         Err(fault) => end_with(Some(fault), errors),
     }
 }
 
+/// Makes a room in a file.
+fn run_init<S: Alter + Drop, M: Machine<Connection<S>>, E: Write>(
+    alloc: Global,
+    machine: &mut M,
+    db: &str,
+    owner: &str,
+    group: &str,
+    errors: &mut E,
+) -> u8
+    ensures { Ends (InitEnds M.does (Made S.Store owner.now group.now)
+        IsTaken db.now owner.now group.now machine.old machine.new)
+        (E.contents errors.old) (E.contents errors.new) result }
+{
+    let done = init(alloc, machine, db, owner, group);
+    tell(done, errors)
+}
+
+/// Writes a report of the room in a file.
+fn run_report<S: Alter + Drop, M: Machine<Connection<S>>, W: Write, E: Write>(
+    alloc: Global,
+    machine: &mut M,
+    db: &str,
+    roster: &str,
+    kind: ReportKind,
+    output: &mut W,
+    errors: &mut E,
+) -> u8
+    ensures { Ends (Reports M.does (λ opened shelf. Adopted S.Store opened shelf.conn)
+        ⟦<SqlShelf<S> as Shelf>⟧.view db.now roster.now kind
+        machine.old machine.new (W.contents output.old) (W.contents output.new))
+        (E.contents errors.old) (E.contents errors.new) result }
+{
+    let done = report(alloc, machine, db, roster, kind, output);
+    tell(done, errors)
+}
+
+/// Serves a fresh room from the input to the output.
+fn run_replay<C, M: Machine<C>, R: Read, W: Write, E: Write>(
+    alloc: Global,
+    machine: &mut M,
+    roster: &str,
+    owner: &str,
+    group: &str,
+    input: &mut R,
+    output: &mut W,
+    errors: &mut E,
+) -> u8
+    ensures { Ends (Replays M.does roster.now owner.now group.now machine.old machine.new
+        (R.remaining input.old) (R.remaining input.new) (W.contents output.old) (W.contents output.new))
+        (E.contents errors.old) (E.contents errors.new) result }
+{
+    let done = replay(alloc, machine, roster, owner, group, input, output);
+    tell(done, errors)
+}
+
+/// Serves the room in a file.
+fn run_serve<S: Alter + Drop, M: Machine<Connection<S>> + Listener, E: Write>(
+    alloc: Global,
+    machine: &mut M,
+    db: &str,
+    roster: &str,
+    port: u16,
+    count: u32,
+    errors: &mut E,
+) -> u8
+    ensures { Ends (ServesRoom M.does M.accepts M.fails
+        (λ opened shelf. Adopted S.Store opened shelf.conn) ⟦<SqlShelf<S> as Shelf>⟧.view
+        db.now roster.now port count machine.old machine.new)
+        (E.contents errors.old) (E.contents errors.new) result }
+{
+    let done = serve(alloc, machine, db, roster, port, count);
+    tell(done, errors)
+}
+
 /// Runs a job.
-fn run_job<R: Read, W: Write, E: Write>(
-    rt: &HostRuntime,
+fn run_job<S: Alter + Drop, M: Machine<Connection<S>> + Listener, R: Read, W: Write, E: Write>(
+    alloc: Global,
+    machine: &mut M,
     job: &Job,
     input: &mut R,
     output: &mut W,
     errors: &mut E,
 ) -> u8
-    ensures { RunsJob job.now
+    ensures { RunsJob (means M.does M.accepts M.fails (λ opened shelf. Adopted S.Store opened shelf.conn)
+        (Made S.Store) IsTaken ⟦<SqlShelf<S> as Shelf>⟧.view)
+        machine.old machine.new job.now
         (streams (R.remaining input.old) (W.contents output.old) (E.contents errors.old))
         (streams (R.remaining input.new) (W.contents output.new) (E.contents errors.new)) result }
 {
     match job {
-        Job::Check => run_check(rt, input, output, errors),
-        Job::Init { db, owner, group } => {
-            run_init(rt, db.as_str(), owner.as_str(), group.as_str(), errors)
-        }
+        Job::Check => run_check(alloc, input, output, errors),
+        Job::Init { db, owner, group } => run_init(
+            alloc,
+            machine,
+            db.as_str(),
+            owner.as_str(),
+            group.as_str(),
+            errors,
+        ),
         Job::Report { db, roster, kind } => {
-            run_report(rt, db.as_str(), roster.as_str(), *kind, output, errors)
+            run_report(
+                alloc,
+                machine,
+                db.as_str(),
+                roster.as_str(),
+                *kind,
+                output,
+                errors,
+            )
         }
         Job::Replay {
             roster,
@@ -175,7 +228,8 @@ fn run_job<R: Read, W: Write, E: Write>(
             group,
         } => {
             run_replay(
-                rt,
+                alloc,
+                machine,
                 roster.as_str(),
                 owner.as_str(),
                 group.as_str(),
@@ -189,8 +243,18 @@ fn run_job<R: Read, W: Write, E: Write>(
             roster,
             port,
             count,
-        } => run_serve(rt, db.as_str(), roster.as_str(), *port, *count, errors),
-        Job::Selftest => run_selftest(rt, output, errors),
+        } => {
+            run_serve(
+                alloc,
+                machine,
+                db.as_str(),
+                roster.as_str(),
+                *port,
+                *count,
+                errors,
+            )
+        }
+        Job::Selftest => run_selftest(alloc, machine, output, errors),
     }
 }
 
@@ -210,6 +274,34 @@ fn refuse_words<W: Write, E: Write>(fault: &WordsFault, output: &mut W, errors: 
     }
 }
 
+/// Runs the program over a machine, as `run_program` does over the system. Its contract says what
+/// was asked of the machine, and that the run follows what it answered.
+pub fn run_machine<
+    S: Alter + Drop,
+    M: Machine<Connection<S>> + Listener,
+    R: Read,
+    W: Write,
+    E: Write,
+>(
+    alloc: Global,
+    machine: &mut M,
+    words: &[String],
+    input: &mut R,
+    output: &mut W,
+    errors: &mut E,
+) -> u8
+    ensures { Runs (means M.does M.accepts M.fails (λ opened shelf. Adopted S.Store opened shelf.conn)
+        (Made S.Store) IsTaken ⟦<SqlShelf<S> as Shelf>⟧.view)
+        machine.old machine.new (texts_of words.now)
+        (streams (R.remaining input.old) (W.contents output.old) (E.contents errors.old))
+        (streams (R.remaining input.new) (W.contents output.new) (E.contents errors.new)) result }
+{
+    match read_words(alloc, words) {
+        Ok(job) => run_job(alloc, machine, &job, input, output, errors),
+        Err(fault) => refuse_words(&fault, output, errors),
+    }
+}
+
 /// Runs the program on the words behind its name, and answers its exit status: 0 where the job was
 /// done or help was shown, 1 after a fault, whose line goes to `errors`, 2 where the words are no
 /// row of the command table. Memory is taken from `rt`.
@@ -220,12 +312,14 @@ pub fn run_program<R: Read, W: Write, E: Write>(
     output: &mut W,
     errors: &mut E,
 ) -> u8
-    ensures { Runs (texts_of words.now)
+    ensures { (before later : _) × Runs (means ⟦<Host<'static> as Machine<FileConnection>>⟧.does
+        ⟦<Host<'static> as Listener>⟧.accepts ⟦<Host<'static> as Listener>⟧.fails
+        (λ opened shelf. Adopted ⟦<FileStore<File> as Store>⟧ opened shelf.conn)
+        (Made ⟦<FileStore<File> as Store>⟧) IsTaken ⟦<SqlShelf<FileStore<File>> as Shelf>⟧.view)
+        before later (texts_of words.now)
         (streams (R.remaining input.old) (W.contents output.old) (E.contents errors.old))
         (streams (R.remaining input.new) (W.contents output.new) (E.contents errors.new)) result }
 {
-    match read_words(rt.alloc(), words) {
-        Ok(job) => run_job(rt, &job, input, output, errors),
-        Err(fault) => refuse_words(&fault, output, errors),
-    }
+    let mut host = Host::new(rt);
+    run_machine(rt.alloc(), &mut host, words, input, output, errors)
 }

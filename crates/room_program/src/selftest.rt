@@ -1,8 +1,10 @@
 //! Trying a room in memory over a socket to itself.
-ghost use Rattle.std.specs.Prelude.{Err, IfErr};
-ghost use Rattle.room_program.specs.Ends.{SelftestEnds};
+ghost use Rattle.std.specs.Prelude.{IfErr};
+ghost use Rattle.room_program.specs.Ends.{IsSelftestFault, SelftestEnds};
 
 use crate::fault::Fault;
+use crate::listening::Listener;
+use crate::machine::Machine;
 use crate::names::standing;
 use crate::network::serve_listener;
 use crate::replaying::fresh_desk;
@@ -11,7 +13,7 @@ use room_records::{MemShelf, Roster};
 use room_roster::{RosterFault, read_roster};
 use std::alloc::Global;
 use std::io::{Read, Write};
-use std::net::{Ipv4Addr, Shutdown, TcpListener, TcpStream};
+use std::net::{Shutdown, TcpStream};
 
 const ROSTER: &str = "[users]\nann = [\"eng\"]\nbob = [\"eng\", \"staff\"]\neng = []\n";
 
@@ -30,7 +32,7 @@ HTTP/1.1 200 OK\r\ncontent-type: application/json\r\ncontent-length: 10\r\n\r\n{
 HTTP/1.1 200 OK\r\ncontent-type: application/json\r\ncontent-length: 10\r\n\r\n{\"code\":0}";
 
 fn users(alloc: Global) -> Result<Roster, Fault>
-    ensures { IfErr result (λ fault. SelftestEnds (Err fault)) }
+    ensures { IfErr result IsSelftestFault }
 {
     match read_roster(alloc, ROSTER) {
         Ok(roster) => Ok(roster),
@@ -40,7 +42,7 @@ fn users(alloc: Global) -> Result<Roster, Fault>
 }
 
 fn desk(alloc: Global) -> Result<Desk<MemShelf>, Fault>
-    ensures { IfErr result (λ fault. SelftestEnds (Err fault)) }
+    ensures { IfErr result IsSelftestFault }
 {
     match standing(alloc, "ann", "eng") {
         Ok(standing) => fresh_desk(alloc, standing),
@@ -51,7 +53,7 @@ fn desk(alloc: Global) -> Result<Desk<MemShelf>, Fault>
 
 /// The client's end: what it writes before it is served. It writes no more then.
 fn ask(client: &TcpStream) -> Result<(), Fault>
-    ensures { SelftestEnds result }
+    ensures { IfErr result IsSelftestFault }
 {
     let mut writer = client;
     if writer.write_all(REQUESTS.as_bytes()).is_err() || client.shutdown(Shutdown::Write).is_err() {
@@ -62,7 +64,7 @@ fn ask(client: &TcpStream) -> Result<(), Fault>
 
 /// Whether the client's end has the answers, and nothing behind them.
 fn is_answered(alloc: Global, client: &TcpStream) -> Result<(), Fault>
-    ensures { SelftestEnds result }
+    ensures { IfErr result IsSelftestFault }
 {
     let mut answers = Vec::new(alloc);
     let mut reader = client;
@@ -73,32 +75,42 @@ fn is_answered(alloc: Global, client: &TcpStream) -> Result<(), Fault>
 }
 
 /// Both ends of a connection, one after the other.
-fn talk(rt: &HostRuntime, desk: &mut Desk<MemShelf>, roster: &Roster) -> Result<(), Fault>
-    ensures { SelftestEnds result }
+fn talk<C, M: Machine<C> + Listener>(
+    alloc: Global,
+    machine: &mut M,
+    desk: &mut Desk<MemShelf>,
+    roster: &Roster,
+) -> Result<(), Fault>
+    ensures { SelftestEnds M.does M.accepts machine.old machine.new result }
 {
-    let Ok(mut listener) = TcpListener::bind(rt, (Ipv4Addr::LOCALHOST, 0)) else {
+    let Ok(client) = machine.connect() else {
         return Err(Fault::SelftestFailed);
     };
-    let Ok(address) = listener.local_addr() else {
-        return Err(Fault::SelftestFailed);
-    };
-    let Ok(client) = TcpStream::connect(rt, address) else {
-        return Err(Fault::SelftestFailed);
-    };
-    ask(&client)?;
-    if serve_listener(&mut listener, desk, roster, 1).is_err() {
+    if ask(&client).is_err() {
         return Err(Fault::SelftestFailed);
     }
-    is_answered(rt.alloc(), &client)
+    match serve_listener(machine, desk, roster, 1) {
+        Ok(()) => is_answered(alloc, &client),
+        Err(_) => Err(Fault::SelftestFailed),
+    }
 }
 
 /// Asks a fresh room in memory over a socket to itself, one end after the other.
-pub(crate) fn selftest(rt: &HostRuntime) -> Result<(), Fault>
-    ensures { SelftestEnds result }
+pub(crate) fn selftest<C, M: Machine<C> + Listener>(
+    alloc: Global,
+    machine: &mut M,
+) -> Result<(), Fault>
+    ensures { SelftestEnds M.does M.accepts machine.old machine.new result }
 {
-    let roster = users(rt.alloc())?;
-    let mut desk = desk(rt.alloc())?;
-    let tried = talk(rt, &mut desk, &roster);
+    let roster = match users(alloc) {
+        Ok(roster) => roster,
+        Err(fault) => return Err(fault),
+    };
+    let mut desk = match desk(alloc) {
+        Ok(desk) => desk,
+        Err(fault) => return Err(fault),
+    };
+    let tried = talk(alloc, machine, &mut desk, &roster);
     let _ = desk.into_shelf();
     tried
 }

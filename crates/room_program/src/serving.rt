@@ -1,33 +1,83 @@
 //! Serving the room in a file.
-ghost use Rattle.room_program.specs.Ends.{ServeEnds};
+ghost use Rattle.std.specs.Prelude.{◌≡◌};
+ghost use Rattle.room_program.specs.Files.{Adopted};
+ghost use Rattle.room_program.specs.Rooms.{Listens, ServesAll, ServesRoom, done_of};
 
 use crate::fault::Fault;
+use crate::listening::Listener;
+use crate::machine::Machine;
 use crate::network::serve_listener;
-use crate::opening::{close_room, take_room};
+use crate::opening::take_room;
 use crate::rosters::roster_at;
 use room_desk::Desk;
-use std::net::{Ipv4Addr, TcpListener};
+use room_records::{Roster, Shelf};
+use room_sql::SqlShelf;
+use sqlite::{Alter, Connection};
+use std::alloc::Global;
+use std::io;
+
+/// How the program tells the end of serving connections.
+fn served(end: io::Result<()>) -> Result<(), Fault>
+    ensures { result ≡ done_of end }
+{
+    match end {
+        Ok(()) => Ok(()),
+        Err(_) => Err(Fault::NetworkFailed),
+    }
+}
+
+/// Serves `count` connections over a desk.
+fn serve_all<R: Shelf, L: Listener>(
+    listener: &mut L,
+    desk: &mut Desk<R>,
+    roster: &Roster,
+    count: u32,
+) -> Result<(), Fault>
+    ensures { ServesAll L.accepts L.fails R.view roster.now count listener.old listener.new desk.old desk.new result }
+{
+    served(serve_listener(listener, desk, roster, count))
+}
+
+/// Listens on this port of 127.0.0.1, and serves `count` connections over a desk.
+fn listen<C, R: Shelf, M: Machine<C> + Listener>(
+    machine: &mut M,
+    desk: &mut Desk<R>,
+    roster: &Roster,
+    port: u16,
+    count: u32,
+) -> Result<(), Fault>
+    ensures { Listens M.does M.accepts M.fails R.view roster.now
+        port count machine.old machine.new desk.old desk.new result }
+{
+    match machine.listen(port) {
+        Ok(()) => serve_all(machine, desk, roster, count),
+        Err(_) => Err(Fault::NetworkFailed),
+    }
+}
 
 /// Serves the room in the file at `db` on this port of 127.0.0.1, over `count` connections.
-pub(crate) fn serve(
-    rt: &HostRuntime,
+pub(crate) fn serve<S: Alter + Drop, M: Machine<Connection<S>> + Listener>(
+    alloc: Global,
+    machine: &mut M,
     db: &str,
     roster: &str,
     port: u16,
     count: u32,
 ) -> Result<(), Fault>
-    ensures { ServeEnds result }
+    ensures { ServesRoom M.does M.accepts M.fails
+        (λ opened shelf. Adopted S.Store opened shelf.conn) ⟦<SqlShelf<S> as Shelf>⟧.view
+        db.now roster.now port count machine.old machine.new result }
 {
-    let roster = roster_at(rt, roster)?;
-    let shelf = take_room(rt, db)?;
-    let Ok(mut listener) = TcpListener::bind(rt, (Ipv4Addr::LOCALHOST, port)) else {
-        return Err(Fault::NetworkFailed);
+    let roster = match roster_at(alloc, machine, roster) {
+        Ok(roster) => roster,
+        Err(fault) => return Err(fault),
     };
-    let mut desk = Desk::new(rt.alloc(), shelf);
-    let served = serve_listener(&mut listener, &mut desk, &roster, count);
-    close_room(desk.into_shelf());
-    match served {
-        Ok(()) => Ok(()),
-        Err(_) => Err(Fault::NetworkFailed),
-    }
+    let shelf = match take_room(alloc, machine, db) {
+        Ok(shelf) => shelf,
+        Err(fault) => return Err(fault),
+    };
+    let mut desk = Desk::new(alloc, shelf);
+    let done = listen(machine, &mut desk, &roster, port, count);
+    M::close(desk.into_shelf().into_connection());
+    done
 }

@@ -1,5 +1,6 @@
 -- The fresh room is a room, and two rows stand for it.
-use Rattle.std.proofs.Common.{◌≡◌, ℕ, refl, true, false, Bool, List, [], ◌∷◌, ◌++◌, None, Some, length, ap, sym, ◌∙◌, ◌≤◌, arith, subst}
+use Rattle.std.proofs.Common.{◌≡◌, ℕ, refl, true, false, Bool, List, [], ◌∷◌, ◌++◌, None, Some, length, ap}
+use Rattle.std.proofs.Common.{sym, ◌∙◌, ◌≤◌, arith, subst}
 use Rattle.std.specs.Prelude.{cond, ◌==◌}
 use Rattle.std.proofs.lemmas.Bool.{eqb-true}
 use Rattle.room_records.specs.declared.node.Node.{Node}
@@ -26,8 +27,14 @@ module _ (owner group : List ℕ) where
   pub fresh_is_room : IsRoom (fresh_room owner group)
   fresh_is_room = record {
     root = (root_object, refl, refl);
-    parents = λ path name o e. absurd (let e' : None ≡ Some o = ap (λ b. cond b (Some root_object) None) (sym (not_root path name)) ∙ e in cc);
-    once = (record { short = omega arith; names = tt }, record { few_entries = omega arith; own_entries = refl; small = omega arith; folder = λ _. refl }, refl, tt);
+    parents = λ path name o e.
+        absurd (let e' : None ≡ Some o = ap (λ b. cond b (Some root_object) None) (sym (not_root path name)) ∙ e in cc);
+    once = (
+      record { short = omega arith; names = tt },
+      record { few_entries = omega arith; own_entries = refl; small = omega arith; folder = λ _. refl },
+      refl,
+      tt,
+    );
     few = few_there;
   }
 
@@ -61,7 +68,8 @@ module _ (owner group : List ℕ) where
 
   pub rules : ObjectRules rows
   rules = record {
-    numbered = λ id node h. let p = at_one id node h in (sym (ap (λ (n : Node). n.id) p.1) ∙ sym p.0, omega (arith, p.0), omega (arith, p.0));
+    numbered = λ id node h. let p = at_one id node h in
+        (sym (ap (λ (n : Node). n.id) p.1) ∙ sym p.0, omega (arith, p.0), omega (arith, p.0));
     root = record { no_parent = refl; no_name = refl; folder = refl };
     has_root = refl;
     below = λ id node h other. absurd (other (at_one id node h).0);
@@ -79,14 +87,16 @@ module _ (owner group : List ℕ) where
     shows = record { kind = refl; owner = refl; group = refl; aclflag = refl; entries = refl; bytes = refl };
   }
 
-  only_root : (path : Path) (o : Object) → object_at (fresh_room owner group) path ≡ Some o → (id : ℕ) × (node : Node) × NodeIsObject rows (fresh_room owner group) id node path o
+  only_root : (path : Path) (o : Object) → object_at (fresh_room owner group) path ≡ Some o
+      → (id : ℕ) × (node : Node) × NodeIsObject rows (fresh_room owner group) id node path o
   only_root [] o h =
       let P : Object → Type 0 = λ p. NodeIsObject rows (fresh_room owner group) 1 root_node [] p in
       let e : root_object ≡ o = cc in
       (1, root_node, subst P e meets_root)
   only_root (a ∷ path) o h = absurd cc
 
-  node_there : (id : ℕ) (node : Node) → rows.node id ≡ Some node → (path : Path) × (o : Object) × NodeIsObject rows (fresh_room owner group) id node path o
+  node_there : (id : ℕ) (node : Node) → rows.node id ≡ Some node
+      → (path : Path) × (o : Object) × NodeIsObject rows (fresh_room owner group) id node path o
   node_there id node h =
       let p = at_one id node h in
       let P : ℕ → Type 0 = λ i. NodeIsObject rows (fresh_room owner group) i root_node [] root_object in

@@ -15,14 +15,17 @@ fresh_rules owner group = record {
   slots = record { sessions = λ sid row h. absurd cc; slots = λ sid slot h. absurd cc };
 }
 
-pub fresh_represents : (owner group : List ℕ) → RepresentsRoom (fresh_records owner group).objects (fresh_room owner group)
+pub fresh_represents : (owner group : List ℕ)
+    → RepresentsRoom (fresh_records owner group).objects (fresh_room owner group)
 fresh_represents owner group = fresh_stands owner group
 
 pub rules_of : (r : Records) (owner group : List ℕ) → r ≡ fresh_records owner group → RulesHold r
 rules_of r owner group is = subst RulesHold (sym is) (fresh_rules owner group)
 
-pub represents_of : (r : Records) (owner group : List ℕ) → r ≡ fresh_records owner group → RepresentsRoom r.objects (fresh_room owner group)
-represents_of r owner group is = let P : Records → Type 0 = λ q. RepresentsRoom q.objects (fresh_room owner group) in subst P (sym is) (fresh_represents owner group)
+pub represents_of : (r : Records) (owner group : List ℕ)
+    → r ≡ fresh_records owner group → RepresentsRoom r.objects (fresh_room owner group)
+represents_of r owner group is = let P : Records → Type 0 = λ q. RepresentsRoom q.objects (fresh_room owner group) in
+    subst P (sym is) (fresh_represents owner group)
 
 pub free_of_none : (nodes : ℕ → Option Node) (node : Node) → ((id : ℕ) → nodes id ≡ None) → IsFreeFor nodes node
 free_of_none nodes node none = λ other is _ _. absurd (let h : None ≡ Some other = sym (none other.id) ∙ is in cc)

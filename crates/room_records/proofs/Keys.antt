@@ -1,5 +1,5 @@
 -- A function that changes at one key.
-use Rattle.std.proofs.Common.{◌≡◌, ℕ, refl, ap, sym, ◌∙◌, true, false, cond, inl, inr, ◌⊎◌, Option, None, Some}
+use Rattle.std.proofs.Common.{◌≡◌, ℕ, refl, ap, sym, ◌∙◌, false, cond, inl, inr, ◌⊎◌, Option, None, Some}
 use Rattle.std.specs.Cmp.{IsTotalOrder}
 use Rattle.std.specs.Option.{option_cmp}
 use Rattle.std.specs.Ordering.{is_eq, eq_by_cmp, nat_cmp, ordering_then}
@@ -19,9 +19,6 @@ module _ {K : Type 0} (cmp : K → K → Ordering) (total : IsTotalOrder cmp) (e
   pub same_key : (a b : K) → (a ≡ b) ⊎ (a ≡ b → ⊥)
   same_key a b = by (cmp a b) refl
     where
-      less_is_not_equal : (o : Ordering) → o ≡ Equal → is_eq o ≡ true
-      less_is_not_equal o e = ap is_eq e
-
       self : a ≡ b → cmp a b ≡ Equal
       self e = ap (λ c. cmp a c) (sym e) ∙ tied_itself total a
 
@@ -30,7 +27,8 @@ module _ {K : Type 0} (cmp : K → K → Ordering) (total : IsTotalOrder cmp) (e
       by Equal is = inl (exact a b is)
       by Greater is = inr (λ e. let h : Greater ≡ Equal = sym is ∙ self e in cc)
 
-  pub updated : {X : Type 0} (new old : K → Option X) (key : K) (value : Option X) → ((k : K) → new k ≡ cond (eq_by_cmp cmp key k) value (old k)) → Updated new old key value
+  pub updated : {X : Type 0} (new old : K → Option X) (key : K) (value : Option X)
+      → ((k : K) → new k ≡ cond (eq_by_cmp cmp key k) value (old k)) → Updated new old key value
   updated new old key value h = record {
     here = h key ∙ ap (λ b. cond b value (old key)) (ap is_eq (tied_itself total key));
     other = λ k apart. h k ∙ ap (λ b. cond b value (old k)) (not_equal k (cmp key k) refl apart);
@@ -63,7 +61,8 @@ pub same_number : (a b : ℕ) → (a ≡ b) ⊎ (a ≡ b → ⊥)
 same_number = same_key nat_cmp nat_cmp_total exact_unsigned
 
 pub place_total : IsTotalOrder place_cmp
-place_total = then_total (on_total (λ (p : PlaceKey). p.0) nat_cmp_total) (on_total (λ (p : PlaceKey). p.1) (options_total nat_list_cmp_total))
+place_total = then_total (on_total (λ (p : PlaceKey). p.0) nat_cmp_total)
+    (on_total (λ (p : PlaceKey). p.1) (options_total nat_list_cmp_total))
 
 pub same_place : (a b : PlaceKey) → (a ≡ b) ⊎ (a ≡ b → ⊥)
 same_place = same_key place_cmp place_total exact_places

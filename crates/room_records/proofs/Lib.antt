@@ -14,6 +14,5 @@ pub mod FreshRows
 pub mod RoomsMap
 pub mod RoomsChildren
 pub mod RoomsLists
-pub mod Fronts
 pub mod Folders
 pub mod RulesKept

@@ -2,12 +2,14 @@
 use Rattle.std.proofs.Common.{◌≡◌, ℕ, ◌<◌, refl, List, [], ◌∷◌, ◌++◌, length, get_or, suc, zero, Some, arith}
 use Rattle.std.specs.List.{AllByRecursion, slice_get, Contains}
 
-pub all_at : {X : Type 0} (P : X → Type 0) (xs : List X) (i : ℕ) (d : X) → AllByRecursion P xs → i < length xs → P (get_or xs i d)
+pub all_at : {X : Type 0} (P : X → Type 0) (xs : List X) (i : ℕ) (d : X)
+    → AllByRecursion P xs → i < length xs → P (get_or xs i d)
 all_at P [] i d all below = absurd (omega arith)
 all_at P (x ∷ xs) zero d all below = all.0
 all_at P (x ∷ xs) (suc i) d all below = all_at P xs i d all.1 (omega arith)
 
-pub all_append : {X : Type 0} (P : X → Type 0) (xs ys : List X) → AllByRecursion P xs → AllByRecursion P ys → AllByRecursion P (xs ++ ys)
+pub all_append : {X : Type 0} (P : X → Type 0) (xs ys : List X)
+    → AllByRecursion P xs → AllByRecursion P ys → AllByRecursion P (xs ++ ys)
 all_append P [] ys all more = more
 all_append P (x ∷ xs) ys all more = (all.0, all_append P xs ys all.1 more)
 
@@ -22,6 +24,8 @@ contains_later xs x y (k, below, is) = (suc k, omega (arith, below), is)
 pub contains_first : {X : Type 0} (xs : List X) (x : X) → Contains (x ∷ xs) x
 contains_first xs x = (zero, omega arith, refl)
 
-pub all_of_contained : {X : Type 0} (P : X → Type 0) (xs : List X) → ((x : X) → Contains xs x → P x) → AllByRecursion P xs
+pub all_of_contained : {X : Type 0} (P : X → Type 0) (xs : List X)
+    → ((x : X) → Contains xs x → P x) → AllByRecursion P xs
 all_of_contained P [] each = tt
-all_of_contained P (x ∷ xs) each = (each x (contains_first xs x), all_of_contained P xs (λ y h. each y (contains_later xs y x h)))
+all_of_contained P (x ∷ xs) each =
+    (each x (contains_first xs x), all_of_contained P xs (λ y h. each y (contains_later xs y x h)))

@@ -1,5 +1,6 @@
 -- The records of a shelf in memory, after one of its tables changes.
-use Rattle.std.proofs.Common.{◌≡◌, ℕ, ◌<◌, refl, ap, sym, ◌∙◌, subst, true, false, Bool, cond, inl, inr, ◌⊎◌, List, [], ◌∷◌, ◌++◌, Option, None, Some, IsSome, arith, nat_cmp}
+use Rattle.std.proofs.Common.{◌≡◌, ℕ, ◌<◌, refl, ap, sym, ◌∙◌, subst, true, false, Bool, cond, inl, inr, ◌⊎◌, List, []}
+use Rattle.std.proofs.Common.{◌∷◌, ◌++◌, Option, None, Some, IsSome, arith, nat_cmp}
 use Rattle.std.specs.Prelude.{◌==◌, ◌&&◌}
 use Rattle.std.specs.List.{AllByRecursion}
 use Rattle.std.specs.Ordering.{is_eq, eq_by_cmp}
@@ -9,7 +10,8 @@ use Rattle.std.specs.declared.cmp.Ordering.TheVariants.{Less, Equal, Greater}
 use Rattle.std.proofs.lemmas.Cmp.{tied_itself, nat_cmp_total}
 use Rattle.std.proofs.lemmas.Map.Lookups.{exact_unsigned}
 use Rattle.room_records.specs.declared.change.Change.{Change}
-use Rattle.room_records.specs.declared.change.Change.TheVariants.{PutNode, DropNode, PutEntries, PutDoc, PutSession, PutSlot, DropSlots, PutNext}
+use Rattle.room_records.specs.declared.change.Change.TheVariants.{PutNode, DropNode, PutEntries, PutDoc, PutSession}
+use Rattle.room_records.specs.declared.change.Change.TheVariants.{PutSlot, DropSlots, PutNext}
 use Rattle.room_records.specs.declared.session.SlotRow.{SlotRow}
 use Rattle.room_records.specs.declared.mem.MemShelf.{MemShelf}
 use Rattle.room_records.specs.Limits.{max_slots}
@@ -17,7 +19,7 @@ use Rattle.room_records.specs.Records.{Records}
 use Rattle.room_records.specs.Rules.{RulesHold}
 use Rattle.room_records.specs.Changes.{apply_change, apply_changes, RulesHoldAfterEach}
 use Rattle.room_records.specs.Sessions.{HaveSlotCounts}
-use Rattle.room_records.specs.Mem.{HasRoomFor, KeepsRoom, AreSameChanges}
+use Rattle.room_records.specs.Mem.{HasSpaceFor, KeepsSpace, AreSameChanges}
 use Rattle.room_records.proofs.SessionKeys.{number_test, name_test}
 
 number_key : (a k : ℕ) → eq_by_cmp nat_cmp a k ≡ (k == a)
@@ -33,20 +35,24 @@ number_key a k = by (number_test k a)
     by (inr e) = differ (nat_cmp a k) refl e.0 ∙ sym e.1
 
 -- what is read of a table, after a value is put at a number
-pub read_put : {X Y : Type 0} (f : Option X → Y) (new old : ℕ → Option X) (key : ℕ) (value : Option X) → ((k : ℕ) → new k ≡ cond (eq_by_cmp nat_cmp key k) value (old k))
+pub read_put : {X Y : Type 0} (f : Option X → Y) (new old : ℕ → Option X) (key : ℕ) (value : Option X)
+    → ((k : ℕ) → new k ≡ cond (eq_by_cmp nat_cmp key k) value (old k))
     → (k : ℕ) → f (new k) ≡ cond (k == key) (f value) (f (old k))
-read_put f new old key value h k = ap f (h k) ∙ ap (λ b. f (cond b value (old k))) (number_key key k) ∙ inside (k == key)
+read_put f new old key value h k =
+    ap f (h k) ∙ ap (λ b. f (cond b value (old k))) (number_key key k) ∙ inside (k == key)
   where
     inside : (b : Bool) → f (cond b value (old k)) ≡ cond b (f value) (f (old k))
     inside true = refl
     inside false = refl
 
 -- a slot row that keeps the rules is below the limit
-pub low_slot : (r : Records) (row : SlotRow) → HaveSlotCounts r.session → RulesHold (apply_change (PutSlot row) r) → row.slot < max_slots
+pub low_slot : (r : Records) (row : SlotRow) → HaveSlotCounts r.session
+    → RulesHold (apply_change (PutSlot row) r) → row.slot < max_slots
 low_slot r row counted rules =
     let here : bytes_eq row.sid row.sid ≡ true = self_name in
     let there : (row.slot == row.slot) ≡ true = self_slot in
-    let some : IsSome (cond (bytes_eq row.sid row.sid && (row.slot == row.slot)) (Some row.kept) (r.slot row.sid row.slot)) =
+    let some : IsSome
+    (cond (bytes_eq row.sid row.sid && (row.slot == row.slot)) (Some row.kept) (r.slot row.sid row.slot)) =
     ap (λ b. is_some_of (cond b (Some row.kept) (r.slot row.sid row.slot))) (λ i. here i && there i) in
     let found = rules.slots.slots row.sid row.slot some in
     omega (arith, found.2, counted row.sid found.0 found.1)
@@ -58,45 +64,54 @@ low_slot r row counted rules =
     self_name : bytes_eq row.sid row.sid ≡ true
     self_name = by (name_test row.sid row.sid)
       where
-        by : ((row.sid ≡ row.sid) × (bytes_eq row.sid row.sid ≡ true)) ⊎ ((row.sid ≡ row.sid → ⊥) × (bytes_eq row.sid row.sid ≡ false)) → bytes_eq row.sid row.sid ≡ true
+        by : ((row.sid ≡ row.sid) × (bytes_eq row.sid row.sid ≡ true))
+            ⊎ ((row.sid ≡ row.sid → ⊥) × (bytes_eq row.sid row.sid ≡ false)) → bytes_eq row.sid row.sid ≡ true
         by (inl e) = e.1
         by (inr e) = absurd (e.0 refl)
 
     self_slot : (row.slot == row.slot) ≡ true
     self_slot = by (number_test row.slot row.slot)
       where
-        by : ((row.slot ≡ row.slot) × ((row.slot == row.slot) ≡ true)) ⊎ ((row.slot ≡ row.slot → ⊥) × ((row.slot == row.slot) ≡ false)) → (row.slot == row.slot) ≡ true
+        by : ((row.slot ≡ row.slot) × ((row.slot == row.slot) ≡ true))
+            ⊎ ((row.slot ≡ row.slot → ⊥) × ((row.slot == row.slot) ≡ false)) → (row.slot == row.slot) ≡ true
         by (inl e) = e.1
         by (inr e) = absurd (e.0 refl)
 
-pub room_kept : (old new : MemShelf) → KeepsRoom old new → (change : Change) → HasRoomFor old change → HasRoomFor new change
-room_kept old new kept (PutNode node) room = kept.nodes node room
-room_kept old new kept (PutEntries id entries) room = kept.entries id room
-room_kept old new kept (PutDoc id bytes) room = kept.docs id room
-room_kept old new kept (PutSession row) room = kept.sessions row.sid room
-room_kept old new kept (PutSlot row) room = λ low. kept.slots row.sid row.slot (room low)
-room_kept old new kept (DropNode id) room = tt
-room_kept old new kept (DropSlots sid) room = tt
-room_kept old new kept (PutNext next) room = tt
+pub space_kept : (old new : MemShelf) → KeepsSpace old new
+    → (change : Change) → HasSpaceFor old change → HasSpaceFor new change
+space_kept old new kept (PutNode node) room = kept.nodes node room
+space_kept old new kept (PutEntries id entries) room = kept.entries id room
+space_kept old new kept (PutDoc id bytes) room = kept.docs id room
+space_kept old new kept (PutSession row) room = kept.sessions row.sid room
+space_kept old new kept (PutSlot row) room = λ low. kept.slots row.sid row.slot (room low)
+space_kept old new kept (DropNode id) room = tt
+space_kept old new kept (DropSlots sid) room = tt
+space_kept old new kept (PutNext next) room = tt
 
-pub rooms_kept : (old new : MemShelf) → KeepsRoom old new → (changes : List Change) → AllByRecursion (HasRoomFor old) changes → AllByRecursion (HasRoomFor new) changes
-rooms_kept old new kept [] rooms = tt
-rooms_kept old new kept (change ∷ changes) rooms = (room_kept old new kept change rooms.0, rooms_kept old new kept changes rooms.1)
+pub spaces_kept : (old new : MemShelf) → KeepsSpace old new → (changes : List Change)
+    → AllByRecursion (HasSpaceFor old) changes → AllByRecursion (HasSpaceFor new) changes
+spaces_kept old new kept [] rooms = tt
+spaces_kept old new kept (change ∷ changes) rooms =
+    (space_kept old new kept change rooms.0, spaces_kept old new kept changes rooms.1)
 
-pub same_push : (steps changes : List Change) (a b : Change) → AreSameChanges steps changes → ((r : Records) → apply_change a r ≡ apply_change b r)
+pub same_push : (steps changes : List Change) (a b : Change)
+    → AreSameChanges steps changes → ((r : Records) → apply_change a r ≡ apply_change b r)
     → AreSameChanges (steps ++ a ∷ []) (changes ++ b ∷ [])
 same_push [] [] a b same here = (here, tt)
 same_push [] (y ∷ changes) a b same here = absurd same
 same_push (x ∷ steps) [] a b same here = absurd same
 same_push (x ∷ steps) (y ∷ changes) a b same here = (same.0, same_push steps changes a b same.1 here)
 
-pub same_after : (steps changes : List Change) (r : Records) → AreSameChanges steps changes → apply_changes steps r ≡ apply_changes changes r
+pub same_after : (steps changes : List Change) (r : Records)
+    → AreSameChanges steps changes → apply_changes steps r ≡ apply_changes changes r
 same_after [] [] r same = refl
 same_after [] (y ∷ changes) r same = absurd same
 same_after (x ∷ steps) [] r same = absurd same
-same_after (x ∷ steps) (y ∷ changes) r same = ap (apply_changes steps) (same.0 r) ∙ same_after steps changes (apply_change y r) same.1
+same_after (x ∷ steps) (y ∷ changes) r same =
+    ap (apply_changes steps) (same.0 r) ∙ same_after steps changes (apply_change y r) same.1
 
-pub same_rules : (steps changes : List Change) (r : Records) → AreSameChanges steps changes → RulesHoldAfterEach changes r → RulesHoldAfterEach steps r
+pub same_rules : (steps changes : List Change) (r : Records) → AreSameChanges steps changes
+    → RulesHoldAfterEach changes r → RulesHoldAfterEach steps r
 same_rules [] [] r same rules = tt
 same_rules [] (y ∷ changes) r same rules = absurd same
 same_rules (x ∷ steps) [] r same rules = absurd same

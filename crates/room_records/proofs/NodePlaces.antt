@@ -18,14 +18,17 @@ none_some : {X : Type 0} (a : X) → None ≡ Some a → ⊥
 none_some a e = cc
 
 pub index_same : (nodes new_nodes : ℕ → Option Node) (places new_places : PlaceKey → Option ℕ) → IsIndex nodes places
-    → ((id : ℕ) → new_nodes id ≡ nodes id) → ((place : PlaceKey) → new_places place ≡ places place) → IsIndex new_nodes new_places
+    → ((id : ℕ) → new_nodes id ≡ nodes id)
+    → ((place : PlaceKey) → new_places place ≡ places place) → IsIndex new_nodes new_places
 index_same nodes new_nodes places new_places index same_nodes same_places = record {
   numbered = λ id node h. index.numbered id node (sym (same_nodes id) ∙ h);
   placed = λ id node place h at. same_places place ∙ index.placed id node place (sym (same_nodes id) ∙ h) at;
-  at_place = λ place id h. ap (option_and_then place_of) (same_nodes id) ∙ index.at_place place id (sym (same_places place) ∙ h);
+  at_place = λ place id h. ap (option_and_then place_of) (same_nodes id)
+      ∙ index.at_place place id (sym (same_places place) ∙ h);
 }
 
-module _ (nodes new_nodes : ℕ → Option Node) (places : PlaceKey → Option ℕ) (index : IsIndex nodes places) (id : ℕ) (taken : Updated new_nodes nodes id None) where
+module _ (nodes new_nodes : ℕ → Option Node) (places : PlaceKey → Option ℕ)
+    (index : IsIndex nodes places) (id : ℕ) (taken : Updated new_nodes nodes id None) where
   still : (k : ℕ) (node : Node) → new_nodes k ≡ Some node → (k ≡ id → ⊥) × (nodes k ≡ Some node)
   still k node h = by (same_number k id)
     where
@@ -41,12 +44,15 @@ module _ (nodes new_nodes : ℕ → Option Node) (places : PlaceKey → Option �
     at_place = λ place k h. by place k h (same_number k id);
   }
     where
-      by : (place : PlaceKey) (k : ℕ) → places place ≡ Some k → (k ≡ id) ⊎ (k ≡ id → ⊥) → option_and_then place_of (new_nodes k) ≡ Some place
-      by place k h (inl e) = absurd (none_some place (sym no_place ∙ ap (λ j. option_and_then place_of (nodes j)) (sym e) ∙ index.at_place place k h))
+      by : (place : PlaceKey) (k : ℕ) → places place ≡ Some k → (k ≡ id) ⊎ (k ≡ id → ⊥)
+          → option_and_then place_of (new_nodes k) ≡ Some place
+      by place k h (inl e) = absurd (none_some place
+          (sym no_place ∙ ap (λ j. option_and_then place_of (nodes j)) (sym e) ∙ index.at_place place k h))
       by place k h (inr apart) = ap (option_and_then place_of) (taken.other k apart) ∙ index.at_place place k h
 
   -- without a node and its place
-  pub index_without_child : (node : Node) (place : PlaceKey) (new_places : PlaceKey → Option ℕ) → nodes id ≡ Some node → place_of node ≡ Some place
+  pub index_without_child : (node : Node) (place : PlaceKey) (new_places : PlaceKey → Option ℕ)
+      → nodes id ≡ Some node → place_of node ≡ Some place
       → Updated new_places places place None → IsIndex new_nodes new_places
   index_without_child node place new_places is at freed = record {
     numbered = λ k other h. index.numbered k other (still k other h).1;
@@ -54,34 +60,42 @@ module _ (nodes new_nodes : ℕ → Option Node) (places : PlaceKey → Option �
     at_place = λ q k h. at_by q k h (same_place q place);
   }
     where
-      placed_by : (k : ℕ) (other : Node) (q : PlaceKey) → (k ≡ id → ⊥) → nodes k ≡ Some other → place_of other ≡ Some q → (q ≡ place) ⊎ (q ≡ place → ⊥) → new_places q ≡ Some k
+      placed_by : (k : ℕ) (other : Node) (q : PlaceKey) → (k ≡ id → ⊥) → nodes k ≡ Some other
+          → place_of other ≡ Some q → (q ≡ place) ⊎ (q ≡ place → ⊥) → new_places q ≡ Some k
       placed_by k other q apart h here (inl e) =
-          absurd (apart (some_some k id (sym (index.placed k other q h here) ∙ ap places e ∙ index.placed id node place is at)))
+          absurd (apart (some_some k id
+          (sym (index.placed k other q h here) ∙ ap places e ∙ index.placed id node place is at)))
       placed_by k other q apart h here (inr other_place) = freed.other q other_place ∙ index.placed k other q h here
 
-      found : (q : PlaceKey) (k : ℕ) → (q ≡ place → ⊥) → places q ≡ Some k → (k ≡ id) ⊎ (k ≡ id → ⊥) → option_and_then place_of (new_nodes k) ≡ Some q
+      found : (q : PlaceKey) (k : ℕ) → (q ≡ place → ⊥) → places q ≡ Some k
+          → (k ≡ id) ⊎ (k ≡ id → ⊥) → option_and_then place_of (new_nodes k) ≡ Some q
       found q k other_place h (inl e) =
-          absurd (other_place (some_some q place (sym (index.at_place q k h) ∙ ap (λ j. option_and_then place_of (nodes j)) e ∙ ap (option_and_then place_of) is ∙ at)))
+          absurd (other_place (some_some q place (sym (index.at_place q k h)
+          ∙ ap (λ j. option_and_then place_of (nodes j)) e ∙ ap (option_and_then place_of) is ∙ at)))
       found q k other_place h (inr apart) = ap (option_and_then place_of) (taken.other k apart) ∙ index.at_place q k h
 
-      at_by : (q : PlaceKey) (k : ℕ) → new_places q ≡ Some k → (q ≡ place) ⊎ (q ≡ place → ⊥) → option_and_then place_of (new_nodes k) ≡ Some q
+      at_by : (q : PlaceKey) (k : ℕ) → new_places q ≡ Some k
+          → (q ≡ place) ⊎ (q ≡ place → ⊥) → option_and_then place_of (new_nodes k) ≡ Some q
       at_by q k h (inl e) = absurd (none_some k (sym freed.here ∙ ap new_places (sym e) ∙ h))
       at_by q k h (inr other_place) = found q k other_place (sym (freed.other q other_place) ∙ h) (same_number k id)
 
-module _ (nodes new_nodes : ℕ → Option Node) (places : PlaceKey → Option ℕ) (index : IsIndex nodes places) (node : Node) (absent : nodes node.id ≡ None)
+module _ (nodes new_nodes : ℕ → Option Node) (places : PlaceKey → Option ℕ)
+    (index : IsIndex nodes places) (node : Node) (absent : nodes node.id ≡ None)
     (put : Updated new_nodes nodes node.id (Some node)) where
   numbered_with : IsNumbered new_nodes
   numbered_with k other h = by (same_number k node.id)
     where
       by : (k ≡ node.id) ⊎ (k ≡ node.id → ⊥) → other.id ≡ k
-      by (inl e) = ap (λ (n : Node). n.id) (sym (some_some node other (sym put.here ∙ ap new_nodes (sym e) ∙ h))) ∙ sym e
+      by (inl e) =
+          ap (λ (n : Node). n.id) (sym (some_some node other (sym put.here ∙ ap new_nodes (sym e) ∙ h))) ∙ sym e
       by (inr apart) = index.numbered k other (sym (put.other k apart) ∙ h)
 
   there : (q : PlaceKey) (k : ℕ) → places q ≡ Some k → option_and_then place_of (new_nodes k) ≡ Some q
   there q k h = by (same_number k node.id)
     where
       by : (k ≡ node.id) ⊎ (k ≡ node.id → ⊥) → option_and_then place_of (new_nodes k) ≡ Some q
-      by (inl e) = absurd (none_some q (sym (ap (λ j. option_and_then place_of (nodes j)) e ∙ ap (option_and_then place_of) absent) ∙ index.at_place q k h))
+      by (inl e) = absurd (none_some q (sym (ap (λ j. option_and_then place_of (nodes j)) e
+          ∙ ap (option_and_then place_of) absent) ∙ index.at_place q k h))
       by (inr apart) = ap (option_and_then place_of) (put.other k apart) ∙ index.at_place q k h
 
   -- with a node that has no place
@@ -92,12 +106,15 @@ module _ (nodes new_nodes : ℕ → Option Node) (places : PlaceKey → Option �
     at_place = there;
   }
     where
-      by : (k : ℕ) (other : Node) (q : PlaceKey) → new_nodes k ≡ Some other → place_of other ≡ Some q → (k ≡ node.id) ⊎ (k ≡ node.id → ⊥) → places q ≡ Some k
-      by k other q h here (inl e) = absurd (none_some q (sym no_place ∙ ap place_of (some_some node other (sym put.here ∙ ap new_nodes (sym e) ∙ h)) ∙ here))
+      by : (k : ℕ) (other : Node) (q : PlaceKey) → new_nodes k ≡ Some other
+          → place_of other ≡ Some q → (k ≡ node.id) ⊎ (k ≡ node.id → ⊥) → places q ≡ Some k
+      by k other q h here (inl e) = absurd (none_some q
+          (sym no_place ∙ ap place_of (some_some node other (sym put.here ∙ ap new_nodes (sym e) ∙ h)) ∙ here))
       by k other q h here (inr apart) = index.placed k other q (sym (put.other k apart) ∙ h) here
 
   -- with a node at a free place
-  pub index_with_child : (place : PlaceKey) (new_places : PlaceKey → Option ℕ) → place_of node ≡ Some place → places place ≡ None
+  pub index_with_child : (place : PlaceKey) (new_places : PlaceKey → Option ℕ)
+      → place_of node ≡ Some place → places place ≡ None
       → Updated new_places places place (Some node.id) → IsIndex new_nodes new_places
   index_with_child place new_places at free used = record {
     numbered = numbered_with;
@@ -109,25 +126,32 @@ module _ (nodes new_nodes : ℕ → Option Node) (places : PlaceKey → Option �
       old_place k q h (inl e) = absurd (none_some k (sym free ∙ ap places (sym e) ∙ h))
       old_place k q h (inr apart) = used.other q apart ∙ h
 
-      by : (k : ℕ) (other : Node) (q : PlaceKey) → new_nodes k ≡ Some other → place_of other ≡ Some q → (k ≡ node.id) ⊎ (k ≡ node.id → ⊥) → new_places q ≡ Some k
+      by : (k : ℕ) (other : Node) (q : PlaceKey) → new_nodes k ≡ Some other
+          → place_of other ≡ Some q → (k ≡ node.id) ⊎ (k ≡ node.id → ⊥) → new_places q ≡ Some k
       by k other q h here (inl e) =
           let same : node ≡ other = some_some node other (sym put.here ∙ ap new_nodes (sym e) ∙ h) in
           let q_is : place ≡ q = some_some place q (sym at ∙ ap place_of same ∙ here) in
           ap new_places (sym q_is) ∙ used.here ∙ ap Some (sym e)
-      by k other q h here (inr apart) = old_place k q (index.placed k other q (sym (put.other k apart) ∙ h) here) (same_place q place)
+      by k other q h here (inr apart) =
+          old_place k q (index.placed k other q (sym (put.other k apart) ∙ h) here) (same_place q place)
 
-      at_by : (q : PlaceKey) (k : ℕ) → new_places q ≡ Some k → (q ≡ place) ⊎ (q ≡ place → ⊥) → option_and_then place_of (new_nodes k) ≡ Some q
+      at_by : (q : PlaceKey) (k : ℕ) → new_places q ≡ Some k
+          → (q ≡ place) ⊎ (q ≡ place → ⊥) → option_and_then place_of (new_nodes k) ≡ Some q
       at_by q k h (inl e) =
           let k_is : node.id ≡ k = some_some node.id k (sym used.here ∙ ap new_places (sym e) ∙ h) in
-          ap (λ j. option_and_then place_of (new_nodes j)) (sym k_is) ∙ ap (option_and_then place_of) put.here ∙ at ∙ ap Some (sym e)
+          ap (λ j. option_and_then place_of (new_nodes j)) (sym k_is)
+          ∙ ap (option_and_then place_of) put.here ∙ at ∙ ap Some (sym e)
       at_by q k h (inr apart) = there q k (sym (used.other q apart) ∙ h)
 
 -- a place that is taken is not free
-pub taken_is_not_free : (nodes : ℕ → Option Node) (places : PlaceKey → Option ℕ) → IsIndex nodes places → (node : Node) (place : PlaceKey) (id : ℕ)
+pub taken_is_not_free : (nodes : ℕ → Option Node) (places : PlaceKey → Option ℕ)
+    → IsIndex nodes places → (node : Node) (place : PlaceKey) (id : ℕ)
     → nodes node.id ≡ None → place_of node ≡ Some place → places place ≡ Some id → IsFreeFor nodes node → ⊥
-taken_is_not_free nodes places index node place id absent at taken free = by (nodes id) refl (index.at_place place id taken)
+taken_is_not_free nodes places index node place id absent at taken free =
+    by (nodes id) refl (index.at_place place id taken)
   where
-    same_parent : (a b : Option ℕ) (m n : Option Name) (p : PlaceKey) → option_map (λ k. (k, m)) a ≡ Some p → option_map (λ k. (k, n)) b ≡ Some p → (a ≡ b) × (m ≡ n)
+    same_parent : (a b : Option ℕ) (m n : Option Name) (p : PlaceKey)
+        → option_map (λ k. (k, m)) a ≡ Some p → option_map (λ k. (k, n)) b ≡ Some p → (a ≡ b) × (m ≡ n)
     same_parent None b m n p h g = absurd (none_some p h)
     same_parent (Some a) None m n p h g = absurd (none_some p g)
     same_parent (Some a) (Some b) m n p h g =

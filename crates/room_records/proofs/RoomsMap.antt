@@ -1,5 +1,6 @@
 -- A room's list of objects as a finite map: what stands at a path, and in the list.
-use Rattle.std.proofs.Common.{◌≡◌, ◌-◌, refl, ap, sym, ◌∙◌, subst, arith, Bool, true, false, cond, ◌⊎◌, inl, inr, List, [], ◌∷◌, ◌++◌, take, length, append-nil, append_assoc, Option, None, Some}
+use Rattle.std.proofs.Common.{◌≡◌, ◌-◌, refl, ap, sym, ◌∙◌, subst, arith, Bool, true, false, cond, ◌⊎◌, inl, inr, List}
+use Rattle.std.proofs.Common.{[], ◌∷◌, ◌++◌, take, length, append-nil, append_assoc, Option, None, Some}
 use Rattle.std.specs.Map.{lookup}
 use Rattle.std.proofs.lemmas.List.{take_at, length_push}
 use Rattle.std.proofs.lemmas.Bool.{false_from_ne_true}
@@ -24,13 +25,6 @@ path_itself a = (pointwise_decides {E = name_eq} bytes_decides a a).1 refl
 pub other_path : (a b : Path) → (a ≡ b → ⊥) → path_eq a b ≡ false
 other_path a b apart = false_from_ne_true (path_eq a b) (λ e. apart (same_path a b e))
 
--- a path that ends with a name is longer than its folder
-pub not_its_folder : (path : Path) (name : Name) → path ++ name ∷ [] ≡ path → ⊥
-not_its_folder path name e = let n = ap length e in let m = length_push path name in omega (arith, n, m)
-
-pub not_the_root : (path : Path) (name : Name) → path ++ name ∷ [] ≡ [] → ⊥
-not_the_root path name e = let n = ap length e in let m = length_push path name in omega (arith, n, m)
-
 pub parent_of_end : (path : Path) (name : Name) → parent_of (path ++ name ∷ []) ≡ path
 parent_of_end path name =
     let n : length (path ++ name ∷ []) - 1 ≡ length path = omega (arith, length_push path name) in
@@ -54,7 +48,8 @@ StandsIn [] path o = ⊥
 StandsIn (e ∷ es) path o = ((e.0 ≡ path) × (e.1 ≡ o)) ⊎ StandsIn es path o
 
 -- what is found stands there
-pub found_stands : (es : List (Path × Object)) (path : Path) (o : Object) → lookup (path_eq path) es ≡ Some o → StandsIn es path o
+pub found_stands : (es : List (Path × Object)) (path : Path) (o : Object)
+    → lookup (path_eq path) es ≡ Some o → StandsIn es path o
 found_stands [] path o h = none_is_some o h
 found_stands (e ∷ es) path o h = by_test (path_eq path e.0) refl h (found_stands es path o)
   where
@@ -64,17 +59,21 @@ found_stands (e ∷ es) path o h = by_test (path_eq path e.0) refl h (found_stan
     by_test false there is rest = inr (rest is)
 
 -- and what stands there is found, since each path stands once
-pub standing_found : (es : List (Path × Object)) → AreObjects es → (path : Path) (o : Object) → StandsIn es path o → lookup (path_eq path) es ≡ Some o
+pub standing_found : (es : List (Path × Object)) → AreObjects es
+    → (path : Path) (o : Object) → StandsIn es path o → lookup (path_eq path) es ≡ Some o
 standing_found [] once path o stands = absurd stands
 standing_found (e ∷ es) once path o (inl here) =
-    ap (λ b. cond b (Some e.1) (lookup (path_eq path) es)) (ap (path_eq path) here.0 ∙ path_itself path) ∙ ap Some here.1
+    ap (λ b. cond b (Some e.1) (lookup (path_eq path) es))
+    (ap (path_eq path) here.0 ∙ path_itself path) ∙ ap Some here.1
 standing_found (e ∷ es) once path o (inr there) =
     let found = standing_found es once.3 path o there in
-    let apart : path_eq path e.0 ≡ false = other_path path e.0 (λ same. none_is_some o (sym once.2 ∙ ap (λ p. lookup (path_eq p) es) (sym same) ∙ found)) in
+    let apart : path_eq path e.0 ≡ false = other_path path e.0
+    (λ same. none_is_some o (sym once.2 ∙ ap (λ p. lookup (path_eq p) es) (sym same) ∙ found)) in
     ap (λ b. cond b (Some e.1) (lookup (path_eq path) es)) apart ∙ found
 
 -- each object of the list is lawful, and has a lawful path
-pub object_is_lawful : (es : List (Path × Object)) → AreObjects es → (path : Path) (o : Object) → StandsIn es path o → IsPath path × IsObject o
+pub object_is_lawful : (es : List (Path × Object)) → AreObjects es
+    → (path : Path) (o : Object) → StandsIn es path o → IsPath path × IsObject o
 object_is_lawful [] once path o stands = absurd stands
 object_is_lawful (e ∷ es) once path o (inl here) =
     (subst IsPath here.0 once.0, subst IsObject here.1 once.1)
@@ -85,20 +84,24 @@ module _ (room : Room) (lawful : IsRoom room) where
   path_of_object path o e = (object_is_lawful room.objects lawful.once path o (found_stands room.objects path o e)).0
 
   pub object_there_is_lawful : (path : Path) (o : Object) → object_at room path ≡ Some o → IsObject o
-  object_there_is_lawful path o e = (object_is_lawful room.objects lawful.once path o (found_stands room.objects path o e)).1
+  object_there_is_lawful path o e =
+      (object_is_lawful room.objects lawful.once path o (found_stands room.objects path o e)).1
 
   -- nothing stands below what is not there
   pub nothing_below : (rest front : Path) → object_at room front ≡ None → object_at room (front ++ rest) ≡ None
   nothing_below [] front none = ap (object_at room) (append-nil front) ∙ none
   nothing_below (name ∷ rest) front none =
-      ap (object_at room) (sym (append_assoc front (name ∷ []) rest)) ∙ nothing_below rest (front ++ name ∷ []) (by_value (object_at room (front ++ name ∷ [])) refl)
+      ap (object_at room) (sym (append_assoc front (name ∷ []) rest))
+      ∙ nothing_below rest (front ++ name ∷ []) (by_value (object_at room (front ++ name ∷ [])) refl)
     where
       by_value : (o : Option Object) → object_at room (front ++ name ∷ []) ≡ o → o ≡ None
       by_value None e = refl
-      by_value (Some o) e = let above = lawful.parents front name o e in absurd (none_is_some above.0 (sym none ∙ above.1))
+      by_value (Some o) e = let above = lawful.parents front name o e in
+          absurd (none_is_some above.0 (sym none ∙ above.1))
 
   -- nor below a file
-  pub nothing_in_a_file : (path : Path) (o : Object) → object_at room path ≡ Some o → (o.kind ≡ Folder → ⊥) → (name : Name) → object_at room (path ++ name ∷ []) ≡ None
+  pub nothing_in_a_file : (path : Path) (o : Object) → object_at room path ≡ Some o
+      → (o.kind ≡ Folder → ⊥) → (name : Name) → object_at room (path ++ name ∷ []) ≡ None
   nothing_in_a_file path o is file name = by_value (object_at room (path ++ name ∷ [])) refl
     where
       by_value : (found : Option Object) → object_at room (path ++ name ∷ []) ≡ found → found ≡ None

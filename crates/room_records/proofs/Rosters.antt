@@ -1,5 +1,6 @@
 -- Users in name order.
-use Rattle.std.proofs.Common.{◌≡◌, ℕ, ◌+◌, ◌<◌, ◌≤◌, refl, ap, sym, ◌∙◌, subst, true, false, Bool, cond, List, [], ◌∷◌, ◌++◌, length, Option, None, Some, Ok, Err, arith}
+use Rattle.std.proofs.Common.{◌≡◌, ℕ, ◌+◌, ◌<◌, ◌≤◌, refl, ap, sym, ◌∙◌, subst, true, false, Bool, cond, List, [], ◌∷◌}
+use Rattle.std.proofs.Common.{◌++◌, length, Option, None, Some, Ok, Err, arith}
 use Rattle.std.specs.Prelude.{not, ◌&&◌, nat_le, nat_lt}
 use Rattle.std.specs.List.{AllByRecursion, insert, slice_get}
 use Rattle.std.specs.Option.{is_some}
@@ -13,7 +14,8 @@ use Rattle.std.proofs.lemmas.Map.Text.{is_eq-slice_cmp}
 use Rattle.room_acl.specs.SubjectModel.{SubjectModel}
 use Rattle.room_records.specs.Limits.{max_users, max_groups}
 use Rattle.room_records.specs.Names.{Name, name_cmp}
-use Rattle.room_records.specs.Roster.{AreInNameOrder, IsRoster, user_named, may_join, with_user, AreBefore, StartsBehind, IsPlaceOf}
+use Rattle.room_records.specs.Roster.{AreInNameOrder, IsRoster, user_named, may_join, with_user, AreBefore}
+use Rattle.room_records.specs.Roster.{StartsBehind, IsIndexOf}
 
 pub less_back : (a b : Name) → name_cmp a b ≡ Greater → name_cmp b a ≡ Less
 less_back a b h = nat_list_cmp_total.antisymm b a ∙ ap ordering_reverse h
@@ -21,22 +23,23 @@ less_back a b h = nat_list_cmp_total.antisymm b a ∙ ap ordering_reverse h
 pub greater_back : (a b : Name) → name_cmp a b ≡ Less → name_cmp b a ≡ Greater
 greater_back a b h = nat_list_cmp_total.antisymm b a ∙ ap ordering_reverse h
 
-pub equal_back : (a b : Name) → name_cmp a b ≡ Equal → name_cmp b a ≡ Equal
-equal_back a b h = nat_list_cmp_total.antisymm b a ∙ ap ordering_reverse h
-
 -- what the order says of the test
 tested : (a b : Name) (o : Ordering) → name_cmp a b ≡ o → bytes_eq b a ≡ is_eq (ordering_reverse o)
 tested a b o h = sym (is_eq-slice_cmp b a) ∙ ap is_eq (nat_list_cmp_total.antisymm b a ∙ ap ordering_reverse h)
 
-named_behind : (name : Name) (front back : List SubjectModel) → AreBefore name front → user_named (front ++ back) name ≡ user_named back name
+named_behind : (name : Name) (front back : List SubjectModel)
+    → AreBefore name front → user_named (front ++ back) name ≡ user_named back name
 named_behind name [] back before = refl
 named_behind name (user ∷ front) back before =
-    ap (λ b. cond b (Some user) (user_named (front ++ back) name)) (tested name user.name Greater before.0) ∙ named_behind name front back before.1
+    ap (λ b. cond b (Some user) (user_named (front ++ back) name)) (tested name user.name Greater before.0)
+    ∙ named_behind name front back before.1
 
-pub present : (users : List SubjectModel) (name : Name) (place : ℕ) → IsPlaceOf users name (Ok place) → (user : SubjectModel) × (user_named users name ≡ Some user) × (slice_get users place ≡ Some user)
+pub present : (users : List SubjectModel) (name : Name) (place : ℕ) → IsIndexOf users name (Ok place)
+    → (user : SubjectModel) × (user_named users name ≡ Some user) × (slice_get users place ≡ Some user)
 present users name place (front, user, back, are, at, before, equal) = (
   user,
-  ap (λ us. user_named us name) are ∙ named_behind name front (user ∷ back) before ∙ ap (λ b. cond b (Some user) (user_named back name)) (tested name user.name Equal equal),
+  ap (λ us. user_named us name) are ∙ named_behind name front (user ∷ back) before
+      ∙ ap (λ b. cond b (Some user) (user_named back name)) (tested name user.name Equal equal),
   ap (λ us. slice_get us place) are ∙ ap (slice_get (front ++ user ∷ back)) (sym at) ∙ get_front front,
 )
   where
@@ -50,33 +53,43 @@ order_behind (a ∷ []) [] order = tt
 order_behind (a ∷ []) (b ∷ back) order = order.1
 order_behind (a ∷ b ∷ front) back order = order_behind (b ∷ front) back order.1
 
-none_behind : (name : Name) (back : List SubjectModel) → AreInNameOrder back → StartsBehind name back → user_named back name ≡ None
+none_behind : (name : Name) (back : List SubjectModel) → AreInNameOrder back
+    → StartsBehind name back → user_named back name ≡ None
 none_behind name [] order starts = refl
 none_behind name (a ∷ []) order starts = ap (λ b. cond b (Some a) None) (tested name a.name Less starts)
 none_behind name (a ∷ b ∷ back) order starts =
     ap (λ t. cond t (Some a) (user_named (b ∷ back) name)) (tested name a.name Less starts)
     ∙ none_behind name (b ∷ back) order.1 (nat_list_cmp_total.trans name a.name b.name starts order.0)
 
-pub absent : (users : List SubjectModel) (name : Name) (place : ℕ) → AreInNameOrder users → IsPlaceOf users name (Err place) → user_named users name ≡ None
+pub absent : (users : List SubjectModel) (name : Name) (place : ℕ) → AreInNameOrder users
+    → IsIndexOf users name (Err place) → user_named users name ≡ None
 absent users name place order (front, back, are, at, before, starts) =
-    ap (λ us. user_named us name) are ∙ named_behind name front back before ∙ none_behind name back (order_behind front back (subst AreInNameOrder are order)) starts
+    ap (λ us. user_named us name) are ∙ named_behind name front back before
+    ∙ none_behind name back (order_behind front back (subst AreInNameOrder are order)) starts
 
-put_behind : (user : SubjectModel) (front back : List SubjectModel) → AreBefore user.name front → StartsBehind user.name back → with_user (front ++ back) user ≡ front ++ user ∷ back
+put_behind : (user : SubjectModel) (front back : List SubjectModel) → AreBefore user.name front
+    → StartsBehind user.name back → with_user (front ++ back) user ≡ front ++ user ∷ back
 put_behind user [] [] before starts = refl
-put_behind user [] (other ∷ back) before starts = ap (λ o. match_ordering o (user ∷ other ∷ back) (other ∷ back) (other ∷ with_user back user)) starts
+put_behind user [] (other ∷ back) before starts =
+    ap (λ o. match_ordering o (user ∷ other ∷ back) (other ∷ back) (other ∷ with_user back user)) starts
 put_behind user (other ∷ front) back before starts =
-    ap (λ o. match_ordering o (user ∷ other ∷ (front ++ back)) (other ∷ (front ++ back)) (other ∷ with_user (front ++ back) user)) before.0
+    ap (λ o. match_ordering o (user ∷ other ∷ (front ++ back))
+    (other ∷ (front ++ back)) (other ∷ with_user (front ++ back) user)) before.0
     ∙ ap (λ us. other ∷ us) (put_behind user front back before.1 starts)
 
-pub inserted : (users : List SubjectModel) (user : SubjectModel) (place : ℕ) → IsPlaceOf users user.name (Err place) → insert users place user ≡ with_user users user
+pub inserted : (users : List SubjectModel) (user : SubjectModel) (place : ℕ)
+    → IsIndexOf users user.name (Err place) → insert users place user ≡ with_user users user
 inserted users user place (front, back, are, at, before, starts) =
-    ap (λ us. insert us place user) are ∙ ap (λ i. insert (front ++ back) i user) (sym at) ∙ seam front ∙ sym (put_behind user front back before starts) ∙ ap (λ us. with_user us user) (sym are)
+    ap (λ us. insert us place user) are ∙ ap (λ i. insert (front ++ back) i user) (sym at) ∙ seam front
+    ∙ sym (put_behind user front back before starts) ∙ ap (λ us. with_user us user) (sym are)
   where
     seam : (xs : List SubjectModel) → insert (xs ++ back) (length xs) user ≡ xs ++ user ∷ back
     seam [] = refl
     seam (x ∷ xs) = ap (λ ys. x ∷ ys) (seam xs)
 
-head_less : (other user : SubjectModel) (users : List SubjectModel) → AreInNameOrder (other ∷ users) → name_cmp user.name other.name ≡ Greater → AreInNameOrder (with_user users user) → AreInNameOrder (other ∷ with_user users user)
+head_less : (other user : SubjectModel) (users : List SubjectModel)
+    → AreInNameOrder (other ∷ users) → name_cmp user.name other.name ≡ Greater
+    → AreInNameOrder (with_user users user) → AreInNameOrder (other ∷ with_user users user)
 head_less other user [] order greater more = (less_back user.name other.name greater, tt)
 head_less other user (next ∷ users) order greater more = by (name_cmp user.name next.name) refl more
   where
@@ -88,11 +101,14 @@ head_less other user (next ∷ users) order greater more = by (name_cmp user.nam
     by Equal is h = (order.0, h)
     by Greater is h = (order.0, h)
 
-order_with : (users : List SubjectModel) (user : SubjectModel) → AreInNameOrder users → AreInNameOrder (with_user users user)
+order_with : (users : List SubjectModel) (user : SubjectModel)
+    → AreInNameOrder users → AreInNameOrder (with_user users user)
 order_with [] user order = tt
-order_with (other ∷ users) user order = by (name_cmp user.name other.name) refl (order_with users user (order_behind (other ∷ []) users order))
+order_with (other ∷ users) user order =
+    by (name_cmp user.name other.name) refl (order_with users user (order_behind (other ∷ []) users order))
   where
-    by : (o : Ordering) → name_cmp user.name other.name ≡ o → AreInNameOrder (with_user users user) → AreInNameOrder (match_ordering o (user ∷ other ∷ users) (other ∷ users) (other ∷ with_user users user))
+    by : (o : Ordering) → name_cmp user.name other.name ≡ o → AreInNameOrder (with_user users user)
+        → AreInNameOrder (match_ordering o (user ∷ other ∷ users) (other ∷ users) (other ∷ with_user users user))
     by Less is more = (is, order)
     by Equal is more = order
     by Greater is more = head_less other user users order is more
@@ -101,21 +117,26 @@ length_with : (users : List SubjectModel) (user : SubjectModel) → length (with
 length_with [] user = omega arith
 length_with (other ∷ users) user = by (name_cmp user.name other.name) (length_with users user)
   where
-    by : (o : Ordering) → length (with_user users user) ≤ length users + 1 → length (match_ordering o (user ∷ other ∷ users) (other ∷ users) (other ∷ with_user users user)) ≤ length (other ∷ users) + 1
+    by : (o : Ordering) → length (with_user users user) ≤ length users + 1
+        → length (match_ordering o (user ∷ other ∷ users) (other ∷ users) (other ∷ with_user users user))
+        ≤ length (other ∷ users) + 1
     by Less more = omega arith
     by Equal more = omega arith
     by Greater more = omega arith
 
-all_with : (P : SubjectModel → Type 0) (users : List SubjectModel) (user : SubjectModel) → AllByRecursion P users → P user → AllByRecursion P (with_user users user)
+all_with : (P : SubjectModel → Type 0) (users : List SubjectModel) (user : SubjectModel)
+    → AllByRecursion P users → P user → AllByRecursion P (with_user users user)
 all_with P [] user all here = (here, tt)
 all_with P (other ∷ users) user all here = by (name_cmp user.name other.name) (all_with P users user all.1 here)
   where
-    by : (o : Ordering) → AllByRecursion P (with_user users user) → AllByRecursion P (match_ordering o (user ∷ other ∷ users) (other ∷ users) (other ∷ with_user users user))
+    by : (o : Ordering) → AllByRecursion P (with_user users user)
+        → AllByRecursion P (match_ordering o (user ∷ other ∷ users) (other ∷ users) (other ∷ with_user users user))
     by Less more = (here, all)
     by Equal more = all
     by Greater more = (all.0, more)
 
-pub roster_with : (users : List SubjectModel) (user : SubjectModel) → IsRoster users → length users < max_users → length user.groups ≤ max_groups → IsRoster (with_user users user)
+pub roster_with : (users : List SubjectModel) (user : SubjectModel) → IsRoster users
+    → length users < max_users → length user.groups ≤ max_groups → IsRoster (with_user users user)
 roster_with users user roster few few_groups = record {
   in_order = order_with users user roster.in_order;
   few = omega (arith, length_with users user);
@@ -128,17 +149,20 @@ not_there o none = ap (λ p. not (is_some p)) none
 there : {X : Type 0} (o : Option X) (x : X) → o ≡ Some x → not (is_some o) ≡ false
 there o x some = ap (λ p. not (is_some p)) some
 
-pub joins : (users : List SubjectModel) (name : Name) (groups : List (List ℕ)) → length groups ≤ max_groups → length users < max_users → user_named users name ≡ None → true ≡ may_join users name groups
+pub joins : (users : List SubjectModel) (name : Name) (groups : List (List ℕ)) → length groups ≤ max_groups
+    → length users < max_users → user_named users name ≡ None → true ≡ may_join users name groups
 joins users name groups few_groups few none =
     let a : nat_le (length groups) max_groups ≡ true = le-leb (length groups) max_groups few_groups in
     let b : nat_lt (length users) max_users ≡ true = lt-ltb (length users) max_users few in
     let n : not (is_some (user_named users name)) ≡ true = not_there (user_named users name) none in
     sym (λ i. a i && (b i && n i))
 
-pub joins_not : (users : List SubjectModel) (name : Name) (groups : List (List ℕ)) (user : SubjectModel) → user_named users name ≡ Some user → false ≡ may_join users name groups
+pub joins_not : (users : List SubjectModel) (name : Name) (groups : List (List ℕ)) (user : SubjectModel)
+    → user_named users name ≡ Some user → false ≡ may_join users name groups
 joins_not users name groups user some =
     let n : not (is_some (user_named users name)) ≡ false = there (user_named users name) user some in
-    sym (ap (λ b. nat_le (length groups) max_groups && (nat_lt (length users) max_users && b)) n ∙ all_false (nat_le (length groups) max_groups) (nat_lt (length users) max_users))
+    sym (ap (λ b. nat_le (length groups) max_groups && (nat_lt (length users) max_users && b)) n
+    ∙ all_false (nat_le (length groups) max_groups) (nat_lt (length users) max_users))
   where
     all_false : (a b : Bool) → (a && (b && false)) ≡ false
     all_false true true = refl

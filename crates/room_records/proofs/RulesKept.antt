@@ -1,5 +1,6 @@
 -- The record rules after one change.
-use Rattle.std.proofs.Common.{◌≡◌, ◌≢◌, ℕ, ◌+◌, ◌≤◌, refl, ap, sym, ◌∙◌, subst, arith, Bool, true, false, cond, eqb, ◌⊎◌, inl, inr, List, [], ◌∷◌, Option, None, Some, IsSome, IfSome, eq-eqb}
+use Rattle.std.proofs.Common.{◌≡◌, ◌≢◌, ℕ, ◌+◌, ◌≤◌, refl, ap, sym, ◌∙◌, subst, arith, Bool, true, false, cond, eqb}
+use Rattle.std.proofs.Common.{◌⊎◌, inl, inr, List, [], ◌∷◌, Option, None, Some, IsSome, IfSome, eq-eqb}
 use Rattle.std.proofs.lemmas.Bool.{eqb-true, false_from_ne_true}
 use Rattle.room_acl.specs.declared.subject.Kind.TheVariants.{File}
 use Rattle.room_records.specs.declared.change.Change.TheVariants.{PutNode, PutEntries, PutDoc, PutNext}
@@ -37,8 +38,10 @@ place_itself node = record { id = refl; parent = refl; name = refl; kind = refl 
 
 -- each node stays where it is
 pub record SameShape (t later : ObjectRecords) : Type 0 where
-  pub back : (id : ℕ) (now : Node) → later.node id ≡ Some now → (before : Node) × (t.node id ≡ Some before) × SamePlace now before
-  pub forth : (id : ℕ) (before : Node) → t.node id ≡ Some before → (now : Node) × (later.node id ≡ Some now) × SamePlace now before
+  pub back : (id : ℕ) (now : Node) → later.node id ≡ Some now
+      → (before : Node) × (t.node id ≡ Some before) × SamePlace now before
+  pub forth : (id : ℕ) (before : Node) → t.node id ≡ Some before
+      → (now : Node) × (later.node id ≡ Some now) × SamePlace now before
 
 pub shape_itself : (t later : ObjectRecords) → later.node ≡ t.node → SameShape t later
 shape_itself t later same = record {
@@ -46,7 +49,8 @@ shape_itself t later same = record {
   forth = λ id before stands. (before, ap (λ (f : ℕ → Option Node). f id) same ∙ stands, place_itself before);
 }
 
-pub names_by_shape : (t later : ObjectRecords) → SameShape t later → (names : List Name) (id : ℕ) → NamesUpwards t names id → NamesUpwards later names id
+pub names_by_shape : (t later : ObjectRecords) → SameShape t later
+    → (names : List Name) (id : ℕ) → NamesUpwards t names id → NamesUpwards later names id
 names_by_shape t later shape [] id up = up
 names_by_shape t later shape (name ∷ above) id (node, parent, stands, named, inside, up) =
     let now = shape.forth id node stands in
@@ -108,7 +112,8 @@ module _ (t later : ObjectRecords) (rules : ObjectRules t) (shape : SameShape t 
         let x = shape.back a.id a a_stands in
         let y = shape.back b.id b b_stands in
         x.2.id
-        ∙ rules.once x.0 y.0 (ap t.node (sym x.2.id) ∙ x.1) (ap t.node (sym y.2.id) ∙ y.1) (sym x.2.parent ∙ parents ∙ y.2.parent) (sym x.2.name ∙ names ∙ y.2.name)
+        ∙ rules.once x.0 y.0 (ap t.node (sym x.2.id) ∙ x.1) (ap t.node (sym y.2.id) ∙ y.1)
+        (sym x.2.parent ∙ parents ∙ y.2.parent) (sym x.2.name ∙ names ∙ y.2.name)
         ∙ sym y.2.id;
     entries = λ id gone. entries id (gone_before id gone);
     documents = λ id there.
@@ -120,7 +125,8 @@ module _ (t later : ObjectRecords) (rules : ObjectRules t) (shape : SameShape t 
 
 module _ (t : ObjectRecords) (rules : ObjectRules t) where
   -- a row of a node that stays where it is
-  pub shape_put : (node later : Node) → t.node node.id ≡ Some node → SamePlace later node → SameShape t (apply_to_objects (PutNode later) t)
+  pub shape_put : (node later : Node) → t.node node.id ≡ Some node
+      → SamePlace later node → SameShape t (apply_to_objects (PutNode later) t)
   shape_put node later stands same = record {
     back = λ id now found. elim (same_or_other id later.id) [
       | inl here ↦
@@ -138,12 +144,14 @@ module _ (t : ObjectRecords) (rules : ObjectRules t) where
     ];
   }
 
-  pub rules_put : (node later : Node) → t.node node.id ≡ Some node → SamePlace later node → ObjectRules (apply_to_objects (PutNode later) t)
+  pub rules_put : (node later : Node) → t.node node.id ≡ Some node
+      → SamePlace later node → ObjectRules (apply_to_objects (PutNode later) t)
   rules_put node later stands same =
       rules_by_shape t (apply_to_objects (PutNode later) t) rules (shape_put node later stands same)
       rules.entries rules.documents (omega arith) rules.next
 
-  pub rules_put_entries : (id : ℕ) (node : Node) → t.node id ≡ Some node → (entries : _) → ObjectRules (apply_to_objects (PutEntries id entries) t)
+  pub rules_put_entries : (id : ℕ) (node : Node) → t.node id ≡ Some node
+      → (entries : _) → ObjectRules (apply_to_objects (PutEntries id entries) t)
   rules_put_entries id node stands entries =
       let later = apply_to_objects (PutEntries id entries) t in
       rules_by_shape t later rules (shape_itself t later refl)
@@ -153,7 +161,8 @@ module _ (t : ObjectRecords) (rules : ObjectRules t) where
       ])
       rules.documents (omega arith) rules.next
 
-  pub rules_put_doc : (id : ℕ) (node : Node) → t.node id ≡ Some node → node.kind ≡ File → (bytes : _) → ObjectRules (apply_to_objects (PutDoc id bytes) t)
+  pub rules_put_doc : (id : ℕ) (node : Node) → t.node id ≡ Some node → node.kind ≡ File
+      → (bytes : _) → ObjectRules (apply_to_objects (PutDoc id bytes) t)
   rules_put_doc id node stands file bytes =
       let later = apply_to_objects (PutDoc id bytes) t in
       rules_by_shape t later rules (shape_itself t later refl)

@@ -3,7 +3,8 @@ use Rattle.std.specs.Prelude.{ℕ, ◌==◌, ◌&&◌, List, [], ◌∷◌, Opti
 use Rattle.std.specs.Str.{bytes_eq}
 use Rattle.room_slots.specs.KeptModel.{KeptModel}
 use Rattle.room_records.specs.declared.change.Change.{Change}
-use Rattle.room_records.specs.declared.change.Change.TheVariants.{PutNode, DropNode, PutEntries, PutDoc, PutSession, PutSlot, DropSlots, PutNext}
+use Rattle.room_records.specs.declared.change.Change.TheVariants.{PutNode, DropNode, PutEntries, PutDoc, PutSession}
+use Rattle.room_records.specs.declared.change.Change.TheVariants.{PutSlot, DropSlots, PutNext}
 use Rattle.room_records.specs.declared.session.SessionRow.{SessionRow}
 use Rattle.room_records.specs.Records.{ObjectRecords, Records}
 use Rattle.room_records.specs.Rules.{ObjectRules, RulesHold}
@@ -16,8 +17,10 @@ apply_to_objects (DropNode gone) t = record t {
   entries = λ id. if id == gone then [] else t.entries id;
   document = λ id. if id == gone then None else t.document id;
 }
-apply_to_objects (PutEntries at entries) t = record t { entries = λ id. if id == at then entries.items else t.entries id }
-apply_to_objects (PutDoc at bytes) t = record t { document = λ id. if id == at then Some bytes.items else t.document id }
+apply_to_objects (PutEntries at entries) t =
+    record t { entries = λ id. if id == at then entries.items else t.entries id }
+apply_to_objects (PutDoc at bytes) t =
+    record t { document = λ id. if id == at then Some bytes.items else t.document id }
 apply_to_objects (PutNext n) t = record t { next = n }
 apply_to_objects (PutSession row) t = t
 apply_to_objects (PutSlot row) t = t
@@ -36,7 +39,8 @@ apply_to_sessions (PutNext n) session sid = session sid
 
 -- slot rows after one change
 abbrev pub apply_to_slots : Change → (List ℕ → ℕ → Option KeptModel) → List ℕ → ℕ → Option KeptModel
-apply_to_slots (PutSlot row) kept sid slot = if bytes_eq sid row.sid && (slot == row.slot) then Some row.kept else kept sid slot
+apply_to_slots (PutSlot row) kept sid slot =
+    if bytes_eq sid row.sid && (slot == row.slot) then Some row.kept else kept sid slot
 apply_to_slots (DropSlots gone) kept sid slot = if bytes_eq sid gone then None else kept sid slot
 apply_to_slots (PutNode node) kept sid slot = kept sid slot
 apply_to_slots (DropNode gone) kept sid slot = kept sid slot
@@ -65,7 +69,8 @@ apply_changes (change ∷ changes) r = apply_changes changes (apply_change chang
 -- the record rules hold after each change
 abbrev pub RulesHoldAfterEach : List Change → Records → Type 0
 RulesHoldAfterEach [] r = Unit {0}
-RulesHoldAfterEach (change ∷ changes) r = RulesHold (apply_change change r) × RulesHoldAfterEach changes (apply_change change r)
+RulesHoldAfterEach (change ∷ changes) r =
+    RulesHold (apply_change change r) × RulesHoldAfterEach changes (apply_change change r)
 
 -- the rules on nodes, entries and documents hold after each change
 abbrev pub ObjectRulesHoldAfterEach : List Change → ObjectRecords → Type 0

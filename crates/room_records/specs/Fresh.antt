@@ -8,7 +8,8 @@ use Rattle.room_records.specs.Room.{fresh_entries}
 
 -- the node of its root folder
 abbrev pub fresh_root : List ℕ → List ℕ → Node
-fresh_root owner group = record { id = 1; parent = None; name = None; kind = Folder; owner = owner; group = group; aclflag = no_list_flags }
+fresh_root owner group =
+    record { id = 1; parent = None; name = None; kind = Folder; owner = owner; group = group; aclflag = no_list_flags }
 
 -- the root folder with two entries of its own, and no session
 abbrev pub fresh_records : List ℕ → List ℕ → Records

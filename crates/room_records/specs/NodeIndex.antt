@@ -6,7 +6,7 @@ use Rattle.std.specs.declared.cmp.Ordering.{Ordering}
 use Rattle.std.specs.BTreeMap.{BTreeMap}
 use Rattle.room_records.specs.declared.node.Node.{Node}
 use Rattle.room_records.specs.Names.{Name, name_cmp}
-use Rattle.room_records.specs.Table.{held, HasRoom}
+use Rattle.room_records.specs.Table.{held, HasSpace}
 
 -- the number of the parent, and the name
 abbrev pub PlaceKey : Type 0
@@ -38,17 +38,19 @@ IsNumbered nodes = (id : ℕ) (node : Node) → nodes id ≡ Some node → node.
 -- the index has each node that has a place
 abbrev pub ArePlaced : (ℕ → Option Node) → (PlaceKey → Option ℕ) → Type 0
 ArePlaced nodes places =
-    (id : ℕ) (node : Node) (place : PlaceKey) → nodes id ≡ Some node → place_of node ≡ Some place → places place ≡ Some id
+    (id : ℕ) (node : Node) (place : PlaceKey) → nodes id ≡ Some node
+    → place_of node ≡ Some place → places place ≡ Some id
 
 -- at each place of the index its node is
 abbrev pub AreAtPlace : (ℕ → Option Node) → (PlaceKey → Option ℕ) → Type 0
 AreAtPlace nodes places =
     (place : PlaceKey) (id : ℕ) → places place ≡ Some id → option_and_then place_of (nodes id) ≡ Some place
 
-pub record HasRoomForNode (nodes : Nodes) (places : Places) (node : Node) : Type 0 where
-  pub number : HasRoom nat_cmp nodes node.id
-  pub place : (place : PlaceKey) → place_of node ≡ Some place → HasRoom place_cmp places place
+pub record HasSpaceForNode (nodes : Nodes) (places : Places) (node : Node) : Type 0 where
+  pub number : HasSpace nat_cmp nodes node.id
+  pub place : (place : PlaceKey) → place_of node ≡ Some place → HasSpace place_cmp places place
 
 -- no other node has this node's parent and name
 abbrev pub IsFreeFor : (ℕ → Option Node) → Node → Type 0
-IsFreeFor nodes node = (other : Node) → nodes other.id ≡ Some other → other.parent ≡ node.parent → other.name ≡ node.name → other.id ≡ node.id
+IsFreeFor nodes node = (other : Node) → nodes other.id ≡ Some other
+    → other.parent ≡ node.parent → other.name ≡ node.name → other.id ≡ node.id

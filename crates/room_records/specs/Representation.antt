@@ -5,21 +5,22 @@ use Rattle.room_records.specs.declared.node.Node.{Node}
 use Rattle.room_records.specs.Names.{Name, Path}
 use Rattle.room_records.specs.Records.{ObjectRecords}
 use Rattle.room_records.specs.Rules.{ObjectRules}
-use Rattle.room_records.specs.Room.{Object, Room, IsRoom, object_at}
+use Rattle.room_records.specs.Room.{Object, Room, IsRoom, object_at, list_of}
 
 -- reading names upwards by parent numbers gives these
 abbrev pub NamesUpwards : ObjectRecords → List Name → ℕ → Type 0
 NamesUpwards t [] id = id ≡ 1
 NamesUpwards t (name ∷ above) id =
-    (node : Node) × (parent : ℕ) × (t.node id ≡ Some node) × (node.name ≡ Some name) × (node.parent ≡ Some parent) × NamesUpwards t above parent
+    (node : Node) × (parent : ℕ) × (t.node id ≡ Some node) × (node.name ≡ Some name)
+    × (node.parent ≡ Some parent) × NamesUpwards t above parent
 
 -- the node has this path
 abbrev pub HasPath : ObjectRecords → Path → ℕ → Type 0
 HasPath t path id = NamesUpwards t (reverse path) id
 
--- which entries the rows hold of an object: its own ones
-abbrev pub stored_entries : Room → Path → Object → List EntryModel
-stored_entries room path o = o.own
+-- which entries the rows hold of an object: its whole list
+abbrev pub stored_entries : Room → Path → List EntryModel
+stored_entries room path = list_of room path
 
 -- the rows of a node show an object
 pub record RowsShowObject (t : ObjectRecords) (node : Node) (room : Room) (path : Path) (o : Object) : Type 0 where
@@ -27,11 +28,12 @@ pub record RowsShowObject (t : ObjectRecords) (node : Node) (room : Room) (path 
   pub owner : node.owner ≡ o.owner
   pub group : node.group ≡ o.group
   pub aclflag : node.aclflag ≡ o.aclflag
-  pub entries : t.entries node.id ≡ stored_entries room path o
+  pub entries : t.entries node.id ≡ stored_entries room path
   pub bytes : unwrap_or (t.document node.id) [] ≡ o.bytes
 
 -- a node and an object at one path
-pub record NodeIsObject (t : ObjectRecords) (room : Room) (id : ℕ) (node : Node) (path : Path) (o : Object) : Type 0 where
+pub record NodeIsObject (t : ObjectRecords) (room : Room) (id : ℕ)
+    (node : Node) (path : Path) (o : Object) : Type 0 where
   pub at : HasPath t path id
   pub node_stands : t.node id ≡ Some node
   pub object_stands : object_at room path ≡ Some o
@@ -41,9 +43,11 @@ pub record RepresentsRoom (t : ObjectRecords) (room : Room) : Type 0 where
   pub rules : ObjectRules t
   pub lawful : IsRoom room
   -- each node has a path, where an object is that it shows
-  pub nodes : (id : ℕ) (node : Node) → t.node id ≡ Some node → (path : Path) × (o : Object) × NodeIsObject t room id node path o
+  pub nodes : (id : ℕ) (node : Node) → t.node id ≡ Some node
+      → (path : Path) × (o : Object) × NodeIsObject t room id node path o
   -- each object has a node that shows it
-  pub objects : (path : Path) (o : Object) → object_at room path ≡ Some o → (id : ℕ) × (node : Node) × NodeIsObject t room id node path o
+  pub objects : (path : Path) (o : Object) → object_at room path ≡ Some o
+      → (id : ℕ) × (node : Node) × NodeIsObject t room id node path o
   pub next : t.next ≡ room.made + 1
 
 -- the node at a path, if an object is there

@@ -1,7 +1,8 @@
 -- A room: a finite map from paths to objects. It holds no inherited entry and no object number.
 -- Which objects follow their folder, what a list is made of and every limit are our own rules; masks,
 -- flags and `who` are those of RFC 8881, section 6.2.1, and list flags those of section 6.4.3.2.
-use Rattle.std.specs.Prelude.{◌≡◌, ℕ, ◌-◌, true, not, List, [], ◌∷◌, ◌++◌, reverse, length, take, Option, None, Some, if◌then◌else◌, ◌≤◌, IsTrue}
+use Rattle.std.specs.Prelude.{◌≡◌, ℕ, ◌-◌, true, not, List, [], ◌∷◌, ◌++◌, reverse, length, take, Option, None}
+use Rattle.std.specs.Prelude.{Some, if◌then◌else◌, ◌≤◌, IsTrue}
 use Rattle.std.specs.List.{filter_map, list_all}
 use Rattle.std.specs.Map.{lookup}
 use Rattle.std.specs.Option.{option_map}
@@ -39,7 +40,8 @@ pub record Room : Type 0 where
 abbrev pub object_at : Room → Path → Option Object
 object_at room path = lookup (path_eq path) room.objects
 
--- an object keeps to the limits: at most 32 own entries, none of them inherited, at most 65,536 bytes, and a folder has none (our own rule)
+-- an object keeps to the limits: at most 32 own entries, none of them inherited, at most 65,536 bytes, and a folder has
+-- none (our own rule)
 pub record IsObject (o : Object) : Type 0 where
   pub few_entries : length o.own ≤ max_own_entries
   pub own_entries : IsTrue (list_all (λ entry. not (is_inherited entry.flags)) o.own)
@@ -76,7 +78,8 @@ by_name (e ∷ es) = insert_entry name_cmp (by_name es) e.0 e.1
 abbrev pub children : Room → Path → List (Name × Kind)
 children room folder = by_name (filter_map (child_in folder) room.objects)
 
--- what makes a room of a map: the root is a folder, the parent of every other path is a folder of the map, and no folder has more than 256 children (our own rule)
+-- what makes a room of a map: the root is a folder, the parent of every other path is a folder of the map, and no
+-- folder has more than 256 children (our own rule)
 pub record IsRoom (room : Room) : Type 0 where
   pub root : (o : Object) × (object_at room [] ≡ Some o) × (o.kind ≡ Folder)
   pub parents : (path : Path) (name : Name) (o : Object) → object_at room (path ++ name ∷ []) ≡ Some o
@@ -94,7 +97,8 @@ abbrev pub root_list : Option Object → List EntryModel
 root_list None = []
 root_list (Some o) = o.own
 
--- the list of an object: its own entries, then, where it follows, what its folder's list hands down (our own rule). The names come from below
+-- the list of an object: its own entries, then, where it follows, what its folder's list hands down (our own rule). The
+-- names come from below
 abbrev pub list_upwards : Room → List Name → List EntryModel
 list_upwards room [] = root_list (object_at room [])
 list_upwards room (name ∷ above) = list_under (object_at room (reverse (name ∷ above))) (list_upwards room above)
@@ -115,7 +119,8 @@ abbrev pub fresh_entries : List EntryModel
 fresh_entries = fresh_entry Owner all_rights ∷ fresh_entry Group reading_rights ∷ []
 
 abbrev pub fresh_object : List ℕ → List ℕ → Object
-fresh_object owner group = record { kind = Folder; owner = owner; group = group; aclflag = no_list_flags; own = fresh_entries; bytes = [] }
+fresh_object owner group =
+    record { kind = Folder; owner = owner; group = group; aclflag = no_list_flags; own = fresh_entries; bytes = [] }
 
 -- a fresh room: a root folder with these entries, and nothing in it (our own rule)
 abbrev pub fresh_room : List ℕ → List ℕ → Room

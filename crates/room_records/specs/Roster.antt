@@ -1,5 +1,6 @@
 -- The roster: who may ask, with their groups.
-use Rattle.std.specs.Prelude.{◌≡◌, ℕ, ◌≤◌, Bool, not, ◌&&◌, nat_lt, nat_le, List, [], ◌∷◌, ◌++◌, length, Option, Result, Ok, Err}
+use Rattle.std.specs.Prelude.{◌≡◌, ℕ, ◌≤◌, Bool, not, ◌&&◌, nat_lt, nat_le, List, [], ◌∷◌, ◌++◌, length}
+use Rattle.std.specs.Prelude.{Option, Result, Ok, Err}
 use Rattle.std.specs.List.{find, AllByRecursion}
 use Rattle.std.specs.Option.{option_map, is_some}
 use Rattle.std.specs.Ordering.{match_ordering}
@@ -31,12 +32,14 @@ groups_of users name = option_map (λ (user : SubjectModel). user.groups) (user_
 
 -- there is room for a user with these groups, and no user of the name
 abbrev pub may_join : List SubjectModel → List ℕ → List (List ℕ) → Bool
-may_join users name groups = nat_le (length groups) max_groups && (nat_lt (length users) max_users && not (is_some (user_named users name)))
+may_join users name groups =
+    nat_le (length groups) max_groups && (nat_lt (length users) max_users && not (is_some (user_named users name)))
 
 -- the users with one more, in its place
 abbrev pub with_user : List SubjectModel → SubjectModel → List SubjectModel
 with_user [] user = user ∷ []
-with_user (other ∷ users) user = match_ordering (name_cmp user.name other.name) (user ∷ other ∷ users) (other ∷ users) (other ∷ with_user users user)
+with_user (other ∷ users) user =
+    match_ordering (name_cmp user.name other.name) (user ∷ other ∷ users) (other ∷ users) (other ∷ with_user users user)
 
 -- these users stand before the name
 abbrev pub AreBefore : List ℕ → List SubjectModel → Type 0
@@ -48,10 +51,10 @@ StartsBehind name [] = Unit {0}
 StartsBehind name (user ∷ users) = name_cmp name user.name ≡ Less
 
 -- where a name stands among users in order, or else where it would stand
-abbrev pub IsPlaceOf : List SubjectModel → List ℕ → Result ℕ ℕ → Type 0
-IsPlaceOf users name (Ok place) =
+abbrev pub IsIndexOf : List SubjectModel → List ℕ → Result ℕ ℕ → Type 0
+IsIndexOf users name (Ok place) =
     (front : List SubjectModel) × (user : SubjectModel) × (back : List SubjectModel)
     × (users ≡ front ++ user ∷ back) × (length front ≡ place) × AreBefore name front × (name_cmp name user.name ≡ Equal)
-IsPlaceOf users name (Err place) =
+IsIndexOf users name (Err place) =
     (front : List SubjectModel) × (back : List SubjectModel)
     × (users ≡ front ++ back) × (length front ≡ place) × AreBefore name front × StartsBehind name back

@@ -31,7 +31,8 @@ pub record ObjectRules (t : ObjectRecords) : Type 0 where
   pub has_root : IsSome (t.node 1)
   pub below : (id : ℕ) (node : Node) → t.node id ≡ Some node → id ≢ 1 → IsBelow t node
   -- a name stands once in a folder
-  pub once : (a b : Node) → t.node a.id ≡ Some a → t.node b.id ≡ Some b → a.parent ≡ b.parent → a.name ≡ b.name → a.id ≡ b.id
+  pub once : (a b : Node) → t.node a.id ≡ Some a → t.node b.id ≡ Some b
+      → a.parent ≡ b.parent → a.name ≡ b.name → a.id ≡ b.id
   pub entries : (id : ℕ) → t.node id ≡ None → t.entries id ≡ []
   -- a document belongs to a file that is there
   pub documents : (id : ℕ) → IsSome (t.document id) → (node : Node) × (t.node id ≡ Some node) × (node.kind ≡ File)
@@ -40,7 +41,8 @@ pub record ObjectRules (t : ObjectRecords) : Type 0 where
 -- a slot row belongs to a session row and lies below its number of slots
 pub record SlotRules (r : Records) : Type 0 where
   pub sessions : (sid : List ℕ) (row : SessionRow) → r.session sid ≡ Some row → row.sid ≡ sid
-  pub slots : (sid : List ℕ) (slot : ℕ) → IsSome (r.slot sid slot) → (row : SessionRow) × (r.session sid ≡ Some row) × (slot < row.slots)
+  pub slots : (sid : List ℕ) (slot : ℕ) → IsSome (r.slot sid slot)
+      → (row : SessionRow) × (r.session sid ≡ Some row) × (slot < row.slots)
 
 pub record RulesHold (r : Records) : Type 0 where
   pub objects : ObjectRules r.objects

@@ -1,5 +1,6 @@
 -- What calls of a shelf say.
-use Rattle.std.specs.Prelude.{◌≡◌, ◌≢◌, ℕ, ◌-◌, ◌^◌, ◌<◌, ◌≤◌, ◌⊎◌, List, [], ◌∷◌, Option, None, Some, MatchOption, Result, Ok, Err, IfOk, unwrap_or, length}
+use Rattle.std.specs.Prelude.{◌≡◌, ◌≢◌, ℕ, ◌-◌, ◌^◌, ◌<◌, ◌≤◌, ◌⊎◌, List, [], ◌∷◌, Option, None, Some, MatchOption}
+use Rattle.std.specs.Prelude.{Result, Ok, Err, IfOk, unwrap_or, length}
 use Rattle.std.specs.List.{AllByRecursion, Contains}
 use Rattle.std.specs.declared.cmp.Ordering.TheVariants.{Less}
 use Rattle.room_records.specs.declared.node.Node.{Node}
@@ -32,8 +33,9 @@ abbrev pub fault_in : {T : Type 0} → Result T ShelfFault → Option ShelfFault
 fault_in (Ok value) = None
 fault_in (Err fault) = Some fault
 
--- the frame of a call, by the fault that it answered, if any: the store is no better than it was, what it is laid out for stays, an answer other
--- than a fault comes while the store is there, the count of failures rises exactly where the call answers Store, and a fault changes no record
+-- the frame of a call, by the fault that it answered, if any: the store is no better than it was, what it is laid out
+-- for stays, an answer other than a fault comes while the store is there, the count of failures rises exactly where the
+-- call answers Store, and a fault changes no record
 pub record ShelfCall (old new : View) (fault : Option ShelfFault) : Type 0 where
   pub was_intact : new.is_intact → old.is_intact
   pub was_available : new.is_available → old.is_available

@@ -14,5 +14,5 @@ module _ {K X : Type 0} (cmp : K → K → Ordering) where
   held slots key = value_in (get cmp slots key)
 
   -- a value can be put at the key
-  abbrev pub HasRoom : BTreeMap K (Option X) → K → Type 0
-  HasRoom slots key = IsSome (get cmp slots key)
+  abbrev pub HasSpace : BTreeMap K (Option X) → K → Type 0
+  HasSpace slots key = IsSome (get cmp slots key)

@@ -1,5 +1,6 @@
 //! File names, paths and session names.
-ghost use Rattle.std.specs.Prelude.{◌≡◌, ℕ, List, ◌≤◌, ◌<◌, IfOk, IsSome, IfSome, ◌↔◌, IsTrue, map, length, take, [], ◌∷◌, string_bytes};
+ghost use Rattle.std.specs.Prelude.{◌≡◌, ℕ, List, ◌≤◌, ◌<◌, IfOk, IsSome, IfSome, ◌↔◌, IsTrue, map, length};
+ghost use Rattle.std.specs.Prelude.{take, [], ◌∷◌, string_bytes};
 ghost use Rattle.std.specs.Prelude.{◌==◌};
 ghost use Rattle.std.specs.List.{list_all, slice_split, flat_map};
 ghost use Rattle.room_records.specs.Limits.{IsSlotCount};
@@ -101,7 +102,8 @@ impl Path {
     /// The path with this text; `None` exactly where the text is no path's.
     pub fn read(alloc: Global, text: &str) -> Result<Option<Path>, AllocError>
         ensures some { IfOk result (λ read. IfSome read (λ path. IsPath path × (path_text path ≡ text.now))) }
-        ensures every { IfOk result (λ read. (path : List (List ℕ)) → IsPath path → path_text path ≡ text.now → read ≡ Some path) }
+        ensures every { IfOk result (λ read. (path : List (List ℕ))
+            → IsPath path → path_text path ≡ text.now → read ≡ Some path) }
     {
         if text == "/" {
             return Ok(Some(Path {

@@ -3,7 +3,7 @@ ghost use Rattle.std.specs.Prelude.{◌≡◌, List, [], length, IfOk, OnErr, if
 ghost use Rattle.std.specs.List.{slice_get};
 ghost use Rattle.std.specs.Option.{option_map};
 ghost use Rattle.room_acl.specs.SubjectModel.{SubjectModel};
-ghost use Rattle.room_records.specs.Roster.{IsRoster, IsPlaceOf, may_join, with_user, groups_of};
+ghost use Rattle.room_records.specs.Roster.{IsRoster, IsIndexOf, may_join, with_user, groups_of};
 
 use crate::limits::{MAX_GROUPS, MAX_USERS};
 use room_acl::{Principal, Subject};
@@ -48,13 +48,14 @@ impl Roster {
     pub fn add(&mut self, user: Principal, groups: Vec<Principal>) -> Result<bool, AllocError>
         ensures ok { IfOk result (λ added. added ≡ may_join self.old user groups.items) }
         ensures users { IfOk result (λ added.
-            self.new ≡ (if added then with_user self.old (record { name = user; groups = groups.items }) else self.old)) }
+            self.new
+            ≡ (if added then with_user self.old (record { name = user; groups = groups.items }) else self.old)) }
         ensures err { OnErr result (self.new ≡ self.old) }
     {
         if groups.len() > MAX_GROUPS || self.users.len() >= MAX_USERS {
             return Ok(false);
         }
-        let Err(place) = place_of(self.users.as_slice(), &user) else {
+        let Err(place) = index_of(self.users.as_slice(), &user) else {
             return Ok(false);
         };
         let user = Subject { name: user, groups };
@@ -80,7 +81,7 @@ impl Roster {
     pub fn groups(&self, user: &Principal) -> Option<&[Principal]>
         ensures { option_map (λ groups. groups.now) result ≡ groups_of self.now user.now }
     {
-        match place_of(self.users.as_slice(), user) {
+        match index_of(self.users.as_slice(), user) {
             Ok(place) => Some(self.users[place].groups.as_slice()),
             Err(_) => None,
         }
@@ -96,7 +97,8 @@ impl Roster {
 
     /// The user at this place in name order.
     pub fn user(&self, place: usize) -> Option<(&Principal, &[Principal])>
-        ensures value { option_map (λ p. record { name = p.0.now; groups = p.1.now }) result ≡ slice_get self.now place }
+        ensures value { option_map (λ p. record { name = p.0.now; groups = p.1.now }) result
+            ≡ slice_get self.now place }
         ensures lawful { IsRoster self.now }
     {
         match self.users.get(place) {
@@ -107,8 +109,8 @@ impl Roster {
 }
 
 /// Where the user of this name stands, or else where it would stand.
-fn place_of(users: &[Subject], name: &Principal) -> Result<usize, usize>
-    ensures { IsPlaceOf users.now name.now result }
+fn index_of(users: &[Subject], name: &Principal) -> Result<usize, usize>
+    ensures { IsIndexOf users.now name.now result }
 {
     for (place, user) in users.iter().enumerate() {
         match name.text().cmp(user.name.text()) {

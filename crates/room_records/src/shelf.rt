@@ -3,7 +3,8 @@ ghost use Rattle.std.specs.Prelude.{◌≡◌, ◌⊎◌, [], unwrap_or, OnOk};
 ghost use Rattle.room_records.specs.Records.{Records};
 ghost use Rattle.room_records.specs.Rules.{ObjectRules};
 ghost use Rattle.room_records.specs.Changes.{apply_changes, RulesHoldAfterEach};
-ghost use Rattle.room_records.specs.Shelf.{View, ShelfCall, ShelfRead, Tells, fault_in, AreChildren, IsChildCount, IsChildNamed};
+ghost use Rattle.room_records.specs.Shelf.{View, ShelfCall, ShelfRead, Tells, fault_in, AreChildren};
+ghost use Rattle.room_records.specs.Shelf.{IsChildCount, IsChildNamed};
 
 use crate::change::Change;
 use crate::names::{FileName, Sid};
@@ -47,13 +48,15 @@ pub trait Shelf {
 
     /// The node of this number.
     fn node(&mut self, id: u32) -> Result<Option<Node>, ShelfFault>
-        ensures value { Tells (view self.old) (view self.new) result (λ records found. found ≡ records.objects.node id) }
+        ensures value { Tells (view self.old) (view self.new) result
+            (λ records found. found ≡ records.objects.node id) }
         ensures there { (view self.new).is_intact → OnOk result (view self.new).is_available }
         ensures frame { ShelfRead (view self.old) (view self.new) (fault_in result) };
 
     /// The child of this name.
     fn child(&mut self, parent: u32, name: &FileName) -> Result<Option<Node>, ShelfFault>
-        ensures value { Tells (view self.old) (view self.new) result (λ records. IsChildNamed records.objects parent name.now) }
+        ensures value { Tells (view self.old) (view self.new) result
+            (λ records. IsChildNamed records.objects parent name.now) }
         ensures there { (view self.new).is_intact → OnOk result (view self.new).is_available }
         ensures frame { ShelfRead (view self.old) (view self.new) (fault_in result) };
 
@@ -73,7 +76,8 @@ pub trait Shelf {
 
     /// The entries of an object, in order of place. None where the object is not there.
     fn entries(&mut self, id: u32) -> Result<Vec<Entry>, ShelfFault>
-        ensures value { Tells (view self.old) (view self.new) result (λ records found. found.items ≡ records.objects.entries id) }
+        ensures value { Tells (view self.old) (view self.new) result
+            (λ records found. found.items ≡ records.objects.entries id) }
         ensures there { (view self.new).is_intact → OnOk result (view self.new).is_available }
         ensures frame { ShelfRead (view self.old) (view self.new) (fault_in result) };
 
@@ -86,13 +90,15 @@ pub trait Shelf {
 
     /// The row of a session name that was opened once.
     fn session(&mut self, sid: &Sid) -> Result<Option<SessionRow>, ShelfFault>
-        ensures value { Tells (view self.old) (view self.new) result (λ records found. found ≡ records.session sid.now) }
+        ensures value { Tells (view self.old) (view self.new) result
+            (λ records found. found ≡ records.session sid.now) }
         ensures there { (view self.new).is_intact → OnOk result (view self.new).is_available }
         ensures frame { ShelfRead (view self.old) (view self.new) (fault_in result) };
 
     /// What a slot keeps.
     fn slot(&mut self, sid: &Sid, slot: u32) -> Result<Option<Kept>, ShelfFault>
-        ensures value { Tells (view self.old) (view self.new) result (λ records found. found ≡ records.slot sid.now slot) }
+        ensures value { Tells (view self.old) (view self.new) result
+            (λ records found. found ≡ records.slot sid.now slot) }
         ensures there { (view self.new).is_intact → OnOk result (view self.new).is_available }
         ensures frame { ShelfRead (view self.old) (view self.new) (fault_in result) };
 
@@ -106,10 +112,13 @@ pub trait Shelf {
     fn commit(&mut self, changes: &[Change]) -> Result<(), ShelfFault>
         ensures there { (view self.new).is_intact → OnOk result (view self.new).is_available }
         ensures frame { ShelfCall (view self.old) (view self.new) (fault_in result) }
-        ensures ok { (view self.new).is_intact → (view self.old).is_laid_out → RulesHoldAfterEach changes.now (view self.old).records →
+        ensures ok { (view self.new).is_intact → (view self.old).is_laid_out
+            → RulesHoldAfterEach changes.now (view self.old).records →
             OnOk result ((view self.new).records ≡ apply_changes changes.now (view self.old).records) }
-        ensures settled { (view self.new).is_intact → (view self.old).is_laid_out → RulesHoldAfterEach changes.now (view self.old).records →
-            OnOk result ((left : Records) → (view self.new).crash_may_leave left → left ≡ apply_changes changes.now (view self.old).records) }
+        ensures settled { (view self.new).is_intact → (view self.old).is_laid_out
+            → RulesHoldAfterEach changes.now (view self.old).records →
+            OnOk result ((left : Records) → (view self.new).crash_may_leave left
+            → left ≡ apply_changes changes.now (view self.old).records) }
         ensures crash { (view self.old).is_laid_out → RulesHoldAfterEach changes.now (view self.old).records →
             (left : Records) → (view self.new).crash_may_leave left →
             (view self.old).crash_may_leave left ⊎ (left ≡ apply_changes changes.now (view self.old).records) };

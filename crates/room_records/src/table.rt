@@ -2,7 +2,7 @@
 ghost use Rattle.std.specs.Prelude.{◌≡◌, IsSome, OnOk, cond, []};
 ghost use Rattle.std.specs.Option.{option_copied};
 ghost use Rattle.std.specs.Ordering.{eq_by_cmp};
-ghost use Rattle.room_records.specs.Table.{held, HasRoom};
+ghost use Rattle.room_records.specs.Table.{held, HasSpace};
 
 use std::alloc::{AllocError, Global};
 use std::collections::BTreeMap;
@@ -32,10 +32,10 @@ impl<K: Ord + Drop, X: Drop> Table<K, X> {
     }
 
     /// Makes room for a value at the key. It changes no value, also where memory is refused.
-    pub(crate) fn make_room(&mut self, key: K) -> Result<(), AllocError>
+    pub(crate) fn reserve(&mut self, key: K) -> Result<(), AllocError>
         ensures same { (k : K) → held K.cmp self.new.slots k ≡ held K.cmp self.old.slots k }
-        ensures kept { (k : K) → HasRoom K.cmp self.old.slots k → HasRoom K.cmp self.new.slots k }
-        ensures room { OnOk result (HasRoom K.cmp self.new.slots key) }
+        ensures kept { (k : K) → HasSpace K.cmp self.old.slots k → HasSpace K.cmp self.new.slots k }
+        ensures room { OnOk result (HasSpace K.cmp self.new.slots key) }
     {
         if !self.slots.contains_key(&key) {
             self.slots.insert(key, None)?;
@@ -45,10 +45,11 @@ impl<K: Ord + Drop, X: Drop> Table<K, X> {
 
     /// Puts a value where room is, and gives back the old one.
     pub(crate) fn put(&mut self, key: &K, value: X) -> Option<X>
-        requires { HasRoom K.cmp self.old.slots key.now }
-        ensures held { (k : K) → held K.cmp self.new.slots k ≡ cond (eq_by_cmp K.cmp key.now k) (Some value) (held K.cmp self.old.slots k) }
+        requires { HasSpace K.cmp self.old.slots key.now }
+        ensures held { (k : K) → held K.cmp self.new.slots k
+            ≡ cond (eq_by_cmp K.cmp key.now k) (Some value) (held K.cmp self.old.slots k) }
         ensures old { result ≡ held K.cmp self.old.slots key.now }
-        ensures kept { (k : K) → HasRoom K.cmp self.old.slots k → HasRoom K.cmp self.new.slots k }
+        ensures kept { (k : K) → HasSpace K.cmp self.old.slots k → HasSpace K.cmp self.new.slots k }
     {
         match self.slots.get_mut(key) {
             Some(slot) => slot.replace(value),
@@ -58,9 +59,10 @@ impl<K: Ord + Drop, X: Drop> Table<K, X> {
 
     /// Takes the value out, and leaves its room.
     pub(crate) fn take(&mut self, key: &K) -> Option<X>
-        ensures held { (k : K) → held K.cmp self.new.slots k ≡ cond (eq_by_cmp K.cmp key.now k) None (held K.cmp self.old.slots k) }
+        ensures held { (k : K) → held K.cmp self.new.slots k
+            ≡ cond (eq_by_cmp K.cmp key.now k) None (held K.cmp self.old.slots k) }
         ensures old { result ≡ held K.cmp self.old.slots key.now }
-        ensures kept { (k : K) → HasRoom K.cmp self.old.slots k → HasRoom K.cmp self.new.slots k }
+        ensures kept { (k : K) → HasSpace K.cmp self.old.slots k → HasSpace K.cmp self.new.slots k }
     {
         match self.slots.get_mut(key) {
             Some(slot) => slot.take(),

@@ -75,7 +75,8 @@ impl<S: Shelf> Shelf for TripShelf<S> {
     ghost use Rattle.room_records.specs.Records.{Records};
     ghost use Rattle.room_records.specs.Rules.{ObjectRules};
     ghost use Rattle.room_records.specs.Changes.{apply_changes, RulesHoldAfterEach};
-    ghost use Rattle.room_records.specs.Shelf.{ShelfCall, ShelfRead, Tells, fault_in, AreChildren, IsChildCount, IsChildNamed};
+    ghost use Rattle.room_records.specs.Shelf.{ShelfCall, ShelfRead, Tells, fault_in, AreChildren};
+    ghost use Rattle.room_records.specs.Shelf.{IsChildCount, IsChildNamed};
     ghost use Rattle.room_records.specs.Trip.{TripCall, trip_view};
 
     ghost view = { trip_view S.view };
@@ -83,7 +84,8 @@ impl<S: Shelf> Shelf for TripShelf<S> {
     ghost available_is_intact = { λ s h. S.available_is_intact s.inner h };
 
     fn node(&mut self, id: u32) -> Result<Option<Node>, ShelfFault>
-        ensures value { Tells (trip_view S.view self.old) (trip_view S.view self.new) result (λ records found. found ≡ records.objects.node id) }
+        ensures value { Tells (trip_view S.view self.old) (trip_view S.view self.new)
+            result (λ records found. found ≡ records.objects.node id) }
         ensures there { (trip_view S.view self.new).is_intact → OnOk result (trip_view S.view self.new).is_available }
         ensures frame { ShelfRead (trip_view S.view self.old) (trip_view S.view self.new) (fault_in result) }
         ensures trips { TripCall S.view self.old self.new result }
@@ -95,7 +97,8 @@ impl<S: Shelf> Shelf for TripShelf<S> {
     }
 
     fn child(&mut self, parent: u32, name: &FileName) -> Result<Option<Node>, ShelfFault>
-        ensures value { Tells (trip_view S.view self.old) (trip_view S.view self.new) result (λ records. IsChildNamed records.objects parent name.now) }
+        ensures value { Tells (trip_view S.view self.old) (trip_view S.view self.new)
+            result (λ records. IsChildNamed records.objects parent name.now) }
         ensures there { (trip_view S.view self.new).is_intact → OnOk result (trip_view S.view self.new).is_available }
         ensures frame { ShelfRead (trip_view S.view self.old) (trip_view S.view self.new) (fault_in result) }
         ensures trips { TripCall S.view self.old self.new result }
@@ -133,7 +136,8 @@ impl<S: Shelf> Shelf for TripShelf<S> {
     }
 
     fn entries(&mut self, id: u32) -> Result<Vec<Entry>, ShelfFault>
-        ensures value { Tells (trip_view S.view self.old) (trip_view S.view self.new) result (λ records found. found.items ≡ records.objects.entries id) }
+        ensures value { Tells (trip_view S.view self.old) (trip_view S.view self.new)
+            result (λ records found. found.items ≡ records.objects.entries id) }
         ensures there { (trip_view S.view self.new).is_intact → OnOk result (trip_view S.view self.new).is_available }
         ensures frame { ShelfRead (trip_view S.view self.old) (trip_view S.view self.new) (fault_in result) }
         ensures trips { TripCall S.view self.old self.new result }
@@ -158,7 +162,8 @@ impl<S: Shelf> Shelf for TripShelf<S> {
     }
 
     fn session(&mut self, sid: &Sid) -> Result<Option<SessionRow>, ShelfFault>
-        ensures value { Tells (trip_view S.view self.old) (trip_view S.view self.new) result (λ records found. found ≡ records.session sid.now) }
+        ensures value { Tells (trip_view S.view self.old) (trip_view S.view self.new)
+            result (λ records found. found ≡ records.session sid.now) }
         ensures there { (trip_view S.view self.new).is_intact → OnOk result (trip_view S.view self.new).is_available }
         ensures frame { ShelfRead (trip_view S.view self.old) (trip_view S.view self.new) (fault_in result) }
         ensures trips { TripCall S.view self.old self.new result }
@@ -170,7 +175,8 @@ impl<S: Shelf> Shelf for TripShelf<S> {
     }
 
     fn slot(&mut self, sid: &Sid, slot: u32) -> Result<Option<Kept>, ShelfFault>
-        ensures value { Tells (trip_view S.view self.old) (trip_view S.view self.new) result (λ records found. found ≡ records.slot sid.now slot) }
+        ensures value { Tells (trip_view S.view self.old) (trip_view S.view self.new)
+            result (λ records found. found ≡ records.slot sid.now slot) }
         ensures there { (trip_view S.view self.new).is_intact → OnOk result (trip_view S.view self.new).is_available }
         ensures frame { ShelfRead (trip_view S.view self.old) (trip_view S.view self.new) (fault_in result) }
         ensures trips { TripCall S.view self.old self.new result }
@@ -182,7 +188,8 @@ impl<S: Shelf> Shelf for TripShelf<S> {
     }
 
     fn next_id(&mut self) -> Result<u32, ShelfFault>
-        ensures value { Tells (trip_view S.view self.old) (trip_view S.view self.new) result (λ records next. next ≡ records.objects.next) }
+        ensures value { Tells (trip_view S.view self.old) (trip_view S.view self.new)
+            result (λ records next. next ≡ records.objects.next) }
         ensures there { (trip_view S.view self.new).is_intact → OnOk result (trip_view S.view self.new).is_available }
         ensures frame { ShelfRead (trip_view S.view self.old) (trip_view S.view self.new) (fault_in result) }
         ensures trips { TripCall S.view self.old self.new result }
@@ -196,13 +203,19 @@ impl<S: Shelf> Shelf for TripShelf<S> {
     fn commit(&mut self, changes: &[Change]) -> Result<(), ShelfFault>
         ensures there { (trip_view S.view self.new).is_intact → OnOk result (trip_view S.view self.new).is_available }
         ensures frame { ShelfCall (trip_view S.view self.old) (trip_view S.view self.new) (fault_in result) }
-        ensures ok { (trip_view S.view self.new).is_intact → (trip_view S.view self.old).is_laid_out → RulesHoldAfterEach changes.now (trip_view S.view self.old).records →
-            OnOk result ((trip_view S.view self.new).records ≡ apply_changes changes.now (trip_view S.view self.old).records) }
-        ensures settled { (trip_view S.view self.new).is_intact → (trip_view S.view self.old).is_laid_out → RulesHoldAfterEach changes.now (trip_view S.view self.old).records →
-            OnOk result ((left : Records) → (trip_view S.view self.new).crash_may_leave left → left ≡ apply_changes changes.now (trip_view S.view self.old).records) }
-        ensures crash { (trip_view S.view self.old).is_laid_out → RulesHoldAfterEach changes.now (trip_view S.view self.old).records →
+        ensures ok { (trip_view S.view self.new).is_intact → (trip_view S.view self.old).is_laid_out
+            → RulesHoldAfterEach changes.now (trip_view S.view self.old).records →
+            OnOk result ((trip_view S.view self.new).records
+            ≡ apply_changes changes.now (trip_view S.view self.old).records) }
+        ensures settled { (trip_view S.view self.new).is_intact → (trip_view S.view self.old).is_laid_out
+            → RulesHoldAfterEach changes.now (trip_view S.view self.old).records →
+            OnOk result ((left : Records) → (trip_view S.view self.new).crash_may_leave left
+            → left ≡ apply_changes changes.now (trip_view S.view self.old).records) }
+        ensures crash { (trip_view S.view self.old).is_laid_out
+            → RulesHoldAfterEach changes.now (trip_view S.view self.old).records →
             (left : Records) → (trip_view S.view self.new).crash_may_leave left →
-            (trip_view S.view self.old).crash_may_leave left ⊎ (left ≡ apply_changes changes.now (trip_view S.view self.old).records) }
+            (trip_view S.view self.old).crash_may_leave left
+            ⊎ (left ≡ apply_changes changes.now (trip_view S.view self.old).records) }
         ensures trips { TripCall S.view self.old self.new result }
     {
         if self.trips() {

@@ -1,5 +1,6 @@
 -- Fronts of paths, and the order of paths.
-use Rattle.std.proofs.Common.{◌≡◌, refl, ap, sym, ◌∙◌, Bool, true, false, cond, [], ◌∷◌, ◌++◌, append_assoc, Less, Equal, Greater}
+use Rattle.std.proofs.Common.{◌≡◌, refl, ap, sym, ◌∙◌, Bool, true, false, cond, [], ◌∷◌, ◌++◌}
+use Rattle.std.proofs.Common.{append_assoc, Less, Equal, Greater}
 use Rattle.std.specs.Cmp.{IsTotalOrder, tied_itself}
 use Rattle.std.specs.Cmp.Lexicographic.{texts_ties, lists_ties}
 use Rattle.std.specs.Ordering.{ordering_then, ordering_reverse, is_eq}
@@ -21,7 +22,8 @@ one_way a b less more = let f : Less ≡ Greater = sym less ∙ path_total.antis
 
 pub front_of : (front rest : Path) → is_front front (front ++ rest) ≡ true
 front_of [] rest = refl
-front_of (a ∷ front) rest = ap (λ b. cond b (is_front front (front ++ rest)) false) (name_itself a) ∙ front_of front rest
+front_of (a ∷ front) rest =
+    ap (λ b. cond b (is_front front (front ++ rest)) false) (name_itself a) ∙ front_of front rest
 
 -- a path that begins with these names is these names and more
 pub front_split : (front path : Path) → is_front front path ≡ true → (rest : Path) × (path ≡ front ++ rest)
@@ -29,7 +31,8 @@ front_split [] path is = (path, refl)
 front_split (a ∷ front) [] is = absurd cc
 front_split (a ∷ front) (b ∷ path) is = by_test (name_eq a b) refl is (front_split front path)
   where
-    by_test : (c : Bool) → name_eq a b ≡ c → cond c (is_front front path) false ≡ true → (is_front front path ≡ true → (rest : Path) × (path ≡ front ++ rest))
+    by_test : (c : Bool) → name_eq a b ≡ c → cond c (is_front front path) false ≡ true
+        → (is_front front path ≡ true → (rest : Path) × (path ≡ front ++ rest))
         → (rest : Path) × (b ∷ path ≡ a ∷ front ++ rest)
     by_test false is_other h later = absurd cc
     by_test true same h later =
@@ -38,7 +41,8 @@ front_split (a ∷ front) (b ∷ path) is = by_test (name_eq a b) refl is (front
         (found.0, λ i. first i ∷ found.1 i)
 
 -- a longer front of a path has a shorter one
-pub front_above : (front : Path) (name : Name) (path : Path) → is_front (front ++ name ∷ []) path ≡ true → is_front front path ≡ true
+pub front_above : (front : Path) (name : Name) (path : Path)
+    → is_front (front ++ name ∷ []) path ≡ true → is_front front path ≡ true
 front_above front name path is =
     let found = front_split (front ++ name ∷ []) path is in
     ap (is_front front) (found.1 ∙ append_assoc front (name ∷ []) found.0) ∙ front_of front (name ∷ found.0)
@@ -47,16 +51,20 @@ front_above front name path is =
 pub folder_first : (front : Path) (name : Name) (rest : Path) → path_cmp front (front ++ name ∷ rest) ≡ Less
 folder_first [] name rest = refl
 folder_first (a ∷ front) name rest =
-    ap (λ o. ordering_then o (path_cmp front (front ++ name ∷ rest))) (tied_itself nat_list_cmp_total a) ∙ folder_first front name rest
+    ap (λ o. ordering_then o (path_cmp front (front ++ name ∷ rest))) (tied_itself nat_list_cmp_total a)
+    ∙ folder_first front name rest
 
 -- and what is below one name before what is below the next
-pub names_apart : (front : Path) (a b : Name) (x y : Path) → name_cmp a b ≡ Less → path_cmp (front ++ a ∷ x) (front ++ b ∷ y) ≡ Less
+pub names_apart : (front : Path) (a b : Name) (x y : Path)
+    → name_cmp a b ≡ Less → path_cmp (front ++ a ∷ x) (front ++ b ∷ y) ≡ Less
 names_apart [] a b x y less = ap (λ o. ordering_then o (path_cmp x y)) less
 names_apart (n ∷ front) a b x y less =
-    ap (λ o. ordering_then o (path_cmp (front ++ a ∷ x) (front ++ b ∷ y))) (tied_itself nat_list_cmp_total n) ∙ names_apart front a b x y less
+    ap (λ o. ordering_then o (path_cmp (front ++ a ∷ x) (front ++ b ∷ y))) (tied_itself nat_list_cmp_total n)
+    ∙ names_apart front a b x y less
 
 -- so for all that is below them
-pub fronts_apart : (front : Path) (a b : Name) (x y : Path) → name_cmp a b ≡ Less → is_front (front ++ a ∷ []) x ≡ true → is_front (front ++ b ∷ []) y ≡ true
+pub fronts_apart : (front : Path) (a b : Name) (x y : Path) → name_cmp a b ≡ Less
+    → is_front (front ++ a ∷ []) x ≡ true → is_front (front ++ b ∷ []) y ≡ true
     → path_cmp x y ≡ Less
 fronts_apart front a b x y less in_a in_b =
     let left = front_split (front ++ a ∷ []) x in_a in
@@ -65,7 +73,8 @@ fronts_apart front a b x y less in_a in_b =
     let ys : y ≡ front ++ b ∷ right.0 = right.1 ∙ append_assoc front (b ∷ []) right.0 in
     (λ i. path_cmp (xs i) (ys i)) ∙ names_apart front a b left.0 right.0 less
 
-pub below_folder : (front : Path) (name : Name) (path : Path) → is_front (front ++ name ∷ []) path ≡ true → path_cmp front path ≡ Less
+pub below_folder : (front : Path) (name : Name) (path : Path)
+    → is_front (front ++ name ∷ []) path ≡ true → path_cmp front path ≡ Less
 below_folder front name path is =
     let found = front_split (front ++ name ∷ []) path is in
     ap (path_cmp front) (found.1 ∙ append_assoc front (name ∷ []) found.0) ∙ folder_first front name found.0

@@ -1,20 +1,17 @@
 -- What is carried down of an object.
-use Rattle.std.proofs.Common.{◌≡◌, ℕ, refl, ap, sym, ◌∙◌, subst, cond, List, Some, [], ◌∷◌, ◌++◌, append-nil}
+use Rattle.std.proofs.Common.{◌≡◌, ℕ, refl, ap, sym, ◌∙◌, subst, List, Some, [], ◌∷◌, ◌++◌, append-nil}
 use Rattle.std.specs.List.{flat_map}
 use Rattle.std.proofs.lemmas.Grind.{flat_map-append}
 use Rattle.room_acl.specs.SubjectModel.{SubjectModel}
-use Rattle.room_acl.specs.Entries.{EntryModel}
-use Rattle.room_acl.specs.Inheritance.{handed_down}
 use Rattle.room_acl.specs.Access.{allowed_mask}
 use Rattle.room_records.specs.declared.node.Node.{Node}
 use Rattle.room_records.specs.Names.{Name, Path, path_text}
 use Rattle.room_records.specs.Records.{ObjectRecords, IsChild}
-use Rattle.room_records.specs.Room.{Room, follows}
+use Rattle.room_records.specs.Room.{Room}
 use Rattle.room_records.specs.Representation.{HasPath, RepresentsRoom}
 use Rattle.room_records.specs.Shelf.{name_of}
 use Rattle.room_records.proofs.Paths.{child_is_at, object_at_node}
 use Rattle.room_records.proofs.Folders.{child_named}
-use Rattle.room_records.proofs.RoomsLists.{list_of_root, list_of_child}
 use Rattle.room_report.specs.declared.item.Item.{Item}
 use Rattle.room_report.specs.declared.lines.Report.{Report}
 use Rattle.room_report.specs.declared.lines.Report.TheVariants.{Access, Lists}
@@ -26,27 +23,33 @@ path_shown [] = refl
 path_shown (name ∷ path) = refl
 
 pub names_longer : (path : Path) (name : Name) → names_text (path ++ name ∷ []) ≡ names_text path ++ 47 ∷ name
-names_longer path name = flat_map-append (λ n. 47 ∷ n) path (name ∷ []) ∙ ap (λ more. names_text path ++ more) (append-nil (47 ∷ name))
+names_longer path name =
+    flat_map-append (λ n. 47 ∷ n) path (name ∷ []) ∙ ap (λ more. names_text path ++ more) (append-nil (47 ∷ name))
 
-same_lines : (f g : SubjectModel → List ℕ) → ((user : SubjectModel) → f user ≡ g user) → (users : List SubjectModel) → flat_map f users ≡ flat_map g users
+same_lines : (f g : SubjectModel → List ℕ) → ((user : SubjectModel) → f user ≡ g user)
+    → (users : List SubjectModel) → flat_map f users ≡ flat_map g users
 same_lines f g same [] = refl
 same_lines f g same (user ∷ users) = λ i. same user i ++ same_lines f g same users i
 
 -- the lines of what is carried are those of the object
-pub lines_are : (t : ObjectRecords) (room : Room) (path : Path) (item : Item) (report : Report) → (is : IsItem t room path item)
+pub lines_are : (t : ObjectRecords) (room : Room) (path : Path) (item : Item) (report : Report)
+    → (is : IsItem t room path item)
     → item_lines report item ≡ lines_of report room (path, is.object)
 lines_are t room path item (Access users) is =
     let shown : shown_path item.names.items ≡ path_text path = ap shown_path is.names ∙ path_shown path in
-    same_lines (λ user. mask_line (allowed_mask item.list.items user item.standing) user.name (shown_path item.names.items)) (access_line room (path, is.object))
+    same_lines (λ user. mask_line (allowed_mask item.list.items user item.standing)
+    user.name (shown_path item.names.items)) (access_line room (path, is.object))
     (λ user i. mask_line (allowed_mask (is.list i) user (is.standing i)) user.name (shown i)) users.items
 lines_are t room path item Lists is =
     let shown : shown_path item.names.items ≡ path_text path = ap shown_path is.names ∙ path_shown path in
-    λ i. head_line (is.kind i) (is.aclflag i) (is.standing i).owner (is.standing i).group (shown i) ++ flat_map entry_line (is.list i)
+    λ i. head_line (is.kind i) (is.aclflag i) (is.standing i).owner (is.standing i).group (shown i)
+    ++ flat_map entry_line (is.list i)
 
 module _ (t : ObjectRecords) (room : Room) (stand : RepresentsRoom t room) where
   -- the root is carried first
   pub root_is_item : (item : Item) (node : Node) → t.node 1 ≡ Some node
-      → item.id ≡ node.id → item.kind ≡ node.kind → item.aclflag ≡ node.aclflag → item.standing.owner ≡ node.owner → item.standing.group ≡ node.group
+      → item.id ≡ node.id → item.kind ≡ node.kind → item.aclflag ≡ node.aclflag
+      → item.standing.owner ≡ node.owner → item.standing.group ≡ node.group
       → item.list.items ≡ t.entries node.id → item.names.items ≡ []
       → IsItem t room [] item
   root_is_item item node stands id kind aclflag owner group list names =
@@ -62,24 +65,26 @@ module _ (t : ObjectRecords) (room : Room) (stand : RepresentsRoom t room) where
         kind = kind ∙ shows.kind;
         aclflag = aclflag ∙ shows.aclflag;
         standing = λ i. record { owner = (owner ∙ shows.owner) i; group = (group ∙ shows.group) i };
-        list = list ∙ shows.entries ∙ sym (list_of_root room found.0 found.1);
+        list = list ∙ shows.entries;
         names = names;
       }
 
   -- a child of what is carried is carried in its turn
-  pub child_is_item : (path : Path) (above item : Item) (node : Node) → IsItem t room path above → IsChild t above.id node
-      → item.id ≡ node.id → item.kind ≡ node.kind → item.aclflag ≡ node.aclflag → item.standing.owner ≡ node.owner → item.standing.group ≡ node.group
-      → item.list.items ≡ t.entries node.id ++ cond (follows node.aclflag) (handed_down above.list.items node.kind) []
+  pub child_is_item : (path : Path) (above item : Item) (node : Node)
+      → IsItem t room path above → IsChild t above.id node
+      → item.id ≡ node.id → item.kind ≡ node.kind → item.aclflag ≡ node.aclflag
+      → item.standing.owner ≡ node.owner → item.standing.group ≡ node.group
+      → item.list.items ≡ t.entries node.id
       → item.names.items ≡ above.names.items ++ 47 ∷ name_of node
       → IsItem t room (path ++ name_of node ∷ []) item
   child_is_item path above item node folder child id kind aclflag owner group list names =
       let named = child_named t stand.rules above.id node child in
-      let at : HasPath t (path ++ name_of node ∷ []) node.id = child_is_at t stand.rules path (name_of node) above.id node folder.at child named in
+      let at : HasPath t (path ++ name_of node ∷ []) node.id =
+      child_is_at t stand.rules path (name_of node) above.id node folder.at child named in
       let found = object_at_node t room stand (path ++ name_of node ∷ []) node.id node at child.stands in
-      let o = found.0 in
       let shows = found.2 in
       record {
-        object = o;
+        object = found.0;
         node = node;
         at = (let P : ℕ → Type 0 = λ n. HasPath t (path ++ name_of node ∷ []) n in subst P (sym id) at);
         node_stands = ap t.node id ∙ child.stands;
@@ -87,11 +92,6 @@ module _ (t : ObjectRecords) (room : Room) (stand : RepresentsRoom t room) where
         kind = kind ∙ shows.kind;
         aclflag = aclflag ∙ shows.aclflag;
         standing = λ i. record { owner = (owner ∙ shows.owner) i; group = (group ∙ shows.group) i };
-        list = list
-            ∙ ap (λ (own : List EntryModel). own ++ cond (follows node.aclflag) (handed_down above.list.items node.kind) []) shows.entries
-            ∙ ap (λ flag. o.own ++ cond (follows flag) (handed_down above.list.items node.kind) []) shows.aclflag
-            ∙ ap (λ k. o.own ++ cond (follows o.aclflag) (handed_down above.list.items k) []) shows.kind
-            ∙ ap (λ given. o.own ++ cond (follows o.aclflag) (handed_down given o.kind) []) folder.list
-            ∙ sym (list_of_child room path (name_of node) o found.1);
+        list = list ∙ shows.entries;
         names = names ∙ ap (λ text. text ++ 47 ∷ name_of node) folder.names ∙ sym (names_longer path (name_of node));
       }

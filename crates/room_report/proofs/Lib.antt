@@ -1,4 +1,4 @@
-mod Rows
+mod Examples
 pub mod Below
 pub mod Fronts
 pub mod Hex

@@ -1,5 +1,6 @@
 -- Lists whose elements rise, and what is in them.
-use Rattle.std.proofs.Common.{◌≡◌, ℕ, zero, suc, ◌<◌, refl, ap, sym, ◌∙◌, subst, arith, Bool, true, false, cond, ◌⊎◌, inl, inr, List, [], ◌∷◌, ◌++◌, length}
+use Rattle.std.proofs.Common.{◌≡◌, ℕ, zero, suc, ◌<◌, refl, ap, sym, ◌∙◌, subst, arith, Bool, true, false, cond, ◌⊎◌}
+use Rattle.std.proofs.Common.{inl, inr, List, [], ◌∷◌, ◌++◌, length}
 use Rattle.std.specs.List.{filter, flat_map, slice_index_or}
 
 module _ {E : Type 0} where
@@ -28,7 +29,8 @@ module _ {E : Type 0} where
   in_contained e (x ∷ xs) (suc k) below is = inr (in_contained e xs k (omega (arith, below)) is)
 
   module _ (test : E → Bool) where
-    kept_first : (e x : E) (xs : List E) (b : Bool) → test x ≡ b → (x ≡ e) ⊎ In e (filter test xs) → test e ≡ true → In e (cond b (x ∷ filter test xs) (filter test xs))
+    kept_first : (e x : E) (xs : List E) (b : Bool) → test x ≡ b → (x ≡ e) ⊎ In e (filter test xs)
+        → test e ≡ true → In e (cond b (x ∷ filter test xs) (filter test xs))
     kept_first e x xs true is h passes = h
     kept_first e x xs false is (inl same) passes = absurd (let f : false ≡ true = sym is ∙ ap test same ∙ passes in cc)
     kept_first e x xs false is (inr h) passes = h
@@ -38,7 +40,8 @@ module _ {E : Type 0} where
     in_filtered e (x ∷ xs) (inl same) passes = kept_first e x xs (test x) refl (inl same) passes
     in_filtered e (x ∷ xs) (inr h) passes = kept_first e x xs (test x) refl (inr (in_filtered e xs h passes)) passes
 
-    first_kept : (e x : E) (xs : List E) (b : Bool) → test x ≡ b → In e (cond b (x ∷ filter test xs) (filter test xs)) → ((x ≡ e) × (test e ≡ true)) ⊎ In e (filter test xs)
+    first_kept : (e x : E) (xs : List E) (b : Bool) → test x ≡ b
+        → In e (cond b (x ∷ filter test xs) (filter test xs)) → ((x ≡ e) × (test e ≡ true)) ⊎ In e (filter test xs)
     first_kept e x xs true is (inl same) = inl (same, ap test (sym same) ∙ is)
     first_kept e x xs true is (inr h) = inr h
     first_kept e x xs false is h = inr h
@@ -52,12 +55,14 @@ module _ {E : Type 0} where
 
     pub filter_all : (xs : List E) → ((e : E) → test e ≡ true) → filter test xs ≡ xs
     filter_all [] all = refl
-    filter_all (x ∷ xs) all = ap (λ b. cond b (x ∷ filter test xs) (filter test xs)) (all x) ∙ ap (λ rest. x ∷ rest) (filter_all xs all)
+    filter_all (x ∷ xs) all =
+        ap (λ b. cond b (x ∷ filter test xs) (filter test xs)) (all x) ∙ ap (λ rest. x ∷ rest) (filter_all xs all)
 
 module _ {A E : Type 0} (f : A → List E) where
   pub in_flat : (e : E) (a : A) (xs : List A) → In a xs → In e (f a) → In e (flat_map f xs)
   in_flat e a [] h here = absurd h
-  in_flat e a (x ∷ xs) (inl is) here = in_left e (f x) (flat_map f xs) (let P : A → Type 0 = λ b. In e (f b) in subst P (sym is) here)
+  in_flat e a (x ∷ xs) (inl is) here =
+      in_left e (f x) (flat_map f xs) (let P : A → Type 0 = λ b. In e (f b) in subst P (sym is) here)
   in_flat e a (x ∷ xs) (inr h) here = in_right e (f x) (flat_map f xs) (in_flat e a xs h here)
 
   pub in_flat_map : (e : E) (xs : List A) → In e (flat_map f xs) → (a : A) × In a xs × In e (f a)
@@ -85,7 +90,8 @@ module _ {E : Type 0} (Less : E → E → Type 0) where
   before_each e [] each = tt
   before_each e (x ∷ xs) each = (each x (inl refl), before_each e xs (λ y h. each y (inr h)))
 
-  pub rising_append : (xs ys : List E) → Rising xs → Rising ys → ((x y : E) → In x xs → In y ys → Less x y) → Rising (xs ++ ys)
+  pub rising_append : (xs ys : List E) → Rising xs → Rising ys
+      → ((x y : E) → In x xs → In y ys → Less x y) → Rising (xs ++ ys)
   rising_append [] ys up down apart = down
   rising_append (x ∷ xs) ys up down apart = (
     before_each x (xs ++ ys) (λ y h. elim (in_either y xs ys h) [
@@ -96,42 +102,51 @@ module _ {E : Type 0} (Less : E → E → Type 0) where
   )
 
   module _ (test : E → Bool) where
-    filter_step : (x : E) (xs : List E) (b : Bool) → Before x (filter test xs) → Rising (filter test xs) → Rising (cond b (x ∷ filter test xs) (filter test xs))
+    filter_step : (x : E) (xs : List E) (b : Bool) → Before x (filter test xs)
+        → Rising (filter test xs) → Rising (cond b (x ∷ filter test xs) (filter test xs))
     filter_step x xs true before rest = (before, rest)
     filter_step x xs false before rest = rest
 
     pub rising_filter : (xs : List E) → Rising xs → Rising (filter test xs)
     rising_filter [] up = tt
     rising_filter (x ∷ xs) up =
-        filter_step x xs (test x) (before_each x (filter test xs) (λ y h. before_in x y xs up.0 (in_filter test y xs h).0)) (rising_filter xs up.1)
+        filter_step x xs (test x) (before_each x (filter test xs)
+        (λ y h. before_in x y xs up.0 (in_filter test y xs h).0)) (rising_filter xs up.1)
 
   -- two rising lists with the same elements are one
   module _ (one_way : (a b : E) → Less a b → Less b a → ⊥) where
-    pub same_rising : (xs ys : List E) → Rising xs → Rising ys → ((e : E) → In e xs → In e ys) → ((e : E) → In e ys → In e xs) → xs ≡ ys
+    pub same_rising : (xs ys : List E) → Rising xs → Rising ys
+        → ((e : E) → In e xs → In e ys) → ((e : E) → In e ys → In e xs) → xs ≡ ys
     same_rising [] [] up down there back = refl
     same_rising [] (y ∷ ys) up down there back = absurd (back y (inl refl))
     same_rising (x ∷ xs) [] up down there back = absurd (there x (inl refl))
     same_rising (x ∷ xs) (y ∷ ys) up down there back = elim (there x (inl refl)) [
-      | inl same ↦ (let rest : xs ≡ ys = same_rising xs ys up.1 down.1 (into x y xs ys (sym same) up.0 (λ e h. there e (inr h))) (into y x ys xs same down.0 (λ e h. back e (inr h))) in
+      | inl same ↦ (let rest : xs ≡ ys = same_rising xs ys up.1 down.1 (into x y xs ys (sym same)
+          up.0 (λ e h. there e (inr h))) (into y x ys xs same down.0 (λ e h. back e (inr h))) in
           λ i. sym same i ∷ rest i)
       | inr later ↦ elim (back y (inl refl)) [
-        | inl same ↦ (let rest : xs ≡ ys = same_rising xs ys up.1 down.1 (into x y xs ys same up.0 (λ e h. there e (inr h))) (into y x ys xs (sym same) down.0 (λ e h. back e (inr h))) in
+        | inl same ↦ (let rest : xs ≡ ys = same_rising xs ys up.1 down.1 (into x y xs ys same up.0
+            (λ e h. there e (inr h))) (into y x ys xs (sym same) down.0 (λ e h. back e (inr h))) in
             λ i. same i ∷ rest i)
         | inr after ↦ absurd (one_way x y (before_in x y xs up.0 after) (before_in y x ys down.0 later))
       ]
     ]
       where
-        into : (a b : E) (front back : List E) → a ≡ b → Before a front → ((e : E) → In e front → In e (b ∷ back)) → (e : E) → In e front → In e back
+        into : (a b : E) (front back : List E) → a ≡ b → Before a front
+            → ((e : E) → In e front → In e (b ∷ back)) → (e : E) → In e front → In e back
         into a b front back same before found e h = elim (found e h) [
-          | inl is ↦ absurd (let less : Less a a = subst (Less a) (sym (same ∙ is)) (before_in a e front before h) in one_way a a less less)
+          | inl is ↦ absurd (let less : Less a a = subst (Less a) (sym (same ∙ is)) (before_in a e front before h) in
+              one_way a a less less)
           | inr there ↦ there
         ]
 
 -- lists that rise one after another
-module _ {A E : Type 0} (Above : A → A → Type 0) (Less : E → E → Type 0) (f : A → List E) (each : (a : A) → Rising Less (f a))
+module _ {A E : Type 0} (Above : A → A → Type 0) (Less : E → E → Type 0)
+    (f : A → List E) (each : (a : A) → Rising Less (f a))
     (apart : (a b : A) (x y : E) → Above a b → In x (f a) → In y (f b) → Less x y) where
   pub rising_flat_map : (xs : List A) → Rising Above xs → Rising Less (flat_map f xs)
   rising_flat_map [] up = tt
   rising_flat_map (a ∷ xs) up =
       rising_append Less (f a) (flat_map f xs) (each a) (rising_flat_map xs up.1)
-      (λ x y h k. let found = in_flat_map f y xs k in apart a found.0 x y (before_in Above a found.0 xs up.0 found.1) h found.2)
+      (λ x y h k. let found = in_flat_map f y xs k in
+      apart a found.0 x y (before_in Above a found.0 xs up.0 found.1) h found.2)

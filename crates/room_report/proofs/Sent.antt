@@ -1,5 +1,6 @@
 -- What a writer took, call after call.
-use Rattle.std.proofs.Common.{◌≡◌, ℕ, ◌+◌, List, [], ◌++◌, take, drop, refl, sym, ap, subst, ◌∙◌, append_assoc, append-nil, Option, Result, Ok, Err}
+use Rattle.std.proofs.Common.{◌≡◌, ℕ, ◌+◌, List, [], ◌++◌, take, drop, refl, sym, ap, subst, ◌∙◌, append_assoc}
+use Rattle.std.proofs.Common.{append-nil, Option, Result, Ok, Err}
 use Rattle.std.proofs.lemmas.List.{take-append-drop}
 use Rattle.std.proofs.Math.Seq.{take-add}
 use Rattle.std.proofs.KnownBytes.{Appends-trans, Appends-kept}
@@ -9,16 +10,22 @@ use Rattle.room_report.specs.Lines.{IsBeginningOf}
 use Rattle.room_report.specs.Walk.{AppendsFront, Writes}
 
 -- the writer took a part and then no more
-pub front_kept : (a b c : Option (List ℕ)) (bytes : List ℕ) (at : ℕ) → Appends a b (take at bytes) → Keeps b c → AppendsFront a c bytes
-front_kept a b c bytes at h k = (take at bytes, drop at bytes, sym (take-append-drop at bytes), Appends-kept a b c (take at bytes) h k)
+pub front_kept : (a b c : Option (List ℕ)) (bytes : List ℕ) (at : ℕ)
+    → Appends a b (take at bytes) → Keeps b c → AppendsFront a c bytes
+front_kept a b c bytes at h k =
+    (take at bytes, drop at bytes, sym (take-append-drop at bytes), Appends-kept a b c (take at bytes) h k)
 
 -- and n bytes more
-pub front_more : (a b c : Option (List ℕ)) (bytes : List ℕ) (at n : ℕ) → Appends a b (take at bytes) → Appends b c (take n (drop at bytes)) → Appends a c (take (at + n) bytes)
-front_more a b c bytes at n h k = subst (Appends a c) (sym (take-add at n bytes)) (Appends-trans a b c (take at bytes) (take n (drop at bytes)) h k)
+pub front_more : (a b c : Option (List ℕ)) (bytes : List ℕ) (at n : ℕ) → Appends a b (take at bytes)
+    → Appends b c (take n (drop at bytes)) → Appends a c (take (at + n) bytes)
+front_more a b c bytes at n h k =
+    subst (Appends a c) (sym (take-add at n bytes)) (Appends-trans a b c (take at bytes) (take n (drop at bytes)) h k)
 
 -- the writer took n more, and no more
-pub front_some : (a b c : Option (List ℕ)) (bytes : List ℕ) (at n : ℕ) → Appends a b (take at bytes) → Appends b c (take n (drop at bytes)) → AppendsFront a c bytes
-front_some a b c bytes at n h k = (take (at + n) bytes, drop (at + n) bytes, sym (take-append-drop (at + n) bytes), front_more a b c bytes at n h k)
+pub front_some : (a b c : Option (List ℕ)) (bytes : List ℕ) (at n : ℕ)
+    → Appends a b (take at bytes) → Appends b c (take n (drop at bytes)) → AppendsFront a c bytes
+front_some a b c bytes at n h k =
+    (take (at + n) bytes, drop (at + n) bytes, sym (take-append-drop (at + n) bytes), front_more a b c bytes at n h k)
 
 -- a part was written, and its front is a front of the whole
 pub front_of_more : (a b : Option (List ℕ)) (x y : List ℕ) → AppendsFront a b x → AppendsFront a b (x ++ y)
@@ -32,15 +39,19 @@ pub sent_front : (a b : Option (List ℕ)) (x y : List ℕ) → Appends a b x �
 sent_front a b x y h = (x, y, refl, h)
 
 -- after x a front of y
-pub front_then : (a b c : Option (List ℕ)) (x y : List ℕ) → Appends a b x → AppendsFront b c y → AppendsFront a c (x ++ y)
-front_then a b c x y h k = (x ++ k.0, k.1, ap (λ t. x ++ t) k.2 ∙ sym (append_assoc x k.0 k.1), Appends-trans a b c x k.0 h k.3)
+pub front_then : (a b c : Option (List ℕ)) (x y : List ℕ)
+    → Appends a b x → AppendsFront b c y → AppendsFront a c (x ++ y)
+front_then a b c x y h k =
+    (x ++ k.0, k.1, ap (λ t. x ++ t) k.2 ∙ sym (append_assoc x k.0 k.1), Appends-trans a b c x k.0 h k.3)
 
 -- what a call says of a report is what the report promises
-pub sent_whole : {X E : Type 0} (a b : Option (List ℕ)) (text other : List ℕ) (r : Result X E) → text ≡ other → Writes a b text r → OnOk r (Appends a b other)
+pub sent_whole : {X E : Type 0} (a b : Option (List ℕ)) (text other : List ℕ) (r : Result X E)
+    → text ≡ other → Writes a b text r → OnOk r (Appends a b other)
 sent_whole a b text other (Ok x) same sent = subst (λ (t : List ℕ). Appends a b t) same sent
 sent_whole a b text other (Err e) same sent = tt
 
-pub sent_beginning : {X E : Type 0} (a b : Option (List ℕ)) (text other : List ℕ) (r : Result X E) → text ≡ other → Writes a b text r
+pub sent_beginning : {X E : Type 0} (a b : Option (List ℕ)) (text other : List ℕ) (r : Result X E)
+    → text ≡ other → Writes a b text r
     → (written : List ℕ) × IsBeginningOf written other × Appends a b written
 sent_beginning a b text other (Ok x) same sent = (text, ([], sym same ∙ sym (append-nil text)), sent)
 sent_beginning a b text other (Err e) same sent = (sent.0, (sent.1, sym same ∙ sent.2), sent.3)

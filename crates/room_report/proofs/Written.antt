@@ -1,5 +1,6 @@
 -- What is written of an object and what is below it, node after node.
-use Rattle.std.proofs.Common.{◌≡◌, ℕ, ◌+◌, ◌<◌, ◌≤◌, ap, sym, ◌∙◌, subst, List, [], ◌∷◌, ◌++◌, take, drop, get_or, length, append_assoc, append-nil, Option, Result, Ok, Err}
+use Rattle.std.proofs.Common.{◌≡◌, ℕ, ◌+◌, ◌<◌, ◌≤◌, ap, sym, ◌∙◌, subst, List, [], ◌∷◌, ◌++◌, take, drop, get_or}
+use Rattle.std.proofs.Common.{length, append_assoc, append-nil, Option, Result, Ok, Err}
 use Rattle.std.specs.List.{flat_map}
 use Rattle.std.specs.Result.{IsErr}
 use Rattle.std.proofs.lemmas.Grind.{flat_map-append}
@@ -17,7 +18,8 @@ use Rattle.room_report.specs.Walk.{IsItem, AppendsFront, Writes, item_lines, lin
 use Rattle.room_report.proofs.Below.{first_below, text_is}
 use Rattle.room_report.proofs.Items.{lines_are}
 
-pub err_writes : {X E : Type 0} (a b : Option (List ℕ)) (text : List ℕ) (r : Result X E) → IsErr r → AppendsFront a b text → Writes a b text r
+pub err_writes : {X E : Type 0} (a b : Option (List ℕ)) (text : List ℕ) (r : Result X E)
+    → IsErr r → AppendsFront a b text → Writes a b text r
 err_writes a b text (Ok x) err front = absurd cc
 err_writes a b text (Err e) err front = front
 
@@ -33,7 +35,8 @@ module _ (child : Node → List ℕ) (lines : List ℕ) (nodes : List Node) (i :
       ∙ sym (append_assoc lines (flat_map child (take i nodes)) (flat_map child (drop i nodes)))
 
   -- one node more
-  pub next : (node : Node) → i < length nodes → node ≡ get_or nodes i node → lines ++ flat_map child (take (i + 1) nodes) ≡ so_far ++ child node
+  pub next : (node : Node) → i < length nodes → node ≡ get_or nodes i node
+      → lines ++ flat_map child (take (i + 1) nodes) ≡ so_far ++ child node
   next node below is =
       ap (λ ns. lines ++ flat_map child ns) (take_more nodes i node below ∙ ap (λ n. take i nodes ++ n ∷ []) (sym is))
       ∙ ap (λ more. lines ++ more) (flat_map-append child (take i nodes) (node ∷ []))
@@ -44,22 +47,28 @@ module _ (child : Node → List ℕ) (lines : List ℕ) (nodes : List Node) (i :
   pub done : length nodes ≤ i → so_far ≡ lines ++ flat_map child nodes
   done all = ap (λ ns. lines ++ flat_map child ns) (take_all i nodes all)
 
-pub child_at : (t : ObjectRecords) (id : ℕ) (nodes : List Node) (i : ℕ) (node : Node) → AreChildren t id nodes → i < length nodes → node ≡ get_or nodes i node → IsChild t id node
-child_at t id nodes i node are below is = subst (IsChild t id) (sym is) (all_at (IsChild t id) nodes i node are.each below)
+pub child_at : (t : ObjectRecords) (id : ℕ) (nodes : List Node) (i : ℕ) (node : Node)
+    → AreChildren t id nodes → i < length nodes → node ≡ get_or nodes i node → IsChild t id node
+child_at t id nodes i node are below is =
+    subst (IsChild t id) (sym is) (all_at (IsChild t id) nodes i node are.each below)
 
-module _ (t : ObjectRecords) (room : Room) (stand : RepresentsRoom t room) (path : Path) (item : Item) (is : IsItem t room path item) (report : Report) where
+module _ (t : ObjectRecords) (room : Room) (stand : RepresentsRoom t room)
+    (path : Path) (item : Item) (is : IsItem t room path item) (report : Report) where
   -- the text begins with the object's own lines
   pub begins : (rest : List ℕ) × (text_below report room path ≡ item_lines report item ++ rest)
   begins =
       let first = first_below room stand.lawful path is.object is.object_stands in (
         flat_map (lines_of report room) first.0,
         ap (flat_map (lines_of report room)) first.1
-            ∙ ap (λ lines. lines ++ flat_map (lines_of report room) first.0) (sym (lines_are t room path item report is)),
+            ∙ ap (λ lines. lines ++ flat_map (lines_of report room) first.0)
+            (sym (lines_are t room path item report is)),
       )
 
   -- and goes on with what is below each node
   pub text_of_item : (nodes : List Node) → AreChildren t item.id nodes
-      → text_below report room path ≡ item_lines report item ++ flat_map (λ (node : Node). text_below report room (path ++ name_of node ∷ [])) nodes
+      → text_below report room path ≡ item_lines report item
+      ++ flat_map (λ (node : Node). text_below report room (path ++ name_of node ∷ [])) nodes
   text_of_item nodes are =
       text_is t room stand path item.id is.at is.object is.object_stands nodes are report
-      ∙ ap (λ lines. lines ++ flat_map (λ (node : Node). text_below report room (path ++ name_of node ∷ [])) nodes) (sym (lines_are t room path item report is))
+      ∙ ap (λ lines. lines ++ flat_map (λ (node : Node). text_below report room (path ++ name_of node ∷ [])) nodes)
+      (sym (lines_are t room path item report is))

@@ -1,5 +1,6 @@
 -- The lines of the reports. Their forms are our own.
-use Rattle.std.specs.Prelude.{◌≡◌, ℕ, zero, suc, ◌+◌, ◌-◌, ◌/◌, ◌%◌, Bool, true, false, List, [], ◌∷◌, ◌++◌, length, codes, if◌then◌else◌, nat_lt, replicate}
+use Rattle.std.specs.Prelude.{◌≡◌, ℕ, zero, suc, ◌+◌, ◌-◌, ◌/◌, ◌%◌, Bool, true, false, List, [], ◌∷◌, ◌++◌, length}
+use Rattle.std.specs.Prelude.{codes, if◌then◌else◌, nat_lt, replicate}
 use Rattle.std.specs.List.{flat_map}
 use Rattle.std.specs.BTreeMap.{insert_entry}
 use Rattle.room_acl.specs.declared.subject.Kind.{Kind}
@@ -49,7 +50,8 @@ type_letter false = 68
 
 -- an entry: its type, flags, mask and who
 abbrev pub entry_line : EntryModel → List ℕ
-entry_line e = codes "  " ++ type_letter e.allow ∷ 32 ∷ hex 2 e.flags ++ 32 ∷ hex 8 e.mask ++ 32 ∷ who_text e.who ++ 10 ∷ []
+entry_line e = codes "  " ++ type_letter e.allow ∷ 32 ∷ hex 2 e.flags
+    ++ 32 ∷ hex 8 e.mask ++ 32 ∷ who_text e.who ++ 10 ∷ []
 
 -- an object: its kind, list flags, owner and group, and its path
 abbrev pub head_line : Kind → ℕ → List ℕ → List ℕ → List ℕ → List ℕ
@@ -61,7 +63,8 @@ object_line e = head_line e.1.kind e.1.aclflag e.1.owner e.1.group (path_text e.
 
 -- each object in path order, with its whole list: its own entries and the inherited ones, in their order
 abbrev pub list_text : Room → List ℕ
-list_text room = flat_map (λ (e : Path × Object). object_line e ++ flat_map entry_line (list_of room e.0)) (in_order room.objects)
+list_text room =
+    flat_map (λ (e : Path × Object). object_line e ++ flat_map entry_line (list_of room e.0)) (in_order room.objects)
 
 abbrev pub IsBeginningOf : List ℕ → List ℕ → Type 0
 IsBeginningOf front all = (rest : List ℕ) × (all ≡ front ++ rest)

@@ -17,9 +17,10 @@ use Rattle.room_report.specs.declared.lines.Report.TheVariants.{Access, Lists}
 use Rattle.room_report.specs.Lines.{in_order, mask_line, access_line, entry_line, head_line, object_line}
 
 -- what a call says of each room that the rows stand for as it begins, also where a fault has shut the store
-abbrev pub OfRoom : View → View → (ObjectRecords → Room → Type 0) → Type 0
-OfRoom old new P =
-    new.is_intact → old.is_laid_out → (t : ObjectRecords) → old.records.objects ≡ t → (room : Room) → RepresentsRoom t room → P t room
+abbrev pub OfIntactRoom : View → View → (ObjectRecords → Room → Type 0) → Type 0
+OfIntactRoom old new P =
+    new.is_intact → old.is_laid_out → (t : ObjectRecords) → old.records.objects ≡ t
+    → (room : Room) → RepresentsRoom t room → P t room
 
 -- names with a / before each: the text of a path but for the root's
 abbrev pub names_text : Path → List ℕ
@@ -51,9 +52,11 @@ lines_of Lists room e = object_line e ++ flat_map entry_line (list_of room e.0)
 -- the same, from what is carried
 abbrev pub item_lines : Report → Item → List ℕ
 item_lines (Access users) item =
-    flat_map (λ (user : SubjectModel). mask_line (allowed_mask item.list.items user item.standing) user.name (shown_path item.names.items)) users.items
+    flat_map (λ (user : SubjectModel).
+    mask_line (allowed_mask item.list.items user item.standing) user.name (shown_path item.names.items)) users.items
 item_lines Lists item =
-    head_line item.kind item.aclflag item.standing.owner item.standing.group (shown_path item.names.items) ++ flat_map entry_line item.list.items
+    head_line item.kind item.aclflag item.standing.owner item.standing.group (shown_path item.names.items)
+    ++ flat_map entry_line item.list.items
 
 -- whether a path begins with these names
 abbrev pub is_front : Path → Path → Bool

@@ -3,9 +3,9 @@ ghost use Rattle.std.specs.Prelude.{◌≡◌, ◌++◌, [], ◌∷◌, IfOk, On
 ghost use Rattle.room_records.specs.Names.{Path as PathModel};
 ghost use Rattle.room_records.specs.Records.{IsChild};
 ghost use Rattle.room_records.specs.Shelf.{ShelfRead, fault_in, name_of};
-ghost use Rattle.room_report.specs.Walk.{OfRoom, IsItem};
+ghost use Rattle.room_report.specs.Walk.{OfIntactRoom, IsItem};
 
-use room_acl::{Entry, Kind, ListFlags, Standing, with_inherited};
+use room_acl::{Entry, Kind, ListFlags, Standing};
 use room_records::{FileName, Node, Shelf, ShelfFault};
 use std::alloc::{AllocError, Global};
 
@@ -23,7 +23,7 @@ pub(crate) struct Item {
 
 /// The root, with its list.
 pub(crate) fn root_item<S: Shelf>(alloc: Global, shelf: &mut S) -> Result<Option<Item>, ShelfFault>
-    ensures value { OfRoom (S.view shelf.old) (S.view shelf.new) (λ t room. IfOk result (λ found.
+    ensures value { OfIntactRoom (S.view shelf.old) (S.view shelf.new) (λ t room. IfOk result (λ found.
         MatchOption found ⊥ (IsItem t room []))) }
     ensures there { (S.view shelf.new).is_intact → OnOk result (S.view shelf.new).is_available }
     ensures frame { ShelfRead (S.view shelf.old) (S.view shelf.new) (fault_in result) }
@@ -45,20 +45,20 @@ pub(crate) fn root_item<S: Shelf>(alloc: Global, shelf: &mut S) -> Result<Option
     }))
 }
 
-/// A child of a folder, with its list: its own entries, then, where it follows, what the folder's list hands down.
+/// A child of a folder, with its list.
 pub(crate) fn item_below<S: Shelf>(
     alloc: Global,
     shelf: &mut S,
     above: &Item,
     node: &Node,
 ) -> Result<Item, ShelfFault>
-    ensures value { OfRoom (S.view shelf.old) (S.view shelf.new) (λ t room. (path : PathModel) → IsItem t room path above.now →
+    ensures value { OfIntactRoom (S.view shelf.old) (S.view shelf.new) (λ t room. (path : PathModel)
+        → IsItem t room path above.now →
         IsChild t above.now.id node.now → IfOk result (IsItem t room (path ++ name_of node.now ∷ []))) }
     ensures there { (S.view shelf.new).is_intact → OnOk result (S.view shelf.new).is_available }
     ensures frame { ShelfRead (S.view shelf.old) (S.view shelf.new) (fault_in result) }
 {
-    let own = shelf.entries(node.id)?;
-    let list = with_inherited(alloc, own, node.aclflag, node.kind, &above.list)?;
+    let list = shelf.entries(node.id)?;
     let names = with_name(alloc, &above.names, &node.name)?;
     let standing = Standing {
         owner: node.owner.clone()?,

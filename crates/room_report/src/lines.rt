@@ -2,7 +2,8 @@
 ghost use Rattle.std.specs.Prelude.{◌≡◌, ◌<◌, ◌≤◌, ◌++◌, ◌∷◌, [], IfOk, OnOk};
 ghost use Rattle.std.specs.List.{flat_map};
 ghost use Rattle.room_acl.specs.Access.{allowed_mask};
-ghost use Rattle.room_report.specs.Lines.{hex, hex_digit, in_places, kind_letter, type_letter, mask_line, entry_line, head_line};
+ghost use Rattle.room_report.specs.Lines.{hex, hex_digit, in_places, kind_letter, type_letter, mask_line};
+ghost use Rattle.room_report.specs.Lines.{entry_line, head_line};
 ghost use Rattle.room_report.specs.Walk.{item_lines, shown_path};
 
 use crate::item::Item;
@@ -31,7 +32,8 @@ pub(crate) fn item_lines(alloc: Global, report: &Report, item: &Item) -> Result<
 /// A line for each user.
 fn access_lines(alloc: Global, users: &[Subject], item: &Item) -> Result<Vec<u8>, AllocError>
     ensures { IfOk result (λ lines. lines.items
-        ≡ flat_map (λ user. mask_line (allowed_mask item.now.list.items user item.now.standing) user.name (shown_path item.now.names.items)) users.now) }
+        ≡ flat_map (λ user. mask_line (allowed_mask item.now.list.items user item.now.standing)
+        user.name (shown_path item.now.names.items)) users.now) }
 {
     let mut lines = Vec::new(alloc);
     for user in users {
@@ -49,7 +51,8 @@ fn access_lines(alloc: Global, users: &[Subject], item: &Item) -> Result<Vec<u8>
 /// The object's own line, and a line for each entry of its list.
 fn list_lines(alloc: Global, item: &Item) -> Result<Vec<u8>, AllocError>
     ensures { IfOk result (λ lines. lines.items
-        ≡ head_line item.now.kind item.now.aclflag item.now.standing.owner item.now.standing.group (shown_path item.now.names.items)
+        ≡ head_line item.now.kind item.now.aclflag item.now.standing.owner
+        item.now.standing.group (shown_path item.now.names.items)
         ++ flat_map entry_line item.now.list.items) }
 {
     let mut lines = Vec::new(alloc);
@@ -76,7 +79,8 @@ fn push_mask_line(
 
 fn push_head_line(buffer: &mut Vec<u8>, item: &Item) -> Result<(), AllocError>
     ensures { OnOk result (buffer.new.items ≡ buffer.old.items
-        ++ head_line item.now.kind item.now.aclflag item.now.standing.owner item.now.standing.group (shown_path item.now.names.items)) }
+        ++ head_line item.now.kind item.now.aclflag item.now.standing.owner
+        item.now.standing.group (shown_path item.now.names.items)) }
 {
     let flags = item.aclflag.bits();
     buffer.extend_from_slice(&[kind_letter(item.kind), b' ', b'0' + flags, b' '])?;

@@ -7,7 +7,7 @@ ghost use Rattle.room_records.specs.Representation.{RepresentsRoom};
 ghost use Rattle.room_records.specs.Room.{Room};
 ghost use Rattle.room_records.specs.Shelf.{ShelfRead, AreChildren};
 ghost use Rattle.room_report.specs.Faults.{shelf_fault_in};
-ghost use Rattle.room_report.specs.Walk.{OfRoom, IsItem, Writes, item_lines, text_below};
+ghost use Rattle.room_report.specs.Walk.{OfIntactRoom, IsItem, Writes, item_lines, text_below};
 
 use crate::item::{Item, item_below, root_item};
 use crate::lines::{Report, item_lines};
@@ -28,7 +28,7 @@ pub(crate) fn report_room<S: Shelf, W: Write>(
     report: &Report,
     writer: &mut W,
 ) -> Result<(), ReportFault>
-    ensures value { OfRoom (S.view shelf.old) (S.view shelf.new) (λ t room.
+    ensures value { OfIntactRoom (S.view shelf.old) (S.view shelf.new) (λ t room.
         Writes (W.contents writer.old) (W.contents writer.new) (text_below report.now room []) result) }
     ensures there { (S.view shelf.new).is_intact → OnOk result (S.view shelf.new).is_available }
     ensures frame { ShelfRead (S.view shelf.old) (S.view shelf.new) (shelf_fault_in result) }
@@ -49,7 +49,8 @@ fn report_below<S: Shelf, W: Write>(
     depth: u32,
     writer: &mut W,
 ) -> Result<(), ReportFault>
-    ensures value { OfRoom (S.view shelf.old) (S.view shelf.new) (λ t room. (path : PathModel) → IsItem t room path item.now → length path + depth ≡ max_names →
+    ensures value { OfIntactRoom (S.view shelf.old) (S.view shelf.new) (λ t room. (path : PathModel)
+        → IsItem t room path item.now → length path + depth ≡ max_names →
         Writes (W.contents writer.old) (W.contents writer.new) (text_below report.now room path) result) }
     ensures frame { ShelfRead (S.view shelf.old) (S.view shelf.new) (shelf_fault_in result) }
 {
@@ -82,7 +83,8 @@ fn write_item<W: Write>(
 
 /// Whether nothing can be below: in a file, and at the end of the longest path.
 fn is_leaf(item: &Item, depth: u32) -> bool
-    ensures leaf { result ≡ true → (t : ObjectRecords) (room : Room) → RepresentsRoom t room → (path : PathModel) → IsItem t room path item.now → length path + depth ≡ max_names →
+    ensures leaf { result ≡ true → (t : ObjectRecords) (room : Room) → RepresentsRoom t room
+        → (path : PathModel) → IsItem t room path item.now → length path + depth ≡ max_names →
         AreChildren t item.now.id [] }
     ensures deep { result ≡ false → 1 ≤ depth }
 {

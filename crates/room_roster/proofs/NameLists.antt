@@ -7,7 +7,8 @@ use Rattle.room_roster.specs.Rosters.{list_of_names}
 -- `done` are the names in front of `rest`: with any names that the rest stands for they are the whole, and so back
 pub record Reads (all rest : Items) (done : List (List ℕ)) : Type 0 where
   pub on : (more : List (List ℕ)) → rest ≡ list_of_names more → all ≡ list_of_names (done ++ more)
-  pub back : (whole : List (List ℕ)) → all ≡ list_of_names whole → (more : List (List ℕ)) × (whole ≡ done ++ more) × (rest ≡ list_of_names more)
+  pub back : (whole : List (List ℕ)) → all ≡ list_of_names whole
+      → (more : List (List ℕ)) × (whole ≡ done ++ more) × (rest ≡ list_of_names more)
 
 pub reads_none : (all : Items) → Reads all all []
 reads_none all = record { on = λ more e. e; back = λ whole e. (whole, refl, e) }
@@ -15,7 +16,8 @@ reads_none all = record { on = λ more e. e; back = λ whole e. (whole, refl, e)
 pub reads_all : (all : Items) (done : List (List ℕ)) → Reads all no_items done → all ≡ list_of_names done
 reads_all all done r = r.on [] refl ∙ ap list_of_names (append-nil done)
 
-more_is : (all rest : Items) (done whole more : List (List ℕ)) (name : List ℕ) (d : Data) → d ≡ string name → whole ≡ done ++ more → item d rest ≡ list_of_names more
+more_is : (all rest : Items) (done whole more : List (List ℕ)) (name : List ℕ) (d : Data)
+    → d ≡ string name → whole ≡ done ++ more → item d rest ≡ list_of_names more
     → (next : List (List ℕ)) × (whole ≡ (done ++ name ∷ []) ++ next) × (rest ≡ list_of_names next)
 more_is all rest done whole [] name d is whole_is r = cc
 more_is all rest done whole (other ∷ more) name d is whole_is r =
@@ -23,13 +25,16 @@ more_is all rest done whole (other ∷ more) name d is whole_is r =
     let behind : rest ≡ list_of_names more = cc in
     (more, whole_is ∙ ap (λ n. done ++ n ∷ more) same ∙ sym (append_assoc done (name ∷ []) more), behind)
 
-pub reads_more : (all rest : Items) (done : List (List ℕ)) (name : List ℕ) (d : Data) → d ≡ string name → Reads all (item d rest) done → Reads all rest (done ++ name ∷ [])
+pub reads_more : (all rest : Items) (done : List (List ℕ)) (name : List ℕ) (d : Data)
+    → d ≡ string name → Reads all (item d rest) done → Reads all rest (done ++ name ∷ [])
 reads_more all rest done name d is r = record {
   on = λ more e. r.on (name ∷ more) (cc) ∙ ap list_of_names (sym (append_assoc done (name ∷ []) more));
-  back = λ whole e. let (more, whole_is, rest_is) = r.back whole e in more_is all rest done whole more name d is whole_is rest_is;
+  back = λ whole e. let (more, whole_is, rest_is) = r.back whole e in
+      more_is all rest done whole more name d is whole_is rest_is;
 }
 
-pub all_last : {A : Type 0} (P : A → Type 0) (front : List A) (x : A) → AllByRecursion P front → P x → AllByRecursion P (front ++ x ∷ [])
+pub all_last : {A : Type 0} (P : A → Type 0) (front : List A) (x : A)
+    → AllByRecursion P front → P x → AllByRecursion P (front ++ x ∷ [])
 all_last P [] x all here = (here, tt)
 all_last P (y ∷ front) x all here = (all.0, all_last P front x all.1 here)
 
@@ -37,12 +42,15 @@ pub all_here : {A : Type 0} (P : A → Type 0) (front back : List A) (x : A) →
 all_here P [] back x all = all.0
 all_here P (y ∷ front) back x all = all_here P front back x all.1
 
-named_here : (P : List ℕ → Type 0) (done more : List (List ℕ)) (d : Data) (rest : Items) → item d rest ≡ list_of_names more → AllByRecursion P (done ++ more) → (name : List ℕ) × (d ≡ string name) × P name
+named_here : (P : List ℕ → Type 0) (done more : List (List ℕ)) (d : Data) (rest : Items)
+    → item d rest ≡ list_of_names more → AllByRecursion P (done ++ more) → (name : List ℕ) × (d ≡ string name) × P name
 named_here P done [] d rest e all = cc
-named_here P done (name ∷ more) d rest e all = let is : d ≡ string name = cc in (name, is, all_here P done more name all)
+named_here P done (name ∷ more) d rest e all = let is : d ≡ string name = cc in
+    (name, is, all_here P done more name all)
 
 -- the next one of names that are all there
-pub next_name : (P : List ℕ → Type 0) (all rest : Items) (done whole : List (List ℕ)) (d : Data) → Reads all (item d rest) done → all ≡ list_of_names whole → AllByRecursion P whole
+pub next_name : (P : List ℕ → Type 0) (all rest : Items) (done whole : List (List ℕ)) (d : Data)
+    → Reads all (item d rest) done → all ≡ list_of_names whole → AllByRecursion P whole
     → (name : List ℕ) × (d ≡ string name) × P name
 next_name P all rest done whole d r e every =
     let (more, whole_is, rest_is) = r.back whole e in

@@ -1,5 +1,6 @@
 -- A table of users, read from the front.
-use Rattle.std.proofs.Common.{◌≡◌, ℕ, ◌≤◌, ◌<◌, length, false, IfSome, IfNone, Bor, List, [], ◌∷◌, ◌++◌, refl, sym, ap, ◌∙◌, append_assoc, append-nil, arith, subst, lit≤, Option, Some, None, option_map, codes}
+use Rattle.std.proofs.Common.{◌≡◌, ℕ, ◌≤◌, ◌<◌, length, false, IfSome, IfNone, Bor, List, [], ◌∷◌, ◌++◌, refl, sym, ap}
+use Rattle.std.proofs.Common.{◌∙◌, append_assoc, append-nil, arith, subst, lit≤, Option, Some, None, option_map, codes}
 use Rattle.std.specs.Prelude.{String, string_bytes}
 use Rattle.std.specs.declared.alloc.Global.{Global}
 use Rattle.std.specs.declared.cmp.Ordering.{Ordering}
@@ -15,7 +16,8 @@ use Rattle.std.specs.List.Sorted.{IsStrictlySortedBy}
 use Rattle.std.specs.Map.{keys_of}
 use Rattle.std.specs.String.{string_cmp}
 use Rattle.std.proofs.lemmas.List.{length-append}
-use Rattle.toml.specs.Data.{Data, array, table, Members, no_members, member, get_member, as_table, string, integer, float, boolean, datetime}
+use Rattle.toml.specs.Data.{Data, array, table, Members, no_members, member, get_member, as_table, string}
+use Rattle.toml.specs.Data.{integer, float, boolean, datetime}
 use Rattle.toml.specs.View.{view, members_view, table_view}
 use Rattle.toml.proofs.Views.{Entry}
 use Rattle.room_acl.specs.SubjectModel.{SubjectModel}
@@ -29,7 +31,8 @@ use Rattle.room_roster.proofs.NameLists.{all_here, all_last}
 -- `done` are the users in front of `rest`
 pub record Reads (all rest : Members) (done : List SubjectModel) : Type 0 where
   pub on : (more : List SubjectModel) → rest ≡ table_of_users more → all ≡ table_of_users (done ++ more)
-  pub back : (whole : List SubjectModel) → all ≡ table_of_users whole → (more : List SubjectModel) × (whole ≡ done ++ more) × (rest ≡ table_of_users more)
+  pub back : (whole : List SubjectModel) → all ≡ table_of_users whole
+      → (more : List SubjectModel) × (whole ≡ done ++ more) × (rest ≡ table_of_users more)
 
 pub reads_none : (all : Members) → Reads all all []
 reads_none all = record { on = λ more e. e; back = λ whole e. (whole, refl, e) }
@@ -50,7 +53,8 @@ list_of_names-injective (x ∷ xs) (y ∷ ys) e =
     let behind : list_of_names xs ≡ list_of_names ys = cc in
     let more = list_of_names-injective xs ys behind in cc
 
-more_is : (rest : Members) (done whole more : List SubjectModel) (key : List ℕ) (groups : List (List ℕ)) (d : Data) → d ≡ array (list_of_names groups) → whole ≡ done ++ more → member key d rest ≡ table_of_users more
+more_is : (rest : Members) (done whole more : List SubjectModel) (key : List ℕ) (groups : List (List ℕ)) (d : Data)
+    → d ≡ array (list_of_names groups) → whole ≡ done ++ more → member key d rest ≡ table_of_users more
     → (next : List SubjectModel) × (whole ≡ (done ++ user key groups ∷ []) ++ next) × (rest ≡ table_of_users next)
 more_is rest done whole [] key groups d is whole_is r = cc
 more_is rest done whole (other ∷ more) key groups d is whole_is r =
@@ -61,10 +65,13 @@ more_is rest done whole (other ∷ more) key groups d is whole_is r =
     let behind : rest ≡ table_of_users more = cc in
     (more, whole_is ∙ ap (λ u. done ++ u ∷ more) same ∙ sym (append_assoc done (user key groups ∷ []) more), behind)
 
-pub reads_more : (all rest : Members) (done : List SubjectModel) (key : List ℕ) (groups : List (List ℕ)) (d : Data) → d ≡ array (list_of_names groups) → Reads all (member key d rest) done → Reads all rest (done ++ user key groups ∷ [])
+pub reads_more : (all rest : Members) (done : List SubjectModel) (key : List ℕ) (groups : List (List ℕ)) (d : Data) → d
+    ≡ array (list_of_names groups) → Reads all (member key d rest) done → Reads all rest (done ++ user key groups ∷ [])
 reads_more all rest done key groups d is r = record {
-  on = λ more e. r.on (user key groups ∷ more) (cc) ∙ ap table_of_users (sym (append_assoc done (user key groups ∷ []) more));
-  back = λ whole e. let (more, whole_is, rest_is) = r.back whole e in more_is rest done whole more key groups d is whole_is rest_is;
+  on = λ more e. r.on (user key groups ∷ more) (cc)
+      ∙ ap table_of_users (sym (append_assoc done (user key groups ∷ []) more));
+  back = λ whole e. let (more, whole_is, rest_is) = r.back whole e in
+      more_is rest done whole more key groups d is whole_is rest_is;
 }
 
 -- each key behind stands behind the users
@@ -75,14 +82,19 @@ pub behind_none : (entries : List Entry) → Behind [] entries
 behind_none [] = tt
 behind_none (e ∷ entries) = (tt, behind_none entries)
 
-before_last : (key : List ℕ) (done : List SubjectModel) (u : SubjectModel) → AreBefore key done → name_cmp key u.name ≡ Greater → AreBefore key (done ++ u ∷ [])
+before_last : (key : List ℕ) (done : List SubjectModel) (u : SubjectModel)
+    → AreBefore key done → name_cmp key u.name ≡ Greater → AreBefore key (done ++ u ∷ [])
 before_last key [] u before here = (here, tt)
 before_last key (v ∷ done) u before here = (before.0, before_last key done u before.1 here)
 
-behind_more : (done : List SubjectModel) (u : SubjectModel) (k : String Global) (entries : List Entry) → string_bytes k ≡ u.name → AllByRecursion (λ y. string_cmp k y ≡ Less) (keys_of entries) → Behind done entries → Behind (done ++ u ∷ []) entries
+behind_more : (done : List SubjectModel) (u : SubjectModel) (k : String Global) (entries : List Entry)
+    → string_bytes k ≡ u.name → AllByRecursion (λ y. string_cmp k y ≡ Less) (keys_of entries)
+    → Behind done entries → Behind (done ++ u ∷ []) entries
 behind_more done u k [] is less behind = tt
-behind_more done u k (e ∷ entries) is less behind =
-    (before_last (string_bytes e.0) done u behind.0 (greater_back u.name (string_bytes e.0) (rw (← is) less.0)), behind_more done u k entries is less.1 behind.1)
+behind_more done u k (e ∷ entries) is less behind = (
+  before_last (string_bytes e.0) done u behind.0 (greater_back u.name (string_bytes e.0) (rw (← is) less.0)),
+  behind_more done u k entries is less.1 behind.1,
+)
 
 -- before each turn: these users were read, and what is left stands behind them
 pub record SoFar (all : Members) (rest : List Entry) (done : List SubjectModel) : Type 0 where
@@ -91,7 +103,8 @@ pub record SoFar (all : Members) (rest : List Entry) (done : List SubjectModel) 
   pub sorted : IsStrictlySortedBy string_cmp (keys_of rest)
   pub lawful : IsNamedRoster done
 
-pub first : (entries : List Entry) → IsStrictlySortedBy string_cmp (keys_of entries) → SoFar (members_view entries) entries []
+pub first : (entries : List Entry) → IsStrictlySortedBy string_cmp (keys_of entries)
+    → SoFar (members_view entries) entries []
 first entries sorted = record {
   reads = reads_none (members_view entries);
   behind = behind_none entries;
@@ -105,11 +118,15 @@ first entries sorted = record {
 -- a user behind the others comes last
 last_of : (u : SubjectModel) (done : List SubjectModel) → AreBefore u.name done → with_user done u ≡ done ++ u ∷ []
 last_of u [] before = refl
-last_of u (other ∷ done) before = ap (λ o. match_ordering o (u ∷ other ∷ done) (other ∷ done) (other ∷ with_user done u)) before.0 ∙ ap (λ us. other ∷ us) (last_of u done before.1)
+last_of u (other ∷ done) before =
+    ap (λ o. match_ordering o (u ∷ other ∷ done) (other ∷ done) (other ∷ with_user done u)) before.0
+    ∙ ap (λ us. other ∷ us) (last_of u done before.1)
 
 -- a user was added
-pub turn : (all : Members) (rest : List Entry) (done new : List SubjectModel) (e : Entry) (groups : List (List ℕ)) → SoFar all (e ∷ rest) done → view e.1 ≡ array (list_of_names groups)
-    → IsNamed (user (string_bytes e.0) groups) → new ≡ with_user done (user (string_bytes e.0) groups) → IsRoster new → SoFar all rest new
+pub turn : (all : Members) (rest : List Entry) (done new : List SubjectModel) (e : Entry) (groups : List (List ℕ))
+    → SoFar all (e ∷ rest) done → view e.1 ≡ array (list_of_names groups)
+    → IsNamed (user (string_bytes e.0) groups)
+    → new ≡ with_user done (user (string_bytes e.0) groups) → IsRoster new → SoFar all rest new
 unfolding IsStrictlySortedBy
 turn all rest done new e groups so is named new_is roster =
     let u = user (string_bytes e.0) groups in
@@ -122,9 +139,12 @@ turn all rest done new e groups so is named new_is roster =
     }
 
 -- a member that no user could be
-pub refused : (all : Members) (rest : List Entry) (done users : List SubjectModel) (e : Entry) → SoFar all (e ∷ rest) done → all ≡ table_of_users users → IsNamedRoster users
-    → ((groups : List (List ℕ)) → view e.1 ≡ array (list_of_names groups) → IsNamed (user (string_bytes e.0) groups) → may_join done (string_bytes e.0) groups ≡ false) → ⊥
-refused all rest done users e so is lawful bad = let (more, users_are, rest_is) = so.reads.back users is in at more users_are rest_is
+pub refused : (all : Members) (rest : List Entry) (done users : List SubjectModel) (e : Entry)
+    → SoFar all (e ∷ rest) done → all ≡ table_of_users users → IsNamedRoster users
+    → ((groups : List (List ℕ)) → view e.1 ≡ array (list_of_names groups)
+    → IsNamed (user (string_bytes e.0) groups) → may_join done (string_bytes e.0) groups ≡ false) → ⊥
+refused all rest done users e so is lawful bad = let (more, users_are, rest_is) = so.reads.back users is in
+    at more users_are rest_is
   where
     at : (more : List SubjectModel) → users ≡ done ++ more → members_view (e ∷ rest) ≡ table_of_users more → ⊥
     at [] users_are rest_is = cc
@@ -134,40 +154,52 @@ refused all rest done users e so is lawful bad = let (more, users_are, rest_is) 
         let groups_are : view e.1 ≡ array (list_of_names u.groups) = cc in
         let here : IsNamedRoster (done ++ u ∷ more) = subst IsNamedRoster users_are lawful in
         let named : IsNamed u = all_here IsNamed done more u here.named in
-        let few_groups : length u.groups ≤ max_groups = all_here (λ (v : SubjectModel). length v.groups ≤ max_groups) done more u here.roster.few_groups in
+        let few_groups : length u.groups ≤ max_groups =
+        all_here (λ (v : SubjectModel). length v.groups ≤ max_groups) done more u here.roster.few_groups in
         let few : length (done ++ u ∷ more) ≤ max_users = here.roster.few in
         let room : length done < max_users = omega (arith, length-append done (u ∷ more)) in
-        let none = absent done key (length done) so.lawful.roster.in_order (done, [], sym (append-nil done), refl, so.behind.0, tt) in
+        let none = absent done key (length done) so.lawful.roster.in_order
+        (done, [], sym (append-nil done), refl, so.behind.0, tt) in
         let yes = joins done key u.groups few_groups room none in
         let no = bad u.groups groups_are (rw name_is named.0, named.1) in
         cc
 
 -- both, where the code read the key as a text
-pub turn_at : (all : Members) (rest : List Entry) (done new : List SubjectModel) (e : Entry) (key : List ℕ) (groups : List (List ℕ)) → key ≡ string_bytes e.0 → SoFar all (e ∷ rest) done → view e.1 ≡ array (list_of_names groups)
+pub turn_at : (all : Members) (rest : List Entry) (done new : List SubjectModel)
+    (e : Entry) (key : List ℕ) (groups : List (List ℕ)) → key ≡ string_bytes e.0
+    → SoFar all (e ∷ rest) done → view e.1 ≡ array (list_of_names groups)
     → IsNamed (user key groups) → new ≡ with_user done (user key groups) → IsRoster new → SoFar all rest new
 turn_at all rest done new e key groups key_is so is named new_is roster =
-    turn all rest done new e groups so is (subst (λ (k : List ℕ). IsNamed (user k groups)) key_is named) (subst (λ (k : List ℕ). new ≡ with_user done (user k groups)) key_is new_is) roster
+    turn all rest done new e groups so is (subst (λ (k : List ℕ). IsNamed (user k groups)) key_is named)
+    (subst (λ (k : List ℕ). new ≡ with_user done (user k groups)) key_is new_is) roster
 
-pub refused_at : (all : Members) (rest : List Entry) (done users : List SubjectModel) (e : Entry) (key : List ℕ) → key ≡ string_bytes e.0 → SoFar all (e ∷ rest) done → all ≡ table_of_users users → IsNamedRoster users
-    → ((groups : List (List ℕ)) → view e.1 ≡ array (list_of_names groups) → IsNamed (user key groups) → may_join done key groups ≡ false) → ⊥
+pub refused_at : (all : Members) (rest : List Entry) (done users : List SubjectModel) (e : Entry) (key : List ℕ)
+    → key ≡ string_bytes e.0 → SoFar all (e ∷ rest) done → all ≡ table_of_users users → IsNamedRoster users
+    → ((groups : List (List ℕ)) → view e.1 ≡ array (list_of_names groups)
+    → IsNamed (user key groups) → may_join done key groups ≡ false) → ⊥
 refused_at all rest done users e key key_is so is lawful bad = refused all rest done users e so is lawful
-    (λ groups groups_are named. subst (λ (k : List ℕ). may_join done k groups ≡ false) key_is (bad groups groups_are (subst (λ (k : List ℕ). IsNamed (user k groups)) (sym key_is) named)))
+    (λ groups groups_are named. subst (λ (k : List ℕ). may_join done k groups ≡ false) key_is
+    (bad groups groups_are (subst (λ (k : List ℕ). IsNamed (user k groups)) (sym key_is) named)))
 
 -- the one entry of a document
 abbrev pub users_key : List ℕ
 users_key = codes "users"
 
-pub only : (entries : List Entry) (d : Data) → length entries ≡ 1 → get_member users_key (members_view entries) ≡ Some d → members_view entries ≡ member users_key d no_members
+pub only : (entries : List Entry) (d : Data) → length entries ≡ 1
+    → get_member users_key (members_view entries) ≡ Some d → members_view entries ≡ member users_key d no_members
 only [] d one found = cc
 only (e ∷ f ∷ entries) d one found = absurd (omega arith)
 only (e ∷ []) d one found = by (slice_cmp nat_cmp users_key (string_bytes e.0)) refl found
   where
-    by : (o : Ordering) → slice_cmp nat_cmp users_key (string_bytes e.0) ≡ o → match_ordering o None (Some (view e.1)) None ≡ Some d → members_view (e ∷ []) ≡ member users_key d no_members
+    by : (o : Ordering) → slice_cmp nat_cmp users_key (string_bytes e.0) ≡ o
+        → match_ordering o None (Some (view e.1)) None ≡ Some d → members_view (e ∷ []) ≡ member users_key d no_members
     by Less is found = cc
     by Greater is found = cc
-    by Equal is found = let same = (bytes_eq-Decides users_key (string_bytes e.0)).0 (sym (is_eq-slice_cmp users_key (string_bytes e.0)) ∙ ap is_eq is) in cc
+    by Equal is found = let same = (bytes_eq-Decides users_key (string_bytes e.0)).0
+        (sym (is_eq-slice_cmp users_key (string_bytes e.0)) ∙ ap is_eq is) in cc
 
-pub one_member : (entries : List Entry) (users : Members) → members_view entries ≡ document_with users → length entries ≡ 1
+pub one_member : (entries : List Entry) (users : Members)
+    → members_view entries ≡ document_with users → length entries ≡ 1
 one_member [] users e = cc
 one_member (x ∷ []) users e = omega arith
 one_member (x ∷ y ∷ entries) users e = cc
@@ -187,14 +219,19 @@ as_table_is (table ns) ms e = cc
 abbrev pub TableMap : Type 0
 TableMap = BTreeMap (String Global) Value
 
-pub some_users : (entries : List Entry) (v : Value) (r : Option (Bor TableMap)) → length entries ≡ 1 → get_member users_key (members_view entries) ≡ Some (view v)
-    → option_map (λ m. table_view m.now) r ≡ as_table (view v) → IfSome r (λ users. members_view entries ≡ document_with (table_view users.now))
+pub some_users : (entries : List Entry) (v : Value) (r : Option (Bor TableMap))
+    → length entries ≡ 1 → get_member users_key (members_view entries) ≡ Some (view v)
+    → option_map (λ m. table_view m.now) r ≡ as_table (view v)
+    → IfSome r (λ users. members_view entries ≡ document_with (table_view users.now))
 some_users entries v None one found is = tt
 some_users entries v (Some t) one found is =
-    only entries (view v) one found ∙ ap (λ d. member users_key d no_members) (as_table_is (view v) (table_view t.now) is)
+    only entries (view v) one found
+    ∙ ap (λ d. member users_key d no_members) (as_table_is (view v) (table_view t.now) is)
 
-pub no_users : (entries : List Entry) (v : Value) (r : Option (Bor TableMap)) → get_member users_key (members_view entries) ≡ Some (view v)
-    → option_map (λ m. table_view m.now) r ≡ as_table (view v) → IfNone r ((users : Members) → ¬ (members_view entries ≡ document_with users))
+pub no_users : (entries : List Entry) (v : Value) (r : Option (Bor TableMap))
+    → get_member users_key (members_view entries) ≡ Some (view v)
+    → option_map (λ m. table_view m.now) r ≡ as_table (view v)
+    → IfNone r ((users : Members) → ¬ (members_view entries ≡ document_with users))
 no_users entries v (Some t) found is = tt
 no_users entries v None found is = λ users e.
     let same : view v ≡ table users = cc (found_users (members_view entries) users e) in

@@ -36,8 +36,10 @@ fn group(alloc: Global, value: &Value) -> Result<Principal, RosterFault>
 
 /// The groups that values name.
 fn names(alloc: Global, values: &[Value]) -> Result<Vec<Principal>, RosterFault>
-    ensures ok { IfOk result (λ names. (items_view values.now ≡ list_of_names names.items) × AllByRecursion IsPrincipal names.items) }
-    ensures bad { result ≡ Err RosterFault.Bad → (names : List (List ℕ)) → items_view values.now ≡ list_of_names names → ¬ AllByRecursion IsPrincipal names }
+    ensures ok { IfOk result (λ names. (items_view values.now ≡ list_of_names names.items)
+        × AllByRecursion IsPrincipal names.items) }
+    ensures bad { result ≡ Err RosterFault.Bad → (names : List (List ℕ))
+        → items_view values.now ≡ list_of_names names → ¬ AllByRecursion IsPrincipal names }
 {
     let mut names = Vec::new(alloc);
     for value in values {
@@ -48,8 +50,10 @@ fn names(alloc: Global, values: &[Value]) -> Result<Vec<Principal>, RosterFault>
 
 /// The groups that a list names.
 pub(crate) fn groups(alloc: Global, value: &Value) -> Result<Vec<Principal>, RosterFault>
-    ensures ok { IfOk result (λ names. (view value.now ≡ array (list_of_names names.items)) × AllByRecursion IsPrincipal names.items) }
-    ensures bad { result ≡ Err RosterFault.Bad → (names : List (List ℕ)) → view value.now ≡ array (list_of_names names) → ¬ AllByRecursion IsPrincipal names }
+    ensures ok { IfOk result (λ names. (view value.now ≡ array (list_of_names names.items))
+        × AllByRecursion IsPrincipal names.items) }
+    ensures bad { result ≡ Err RosterFault.Bad → (names : List (List ℕ))
+        → view value.now ≡ array (list_of_names names) → ¬ AllByRecursion IsPrincipal names }
 {
     match value.as_array() {
         Some(values) => names(alloc, values.as_slice()),

@@ -20,9 +20,11 @@ fn add_user(
     name: &str,
     value: &Value,
 ) -> Result<(), RosterFault>
-    ensures ok { OnOk result ((groups : List (List ℕ)) × (view value.now ≡ array (list_of_names groups)) × IsNamed (user name.now groups)
+    ensures ok { OnOk result ((groups : List (List ℕ))
+        × (view value.now ≡ array (list_of_names groups)) × IsNamed (user name.now groups)
         × (may_join roster.old name.now groups ≡ true) × (roster.new ≡ with_user roster.old (user name.now groups))) }
-    ensures bad { result ≡ Err RosterFault.Bad → (groups : List (List ℕ)) → view value.now ≡ array (list_of_names groups) → IsNamed (user name.now groups)
+    ensures bad { result ≡ Err RosterFault.Bad → (groups : List (List ℕ))
+        → view value.now ≡ array (list_of_names groups) → IsNamed (user name.now groups)
         → may_join roster.old name.now groups ≡ false }
 {
     let name = principal(alloc, name)?;
@@ -37,7 +39,8 @@ fn add_user(
 /// The roster of the table `users`.
 pub(crate) fn users(alloc: Global, table: &Table) -> Result<Roster, RosterFault>
     ensures ok { IfOk result (λ roster. (table_view table.now ≡ table_of_users roster) × IsNamedRoster roster) }
-    ensures bad { result ≡ Err RosterFault.Bad → (users : List SubjectModel) → table_view table.now ≡ table_of_users users → ¬ IsNamedRoster users }
+    ensures bad { result ≡ Err RosterFault.Bad → (users : List SubjectModel)
+        → table_view table.now ≡ table_of_users users → ¬ IsNamedRoster users }
 {
     let mut roster = Roster::empty(alloc);
     for (name, value) in table.iter() {

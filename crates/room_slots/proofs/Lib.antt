@@ -1,3 +1,3 @@
 pub mod Counts
 pub mod Trials
-mod Rows
+mod Examples

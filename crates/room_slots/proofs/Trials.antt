@@ -1,5 +1,6 @@
 -- A trial slot holds its accepted pieces, and goes on holding them.
-use Rattle.std.proofs.Common.{◌≡◌, ℕ, ◌==◌, Bool, true, false, List, [], ◌∷◌, ◌++◌, length, if◌then◌else◌, Option, None, Some, refl, arith, length-append}
+use Rattle.std.proofs.Common.{◌≡◌, ℕ, ◌==◌, Bool, true, false, List, [], ◌∷◌, ◌++◌, length, if◌then◌else◌, Option}
+use Rattle.std.proofs.Common.{None, Some, refl, arith, length-append}
 use Rattle.std.proofs.lemmas.Grind.{common_steps}
 use Rattle.std.proofs.lemmas.Bool.{eqb-true}
 use Rattle.std.specs.Str.{bytes_eq}
@@ -17,32 +18,40 @@ pub record Holds (trial : TrialModel) (pieces : List Piece) : Type 0 where
   pub doc : trial.doc ≡ bytes_of pieces
   pub count : KeepsCount trial.kept (length pieces)
 
-unchanged_by_tests : (a b : Bool) (trial : TrialModel) (seq : ℕ) (bytes : List ℕ) → after_verdict (if a then (if b then Repeat else FalseRetry) else Misordered) trial seq bytes ≡ trial
+unchanged_by_tests : (a b : Bool) (trial : TrialModel) (seq : ℕ) (bytes : List ℕ)
+    → after_verdict (if a then (if b then Repeat else FalseRetry) else Misordered) trial seq bytes ≡ trial
 unchanged_by_tests true true trial seq bytes = refl
 unchanged_by_tests true false trial seq bytes = refl
 unchanged_by_tests false b trial seq bytes = refl
 
 -- what is not accepted changes nothing
-pub unaccepted_changes_nothing : (kept : Option KeptModel) (trial : TrialModel) (seq : ℕ) (bytes : List ℕ) → after_verdict (verdict_unaccepted kept seq bytes) trial seq bytes ≡ trial
+pub unaccepted_changes_nothing : (kept : Option KeptModel) (trial : TrialModel) (seq : ℕ) (bytes : List ℕ)
+    → after_verdict (verdict_unaccepted kept seq bytes) trial seq bytes ≡ trial
 unaccepted_changes_nothing None trial seq bytes = refl
 unaccepted_changes_nothing (Some last) trial seq bytes =
     unchanged_by_tests (seq == last.seq) (bytes_eq bytes last.request) trial seq bytes
 
 -- an accepted piece is held with the others
-Holds-appended : (trial : TrialModel) (pieces : List Piece) (piece : Piece) → Holds trial pieces → piece.seq ≡ next_number (length pieces) → Holds (appended trial piece.seq piece.bytes) (pieces ++ piece ∷ [])
+Holds-appended : (trial : TrialModel) (pieces : List Piece) (piece : Piece) → Holds trial pieces
+    → piece.seq ≡ next_number (length pieces) → Holds (appended trial piece.seq piece.bytes) (pieces ++ piece ∷ [])
 Holds-appended trial pieces piece h e = record {
   doc = grind (arith, common_steps);
   count = rw length-append e;
 }
 
-Holds-by_test : (accepts : Bool) (other : Verdict) (trial : TrialModel) (pieces : List Piece) (piece : Piece) → Holds trial pieces → (accepts ≡ true → piece.seq ≡ next_number (length pieces)) → after_verdict other trial piece.seq piece.bytes ≡ trial → Holds (after_verdict (if accepts then New else other) trial piece.seq piece.bytes) (if accepts then pieces ++ piece ∷ [] else pieces)
+Holds-by_test : (accepts : Bool) (other : Verdict) (trial : TrialModel) (pieces : List Piece) (piece : Piece)
+    → Holds trial pieces → (accepts ≡ true → piece.seq ≡ next_number (length pieces)) → after_verdict other trial
+    piece.seq piece.bytes ≡ trial → Holds (after_verdict (if accepts then New else other) trial piece.seq piece.bytes)
+    (if accepts then pieces ++ piece ∷ [] else pieces)
 Holds-by_test true other trial pieces piece h next same = Holds-appended trial pieces piece h (next refl)
 Holds-by_test false other trial pieces piece h next same = rw same h
 
 -- one piece later it holds what is accepted then
-pub Holds-after : (trial : TrialModel) (pieces : List Piece) (piece : Piece) → Holds trial pieces → Holds (trial_after trial piece.seq piece.bytes) (accepted_with pieces piece)
+pub Holds-after : (trial : TrialModel) (pieces : List Piece) (piece : Piece) → Holds trial pieces
+    → Holds (trial_after trial piece.seq piece.bytes) (accepted_with pieces piece)
 Holds-after trial pieces piece h =
     let next = next_number (length pieces) in
     let by_count = verdict_by_count trial.kept (length pieces) piece.seq piece.bytes h.count in
     let same = unaccepted_changes_nothing trial.kept trial piece.seq piece.bytes in
-    rw by_count (Holds-by_test (piece.seq == next) (verdict_unaccepted trial.kept piece.seq piece.bytes) trial pieces piece h (eqb-true piece.seq next) same)
+    rw by_count (Holds-by_test (piece.seq == next) (verdict_unaccepted trial.kept piece.seq piece.bytes)
+    trial pieces piece h (eqb-true piece.seq next) same)

@@ -1,7 +1,8 @@
 //! A trial slot: the smallest thing that shows why a retry must act once.
 ghost use Rattle.std.specs.Prelude.{◌≡◌, [], ◌++◌, map, IsSome, IfOk, OnOk, OnErr};
 ghost use Rattle.room_slots.specs.Slots.{verdict};
-ghost use Rattle.room_slots.specs.Trials.{answer_model, answer_by_verdict, appended, kept_reply, trial_after, trial_answer};
+ghost use Rattle.room_slots.specs.Trials.{answer_model, answer_by_verdict, appended, kept_reply};
+ghost use Rattle.room_slots.specs.Trials.{trial_after, trial_answer};
 ghost use Rattle.room_slots.specs.TrialModel.{Reply};
 ghost use Rattle.room_slots.specs.Accepted.{accepted, bytes_of};
 

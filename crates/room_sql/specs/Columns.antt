@@ -1,13 +1,16 @@
 -- Rows that are values of their type, as they are shown.
-use Rattle.std.specs.Prelude.{◌≡◌, ◌≢◌, ◌⊎◌, ◌<◌, ◌≤◌, ◌^◌, ℕ, pos, List, [], ◌∷◌, length, IsUtf8, IsTrue}
+use Rattle.std.specs.Prelude.{◌≡◌, ◌≢◌, ◌⊎◌, ◌<◌, ◌≤◌, ◌^◌, ℕ, pos, List, [], ◌∷◌, length, Some, IsUtf8, IsTrue}
 use Rattle.sqlite_value.specs.declared.value.Value.TheVariants.{Null, Int, Text, Blob}
 use Rattle.sqlite_value.specs.Order.{Row, column}
 use Rattle.sqlite.specs.declared.error.ErrorCode.TheVariants.{OutOfMemory}
 use Rattle.sqlite.specs.declared.error.Error.{Error}
 use Rattle.sqlite.specs.declared.error.Error.TheVariants.{SqliteFailure}
-use Rattle.room_acl.specs.Bits.{IsListFlags}
+use Rattle.room_acl.specs.declared.who.Who.{Who}
+use Rattle.room_acl.specs.Bits.{IsListFlags, IsFlags, IsMask}
+use Rattle.room_acl.specs.Entries.{who_from, names_its_kind}
 use Rattle.room_acl.specs.Principals.{IsPrincipal}
 use Rattle.room_records.specs.Names.{IsFileName, is_sid}
+use Rattle.room_tables.specs.Names.{most}
 use Rattle.room_tables.specs.Rows.{number_in, text_in}
 
 -- an error that is no want of memory
@@ -26,7 +29,8 @@ HasBytes at row = (at < length row) × (b : List ℕ) × (column row at ≡ Blob
 
 -- NULL is no parent
 abbrev pub HasParent : ℕ → Row → Type 0
-HasParent at row = (at < length row) × ((column row at ≡ Null) ⊎ ((n : ℕ) × (column row at ≡ Int (pos n)) × (n < 2 ^ 32)))
+HasParent at row = (at < length row)
+    × ((column row at ≡ Null) ⊎ ((n : ℕ) × (column row at ≡ Int (pos n)) × (n < 2 ^ 32)))
 
 -- 0 or 1
 abbrev pub HasFlag : ℕ → Row → Type 0
@@ -34,6 +38,17 @@ HasFlag at row = HasNumber at row × (number_in (column row at) ≤ 1)
 
 abbrev pub HasListFlags : ℕ → Row → Type 0
 HasListFlags at row = HasNumber at row × IsListFlags (number_in (column row at))
+
+abbrev pub HasFlags : ℕ → Row → Type 0
+HasFlags at row = HasNumber at row × IsFlags (number_in (column row at))
+
+abbrev pub HasMask : ℕ → Row → Type 0
+HasMask at row = HasNumber at row × IsMask (number_in (column row at))
+
+-- beside these flags the text names somebody of their kind
+abbrev pub HasWho : ℕ → ℕ → Row → Type 0
+HasWho flags at row = HasText at row × (who : Who)
+    × (who_from flags (text_in (column row at)) ≡ Some who) × IsTrue (names_its_kind flags who)
 
 abbrev pub HasSlots : ℕ → Row → Type 0
 HasSlots at row = HasNumber at row × (1 ≤ number_in (column row at)) × (number_in (column row at) ≤ 16)
@@ -58,6 +73,14 @@ pub record IsNodeRow (row : Row) : Type 0 where
   pub group : HasPrincipal 5 row
   pub aclflag : HasListFlags 6 row
 
+-- place, type, flags, mask and whom it names
+pub record IsLawfulEntryRow (row : Row) : Type 0 where
+  pub place : HasNumber 0 row
+  pub kind : HasFlag 1 row
+  pub flags : HasFlags 2 row
+  pub mask : HasMask 3 row
+  pub who : HasWho (number_in (column row 2)) 4 row
+
 -- owner, slots and whether it is open, of a session of this name
 pub record IsSessionRow (sid : List ℕ) (row : Row) : Type 0 where
   pub owner : HasPrincipal 0 row
@@ -74,3 +97,8 @@ pub record IsKeptRow (row : Row) : Type 0 where
 -- one row, with a number
 abbrev pub IsOneNumber : List Row → Type 0
 IsOneNumber rows = (row : Row) × (rows ≡ row ∷ []) × HasNumber 0 row
+
+-- one row, with a count that is told exactly
+abbrev pub IsOneCount : List Row → Type 0
+IsOneCount rows = (row : Row) × (rows ≡ row ∷ []) × (0 < length row)
+    × (n : ℕ) × (column row 0 ≡ Int (pos n)) × (n < most)

@@ -1,14 +1,17 @@
 //! Making a room in a database, and taking one that is there.
 
-ghost use Rattle.std.specs.Prelude.{◌≡◌, ◌≢◌, ◌⊎◌, ◌↔◌, [], map, true, false, IfOk, IfErr, IsErrAnd, OnOk, IsTrue, IsPermutation, codes};
-ghost use Rattle.sqlite.specs.State.{HasCleanDisk, Survives, Shown, FailsToQuery};
+ghost use Rattle.std.specs.Prelude.{◌≡◌, ◌≢◌, ◌⊎◌, ◌↔◌, [], map, true, false, IfOk, IfErr, IsErrAnd};
+ghost use Rattle.std.specs.Prelude.{IsTrue, IsPermutation, codes};
+ghost use Rattle.sqlite.specs.State.{HasCleanDisk, Survives, FailsToQuery};
 ghost use Rattle.sqlite.specs.Held.{state};
-ghost use Rattle.room_tables.specs.Tables.{schema_0, room_schema, has_table, has_a_table, has_column, has_columns, has_room};
+ghost use Rattle.room_tables.specs.Tables.{schema_0, room_schema, has_table, has_a_table, has_column};
+ghost use Rattle.room_tables.specs.Tables.{has_columns, has_room};
 ghost use Rattle.room_tables.specs.Rows.{version_rows, IsVersion1};
 ghost use Rattle.room_tables.specs.Texts.{find_version_text};
 ghost use Rattle.room_tables.specs.Versions.{TellsVersion};
 ghost use Rattle.room_tables.specs.Layout.{IsRoomDatabase};
 ghost use Rattle.room_tables.specs.Fresh.{IsFreshRoom, MayBeMade};
+ghost use Rattle.room_sql.specs.Frames.{QueryFrame, QueryAnswered};
 
 use crate::sql_shelf::SqlShelf;
 use crate::tables::make;
@@ -31,7 +34,8 @@ pub enum OpenFault {
 }
 
 fn open_fault(error: Error) -> OpenFault
-    ensures { ((result ≡ OpenFault.Memory) × (error ≡ Error.SqliteFailure ErrorCode.OutOfMemory)) ⊎ ((result ≡ OpenFault.Store) × (error ≢ Error.SqliteFailure ErrorCode.OutOfMemory)) }
+    ensures { ((result ≡ OpenFault.Memory) × (error ≡ Error.SqliteFailure ErrorCode.OutOfMemory))
+        ⊎ ((result ≡ OpenFault.Store) × (error ≢ Error.SqliteFailure ErrorCode.OutOfMemory)) }
 {
     match error {
         Error::SqliteFailure(ErrorCode::OutOfMemory) => OpenFault::Memory,
@@ -102,16 +106,9 @@ fn has_room<S: Alter>(conn: &Connection<S>) -> bool
 }
 
 fn version_rows<S: Alter>(conn: &mut Connection<S>) -> Result<Vec<Row>, Error>
-    ensures rows { HasCleanDisk (state S.Store conn.new) → IfOk result (λ rows. Shown find_version_text [] (state S.Store conn.old) (state S.Store conn.new) rows.items) }
-    ensures asked { HasCleanDisk (state S.Store conn.new) → conn.old.schema ≡ room_schema → IfOk result (λ rows. IsPermutation (version_rows (state S.Store conn.old).now.trees) rows.items) }
-    ensures failed { HasCleanDisk (state S.Store conn.new) → IfErr result (FailsToQuery find_version_text [] (state S.Store conn.old) (state S.Store conn.new)) }
-    ensures same { HasCleanDisk (state S.Store conn.new) → IsTrue (state S.Store conn.new).is_open → (state S.Store conn.old).now ≡ (state S.Store conn.old).committed
-        → (state S.Store conn.new).now ≡ (state S.Store conn.old).now }
-    ensures answered { HasCleanDisk (state S.Store conn.new) → OnOk result (IsTrue (state S.Store conn.new).is_open × ((state S.Store conn.new).now ≡ (state S.Store conn.old).now)) }
-    ensures open { HasCleanDisk (state S.Store conn.new) → IsTrue (state S.Store conn.new).is_open → IsTrue (state S.Store conn.old).is_open }
-    ensures mode { conn.old.in_transaction ≡ false → conn.new.in_transaction ≡ false }
-    ensures clean { HasCleanDisk (state S.Store conn.new) → HasCleanDisk (state S.Store conn.old) }
-    ensures crash { Survives (state S.Store conn.old) (state S.Store conn.new) (λ _. ⊥) }
+    ensures answered { QueryAnswered find_version_text [] (state S.Store conn.old) (state S.Store conn.new) result }
+    ensures asked { HasCleanDisk (state S.Store conn.new) → conn.old.schema ≡ room_schema
+        → IfOk result (λ rows. IsPermutation (version_rows (state S.Store conn.old).now.trees) rows.items) }
 {
     conn.query_all("SELECT version FROM room WHERE one = 1", &[])
 }
@@ -128,16 +125,13 @@ fn is_version_1(rows: &[Row]) -> bool
 
 /// Whether the database says of itself that it is a room of version 1.
 fn is_room<S: Alter>(conn: &mut Connection<S>) -> Result<bool, Error>
-    ensures told { HasCleanDisk (state S.Store conn.new) → IfOk result (λ is. TellsVersion (state S.Store conn.old) (state S.Store conn.new) (λ rows. IsTrue is ↔ IsVersion1 rows)) }
-    ensures asked { HasCleanDisk (state S.Store conn.new) → conn.old.schema ≡ room_schema → IfOk result (λ is. IsTrue is ↔ IsVersion1 (version_rows (state S.Store conn.old).now.trees)) }
-    ensures failed { HasCleanDisk (state S.Store conn.new) → IfErr result (FailsToQuery find_version_text [] (state S.Store conn.old) (state S.Store conn.new)) }
-    ensures same { HasCleanDisk (state S.Store conn.new) → IsTrue (state S.Store conn.new).is_open → (state S.Store conn.old).now ≡ (state S.Store conn.old).committed
-        → (state S.Store conn.new).now ≡ (state S.Store conn.old).now }
-    ensures answered { HasCleanDisk (state S.Store conn.new) → OnOk result (IsTrue (state S.Store conn.new).is_open × ((state S.Store conn.new).now ≡ (state S.Store conn.old).now)) }
-    ensures open { HasCleanDisk (state S.Store conn.new) → IsTrue (state S.Store conn.new).is_open → IsTrue (state S.Store conn.old).is_open }
-    ensures mode { conn.old.in_transaction ≡ false → conn.new.in_transaction ≡ false }
-    ensures clean { HasCleanDisk (state S.Store conn.new) → HasCleanDisk (state S.Store conn.old) }
-    ensures crash { Survives (state S.Store conn.old) (state S.Store conn.new) (λ _. ⊥) }
+    ensures frame { QueryFrame (state S.Store conn.old) (state S.Store conn.new) result }
+    ensures told { HasCleanDisk (state S.Store conn.new) → IfOk result
+        (λ is. TellsVersion (state S.Store conn.old) (state S.Store conn.new) (λ rows. IsTrue is ↔ IsVersion1 rows)) }
+    ensures asked { HasCleanDisk (state S.Store conn.new) → conn.old.schema ≡ room_schema
+        → IfOk result (λ is. IsTrue is ↔ IsVersion1 (version_rows (state S.Store conn.old).now.trees)) }
+    ensures failed { HasCleanDisk (state S.Store conn.new)
+        → IfErr result (FailsToQuery find_version_text [] (state S.Store conn.old) (state S.Store conn.new)) }
 {
     let rows = version_rows(conn)?;
     Ok(is_version_1(rows.as_slice()))
@@ -148,10 +142,10 @@ impl<S: Alter> SqlShelf<S> {
     /// back: `RoomExists` where a table has the name of one of the six (`ROOM` is the name `room`), `Memory` where
     /// memory was refused, `Store` where a call of `sqlite` answered another fault. The form of the tables is our own.
     ///
-    /// The room, and what a crash leaves of it, are promised of a database without any table, index or view. It works
-    /// in others too, beside what is there; of them it is promised that no table had one of the six names, and after a
-    /// refusal that the database is as it was, and no more: not that its rows stand for a room, nor what became of
-    /// the other tables.
+    /// The room, and what a crash leaves of it, are promised of a database without any table,
+    /// index or view. It works in others too, beside what is there; of them it is promised that
+    /// no table had one of the six names, and after a refusal that the database is as it was,
+    /// and no more: not that its rows stand for a room, nor what became of the other tables.
     pub fn init(
         alloc: Global,
         connection: Connection<S>,
@@ -159,17 +153,24 @@ impl<S: Alter> SqlShelf<S> {
         group: &Principal,
     ) -> Result<SqlShelf<S>, (OpenFault, Connection<S>)>
         requires { connection.in_transaction ≡ false }
-        ensures fresh { IfOk result (λ shelf. HasCleanDisk (state S.Store shelf.conn) → IsTrue (state S.Store shelf.conn).is_open × (connection.schema ≡ schema_0 →
-            IsRoomDatabase (state S.Store shelf.conn).now × IsFreshRoom owner.now group.now (state S.Store shelf.conn).now.trees)) }
+        ensures fresh { IfOk result (λ shelf. HasCleanDisk (state S.Store shelf.conn)
+            → IsTrue (state S.Store shelf.conn).is_open × (connection.schema ≡ schema_0 →
+            IsRoomDatabase (state S.Store shelf.conn).now
+            × IsFreshRoom owner.now group.now (state S.Store shelf.conn).now.trees)) }
         ensures absent { IfOk result (λ shelf. has_a_table connection.schema ≡ false) }
         ensures started { IfOk result (λ shelf. shelf.failures ≡ 0) }
         ensures exists { IfErr result (λ e. e.0 ≡ OpenFault.RoomExists → IsTrue (has_a_table connection.schema)) }
-        ensures taken { IsTrue (has_a_table connection.schema) → IsErrAnd result (λ e. (e.0 ≡ OpenFault.RoomExists) × (e.1 ≡ connection)) }
-        ensures failed { has_a_table connection.schema ≡ false → IfErr result (λ e. (e.0 ≡ OpenFault.Memory) ⊎ (e.0 ≡ OpenFault.Store)) }
-        ensures unchanged { IfErr result (λ e. HasCleanDisk (state S.Store e.1) → IsTrue (state S.Store e.1).is_open → (state S.Store e.1).now ≡ (state S.Store connection).now) }
+        ensures taken { IsTrue (has_a_table connection.schema)
+            → IsErrAnd result (λ e. (e.0 ≡ OpenFault.RoomExists) × (e.1 ≡ connection)) }
+        ensures failed { has_a_table connection.schema ≡ false
+            → IfErr result (λ e. (e.0 ≡ OpenFault.Memory) ⊎ (e.0 ≡ OpenFault.Store)) }
+        ensures unchanged { IfErr result (λ e. HasCleanDisk (state S.Store e.1)
+            → IsTrue (state S.Store e.1).is_open → (state S.Store e.1).now ≡ (state S.Store connection).now) }
         ensures outside { IfErr result (λ e. e.1.in_transaction ≡ false) }
-        ensures made { IfOk result (λ shelf. Survives (state S.Store connection) (state S.Store shelf.conn) (MayBeMade owner.now group.now (state S.Store connection).now)) }
-        ensures refused { IfErr result (λ e. Survives (state S.Store connection) (state S.Store e.1) (MayBeMade owner.now group.now (state S.Store connection).now)) }
+        ensures made { IfOk result (λ shelf. Survives (state S.Store connection)
+            (state S.Store shelf.conn) (MayBeMade owner.now group.now (state S.Store connection).now)) }
+        ensures refused { IfErr result (λ e. Survives (state S.Store connection)
+            (state S.Store e.1) (MayBeMade owner.now group.now (state S.Store connection).now)) }
     {
         let mut conn = connection;
         // Outside a transaction what is seen is what was committed.
@@ -195,16 +196,26 @@ impl<S: Alter> SqlShelf<S> {
         connection: Connection<S>,
     ) -> Result<SqlShelf<S>, (OpenFault, Connection<S>)>
         requires { connection.in_transaction ≡ false }
-        ensures same { IfOk result (λ shelf. HasCleanDisk (state S.Store shelf.conn) → IsTrue (state S.Store shelf.conn).is_open × ((state S.Store shelf.conn).now ≡ (state S.Store connection).now)) }
-        ensures room { IfOk result (λ shelf. IsTrue (has_room connection.schema) × (HasCleanDisk (state S.Store shelf.conn) → TellsVersion (state S.Store connection) (state S.Store shelf.conn) IsVersion1)) }
-        ensures missing { has_room connection.schema ≡ false → IsErrAnd result (λ e. (e.0 ≡ OpenFault.NotARoom) × (e.1 ≡ connection)) }
-        ensures no_room { IfErr result (λ e. e.0 ≡ OpenFault.NotARoom → IsTrue (has_room connection.schema) → HasCleanDisk (state S.Store e.1) →
+        ensures same { IfOk result (λ shelf. HasCleanDisk (state S.Store shelf.conn) → IsTrue
+            (state S.Store shelf.conn).is_open × ((state S.Store shelf.conn).now ≡ (state S.Store connection).now)) }
+        ensures room { IfOk result
+            (λ shelf. IsTrue (has_room connection.schema) × (HasCleanDisk (state S.Store shelf.conn)
+            → TellsVersion (state S.Store connection) (state S.Store shelf.conn) IsVersion1)) }
+        ensures missing { has_room connection.schema ≡ false
+            → IsErrAnd result (λ e. (e.0 ≡ OpenFault.NotARoom) × (e.1 ≡ connection)) }
+        ensures no_room { IfErr result (λ e. e.0 ≡ OpenFault.NotARoom
+            → IsTrue (has_room connection.schema) → HasCleanDisk (state S.Store e.1) →
             TellsVersion (state S.Store connection) (state S.Store e.1) (λ rows. ¬ IsVersion1 rows)) }
-        ensures version { IfOk result (λ shelf. HasCleanDisk (state S.Store shelf.conn) → connection.schema ≡ room_schema → IsVersion1 (version_rows (state S.Store connection).now.trees)) }
-        ensures no_version { IfErr result (λ e. e.0 ≡ OpenFault.NotARoom → HasCleanDisk (state S.Store e.1) → connection.schema ≡ room_schema → ¬ IsVersion1 (version_rows (state S.Store connection).now.trees)) }
-        ensures failed { IfErr result (λ e. e.0 ≢ OpenFault.NotARoom → HasCleanDisk (state S.Store e.1) → (error : Error) × FailsToQuery find_version_text [] (state S.Store connection) (state S.Store e.1) error
-            × (((e.0 ≡ OpenFault.Memory) × (error ≡ Error.SqliteFailure ErrorCode.OutOfMemory)) ⊎ ((e.0 ≡ OpenFault.Store) × (error ≢ Error.SqliteFailure ErrorCode.OutOfMemory)))) }
-        ensures unchanged { IfErr result (λ e. HasCleanDisk (state S.Store e.1) → IsTrue (state S.Store e.1).is_open → (state S.Store e.1).now ≡ (state S.Store connection).now) }
+        ensures version { IfOk result (λ shelf. HasCleanDisk (state S.Store shelf.conn)
+            → connection.schema ≡ room_schema → IsVersion1 (version_rows (state S.Store connection).now.trees)) }
+        ensures no_version { IfErr result (λ e. e.0 ≡ OpenFault.NotARoom → HasCleanDisk (state S.Store e.1)
+            → connection.schema ≡ room_schema → ¬ IsVersion1 (version_rows (state S.Store connection).now.trees)) }
+        ensures failed { IfErr result (λ e. e.0 ≢ OpenFault.NotARoom → HasCleanDisk (state S.Store e.1)
+            → (error : Error) × FailsToQuery find_version_text [] (state S.Store connection) (state S.Store e.1) error
+            × (((e.0 ≡ OpenFault.Memory) × (error ≡ Error.SqliteFailure ErrorCode.OutOfMemory))
+            ⊎ ((e.0 ≡ OpenFault.Store) × (error ≢ Error.SqliteFailure ErrorCode.OutOfMemory)))) }
+        ensures unchanged { IfErr result (λ e. HasCleanDisk (state S.Store e.1)
+            → IsTrue (state S.Store e.1).is_open → (state S.Store e.1).now ≡ (state S.Store connection).now) }
         ensures started { IfOk result (λ shelf. shelf.failures ≡ 0) }
         ensures outside { IfErr result (λ e. e.1.in_transaction ≡ false) }
         ensures kept { IfOk result (λ shelf. Survives (state S.Store connection) (state S.Store shelf.conn) (λ _. ⊥)) }

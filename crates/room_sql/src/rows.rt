@@ -1,12 +1,17 @@
 //! Rows of the tables, read as values of a room. A row that is no value of its type is an error.
 
-ghost use Rattle.std.specs.Prelude.{◌≡◌, ◌==◌, ℕ, pos, List, [], ◌∷◌, map, slice_get, unwrap_or, option_map, IfOk, IfErr, IsTrue, string_bytes};
+ghost use Rattle.std.specs.Prelude.{◌≡◌, ◌==◌, ℕ, pos, List, [], ◌∷◌, Some, None, map, slice_get, unwrap_or};
+ghost use Rattle.std.specs.Prelude.{option_map, IfOk, IfErr, IsTrue, string_bytes};
 ghost use Rattle.std.specs.List.{AllByRecursion};
 ghost use Rattle.sqlite_value.specs.Order.{column};
 ghost use Rattle.sqlite_value.specs.declared.value.Value.TheVariants.{Int, Text};
-ghost use Rattle.room_tables.specs.Rows.{number_in, text_in, name_of_text, name_in, parent_in, bytes_in, kind_of, who_of, only, node_of, entry_of, doc_of, session_of, kept_of, HasEntryColumns};
+ghost use Rattle.room_acl.specs.Entries.{who_from};
+ghost use Rattle.room_tables.specs.Rows.{number_in, text_in, name_of_text, name_in, parent_in, bytes_in, kind_of};
+ghost use Rattle.room_tables.specs.Rows.{who_of, only, node_of, entry_of, doc_of, session_of, kept_of, HasEntryColumns};
 ghost use Rattle.room_tables.specs.Names.{counted_row};
-ghost use Rattle.room_sql.specs.Columns.{IsFault, HasNumber, HasText, HasBytes, HasParent, HasFlag, HasListFlags, HasSlots, HasPrincipal, IsNameText, HasName, IsNodeRow, IsSessionRow, IsKeptRow, IsOneNumber};
+ghost use Rattle.room_sql.specs.Columns.{IsFault, HasNumber, HasText, HasBytes, HasParent, HasFlag, HasListFlags};
+ghost use Rattle.room_sql.specs.Columns.{HasSlots, HasPrincipal, IsNameText, HasName, HasFlags, HasMask, IsNodeRow};
+ghost use Rattle.room_sql.specs.Columns.{IsLawfulEntryRow, IsSessionRow, IsKeptRow, IsOneNumber, IsOneCount};
 ghost use Rattle.room_records.specs.Names.{is_sid};
 
 use room_acl::{Entry, Flags, Kind, ListFlags, Mask, Principal, Who};
@@ -150,6 +155,7 @@ fn flag_at(row: &Row, at: usize) -> Result<bool, Error>
 fn allow_at(row: &Row, at: usize) -> Result<bool, Error>
     ensures value { IfOk result (λ allow. allow ≡ (number_in (column row.now at) == 0)) }
     ensures typed { IfOk result (λ _. column row.now at ≡ Int (pos (number_in (column row.now at)))) }
+    ensures refused { IfErr result (λ e. IsFault e → ¬ HasFlag at row.now) }
 {
     let number = number_at(row, at)?;
     if number == 0 {
@@ -162,7 +168,8 @@ fn allow_at(row: &Row, at: usize) -> Result<bool, Error>
 }
 
 fn flags_at(row: &Row, at: usize) -> Result<Flags, Error>
-    ensures { IfOk result (λ flags. column row.now at ≡ Int (pos flags)) }
+    ensures value { IfOk result (λ flags. column row.now at ≡ Int (pos flags)) }
+    ensures refused { IfErr result (λ e. IsFault e → ¬ HasFlags at row.now) }
 {
     let number = number_at(row, at)?;
     let Ok(bits) = u8::try_from(number) else {
@@ -175,7 +182,8 @@ fn flags_at(row: &Row, at: usize) -> Result<Flags, Error>
 }
 
 fn mask_at(row: &Row, at: usize) -> Result<Mask, Error>
-    ensures { IfOk result (λ mask. column row.now at ≡ Int (pos mask)) }
+    ensures value { IfOk result (λ mask. column row.now at ≡ Int (pos mask)) }
+    ensures refused { IfErr result (λ e. IsFault e → ¬ HasMask at row.now) }
 {
     let number = number_at(row, at)?;
     match Mask::new(number) {
@@ -185,7 +193,9 @@ fn mask_at(row: &Row, at: usize) -> Result<Mask, Error>
 }
 
 fn who_from(alloc: Global, flags: Flags, text: &str) -> Result<Who, Error>
-    ensures { IfOk result (λ who. who ≡ who_of flags text.now) }
+    ensures value { IfOk result (λ who. who ≡ who_of flags text.now) }
+    ensures found { IfOk result (λ who. who_from flags text.now ≡ Some who) }
+    ensures refused { IfErr result (λ e. IsFault e → who_from flags text.now ≡ None) }
 {
     match Who::read(alloc, flags, text) {
         Ok(Some(who)) => Ok(who),
@@ -198,6 +208,7 @@ fn who_from(alloc: Global, flags: Flags, text: &str) -> Result<Who, Error>
 fn entry_of(alloc: Global, row: &Row) -> Result<Entry, Error>
     ensures value { IfOk result (λ entry. entry ≡ entry_of row.now) }
     ensures typed { IfOk result (λ _. HasEntryColumns row.now) }
+    ensures refused { IfErr result (λ e. IsFault e → ¬ IsLawfulEntryRow row.now) }
 {
     let _place = number_at(row, 0)?;
     let allow = allow_at(row, 1)?;
@@ -214,6 +225,7 @@ fn entry_of(alloc: Global, row: &Row) -> Result<Entry, Error>
 pub(crate) fn all_entries(alloc: Global, rows: &[Row]) -> Result<Vec<Entry>, Error>
     ensures value { IfOk result (λ entries. entries.items ≡ map entry_of rows.now) }
     ensures typed { IfOk result (λ _. AllByRecursion HasEntryColumns rows.now) }
+    ensures refused { IfErr result (λ e. IsFault e → ¬ AllByRecursion IsLawfulEntryRow rows.now) }
 {
     let mut entries = Vec::new(alloc);
     for row in rows {
@@ -223,7 +235,8 @@ pub(crate) fn all_entries(alloc: Global, rows: &[Row]) -> Result<Vec<Entry>, Err
 }
 
 pub(crate) fn all_nodes(alloc: Global, rows: &[Row]) -> Result<Vec<Node>, Error>
-    ensures { IfOk result (λ nodes. nodes.items ≡ map node_of rows.now) }
+    ensures value { IfOk result (λ nodes. nodes.items ≡ map node_of rows.now) }
+    ensures refused { IfErr result (λ e. IsFault e → ¬ AllByRecursion IsNodeRow rows.now) }
 {
     let mut nodes = Vec::new(alloc);
     for row in rows {
@@ -256,7 +269,8 @@ pub(crate) fn first_node(alloc: Global, rows: &[Row]) -> Result<Option<Node>, Er
 
 /// How many rows the one row says there are. A count of 2^63 - 1 or more is not told exactly.
 pub(crate) fn one_count(rows: &[Row]) -> Result<u64, Error>
-    ensures { IfOk result (λ count. (n : ℕ) → rows.now ≡ counted_row n ∷ [] → count ≡ n) }
+    ensures value { IfOk result (λ count. (n : ℕ) → rows.now ≡ counted_row n ∷ [] → count ≡ n) }
+    ensures refused { IfErr result (λ e. IsFault e → ¬ IsOneCount rows.now) }
 {
     match rows {
         [row] => {
@@ -371,7 +385,8 @@ pub(crate) fn one_kept(rows: &[Row]) -> Result<Option<Kept>, Error>
 
 /// The number of the one row.
 pub(crate) fn one_number(rows: &[Row]) -> Result<u32, Error>
-    ensures value { IfOk result (λ number. number ≡ unwrap_or (option_map (λ row. number_in (column row 0)) (only rows.now)) 0) }
+    ensures value { IfOk result
+        (λ number. number ≡ unwrap_or (option_map (λ row. number_in (column row 0)) (only rows.now)) 0) }
     ensures refused { IfErr result (λ e. IsFault e → ¬ IsOneNumber rows.now) }
 {
     match rows {

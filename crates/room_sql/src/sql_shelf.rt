@@ -53,8 +53,10 @@ impl<S: Alter> SqlShelf<S> {
 /// What an error is to the shelf: a want of memory is told, and any other error is counted as a failure of the store.
 /// The count stays at 2^64 - 1.
 fn fault(failures: &mut u64, error: Error) -> ShelfFault
-    ensures exact { ((error ≡ Error.SqliteFailure ErrorCode.OutOfMemory) × (result ≡ ShelfFault.Memory) × (failures.new ≡ failures.old))
-        ⊎ ((error ≢ Error.SqliteFailure ErrorCode.OutOfMemory) × (result ≡ ShelfFault.Store) × (failures.new ≡ min (failures.old + 1) (2 ^ 64 - 1))) }
+    ensures exact { ((error ≡ Error.SqliteFailure ErrorCode.OutOfMemory)
+        × (result ≡ ShelfFault.Memory) × (failures.new ≡ failures.old))
+        ⊎ ((error ≢ Error.SqliteFailure ErrorCode.OutOfMemory) × (result ≡ ShelfFault.Store)
+        × (failures.new ≡ min (failures.old + 1) (2 ^ 64 - 1))) }
     ensures counted { result ≡ ShelfFault.Store → FailureCounted failures.old failures.new }
     ensures never_falls { failures.old ≤ failures.new }
     ensures quiet { result ≢ ShelfFault.Store → failures.new ≡ failures.old }
@@ -69,26 +71,33 @@ fn fault(failures: &mut u64, error: Error) -> ShelfFault
 }
 
 impl<S: Alter> Shelf for SqlShelf<S> {
-    ghost use Rattle.std.specs.Prelude.{◌≡◌, IsTrue};
-    ghost use Rattle.sqlite_trees.specs.Tree.{Trees};
-    ghost use Rattle.sqlite.specs.State.{HasCleanDisk};
-    ghost use Rattle.sqlite.specs.Held.{state};
-    ghost use Rattle.room_tables.specs.Layout.{IsRoomOfVersion1};
-    ghost use Rattle.room_tables.specs.Rows.{records_of};
+    ghost use Rattle.std.specs.Prelude.{◌≡◌, ◌⊎◌, [], ◌∷◌, pos, unwrap_or, OnOk};
+    ghost use Rattle.std.specs.List.{AllByRecursion};
+    ghost use Rattle.sqlite_value.specs.declared.value.Value.TheVariants.{Int, Text};
+    ghost use Rattle.room_records.specs.Records.{Records};
+    ghost use Rattle.room_records.specs.Rules.{ObjectRules};
+    ghost use Rattle.room_records.specs.Changes.{apply_changes, RulesHoldAfterEach};
+    ghost use Rattle.room_records.specs.Shelf.{ShelfCall, ShelfRead, Tells, fault_in, AreChildren};
+    ghost use Rattle.room_records.specs.Shelf.{IsChildCount, IsChildNamed};
+    ghost use Rattle.room_tables.specs.Texts.{find_node_text, find_child_text, list_children_text, count_children_text};
+    ghost use Rattle.room_tables.specs.Texts.{list_entries_text, find_doc_text, find_session_text, find_slot_text};
+    ghost use Rattle.room_tables.specs.Texts.{find_next_text};
+    ghost use Rattle.room_sql.specs.Columns.{HasBytes, IsNodeRow, IsLawfulEntryRow, IsSessionRow, IsKeptRow};
+    ghost use Rattle.room_sql.specs.Columns.{IsOneNumber, IsOneCount};
+    ghost use Rattle.room_sql.specs.SqlView.{sql_view, ReadCause, CommitCause};
 
-    ghost view = { λ s. record {
-      records = records_of (state S.Store s.conn).now.trees;
-      failures = s.failures;
-      is_intact = HasCleanDisk (state S.Store s.conn);
-      is_available = HasCleanDisk (state S.Store s.conn) × IsTrue (state S.Store s.conn).is_open;
-      is_laid_out = IsRoomOfVersion1 (state S.Store s.conn).now;
-      crash_may_leave = λ left. HasCleanDisk (state S.Store s.conn)
-          × ((trees : Trees) × (state S.Store s.conn).may_leave trees × (left ≡ records_of trees));
-    } };
+    ghost view = { sql_view S.Store };
 
     ghost available_is_intact = { λ s h. h.0 };
 
-    fn node(&mut self, id: u32) -> Result<Option<Node>, ShelfFault> {
+    fn node(&mut self, id: u32) -> Result<Option<Node>, ShelfFault>
+        ensures value { Tells (sql_view S.Store self.old) (sql_view S.Store self.new)
+            result (λ records found. found ≡ records.objects.node id) }
+        ensures there { (sql_view S.Store self.new).is_intact → OnOk result (sql_view S.Store self.new).is_available }
+        ensures frame { ShelfRead (sql_view S.Store self.old) (sql_view S.Store self.new) (fault_in result) }
+        ensures cause { ReadCause S.Store self.old self.new result
+            find_node_text (Int (pos id) ∷ []) (AllByRecursion IsNodeRow) }
+    {
         let _outside = self.conn.is_autocommit();
         let rows = match reads::node_rows(&mut self.conn, id) {
             Ok(rows) => rows,
@@ -100,7 +109,14 @@ impl<S: Alter> Shelf for SqlShelf<S> {
         }
     }
 
-    fn child(&mut self, parent: u32, name: &FileName) -> Result<Option<Node>, ShelfFault> {
+    fn child(&mut self, parent: u32, name: &FileName) -> Result<Option<Node>, ShelfFault>
+        ensures value { Tells (sql_view S.Store self.old) (sql_view S.Store self.new)
+            result (λ records. IsChildNamed records.objects parent name.now) }
+        ensures there { (sql_view S.Store self.new).is_intact → OnOk result (sql_view S.Store self.new).is_available }
+        ensures frame { ShelfRead (sql_view S.Store self.old) (sql_view S.Store self.new) (fault_in result) }
+        ensures cause { ReadCause S.Store self.old self.new result find_child_text
+            (Int (pos parent) ∷ Text name.now ∷ []) (AllByRecursion IsNodeRow) }
+    {
         let _outside = self.conn.is_autocommit();
         let rows = match reads::named_rows(&mut self.conn, parent, name.text()) {
             Ok(rows) => rows,
@@ -112,7 +128,14 @@ impl<S: Alter> Shelf for SqlShelf<S> {
         }
     }
 
-    fn children(&mut self, parent: u32) -> Result<Vec<Node>, ShelfFault> {
+    fn children(&mut self, parent: u32) -> Result<Vec<Node>, ShelfFault>
+        ensures value { Tells (sql_view S.Store self.old) (sql_view S.Store self.new) result (λ records found.
+            ObjectRules records.objects → AreChildren records.objects parent found.items) }
+        ensures there { (sql_view S.Store self.new).is_intact → OnOk result (sql_view S.Store self.new).is_available }
+        ensures frame { ShelfRead (sql_view S.Store self.old) (sql_view S.Store self.new) (fault_in result) }
+        ensures cause { ReadCause S.Store self.old self.new result
+            list_children_text (Int (pos parent) ∷ []) (AllByRecursion IsNodeRow) }
+    {
         let _outside = self.conn.is_autocommit();
         let rows = match reads::child_rows(&mut self.conn, parent) {
             Ok(rows) => rows,
@@ -124,7 +147,14 @@ impl<S: Alter> Shelf for SqlShelf<S> {
         }
     }
 
-    fn child_count(&mut self, parent: u32) -> Result<u64, ShelfFault> {
+    fn child_count(&mut self, parent: u32) -> Result<u64, ShelfFault>
+        ensures value { Tells (sql_view S.Store self.old) (sql_view S.Store self.new) result (λ records count.
+            ObjectRules records.objects → IsChildCount records.objects parent count) }
+        ensures there { (sql_view S.Store self.new).is_intact → OnOk result (sql_view S.Store self.new).is_available }
+        ensures frame { ShelfRead (sql_view S.Store self.old) (sql_view S.Store self.new) (fault_in result) }
+        ensures cause { ReadCause S.Store self.old self.new result
+            count_children_text (Int (pos parent) ∷ []) IsOneCount }
+    {
         let _outside = self.conn.is_autocommit();
         let rows = match reads::count_rows(&mut self.conn, parent) {
             Ok(rows) => rows,
@@ -136,7 +166,14 @@ impl<S: Alter> Shelf for SqlShelf<S> {
         }
     }
 
-    fn entries(&mut self, id: u32) -> Result<Vec<Entry>, ShelfFault> {
+    fn entries(&mut self, id: u32) -> Result<Vec<Entry>, ShelfFault>
+        ensures value { Tells (sql_view S.Store self.old) (sql_view S.Store self.new)
+            result (λ records found. found.items ≡ records.objects.entries id) }
+        ensures there { (sql_view S.Store self.new).is_intact → OnOk result (sql_view S.Store self.new).is_available }
+        ensures frame { ShelfRead (sql_view S.Store self.old) (sql_view S.Store self.new) (fault_in result) }
+        ensures cause { ReadCause S.Store self.old self.new result list_entries_text
+            (Int (pos id) ∷ []) (AllByRecursion IsLawfulEntryRow) }
+    {
         let _outside = self.conn.is_autocommit();
         let rows = match reads::entry_rows(&mut self.conn, id) {
             Ok(rows) => rows,
@@ -148,7 +185,14 @@ impl<S: Alter> Shelf for SqlShelf<S> {
         }
     }
 
-    fn doc(&mut self, id: u32) -> Result<Vec<u8>, ShelfFault> {
+    fn doc(&mut self, id: u32) -> Result<Vec<u8>, ShelfFault>
+        ensures value { Tells (sql_view S.Store self.old) (sql_view S.Store self.new) result (λ records found.
+            found.items ≡ unwrap_or (records.objects.document id) []) }
+        ensures there { (sql_view S.Store self.new).is_intact → OnOk result (sql_view S.Store self.new).is_available }
+        ensures frame { ShelfRead (sql_view S.Store self.old) (sql_view S.Store self.new) (fault_in result) }
+        ensures cause { ReadCause S.Store self.old self.new result
+            find_doc_text (Int (pos id) ∷ []) (AllByRecursion (HasBytes 0)) }
+    {
         let _outside = self.conn.is_autocommit();
         let rows = match reads::doc_rows(&mut self.conn, id) {
             Ok(rows) => rows,
@@ -160,7 +204,14 @@ impl<S: Alter> Shelf for SqlShelf<S> {
         }
     }
 
-    fn session(&mut self, sid: &Sid) -> Result<Option<SessionRow>, ShelfFault> {
+    fn session(&mut self, sid: &Sid) -> Result<Option<SessionRow>, ShelfFault>
+        ensures value { Tells (sql_view S.Store self.old) (sql_view S.Store self.new)
+            result (λ records found. found ≡ records.session sid.now) }
+        ensures there { (sql_view S.Store self.new).is_intact → OnOk result (sql_view S.Store self.new).is_available }
+        ensures frame { ShelfRead (sql_view S.Store self.old) (sql_view S.Store self.new) (fault_in result) }
+        ensures cause { ReadCause S.Store self.old self.new result find_session_text
+            (Text sid.now ∷ []) (AllByRecursion (IsSessionRow sid.now)) }
+    {
         let _outside = self.conn.is_autocommit();
         let rows = match reads::session_rows(&mut self.conn, sid.text()) {
             Ok(rows) => rows,
@@ -172,7 +223,14 @@ impl<S: Alter> Shelf for SqlShelf<S> {
         }
     }
 
-    fn slot(&mut self, sid: &Sid, slot: u32) -> Result<Option<Kept>, ShelfFault> {
+    fn slot(&mut self, sid: &Sid, slot: u32) -> Result<Option<Kept>, ShelfFault>
+        ensures value { Tells (sql_view S.Store self.old) (sql_view S.Store self.new)
+            result (λ records found. found ≡ records.slot sid.now slot) }
+        ensures there { (sql_view S.Store self.new).is_intact → OnOk result (sql_view S.Store self.new).is_available }
+        ensures frame { ShelfRead (sql_view S.Store self.old) (sql_view S.Store self.new) (fault_in result) }
+        ensures cause { ReadCause S.Store self.old self.new result find_slot_text
+            (Text sid.now ∷ Int (pos slot) ∷ []) (AllByRecursion IsKeptRow) }
+    {
         let _outside = self.conn.is_autocommit();
         let rows = match reads::slot_rows(&mut self.conn, sid.text(), slot) {
             Ok(rows) => rows,
@@ -184,7 +242,13 @@ impl<S: Alter> Shelf for SqlShelf<S> {
         }
     }
 
-    fn next_id(&mut self) -> Result<u32, ShelfFault> {
+    fn next_id(&mut self) -> Result<u32, ShelfFault>
+        ensures value { Tells (sql_view S.Store self.old) (sql_view S.Store self.new)
+            result (λ records next. next ≡ records.objects.next) }
+        ensures there { (sql_view S.Store self.new).is_intact → OnOk result (sql_view S.Store self.new).is_available }
+        ensures frame { ShelfRead (sql_view S.Store self.old) (sql_view S.Store self.new) (fault_in result) }
+        ensures cause { ReadCause S.Store self.old self.new result find_next_text [] IsOneNumber }
+    {
         let _outside = self.conn.is_autocommit();
         let rows = match reads::next_rows(&mut self.conn) {
             Ok(rows) => rows,
@@ -196,7 +260,24 @@ impl<S: Alter> Shelf for SqlShelf<S> {
         }
     }
 
-    fn commit(&mut self, changes: &[Change]) -> Result<(), ShelfFault> {
+    fn commit(&mut self, changes: &[Change]) -> Result<(), ShelfFault>
+        ensures there { (sql_view S.Store self.new).is_intact → OnOk result (sql_view S.Store self.new).is_available }
+        ensures frame { ShelfCall (sql_view S.Store self.old) (sql_view S.Store self.new) (fault_in result) }
+        ensures ok { (sql_view S.Store self.new).is_intact → (sql_view S.Store self.old).is_laid_out
+            → RulesHoldAfterEach changes.now (sql_view S.Store self.old).records →
+            OnOk result ((sql_view S.Store self.new).records
+            ≡ apply_changes changes.now (sql_view S.Store self.old).records) }
+        ensures settled { (sql_view S.Store self.new).is_intact → (sql_view S.Store self.old).is_laid_out
+            → RulesHoldAfterEach changes.now (sql_view S.Store self.old).records →
+            OnOk result ((left : Records) → (sql_view S.Store self.new).crash_may_leave left
+            → left ≡ apply_changes changes.now (sql_view S.Store self.old).records) }
+        ensures crash { (sql_view S.Store self.old).is_laid_out
+            → RulesHoldAfterEach changes.now (sql_view S.Store self.old).records →
+            (left : Records) → (sql_view S.Store self.new).crash_may_leave left →
+            (sql_view S.Store self.old).crash_may_leave left
+            ⊎ (left ≡ apply_changes changes.now (sql_view S.Store self.old).records) }
+        ensures cause { CommitCause S.Store self.old self.new result changes.now }
+    {
         let _outside = self.conn.is_autocommit();
         match writes::commit(&mut self.conn, changes) {
             Ok(()) => Ok(()),

@@ -134,7 +134,8 @@ pub(crate) struct EntryRow<'a> {
 }
 
 pub(crate) fn entry_row(place: u32, entry: &Entry) -> EntryRow<'_>
-    ensures row { bound (result.place ∷ result.kind ∷ result.flags ∷ result.mask ∷ result.who ∷ []) ≡ shown_as place entry.now }
+    ensures row { bound (result.place ∷ result.kind ∷ result.flags ∷ result.mask ∷ result.who ∷ [])
+        ≡ shown_as place entry.now }
     ensures back { IsReadBack entry.now }
 {
     EntryRow {

@@ -1,14 +1,21 @@
 //! The changes, each inside a transaction.
 
-ghost use Rattle.std.specs.Prelude.{◌≡◌, ◌+◌, ◌^◌, ◌<◌, ◌≤◌, [], ◌∷◌, ◌++◌, length, OnOk, OnErr, true, false, IsTrue};
-ghost use Rattle.sqlite.specs.State.{HasCleanDisk, KeepsCommit, Survives};
+ghost use Rattle.std.specs.Prelude.{◌≡◌, ◌+◌, ◌^◌, ◌<◌, ◌≤◌, ℕ, [], ◌∷◌, ◌++◌, length, Ok, IfErr, OnOk};
+ghost use Rattle.std.specs.Prelude.{OnErr, true, false, IsTrue};
+ghost use Rattle.std.specs.List.{AllByRecursion};
+ghost use Rattle.sqlite.specs.State.{HasCleanDisk, ExecutesInside};
 ghost use Rattle.sqlite.specs.Held.{state};
+ghost use Rattle.sqlite.specs.Values.{bound};
 ghost use Rattle.sqlite_trees.specs.Tree.{Trees};
 ghost use Rattle.room_records.specs.Changes.{apply_change, apply_changes};
-ghost use Rattle.room_records.specs.declared.change.Change.TheVariants.{PutNode, DropNode, PutEntries, PutDoc, PutSession, PutSlot, DropSlots, PutNext};
-ghost use Rattle.room_tables.specs.Rows.{records_of, version_rows, IsVersion1};
+ghost use Rattle.room_records.specs.declared.change.Change.TheVariants.{PutNode, DropNode, PutEntries, PutDoc};
+ghost use Rattle.room_records.specs.declared.change.Change.TheVariants.{PutSession, PutSlot, DropSlots, PutNext};
+ghost use Rattle.room_tables.specs.Rows.{version_rows, IsVersion1};
 ghost use Rattle.room_tables.specs.Layout.{IsRoomDatabase};
 ghost use Rattle.room_tables.specs.Steps.{Steps, Lists, MayBecome, HasNoSlot, without_slot};
+ghost use Rattle.room_sql.specs.Causes.{statement, RunInTurn, writes_of, writes_of_all, entry_writes, entries_drop};
+ghost use Rattle.room_sql.specs.Causes.{slot_drop, slot_write, IsShort, CommitFails};
+ghost use Rattle.room_sql.specs.Frames.{InsideFrame, CommitFrame};
 
 use crate::values::{
     entry_row, flag_number, group_text, kept_number, kept_reply, kept_request, kind_number,
@@ -17,17 +24,35 @@ use crate::values::{
 use room_acl::Entry;
 use room_records::{Change, Node, SessionRow, Sid, SlotRow};
 use room_slots::Kept;
-use sqlite::types::ToSql;
+use sqlite::types::{ToSql, ValueRef};
 use sqlite::{Alter, Connection, Error, ErrorCode, Transaction, params};
+
+/// Runs one statement.
+fn run<S: Alter>(
+    tx: &mut Transaction<'_, S>,
+    text: &str,
+    args: &[ValueRef<'_>],
+) -> Result<(), Error>
+    ensures frame { InsideFrame S.Store tx.old tx.new result }
+    ensures done { HasCleanDisk (state S.Store tx.new.conn.now) → OnOk result ((count : ℕ) × ExecutesInside 0
+        text.now (bound args.now) (state S.Store tx.old.conn.now) (state S.Store tx.new.conn.now) (Ok count)) }
+    ensures ran { HasCleanDisk (state S.Store tx.new.conn.now) → tx.old.conn.now.in_transaction ≡ true →
+        RunInTurn S.Store (statement text.now (bound args.now) ∷ []) tx.old.conn.now tx.new.conn.now result }
+{
+    match tx.execute(text, args) {
+        Ok(_) => Ok(()),
+        Err(error) => Err(error),
+    }
+}
 
 /// Adds or replaces the row of the node's number. Entries and document stay.
 pub(crate) fn put_node<S: Alter>(tx: &mut Transaction<'_, S>, node: &Node) -> Result<(), Error>
-    ensures same_reference { tx.new.conn.ghost_name ≡ tx.old.conn.ghost_name }
-    ensures ok { HasCleanDisk (state S.Store tx.new.conn.now) → OnOk result (IsRoomDatabase (state S.Store tx.old.conn.now).now →
+    ensures frame { InsideFrame S.Store tx.old tx.new result }
+    ensures ok { HasCleanDisk (state S.Store tx.new.conn.now)
+        → OnOk result (IsRoomDatabase (state S.Store tx.old.conn.now).now →
         Steps (state S.Store tx.old.conn.now) (state S.Store tx.new.conn.now) (apply_change (PutNode node.now))) }
-    ensures inside { HasCleanDisk (state S.Store tx.new.conn.now) → OnOk result (tx.new.conn.now.in_transaction ≡ true) }
-    ensures kept { HasCleanDisk (state S.Store tx.new.conn.now) → KeepsCommit (state S.Store tx.old.conn.now) (state S.Store tx.new.conn.now) }
-    ensures crash { Survives (state S.Store tx.old.conn.now) (state S.Store tx.new.conn.now) (λ _. ⊥) }
+    ensures ran { HasCleanDisk (state S.Store tx.new.conn.now) → tx.old.conn.now.in_transaction ≡ true
+        → RunInTurn S.Store (writes_of (PutNode node.now)) tx.old.conn.now tx.new.conn.now result }
 {
     let name = name_text(node);
     let id = node_number(node);
@@ -36,37 +61,37 @@ pub(crate) fn put_node<S: Alter>(tx: &mut Transaction<'_, S>, node: &Node) -> Re
     let owner = owner_text(node);
     let group = group_text(node);
     let aclflag = list_flags(node);
-    tx.execute(
-        "INSERT INTO node (id, parent, name, kind, owner, grp, aclflag) VALUES (?1, ?2, ?3, ?4, ?5, ?6, ?7) ON CONFLICT (id) DO UPDATE SET parent = excluded.parent, name = excluded.name, kind = excluded.kind, owner = excluded.owner, grp = excluded.grp, aclflag = excluded.aclflag",
+    run(
+        tx,
+        "INSERT INTO node (id, parent, name, kind, owner, grp, aclflag) VALUES (?1, ?2, ?3, ?4, ?5, ?6, \
+         ?7) ON CONFLICT (id) DO UPDATE SET parent = excluded.parent, name = excluded.name, \
+         kind = excluded.kind, owner = excluded.owner, grp = excluded.grp, aclflag = excluded.aclflag",
         params![id, &parent, name, kind, owner, group, aclflag],
-    )?;
-    Ok(())
+    )
 }
 
 /// Takes the node away, and its entries and document by ON DELETE CASCADE.
 fn drop_node<S: Alter>(tx: &mut Transaction<'_, S>, id: u32) -> Result<(), Error>
-    ensures same_reference { tx.new.conn.ghost_name ≡ tx.old.conn.ghost_name }
-    ensures ok { HasCleanDisk (state S.Store tx.new.conn.now) → OnOk result (IsRoomDatabase (state S.Store tx.old.conn.now).now →
+    ensures frame { InsideFrame S.Store tx.old tx.new result }
+    ensures ok { HasCleanDisk (state S.Store tx.new.conn.now)
+        → OnOk result (IsRoomDatabase (state S.Store tx.old.conn.now).now →
         Steps (state S.Store tx.old.conn.now) (state S.Store tx.new.conn.now) (apply_change (DropNode id))) }
-    ensures inside { HasCleanDisk (state S.Store tx.new.conn.now) → OnOk result (tx.new.conn.now.in_transaction ≡ true) }
-    ensures kept { HasCleanDisk (state S.Store tx.new.conn.now) → KeepsCommit (state S.Store tx.old.conn.now) (state S.Store tx.new.conn.now) }
-    ensures crash { Survives (state S.Store tx.old.conn.now) (state S.Store tx.new.conn.now) (λ _. ⊥) }
+    ensures ran { HasCleanDisk (state S.Store tx.new.conn.now) → tx.old.conn.now.in_transaction ≡ true
+        → RunInTurn S.Store (writes_of (DropNode id)) tx.old.conn.now tx.new.conn.now result }
 {
-    tx.execute("DELETE FROM node WHERE id = ?1", params![id])?;
-    Ok(())
+    run(tx, "DELETE FROM node WHERE id = ?1", params![id])
 }
 
 /// Takes the object's entries away.
 fn clear_entries<S: Alter>(tx: &mut Transaction<'_, S>, id: u32) -> Result<(), Error>
-    ensures same_reference { tx.new.conn.ghost_name ≡ tx.old.conn.ghost_name }
-    ensures ok { HasCleanDisk (state S.Store tx.new.conn.now) → OnOk result (IsRoomDatabase (state S.Store tx.old.conn.now).now →
+    ensures frame { InsideFrame S.Store tx.old tx.new result }
+    ensures ok { HasCleanDisk (state S.Store tx.new.conn.now)
+        → OnOk result (IsRoomDatabase (state S.Store tx.old.conn.now).now →
         Lists (state S.Store tx.old.conn.now).now.trees id [] (state S.Store tx.new.conn.now).now) }
-    ensures inside { HasCleanDisk (state S.Store tx.new.conn.now) → OnOk result (tx.new.conn.now.in_transaction ≡ true) }
-    ensures kept { HasCleanDisk (state S.Store tx.new.conn.now) → KeepsCommit (state S.Store tx.old.conn.now) (state S.Store tx.new.conn.now) }
-    ensures crash { Survives (state S.Store tx.old.conn.now) (state S.Store tx.new.conn.now) (λ _. ⊥) }
+    ensures ran { HasCleanDisk (state S.Store tx.new.conn.now) → tx.old.conn.now.in_transaction ≡ true
+        → RunInTurn S.Store (entries_drop id ∷ []) tx.old.conn.now tx.new.conn.now result }
 {
-    tx.execute("DELETE FROM entry WHERE node = ?1", params![id])?;
-    Ok(())
+    run(tx, "DELETE FROM entry WHERE node = ?1", params![id])
 }
 
 /// Puts one more entry behind the object's.
@@ -76,19 +101,20 @@ fn add_one<S: Alter>(
     place: u32,
     a: &Entry,
 ) -> Result<(), Error>
-    ensures same_reference { tx.new.conn.ghost_name ≡ tx.old.conn.ghost_name }
-    ensures ok { HasCleanDisk (state S.Store tx.new.conn.now) → OnOk result ((was : Trees) (before : _) → length before ≡ place →
-        Lists was id before (state S.Store tx.old.conn.now).now → Lists was id (before ++ a.now ∷ []) (state S.Store tx.new.conn.now).now) }
-    ensures inside { HasCleanDisk (state S.Store tx.new.conn.now) → OnOk result (tx.new.conn.now.in_transaction ≡ true) }
-    ensures kept { HasCleanDisk (state S.Store tx.new.conn.now) → KeepsCommit (state S.Store tx.old.conn.now) (state S.Store tx.new.conn.now) }
-    ensures crash { Survives (state S.Store tx.old.conn.now) (state S.Store tx.new.conn.now) (λ _. ⊥) }
+    ensures frame { InsideFrame S.Store tx.old tx.new result }
+    ensures ok { HasCleanDisk (state S.Store tx.new.conn.now)
+        → OnOk result ((was : Trees) (before : _) → length before ≡ place →
+        Lists was id before (state S.Store tx.old.conn.now).now
+        → Lists was id (before ++ a.now ∷ []) (state S.Store tx.new.conn.now).now) }
+    ensures ran { HasCleanDisk (state S.Store tx.new.conn.now) → tx.old.conn.now.in_transaction ≡ true
+        → RunInTurn S.Store (entry_writes id place (a.now ∷ [])) tx.old.conn.now tx.new.conn.now result }
 {
     let a = entry_row(place, a);
-    tx.execute(
+    run(
+        tx,
         "INSERT INTO entry (node, place, type, flag, mask, who) VALUES (?1, ?2, ?3, ?4, ?5, ?6)",
         &[id.to_sql(), a.place, a.kind, a.flags, a.mask, a.who],
-    )?;
-    Ok(())
+    )
 }
 
 /// Puts two more entries behind the object's, in their order.
@@ -100,17 +126,20 @@ fn add_two<S: Alter>(
     b: &Entry,
 ) -> Result<(), Error>
     requires { place + 1 < 2 ^ 32 }
-    ensures same_reference { tx.new.conn.ghost_name ≡ tx.old.conn.ghost_name }
-    ensures ok { HasCleanDisk (state S.Store tx.new.conn.now) → OnOk result ((was : Trees) (before : _) → length before ≡ place →
-        Lists was id before (state S.Store tx.old.conn.now).now → Lists was id (before ++ a.now ∷ b.now ∷ []) (state S.Store tx.new.conn.now).now) }
-    ensures inside { HasCleanDisk (state S.Store tx.new.conn.now) → OnOk result (tx.new.conn.now.in_transaction ≡ true) }
-    ensures kept { HasCleanDisk (state S.Store tx.new.conn.now) → KeepsCommit (state S.Store tx.old.conn.now) (state S.Store tx.new.conn.now) }
-    ensures crash { Survives (state S.Store tx.old.conn.now) (state S.Store tx.new.conn.now) (λ _. ⊥) }
+    ensures frame { InsideFrame S.Store tx.old tx.new result }
+    ensures ok { HasCleanDisk (state S.Store tx.new.conn.now)
+        → OnOk result ((was : Trees) (before : _) → length before ≡ place →
+        Lists was id before (state S.Store tx.old.conn.now).now
+        → Lists was id (before ++ a.now ∷ b.now ∷ []) (state S.Store tx.new.conn.now).now) }
+    ensures ran { HasCleanDisk (state S.Store tx.new.conn.now) → tx.old.conn.now.in_transaction ≡ true
+        → RunInTurn S.Store (entry_writes id place (a.now ∷ b.now ∷ [])) tx.old.conn.now tx.new.conn.now result }
 {
     let a = entry_row(place, a);
     let b = entry_row(place + 1, b);
-    tx.execute(
-        "INSERT INTO entry (node, place, type, flag, mask, who) VALUES (?1, ?2, ?3, ?4, ?5, ?6), (?1, ?7, ?8, ?9, ?10, ?11)",
+    run(
+        tx,
+        "INSERT INTO entry (node, place, type, flag, mask, who) VALUES (?1, ?2, ?3, ?4, ?5, ?6), (?1, ?7, ?8, \
+         ?9, ?10, ?11)",
         &[
             id.to_sql(),
             a.place,
@@ -124,8 +153,7 @@ fn add_two<S: Alter>(
             b.mask,
             b.who,
         ],
-    )?;
-    Ok(())
+    )
 }
 
 /// Puts three more entries behind the object's, in their order.
@@ -138,18 +166,21 @@ fn add_three<S: Alter>(
     c: &Entry,
 ) -> Result<(), Error>
     requires { place + 2 < 2 ^ 32 }
-    ensures same_reference { tx.new.conn.ghost_name ≡ tx.old.conn.ghost_name }
-    ensures ok { HasCleanDisk (state S.Store tx.new.conn.now) → OnOk result ((was : Trees) (before : _) → length before ≡ place →
-        Lists was id before (state S.Store tx.old.conn.now).now → Lists was id (before ++ a.now ∷ b.now ∷ c.now ∷ []) (state S.Store tx.new.conn.now).now) }
-    ensures inside { HasCleanDisk (state S.Store tx.new.conn.now) → OnOk result (tx.new.conn.now.in_transaction ≡ true) }
-    ensures kept { HasCleanDisk (state S.Store tx.new.conn.now) → KeepsCommit (state S.Store tx.old.conn.now) (state S.Store tx.new.conn.now) }
-    ensures crash { Survives (state S.Store tx.old.conn.now) (state S.Store tx.new.conn.now) (λ _. ⊥) }
+    ensures frame { InsideFrame S.Store tx.old tx.new result }
+    ensures ok { HasCleanDisk (state S.Store tx.new.conn.now)
+        → OnOk result ((was : Trees) (before : _) → length before ≡ place →
+        Lists was id before (state S.Store tx.old.conn.now).now
+        → Lists was id (before ++ a.now ∷ b.now ∷ c.now ∷ []) (state S.Store tx.new.conn.now).now) }
+    ensures ran { HasCleanDisk (state S.Store tx.new.conn.now) → tx.old.conn.now.in_transaction ≡ true →
+        RunInTurn S.Store (entry_writes id place (a.now ∷ b.now ∷ c.now ∷ [])) tx.old.conn.now tx.new.conn.now result }
 {
     let a = entry_row(place, a);
     let b = entry_row(place + 1, b);
     let c = entry_row(place + 2, c);
-    tx.execute(
-        "INSERT INTO entry (node, place, type, flag, mask, who) VALUES (?1, ?2, ?3, ?4, ?5, ?6), (?1, ?7, ?8, ?9, ?10, ?11), (?1, ?12, ?13, ?14, ?15, ?16)",
+    run(
+        tx,
+        "INSERT INTO entry (node, place, type, flag, mask, who) VALUES (?1, ?2, ?3, ?4, ?5, ?6), (?1, ?7, ?8, \
+         ?9, ?10, ?11), (?1, ?12, ?13, ?14, ?15, ?16)",
         &[
             id.to_sql(),
             a.place,
@@ -168,8 +199,7 @@ fn add_three<S: Alter>(
             c.mask,
             c.who,
         ],
-    )?;
-    Ok(())
+    )
 }
 
 /// Puts four more entries behind the object's, in their order.
@@ -183,19 +213,22 @@ fn add_four<S: Alter>(
     d: &Entry,
 ) -> Result<(), Error>
     requires { place + 3 < 2 ^ 32 }
-    ensures same_reference { tx.new.conn.ghost_name ≡ tx.old.conn.ghost_name }
-    ensures ok { HasCleanDisk (state S.Store tx.new.conn.now) → OnOk result ((was : Trees) (before : _) → length before ≡ place →
-        Lists was id before (state S.Store tx.old.conn.now).now → Lists was id (before ++ a.now ∷ b.now ∷ c.now ∷ d.now ∷ []) (state S.Store tx.new.conn.now).now) }
-    ensures inside { HasCleanDisk (state S.Store tx.new.conn.now) → OnOk result (tx.new.conn.now.in_transaction ≡ true) }
-    ensures kept { HasCleanDisk (state S.Store tx.new.conn.now) → KeepsCommit (state S.Store tx.old.conn.now) (state S.Store tx.new.conn.now) }
-    ensures crash { Survives (state S.Store tx.old.conn.now) (state S.Store tx.new.conn.now) (λ _. ⊥) }
+    ensures frame { InsideFrame S.Store tx.old tx.new result }
+    ensures ok { HasCleanDisk (state S.Store tx.new.conn.now)
+        → OnOk result ((was : Trees) (before : _) → length before ≡ place →
+        Lists was id before (state S.Store tx.old.conn.now).now
+        → Lists was id (before ++ a.now ∷ b.now ∷ c.now ∷ d.now ∷ []) (state S.Store tx.new.conn.now).now) }
+    ensures ran { HasCleanDisk (state S.Store tx.new.conn.now) → tx.old.conn.now.in_transaction ≡ true → RunInTurn
+        S.Store (entry_writes id place (a.now ∷ b.now ∷ c.now ∷ d.now ∷ [])) tx.old.conn.now tx.new.conn.now result }
 {
     let a = entry_row(place, a);
     let b = entry_row(place + 1, b);
     let c = entry_row(place + 2, c);
     let d = entry_row(place + 3, d);
-    tx.execute(
-        "INSERT INTO entry (node, place, type, flag, mask, who) VALUES (?1, ?2, ?3, ?4, ?5, ?6), (?1, ?7, ?8, ?9, ?10, ?11), (?1, ?12, ?13, ?14, ?15, ?16), (?1, ?17, ?18, ?19, ?20, ?21)",
+    run(
+        tx,
+        "INSERT INTO entry (node, place, type, flag, mask, who) VALUES (?1, ?2, ?3, ?4, ?5, ?6), (?1, ?7, ?8, \
+         ?9, ?10, ?11), (?1, ?12, ?13, ?14, ?15, ?16), (?1, ?17, ?18, ?19, ?20, ?21)",
         &[
             id.to_sql(),
             a.place,
@@ -219,8 +252,7 @@ fn add_four<S: Alter>(
             d.mask,
             d.who,
         ],
-    )?;
-    Ok(())
+    )
 }
 
 /// The most entries that one statement puts. Each number of them up to this has a text of its own,
@@ -234,14 +266,16 @@ fn add_batch<S: Alter>(
     place: u32,
     batch: &[Entry],
 ) -> Result<(), Error>
+    requires inside { HasCleanDisk (state S.Store tx.old.conn.now) → tx.old.conn.now.in_transaction ≡ true }
     requires few { length batch.now ≤ 4 }
     requires small { place + length batch.now < 2 ^ 32 }
-    ensures same_reference { tx.new.conn.ghost_name ≡ tx.old.conn.ghost_name }
-    ensures ok { HasCleanDisk (state S.Store tx.new.conn.now) → OnOk result ((was : Trees) (before : _) → length before ≡ place →
-        Lists was id before (state S.Store tx.old.conn.now).now → Lists was id (before ++ batch.now) (state S.Store tx.new.conn.now).now) }
-    ensures inside { HasCleanDisk (state S.Store tx.new.conn.now) → OnOk result (tx.old.conn.now.in_transaction ≡ true → tx.new.conn.now.in_transaction ≡ true) }
-    ensures kept { HasCleanDisk (state S.Store tx.new.conn.now) → KeepsCommit (state S.Store tx.old.conn.now) (state S.Store tx.new.conn.now) }
-    ensures crash { Survives (state S.Store tx.old.conn.now) (state S.Store tx.new.conn.now) (λ _. ⊥) }
+    ensures frame { InsideFrame S.Store tx.old tx.new result }
+    ensures ok { HasCleanDisk (state S.Store tx.new.conn.now)
+        → OnOk result ((was : Trees) (before : _) → length before ≡ place →
+        Lists was id before (state S.Store tx.old.conn.now).now
+        → Lists was id (before ++ batch.now) (state S.Store tx.new.conn.now).now) }
+    ensures ran { HasCleanDisk (state S.Store tx.new.conn.now) → tx.old.conn.now.in_transaction ≡ true
+        → RunInTurn S.Store (entry_writes id place batch.now) tx.old.conn.now tx.new.conn.now result }
 {
     match batch {
         [] => Ok(()),
@@ -259,12 +293,14 @@ fn add_entries<S: Alter>(
     id: u32,
     entries: &[Entry],
 ) -> Result<(), Error>
-    ensures same_reference { tx.new.conn.ghost_name ≡ tx.old.conn.ghost_name }
-    ensures ok { HasCleanDisk (state S.Store tx.new.conn.now) → OnOk result ((was : Trees) → Lists was id [] (state S.Store tx.old.conn.now).now →
+    requires { HasCleanDisk (state S.Store tx.old.conn.now) → tx.old.conn.now.in_transaction ≡ true }
+    ensures frame { InsideFrame S.Store tx.old tx.new result }
+    ensures ok { HasCleanDisk (state S.Store tx.new.conn.now)
+        → OnOk result ((was : Trees) → Lists was id [] (state S.Store tx.old.conn.now).now →
         Lists was id entries.now (state S.Store tx.new.conn.now).now) }
-    ensures inside { HasCleanDisk (state S.Store tx.new.conn.now) → OnOk result (tx.old.conn.now.in_transaction ≡ true → tx.new.conn.now.in_transaction ≡ true) }
-    ensures kept { HasCleanDisk (state S.Store tx.new.conn.now) → KeepsCommit (state S.Store tx.old.conn.now) (state S.Store tx.new.conn.now) }
-    ensures crash { Survives (state S.Store tx.old.conn.now) (state S.Store tx.new.conn.now) (λ _. ⊥) }
+    ensures ran { HasCleanDisk (state S.Store tx.new.conn.now)
+        → tx.old.conn.now.in_transaction ≡ true → length entries.now < 2 ^ 32
+        → RunInTurn S.Store (entry_writes id 0 entries.now) tx.old.conn.now tx.new.conn.now result }
 {
     if u32::try_from(entries.len()).is_err() {
         return Err(Error::SqliteFailure(ErrorCode::TooBig));
@@ -283,12 +319,14 @@ pub(crate) fn put_entries<S: Alter>(
     id: u32,
     entries: &Vec<Entry>,
 ) -> Result<(), Error>
-    ensures same_reference { tx.new.conn.ghost_name ≡ tx.old.conn.ghost_name }
-    ensures ok { HasCleanDisk (state S.Store tx.new.conn.now) → OnOk result (IsRoomDatabase (state S.Store tx.old.conn.now).now →
-        Steps (state S.Store tx.old.conn.now) (state S.Store tx.new.conn.now) (apply_change (PutEntries id entries.now))) }
-    ensures inside { HasCleanDisk (state S.Store tx.new.conn.now) → OnOk result (tx.new.conn.now.in_transaction ≡ true) }
-    ensures kept { HasCleanDisk (state S.Store tx.new.conn.now) → KeepsCommit (state S.Store tx.old.conn.now) (state S.Store tx.new.conn.now) }
-    ensures crash { Survives (state S.Store tx.old.conn.now) (state S.Store tx.new.conn.now) (λ _. ⊥) }
+    ensures frame { InsideFrame S.Store tx.old tx.new result }
+    ensures ok { HasCleanDisk (state S.Store tx.new.conn.now)
+        → OnOk result (IsRoomDatabase (state S.Store tx.old.conn.now).now →
+        Steps (state S.Store tx.old.conn.now) (state S.Store tx.new.conn.now)
+        (apply_change (PutEntries id entries.now))) }
+    ensures ran { HasCleanDisk (state S.Store tx.new.conn.now)
+        → tx.old.conn.now.in_transaction ≡ true → length entries.now.items < 2 ^ 32
+        → RunInTurn S.Store (writes_of (PutEntries id entries.now)) tx.old.conn.now tx.new.conn.now result }
 {
     clear_entries(tx, id)?;
     add_entries(tx, id, entries.as_slice())
@@ -296,55 +334,57 @@ pub(crate) fn put_entries<S: Alter>(
 
 /// Adds or replaces the document.
 fn put_doc<S: Alter>(tx: &mut Transaction<'_, S>, id: u32, bytes: &Vec<u8>) -> Result<(), Error>
-    ensures same_reference { tx.new.conn.ghost_name ≡ tx.old.conn.ghost_name }
-    ensures ok { HasCleanDisk (state S.Store tx.new.conn.now) → OnOk result (IsRoomDatabase (state S.Store tx.old.conn.now).now →
+    ensures frame { InsideFrame S.Store tx.old tx.new result }
+    ensures ok { HasCleanDisk (state S.Store tx.new.conn.now)
+        → OnOk result (IsRoomDatabase (state S.Store tx.old.conn.now).now →
         Steps (state S.Store tx.old.conn.now) (state S.Store tx.new.conn.now) (apply_change (PutDoc id bytes.now))) }
-    ensures inside { HasCleanDisk (state S.Store tx.new.conn.now) → OnOk result (tx.new.conn.now.in_transaction ≡ true) }
-    ensures kept { HasCleanDisk (state S.Store tx.new.conn.now) → KeepsCommit (state S.Store tx.old.conn.now) (state S.Store tx.new.conn.now) }
-    ensures crash { Survives (state S.Store tx.old.conn.now) (state S.Store tx.new.conn.now) (λ _. ⊥) }
+    ensures ran { HasCleanDisk (state S.Store tx.new.conn.now) → tx.old.conn.now.in_transaction ≡ true
+        → RunInTurn S.Store (writes_of (PutDoc id bytes.now)) tx.old.conn.now tx.new.conn.now result }
 {
-    tx.execute(
+    run(
+        tx,
         "INSERT INTO doc (node, bytes) VALUES (?1, ?2) ON CONFLICT (node) DO UPDATE SET bytes = excluded.bytes",
         params![id, bytes],
-    )?;
-    Ok(())
+    )
 }
 
 /// Adds or replaces the row of a session name. What its slots keep stays.
 fn put_session<S: Alter>(tx: &mut Transaction<'_, S>, row: &SessionRow) -> Result<(), Error>
-    ensures same_reference { tx.new.conn.ghost_name ≡ tx.old.conn.ghost_name }
-    ensures ok { HasCleanDisk (state S.Store tx.new.conn.now) → OnOk result (IsRoomDatabase (state S.Store tx.old.conn.now).now →
+    ensures frame { InsideFrame S.Store tx.old tx.new result }
+    ensures ok { HasCleanDisk (state S.Store tx.new.conn.now)
+        → OnOk result (IsRoomDatabase (state S.Store tx.old.conn.now).now →
         Steps (state S.Store tx.old.conn.now) (state S.Store tx.new.conn.now) (apply_change (PutSession row.now))) }
-    ensures inside { HasCleanDisk (state S.Store tx.new.conn.now) → OnOk result (tx.new.conn.now.in_transaction ≡ true) }
-    ensures kept { HasCleanDisk (state S.Store tx.new.conn.now) → KeepsCommit (state S.Store tx.old.conn.now) (state S.Store tx.new.conn.now) }
-    ensures crash { Survives (state S.Store tx.old.conn.now) (state S.Store tx.new.conn.now) (λ _. ⊥) }
+    ensures ran { HasCleanDisk (state S.Store tx.new.conn.now) → tx.old.conn.now.in_transaction ≡ true
+        → RunInTurn S.Store (writes_of (PutSession row.now)) tx.old.conn.now tx.new.conn.now result }
 {
     let sid = row.sid.text();
     let owner = row.owner.text();
     let slots = row.slots.get();
     let is_open = flag_number(row.is_open);
-    tx.execute(
-        "INSERT INTO session (sid, owner, slots, open) VALUES (?1, ?2, ?3, ?4) ON CONFLICT (sid) DO UPDATE SET owner = excluded.owner, slots = excluded.slots, open = excluded.open",
+    run(
+        tx,
+        "INSERT INTO session (sid, owner, slots, open) VALUES (?1, ?2, ?3, \
+         ?4) ON CONFLICT (sid) DO UPDATE SET owner = excluded.owner, slots = excluded.slots, open = excluded.open",
         params![sid, owner, slots, is_open],
-    )?;
-    Ok(())
+    )
 }
 
 /// Takes away what one slot keeps.
 fn drop_slot<S: Alter>(tx: &mut Transaction<'_, S>, sid: &Sid, slot: u32) -> Result<(), Error>
-    ensures same_reference { tx.new.conn.ghost_name ≡ tx.old.conn.ghost_name }
-    ensures ok { HasCleanDisk (state S.Store tx.new.conn.now) → OnOk result (IsRoomDatabase (state S.Store tx.old.conn.now).now →
-        Steps (state S.Store tx.old.conn.now) (state S.Store tx.new.conn.now) (without_slot sid.now slot) × HasNoSlot sid.now slot (state S.Store tx.new.conn.now).now.trees) }
-    ensures inside { HasCleanDisk (state S.Store tx.new.conn.now) → OnOk result (tx.new.conn.now.in_transaction ≡ true) }
-    ensures kept { HasCleanDisk (state S.Store tx.new.conn.now) → KeepsCommit (state S.Store tx.old.conn.now) (state S.Store tx.new.conn.now) }
-    ensures crash { Survives (state S.Store tx.old.conn.now) (state S.Store tx.new.conn.now) (λ _. ⊥) }
+    ensures frame { InsideFrame S.Store tx.old tx.new result }
+    ensures ok { HasCleanDisk (state S.Store tx.new.conn.now)
+        → OnOk result (IsRoomDatabase (state S.Store tx.old.conn.now).now →
+        Steps (state S.Store tx.old.conn.now) (state S.Store tx.new.conn.now) (without_slot sid.now slot)
+        × HasNoSlot sid.now slot (state S.Store tx.new.conn.now).now.trees) }
+    ensures ran { HasCleanDisk (state S.Store tx.new.conn.now) → tx.old.conn.now.in_transaction ≡ true
+        → RunInTurn S.Store (slot_drop sid.now slot ∷ []) tx.old.conn.now tx.new.conn.now result }
 {
     let sid = sid.text();
-    tx.execute(
+    run(
+        tx,
         "DELETE FROM slot WHERE sid = ?1 AND slot = ?2",
         params![sid, slot],
-    )?;
-    Ok(())
+    )
 }
 
 /// Puts what a slot keeps, which kept nothing.
@@ -354,32 +394,34 @@ fn add_slot<S: Alter>(
     slot: u32,
     kept: &Kept,
 ) -> Result<(), Error>
-    ensures same_reference { tx.new.conn.ghost_name ≡ tx.old.conn.ghost_name }
-    ensures ok { HasCleanDisk (state S.Store tx.new.conn.now) → OnOk result (IsRoomDatabase (state S.Store tx.old.conn.now).now → HasNoSlot sid.now slot (state S.Store tx.old.conn.now).now.trees →
-        Steps (state S.Store tx.old.conn.now) (state S.Store tx.new.conn.now) (apply_change (PutSlot (record { sid = sid.now; slot = slot; kept = kept.now })))) }
-    ensures inside { HasCleanDisk (state S.Store tx.new.conn.now) → OnOk result (tx.new.conn.now.in_transaction ≡ true) }
-    ensures kept { HasCleanDisk (state S.Store tx.new.conn.now) → KeepsCommit (state S.Store tx.old.conn.now) (state S.Store tx.new.conn.now) }
-    ensures crash { Survives (state S.Store tx.old.conn.now) (state S.Store tx.new.conn.now) (λ _. ⊥) }
+    ensures frame { InsideFrame S.Store tx.old tx.new result }
+    ensures ok { HasCleanDisk (state S.Store tx.new.conn.now) → OnOk result (IsRoomDatabase
+        (state S.Store tx.old.conn.now).now → HasNoSlot sid.now slot (state S.Store tx.old.conn.now).now.trees →
+        Steps (state S.Store tx.old.conn.now) (state S.Store tx.new.conn.now)
+        (apply_change (PutSlot (record { sid = sid.now; slot = slot; kept = kept.now })))) }
+    ensures ran { HasCleanDisk (state S.Store tx.new.conn.now) → tx.old.conn.now.in_transaction ≡ true
+        → RunInTurn S.Store (slot_write (record { sid = sid.now; slot = slot; kept = kept.now }) ∷ [])
+        tx.old.conn.now tx.new.conn.now result }
 {
     let sid = sid.text();
     let seq = kept_number(kept);
     let request = kept_request(kept);
     let reply = kept_reply(kept);
-    tx.execute(
+    run(
+        tx,
         "INSERT INTO slot (sid, slot, seq, request, reply) VALUES (?1, ?2, ?3, ?4, ?5)",
         params![sid, slot, seq, request, reply],
-    )?;
-    Ok(())
+    )
 }
 
 /// Adds or replaces what a slot keeps.
 fn put_slot<S: Alter>(tx: &mut Transaction<'_, S>, row: &SlotRow) -> Result<(), Error>
-    ensures same_reference { tx.new.conn.ghost_name ≡ tx.old.conn.ghost_name }
-    ensures ok { HasCleanDisk (state S.Store tx.new.conn.now) → OnOk result (IsRoomDatabase (state S.Store tx.old.conn.now).now →
+    ensures frame { InsideFrame S.Store tx.old tx.new result }
+    ensures ok { HasCleanDisk (state S.Store tx.new.conn.now)
+        → OnOk result (IsRoomDatabase (state S.Store tx.old.conn.now).now →
         Steps (state S.Store tx.old.conn.now) (state S.Store tx.new.conn.now) (apply_change (PutSlot row.now))) }
-    ensures inside { HasCleanDisk (state S.Store tx.new.conn.now) → OnOk result (tx.new.conn.now.in_transaction ≡ true) }
-    ensures kept { HasCleanDisk (state S.Store tx.new.conn.now) → KeepsCommit (state S.Store tx.old.conn.now) (state S.Store tx.new.conn.now) }
-    ensures crash { Survives (state S.Store tx.old.conn.now) (state S.Store tx.new.conn.now) (λ _. ⊥) }
+    ensures ran { HasCleanDisk (state S.Store tx.new.conn.now) → tx.old.conn.now.in_transaction ≡ true
+        → RunInTurn S.Store (writes_of (PutSlot row.now)) tx.old.conn.now tx.new.conn.now result }
 {
     drop_slot(tx, &row.sid, row.slot)?;
     add_slot(tx, &row.sid, row.slot, &row.kept)
@@ -387,41 +429,42 @@ fn put_slot<S: Alter>(tx: &mut Transaction<'_, S>, row: &SlotRow) -> Result<(), 
 
 /// Takes away what all slots of a session keep.
 fn drop_slots<S: Alter>(tx: &mut Transaction<'_, S>, sid: &Sid) -> Result<(), Error>
-    ensures same_reference { tx.new.conn.ghost_name ≡ tx.old.conn.ghost_name }
-    ensures ok { HasCleanDisk (state S.Store tx.new.conn.now) → OnOk result (IsRoomDatabase (state S.Store tx.old.conn.now).now →
+    ensures frame { InsideFrame S.Store tx.old tx.new result }
+    ensures ok { HasCleanDisk (state S.Store tx.new.conn.now)
+        → OnOk result (IsRoomDatabase (state S.Store tx.old.conn.now).now →
         Steps (state S.Store tx.old.conn.now) (state S.Store tx.new.conn.now) (apply_change (DropSlots sid.now))) }
-    ensures inside { HasCleanDisk (state S.Store tx.new.conn.now) → OnOk result (tx.new.conn.now.in_transaction ≡ true) }
-    ensures kept { HasCleanDisk (state S.Store tx.new.conn.now) → KeepsCommit (state S.Store tx.old.conn.now) (state S.Store tx.new.conn.now) }
-    ensures crash { Survives (state S.Store tx.old.conn.now) (state S.Store tx.new.conn.now) (λ _. ⊥) }
+    ensures ran { HasCleanDisk (state S.Store tx.new.conn.now) → tx.old.conn.now.in_transaction ≡ true
+        → RunInTurn S.Store (writes_of (DropSlots sid.now)) tx.old.conn.now tx.new.conn.now result }
 {
     let sid = sid.text();
-    tx.execute("DELETE FROM slot WHERE sid = ?1", params![sid])?;
-    Ok(())
+    run(tx, "DELETE FROM slot WHERE sid = ?1", params![sid])
 }
 
 /// Sets the next number, in a row of version 1.
 pub(crate) fn put_next<S: Alter>(tx: &mut Transaction<'_, S>, next: u32) -> Result<(), Error>
-    ensures same_reference { tx.new.conn.ghost_name ≡ tx.old.conn.ghost_name }
-    ensures ok { HasCleanDisk (state S.Store tx.new.conn.now) → OnOk result (IsRoomDatabase (state S.Store tx.old.conn.now).now →
-        Steps (state S.Store tx.old.conn.now) (state S.Store tx.new.conn.now) (apply_change (PutNext next)) × IsVersion1 (version_rows (state S.Store tx.new.conn.now).now.trees)) }
-    ensures inside { HasCleanDisk (state S.Store tx.new.conn.now) → OnOk result (tx.new.conn.now.in_transaction ≡ true) }
-    ensures kept { HasCleanDisk (state S.Store tx.new.conn.now) → KeepsCommit (state S.Store tx.old.conn.now) (state S.Store tx.new.conn.now) }
-    ensures crash { Survives (state S.Store tx.old.conn.now) (state S.Store tx.new.conn.now) (λ _. ⊥) }
+    ensures frame { InsideFrame S.Store tx.old tx.new result }
+    ensures ok { HasCleanDisk (state S.Store tx.new.conn.now)
+        → OnOk result (IsRoomDatabase (state S.Store tx.old.conn.now).now →
+        Steps (state S.Store tx.old.conn.now) (state S.Store tx.new.conn.now) (apply_change (PutNext next))
+        × IsVersion1 (version_rows (state S.Store tx.new.conn.now).now.trees)) }
+    ensures ran { HasCleanDisk (state S.Store tx.new.conn.now) → tx.old.conn.now.in_transaction ≡ true
+        → RunInTurn S.Store (writes_of (PutNext next)) tx.old.conn.now tx.new.conn.now result }
 {
-    tx.execute(
-        "INSERT INTO room (one, version, next) VALUES (1, 1, ?1) ON CONFLICT (one) DO UPDATE SET version = excluded.version, next = excluded.next",
+    run(
+        tx,
+        "INSERT INTO room (one, version, next) VALUES (1, 1, ?1) ON CONFLICT (one) DO UPDATE SET version = \
+         excluded.version, next = excluded.next",
         params![next],
-    )?;
-    Ok(())
+    )
 }
 
 fn apply<S: Alter>(tx: &mut Transaction<'_, S>, change: &Change) -> Result<(), Error>
-    ensures same_reference { tx.new.conn.ghost_name ≡ tx.old.conn.ghost_name }
-    ensures ok { HasCleanDisk (state S.Store tx.new.conn.now) → OnOk result (IsRoomDatabase (state S.Store tx.old.conn.now).now →
+    ensures frame { InsideFrame S.Store tx.old tx.new result }
+    ensures ok { HasCleanDisk (state S.Store tx.new.conn.now)
+        → OnOk result (IsRoomDatabase (state S.Store tx.old.conn.now).now →
         Steps (state S.Store tx.old.conn.now) (state S.Store tx.new.conn.now) (apply_change change.now)) }
-    ensures inside { HasCleanDisk (state S.Store tx.new.conn.now) → OnOk result (tx.new.conn.now.in_transaction ≡ true) }
-    ensures kept { HasCleanDisk (state S.Store tx.new.conn.now) → KeepsCommit (state S.Store tx.old.conn.now) (state S.Store tx.new.conn.now) }
-    ensures crash { Survives (state S.Store tx.old.conn.now) (state S.Store tx.new.conn.now) (λ _. ⊥) }
+    ensures ran { HasCleanDisk (state S.Store tx.new.conn.now) → tx.old.conn.now.in_transaction ≡ true
+        → IsShort change.now → RunInTurn S.Store (writes_of change.now) tx.old.conn.now tx.new.conn.now result }
 {
     match change {
         Change::PutNode(node) => put_node(tx, node),
@@ -437,12 +480,12 @@ fn apply<S: Alter>(tx: &mut Transaction<'_, S>, change: &Change) -> Result<(), E
 
 fn apply_all<S: Alter>(tx: &mut Transaction<'_, S>, changes: &[Change]) -> Result<(), Error>
     requires { tx.old.conn.now.in_transaction ≡ true }
-    ensures same_reference { tx.new.conn.ghost_name ≡ tx.old.conn.ghost_name }
-    ensures ok { HasCleanDisk (state S.Store tx.new.conn.now) → OnOk result (IsRoomDatabase (state S.Store tx.old.conn.now).now →
+    ensures frame { InsideFrame S.Store tx.old tx.new result }
+    ensures ok { HasCleanDisk (state S.Store tx.new.conn.now)
+        → OnOk result (IsRoomDatabase (state S.Store tx.old.conn.now).now →
         Steps (state S.Store tx.old.conn.now) (state S.Store tx.new.conn.now) (apply_changes changes.now)) }
-    ensures inside { HasCleanDisk (state S.Store tx.new.conn.now) → OnOk result (tx.new.conn.now.in_transaction ≡ true) }
-    ensures kept { HasCleanDisk (state S.Store tx.new.conn.now) → KeepsCommit (state S.Store tx.old.conn.now) (state S.Store tx.new.conn.now) }
-    ensures crash { Survives (state S.Store tx.old.conn.now) (state S.Store tx.new.conn.now) (λ _. ⊥) }
+    ensures ran { HasCleanDisk (state S.Store tx.new.conn.now) → AllByRecursion IsShort changes.now
+        → RunInTurn S.Store (writes_of_all changes.now) tx.old.conn.now tx.new.conn.now result }
 {
     for change in changes {
         apply(tx, change)?;
@@ -453,15 +496,18 @@ fn apply_all<S: Alter>(tx: &mut Transaction<'_, S>, changes: &[Change]) -> Resul
 /// All changes in order, or none, also over a crash.
 pub(crate) fn commit<S: Alter>(conn: &mut Connection<S>, changes: &[Change]) -> Result<(), Error>
     requires { conn.old.in_transaction ≡ false }
-    ensures mode { conn.new.in_transaction ≡ false }
-    ensures ok { HasCleanDisk (state S.Store conn.new) → OnOk result (IsTrue (state S.Store conn.new).is_open × (IsRoomDatabase (state S.Store conn.old).now →
-        IsRoomDatabase (state S.Store conn.new).now × MayBecome changes.now (state S.Store conn.old).now (state S.Store conn.new).now.trees)) }
-    ensures version { HasCleanDisk (state S.Store conn.new) → OnOk result (IsRoomDatabase (state S.Store conn.old).now → IsVersion1 (version_rows (state S.Store conn.old).now.trees) →
+    ensures frame { CommitFrame S.Store (MayBecome changes.now) conn.old conn.new result }
+    ensures ok { HasCleanDisk (state S.Store conn.new)
+        → OnOk result (IsTrue (state S.Store conn.new).is_open × (IsRoomDatabase (state S.Store conn.old).now →
+        IsRoomDatabase (state S.Store conn.new).now
+        × MayBecome changes.now (state S.Store conn.old).now (state S.Store conn.new).now.trees)) }
+    ensures version { HasCleanDisk (state S.Store conn.new) → OnOk result (IsRoomDatabase (state S.Store conn.old).now
+        → IsVersion1 (version_rows (state S.Store conn.old).now.trees) →
         IsVersion1 (version_rows (state S.Store conn.new).now.trees)) }
-    ensures err { HasCleanDisk (state S.Store conn.new) → IsTrue (state S.Store conn.new).is_open → OnErr result ((state S.Store conn.new).now ≡ (state S.Store conn.old).committed) }
-    ensures settled { HasCleanDisk (state S.Store conn.new) → OnOk result ((state S.Store conn.new).committed ≡ (state S.Store conn.new).now) }
-    ensures kept { HasCleanDisk (state S.Store conn.new) → IsTrue (state S.Store conn.new).is_open → IsTrue (state S.Store conn.old).is_open }
-    ensures crash { Survives (state S.Store conn.old) (state S.Store conn.new) (MayBecome changes.now (state S.Store conn.old).now) }
+    ensures failed { HasCleanDisk (state S.Store conn.new) → AllByRecursion IsShort changes.now
+        → IfErr result (CommitFails S.Store changes.now conn.old conn.new) }
+    ensures err { HasCleanDisk (state S.Store conn.new) → IsTrue (state S.Store conn.new).is_open
+        → OnErr result ((state S.Store conn.new).now ≡ (state S.Store conn.old).committed) }
 {
     let mut tx = conn.transaction();
     apply_all(&mut tx, changes)?;

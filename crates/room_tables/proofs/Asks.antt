@@ -1,12 +1,14 @@
 -- What the queries answer.
-use Rattle.std.proofs.Common.{◌≡◌, ℕ, pos, Bool, true, ◌&&◌, min, List, [], ◌∷◌, ◌++◌, length, map, filter, Option, None, Some, refl, sym, ap, subst, subst₂, ◌∙◌, cond, flat_map, is_gt, IsPermutation, IsSorted, arith}
+use Rattle.std.proofs.Common.{◌≡◌, ℕ, pos, Bool, true, ◌&&◌, List, [], ◌∷◌, length, map, filter}
+use Rattle.std.proofs.Common.{Some, refl, sym, ap, subst, ◌∙◌, IsPermutation}
+use Rattle.std.proofs.Common.{IsSorted}
 use Rattle.std.specs.List.{AllByRecursion, list_all, AllZip}
 use Rattle.std.proofs.lemmas.List.Sorted.{length_permutation}
 use Rattle.std.proofs.lemmas.List.{length-map}
 use Rattle.sqlite_value.specs.declared.value.Value.TheVariants.{Null, Int, Text}
 use Rattle.sqlite_value.specs.Order.{Row, column}
 use Rattle.sqlite_trees.specs.Tree.{Trees, IsAscending}
-use Rattle.sqlite_sql.specs.Term.{Term, Env, holds, eval_all}
+use Rattle.sqlite_sql.specs.Term.{Term, Env, holds}
 use Rattle.sqlite_sql.specs.Query.{IsAnswer, Output, output, key_cmp}
 use Rattle.sqlite_sql.specs.Group.{value_over, IsSummary}
 use Rattle.sqlite_sql.proofs.QueryLemmas.{key_cmp_total}
@@ -15,9 +17,21 @@ use Rattle.sqlite_keyed.proofs.ListLemmas.{filter_same, ascending_from_map}
 use Rattle.sqlite.specs.State.{State, Shown}
 use Rattle.sqlite.proofs.Callers.{reads_as, one_permutation}
 use Rattle.room_tables.specs.Tables.{room_schema}
-use Rattle.room_tables.specs.Texts.{find_node_text, find_node_query, find_child_text, find_child_query, list_children_text, list_children_query, count_children_text, count_children_query, counted, all_rows, list_entries_text, list_entries_query, find_doc_text, find_doc_query, find_session_text, find_session_query, find_slot_text, find_slot_query, find_next_text, find_next_query, find_version_text, find_version_query}
-use Rattle.room_tables.specs.Rows.{has, has_text, is_child_named, is_slot, shown_node, node_rows, named_rows, child_rows, shown_entry, entry_rows, IsEntryRow, HasEntryColumns, shown_doc, doc_rows, shown_session, session_rows, shown_slot, slot_rows, shown_next, next_rows, shown_version, version_rows}
-use Rattle.room_tables.proofs.Meaning.{find_node_is, find_node_plain, find_child_is, find_child_plain, list_children_is, list_children_plain, count_children_is, count_children_plain, list_entries_is, list_entries_plain, find_doc_is, find_doc_plain, find_session_is, find_session_plain, find_slot_is, find_slot_plain, find_next_is, find_next_plain, find_version_is, find_version_plain}
+use Rattle.room_tables.specs.Texts.{find_node_text, find_node_query, find_child_text, find_child_query}
+use Rattle.room_tables.specs.Texts.{list_children_text, list_children_query, count_children_text, count_children_query}
+use Rattle.room_tables.specs.Texts.{counted, all_rows, list_entries_text, list_entries_query, find_doc_text}
+use Rattle.room_tables.specs.Texts.{find_doc_query, find_session_text, find_session_query, find_slot_text}
+use Rattle.room_tables.specs.Texts.{find_slot_query, find_next_text, find_next_query, find_version_text}
+use Rattle.room_tables.specs.Texts.{find_version_query}
+use Rattle.room_tables.specs.Rows.{has, has_text, is_child_named, is_slot, shown_node, node_rows, named_rows}
+use Rattle.room_tables.specs.Rows.{child_rows, shown_entry, entry_rows, IsEntryRow, HasEntryColumns, shown_doc}
+use Rattle.room_tables.specs.Rows.{doc_rows, shown_session, session_rows, shown_slot, slot_rows, shown_next, next_rows}
+use Rattle.room_tables.specs.Rows.{shown_version, version_rows}
+use Rattle.room_tables.proofs.Meaning.{find_node_is, find_node_plain, find_child_is, find_child_plain, list_children_is}
+use Rattle.room_tables.proofs.Meaning.{list_children_plain, count_children_is, count_children_plain, list_entries_is}
+use Rattle.room_tables.proofs.Meaning.{list_entries_plain, find_doc_is, find_doc_plain, find_session_is}
+use Rattle.room_tables.proofs.Meaning.{find_session_plain, find_slot_is, find_slot_plain, find_next_is, find_next_plain}
+use Rattle.room_tables.proofs.Meaning.{find_version_is, find_version_plain}
 use Rattle.room_tables.specs.Names.{name_keys, name_key, ByName, counted_row}
 use Rattle.room_tables.proofs.Queries.{passing, and_true, picked, found, listed, envs_are, sorted_keys}
 use Rattle.sqlite_rules.proofs.ListLemmas.{all_has, all_from}
@@ -26,21 +40,26 @@ use Rattle.room_tables.proofs.Removed.{has_permuted}
 use Rattle.room_tables.proofs.Sorted.{ascending_from_sorted, all_permutation}
 use Rattle.room_tables.proofs.Placed.{exact_entries}
 
-pub asks_node : (old new : State) (id : ℕ) (rows : List Row) → old.now.schema ≡ room_schema → Shown find_node_text (Int (pos id) ∷ []) old new rows → IsPermutation (node_rows old.now.trees id) rows
+pub asks_node : (old new : State) (id : ℕ) (rows : List Row) → old.now.schema ≡ room_schema
+    → Shown find_node_text (Int (pos id) ∷ []) old new rows → IsPermutation (node_rows old.now.trees id) rows
 asks_node old new id rows schema h =
-    found find_node_query (Int (pos id) ∷ []) (old.now.trees 1) rows (has 0 id) shown_node (λ r. and_true (has 0 id r)) (λ r. refl)
+    found find_node_query (Int (pos id) ∷ []) (old.now.trees 1) rows
+    (has 0 id) shown_node (λ r. and_true (has 0 id r)) (λ r. refl)
     (picked old new find_node_text _ 1 _ _ [] _ rows schema find_node_is find_node_plain refl h)
 
-pub asks_child : (old new : State) (parent : ℕ) (name : List ℕ) (rows : List Row) → old.now.schema ≡ room_schema → Shown find_child_text (Int (pos parent) ∷ Text name ∷ []) old new rows
+pub asks_child : (old new : State) (parent : ℕ) (name : List ℕ) (rows : List Row)
+    → old.now.schema ≡ room_schema → Shown find_child_text (Int (pos parent) ∷ Text name ∷ []) old new rows
     → IsPermutation (named_rows old.now.trees parent name) rows
 asks_child old new parent name rows schema h =
-    found find_child_query (Int (pos parent) ∷ Text name ∷ []) (old.now.trees 1) rows (is_child_named parent name) shown_node (λ r. ap (λ b. has 2 parent r && b) (and_true (has_text 3 name r))) (λ r. refl)
+    found find_child_query (Int (pos parent) ∷ Text name ∷ []) (old.now.trees 1) rows (is_child_named parent name)
+    shown_node (λ r. ap (λ b. has 2 parent r && b) (and_true (has_text 3 name r))) (λ r. refl)
     (picked old new find_child_text _ 1 _ _ [] _ rows schema find_child_is find_child_plain refl h)
 
 abbrev named_output : Row → Output
 named_output r = (column r 3 ∷ [], shown_node r)
 
-keys_are : (os : List Output) → AllByRecursion (λ (o : Output). o.0 ≡ name_key o.1) os → map (λ (o : Output). o.0) os ≡ map name_key (map (λ (o : Output). o.1) os)
+keys_are : (os : List Output) → AllByRecursion (λ (o : Output). o.0 ≡ name_key o.1) os
+    → map (λ (o : Output). o.0) os ≡ map name_key (map (λ (o : Output). o.1) os)
 keys_are [] all = refl
 keys_are (o ∷ os) all = Rattle.std.proofs.Common.ap₂ (λ a l. a ∷ l) all.0 (keys_are os all.1)
 
@@ -48,56 +67,87 @@ named_parts : (rows : List Row) → AllByRecursion (λ (o : Output). o.0 ≡ nam
 named_parts [] = tt
 named_parts (r ∷ rows) = (refl, named_parts rows)
 
-pub asks_children : (old new : State) (parent : ℕ) (rows : List Row) → old.now.schema ≡ room_schema → Shown list_children_text (Int (pos parent) ∷ []) old new rows
+pub asks_children : (old new : State) (parent : ℕ) (rows : List Row)
+    → old.now.schema ≡ room_schema → Shown list_children_text (Int (pos parent) ∷ []) old new rows
     → IsPermutation (child_rows old.now.trees parent) rows × IsAscending ByName rows
 asks_children old new parent rows schema h =
     let params = Int (pos parent) ∷ [] in
-    let k = picked old new list_children_text params 1 _ _ list_children_query.order _ rows schema list_children_is list_children_plain refl h in
-    let passed : passing list_children_query.filter params (old.now.trees 1) ≡ filter (has 2 parent) (old.now.trees 1) = filter_same _ (has 2 parent) (λ r. and_true (has 2 parent r)) (old.now.trees 1) in
-    let same : IsPermutation (map named_output (filter (has 2 parent) (old.now.trees 1))) k.ordered = subst (λ l. IsPermutation (map named_output l) k.ordered) passed k.same in
+    let k = picked old new list_children_text params 1 _ _ list_children_query.order
+    _ rows schema list_children_is list_children_plain refl h in
+    let passed : passing list_children_query.filter params (old.now.trees 1) ≡ filter (has 2 parent) (old.now.trees 1) =
+    filter_same _ (has 2 parent) (λ r. and_true (has 2 parent r)) (old.now.trees 1) in
+    let same : IsPermutation (map named_output (filter (has 2 parent) (old.now.trees 1))) k.ordered =
+    subst (λ l. IsPermutation (map named_output l) k.ordered) passed k.same in
     let parts = all_permutation _ _ _ same (named_parts (filter (has 2 parent) (old.now.trees 1))) in
-    let keys : map (λ (o : Output). o.0) k.ordered ≡ map name_key rows = keys_are k.ordered parts ∙ ap (map name_key) (sym k.is) in
+    let keys : map (λ (o : Output). o.0) k.ordered ≡ map name_key rows =
+    keys_are k.ordered parts ∙ ap (map name_key) (sym k.is) in
     let sorted = subst (IsSorted (key_cmp 0 name_keys)) keys (sorted_keys name_keys k.ordered k.sorted) in
-    let up = ascending_from_sorted (key_cmp 0 name_keys) (key_cmp_total name_keys 0) (map name_key rows) sorted in
-    (found list_children_query params (old.now.trees 1) rows (has 2 parent) shown_node (λ r. and_true (has 2 parent r)) (λ r. refl) k, ascending_from_map _ name_key rows up)
+    let up = ascending_from_sorted (key_cmp 0 name_keys) (key_cmp_total name_keys 0) (map name_key rows) sorted in (
+      found list_children_query params (old.now.trees 1) rows (has 2 parent) shown_node
+          (λ r. and_true (has 2 parent r)) (λ r. refl) k,
+      ascending_from_map _ name_key rows up,
+    )
 
-entry_typed : (found rows : List Row) → IsPermutation (map shown_entry found) rows → AllByRecursion HasEntryColumns rows → AllByRecursion IsEntryRow rows
+entry_typed : (found rows : List Row) → IsPermutation (map shown_entry found) rows
+    → AllByRecursion HasEntryColumns rows → AllByRecursion IsEntryRow rows
 entry_typed found rows same typed = all_from IsEntryRow rows (λ r h.
     let s = has_mapped shown_entry found r (has_permuted _ rows r same h) in
     let t = all_has HasEntryColumns rows r typed h in
     let columns : HasEntryColumns (shown_entry s.0) = subst HasEntryColumns s.2 t in
-    record { place = columns.place; kind = columns.kind; flags = columns.flags; mask = columns.mask; who = columns.who; is = s.2 ∙ five s.0 columns })
+    record {
+      place = columns.place;
+      kind = columns.kind;
+      flags = columns.flags;
+      mask = columns.mask;
+      who = columns.who;
+      is = s.2 ∙ five s.0 columns;
+    })
   where
-    five : (s : Row) (c : HasEntryColumns (shown_entry s)) → shown_entry s ≡ Int (pos c.place) ∷ Int (pos c.kind) ∷ Int (pos c.flags) ∷ Int (pos c.mask) ∷ Text c.who ∷ []
+    five : (s : Row) (c : HasEntryColumns (shown_entry s))
+        → shown_entry s ≡ Int (pos c.place) ∷ Int (pos c.kind) ∷ Int (pos c.flags) ∷ Int (pos c.mask) ∷ Text c.who ∷ []
     five s c = rw (c.has_place, c.has_kind, c.has_flags, c.has_mask, c.has_who) refl
 
-pub asks_entries : (old new : State) (id : ℕ) (rows : List Row) → old.now.schema ≡ room_schema → AllByRecursion HasEntryColumns rows → Shown list_entries_text (Int (pos id) ∷ []) old new rows → rows ≡ entry_rows old.now.trees id
+pub asks_entries : (old new : State) (id : ℕ) (rows : List Row)
+    → old.now.schema ≡ room_schema → AllByRecursion HasEntryColumns rows
+    → Shown list_entries_text (Int (pos id) ∷ []) old new rows → rows ≡ entry_rows old.now.trees id
 asks_entries old new id rows schema typed h =
-    let k = picked old new list_entries_text (Int (pos id) ∷ []) 3 _ _ list_entries_query.order _ rows schema list_entries_is list_entries_plain refl h in
-    let same = found list_entries_query (Int (pos id) ∷ []) (old.now.trees 3) rows (has 1 id) shown_entry (λ r. and_true (has 1 id r)) (λ r. refl) k in
-    listed list_entries_query (Int (pos id) ∷ []) (old.now.trees 3) rows (has 1 id) shown_entry IsEntryRow (λ r. and_true (has 1 id r)) (λ r. refl) exact_entries (entry_typed _ rows same typed) k
+    let k = picked old new list_entries_text (Int (pos id) ∷ []) 3 _ _
+    list_entries_query.order _ rows schema list_entries_is list_entries_plain refl h in
+    let same = found list_entries_query (Int (pos id) ∷ []) (old.now.trees 3)
+    rows (has 1 id) shown_entry (λ r. and_true (has 1 id r)) (λ r. refl) k in
+    listed list_entries_query (Int (pos id) ∷ []) (old.now.trees 3) rows (has 1 id) shown_entry IsEntryRow
+    (λ r. and_true (has 1 id r)) (λ r. refl) exact_entries (entry_typed _ rows same typed) k
 
-pub asks_doc : (old new : State) (id : ℕ) (rows : List Row) → old.now.schema ≡ room_schema → Shown find_doc_text (Int (pos id) ∷ []) old new rows → IsPermutation (doc_rows old.now.trees id) rows
+pub asks_doc : (old new : State) (id : ℕ) (rows : List Row) → old.now.schema ≡ room_schema
+    → Shown find_doc_text (Int (pos id) ∷ []) old new rows → IsPermutation (doc_rows old.now.trees id) rows
 asks_doc old new id rows schema h =
-    found find_doc_query (Int (pos id) ∷ []) (old.now.trees 5) rows (has 0 id) shown_doc (λ r. and_true (has 0 id r)) (λ r. refl)
+    found find_doc_query (Int (pos id) ∷ []) (old.now.trees 5) rows
+    (has 0 id) shown_doc (λ r. and_true (has 0 id r)) (λ r. refl)
     (picked old new find_doc_text _ 5 _ _ [] _ rows schema find_doc_is find_doc_plain refl h)
 
-pub asks_session : (old new : State) (sid : List ℕ) (rows : List Row) → old.now.schema ≡ room_schema → Shown find_session_text (Text sid ∷ []) old new rows → IsPermutation (session_rows old.now.trees sid) rows
+pub asks_session : (old new : State) (sid : List ℕ) (rows : List Row) → old.now.schema ≡ room_schema
+    → Shown find_session_text (Text sid ∷ []) old new rows → IsPermutation (session_rows old.now.trees sid) rows
 asks_session old new sid rows schema h =
-    found find_session_query (Text sid ∷ []) (old.now.trees 6) rows (has_text 1 sid) shown_session (λ r. and_true (has_text 1 sid r)) (λ r. refl)
+    found find_session_query (Text sid ∷ []) (old.now.trees 6) rows (has_text 1 sid)
+    shown_session (λ r. and_true (has_text 1 sid r)) (λ r. refl)
     (picked old new find_session_text _ 6 _ _ [] _ rows schema find_session_is find_session_plain refl h)
 
-pub asks_slot : (old new : State) (sid : List ℕ) (slot : ℕ) (rows : List Row) → old.now.schema ≡ room_schema → Shown find_slot_text (Text sid ∷ Int (pos slot) ∷ []) old new rows → IsPermutation (slot_rows old.now.trees sid slot) rows
+pub asks_slot : (old new : State) (sid : List ℕ) (slot : ℕ) (rows : List Row)
+    → old.now.schema ≡ room_schema → Shown find_slot_text (Text sid ∷ Int (pos slot) ∷ []) old new rows
+    → IsPermutation (slot_rows old.now.trees sid slot) rows
 asks_slot old new sid slot rows schema h =
-    found find_slot_query (Text sid ∷ Int (pos slot) ∷ []) (old.now.trees 8) rows (is_slot sid slot) shown_slot (λ r. ap (λ b. has_text 1 sid r && b) (and_true (has 2 slot r))) (λ r. refl)
+    found find_slot_query (Text sid ∷ Int (pos slot) ∷ []) (old.now.trees 8) rows (is_slot sid slot)
+    shown_slot (λ r. ap (λ b. has_text 1 sid r && b) (and_true (has 2 slot r))) (λ r. refl)
     (picked old new find_slot_text _ 8 _ _ [] _ rows schema find_slot_is find_slot_plain refl h)
 
-pub asks_next : (old new : State) (rows : List Row) → old.now.schema ≡ room_schema → Shown find_next_text [] old new rows → IsPermutation (next_rows old.now.trees) rows
+pub asks_next : (old new : State) (rows : List Row) → old.now.schema ≡ room_schema
+    → Shown find_next_text [] old new rows → IsPermutation (next_rows old.now.trees) rows
 asks_next old new rows schema h =
     found find_next_query [] (old.now.trees 0) rows (has 0 1) shown_next (λ r. and_true (has 0 1 r)) (λ r. refl)
     (picked old new find_next_text _ 0 _ _ [] _ rows schema find_next_is find_next_plain refl h)
 
-pub asks_version : (old new : State) (rows : List Row) → old.now.schema ≡ room_schema → Shown find_version_text [] old new rows → IsPermutation (version_rows old.now.trees) rows
+pub asks_version : (old new : State) (rows : List Row) → old.now.schema ≡ room_schema
+    → Shown find_version_text [] old new rows → IsPermutation (version_rows old.now.trees) rows
 asks_version old new rows schema h =
     found find_version_query [] (old.now.trees 0) rows (has 0 1) shown_version (λ r. and_true (has 0 1 r)) (λ r. refl)
     (picked old new find_version_text _ 0 _ _ [] _ rows schema find_version_is find_version_plain refl h)
@@ -110,32 +160,47 @@ some_is e = cc
 summarized : (order : List Env) (r : Row) → IsSummary counted order r → r ≡ counted_row (length order)
 summarized order r (values, each, is) = is ∙ one values each
   where
-    one : (values : Row) → AllZip (λ a v. value_over order a ≡ Some v) (all_rows ∷ []) values → values ≡ counted_row (length order)
+    one : (values : Row) → AllZip (λ a v. value_over order a ≡ Some v) (all_rows ∷ []) values
+        → values ≡ counted_row (length order)
     one [] each = absurd each
-    one (v ∷ []) each = ap (λ w. w ∷ []) (some_is (sym each.0)) ∙ ap counted_row (length-map order (Rattle.sqlite_sql.specs.Term.eval all_rows.argument))
+    one (v ∷ []) each = ap (λ w. w ∷ []) (some_is (sym each.0))
+        ∙ ap counted_row (length-map order (Rattle.sqlite_sql.specs.Term.eval all_rows.argument))
     one (v ∷ w ∷ more) each = absurd each.1
 
-one_group : (order : List Env) (rows : List Row) → AllZip (IsSummary counted) (order ∷ []) rows → rows ≡ counted_row (length order) ∷ []
+one_group : (order : List Env) (rows : List Row)
+    → AllZip (IsSummary counted) (order ∷ []) rows → rows ≡ counted_row (length order) ∷ []
 one_group order [] h = absurd h
 one_group order (r ∷ []) h = ap (λ x. x ∷ []) (summarized order r h.0)
 one_group order (r ∷ s ∷ more) h = absurd h.1
 
-count_answer : (params : Row) (db : Trees) (rows : List Row) (p : Row → Bool) → ((r : Row) → list_all (holds (params ∷ r ∷ [])) count_children_query.filter ≡ p r) → IsAnswer count_children_query db params rows
+count_answer : (params : Row) (db : Trees) (rows : List Row) (p : Row → Bool)
+    → ((r : Row) → list_all (holds (params ∷ r ∷ [])) count_children_query.filter ≡ p r)
+    → IsAnswer count_children_query db params rows
     → rows ≡ counted_row (length (filter p (db 1))) ∷ []
 count_answer params db rows p test a =
     let g = a.grouped in
     let order = g.grouping.0 in
     let all : length order ≡ length (filter p (db 1)) =
-    length_permutation _ _ g.grouping.1 ∙ ap length (envs_are count_children_query.filter params (db 1)) ∙ length-map (passing count_children_query.filter params (db 1)) (λ r. params ∷ r ∷ []) ∙ ap length (filter_same _ p test (db 1)) in
+    length_permutation _ _ g.grouping.1 ∙ ap length (envs_are count_children_query.filter params (db 1))
+    ∙ length-map (passing count_children_query.filter params (db 1)) (λ r. params ∷ r ∷ [])
+    ∙ ap length (filter_same _ p test (db 1)) in
     let row = counted_row (length order) in
-    let summed : g.rows ≡ row ∷ [] = one_group order g.rows (subst (λ l. AllZip (IsSummary counted) l g.rows) g.grouping.2 g.summaries) in
-    let staged : a.staged ≡ (params ∷ row ∷ []) ∷ [] = g.having ∙ ap (λ l. filter (λ _. true) (map (λ r. params ∷ r ∷ []) l)) summed in
-    let kept : a.kept ≡ output count_children_query (params ∷ row ∷ []) ∷ [] = a.distinct ∙ ap (map (output count_children_query)) staged in
+    let summed : g.rows ≡ row ∷ [] =
+    one_group order g.rows (subst (λ l. AllZip (IsSummary counted) l g.rows) g.grouping.2 g.summaries) in
+    let staged : a.staged ≡ (params ∷ row ∷ []) ∷ [] =
+    g.having ∙ ap (λ l. filter (λ _. true) (map (λ r. params ∷ r ∷ []) l)) summed in
+    let kept : a.kept ≡ output count_children_query (params ∷ row ∷ []) ∷ [] =
+    a.distinct ∙ ap (map (output count_children_query)) staged in
     let ordered = one_permutation _ a.ordered (subst (λ l. IsPermutation l a.ordered) kept a.same) in
     a.shown ∙ ap (map (λ (o : Output). o.1)) ordered ∙ ap (λ n. counted_row n ∷ []) all
 
-pub asks_count : (old new : State) (parent : ℕ) (rows : List Row) → old.now.schema ≡ room_schema → Shown count_children_text (Int (pos parent) ∷ []) old new rows → rows ≡ counted_row (length (child_rows old.now.trees parent)) ∷ []
+pub asks_count : (old new : State) (parent : ℕ) (rows : List Row) → old.now.schema ≡ room_schema
+    → Shown count_children_text (Int (pos parent) ∷ []) old new rows
+    → rows ≡ counted_row (length (child_rows old.now.trees parent)) ∷ []
 asks_count old new parent rows schema h =
     let params = Int (pos parent) ∷ [] in
-    let read = reads_as count_children_text params old new room_schema schema _ count_children_is count_children_plain.0 count_children_plain.1 rows h in
-    count_answer params (overlay old.now.trees []) rows (has 2 parent) (λ r. and_true (has 2 parent r)) (read.answer Null) ∙ ap (λ n. counted_row n ∷ []) (sym (length-map (filter (has 2 parent) (old.now.trees 1)) shown_node))
+    let read = reads_as count_children_text params old new room_schema schema _
+    count_children_is count_children_plain.0 count_children_plain.1 rows h in
+    count_answer params (overlay old.now.trees []) rows (has 2 parent)
+    (λ r. and_true (has 2 parent r)) (read.answer Null)
+    ∙ ap (λ n. counted_row n ∷ []) (sym (length-map (filter (has 2 parent) (old.now.trees 1)) shown_node))

@@ -1,5 +1,7 @@
 -- What the statements that write do to the tables.
-use Rattle.std.proofs.Common.{◌≡◌, ◌≢◌, ◌⊎◌, length, ◌/◌, MatchBool, is_lt, int_cmp, inl, inr, ℕ, ℤ, Bool, true, false, not, cond, List, [], ◌∷◌, map, drop, filter, slice_get, Option, None, Some, Ok, Err, Result, IfErr, OnErr, refl, sym, ap, subst, true≢false, ◌∙◌}
+use Rattle.std.proofs.Common.{◌≡◌, ◌≢◌, ◌⊎◌, length, ◌/◌, MatchBool, is_lt, int_cmp, inl, inr, ℕ, ℤ, Bool, true, false}
+use Rattle.std.proofs.Common.{not, cond, List, [], ◌∷◌, map, drop, filter, slice_get, Option, None, Some, Ok, Err}
+use Rattle.std.proofs.Common.{Result, IfErr, OnErr, refl, sym, ap, subst, true≢false, ◌∙◌}
 use Rattle.std.proofs.lemmas.Bool.{cases_Bool}
 use Rattle.sqlite_value.specs.declared.value.Value.TheVariants.{Null, Int}
 use Rattle.sqlite_value.specs.Order.{Row}
@@ -28,7 +30,8 @@ use Rattle.sqlite.specs.declared.run.Mode.{Mode}
 use Rattle.sqlite.specs.Table.{Table}
 use Rattle.sqlite.specs.Command.{Command}
 use Rattle.sqlite_schema.specs.declared.program.Program.{Program}
-use Rattle.sqlite.specs.State.{State, mode_of, Executes, Runs, ExecutesInside, IsUnchanged, IsRolledBack, KeepsCommit, Shows}
+use Rattle.sqlite.specs.State.{State, mode_of, Executes, Runs, ExecutesInside, IsUnchanged}
+use Rattle.sqlite.specs.State.{IsRolledBack, KeepsCommit, Shows}
 use Rattle.sqlite.specs.Steps.{FailsToCommit}
 use Rattle.sqlite.specs.declared.error.Error.{Error}
 use Rattle.sqlite.proofs.Callers.{runs_as, one_step}
@@ -54,14 +57,16 @@ pub same_value : {B E : Type 0} {a b : B} → ◌≡◌ {A = Result B E} (Ok a) 
 same_value e = cc
 
 -- what a statement on rows leaves is what its rows make
-concludes : (task : Task) (mode : Mode) (w : Written) (tally : Tally) (new : Database) → Concludes task mode None w (Ok (tally, new)) → new ≡ record { schema = task.schema; trees = w.trees }
+concludes : (task : Task) (mode : Mode) (w : Written) (tally : Tally) (new : Database)
+    → Concludes task mode None w (Ok (tally, new)) → new ≡ record { schema = task.schema; trees = w.trees }
 concludes task mode w tally new h =
     let tested = went h in
     let returned = went tested.2 in
     ap (λ (p : Tally × Database). p.1) (same_value returned.2)
 
 abbrev pub task_on : State → Table → Row → Task
-task_on old table params = record { limit = old.step_limit; keys = Enforced; schema = room_schema; table = table; params = params }
+task_on old table params =
+    record { limit = old.step_limit; keys = Enforced; schema = room_schema; table = table; params = params }
 
 -- the command ran on the rows of the table at this place
 pub record Wrote (old new : State) (table : Table) (params : Row) (command : Command) : Type 0 where
@@ -69,19 +74,31 @@ pub record Wrote (old new : State) (table : Table) (params : Row) (command : Com
   pub written : WritesRows (task_on old table params) old.now.trees command (Ok rows)
   pub now : new.now ≡ record { schema = room_schema; trees = rows.trees }
 
-pub deletes : (old new : State) (at : ℕ) (table : Table) (q : Program) (text : List ℕ) (params : Row) (count : ℕ) → slice_get room_schema.tables at ≡ Some table → old.now.schema ≡ room_schema
+pub deletes : (old new : State) (at : ℕ) (table : Table) (q : Program) (text : List ℕ) (params : Row) (count : ℕ)
+    → slice_get room_schema.tables at ≡ Some table → old.now.schema ≡ room_schema
     → Runs old new None (Delete at q) text params count → Wrote old new table params (Delete at q)
 deletes old new at table q text params count place schema w =
-    let all = subst (λ s. Does old.step_limit (mode_of old) params (record old.now { schema = s }) text None (Delete at q) (Ok (w.tally, new.now))) schema w.changed in
+    let all = subst (λ s. Does old.step_limit (mode_of old) params (record old.now { schema = s })
+    text None (Delete at q) (Ok (w.tally, new.now))) schema w.changed in
     let done = went (rw place at all) in
-    record { rows = done.0; written = done.1; now = concludes (task_on old table params) (mode_of old) done.0 w.tally new.now done.2 }
+    record {
+      rows = done.0;
+      written = done.1;
+      now = concludes (task_on old table params) (mode_of old) done.0 w.tally new.now done.2;
+    }
 
-pub inserts : (old new : State) (at : ℕ) (table : Table) (from : Source) (text : List ℕ) (params : Row) (count : ℕ) → slice_get room_schema.tables at ≡ Some table → old.now.schema ≡ room_schema
+pub inserts : (old new : State) (at : ℕ) (table : Table) (from : Source) (text : List ℕ) (params : Row) (count : ℕ)
+    → slice_get room_schema.tables at ≡ Some table → old.now.schema ≡ room_schema
     → Runs old new None (Insert at from) text params count → Wrote old new table params (Insert at from)
 inserts old new at table from text params count place schema w =
-    let all = subst (λ s. Does old.step_limit (mode_of old) params (record old.now { schema = s }) text None (Insert at from) (Ok (w.tally, new.now))) schema w.changed in
+    let all = subst (λ s. Does old.step_limit (mode_of old) params (record old.now { schema = s })
+    text None (Insert at from) (Ok (w.tally, new.now))) schema w.changed in
     let done = went (rw place at all) in
-    record { rows = done.0; written = done.1; now = concludes (task_on old table params) (mode_of old) done.0 w.tally new.now done.2 }
+    record {
+      rows = done.0;
+      written = done.1;
+      now = concludes (task_on old table params) (mode_of old) done.0 w.tally new.now done.2;
+    }
 
 either : (b : Bool) (x : Value) → cond b x x ≡ x
 either true x = refl
@@ -103,7 +120,8 @@ not_true false h = refl
 abbrev pub Others : ℕ → Trees → Trees → Type 0
 Others tree db next = OfEachTable (λ (t : Table). t.tree ≢ tree → next t.tree ≡ db t.tree)
 
-pub others_of : (tree : ℕ) (db next : Trees) → AllByRecursion (λ (t : Table). t.tree ≢ tree → next t.tree ≡ db t.tree) room_schema.tables → Others tree db next
+pub others_of : (tree : ℕ) (db next : Trees)
+    → AllByRecursion (λ (t : Table). t.tree ≢ tree → next t.tree ≡ db t.tree) room_schema.tables → Others tree db next
 others_of tree db next = by_name (λ (t : Table). t.tree ≢ tree → next t.tree ≡ db t.tree)
 
 -- one table has these rows now
@@ -117,47 +135,64 @@ abbrev pub without : (Row → Bool) → List Row → List Row
 without p = filter (λ r. not (p r))
 
 -- a DELETE by a test, where no foreign key acts
-pub cleared : (old new : State) (at : ℕ) (table : Table) (sql : List ℕ) (params : Row) (terms : List Term) (count : ℕ) (p : Row → Bool)
+pub cleared : (old new : State) (at : ℕ) (table : Table) (sql : List ℕ)
+    (params : Row) (terms : List Term) (count : ℕ) (p : Row → Bool)
     → slice_get room_schema.tables at ≡ Some table → old.now.schema ≡ room_schema → IsKeyed (old.now.trees table.tree)
-    → command_of (understood room_schema sql) ≡ Delete at (record { lets = []; body = over_table table.tree terms (col 1 0 ∷ []) [] }) → IsPlain (understood room_schema sql)
-    → overlay old.now.trees [] table.tree ≡ old.now.trees table.tree → ((olds : List Row) → works room_schema Enforced 0 table.tree olds [] ≡ [])
-    → ((r : Row) → list_all (holds (params ∷ r ∷ [])) terms ≡ p r) → Executes sql params old new (Ok count) → Leaves old.now new.now table.tree (without p (old.now.trees table.tree))
+    → command_of (understood room_schema sql)
+    ≡ Delete at (record { lets = []; body = over_table table.tree terms (col 1 0 ∷ []) [] })
+    → IsPlain (understood room_schema sql)
+    → overlay old.now.trees [] table.tree ≡ old.now.trees table.tree
+    → ((olds : List Row) → works room_schema Enforced 0 table.tree olds [] ≡ [])
+    → ((r : Row) → list_all (holds (params ∷ r ∷ [])) terms ≡ p r) → Executes sql params old new (Ok count)
+    → Leaves old.now new.now table.tree (without p (old.now.trees table.tree))
 cleared old new at table sql params terms count p place schema keyed is plain here quiet test h =
     let db = old.now.trees in
     let q = over_table table.tree terms (col 1 0 ∷ []) [] in
     let command = Delete at (record { lets = []; body = q }) in
-    let w = deletes old new at table _ _ params count place schema (runs_as sql params old new room_schema schema command is plain count h) in
+    let w = deletes old new at table _ _ params count place schema
+    (runs_as sql params old new room_schema schema command is plain count h) in
     let given = went w.written in
     let edited_to = went given.2 in
     let trees : w.rows.trees ≡ edited_to.0 = ap (λ (it : Written). it.trees) (same_value edited_to.2) in
-    let one = one_step room_schema Enforced db edited_to.0 (edit_of db table (ids_of given.0) Given 0 []) (quiet _) edited_to.1 in
-    let k = subst (λ all. Picks q params (passing terms params all) given.0) here (answer_is table.tree terms (col 1 0 ∷ []) [] (overlay db []) params given.0 (given.1.answer Null)) in
+    let one = one_step room_schema Enforced db edited_to.0
+    (edit_of db table (ids_of given.0) Given 0 []) (quiet _) edited_to.1 in
+    let k = subst (λ all. Picks q params (passing terms params all) given.0) here
+    (answer_is table.tree terms (col 1 0 ∷ []) [] (overlay db []) params given.0 (given.1.answer Null)) in
     let same = found q params (db table.tree) given.0 p (λ r. rowid r ∷ []) test (λ r. refl) k in
     record {
       schema = ap (λ (d : Database). d.schema) w.now;
-      rows_are = ap (λ (d : Database). d.trees table.tree) w.now ∙ ap (λ (t : Trees). t table.tree) trees ∙ one.rows ∙ removed p (db table.tree) given.0 keyed same;
-      others = subst (λ t. Others table.tree db t) (sym (ap (λ (d : Database). d.trees) w.now ∙ trees)) (others_of table.tree db edited_to.0 one.tables);
+      rows_are = ap (λ (d : Database). d.trees table.tree) w.now ∙ ap (λ (t : Trees). t table.tree) trees
+          ∙ one.rows ∙ removed p (db table.tree) given.0 keyed same;
+      others = subst (λ t. Others table.tree db t) (sym (ap (λ (d : Database). d.trees) w.now ∙ trees))
+          (others_of table.tree db edited_to.0 one.tables);
     }
 
 -- a table without AUTOINCREMENT counts nothing
-pub not_counted : (task : Task) (db next : Trees) (counter : Option Row) (top : ℤ) → task.table.is_counted ≡ false → Counts task db counter top (Ok next) → next ≡ db
+pub not_counted : (task : Task) (db next : Trees) (counter : Option Row) (top : ℤ)
+    → task.table.is_counted ≡ false → Counts task db counter top (Ok next) → next ≡ db
 not_counted task db next counter top plain h =
-    same_value (subst (λ b. MatchBool (cond b (is_lt (int_cmp (count_of counter) top)) false) (CountsIn task db counter top (sequence task.schema) (Ok next)) (Gives db (Ok next))) plain h)
+    same_value (subst (λ b. MatchBool (cond b (is_lt (int_cmp (count_of counter) top)) false)
+    (CountsIn task db counter top (sequence task.schema) (Ok next)) (Gives db (Ok next))) plain h)
 
 -- the rows with some more, which went in one after another, each at a rowid that was free
 abbrev pub HasAll : List Row → List Row → List Row → Type 0
 HasAll rows new [] = new ≡ rows
-HasAll rows new (tail ∷ tails) = (rowid : ℤ) × (is_taken rows (Int rowid ∷ tail) ≡ false) × HasAll (put_row (Int rowid ∷ tail) rows) new tails
+HasAll rows new (tail ∷ tails) = (rowid : ℤ) × (is_taken rows (Int rowid ∷ tail) ≡ false)
+    × HasAll (put_row (Int rowid ∷ tail) rows) new tails
 
 -- rows before their rowids are chosen
 abbrev pub unnumbered : List Row → List Row
 unnumbered tails = map (λ tail. Null ∷ tail) tails
 
-all_chosen : (rows tails : List Row) → are_fresh rows (numbered Chosen rows (unnumbered tails)) ≡ true → HasAll rows (put_all rows (numbered Chosen rows (unnumbered tails))) tails
+all_chosen : (rows tails : List Row) → are_fresh rows (numbered Chosen rows (unnumbered tails)) ≡ true
+    → HasAll rows (put_all rows (numbered Chosen rows (unnumbered tails))) tails
 all_chosen rows [] fresh = refl
 all_chosen rows (tail ∷ tails) fresh =
-    let id = next_rowid rows in
-    (id, not_true _ (first_of_both _ _ fresh), all_chosen (put_row (Int id ∷ tail) rows) tails (second_of_both _ _ fresh))
+    let id = next_rowid rows in (
+      id,
+      not_true _ (first_of_both _ _ fresh),
+      all_chosen (put_row (Int id ∷ tail) rows) tails (second_of_both _ _ fresh),
+    )
 
 -- one table has these rows more
 pub record Added (old new : Database) (tree : ℕ) (tails : List Row) : Type 0 where
@@ -166,40 +201,56 @@ pub record Added (old new : Database) (tree : ℕ) (tails : List Row) : Type 0 w
   pub others : Others tree old.trees new.trees
 
 -- an INSERT of some rows whose rowids are chosen
-pub inserted_all : (old new : State) (at : ℕ) (table : Table) (sql : List ℕ) (params : Row) (tails : List Row) (terms : List Term) (width count : ℕ)
+pub inserted_all : (old new : State) (at : ℕ) (table : Table) (sql : List ℕ)
+    (params : Row) (tails : List Row) (terms : List Term) (width count : ℕ)
     → slice_get room_schema.tables at ≡ Some table → old.now.schema ≡ room_schema → table.is_counted ≡ false
     → command_of (understood room_schema sql) ≡ Insert at (Values terms width) → IsPlain (understood room_schema sql)
     → ((news : List Row) → works room_schema Enforced 0 table.tree [] news ≡ [])
-    → map (λ row. cast_row table (drop 0 row)) (value_rows (stamped table params) width (length terms / width) terms) ≡ unnumbered tails
+    → map (λ row. cast_row table (drop 0 row))
+    (value_rows (stamped table params) width (length terms / width) terms) ≡ unnumbered tails
     → Executes sql params old new (Ok count)
     → Added old.now new.now table.tree tails
 inserted_all old new at table sql params tails terms width count place schema uncounted is plain quiet cast_are h =
     let db = old.now.trees in
-    let w = inserts old new at table (Values terms width) _ params count place schema (runs_as sql params old new room_schema schema _ is plain count h) in
+    let w = inserts old new at table (Values terms width) _ params count place
+    schema (runs_as sql params old new room_schema schema _ is plain count h) in
     let given = went w.written in
     let counter = went given.2 in
     let by_choice = λ (top : ℤ). ap (λ b. cond b (Above top) Chosen) uncounted in
     let mid = went counter.2 in
     let counted = went mid.2 in
     let edit = edit_of db table [] Chosen 0 given.0 in
-    let trees : w.rows.trees ≡ mid.0 = ap (λ (it : Written). it.trees) (same_value counted.2) ∙ not_counted (task_on old table params) mid.0 counted.0 counter.0 _ uncounted counted.1 in
-    let rows : map (λ row. cast_row table (drop 0 row)) given.0 ≡ unnumbered tails = ap (map (λ row. cast_row table (drop 0 row))) given.1.1 ∙ cast_are in
-    let news : edit.news ≡ numbered Chosen (db table.tree) (unnumbered tails) = ap (numbered Chosen (db table.tree)) rows in
-    let one = one_step room_schema Enforced db mid.0 edit (quiet edit.news) (subst (λ c. Edited room_schema Enforced db (edit_of db table [] c 0 given.0) (Ok mid.0)) (by_choice (count_of counter.0)) mid.1) in
+    let trees : w.rows.trees ≡ mid.0 = ap (λ (it : Written). it.trees) (same_value counted.2)
+    ∙ not_counted (task_on old table params) mid.0 counted.0 counter.0 _ uncounted counted.1 in
+    let rows : map (λ row. cast_row table (drop 0 row)) given.0 ≡ unnumbered tails =
+    ap (map (λ row. cast_row table (drop 0 row))) given.1.1 ∙ cast_are in
+    let news : edit.news ≡ numbered Chosen (db table.tree) (unnumbered tails) =
+    ap (numbered Chosen (db table.tree)) rows in
+    let one = one_step room_schema Enforced db mid.0 edit (quiet edit.news) (subst (λ c. Edited room_schema
+    Enforced db (edit_of db table [] c 0 given.0) (Ok mid.0)) (by_choice (count_of counter.0)) mid.1) in
     let to = ap (λ (d : Database). d.trees) w.now ∙ trees in
-    let is : new.now.trees table.tree ≡ put_all (db table.tree) (numbered Chosen (db table.tree) (unnumbered tails)) = ap (λ (t : Trees). t table.tree) to ∙ one.rows ∙ ap (put_all (db table.tree)) news in
+    let is : new.now.trees table.tree ≡ put_all (db table.tree) (numbered Chosen (db table.tree) (unnumbered tails)) =
+    ap (λ (t : Trees). t table.tree) to ∙ one.rows ∙ ap (put_all (db table.tree)) news in
     record {
       schema = ap (λ (d : Database). d.schema) w.now;
-      rows = subst (λ l. HasAll (db table.tree) l tails) (sym is) (all_chosen (db table.tree) tails (subst (λ n. are_fresh (db table.tree) n ≡ true) news one.fresh));
+      rows = subst (λ l. HasAll (db table.tree) l tails) (sym is)
+          (all_chosen (db table.tree) tails (subst (λ n. are_fresh (db table.tree) n ≡ true) news one.fresh));
       others = subst (λ t. Others table.tree db t) (sym to) (others_of table.tree db mid.0 one.tables);
     }
 
-pub upserts : (old new : State) (at : ℕ) (table : Table) (from : Source) (clauses : List Upsert) (text : List ℕ) (params : Row) (count : ℕ) → slice_get room_schema.tables at ≡ Some table → old.now.schema ≡ room_schema
-    → Runs old new None (InsertOr at Abort from clauses) text params count → Wrote old new table params (InsertOr at Abort from clauses)
+pub upserts : (old new : State) (at : ℕ) (table : Table) (from : Source) (clauses : List Upsert) (text : List ℕ)
+    (params : Row) (count : ℕ) → slice_get room_schema.tables at ≡ Some table → old.now.schema ≡ room_schema
+    → Runs old new None (InsertOr at Abort from clauses) text params count
+    → Wrote old new table params (InsertOr at Abort from clauses)
 upserts old new at table from clauses text params count place schema w =
-    let all = subst (λ s. Does old.step_limit (mode_of old) params (record old.now { schema = s }) text None (InsertOr at Abort from clauses) (Ok (w.tally, new.now))) schema w.changed in
+    let all = subst (λ s. Does old.step_limit (mode_of old) params (record old.now { schema = s })
+    text None (InsertOr at Abort from clauses) (Ok (w.tally, new.now))) schema w.changed in
     let done = went (rw place at all) in
-    record { rows = done.0; written = done.1; now = concludes (task_on old table params) (mode_of old) done.0 w.tally new.now done.2 }
+    record {
+      rows = done.0;
+      written = done.1;
+      now = concludes (task_on old table params) (mode_of old) done.0 w.tally new.now done.2;
+    }
 
 -- ---- what an execute inside a transaction leaves
 
@@ -207,32 +258,44 @@ keeps_if : (old new : State) → IsUnchanged old new ⊎ IsRolledBack old new �
 keeps_if old new (inl same) = record { was_open = λ _. same.0.was_open; committed = λ _. same.0.committed_is }
 keeps_if old new (inr back) = record { was_open = back.was_open; committed = λ is. (back.undone is).1 }
 
-pub keeps_failed : (sql : List ℕ) (params : Row) (old new : State) (e : Error) → ExecutesInside 0 sql params old new (Err e) → KeepsCommit old new
+pub keeps_failed : (sql : List ℕ) (params : Row) (old new : State) (e : Error)
+    → ExecutesInside 0 sql params old new (Err e) → KeepsCommit old new
 keeps_failed sql params old new e (inl h) = keeps_if old new h.1
 keeps_failed sql params old new e (inr h) = keeps_if old new (inl h.2)
 
-pub executes_inside : (sql : List ℕ) (params : Row) (old new : State) (count : ℕ) → ExecutesInside 0 sql params old new (Ok count) → Executes sql params old new (Ok count) × Shows old new new.now old.committed true
+pub executes_inside : (sql : List ℕ) (params : Row) (old new : State) (count : ℕ) → ExecutesInside 0 sql params
+    old new (Ok count) → Executes sql params old new (Ok count) × Shows old new new.now old.committed true
 executes_inside sql params old new count h = (h.0, h.1)
 
-pub keeps_ran : (sql : List ℕ) (params : Row) (old new : State) (r : Result ℕ Error) → ExecutesInside 0 sql params old new r → KeepsCommit old new
+pub keeps_ran : (sql : List ℕ) (params : Row) (old new : State) (r : Result ℕ Error)
+    → ExecutesInside 0 sql params old new r → KeepsCommit old new
 keeps_ran sql params old new (Ok count) h = record { was_open = λ _. h.1.was_open; committed = λ _. h.1.committed_is }
 keeps_ran sql params old new (Err e) h = keeps_failed sql params old new e h
 
 -- with no transaction nothing is done, and in one the commit is kept
-pub keeps_all : (sql : List ℕ) (params : Row) (old new : State) (r : Result ℕ Error) (X : Type 0) → (old.in_transaction ≡ false → X × (new ≡ old)) → (old.in_transaction ≡ true → ExecutesInside 0 sql params old new r) → KeepsCommit old new
+pub keeps_all : (sql : List ℕ) (params : Row) (old new : State) (r : Result ℕ Error) (X : Type 0)
+    → (old.in_transaction ≡ false → X × (new ≡ old))
+    → (old.in_transaction ≡ true → ExecutesInside 0 sql params old new r) → KeepsCommit old new
 keeps_all sql params old new r X ended ran = elim (cases_Bool old.in_transaction) [
   | inl inside ↦ keeps_ran sql params old new r (ran inside)
-  | inr outside ↦ let same = (ended outside).1 in record { was_open = λ is. subst (λ (s : State). s.is_open ≡ true) same is; committed = λ _. ap (λ (s : State). s.committed) same }
+  | inr outside ↦ let same = (ended outside).1 in record {
+    was_open = λ is.
+        subst (λ (s : State). s.is_open ≡ true) same is;
+    committed = λ _. ap (λ (s : State). s.committed) same;
+  }
 ]
 
 -- an execute that answered Ok was inside one
-pub was_inside : (inside : Bool) (r : Result ℕ Error) (count : ℕ) (X : Type 0) (e : Error) → (inside ≡ false → (r ≡ Err e) × X) → r ≡ Ok count → inside ≡ true
+pub was_inside : (inside : Bool) (r : Result ℕ Error) (count : ℕ) (X : Type 0) (e : Error)
+    → (inside ≡ false → (r ≡ Err e) × X) → r ≡ Ok count → inside ≡ true
 was_inside true r count X e ended is = refl
 was_inside false r count X e ended is = absurd (let bad = sym (ended refl).0 ∙ is in cc)
 
 -- a commit that failed leaves what was committed
-pub fails_back : (first mid last : State) (e : Error) → first.in_transaction ≡ true → mid.in_transaction ≡ true → KeepsCommit first mid → FailsToCommit mid last e → last.is_open ≡ true → last.now ≡ first.committed
-fails_back first mid last e begun inside kept (inl failed) is = (failed.3.undone is).0 ∙ kept.committed (failed.3.was_open is)
+pub fails_back : (first mid last : State) (e : Error) → first.in_transaction ≡ true → mid.in_transaction ≡ true
+    → KeepsCommit first mid → FailsToCommit mid last e → last.is_open ≡ true → last.now ≡ first.committed
+fails_back first mid last e begun inside kept (inl failed) is =
+    (failed.3.undone is).0 ∙ kept.committed (failed.3.was_open is)
 fails_back first mid last e begun inside kept (inr h) is = absurd (true≢false (sym inside ∙ h.1))
 
 pub on_err : {X E : Type 0} (r : Result X E) (P : E → Type 0) (Q : Type 0) → ((e : E) → P e → Q) → IfErr r P → OnErr r Q

@@ -1,5 +1,7 @@
 -- The children of a folder, as the rows show them.
-use Rattle.std.proofs.Common.{◌≡◌, ◌≢◌, ◌⊎◌, inl, inr, ℕ, suc, ◌≤◌, pos, Bool, true, false, ◌&&◌, cond, List, [], ◌∷◌, length, map, filter, slice_get, Option, None, Some, option_map, unwrap_or, refl, sym, ap, ap₂, subst, ◌∙◌, true≢false, arith, Ordering, Less, Equal, Greater, is_gt, IsPermutation}
+use Rattle.std.proofs.Common.{◌≡◌, ◌≢◌, ◌⊎◌, inl, inr, ℕ, suc, ◌≤◌, pos, Bool, true, false, ◌&&◌, cond, List, [], ◌∷◌}
+use Rattle.std.proofs.Common.{length, map, filter, slice_get, Option, None, Some, option_map, unwrap_or, refl, sym, ap}
+use Rattle.std.proofs.Common.{ap₂, subst, ◌∙◌, true≢false, arith, Ordering, Less, Equal, Greater, is_gt, IsPermutation}
 use Rattle.std.specs.List.{AllByRecursion}
 use Rattle.std.specs.Ordering.{nat_cmp, ordering_then}
 use Rattle.std.specs.Cmp.Lexicographic.{slice_cmp}
@@ -26,7 +28,8 @@ use Rattle.room_records.specs.Names.{name_cmp}
 use Rattle.room_records.specs.Records.{ObjectRecords, IsChild}
 use Rattle.room_records.specs.Rules.{ObjectRules}
 use Rattle.room_records.specs.Shelf.{AreChildren, IsChildCount, IsChildNamed, InNameOrder, name_of}
-use Rattle.room_tables.specs.Rows.{has, is_child_named, only, number_in, parent_in, name_of_text, name_in, shown_node, node_of, nodes_in, named_rows, child_rows, records_of}
+use Rattle.room_tables.specs.Rows.{has, is_child_named, only, number_in, parent_in, name_of_text, name_in, shown_node}
+use Rattle.room_tables.specs.Rows.{node_of, nodes_in, named_rows, child_rows, records_of}
 use Rattle.room_tables.specs.Layout.{IsNumbered, IsRoomDatabase, parent_value}
 use Rattle.room_tables.specs.Names.{ByName, name_key, name_keys}
 use Rattle.room_tables.proofs.Values.{has_one, has_text_value, has_not_null, has_tied, int_has, text_has}
@@ -41,12 +44,15 @@ some_is e = cc
 -- ---- rows and nodes
 
 -- the row of a node, where there is one
-pub row_of : (rows : List Row) (id : ℕ) (node : Node) → nodes_in rows id ≡ Some node → (r : Row) × Has rows r × (has 0 id r ≡ true) × (node_of (shown_node r) ≡ node)
+pub row_of : (rows : List Row) (id : ℕ) (node : Node) → nodes_in rows id ≡ Some node
+    → (r : Row) × Has rows r × (has 0 id r ≡ true) × (node_of (shown_node r) ≡ node)
 row_of rows id node h = go (filter (has 0 id) rows) refl h
   where
-    go : (l : List Row) → filter (has 0 id) rows ≡ l → option_map node_of (only (map shown_node l)) ≡ Some node → (r : Row) × Has rows r × (has 0 id r ≡ true) × (node_of (shown_node r) ≡ node)
+    go : (l : List Row) → filter (has 0 id) rows ≡ l → option_map node_of (only (map shown_node l)) ≡ Some node
+        → (r : Row) × Has rows r × (has 0 id r ≡ true) × (node_of (shown_node r) ≡ node)
     go [] e h = absurd (let bad = h in cc)
-    go (r ∷ []) e h = let k = has_filtered (has 0 id) rows r (subst (λ l. Has l r) (sym e) (inl refl)) in (r, k.0, k.1, some_is h)
+    go (r ∷ []) e h = let k = has_filtered (has 0 id) rows r (subst (λ l. Has l r) (sym e) (inl refl)) in
+        (r, k.0, k.1, some_is h)
     go (r ∷ s ∷ more) e h = absurd (let bad = h in cc)
 
 parent_is : (v : Value) (p : ℕ) → parent_in v ≡ Some p → v ≡ Int (pos p)
@@ -63,12 +69,14 @@ named_back [] some = absurd (some refl)
 named_back (b ∷ bytes) some = refl
 
 -- the row of a folder is a child
-pub row_is_child : (db : Database) (p : ℕ) (r : Row) → IsRoomDatabase db → Has (db.trees 1) r → has 2 p r ≡ true → IsChild (records_of db.trees).objects p (node_of (shown_node r))
+pub row_is_child : (db : Database) (p : ℕ) (r : Row) → IsRoomDatabase db → Has (db.trees 1) r
+    → has 2 p r ≡ true → IsChild (records_of db.trees).objects p (node_of (shown_node r))
 row_is_child db p r room there inside =
     let n = all_has IsNumbered (db.trees 1) r room.numbered there in
     let mine : has 0 n.id r ≡ true = int_has 0 n.id r n.has_id in
     let keyed = room.keyed.node in
-    let only_row = one_row (has 0 n.id) (db.trees 1) r keyed.table there mine (λ a b _ _ x y. has_tied 0 n.id a b x y) in
+    let only_row =
+    one_row (has 0 n.id) (db.trees 1) r keyed.table there mine (λ a b _ _ x y. has_tied 0 n.id a b x y) in
     let id : number_in (column r 0) ≡ n.id = ap number_in n.has_id in
     record {
       stands = ap (nodes_in (db.trees 1)) id ∙ ap (λ l. option_map node_of (only (map shown_node l))) only_row;
@@ -80,43 +88,56 @@ row_is_child db p r room there inside =
     parent_back (Some m) e = ap Some (has_one 2 m p r (int_has 2 m r e) inside)
 
 -- and a child has a row in the folder
-pub child_has_row : (db : Database) (p : ℕ) (node : Node) → IsRoomDatabase db → IsChild (records_of db.trees).objects p node → (r : Row) × Has (db.trees 1) r × (has 2 p r ≡ true) × (node_of (shown_node r) ≡ node)
+pub child_has_row : (db : Database) (p : ℕ) (node : Node) → IsRoomDatabase db → IsChild (records_of db.trees).objects
+    p node → (r : Row) × Has (db.trees 1) r × (has 2 p r ≡ true) × (node_of (shown_node r) ≡ node)
 child_has_row db p node room child =
     let r = row_of (db.trees 1) node.id node child.stands in
     (r.0, r.1, int_has 2 p r.0 (parent_is _ p (ap (λ (n : Node). n.parent) r.3 ∙ child.inside)), r.3)
 
 -- ---- the child of a name
 
-pub no_child : (db : Database) (p : ℕ) (name : List ℕ) → IsRoomDatabase db → IsPermutation (named_rows db.trees p name) [] → IsChildNamed (records_of db.trees).objects p name None
+pub no_child : (db : Database) (p : ℕ) (name : List ℕ) → IsRoomDatabase db
+    → IsPermutation (named_rows db.trees p name) [] → IsChildNamed (records_of db.trees).objects p name None
 no_child db p name room same node child named =
     let r = child_has_row db p node room child in
     let text : column r.0 3 ≡ Text name = name_is _ name (ap (λ (n : Node). n.name) r.3 ∙ named) in
     let passes : is_child_named p name r.0 ≡ true = both _ _ r.2 (text_has 3 name r.0 text) in
-    let here = mapped_has shown_node (filter (is_child_named p name) (db.trees 1)) r.0 (has_kept (is_child_named p name) (db.trees 1) r.0 r.1 passes) in
+    let here = mapped_has shown_node (filter (is_child_named p name) (db.trees 1))
+    r.0 (has_kept (is_child_named p name) (db.trees 1) r.0 r.1 passes) in
     absurd (has_permuted [] (named_rows db.trees p name) (shown_node r.0) (IsPermutation-sym _ _ same) here)
   where
     both : (a b : Bool) → a ≡ true → b ≡ true → (a && b) ≡ true
     both a b x y = rw x y
 
-pub one_child : (db : Database) (p : ℕ) (name : List ℕ) (row : Row) (rest : List Row) → IsRoomDatabase db → name ≢ [] → IsPermutation (named_rows db.trees p name) (row ∷ rest) → IsChildNamed (records_of db.trees).objects p name (Some (node_of row))
+pub one_child : (db : Database) (p : ℕ) (name : List ℕ) (row : Row) (rest : List Row)
+    → IsRoomDatabase db → name ≢ [] → IsPermutation (named_rows db.trees p name) (row ∷ rest)
+    → IsChildNamed (records_of db.trees).objects p name (Some (node_of row))
 one_child db p name row rest room some same =
-    let shown = has_mapped shown_node (filter (is_child_named p name) (db.trees 1)) row (has_permuted _ (row ∷ rest) row same (inl refl)) in
+    let shown = has_mapped shown_node (filter (is_child_named p name) (db.trees 1))
+    row (has_permuted _ (row ∷ rest) row same (inl refl)) in
     let r = shown.0 in
     let kept = has_filtered (is_child_named p name) (db.trees 1) r shown.1 in
     let text = has_text_value 3 name r (second_of_both (has 2 p r) _ kept.1) in
-    let child = row_is_child db p r room kept.0 (first_of_both (has 2 p r) _ kept.1) in
-    (subst (λ x. IsChild (records_of db.trees).objects p (node_of x)) (sym shown.2) child, ap (λ x. (node_of x).name) shown.2 ∙ ap name_in text ∙ named_back name some)
+    let child = row_is_child db p r room kept.0 (first_of_both (has 2 p r) _ kept.1) in (
+      subst (λ x. IsChild (records_of db.trees).objects p (node_of x)) (sym shown.2) child,
+      ap (λ x. (node_of x).name) shown.2 ∙ ap name_in text ∙ named_back name some,
+    )
 
 -- ---- all the children of a folder
 
 -- a number is shown once
-pub shown_once : (db : Database) (p id : ℕ) (rows : List Row) → IsRoomDatabase db → IsPermutation (child_rows db.trees p) rows → length (filter (has 0 id) rows) ≤ 1
+pub shown_once : (db : Database) (p id : ℕ) (rows : List Row) → IsRoomDatabase db
+    → IsPermutation (child_rows db.trees p) rows → length (filter (has 0 id) rows) ≤ 1
 shown_once db p id rows room same =
     let all = filter (has 2 p) (db.trees 1) in
-    let few : length (filter (has 0 id) (child_rows db.trees p)) ≤ 1 = subst (λ l. length l ≤ 1) (sym (filter-map (has 0 id) shown_node all)) (go (found_or_none all id (keyed_filter (has 2 p) (db.trees 1) room.keyed.node))) in
+    let few : length (filter (has 0 id) (child_rows db.trees p)) ≤ 1 =
+    subst (λ l. length l ≤ 1) (sym (filter-map (has 0 id) shown_node all))
+    (go (found_or_none all id (keyed_filter (has 2 p) (db.trees 1) room.keyed.node))) in
     omega (arith, few, length_permutation _ _ (IsPermutation-filter (has 0 id) _ _ same))
   where
-    go : (filter (has 0 id) (filter (has 2 p) (db.trees 1)) ≡ []) ⊎ ((r : Row) × (filter (has 0 id) (filter (has 2 p) (db.trees 1)) ≡ r ∷ [])) → length (map shown_node (filter (has 0 id) (filter (has 2 p) (db.trees 1)))) ≤ 1
+    go : (filter (has 0 id) (filter (has 2 p) (db.trees 1)) ≡ [])
+        ⊎ ((r : Row) × (filter (has 0 id) (filter (has 2 p) (db.trees 1)) ≡ r ∷ []))
+        → length (map shown_node (filter (has 0 id) (filter (has 2 p) (db.trees 1)))) ≤ 1
     go (inl none) = rw none (omega arith)
     go (inr one) = rw one.1 (omega arith)
 
@@ -128,7 +149,8 @@ record Shown (t : ObjectRecords) (p : ℕ) (s : Row) : Type 0 where
   has_text_in : column s 2 ≡ Text text
   child : IsChild t p (node_of s)
 
-child_shown : (db : Database) (p : ℕ) (rows : List Row) → IsRoomDatabase db → ObjectRules (records_of db.trees).objects → IsPermutation (child_rows db.trees p) rows → AllByRecursion (Shown (records_of db.trees).objects p) rows
+child_shown : (db : Database) (p : ℕ) (rows : List Row) → IsRoomDatabase db → ObjectRules (records_of db.trees).objects
+    → IsPermutation (child_rows db.trees p) rows → AllByRecursion (Shown (records_of db.trees).objects p) rows
 child_shown db p rows room rules same = all_from (Shown (records_of db.trees).objects p) rows (λ s h.
     let shown = has_mapped shown_node (filter (has 2 p) (db.trees 1)) s (has_permuted _ rows s same h) in
     let r = shown.0 in
@@ -136,11 +158,19 @@ child_shown db p rows room rules same = all_from (Shown (records_of db.trees).ob
     let child = row_is_child db p r room kept.0 kept.1 in
     let n = all_has IsNumbered (db.trees 1) r room.numbered kept.0 in
     let node = node_of (shown_node r) in
-    let below = rules.below node.id node child.stands (λ is. not_root node (subst (λ i. (records_of db.trees).objects.node i ≡ Some node) is child.stands) child.inside) in
-    subst (Shown (records_of db.trees).objects p) (sym shown.2) (record { id = n.id; has_id = n.has_id; text = below.name; has_text_in = name_is _ below.name below.named; child = child }))
+    let below = rules.below node.id node child.stands (λ is.
+    not_root node (subst (λ i. (records_of db.trees).objects.node i ≡ Some node) is child.stands) child.inside) in
+    subst (Shown (records_of db.trees).objects p) (sym shown.2) (record {
+      id = n.id;
+      has_id = n.has_id;
+      text = below.name;
+      has_text_in = name_is _ below.name below.named;
+      child = child;
+    }))
   where
     not_root : (node : Node) → (records_of db.trees).objects.node 1 ≡ Some node → node.parent ≡ Some p → ⊥
-    not_root node stands inside = let root = (rw stands at rules.root) in absurd (let bad = sym root.no_parent ∙ inside in cc)
+    not_root node stands inside = let root = (rw stands at rules.root) in
+        absurd (let bad = sym root.no_parent ∙ inside in cc)
 
 text_back : (t : List ℕ) → unwrap_or (name_of_text t) [] ≡ t
 text_back [] = refl
@@ -150,27 +180,33 @@ shown_name : (s : Row) (t : List ℕ) → column s 2 ≡ Text t → name_of (nod
 shown_name s t e = ap (λ v. unwrap_or (name_in v) []) e ∙ text_back t
 
 -- two rows of one folder that have one name have one number
-same_number : (t : ObjectRecords) (p : ℕ) (a b : Row) (x : Shown t p a) (y : Shown t p b) → ObjectRules t → x.text ≡ y.text → x.id ≡ y.id
+same_number : (t : ObjectRecords) (p : ℕ) (a b : Row) (x : Shown t p a) (y : Shown t p b)
+    → ObjectRules t → x.text ≡ y.text → x.id ≡ y.id
 same_number t p a b x y rules same =
     let name : (node_of a).name ≡ (node_of b).name = ap name_in (x.has_text_in ∙ ap Text same ∙ sym y.has_text_in) in
-    sym (ap number_in x.has_id) ∙ rules.once (node_of a) (node_of b) x.child.stands y.child.stands (x.child.inside ∙ sym y.child.inside) name ∙ ap number_in y.has_id
+    sym (ap number_in x.has_id) ∙ rules.once (node_of a) (node_of b) x.child.stands
+    y.child.stands (x.child.inside ∙ sym y.child.inside) name ∙ ap number_in y.has_id
 
 not_greater : (o : Ordering) → is_gt (ordering_then o Equal) ≡ false → o ≢ Equal → o ≡ Less
 not_greater Less h apart = refl
 not_greater Equal h apart = absurd (apart refl)
 not_greater Greater h apart = absurd (true≢false h)
 
-in_order : (t : ObjectRecords) (p : ℕ) (rows : List Row) → ObjectRules t → AllByRecursion (Shown t p) rows → IsAscending ByName rows → ((id : ℕ) → length (filter (has 0 id) rows) ≤ 1) → InNameOrder (map node_of rows)
+in_order : (t : ObjectRecords) (p : ℕ) (rows : List Row) → ObjectRules t → AllByRecursion (Shown t p) rows
+    → IsAscending ByName rows → ((id : ℕ) → length (filter (has 0 id) rows) ≤ 1) → InNameOrder (map node_of rows)
 in_order t p [] rules all up once = tt
 in_order t p (a ∷ []) rules all up once = tt
 in_order t p (a ∷ b ∷ rows) rules all up once =
     let x = all.0 in
     let y = all.1.0 in
     let low = up.0.0 in
-    let values : value_cmp (column a 2) (column b 2) ≡ slice_cmp nat_cmp x.text y.text = ap₂ value_cmp x.has_text_in y.has_text_in ∙ value_cmp-Text x.text y.text in
+    let values : value_cmp (column a 2) (column b 2) ≡ slice_cmp nat_cmp x.text y.text =
+    ap₂ value_cmp x.has_text_in y.has_text_in ∙ value_cmp-Text x.text y.text in
     let apart : slice_cmp nat_cmp x.text y.text ≢ Equal = (λ tie. twice x y (exact_bytes _ _ tie)) in
-    let less = not_greater _ (ap (λ o. is_gt (ordering_then o Equal)) (sym values) ∙ low) apart in
-    (ap₂ name_cmp (shown_name a x.text x.has_text_in) (shown_name b y.text y.has_text_in) ∙ less, in_order t p (b ∷ rows) rules all.1 up.1 tail_once)
+    let less = not_greater _ (ap (λ o. is_gt (ordering_then o Equal)) (sym values) ∙ low) apart in (
+      ap₂ name_cmp (shown_name a x.text x.has_text_in) (shown_name b y.text y.has_text_in) ∙ less,
+      in_order t p (b ∷ rows) rules all.1 up.1 tail_once,
+    )
   where
     fewer : (c : Bool) (l : List Row) (r : Row) → length l ≤ length (cond c (r ∷ l) l)
     fewer true l r = omega arith
@@ -182,37 +218,50 @@ in_order t p (a ∷ b ∷ rows) rules all up once =
     twice : (x : Shown t p a) (y : Shown t p b) → x.text ≡ y.text → ⊥
     twice x y same =
         let first : has 0 x.id a ≡ true = int_has 0 x.id a x.has_id in
-        let second : has 0 x.id b ≡ true = int_has 0 x.id b (y.has_id ∙ ap (λ n. Int (pos n)) (sym (same_number t p a b x y rules same))) in
-        let two : length (filter (has 0 x.id) (a ∷ b ∷ rows)) ≡ suc (suc (length (filter (has 0 x.id) rows))) = rw (first, second) refl in
+        let second : has 0 x.id b ≡ true =
+        int_has 0 x.id b (y.has_id ∙ ap (λ n. Int (pos n)) (sym (same_number t p a b x y rules same))) in
+        let two : length (filter (has 0 x.id) (a ∷ b ∷ rows)) ≡ suc (suc (length (filter (has 0 x.id) rows))) =
+        rw (first, second) refl in
         absurd (omega (arith, two, once x.id))
 
-pub are_children : (db : Database) (p : ℕ) (rows : List Row) → IsRoomDatabase db → ObjectRules (records_of db.trees).objects → IsPermutation (child_rows db.trees p) rows → IsAscending ByName rows
+pub are_children : (db : Database) (p : ℕ) (rows : List Row) → IsRoomDatabase db
+    → ObjectRules (records_of db.trees).objects → IsPermutation (child_rows db.trees p) rows → IsAscending ByName rows
     → AreChildren (records_of db.trees).objects p (map node_of rows)
 are_children db p rows room rules same up =
     let all = child_shown db p rows room rules same in
     record {
-      each = Rattle.sqlite_keyed.proofs.ListLemmas.all_map (IsChild (records_of db.trees).objects p) node_of rows (Rattle.sqlite_keyed.proofs.ListLemmas.all_weaker _ _ (λ s x. x.child) rows all);
+      each = Rattle.sqlite_keyed.proofs.ListLemmas.all_map (IsChild (records_of db.trees).objects p)
+          node_of rows (Rattle.sqlite_keyed.proofs.ListLemmas.all_weaker _ _ (λ s x. x.child) rows all);
       every = λ node child.
           let r = child_has_row db p node room child in
-          let here = mapped_has shown_node (filter (has 2 p) (db.trees 1)) r.0 (has_kept (has 2 p) (db.trees 1) r.0 r.1 r.2) in
+          let here = mapped_has shown_node (filter (has 2 p) (db.trees 1))
+          r.0 (has_kept (has 2 p) (db.trees 1) r.0 r.1 r.2) in
           let there = has_permuted rows (child_rows db.trees p) (shown_node r.0) (IsPermutation-sym _ _ same) here in
-          contains_had (map node_of rows) node (subst (Has (map node_of rows)) r.3 (mapped_has node_of rows (shown_node r.0) there));
+          contains_had (map node_of rows) node
+          (subst (Has (map node_of rows)) r.3 (mapped_has node_of rows (shown_node r.0) there));
       in_order = in_order (records_of db.trees).objects p rows rules all up (λ id. shown_once db p id rows room same);
     }
 
 -- their number is that of the rows
-pub count_children : (db : Database) (p : ℕ) → IsRoomDatabase db → ObjectRules (records_of db.trees).objects → IsChildCount (records_of db.trees).objects p (length (child_rows db.trees p))
+pub count_children : (db : Database) (p : ℕ) → IsRoomDatabase db → ObjectRules (records_of db.trees).objects
+    → IsChildCount (records_of db.trees).objects p (length (child_rows db.trees p))
 count_children db p room rules =
     let cmp = λ (a b : Row). key_cmp 0 name_keys (name_key a) (name_key b) in
     let total = key_cmp_total name_keys 0 in
     let total_on = Rattle.std.proofs.lemmas.Cmp.on_total name_key total in
     let rows = sort_by cmp (child_rows db.trees p) in
-    let same = IsPermutation-sym _ _ (IsPermutation-sort_by cmp total_on (child_rows db.trees p)) in
-    (map node_of rows, are_children db p rows room rules same (ascending-sort_by cmp total_on (child_rows db.trees p)), sym (Rattle.std.proofs.lemmas.List.length-map rows node_of ∙ length_permutation _ _ same))
+    let same = IsPermutation-sym _ _ (IsPermutation-sort_by cmp total_on (child_rows db.trees p)) in (
+      map node_of rows,
+      are_children db p rows room rules same (ascending-sort_by cmp total_on (child_rows db.trees p)),
+      sym (Rattle.std.proofs.lemmas.List.length-map rows node_of ∙ length_permutation _ _ same),
+    )
 
 -- what the first row of a look-up by name says
-pub named_found : (db : Database) (p : ℕ) (name : List ℕ) (rows : List Row) (found : Option Node) → IsRoomDatabase db → 1 ≤ length name → IsPermutation (named_rows db.trees p name) rows → found ≡ option_map node_of (slice_get rows 0)
+pub named_found : (db : Database) (p : ℕ) (name : List ℕ) (rows : List Row) (found : Option Node) → IsRoomDatabase db
+    → 1 ≤ length name → IsPermutation (named_rows db.trees p name) rows → found ≡ option_map node_of (slice_get rows 0)
     → IsChildNamed (records_of db.trees).objects p name found
-named_found db p name [] found room some same is = subst (IsChildNamed (records_of db.trees).objects p name) (sym is) (no_child db p name room same)
+named_found db p name [] found room some same is =
+    subst (IsChildNamed (records_of db.trees).objects p name) (sym is) (no_child db p name room same)
 named_found db p name (row ∷ rest) found room some same is =
-    subst (IsChildNamed (records_of db.trees).objects p name) (sym is) (one_child db p name row rest room (λ e. absurd (omega (arith, some, ap length e))) same)
+    subst (IsChildNamed (records_of db.trees).objects p name) (sym is)
+    (one_child db p name row rest room (λ e. absurd (omega (arith, some, ap length e))) same)

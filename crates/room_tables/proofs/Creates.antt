@@ -1,6 +1,7 @@
 -- What the CREATE TABLE of each table makes.
 use Rattle.std.specs.declared.alloc.Global.{Global}
-use Rattle.std.proofs.Common.{Vec, ◌≡◌, ◌==◌, cond, ℕ, false, List, [], ◌∷◌, ◌++◌, None, Some, Ok, refl, sym, ap, subst, ◌∙◌}
+use Rattle.std.proofs.Common.{Vec, ◌≡◌, ◌==◌, cond, ℕ, false, List, [], ◌∷◌, ◌++◌, None, Some, Ok}
+use Rattle.std.proofs.Common.{refl, sym, ap, subst, ◌∙◌}
 use Rattle.room_acl.specs.Entries.{EntryModel}
 use Rattle.room_records.specs.declared.change.Change.TheVariants.{PutNode, PutEntries, PutNext}
 use Rattle.room_records.specs.Changes.{apply_change}
@@ -19,14 +20,18 @@ use Rattle.sqlite.specs.Does.{Tally, Does, lacks_sequence}
 use Rattle.sqlite.specs.Effect.{Database}
 use Rattle.sqlite.specs.State.{State, mode_of, Writes, ExecutesInside}
 use Rattle.sqlite.proofs.Callers.{runs_as}
-use Rattle.room_tables.specs.Tables.{room_text, node_text, entry_text, doc_text, session_text, slot_text, room_table, node_table, entry_table, doc_table, session_table, slot_table, schema_0, schema_1, schema_2, schema_3, schema_4, schema_5, room_schema}
+use Rattle.room_tables.specs.Tables.{room_text, node_text, entry_text, doc_text, session_text, slot_text, room_table}
+use Rattle.room_tables.specs.Tables.{node_table, entry_table, doc_table, session_table, slot_table, schema_0, schema_1}
+use Rattle.room_tables.specs.Tables.{schema_2, schema_3, schema_4, schema_5, room_schema}
 use Rattle.room_tables.specs.Layout.{IsKeyed, IsNumbered, IsRoomDatabase}
 use Rattle.room_tables.specs.Fresh.{IsMade, IsFresh, filled}
 use Rattle.room_records.specs.declared.node.Node.{Node}
 use Rattle.room_records.specs.Records.{Records}
 use Rattle.room_tables.specs.Rows.{nodes_in, entries_in, documents_in, next_in, sessions_in, slots_in, records_of}
 use Rattle.room_tables.proofs.Each.{by_name, from_both}
-use Rattle.room_tables.proofs.Making.{room_is, room_plain, room_made, node_is, node_plain, node_made, entry_is, entry_plain, entry_made, doc_is, doc_plain, doc_made, session_is, session_plain, session_made, slot_is, slot_plain, slot_made}
+use Rattle.room_tables.proofs.Making.{room_is, room_plain, room_made, node_is, node_plain, node_made, entry_is}
+use Rattle.room_tables.proofs.Making.{entry_plain, entry_made, doc_is, doc_plain, doc_made, session_is, session_plain}
+use Rattle.room_tables.proofs.Making.{session_made, slot_is, slot_plain, slot_made}
 use Rattle.room_tables.proofs.Effects.{same_records}
 use Rattle.room_tables.proofs.Changes.{went, same_value, executes_inside}
 
@@ -37,10 +42,12 @@ record Made (old new : State) (schema : Schema) (table : Table) : Type 0 where
   empty : new.now.trees (next_tree schema) ≡ []
   others : KeepsRows schema.tables old.now.trees new.now.trees
 
-makes : (old new : State) (schema : Schema) (table : Table) (sql text : List ℕ) (count : ℕ) → old.now.schema ≡ schema → table_defined_by text ≡ Ok table → lacks_sequence (created schema table) ≡ false
+makes : (old new : State) (schema : Schema) (table : Table) (sql text : List ℕ) (count : ℕ)
+    → old.now.schema ≡ schema → table_defined_by text ≡ Ok table → lacks_sequence (created schema table) ≡ false
     → Writes old new None CreateTable text [] count → Made old new schema table
 makes old new schema table sql text count has defined plain w =
-    let changed = subst (λ s. Does old.step_limit (mode_of old) [] (record old.now { schema = s }) text None CreateTable (Ok (w.tally, new.now))) has w.changed in
+    let changed = subst (λ s. Does old.step_limit (mode_of old) [] (record old.now { schema = s })
+    text None CreateTable (Ok (w.tally, new.now))) has w.changed in
     let all = went changed in
     let first = went all.1 in
     let made = first.1 in
@@ -48,7 +55,8 @@ makes old new schema table sql text count has defined plain w =
     let same : made.table ≡ table = cc in
     let is : first.0.schema ≡ created schema table = made.is ∙ ap (created schema) same in
     let lacks : lacks_sequence first.0.schema ≡ false = ap lacks_sequence is ∙ plain in
-    let now : new.now ≡ first.0 = ap (λ (p : Tally × Database). p.1) (same_value all.2) ∙ same_value (rw lacks at first.2) in
+    let now : new.now ≡ first.0 =
+    ap (λ (p : Tally × Database). p.1) (same_value all.2) ∙ same_value (rw lacks at first.2) in
     record {
       free = ap (λ (t : Table). is_used schema t.name) (sym same) ∙ made.free;
       after = ap (λ (d : Database). d.schema) now ∙ is;
@@ -57,45 +65,80 @@ makes old new schema table sql text count has defined plain w =
     }
 
 -- tables that were empty stay so, and one more is
-all_empty : (tables : List Table) (more : Table) (old new : Trees) → KeepsRows tables old new → AllByRecursion (λ (t : Table). old t.tree ≡ []) tables → new more.tree ≡ [] → AllByRecursion (λ (t : Table). new t.tree ≡ []) (tables ++ more ∷ [])
+all_empty : (tables : List Table) (more : Table) (old new : Trees) → KeepsRows tables old new
+    → AllByRecursion (λ (t : Table). old t.tree ≡ []) tables → new more.tree ≡ []
+    → AllByRecursion (λ (t : Table). new t.tree ≡ []) (tables ++ more ∷ [])
 all_empty [] more old new same were is = (is, tt)
 all_empty (t ∷ tables) more old new same were is = (same.0 ∙ were.0, all_empty tables more old new same.1 were.1 is)
 
-pub room_step : (old new : State) (count : ℕ) → ExecutesInside 0 room_text [] old new (Ok count) → IsMade schema_0 old.now → IsMade schema_1 new.now
+pub room_step : (old new : State) (count : ℕ) → ExecutesInside 0 room_text [] old new (Ok count)
+    → IsMade schema_0 old.now → IsMade schema_1 new.now
 room_step old new count h was =
-    let w = runs_as room_text [] old new schema_0 was.schema CreateTable room_is.0 room_plain count (executes_inside room_text [] old new count h).0 in
-    let it = makes old new schema_0 (record room_table { tree = 0 }) room_text _ count was.schema room_is.2 refl (rw room_is.1 at w) in
+    let w = runs_as room_text [] old new schema_0 was.schema CreateTable room_is.0
+    room_plain count (executes_inside room_text [] old new count h).0 in
+    let it = makes old new schema_0 (record room_table { tree = 0 })
+    room_text _ count was.schema room_is.2 refl (rw room_is.1 at w) in
     record { schema = it.after ∙ room_made; empty = (it.empty, tt) }
 
-pub node_step : (old new : State) (count : ℕ) → ExecutesInside 0 node_text [] old new (Ok count) → IsMade schema_1 old.now → IsMade schema_2 new.now
+pub node_step : (old new : State) (count : ℕ) → ExecutesInside 0 node_text [] old new (Ok count)
+    → IsMade schema_1 old.now → IsMade schema_2 new.now
 node_step old new count h was =
-    let w = runs_as node_text [] old new schema_1 was.schema CreateTable node_is.0 node_plain count (executes_inside node_text [] old new count h).0 in
-    let it = makes old new schema_1 (record node_table { tree = 0 }) node_text _ count was.schema node_is.2 refl (rw node_is.1 at w) in
-    record { schema = it.after ∙ node_made; empty = all_empty schema_1.tables node_table old.now.trees new.now.trees it.others was.empty it.empty }
+    let w = runs_as node_text [] old new schema_1 was.schema CreateTable node_is.0
+    node_plain count (executes_inside node_text [] old new count h).0 in
+    let it = makes old new schema_1 (record node_table { tree = 0 })
+    node_text _ count was.schema node_is.2 refl (rw node_is.1 at w) in
+    record {
+      schema = it.after ∙ node_made;
+      empty = all_empty schema_1.tables node_table old.now.trees new.now.trees it.others was.empty it.empty;
+    }
 
-pub entry_step : (old new : State) (count : ℕ) → ExecutesInside 0 entry_text [] old new (Ok count) → IsMade schema_2 old.now → IsMade schema_3 new.now
+pub entry_step : (old new : State) (count : ℕ) → ExecutesInside 0 entry_text [] old new (Ok count)
+    → IsMade schema_2 old.now → IsMade schema_3 new.now
 entry_step old new count h was =
-    let w = runs_as entry_text [] old new schema_2 was.schema CreateTable entry_is.0 entry_plain count (executes_inside entry_text [] old new count h).0 in
-    let it = makes old new schema_2 (record entry_table { tree = 0 }) entry_text _ count was.schema entry_is.2 refl (rw entry_is.1 at w) in
-    record { schema = it.after ∙ entry_made; empty = all_empty schema_2.tables entry_table old.now.trees new.now.trees it.others was.empty it.empty }
+    let w = runs_as entry_text [] old new schema_2 was.schema CreateTable entry_is.0
+    entry_plain count (executes_inside entry_text [] old new count h).0 in
+    let it = makes old new schema_2 (record entry_table { tree = 0 })
+    entry_text _ count was.schema entry_is.2 refl (rw entry_is.1 at w) in
+    record {
+      schema = it.after ∙ entry_made;
+      empty = all_empty schema_2.tables entry_table old.now.trees new.now.trees it.others was.empty it.empty;
+    }
 
-pub doc_step : (old new : State) (count : ℕ) → ExecutesInside 0 doc_text [] old new (Ok count) → IsMade schema_3 old.now → IsMade schema_4 new.now
+pub doc_step : (old new : State) (count : ℕ) → ExecutesInside 0 doc_text [] old new (Ok count)
+    → IsMade schema_3 old.now → IsMade schema_4 new.now
 doc_step old new count h was =
-    let w = runs_as doc_text [] old new schema_3 was.schema CreateTable doc_is.0 doc_plain count (executes_inside doc_text [] old new count h).0 in
-    let it = makes old new schema_3 (record doc_table { tree = 0 }) doc_text _ count was.schema doc_is.2 refl (rw doc_is.1 at w) in
-    record { schema = it.after ∙ doc_made; empty = all_empty schema_3.tables doc_table old.now.trees new.now.trees it.others was.empty it.empty }
+    let w = runs_as doc_text [] old new schema_3 was.schema CreateTable doc_is.0
+    doc_plain count (executes_inside doc_text [] old new count h).0 in
+    let it = makes old new schema_3 (record doc_table { tree = 0 })
+    doc_text _ count was.schema doc_is.2 refl (rw doc_is.1 at w) in
+    record {
+      schema = it.after ∙ doc_made;
+      empty = all_empty schema_3.tables doc_table old.now.trees new.now.trees it.others was.empty it.empty;
+    }
 
-pub session_step : (old new : State) (count : ℕ) → ExecutesInside 0 session_text [] old new (Ok count) → IsMade schema_4 old.now → IsMade schema_5 new.now
+pub session_step : (old new : State) (count : ℕ) → ExecutesInside 0 session_text [] old new (Ok count)
+    → IsMade schema_4 old.now → IsMade schema_5 new.now
 session_step old new count h was =
-    let w = runs_as session_text [] old new schema_4 was.schema CreateTable session_is.0 session_plain count (executes_inside session_text [] old new count h).0 in
-    let it = makes old new schema_4 (record session_table { tree = 0 }) session_text _ count was.schema session_is.2 refl (rw session_is.1 at w) in
-    record { schema = it.after ∙ session_made; empty = all_empty schema_4.tables session_table old.now.trees new.now.trees it.others was.empty it.empty }
+    let w = runs_as session_text [] old new schema_4 was.schema CreateTable session_is.0
+    session_plain count (executes_inside session_text [] old new count h).0 in
+    let it = makes old new schema_4 (record session_table { tree = 0 })
+    session_text _ count was.schema session_is.2 refl (rw session_is.1 at w) in
+    record {
+      schema = it.after ∙ session_made;
+      empty = all_empty schema_4.tables session_table old.now.trees new.now.trees it.others was.empty it.empty;
+    }
 
-pub slot_step : (old new : State) (count : ℕ) → ExecutesInside 0 slot_text [] old new (Ok count) → IsMade schema_5 old.now → IsMade room_schema new.now
+pub slot_step : (old new : State) (count : ℕ) → ExecutesInside 0 slot_text [] old new (Ok count)
+    → IsMade schema_5 old.now → IsMade room_schema new.now
 slot_step old new count h was =
-    let w = runs_as slot_text [] old new schema_5 was.schema CreateTable slot_is.0 slot_plain count (executes_inside slot_text [] old new count h).0 in
-    let it = makes old new schema_5 (record slot_table { tree = 0 }) slot_text _ count was.schema slot_is.2 refl (rw slot_is.1 at w) in
-    record { schema = it.after ∙ slot_made; empty = all_empty schema_5.tables slot_table old.now.trees new.now.trees it.others was.empty it.empty }
+    let w = runs_as slot_text [] old new schema_5 was.schema CreateTable slot_is.0
+    slot_plain count (executes_inside slot_text [] old new count h).0 in
+    let it = makes old new schema_5 (record slot_table { tree = 0 })
+    slot_text _ count was.schema slot_is.2 refl (rw slot_is.1 at w) in
+    record {
+      schema = it.after ∙ slot_made;
+      empty = all_empty schema_5.tables slot_table old.now.trees new.now.trees it.others was.empty it.empty;
+    }
 
 -- tables that were just made
 pub made_room : (db : Database) → IsMade room_schema db → IsRoomDatabase db × (records_of db.trees ≡ no_records 0)
@@ -118,12 +161,21 @@ made_room db it =
 
 -- what a fresh room's rows stand for
 pub fresh_is : (owner group : List ℕ) (entries : Vec EntryModel Global) → entries.items ≡ fresh_entries
-    → IsFresh owner group (apply_change (PutNext 2) (apply_change (PutEntries 1 entries) (apply_change (PutNode (root_node owner group)) (no_records 0))))
+    → IsFresh owner group (apply_change (PutNext 2)
+    (apply_change (PutEntries 1 entries) (apply_change (PutNode (root_node owner group)) (no_records 0))))
 fresh_is owner group entries is = record {
-  room = subst (λ (es : List EntryModel). RepresentsRoom (record { node = λ id. cond (id == 1) (Some (root_node owner group)) None; entries = λ id. cond (id == 1) es []; document = λ _. None; next = 2 }) (fresh_room owner group)) (sym is) (fresh_stands owner group);
+  room = subst (λ (es : List EntryModel). RepresentsRoom
+      (record {
+        node = λ id. cond (id == 1) (Some (root_node owner group)) None;
+        entries = λ id. cond (id == 1) es [];
+        document = λ _. None;
+        next = 2;
+      }) (fresh_room owner group)) (sym is) (fresh_stands owner group);
   sessions = λ _. refl;
   slots = λ _ _. refl;
 }
 
-pub fresh_from : (owner group : List ℕ) (root : Node) (entries : Vec EntryModel Global) (r : Records) → root ≡ root_node owner group → entries.items ≡ fresh_entries → r ≡ filled root entries → IsFresh owner group r
-fresh_from owner group root entries r root_is entries_is is = subst (IsFresh owner group) (sym (is ∙ ap (λ n. filled n entries) root_is)) (fresh_is owner group entries entries_is)
+pub fresh_from : (owner group : List ℕ) (root : Node) (entries : Vec EntryModel Global) (r : Records)
+    → root ≡ root_node owner group → entries.items ≡ fresh_entries → r ≡ filled root entries → IsFresh owner group r
+fresh_from owner group root entries r root_is entries_is is = subst (IsFresh owner group)
+    (sym (is ∙ ap (λ n. filled n entries) root_is)) (fresh_is owner group entries entries_is)

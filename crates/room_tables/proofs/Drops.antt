@@ -1,5 +1,8 @@
 -- What a DELETE of a node does, whose entries and document go with it by ON DELETE CASCADE.
-use Rattle.std.proofs.Common.{◌≡◌, ◌⊎◌, inl, inr, ℕ, zero, suc, ℤ, pos, Bool, true, false, not, ◌&&◌, ◌||◌, ◌==◌, cond, List, [], ◌∷◌, ◌++◌, length, map, filter, Some, option_map, Ok, refl, sym, ap, subst, subst₂, ◌∙◌, arith, true≢false, length-append, append-nil, codes, IsPermutation, Equal, is_eq, eq-eqb}
+use Rattle.std.proofs.Common.{◌≡◌, ◌⊎◌, inl, inr, ℕ, zero, suc, ℤ, pos, Bool, true, false, not, ◌&&◌, ◌||◌, ◌==◌, cond}
+use Rattle.std.proofs.Common.{List, [], ◌∷◌, ◌++◌, length, map, filter, Some, option_map, Ok, refl, sym, ap, subst}
+use Rattle.std.proofs.Common.{subst₂, ◌∙◌, arith, true≢false, length-append, append-nil, codes, IsPermutation, Equal}
+use Rattle.std.proofs.Common.{is_eq, eq-eqb}
 use Rattle.std.specs.List.{AllByRecursion, list_any}
 use Rattle.std.proofs.lemmas.Bool.{cases_Bool, cases_eq}
 use Rattle.std.proofs.lemmas.Bool.Decides.{nat_tests}
@@ -21,7 +24,8 @@ use Rattle.sqlite_rules.specs.declared.action.Deed.TheVariants.{Delete}
 use Rattle.sqlite_rules.specs.Lists.{Has}
 use Rattle.sqlite_rules.specs.Edit.{edit_of, taken_by, without_all}
 use Rattle.sqlite_rules.specs.Calls.{ids_of}
-use Rattle.sqlite_rules.specs.Action.{Work, works, loses, is_child_of, Leads, Acts, ActsOn, AreChildren, Writes, action_edit}
+use Rattle.sqlite_rules.specs.Action.{Work, works, loses, is_child_of, Leads, Acts, ActsOn, AreChildren}
+use Rattle.sqlite_rules.specs.Action.{Writes, action_edit}
 use Rattle.sqlite_rules.proofs.ListLemmas.{all_has, all_from, some_has, has_kept, has_filtered}
 use Rattle.sqlite_rules.proofs.PlaceLemmas.{row_at_is}
 use Rattle.sqlite_keyed.proofs.RuleLemmas.{first_of_both}
@@ -38,7 +42,8 @@ use Rattle.room_records.specs.declared.change.Change.TheVariants.{DropNode}
 use Rattle.room_records.specs.Changes.{apply_change}
 use Rattle.room_tables.specs.Tables.{room_schema, node_table, entry_table, doc_table, refers}
 use Rattle.room_tables.specs.Texts.{drop_node_text, drop_node_query}
-use Rattle.room_tables.specs.Rows.{has, only, shown_node, node_of, entry_of, in_order, shown_doc, doc_of, next_in, sessions_in, slots_in}
+use Rattle.room_tables.specs.Rows.{has, only, shown_node, node_of, entry_of, in_order, shown_doc, doc_of}
+use Rattle.room_tables.specs.Rows.{next_in, sessions_in, slots_in}
 use Rattle.room_tables.specs.Layout.{IsKeyed, IsNumbered, IsRoomDatabase}
 use Rattle.room_tables.specs.Steps.{Steps}
 use Rattle.room_tables.proofs.Each.{of_any, rows_pass}
@@ -59,7 +64,15 @@ abbrev doc_ref : Reference
 doc_ref = refers 0 (codes "node") (codes "id") Cascade
 
 abbrev work_on : Table → Reference → Row → Work
-work_on table ref there = record { depth = 0; child = table; ref = ref; places = 0 ∷ []; order = plain; deed = Delete; moves = (there, []) ∷ [] }
+work_on table ref there = record {
+  depth = 0;
+  child = table;
+  ref = ref;
+  places = 0 ∷ [];
+  order = plain;
+  deed = Delete;
+  moves = (there, []) ∷ [];
+}
 
 abbrev entry_work : Row → Work
 entry_work = work_on entry_table entry_ref
@@ -71,7 +84,8 @@ loses_key : (there : Row) (id : ℕ) → rowid there ≡ Int (pos id) → loses 
 unfolding first_key binary
 loses_key there id is = rw is (rw (ap is_eq (tied_itself value_cmp_total (Int (pos id)))) refl)
 
-set_off : (there : Row) (id : ℕ) → rowid there ≡ Int (pos id) → works room_schema Enforced 0 1 (there ∷ []) [] ≡ entry_work there ∷ doc_work there ∷ []
+set_off : (there : Row) (id : ℕ) → rowid there ≡ Int (pos id)
+    → works room_schema Enforced 0 1 (there ∷ []) [] ≡ entry_work there ∷ doc_work there ∷ []
 unfolding everything
 set_off there id is = rw (loses_key there id is) refl
 
@@ -88,11 +102,13 @@ tidy true = refl
 tidy false = refl
 
 -- the children of the node are its entries and its document
-entry_is_child : (there r : Row) (id : ℕ) → rowid there ≡ Int (pos id) → list_any (is_child_of (entry_work there) r) ((there, []) ∷ []) ≡ has 1 id r
+entry_is_child : (there r : Row) (id : ℕ) → rowid there ≡ Int (pos id)
+    → list_any (is_child_of (entry_work there) r) ((there, []) ∷ []) ≡ has 1 id r
 unfolding first_key
 entry_is_child there r id is = rw (loses_key there id is, is) (tidy (has 1 id r))
 
-doc_is_child : (there r : Row) (id : ℕ) → rowid there ≡ Int (pos id) → list_any (is_child_of (doc_work there) r) ((there, []) ∷ []) ≡ has 0 id r
+doc_is_child : (there r : Row) (id : ℕ) → rowid there ≡ Int (pos id)
+    → list_any (is_child_of (doc_work there) r) ((there, []) ∷ []) ≡ has 0 id r
 unfolding first_key
 doc_is_child there r id is = rw (loses_key there id is, is) (tidy (has 0 id r))
 
@@ -119,12 +135,17 @@ record Acted (n : ℕ) (db next : Trees) (w : Work) (below : List Work) : Type 0
   others : Others w.child.tree db mid
   rest : Leads room_schema Enforced n mid below (Ok next)
 
-acts : (n : ℕ) (db next : Trees) (table : Table) (ref : Reference) (there : Row) (below : List Work) → ((olds : List Row) → works room_schema Enforced 1 table.tree olds [] ≡ [])
-    → Acts room_schema Enforced (Leads room_schema Enforced n) db (work_on table ref there) below (Ok next) → Acted n db next (work_on table ref there) below
+acts : (n : ℕ) (db next : Trees) (table : Table) (ref : Reference) (there : Row) (below : List Work)
+    → ((olds : List Row) → works room_schema Enforced 1 table.tree olds [] ≡ [])
+    → Acts room_schema Enforced (Leads room_schema Enforced n) db (work_on table ref there) below (Ok next)
+    → Acted n db next (work_on table ref there) below
 acts n db next table ref there below quiet h = go h.0 h.1 h.2
   where
-    go : (ids : List ℤ) → AreChildren db (work_on table ref there) ids → ActsOn room_schema Enforced (Leads room_schema Enforced n) db (work_on table ref there) below (Ok next) ids → Acted n db next (work_on table ref there) below
-    go [] children h = record { mid = db; ids = []; children = children; rows = refl; others = of_any _ (λ t _. refl); rest = h }
+    go : (ids : List ℤ) → AreChildren db (work_on table ref there) ids
+        → ActsOn room_schema Enforced (Leads room_schema Enforced n) db (work_on table ref there) below (Ok next) ids
+        → Acted n db next (work_on table ref there) below
+    go [] children h =
+        record { mid = db; ids = []; children = children; rows = refl; others = of_any _ (λ t _. refl); rest = h }
     go (i ∷ ids) children (inl refused) = absurd (let e = refused.2 in cc)
     go (i ∷ ids) children (inr (inl big)) = absurd (let e = big.3 in cc)
     go (i ∷ ids) children (inr (inr step)) =
@@ -135,15 +156,22 @@ acts n db next table ref there below quiet h = go h.0 h.1 h.2
           children = children;
           rows = step.1.rows;
           others = others_of table.tree db step.0 step.1.tables;
-          rest = subst (λ s. Leads room_schema Enforced n step.0 s (Ok next)) (ap (λ l. below ++ l) none ∙ append-nil below) step.2;
+          rest = subst (λ s. Leads room_schema Enforced n step.0 s (Ok next))
+              (ap (λ l. below ++ l) none ∙ append-nil below) step.2;
         }
 
-led : (n : ℕ) (db next : Trees) (table : Table) (ref : Reference) (there : Row) (front : List Work) → ((olds : List Row) → works room_schema Enforced 1 table.tree olds [] ≡ [])
-    → Leads room_schema Enforced n db (front ++ work_on table ref there ∷ []) (Ok next) → (m : ℕ) × Acted m db next (work_on table ref there) front
-led zero db next table ref there front quiet h = absurd (omega (arith, ap length h.0, length-append front (work_on table ref there ∷ [])))
+led : (n : ℕ) (db next : Trees) (table : Table) (ref : Reference) (there : Row) (front : List Work)
+    → ((olds : List Row) → works room_schema Enforced 1 table.tree olds [] ≡ [])
+    → Leads room_schema Enforced n db (front ++ work_on table ref there ∷ []) (Ok next)
+    → (m : ℕ) × Acted m db next (work_on table ref there) front
+led zero db next table ref there front quiet h =
+    absurd (omega (arith, ap length h.0, length-append front (work_on table ref there ∷ [])))
 led (suc n) db next table ref there front quiet h =
-    let one = last_of front h.0 h.1 (work_on table ref there) h.2 in
-    (n, acts n db next table ref there front quiet (subst₂ (λ b w. Acts room_schema Enforced (Leads room_schema Enforced n) db w b (Ok next)) one.0 one.1 h.3))
+    let one = last_of front h.0 h.1 (work_on table ref there) h.2 in (
+      n,
+      acts n db next table ref there front quiet
+          (subst₂ (λ b w. Acts room_schema Enforced (Leads room_schema Enforced n) db w b (Ok next)) one.0 one.1 h.3),
+    )
 
 -- the trees after the two actions
 record Cascaded (db next : Trees) (id : ℕ) : Type 0 where
@@ -154,7 +182,9 @@ record Cascaded (db next : Trees) (id : ℕ) : Type 0 where
   sessions : next 6 ≡ db 6
   slots : next 8 ≡ db 8
 
-cascaded : (n : ℕ) (db next : Trees) (there : Row) (id : ℕ) → rowid there ≡ Int (pos id) → IsKeyed (db 3) → IsKeyed (db 5) → Leads room_schema Enforced n db (entry_work there ∷ doc_work there ∷ []) (Ok next) → Cascaded db next id
+cascaded : (n : ℕ) (db next : Trees) (there : Row) (id : ℕ)
+    → rowid there ≡ Int (pos id) → IsKeyed (db 3) → IsKeyed (db 5)
+    → Leads room_schema Enforced n db (entry_work there ∷ doc_work there ∷ []) (Ok next) → Cascaded db next id
 cascaded n db next there id is entries docs h =
     let first = (led n db next doc_table doc_ref there (entry_work there ∷ []) docs_last h).1 in
     let o = first.others in
@@ -193,7 +223,8 @@ without_number : (id : ℕ) (rows : List Row) → without_rowid (pos id) rows �
 without_number id rows = Rattle.sqlite_keyed.proofs.ListLemmas.filter_same _ _ (λ r. ap not (sym (has_is 0 id r))) rows
 
 -- a node with the number is there, and goes with what belongs to it
-drops_there : (db next : Trees) (id : ℕ) (there : Row) (rows : List Row) → IsKeyed (db 1) → IsKeyed (db 3) → IsKeyed (db 5) → filter (has 0 id) (db 1) ≡ there ∷ [] → rows ≡ (Int (pos id) ∷ []) ∷ []
+drops_there : (db next : Trees) (id : ℕ) (there : Row) (rows : List Row) → IsKeyed (db 1) → IsKeyed (db 3)
+    → IsKeyed (db 5) → filter (has 0 id) (db 1) ≡ there ∷ [] → rows ≡ (Int (pos id) ∷ []) ∷ []
     → Writes room_schema Enforced db (edit_of db node_table (ids_of rows) Given 0 []) (Ok next) → Dropped db next id
 drops_there db next id there rows nodes entries docs only is h =
     go (subst (λ l. Writes room_schema Enforced db (edit_of db node_table (ids_of l) Given 0 []) (Ok next)) is h)
@@ -205,11 +236,14 @@ drops_there db next id there rows nodes entries docs only is h =
         let kept = has_filtered (has 0 id) (db 1) there (subst (λ l. Has l there) (sym only) (inl refl)) in
         let key = has_int id there (all_has _ (db 1) there nodes.ints kept.0) kept.1 in
         let at = row_at_is (db 1) (pos id) there nodes.table kept.0 (sym (has_is 0 id there) ∙ kept.1) in
-        let stack = subst (λ r. works room_schema Enforced 0 1 (r ∷ []) [] ≡ entry_work there ∷ doc_work there ∷ []) (sym at) (set_off there id key) in
+        let stack = subst (λ r. works room_schema Enforced 0 1 (r ∷ []) [] ≡ entry_work there ∷ doc_work there ∷ [])
+        (sym at) (set_off there id key) in
         let o = others_of 1 db step.0 step.1.tables in
         let same_entries : step.0 3 ≡ db 3 = o.entry (omega arith) in
         let same_docs : step.0 5 ≡ db 5 = o.doc (omega arith) in
-        let c = cascaded step.2.0 step.0 next there id key (subst IsKeyed (sym same_entries) entries) (subst IsKeyed (sym same_docs) docs) (subst (λ s. Leads room_schema Enforced step.2.0 step.0 s (Ok next)) stack step.2.1) in
+        let c = cascaded step.2.0 step.0 next there id key
+        (subst IsKeyed (sym same_entries) entries) (subst IsKeyed (sym same_docs) docs)
+        (subst (λ s. Leads room_schema Enforced step.2.0 step.0 s (Ok next)) stack step.2.1) in
         record {
           nodes = c.nodes ∙ step.1.rows ∙ without_number id (db 1);
           entries = c.entries ∙ ap (without (has 1 id)) same_entries;
@@ -238,21 +272,28 @@ not_null true h = absurd (true≢false h)
 not_null false h = refl
 
 -- a row that refers to the node has it
-has_its_node : (db : Trees) (ref : Reference) (place : ℕ) (row : Row) (id : ℕ) → ref.columns ≡ place ∷ [] → parent_key room_schema.tables ref ≡ Some (1, 0 ∷ [], plain)
-    → has_parent room_schema.tables db row ref ≡ true → has place id row ≡ true → (p : Row) × Has (db 1) p × (has 0 id p ≡ true)
+has_its_node : (db : Trees) (ref : Reference) (place : ℕ) (row : Row) (id : ℕ)
+    → ref.columns ≡ place ∷ [] → parent_key room_schema.tables ref ≡ Some (1, 0 ∷ [], plain)
+    → has_parent room_schema.tables db row ref ≡ true → has place id row ≡ true
+    → (p : Row) × Has (db 1) p × (has 0 id p ≡ true)
 unfolding first_key
 has_its_node db ref place row id columns key fits mine =
     let there = subst₂ (λ c k. (has_null c row || is_held db c row k) ≡ true) columns key fits in
     let held = held_by _ _ there (not_null _ (has_not_null place id row mine)) in
     let p = some_has (λ parent. agree plain (0 ∷ []) parent (place ∷ []) row) (db 1) held in
     let tie = equal_tied (column p.0 0) (column row place) (first_of_both _ _ p.2) in
-    let same : value_cmp (column p.0 0) (Int (pos id)) ≡ Equal = sym (alike_right value_cmp_total (column row place) (Int (pos id)) (column p.0 0) (has_value place id row mine)) ∙ tie in
+    let same : value_cmp (column p.0 0) (Int (pos id)) ≡ Equal =
+    sym (alike_right value_cmp_total (column row place) (Int (pos id)) (column p.0 0) (has_value place id row mine))
+    ∙ tie in
     (p.0, p.1, has_is 0 id p.0 ∙ ap is_eq same)
 
-none_of : (db : Trees) (ref : Reference) (table : Table) (place id : ℕ) → ref.columns ≡ place ∷ [] → parent_key room_schema.tables ref ≡ Some (1, 0 ∷ [], plain)
-    → AllByRecursion (λ r. has_parent room_schema.tables db r ref ≡ true) (db table.tree) → filter (has 0 id) (db 1) ≡ [] → without (has place id) (db table.tree) ≡ db table.tree
+none_of : (db : Trees) (ref : Reference) (table : Table) (place id : ℕ)
+    → ref.columns ≡ place ∷ [] → parent_key room_schema.tables ref ≡ Some (1, 0 ∷ [], plain)
+    → AllByRecursion (λ r. has_parent room_schema.tables db r ref ≡ true) (db table.tree)
+    → filter (has 0 id) (db 1) ≡ [] → without (has place id) (db table.tree) ≡ db table.tree
 none_of db ref table place id columns key fit none =
-    filter_all _ (db table.tree) (all_from (λ r. not (has place id r) ≡ true) (db table.tree) (λ r h. elim (cases_Bool (has place id r)) [
+    filter_all _ (db table.tree)
+    (all_from (λ r. not (has place id r) ≡ true) (db table.tree) (λ r h. elim (cases_Bool (has place id r)) [
       | inl mine ↦
           let p = has_its_node db ref place r id columns key (all_has _ (db table.tree) r fit h) mine in
           absurd (subst (λ l. Has l p.0) none (has_kept (has 0 id) (db 1) p.0 p.1 p.2))
@@ -264,7 +305,8 @@ unfolding everything
 none_taken = refl
 
 -- no row has the number, or one has
-pub found_or_none : (rows : List Row) (id : ℕ) → IsKeyed rows → (filter (has 0 id) rows ≡ []) ⊎ ((r : Row) × (filter (has 0 id) rows ≡ r ∷ []))
+pub found_or_none : (rows : List Row) (id : ℕ) → IsKeyed rows
+    → (filter (has 0 id) rows ≡ []) ⊎ ((r : Row) × (filter (has 0 id) rows ≡ r ∷ []))
 found_or_none rows id keyed = go (filter (has 0 id) rows) refl
   where
     go : (l : List Row) → filter (has 0 id) rows ≡ l → (l ≡ []) ⊎ ((r : Row) × (l ≡ r ∷ []))
@@ -273,11 +315,13 @@ found_or_none rows id keyed = go (filter (has 0 id) rows) refl
         let h = has_filtered (has 0 id) rows x (subst (λ l. Has l x) (sym e) (inl refl)) in
         inr (x, sym e ∙ one_row (has 0 id) rows x keyed.table h.0 h.1 (λ a b _ _ p q. has_tied 0 id a b p q))
 
-drops : (old new : State) (id count : ℕ) → IsRoomDatabase old.now → Executes drop_node_text (Int (pos id) ∷ []) old new (Ok count) → (new.now.schema ≡ room_schema) × Dropped old.now.trees new.now.trees id
+drops : (old new : State) (id count : ℕ) → IsRoomDatabase old.now → Executes drop_node_text (Int (pos id) ∷ [])
+    old new (Ok count) → (new.now.schema ≡ room_schema) × Dropped old.now.trees new.now.trees id
 drops old new id count room h =
     let params = Int (pos id) ∷ [] in
     let db = old.now.trees in
-    let ran = runs_as drop_node_text params old new room_schema room.schema (command.Delete 1 (record { lets = []; body = drop_node_query })) drop_node_is drop_node_plain count h in
+    let ran = runs_as drop_node_text params old new room_schema room.schema
+    (command.Delete 1 (record { lets = []; body = drop_node_query })) drop_node_is drop_node_plain count h in
     let w = deletes old new 1 node_table _ _ params count refl room.schema ran in
     let given = went w.written in
     let edited_to = went given.2 in
@@ -285,24 +329,31 @@ drops old new id count room h =
     let now : new.now.trees ≡ edited_to.0 = ap (λ (d : Database). d.trees) w.now ∙ trees in
     let schema = ap (λ (d : Database). d.schema) w.now in
     let k = answer_is 1 _ _ [] (overlay db []) params given.0 (given.1.answer Null) in
-    let same = found drop_node_query params (db 1) given.0 (has 0 id) (λ r. rowid r ∷ []) (λ r. and_true (has 0 id r)) (λ r. refl) k in (
+    let same = found drop_node_query params (db 1) given.0 (has 0 id)
+    (λ r. rowid r ∷ []) (λ r. and_true (has 0 id r)) (λ r. refl) k in (
       schema,
       elim (found_or_none (db 1) id room.keyed.node) [
         | inl none ↦
-            let rows : given.0 ≡ [] = nothing _ (subst (λ l. IsPermutation (map (λ r. rowid r ∷ []) l) given.0) none same) in
+            let rows : given.0 ≡ [] =
+            nothing _ (subst (λ l. IsPermutation (map (λ r. rowid r ∷ []) l) given.0) none same) in
             let edit = edit_of db node_table (ids_of given.0) Given 0 [] in
-            let quiet = subst (λ l. works room_schema Enforced 0 1 (taken_by db (edit_of db node_table (ids_of l) Given 0 [])) [] ≡ []) (sym rows) none_taken in
+            let quiet = subst (λ l. works room_schema Enforced 0 1
+            (taken_by db (edit_of db node_table (ids_of l) Given 0 [])) [] ≡ []) (sym rows) none_taken in
             let one = one_step room_schema Enforced db edited_to.0 edit quiet edited_to.1 in
             let o = others_of 1 db edited_to.0 one.tables in
-            let nodes : new.now.trees 1 ≡ db 1 = ap (λ (t : Trees). t 1) now ∙ one.rows ∙ ap (λ l. without_all (db 1) (ids_of l)) rows in
+            let nodes : new.now.trees 1 ≡ db 1 =
+            ap (λ (t : Trees). t 1) now ∙ one.rows ∙ ap (λ l. without_all (db 1) (ids_of l)) rows in
             let entries : new.now.trees 3 ≡ db 3 = ap (λ (t : Trees). t 3) now ∙ o.entry (omega arith) in
             let docs : new.now.trees 5 ≡ db 5 = ap (λ (t : Trees). t 5) now ∙ o.doc (omega arith) in
             let keeps = rows_pass ForeignKey new.now schema ran.sound in
             let none_now : filter (has 0 id) (new.now.trees 1) ≡ [] = ap (filter (has 0 id)) nodes ∙ none in
-            let no_entry = none_of new.now.trees entry_ref entry_table 1 id refl entry_parent (all_weaker _ _ (λ r e. first_of_both _ _ e) (new.now.trees 3) keeps.entry) none_now in
-            let no_doc = none_of new.now.trees doc_ref doc_table 0 id refl doc_parent (all_weaker _ _ (λ r e. first_of_both _ _ e) (new.now.trees 5) keeps.doc) none_now in
+            let no_entry = none_of new.now.trees entry_ref entry_table 1 id refl entry_parent
+            (all_weaker _ _ (λ r e. first_of_both _ _ e) (new.now.trees 3) keeps.entry) none_now in
+            let no_doc = none_of new.now.trees doc_ref doc_table 0 id refl doc_parent
+            (all_weaker _ _ (λ r e. first_of_both _ _ e) (new.now.trees 5) keeps.doc) none_now in
             record {
-              nodes = nodes ∙ sym (filter_all _ (db 1) (all_from (λ r. not (has 0 id r) ≡ true) (db 1) (λ r j. kept_apart r j none)));
+              nodes = nodes ∙ sym (filter_all _ (db 1)
+                  (all_from (λ r. not (has 0 id r) ≡ true) (db 1) (λ r j. kept_apart r j none)));
               entries = sym no_entry ∙ ap (without (has 1 id)) entries;
               docs = sym no_doc ∙ ap (without (has 0 id)) docs;
               room = ap (λ (t : Trees). t 0) now ∙ o.room (omega arith);
@@ -311,8 +362,10 @@ drops old new id count room h =
             }
         | inr there ↦
             let key = keyed_there there.0 there.1 in
-            let rows = one_permutation (Int (pos id) ∷ []) given.0 (subst (λ l. IsPermutation l given.0) (ap (map (λ r. rowid r ∷ [])) there.1 ∙ ap (λ v. (v ∷ []) ∷ []) key) same) in
-            subst (λ t. Dropped db t id) (sym now) (drops_there db edited_to.0 id there.0 given.0 room.keyed.node room.keyed.entry room.keyed.doc there.1 rows edited_to.1)
+            let rows = one_permutation (Int (pos id) ∷ []) given.0 (subst (λ l. IsPermutation l given.0)
+            (ap (map (λ r. rowid r ∷ [])) there.1 ∙ ap (λ v. (v ∷ []) ∷ []) key) same) in
+            subst (λ t. Dropped db t id) (sym now) (drops_there db edited_to.0 id there.0
+            given.0 room.keyed.node room.keyed.entry room.keyed.doc there.1 rows edited_to.1)
       ],
     )
   where
@@ -320,7 +373,8 @@ drops old new id count room h =
     nothing [] same = refl
     nothing (x ∷ l) same = absurd (omega (arith, length_permutation _ _ same))
 
-    kept_apart : (r : Row) → Has (old.now.trees 1) r → filter (has 0 id) (old.now.trees 1) ≡ [] → not (has 0 id r) ≡ true
+    kept_apart : (r : Row) → Has (old.now.trees 1) r
+        → filter (has 0 id) (old.now.trees 1) ≡ [] → not (has 0 id r) ≡ true
     kept_apart r k none = elim (cases_Bool (has 0 id r)) [
       | inl mine ↦ absurd (subst (λ l. Has l r) none (has_kept (has 0 id) (old.now.trees 1) r k mine))
       | inr other ↦ ap not other
@@ -334,21 +388,24 @@ drops old new id count room h =
 -- ---- the records
 
 -- the rows with a number are gone, and those with another stay
-rows_gone : (place id q : ℕ) (was is : List Row) → is ≡ without (has place id) was → filter (has place q) is ≡ cond (q == id) [] (filter (has place q) was)
+rows_gone : (place id q : ℕ) (was is : List Row) → is ≡ without (has place id) was
+    → filter (has place q) is ≡ cond (q == id) [] (filter (has place q) was)
 rows_gone place id q was is e = elim (cases_eq q id) [
   | inl same ↦
       let test : (q == id) ≡ true = eq-eqb q id same in
       rw (test, same) (ap (filter (has place id)) e ∙ none_left (has place id) (has place id) was (λ r h. h))
   | inr apart ↦
       let test : (q == id) ≡ false = grind (arith, nat_tests) in
-      rw test (ap (filter (has place q)) e ∙ others_left (has place id) (has place q) was (λ r h. not_both place id q r apart h))
+      rw test (ap (filter (has place q)) e
+      ∙ others_left (has place id) (has place q) was (λ r h. not_both place id q r apart h))
 ]
 
 through : {X Y : Type 0} (f : X → Y) (b : Bool) (x y : X) → f (cond b x y) ≡ cond b (f x) (f y)
 through f true x y = refl
 through f false x y = refl
 
-pub steps_drop : (old new : State) (id count : ℕ) → IsRoomDatabase old.now → ExecutesInside 0 drop_node_text (Int (pos id) ∷ []) old new (Ok count) → Steps old new (apply_change (DropNode id))
+pub steps_drop : (old new : State) (id count : ℕ) → IsRoomDatabase old.now →
+    ExecutesInside 0 drop_node_text (Int (pos id) ∷ []) old new (Ok count) → Steps old new (apply_change (DropNode id))
 steps_drop old new id count room h =
     let done = drops old new id count room (executes_inside drop_node_text _ old new count h).0 in
     let it = done.1 in
@@ -364,13 +421,19 @@ steps_drop old new id count room h =
           session = subst IsKeyed (sym it.sessions) room.keyed.session;
           slot = subst IsKeyed (sym it.slots) room.keyed.slot;
         };
-        numbered = subst (AllByRecursion IsNumbered) (sym it.nodes) (all-filter IsNumbered (λ r. not (has 0 id r)) (db 1) room.numbered);
+        numbered = subst (AllByRecursion IsNumbered) (sym it.nodes)
+            (all-filter IsNumbered (λ r. not (has 0 id r)) (db 1) room.numbered);
       };
       version = version_stays _ _ it.room;
       records = same_records _ _
-          (λ q. ap (λ rows. option_map node_of (only (map shown_node rows))) (rows_gone 0 id q (db 1) (new.now.trees 1) it.nodes) ∙ through (λ rows. option_map node_of (only (map shown_node rows))) (q == id) [] (filter (has 0 q) (db 1)))
-          (λ q. ap (λ rows. map entry_of (in_order rows)) (rows_gone 1 id q (db 3) (new.now.trees 3) it.entries) ∙ through (λ rows. map entry_of (in_order rows)) (q == id) [] (filter (has 1 q) (db 3)))
-          (λ q. ap (λ rows. option_map doc_of (only (map shown_doc rows))) (rows_gone 0 id q (db 5) (new.now.trees 5) it.docs) ∙ through (λ rows. option_map doc_of (only (map shown_doc rows))) (q == id) [] (filter (has 0 q) (db 5)))
+          (λ q. ap (λ rows. option_map node_of (only (map shown_node rows)))
+          (rows_gone 0 id q (db 1) (new.now.trees 1) it.nodes) ∙ through
+          (λ rows. option_map node_of (only (map shown_node rows))) (q == id) [] (filter (has 0 q) (db 1)))
+          (λ q. ap (λ rows. map entry_of (in_order rows)) (rows_gone 1 id q (db 3) (new.now.trees 3) it.entries)
+          ∙ through (λ rows. map entry_of (in_order rows)) (q == id) [] (filter (has 1 q) (db 3)))
+          (λ q. ap (λ rows. option_map doc_of (only (map shown_doc rows)))
+          (rows_gone 0 id q (db 5) (new.now.trees 5) it.docs)
+          ∙ through (λ rows. option_map doc_of (only (map shown_doc rows))) (q == id) [] (filter (has 0 q) (db 5)))
           (ap next_in it.room)
           (λ q. ap (λ rows. sessions_in rows q) it.sessions)
           (λ q n. ap (λ rows. slots_in rows q n) it.slots);

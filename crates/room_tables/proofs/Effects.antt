@@ -1,6 +1,7 @@
 -- What the statements do to the records.
 use Rattle.std.specs.declared.alloc.Global.{Global}
-use Rattle.std.proofs.Common.{Vec, ◌≡◌, ℕ, ℤ, pos, Bool, true, false, not, ◌==◌, cond, List, [], ◌∷◌, ◌++◌, map, filter, Option, None, Some, option_map, unwrap_or, Ok, refl, sym, ap, subst, ◌∙◌, arith}
+use Rattle.std.proofs.Common.{Vec, ◌≡◌, ℕ, ℤ, pos, Bool, true, false, not, ◌==◌, cond, List, [], ◌∷◌, ◌++◌, map, filter}
+use Rattle.std.proofs.Common.{Option, None, Some, option_map, unwrap_or, Ok, refl, sym, ap, subst, ◌∙◌, arith}
 use Rattle.std.specs.List.{AllByRecursion}
 use Rattle.sqlite_value.specs.declared.value.Value.TheVariants.{Int, Blob}
 use Rattle.sqlite_value.specs.Order.{Row, column}
@@ -17,7 +18,9 @@ use Rattle.room_records.specs.declared.change.Change.TheVariants.{PutNode, PutNe
 use Rattle.room_records.specs.Records.{Records}
 use Rattle.room_records.specs.Changes.{apply_change, apply_changes}
 use Rattle.room_tables.specs.Texts.{put_node_text, put_next_text, put_doc_text}
-use Rattle.room_tables.specs.Rows.{has, only, parent_in, name_of_text, kind_of, shown_node, node_of, nodes_in, entries_in, shown_doc, doc_of, documents_in, number_in, shown_next, next_in, shown_version, version_rows, IsVersion1, sessions_in, slots_in, records_of}
+use Rattle.room_tables.specs.Rows.{has, only, parent_in, name_of_text, kind_of, shown_node, node_of, nodes_in}
+use Rattle.room_tables.specs.Rows.{entries_in, shown_doc, doc_of, documents_in, number_in, shown_next, next_in}
+use Rattle.room_tables.specs.Rows.{shown_version, version_rows, IsVersion1, sessions_in, slots_in, records_of}
 use Rattle.room_tables.specs.Layout.{IsNumbered, IsRoomDatabase, parent_value}
 use Rattle.room_tables.specs.Steps.{Steps, kind_number}
 use Rattle.room_tables.proofs.Changes.{executes_inside}
@@ -25,8 +28,10 @@ use Rattle.room_tables.proofs.Puts.{stored_node, node_params, puts_node, puts_ne
 use Rattle.room_tables.proofs.Filters.{filter_put, keyed_after, still_room, still_numbered, version_stays}
 
 -- two records that agree at each key are one
-pub same_records : (a b : Records) → ((q : ℕ) → a.objects.node q ≡ b.objects.node q) → ((q : ℕ) → a.objects.entries q ≡ b.objects.entries q) → ((q : ℕ) → a.objects.document q ≡ b.objects.document q)
-    → a.objects.next ≡ b.objects.next → ((sid : List ℕ) → a.session sid ≡ b.session sid) → ((sid : List ℕ) (slot : ℕ) → a.slot sid slot ≡ b.slot sid slot) → a ≡ b
+pub same_records : (a b : Records) → ((q : ℕ) → a.objects.node q ≡ b.objects.node q)
+    → ((q : ℕ) → a.objects.entries q ≡ b.objects.entries q) → ((q : ℕ) → a.objects.document q ≡ b.objects.document q)
+    → a.objects.next ≡ b.objects.next → ((sid : List ℕ) → a.session sid ≡ b.session sid)
+    → ((sid : List ℕ) (slot : ℕ) → a.slot sid slot ≡ b.slot sid slot) → a ≡ b
 same_records a b nodes entries documents next sessions slots = λ i. record {
   objects = record { node = λ q. nodes q i; entries = λ q. entries q i; document = λ q. documents q i; next = next i };
   session = λ sid. sessions sid i;
@@ -51,36 +56,66 @@ kind_back Folder = refl
 abbrev pub row_of_node : Node → List ℕ → Row
 row_of_node node name = stored_node node.id node.parent name (kind_number node.kind) node.owner node.group node.aclflag
 
-node_back : (node : Node) (name : List ℕ) → name_of_text name ≡ node.name → node_of (shown_node (row_of_node node name)) ≡ node
+node_back : (node : Node) (name : List ℕ) → name_of_text name ≡ node.name
+    → node_of (shown_node (row_of_node node name)) ≡ node
 node_back node name named =
-    ap (λ p. record { id = node.id; parent = p; name = name_of_text name; kind = kind_of (kind_number node.kind); owner = node.owner; group = node.group; aclflag = node.aclflag }) (parent_back node.parent)
-    ∙ ap (λ n. record { id = node.id; parent = node.parent; name = n; kind = kind_of (kind_number node.kind); owner = node.owner; group = node.group; aclflag = node.aclflag }) named
-    ∙ ap (λ k. record { id = node.id; parent = node.parent; name = node.name; kind = k; owner = node.owner; group = node.group; aclflag = node.aclflag }) (kind_back node.kind)
-
-pos_is : {m n : ℕ} → Int (pos m) ≡ Int (pos n) → pos m ≡ pos n
-pos_is e = cc
+    ap (λ p. record {
+      id = node.id;
+      parent = p;
+      name = name_of_text name;
+      kind = kind_of (kind_number node.kind);
+      owner = node.owner;
+      group = node.group;
+      aclflag = node.aclflag;
+    }) (parent_back node.parent)
+    ∙ ap (λ n. record {
+      id = node.id;
+      parent = node.parent;
+      name = n;
+      kind = kind_of (kind_number node.kind);
+      owner = node.owner;
+      group = node.group;
+      aclflag = node.aclflag;
+    }) named
+    ∙ ap (λ k. record {
+      id = node.id;
+      parent = node.parent;
+      name = node.name;
+      kind = k;
+      owner = node.owner;
+      group = node.group;
+      aclflag = node.aclflag;
+    }) (kind_back node.kind)
 
 id_is : {i j : ℤ} → Int i ≡ Int j → i ≡ j
 id_is e = cc
 
-pub steps_node : (old new : State) (node : Node) (name : List ℕ) (count : ℕ) → IsRoomDatabase old.now → name_of_text name ≡ node.name
-    → ExecutesInside 0 put_node_text (node_params node.id node.parent name (kind_number node.kind) node.owner node.group node.aclflag) old new (Ok count) → Steps old new (apply_change (PutNode node))
+pub steps_node : (old new : State) (node : Node) (name : List ℕ) (count : ℕ)
+    → IsRoomDatabase old.now → name_of_text name ≡ node.name
+    → ExecutesInside 0 put_node_text
+    (node_params node.id node.parent name (kind_number node.kind) node.owner node.group node.aclflag)
+    old new (Ok count) → Steps old new (apply_change (PutNode node))
 steps_node old new node name count room named h =
     let ran = executes_inside put_node_text _ old new count h in
-    let done = puts_node old new node.id node.parent name (kind_number node.kind) node.owner node.group node.aclflag count room.schema room.keyed.node ran.0 in
+    let done = puts_node old new node.id node.parent name (kind_number node.kind)
+    node.owner node.group node.aclflag count room.schema room.keyed.node ran.0 in
     let it = done.put in
     let row = row_of_node node name in
     let id : it.id ≡ pos node.id = id_is (sym it.has_id ∙ ap rowid it.fits) in
-    let is_numbered : IsNumbered it.row = subst IsNumbered (sym it.fits) (record { id = node.id; has_id = refl; parent = node.parent; has_parent = refl }) in
+    let is_numbered : IsNumbered it.row = subst IsNumbered (sym it.fits)
+    (record { id = node.id; has_id = refl; parent = node.parent; has_parent = refl }) in
     let o = it.others in
     record {
       room = still_room 1 old.now new.now room done.schema o (keyed_after 1 _ _ _ _ it room.keyed.node)
-          (subst (AllByRecursion IsNumbered) (sym it.rows) (all-put_row IsNumbered it.row _ is_numbered (all-filter IsNumbered (λ r. not (has_rowid it.id r)) (old.now.trees 1) room.numbered)));
+          (subst (AllByRecursion IsNumbered) (sym it.rows) (all-put_row IsNumbered it.row _ is_numbered
+          (all-filter IsNumbered (λ r. not (has_rowid it.id r)) (old.now.trees 1) room.numbered)));
       version = version_stays _ _ (o.room (omega arith));
       records = same_records _ _
           (λ q. ap (λ rows. option_map node_of (only (map shown_node rows))) (filter_put 1 node.id q _ _ _ _ it id)
-          ∙ through (λ rows. option_map node_of (only (map shown_node rows))) (q == node.id) (it.row ∷ []) (filter (has 0 q) (old.now.trees 1))
-          ∙ ap (λ found. cond (q == node.id) (Some found) (nodes_in (old.now.trees 1) q)) (ap (λ r. node_of (shown_node r)) it.fits ∙ node_back node name named))
+          ∙ through (λ rows. option_map node_of (only (map shown_node rows)))
+          (q == node.id) (it.row ∷ []) (filter (has 0 q) (old.now.trees 1))
+          ∙ ap (λ found. cond (q == node.id) (Some found) (nodes_in (old.now.trees 1) q))
+          (ap (λ r. node_of (shown_node r)) it.fits ∙ node_back node name named))
           (λ q. ap (λ rows. entries_in rows q) (o.entry (omega arith)))
           (λ q. ap (λ rows. documents_in rows q) (o.doc (omega arith)))
           (ap next_in (o.room (omega arith)))
@@ -90,7 +125,8 @@ steps_node old new node name count room named h =
 
 -- ---- a document and the next number
 
-pub steps_doc : (old new : State) (id : ℕ) (bytes : Vec ℕ Global) (count : ℕ) → IsRoomDatabase old.now → ExecutesInside 0 put_doc_text (Int (pos id) ∷ Blob bytes.items ∷ []) old new (Ok count)
+pub steps_doc : (old new : State) (id : ℕ) (bytes : Vec ℕ Global) (count : ℕ) → IsRoomDatabase old.now
+    → ExecutesInside 0 put_doc_text (Int (pos id) ∷ Blob bytes.items ∷ []) old new (Ok count)
     → Steps old new (apply_change (PutDoc id bytes))
 steps_doc old new id bytes count room h =
     let ran = executes_inside put_doc_text _ old new count h in
@@ -99,28 +135,34 @@ steps_doc old new id bytes count room h =
     let is : it.id ≡ pos id = id_is (sym it.has_id ∙ ap rowid it.fits) in
     let o = it.others in
     record {
-      room = still_room 5 old.now new.now room done.schema o (keyed_after 5 _ _ _ _ it room.keyed.doc) (still_numbered 5 old.now new.now room (omega arith) o);
+      room = still_room 5 old.now new.now room done.schema o (keyed_after 5 _ _ _ _ it room.keyed.doc)
+          (still_numbered 5 old.now new.now room (omega arith) o);
       version = version_stays _ _ (o.room (omega arith));
       records = same_records _ _
           (λ q. ap (λ rows. nodes_in rows q) (o.node (omega arith)))
           (λ q. ap (λ rows. entries_in rows q) (o.entry (omega arith)))
           (λ q. ap (λ rows. option_map doc_of (only (map shown_doc rows))) (filter_put 5 id q _ _ _ _ it is)
-          ∙ through (λ rows. option_map doc_of (only (map shown_doc rows))) (q == id) (it.row ∷ []) (filter (has 0 q) (old.now.trees 5))
-          ∙ ap (λ found. cond (q == id) (Some found) (documents_in (old.now.trees 5) q)) (ap (λ r. doc_of (shown_doc r)) it.fits))
+          ∙ through (λ rows. option_map doc_of (only (map shown_doc rows)))
+          (q == id) (it.row ∷ []) (filter (has 0 q) (old.now.trees 5))
+          ∙ ap (λ found. cond (q == id) (Some found) (documents_in (old.now.trees 5) q))
+          (ap (λ r. doc_of (shown_doc r)) it.fits))
           (ap next_in (o.room (omega arith)))
           (λ sid. ap (λ rows. sessions_in rows sid) (o.session (omega arith)))
           (λ sid slot. ap (λ rows. slots_in rows sid slot) (o.slot (omega arith)));
     }
 
 -- the next number is put into a row of version 1
-pub version_put : (old new : State) (n count : ℕ) → IsRoomDatabase old.now → ExecutesInside 0 put_next_text (Int (pos n) ∷ []) old new (Ok count) → IsVersion1 (version_rows new.now.trees)
+pub version_put : (old new : State) (n count : ℕ) → IsRoomDatabase old.now
+    → ExecutesInside 0 put_next_text (Int (pos n) ∷ []) old new (Ok count) → IsVersion1 (version_rows new.now.trees)
 version_put old new n count room h =
     let ran = executes_inside put_next_text _ old new count h in
     let it = (puts_next old new n count room.schema room.keyed.room ran.0).put in
     let is : it.id ≡ pos 1 = id_is (sym it.has_id ∙ ap rowid it.fits) in
-    ap (λ rows. option_map (λ row. column row 0) (only (map shown_version rows))) (filter_put 0 1 1 _ _ _ _ it is) ∙ ap (λ r. Some (column (shown_version r) 0)) it.fits
+    ap (λ rows. option_map (λ row. column row 0) (only (map shown_version rows))) (filter_put 0 1 1 _ _ _ _ it is)
+    ∙ ap (λ r. Some (column (shown_version r) 0)) it.fits
 
-pub steps_next : (old new : State) (n count : ℕ) → IsRoomDatabase old.now → ExecutesInside 0 put_next_text (Int (pos n) ∷ []) old new (Ok count) → Steps old new (apply_change (PutNext n))
+pub steps_next : (old new : State) (n count : ℕ) → IsRoomDatabase old.now
+    → ExecutesInside 0 put_next_text (Int (pos n) ∷ []) old new (Ok count) → Steps old new (apply_change (PutNext n))
 steps_next old new n count room h =
     let ran = executes_inside put_next_text _ old new count h in
     let done = puts_next old new n count room.schema room.keyed.room ran.0 in
@@ -128,40 +170,44 @@ steps_next old new n count room h =
     let is : it.id ≡ pos 1 = id_is (sym it.has_id ∙ ap rowid it.fits) in
     let o = it.others in
     record {
-      room = still_room 0 old.now new.now room done.schema o (keyed_after 0 _ _ _ _ it room.keyed.room) (still_numbered 0 old.now new.now room (omega arith) o);
+      room = still_room 0 old.now new.now room done.schema o (keyed_after 0 _ _ _ _ it room.keyed.room)
+          (still_numbered 0 old.now new.now room (omega arith) o);
       version = λ _. version_put old new n count room h;
       records = same_records _ _
           (λ q. ap (λ rows. nodes_in rows q) (o.node (omega arith)))
           (λ q. ap (λ rows. entries_in rows q) (o.entry (omega arith)))
           (λ q. ap (λ rows. documents_in rows q) (o.doc (omega arith)))
-          (ap (λ rows. unwrap_or (option_map (λ row. number_in (column row 0)) (only (map shown_next rows))) 0) (filter_put 0 1 1 _ _ _ _ it is) ∙ ap (λ r. number_in (column (shown_next r) 0)) it.fits)
+          (ap (λ rows. unwrap_or (option_map (λ row. number_in (column row 0)) (only (map shown_next rows))) 0)
+          (filter_put 0 1 1 _ _ _ _ it is) ∙ ap (λ r. number_in (column (shown_next r) 0)) it.fits)
           (λ sid. ap (λ rows. sessions_in rows sid) (o.session (omega arith)))
           (λ sid slot. ap (λ rows. slots_in rows sid slot) (o.slot (omega arith)));
     }
 
 -- ---- changes in turn
 
--- before any change
-pub steps_none : (s : State) → IsRoomDatabase s.now → Steps s s (λ r. r)
-steps_none s room = record { room = room; records = refl; version = λ v. v }
-
-all_pushed : (changes : List Change) (change : Change) (r : Records) → apply_changes (changes ++ change ∷ []) r ≡ apply_change change (apply_changes changes r)
+all_pushed : (changes : List Change) (change : Change) (r : Records)
+    → apply_changes (changes ++ change ∷ []) r ≡ apply_change change (apply_changes changes r)
 all_pushed [] change r = refl
 all_pushed (c ∷ changes) change r = all_pushed changes change (apply_change c r)
 
 -- one more change
-pub steps_more : (old mid new : State) (changes more : List Change) (change : Change) → more ≡ changes ++ change ∷ [] → Steps old mid (apply_changes changes) → Steps mid new (apply_change change) → Steps old new (apply_changes more)
+pub steps_more : (old mid new : State) (changes more : List Change) (change : Change) → more ≡ changes ++ change ∷ []
+    → Steps old mid (apply_changes changes) → Steps mid new (apply_change change) → Steps old new (apply_changes more)
 steps_more old mid new changes more change is a b = record {
   room = b.room;
-  records = b.records ∙ ap (apply_change change) a.records ∙ sym (all_pushed changes change (records_of old.now.trees)) ∙ ap (λ cs. apply_changes cs (records_of old.now.trees)) (sym is);
+  records = b.records ∙ ap (apply_change change) a.records ∙ sym (all_pushed changes change (records_of old.now.trees))
+      ∙ ap (λ cs. apply_changes cs (records_of old.now.trees)) (sym is);
   version = λ v. b.version (a.version v);
 }
 
 -- the same, with the text and the parameters as they are given
-pub steps_node_at : (old new : State) (node : Node) (name : List ℕ) (text : List ℕ) (params : Row) (count : ℕ) → IsRoomDatabase old.now → name_of_text name ≡ node.name
-    → text ≡ put_node_text → params ≡ node_params node.id node.parent name (kind_number node.kind) node.owner node.group node.aclflag → ExecutesInside 0 text params old new (Ok count) → Steps old new (apply_change (PutNode node))
+pub steps_node_at : (old new : State) (node : Node) (name : List ℕ) (text : List ℕ) (params : Row) (count : ℕ)
+    → IsRoomDatabase old.now → name_of_text name ≡ node.name
+    → text ≡ put_node_text → params ≡ node_params node.id node.parent name (kind_number node.kind) node.owner node.group
+    node.aclflag → ExecutesInside 0 text params old new (Ok count) → Steps old new (apply_change (PutNode node))
 steps_node_at old new node name text params count room named text_is params_are h =
-    steps_node old new node name count room named (subst (λ p. ExecutesInside 0 put_node_text p old new (Ok count)) params_are (subst (λ t. ExecutesInside 0 t params old new (Ok count)) text_is h))
+    steps_node old new node name count room named (subst (λ p. ExecutesInside 0 put_node_text p old new (Ok count))
+    params_are (subst (λ t. ExecutesInside 0 t params old new (Ok count)) text_is h))
 
 -- a parent's number is bound as it is
 pub bound_parent : (p : Option ℕ) → bound_value (parent_value p) ≡ parent_value p

@@ -1,10 +1,13 @@
 -- Which rows pass a test after a row was put in or rows were taken out.
-use Rattle.std.proofs.Common.{◌≡◌, ◌≢◌, ℕ, pos, Bool, true, false, not, ◌||◌, ◌==◌, cond, List, [], ◌∷◌, filter, inl, inr, refl, sym, ap, subst, ◌∙◌, true≢false, Less, Equal, Greater, Ordering, is_eq, arith, eq-eqb, IsPermutation}
+use Rattle.std.proofs.Common.{◌≡◌, ◌≢◌, ℕ, pos, Bool, true, false, not, ◌||◌, ◌==◌, cond, List, [], ◌∷◌, filter, inl}
+use Rattle.std.proofs.Common.{inr, refl, sym, ap, subst, ◌∙◌, true≢false, Less, Equal, Greater, Ordering, is_eq, arith}
+use Rattle.std.proofs.Common.{eq-eqb, IsPermutation}
 use Rattle.std.specs.List.{AllByRecursion}
 use Rattle.std.specs.Ordering.{match_ordering}
 use Rattle.std.proofs.lemmas.Bool.{cases_Bool, cases_eq}
 use Rattle.std.proofs.lemmas.Bool.Decides.{nat_tests}
-use Rattle.std.proofs.lemmas.List.Sorted.{IsPermutation-refl, IsPermutation-cons, IsPermutation-trans, IsPermutation-middle, IsPermutation-sym}
+use Rattle.std.proofs.lemmas.List.Sorted.{IsPermutation-refl, IsPermutation-cons, IsPermutation-trans}
+use Rattle.std.proofs.lemmas.List.Sorted.{IsPermutation-middle, IsPermutation-sym}
 use Rattle.sqlite_value.specs.declared.value.Value.TheVariants.{Int}
 use Rattle.sqlite_value.specs.Order.{Row, value_cmp}
 use Rattle.sqlite_trees.specs.Tree.{Trees, rowid, put_row, without_rowid, has_rowid}
@@ -12,7 +15,8 @@ use Rattle.sqlite_trees.specs.View.{is_int}
 use Rattle.sqlite_trees.proofs.TreeLemmas.{IsTable-put_row, all-put_row}
 use Rattle.sqlite_rules.specs.Edit.{is_taken}
 use Rattle.sqlite_rules.specs.Lists.{Has}
-use Rattle.sqlite_keyed.proofs.ListLemmas.{IsPermutation-filter, filter-filter, filter_none, ascending-filter, all-filter}
+use Rattle.sqlite_keyed.proofs.ListLemmas.{IsPermutation-filter, filter-filter, filter_none}
+use Rattle.sqlite_keyed.proofs.ListLemmas.{ascending-filter, all-filter}
 use Rattle.sqlite_rules.proofs.ListLemmas.{all_from, has_filtered}
 use Rattle.sqlite.proofs.Callers.{one_permutation}
 use Rattle.sqlite.specs.Table.{Table}
@@ -26,48 +30,61 @@ use Rattle.room_tables.proofs.Changes.{not_true, without, Others}
 use Rattle.room_tables.proofs.Upserts.{Put}
 
 -- a row that goes in where none has its rowid is one more row
-pub put_is_one_more : (new : Row) (rows : List Row) → is_taken rows new ≡ false → IsPermutation (put_row new rows) (new ∷ rows)
+pub put_is_one_more : (new : Row) (rows : List Row) → is_taken rows new ≡ false
+    → IsPermutation (put_row new rows) (new ∷ rows)
 put_is_one_more new [] free = IsPermutation-refl _
 put_is_one_more new (r ∷ rows) free = go (value_cmp (rowid r) (rowid new)) (put_is_one_more new rows) free
   where
-    go : (o : Ordering) → (is_taken rows new ≡ false → IsPermutation (put_row new rows) (new ∷ rows)) → (is_eq o || is_taken rows new) ≡ false → IsPermutation (match_ordering o (r ∷ put_row new rows) (new ∷ rows) (new ∷ r ∷ rows)) (new ∷ r ∷ rows)
-    go Less more h = IsPermutation-trans _ _ _ (IsPermutation-cons r _ _ (more h)) (IsPermutation-middle (r ∷ []) new rows)
+    go : (o : Ordering) → (is_taken rows new ≡ false → IsPermutation (put_row new rows) (new ∷ rows))
+        → (is_eq o || is_taken rows new) ≡ false
+        → IsPermutation (match_ordering o (r ∷ put_row new rows) (new ∷ rows) (new ∷ r ∷ rows)) (new ∷ r ∷ rows)
+    go Less more h =
+        IsPermutation-trans _ _ _ (IsPermutation-cons r _ _ (more h)) (IsPermutation-middle (r ∷ []) new rows)
     go Equal more h = absurd (true≢false h)
     go Greater more h = IsPermutation-refl _
 
 -- and one that fails a test is not among those that pass it
-pub put_passed_over : (p : Row → Bool) (new : Row) (rows : List Row) → p new ≡ false → is_taken rows new ≡ false → filter p (put_row new rows) ≡ filter p rows
+pub put_passed_over : (p : Row → Bool) (new : Row) (rows : List Row) → p new ≡ false
+    → is_taken rows new ≡ false → filter p (put_row new rows) ≡ filter p rows
 put_passed_over p new [] fails free = rw fails
-put_passed_over p new (r ∷ rows) fails free = go (value_cmp (rowid r) (rowid new)) (put_passed_over p new rows fails) free
+put_passed_over p new (r ∷ rows) fails free =
+    go (value_cmp (rowid r) (rowid new)) (put_passed_over p new rows fails) free
   where
-    go : (o : Ordering) → (is_taken rows new ≡ false → filter p (put_row new rows) ≡ filter p rows) → (is_eq o || is_taken rows new) ≡ false → filter p (match_ordering o (r ∷ put_row new rows) (new ∷ rows) (new ∷ r ∷ rows)) ≡ filter p (r ∷ rows)
+    go : (o : Ordering) → (is_taken rows new ≡ false → filter p (put_row new rows) ≡ filter p rows)
+        → (is_eq o || is_taken rows new) ≡ false
+        → filter p (match_ordering o (r ∷ put_row new rows) (new ∷ rows) (new ∷ r ∷ rows)) ≡ filter p (r ∷ rows)
     go Less more h = ap (λ l. cond (p r) (r ∷ l) l) (more h)
     go Equal more h = absurd (true≢false h)
     go Greater more h = rw fails
 
 -- where no other row passes, the row that went in is the only one that does
-pub put_alone : (p : Row → Bool) (new : Row) (rows : List Row) → p new ≡ true → filter p rows ≡ [] → is_taken rows new ≡ false → filter p (put_row new rows) ≡ new ∷ []
+pub put_alone : (p : Row → Bool) (new : Row) (rows : List Row) → p new ≡ true
+    → filter p rows ≡ [] → is_taken rows new ≡ false → filter p (put_row new rows) ≡ new ∷ []
 put_alone p new rows passes none free =
     let here : filter p (new ∷ rows) ≡ new ∷ [] = rw passes (ap (λ l. new ∷ l) none) in
     let moved = IsPermutation-filter p _ _ (IsPermutation-sym _ _ (put_is_one_more new rows free)) in
     one_permutation new _ (subst (λ l. IsPermutation l (filter p (put_row new rows))) here moved)
 
 -- what a test leaves has none that passes it
-pub none_left : (p q : Row → Bool) (rows : List Row) → ((r : Row) → q r ≡ true → p r ≡ true) → filter q (without p rows) ≡ []
+pub none_left : (p q : Row → Bool) (rows : List Row)
+    → ((r : Row) → q r ≡ true → p r ≡ true) → filter q (without p rows) ≡ []
 none_left p q rows implied = filter_none q (without p rows) (all_from (λ r. q r ≡ false) (without p rows) (λ r h.
     let gone : p r ≡ false = not_true _ (has_filtered (λ x. not (p x)) rows r h).1 in
     elim (cases_Bool (q r)) [ inl passes ↦ absurd (true≢false (sym (implied r passes) ∙ gone)) | inr fails ↦ fails ]))
 
 -- and those of another test as before, where no row passes both
-pub others_left : (p q : Row → Bool) (rows : List Row) → ((r : Row) → q r ≡ true → p r ≡ false) → filter q (without p rows) ≡ filter q rows
+pub others_left : (p q : Row → Bool) (rows : List Row)
+    → ((r : Row) → q r ≡ true → p r ≡ false) → filter q (without p rows) ≡ filter q rows
 others_left p q rows apart = filter-filter q (λ r. not (p r)) (λ r h. ap not (apart r h)) rows
 
 -- the same where only the rows that are there are looked at
-pub others_left_on : (p q : Row → Bool) (rows : List Row) → ((r : Row) → Has rows r → q r ≡ true → p r ≡ false) → filter q (without p rows) ≡ filter q rows
+pub others_left_on : (p q : Row → Bool) (rows : List Row)
+    → ((r : Row) → Has rows r → q r ≡ true → p r ≡ false) → filter q (without p rows) ≡ filter q rows
 others_left_on p q [] apart = refl
 others_left_on p q (r ∷ rows) apart = go (p r) refl (q r) refl (others_left_on p q rows (λ x h. apart x (inr h)))
   where
-    go : (b : Bool) → p r ≡ b → (c : Bool) → q r ≡ c → filter q (without p rows) ≡ filter q rows → filter q (cond (not b) (r ∷ without p rows) (without p rows)) ≡ cond c (r ∷ filter q rows) (filter q rows)
+    go : (b : Bool) → p r ≡ b → (c : Bool) → q r ≡ c → filter q (without p rows) ≡ filter q rows
+        → filter q (cond (not b) (r ∷ without p rows) (without p rows)) ≡ cond c (r ∷ filter q rows) (filter q rows)
     go true e true f more = absurd (true≢false (sym e ∙ apart r (inl refl) f))
     go true e false f more = more
     go false e true f more = rw f (ap (λ l. r ∷ l) more)
@@ -77,11 +94,13 @@ pub same_test : (id : ℕ) (r : Row) → has_rowid (pos id) r ≡ has 0 id r
 same_test id r = sym (has_is 0 id r)
 
 pub not_both : (place id q : ℕ) (r : Row) → q ≢ id → has place q r ≡ true → has place id r ≡ false
-not_both place id q r apart h = elim (cases_Bool (has place id r)) [ inl also ↦ absurd (apart (has_one place q id r h also)) | inr other ↦ other ]
+not_both place id q r apart h =
+    elim (cases_Bool (has place id r)) [ inl also ↦ absurd (apart (has_one place q id r h also)) | inr other ↦ other ]
 
 -- ---- a row in the place of the one with its number
 
-pub filter_put : (tree id q : ℕ) (db next : Trees) (Fits Met : Row → Type 0) (it : Put tree db next Fits Met) → it.id ≡ pos id
+pub filter_put : (tree id q : ℕ) (db next : Trees) (Fits Met : Row → Type 0) (it : Put tree db next Fits Met)
+    → it.id ≡ pos id
     → filter (has 0 q) (next tree) ≡ cond (q == id) (it.row ∷ []) (filter (has 0 q) (db tree))
 filter_put tree id q db next Fits Met it is = elim (cases_eq q id) [
   | inl same ↦
@@ -89,7 +108,8 @@ filter_put tree id q db next Fits Met it is = elim (cases_eq q id) [
       rw (test, same) (ap (filter (has 0 id)) it.rows ∙ put_alone (has 0 id) it.row left mine gone it.free)
   | inr apart ↦
       let test : (q == id) ≡ false = grind (arith, nat_tests) in
-      rw test (ap (filter (has 0 q)) it.rows ∙ put_passed_over (has 0 q) it.row left (not_both 0 q id it.row (λ e. apart (sym e)) mine) it.free ∙ stay apart)
+      rw test (ap (filter (has 0 q)) it.rows ∙ put_passed_over (has 0 q) it.row left
+      (not_both 0 q id it.row (λ e. apart (sym e)) mine) it.free ∙ stay apart)
 ]
   where
     left : List Row
@@ -102,37 +122,51 @@ filter_put tree id q db next Fits Met it is = elim (cases_eq q id) [
     gone = none_left (has_rowid it.id) (has 0 id) (db tree) (λ r h. ap (λ i. has_rowid i r) is ∙ same_test id r ∙ h)
 
     stay : q ≢ id → filter (has 0 q) left ≡ filter (has 0 q) (db tree)
-    stay apart = others_left (has_rowid it.id) (has 0 q) (db tree) (λ r h. ap (λ i. has_rowid i r) is ∙ same_test id r ∙ not_both 0 id q r apart h)
+    stay apart = others_left (has_rowid it.id) (has 0 q) (db tree)
+        (λ r h. ap (λ i. has_rowid i r) is ∙ same_test id r ∙ not_both 0 id q r apart h)
 
 -- ---- the version
 
 -- where the one row of room is as it was
-pub version_stays : (before after : List Row) → after ≡ before → IsVersion1 (versions_in before) → IsVersion1 (versions_in after)
+pub version_stays : (before after : List Row) → after ≡ before
+    → IsVersion1 (versions_in before) → IsVersion1 (versions_in after)
 version_stays before after same = subst (λ rows. IsVersion1 (versions_in rows)) (sym same)
 
 -- ---- keys
 
 pub keyed_put : (new : Row) (rows : List Row) → is_int (rowid new) ≡ true → IsKeyed rows → IsKeyed (put_row new rows)
-keyed_put new rows int keyed = record { table = IsTable-put_row new rows keyed.table; ints = all-put_row _ new rows int keyed.ints }
+keyed_put new rows int keyed =
+    record { table = IsTable-put_row new rows keyed.table; ints = all-put_row _ new rows int keyed.ints }
 
 pub keyed_filter : (p : Row → Bool) (rows : List Row) → IsKeyed rows → IsKeyed (filter p rows)
-keyed_filter p rows keyed = record { table = ascending-filter _ p rows keyed.table; ints = all-filter _ p rows keyed.ints }
+keyed_filter p rows keyed =
+    record { table = ascending-filter _ p rows keyed.table; ints = all-filter _ p rows keyed.ints }
 
-pub keyed_after : (tree : ℕ) (db next : Trees) (Fits Met : Row → Type 0) → Put tree db next Fits Met → IsKeyed (db tree) → IsKeyed (next tree)
+pub keyed_after : (tree : ℕ) (db next : Trees) (Fits Met : Row → Type 0)
+    → Put tree db next Fits Met → IsKeyed (db tree) → IsKeyed (next tree)
 keyed_after tree db next Fits Met it keyed =
-    subst IsKeyed (sym it.rows) (keyed_put it.row _ (subst (λ v. is_int v ≡ true) (sym it.has_id) refl) (keyed_filter (λ r. not (has_rowid it.id r)) (db tree) keyed))
+    subst IsKeyed (sym it.rows) (keyed_put it.row _ (subst (λ v. is_int v ≡ true) (sym it.has_id) refl)
+    (keyed_filter (λ r. not (has_rowid it.id r)) (db tree) keyed))
 
 -- a table is keyed where the one that changed is
-still_keyed : (tree : ℕ) (db next : Trees) → IsKeyed (next tree) → (t : Table) → IsKeyed (db t.tree) → (t.tree ≢ tree → next t.tree ≡ db t.tree) → IsKeyed (next t.tree)
+still_keyed : (tree : ℕ) (db next : Trees) → IsKeyed (next tree) → (t : Table)
+    → IsKeyed (db t.tree) → (t.tree ≢ tree → next t.tree ≡ db t.tree) → IsKeyed (next t.tree)
 still_keyed tree db next mine t keyed other = elim (cases_eq t.tree tree) [
   | inl same ↦ subst (λ n. IsKeyed (next n)) (sym same) mine
   | inr apart ↦ subst IsKeyed (sym (other apart)) keyed
 ]
 
 -- the tables are laid out as before
-pub still_room : (tree : ℕ) (old new : Database) → IsRoomDatabase old → new.schema ≡ room_schema → Others tree old.trees new.trees → IsKeyed (new.trees tree) → AllByRecursion IsNumbered (new.trees 1) → IsRoomDatabase new
-still_room tree old new room schema others mine numbered = record { schema = schema; keyed = from_both _ _ _ (still_keyed tree old.trees new.trees mine) room.keyed others; numbered = numbered }
+pub still_room : (tree : ℕ) (old new : Database) → IsRoomDatabase old → new.schema ≡ room_schema → Others tree
+    old.trees new.trees → IsKeyed (new.trees tree) → AllByRecursion IsNumbered (new.trees 1) → IsRoomDatabase new
+still_room tree old new room schema others mine numbered = record {
+  schema = schema;
+  keyed = from_both _ _ _ (still_keyed tree old.trees new.trees mine) room.keyed others;
+  numbered = numbered;
+}
 
 -- and the nodes are where another table changed
-pub still_numbered : (tree : ℕ) (old new : Database) → IsRoomDatabase old → 1 ≢ tree → Others tree old.trees new.trees → AllByRecursion IsNumbered (new.trees 1)
-still_numbered tree old new room apart others = subst (AllByRecursion IsNumbered) (sym (others.node apart)) room.numbered
+pub still_numbered : (tree : ℕ) (old new : Database) → IsRoomDatabase old → 1 ≢ tree
+    → Others tree old.trees new.trees → AllByRecursion IsNumbered (new.trees 1)
+still_numbered tree old new room apart others =
+    subst (AllByRecursion IsNumbered) (sym (others.node apart)) room.numbered

@@ -1,12 +1,15 @@
 -- Entries in their order, and entries that are put in one after another.
-use Rattle.std.proofs.Common.{◌≡◌, ◌≢◌, ℕ, suc, ℤ, ◌+◌, ◌<◌, ◌≤◌, pos, not, Bool, List, [], ◌∷◌, ◌++◌, length, map, filter, Ok, refl, sym, ap, ap₂, subst, ◌∙◌, arith, true, false, ◌==◌, Less, is_eq, is_gt, cond, inl, inr, eq-eqb, int_cmp, IsPermutation, Equal}
+use Rattle.std.proofs.Common.{◌≡◌, ◌≢◌, ℕ, suc, ℤ, ◌+◌, ◌<◌, pos, not, Bool, List, [], ◌∷◌, ◌++◌, length, map}
+use Rattle.std.proofs.Common.{filter, Ok, refl, sym, ap, ap₂, subst, ◌∙◌, arith, true, false, ◌==◌, Less}
+use Rattle.std.proofs.Common.{cond, inl, inr, eq-eqb, int_cmp, IsPermutation, Equal}
 use Rattle.std.specs.List.{AllByRecursion}
 use Rattle.std.proofs.lemmas.Int.{ints}
 use Rattle.std.proofs.lemmas.List.{append-nil, append_assoc, length-append}
 use Rattle.std.proofs.lemmas.Bool.{cases_eq}
 use Rattle.std.proofs.lemmas.Bool.Decides.{nat_tests}
 use Rattle.std.proofs.lemmas.Map.Lookups.{exact_signed, exact_bytes}
-use Rattle.std.proofs.lemmas.List.Sorted.{IsPermutation-map, IsPermutation-trans, IsPermutation-cons, IsPermutation-sym, IsPermutation-to_front}
+use Rattle.std.proofs.lemmas.List.Sorted.{IsPermutation-map, IsPermutation-trans, IsPermutation-cons}
+use Rattle.std.proofs.lemmas.List.Sorted.{IsPermutation-sym, IsPermutation-to_front}
 use Rattle.sqlite_value.specs.declared.value.Value.TheVariants.{Int, Text}
 use Rattle.sqlite_value.specs.Order.{Row, value_cmp}
 use Rattle.sqlite_value.proofs.OrderLemmas.{value_cmp-Int, value_cmp-Text}
@@ -21,7 +24,8 @@ use Rattle.sqlite.specs.Effect.{Database}
 use Rattle.sqlite.specs.State.{State, ExecutesInside}
 use Rattle.room_acl.specs.Entries.{EntryModel, who_text}
 use Rattle.room_tables.specs.Texts.{drop_entries_text}
-use Rattle.room_tables.specs.Rows.{has, shown_entry, entry_of, entry_keys, in_order, nodes_in, documents_in, next_in, sessions_in, slots_in, records_of, versions_in, IsEntryRow}
+use Rattle.room_tables.specs.Rows.{has, shown_entry, entry_of, entry_keys, in_order, nodes_in, documents_in, next_in}
+use Rattle.room_tables.specs.Rows.{sessions_in, slots_in, records_of, versions_in, IsEntryRow}
 use Rattle.room_tables.specs.Layout.{IsKeyed, IsRoomDatabase}
 use Rattle.room_tables.specs.Steps.{type_of, IsReadBack, shown_as, placed, Lists}
 use Rattle.room_tables.proofs.Sorted.{AtMost, ascending-sort_by, same_ascending}
@@ -29,13 +33,16 @@ use Rattle.room_tables.proofs.Queries.{first_tie}
 use Rattle.room_tables.proofs.Values.{int_has}
 use Rattle.room_tables.proofs.Changes.{HasAll, executes_inside, without}
 use Rattle.room_tables.proofs.Takes.{stored, bound_entries, AddsEntries, drops_entries}
-use Rattle.room_tables.proofs.Filters.{put_is_one_more, put_passed_over, none_left, others_left, not_both, keyed_put, keyed_filter, still_room, still_numbered}
+use Rattle.room_tables.proofs.Filters.{put_is_one_more, put_passed_over, none_left, others_left, not_both, keyed_put}
+use Rattle.room_tables.proofs.Filters.{keyed_filter, still_room, still_numbered}
 use Rattle.room_tables.proofs.Effects.{same_records}
 
 -- two rows of entries that tie are one
 exact_values : (p k f m q l g n : ℕ) (v w : List ℕ)
-    → key_cmp 0 entry_keys (Int (pos p) ∷ Int (pos k) ∷ Int (pos f) ∷ Int (pos m) ∷ Text v ∷ []) (Int (pos q) ∷ Int (pos l) ∷ Int (pos g) ∷ Int (pos n) ∷ Text w ∷ []) ≡ Equal
-    → ◌≡◌ {A = Row} (Int (pos p) ∷ Int (pos k) ∷ Int (pos f) ∷ Int (pos m) ∷ Text v ∷ []) (Int (pos q) ∷ Int (pos l) ∷ Int (pos g) ∷ Int (pos n) ∷ Text w ∷ [])
+    → key_cmp 0 entry_keys (Int (pos p) ∷ Int (pos k) ∷ Int (pos f) ∷ Int (pos m) ∷ Text v ∷ [])
+    (Int (pos q) ∷ Int (pos l) ∷ Int (pos g) ∷ Int (pos n) ∷ Text w ∷ []) ≡ Equal
+    → ◌≡◌ {A = Row} (Int (pos p) ∷ Int (pos k) ∷ Int (pos f) ∷ Int (pos m) ∷ Text v ∷ [])
+    (Int (pos q) ∷ Int (pos l) ∷ Int (pos g) ∷ Int (pos n) ∷ Text w ∷ [])
 exact_values p k f m q l g n v w h =
     let one = first_tie _ _ h in
     let two = first_tie _ _ one.1 in
@@ -50,7 +57,8 @@ exact_values p k f m q l g n v w h =
     cc
 
 pub exact_entries : (a b : Row) → IsEntryRow a → IsEntryRow b → key_cmp 0 entry_keys a b ≡ Equal → a ≡ b
-exact_entries a b p q tie = p.is ∙ exact_values p.place p.kind p.flags p.mask q.place q.kind q.flags q.mask p.who q.who (rw (p.is, q.is) at tie) ∙ sym q.is
+exact_entries a b p q tie = p.is ∙ exact_values p.place p.kind p.flags p.mask
+    q.place q.kind q.flags q.mask p.who q.who (rw (p.is, q.is) at tie) ∙ sym q.is
 
 abbrev below : Row → Row → Type 0
 below = AtMost (key_cmp 0 entry_keys) (key_cmp_total entry_keys 0)
@@ -61,7 +69,8 @@ first_less a b e f low =
     let first : value_cmp (Int (pos a)) (Int (pos b)) ≡ Less = value_cmp-Int (pos a) (pos b) ∙ less in
     rw first refl
 
-later : (a at : ℕ) (e : EntryModel) (es : List EntryModel) → a < at → AllByRecursion (below (shown_as a e)) (placed at es)
+later : (a at : ℕ) (e : EntryModel) (es : List EntryModel)
+    → a < at → AllByRecursion (below (shown_as a e)) (placed at es)
 later a at e [] low = tt
 later a at e (f ∷ es) low = (first_less a at e f low, later a (suc at) e es (omega arith))
 
@@ -71,9 +80,20 @@ placed_up at (e ∷ es) = (later at (suc at) e es (omega arith), placed_up (suc 
 
 placed_rows : (at : ℕ) (es : List EntryModel) → AllByRecursion IsEntryRow (placed at es)
 placed_rows at [] = tt
-placed_rows at (e ∷ es) = (record { place = at; kind = type_of e.allow; flags = e.flags; mask = e.mask; who = who_text e.who; is = refl }, placed_rows (suc at) es)
+placed_rows at (e ∷ es) = (
+  record {
+    place = at;
+    kind = type_of e.allow;
+    flags = e.flags;
+    mask = e.mask;
+    who = who_text e.who;
+    is = refl;
+  },
+  placed_rows (suc at) es,
+)
 
-placed_push : (at : ℕ) (es : List EntryModel) (e : EntryModel) → placed at (es ++ e ∷ []) ≡ placed at es ++ shown_as (at + length es) e ∷ []
+placed_push : (at : ℕ) (es : List EntryModel) (e : EntryModel)
+    → placed at (es ++ e ∷ []) ≡ placed at es ++ shown_as (at + length es) e ∷ []
 placed_push at [] e = rw Rattle.std.proofs.Common.add-zero refl
 placed_push at (x ∷ es) e =
     let n : suc at + length es ≡ at + suc (length es) = omega arith in
@@ -84,30 +104,36 @@ type_back true = refl
 type_back false = refl
 
 one_back : (at : ℕ) (e : EntryModel) → IsReadBack e → entry_of (shown_as at e) ≡ e
-one_back at e back = ap₂ (λ allow who. record { allow = allow; flags = e.flags; mask = e.mask; who = who }) (type_back e.allow) back
+one_back at e back =
+    ap₂ (λ allow who. record { allow = allow; flags = e.flags; mask = e.mask; who = who }) (type_back e.allow) back
 
 pub read_back : (at : ℕ) (es : List EntryModel) → AllByRecursion IsReadBack es → map entry_of (placed at es) ≡ es
 read_back at [] back = refl
 read_back at (e ∷ es) back = ap₂ (λ x l. x ∷ l) (one_back at e back.0) (read_back (suc at) es back.1)
 
 -- a row that goes in at the next place is the last
-one_placed : (old new : List Row) (es : List EntryModel) (e : EntryModel) → sort_by (key_cmp 0 entry_keys) old ≡ placed 0 es
+one_placed : (old new : List Row) (es : List EntryModel) (e : EntryModel)
+    → sort_by (key_cmp 0 entry_keys) old ≡ placed 0 es
     → IsPermutation new (shown_as (length es) e ∷ old) → sort_by (key_cmp 0 entry_keys) new ≡ placed 0 (es ++ e ∷ [])
 one_placed old new es e was more =
     let cmp = key_cmp 0 entry_keys in
     let total = key_cmp_total entry_keys 0 in
     let row = shown_as (length es) e in
-    let pushed : placed 0 (es ++ e ∷ []) ≡ placed 0 es ++ row ∷ [] = placed_push 0 es e ∙ rw Rattle.std.proofs.Common.zero-add refl in
-    let whole = IsPermutation-trans _ _ _ (IsPermutation-sort_by cmp total new) (IsPermutation-trans _ _ _ more (IsPermutation-cons row _ _ (IsPermutation-sym _ _ (IsPermutation-sort_by cmp total old)))) in
+    let pushed : placed 0 (es ++ e ∷ []) ≡ placed 0 es ++ row ∷ [] =
+    placed_push 0 es e ∙ rw Rattle.std.proofs.Common.zero-add refl in
+    let whole = IsPermutation-trans _ _ _ (IsPermutation-sort_by cmp total new) (IsPermutation-trans _ _ _
+    more (IsPermutation-cons row _ _ (IsPermutation-sym _ _ (IsPermutation-sort_by cmp total old)))) in
     let end = subst (λ l. IsPermutation (sort_by cmp new) (row ∷ l)) was whole in
     let moved = IsPermutation-trans _ _ _ (IsPermutation-to_front (placed 0 es) row) (IsPermutation-sym _ _ end) in
-    same_ascending cmp total IsEntryRow exact_entries (placed 0 (es ++ e ∷ [])) (sort_by cmp new) (placed_rows 0 (es ++ e ∷ [])) (placed_up 0 (es ++ e ∷ [])) (ascending-sort_by cmp total new)
+    same_ascending cmp total IsEntryRow exact_entries (placed 0 (es ++ e ∷ [])) (sort_by cmp new)
+    (placed_rows 0 (es ++ e ∷ [])) (placed_up 0 (es ++ e ∷ [])) (ascending-sort_by cmp total new)
     (subst (λ l. IsPermutation l (sort_by cmp new)) (sym pushed) moved)
 
 -- ---- the statements
 
 -- the rows of the entries of an object go
-pub cleared_rows : (db next : Trees) (id q : ℕ) → next 3 ≡ without (has 1 id) (db 3) → filter (has 1 q) (next 3) ≡ cond (q == id) [] (filter (has 1 q) (db 3))
+pub cleared_rows : (db next : Trees) (id q : ℕ) → next 3 ≡ without (has 1 id) (db 3)
+    → filter (has 1 q) (next 3) ≡ cond (q == id) [] (filter (has 1 q) (db 3))
 cleared_rows db next id q is = elim (cases_eq q id) [
   | inl same ↦
       let test : (q == id) ≡ true = eq-eqb q id same in
@@ -118,17 +144,22 @@ cleared_rows db next id q is = elim (cases_eq q id) [
 ]
 
 -- no entry of the object is left, and all else is as it was
-pub lists_none : (old new : State) (id count : ℕ) → IsRoomDatabase old.now → ExecutesInside 0 drop_entries_text (Int (pos id) ∷ []) old new (Ok count) → Lists old.now.trees id [] new.now
+pub lists_none : (old new : State) (id count : ℕ) → IsRoomDatabase old.now
+    → ExecutesInside 0 drop_entries_text (Int (pos id) ∷ []) old new (Ok count) → Lists old.now.trees id [] new.now
 lists_none old new id count room h =
-    let it = drops_entries old new id count room.schema room.keyed.entry (executes_inside drop_entries_text _ old new count h).0 in
+    let it = drops_entries old new id count room.schema room.keyed.entry
+    (executes_inside drop_entries_text _ old new count h).0 in
     let o = it.others in
     let rows = λ (q : ℕ). cleared_rows old.now.trees new.now.trees id q it.rows_are in
     let here : (id == id) ≡ true = eq-eqb id id refl in
     record {
-      room = still_room 3 old.now new.now room it.schema o (subst IsKeyed (sym it.rows_are) (keyed_filter (λ r. not (has 1 id r)) (old.now.trees 3) room.keyed.entry)) (still_numbered 3 old.now new.now room (omega arith) o);
+      room = still_room 3 old.now new.now room it.schema o
+          (subst IsKeyed (sym it.rows_are) (keyed_filter (λ r. not (has 1 id r)) (old.now.trees 3) room.keyed.entry))
+          (still_numbered 3 old.now new.now room (omega arith) o);
       mine = ap in_order (rows id ∙ ap (λ b. cond b [] (filter (has 1 id) (old.now.trees 3))) here);
       back = tt;
-      others = λ q apart. let other : (q == id) ≡ false = grind (arith, nat_tests) in ap (λ l. map entry_of (in_order l)) (rows q ∙ ap (λ b. cond b [] (filter (has 1 q) (old.now.trees 3))) other);
+      others = λ q apart. let other : (q == id) ≡ false = grind (arith, nat_tests) in
+          ap (λ l. map entry_of (in_order l)) (rows q ∙ ap (λ b. cond b [] (filter (has 1 q) (old.now.trees 3))) other);
       nodes = λ q. ap (λ l. nodes_in l q) (o.node (omega arith));
       documents = λ q. ap (λ l. documents_in l q) (o.doc (omega arith));
       next = ap next_in (o.room (omega arith));
@@ -143,11 +174,14 @@ record Grown (id : ℕ) (es : List EntryModel) (rows new : List Row) : Type 0 wh
   pub mine : in_order (filter (has 1 id) new) ≡ placed 0 es
   pub others : (q : ℕ) → q ≢ id → filter (has 1 q) new ≡ filter (has 1 q) rows
 
-grown : (id : ℕ) (es : List EntryModel) (e : EntryModel) (rowid : ℤ) (rows : List Row) → is_taken rows (Int rowid ∷ Int (pos id) ∷ shown_as (length es) e) ≡ false → IsKeyed rows → in_order (filter (has 1 id) rows) ≡ placed 0 es
+grown : (id : ℕ) (es : List EntryModel) (e : EntryModel) (rowid : ℤ) (rows : List Row)
+    → is_taken rows (Int rowid ∷ Int (pos id) ∷ shown_as (length es) e) ≡ false
+    → IsKeyed rows → in_order (filter (has 1 id) rows) ≡ placed 0 es
     → Grown id (es ++ e ∷ []) rows (put_row (Int rowid ∷ Int (pos id) ∷ shown_as (length es) e) rows)
 grown id es e rowid rows free keyed was = record {
   keyed = keyed_put row rows refl keyed;
-  mine = one_placed (map shown_entry (filter (has 1 id) rows)) (map shown_entry (filter (has 1 id) (put_row row rows))) es e was (IsPermutation-map shown_entry _ _ found);
+  mine = one_placed (map shown_entry (filter (has 1 id) rows))
+      (map shown_entry (filter (has 1 id) (put_row row rows))) es e was (IsPermutation-map shown_entry _ _ found);
   others = λ q apart. put_passed_over (has 1 q) row rows (not_both 1 q id row (λ x. apart (sym x)) mine) free;
 }
   where
@@ -159,10 +193,13 @@ grown id es e rowid rows free keyed was = record {
 
     found : IsPermutation (filter (has 1 id) (put_row row rows)) (row ∷ filter (has 1 id) rows)
     found =
-        subst (λ b. IsPermutation (filter (has 1 id) (put_row row rows)) (cond b (row ∷ filter (has 1 id) rows) (filter (has 1 id) rows))) mine (IsPermutation-filter (has 1 id) _ _ (put_is_one_more row rows free))
+        subst (λ b. IsPermutation (filter (has 1 id) (put_row row rows)) (cond b (row ∷ filter (has 1 id) rows)
+        (filter (has 1 id) rows))) mine (IsPermutation-filter (has 1 id) _ _ (put_is_one_more row rows free))
 
 -- the same of some rows, at the places that follow
-all_grown : (id at : ℕ) (es batch : List EntryModel) (rows new : List Row) → at ≡ length es → IsKeyed rows → in_order (filter (has 1 id) rows) ≡ placed 0 es → HasAll rows new (stored id at batch) → Grown id (es ++ batch) rows new
+all_grown : (id at : ℕ) (es batch : List EntryModel) (rows new : List Row)
+    → at ≡ length es → IsKeyed rows → in_order (filter (has 1 id) rows) ≡ placed 0 es
+    → HasAll rows new (stored id at batch) → Grown id (es ++ batch) rows new
 all_grown id at es [] rows new place keyed was all = record {
   keyed = subst IsKeyed (sym all) keyed;
   mine = ap (λ l. in_order (filter (has 1 id) l)) all ∙ was ∙ ap (placed 0) (sym (append-nil es));
@@ -170,7 +207,9 @@ all_grown id at es [] rows new place keyed was all = record {
 }
 all_grown id at es (e ∷ batch) rows new place keyed was all =
     let row : Row = Int all.0 ∷ Int (pos id) ∷ shown_as at e in
-    let one = subst (λ n. is_taken rows (Int all.0 ∷ Int (pos id) ∷ shown_as n e) ≡ false → Grown id (es ++ e ∷ []) rows (put_row (Int all.0 ∷ Int (pos id) ∷ shown_as n e) rows)) (sym place) (λ free. grown id es e all.0 rows free keyed was) all.1 in
+    let one = subst (λ n. is_taken rows (Int all.0 ∷ Int (pos id) ∷ shown_as n e) ≡ false
+    → Grown id (es ++ e ∷ []) rows (put_row (Int all.0 ∷ Int (pos id) ∷ shown_as n e) rows))
+    (sym place) (λ free. grown id es e all.0 rows free keyed was) all.1 in
     let next : suc at ≡ length (es ++ e ∷ []) = omega (arith, length-append es (e ∷ []), place) in
     let more = all_grown id (suc at) (es ++ e ∷ []) batch (put_row row rows) new next one.keyed one.mine all.2 in
     record {
@@ -180,14 +219,18 @@ all_grown id at es (e ∷ batch) rows new place keyed was all =
     }
 
 -- the entries of the object after some more are put in behind them
-pub lists_more : (text : List ℕ) (old new : State) (id at count : ℕ) (es batch : List EntryModel) (before : Trees) → AddsEntries text id at batch → at ≡ length es → AllByRecursion IsReadBack batch → Lists before id es old.now
-    → ExecutesInside 0 text (Int (pos id) ∷ bound_entries at batch) old new (Ok count) → Lists before id (es ++ batch) new.now
+pub lists_more : (text : List ℕ) (old new : State) (id at count : ℕ) (es batch : List EntryModel) (before : Trees)
+    → AddsEntries text id at batch → at ≡ length es → AllByRecursion IsReadBack batch → Lists before id es old.now
+    → ExecutesInside 0 text (Int (pos id) ∷ bound_entries at batch) old new (Ok count)
+    → Lists before id (es ++ batch) new.now
 lists_more text old new id at count es batch before adds place back was h =
     let it = adds old new count was.room.schema (executes_inside text _ old new count h).0 in
     let o = it.others in
-    let more = all_grown id at es batch (old.now.trees 3) (new.now.trees 3) place was.room.keyed.entry was.mine it.rows in
+    let more = all_grown id at es batch (old.now.trees 3)
+    (new.now.trees 3) place was.room.keyed.entry was.mine it.rows in
     record {
-      room = still_room 3 old.now new.now was.room it.schema o more.keyed (still_numbered 3 old.now new.now was.room (omega arith) o);
+      room = still_room 3 old.now new.now was.room it.schema o more.keyed
+          (still_numbered 3 old.now new.now was.room (omega arith) o);
       mine = more.mine;
       back = all-append IsReadBack es batch was.back back;
       others = λ q apart. ap (λ l. map entry_of (in_order l)) (more.others q apart) ∙ was.others q apart;
@@ -201,7 +244,12 @@ lists_more text old new id at count es batch before adds place back was h =
 
 -- what the records are then
 pub lists_records : (before : Trees) (id : ℕ) (es : List EntryModel) (db : Database) → Lists before id es db
-    → records_of db.trees ≡ record (records_of before) { objects = record (records_of before).objects { entries = λ q. cond (q == id) es ((records_of before).objects.entries q) } }
+    → records_of db.trees ≡ record (records_of before) {
+      objects = record (records_of before).objects {
+        entries = λ q.
+            cond (q == id) es ((records_of before).objects.entries q);
+      };
+    }
 lists_records before id es db it = same_records _ _ it.nodes (λ q. elim (cases_eq q id) [
   | inl same ↦
       let test : (q == id) ≡ true = eq-eqb q id same in

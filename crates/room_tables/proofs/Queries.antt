@@ -1,5 +1,8 @@
 -- What a query over one table answers, and that it changes nothing.
-use Rattle.std.proofs.Common.{◌≡◌, ℕ, ◌+◌, ◌<◌, arith, length, is_lt, Bool, true, false, ◌&&◌, cond, List, [], ◌∷◌, ◌++◌, map, filter, flat_map, Option, None, Some, Ok, Err, Result, IfOk, IfErr, OnOk, ◌⊎◌, inl, inr, refl, Ordering, Less, Equal, Greater, sym, ap, ap₂, subst, subst₂, ◌∙◌, IsPermutation, IsSorted}
+use Rattle.std.proofs.Common.{◌≡◌, ℕ, ◌+◌, ◌<◌, arith, length, is_lt, Bool, true, false, ◌&&◌, cond, List, [], ◌∷◌}
+use Rattle.std.proofs.Common.{◌++◌, map, filter, flat_map, Option, None, Some, Ok, Err, Result, IfOk, IfErr, OnOk, ◌⊎◌}
+use Rattle.std.proofs.Common.{inl, inr, refl, Ordering, Less, Equal, Greater, sym, ap, ap₂, subst, subst₂, ◌∙◌}
+use Rattle.std.proofs.Common.{IsPermutation, IsSorted}
 use Rattle.std.specs.List.{list_all}
 use Rattle.std.proofs.lemmas.List.Sorted.{IsPermutation-map, length_permutation}
 use Rattle.sqlite_value.specs.declared.value.Value.TheVariants.{Null}
@@ -15,7 +18,8 @@ use Rattle.std.specs.List.{AllByRecursion}
 use Rattle.std.specs.Ordering.{ordering_then, on}
 use Rattle.std.proofs.lemmas.List.{get_or-map, length-map}
 use Rattle.sqlite_sql.proofs.QueryLemmas.{key_cmp_total}
-use Rattle.sqlite.specs.State.{State, Shown, ShowsRows, Survives, CommitsShowing, IsUnchanged, IsRolledBack, FailsToQuery, FailsToShow, IsNotRun}
+use Rattle.sqlite.specs.State.{State, Shown, ShowsRows, Survives, CommitsShowing, IsUnchanged, IsRolledBack}
+use Rattle.sqlite.specs.State.{FailsToQuery, FailsToShow, IsNotRun}
 use Rattle.sqlite.specs.declared.error.Error.{Error}
 use Rattle.sqlite_schema.specs.declared.command.Returning.{Returning}
 use Rattle.sqlite.specs.Clock.{timed}
@@ -29,7 +33,8 @@ use Rattle.sqlite.specs.Listing.{reads_listing, if_select, listing_schema}
 use Rattle.sqlite_resolve.specs.declared.compiled.Compiled.{Compiled}
 use Rattle.sqlite_resolve.specs.declared.error.CompileError.{CompileError}
 use Rattle.sqlite_resolve.specs.declared.error.CompileError.TheVariants.{NoSuchTable}
-use Rattle.sqlite_resolve.specs.Compile.{compiled, first, command, returning, meaning, planned, with_command, small, timed as timed_formats}
+use Rattle.sqlite_resolve.specs.Compile.{compiled, first, command, returning, meaning, planned, with_command}
+use Rattle.sqlite_resolve.specs.Compile.{small, timed as timed_formats}
 use Rattle.sqlite_resolve.specs.Lowering.{and_then}
 use Rattle.sqlite_schema.specs.declared.command.Command.{Command}
 use Rattle.sqlite_syntax.specs.declared.statement.Parsed.{Parsed}
@@ -47,11 +52,14 @@ abbrev pub passing : List Term → Row → List Row → List Row
 passing terms params = filter (λ r. list_all (holds (params ∷ r ∷ [])) terms)
 
 pub envs_are : (terms : List Term) (params : Row) (rows : List Row)
-    → flat_map (λ r. cond (list_all (holds (params ∷ r ∷ [])) terms) ((params ∷ r ∷ []) ∷ []) []) rows ≡ map (λ r. params ∷ r ∷ []) (passing terms params rows)
+    → flat_map (λ r. cond (list_all (holds (params ∷ r ∷ [])) terms) ((params ∷ r ∷ []) ∷ []) []) rows
+    ≡ map (λ r. params ∷ r ∷ []) (passing terms params rows)
 envs_are terms params [] = refl
 envs_are terms params (r ∷ rows) =
     elim (list_all (holds (params ∷ r ∷ [])) terms)
-    as (λ b. cond b ((params ∷ r ∷ []) ∷ []) [] ++ flat_map (λ x. cond (list_all (holds (params ∷ x ∷ [])) terms) ((params ∷ x ∷ []) ∷ []) []) rows ≡ map (λ x. params ∷ x ∷ []) (cond b (r ∷ passing terms params rows) (passing terms params rows)))
+    as (λ b. cond b ((params ∷ r ∷ []) ∷ []) []
+    ++ flat_map (λ x. cond (list_all (holds (params ∷ x ∷ [])) terms) ((params ∷ x ∷ []) ∷ []) []) rows
+    ≡ map (λ x. params ∷ x ∷ []) (cond b (r ∷ passing terms params rows) (passing terms params rows)))
     [ true ↦ ap (λ l. (params ∷ r ∷ []) ∷ l) (envs_are terms params rows) | false ↦ envs_are terms params rows ]
 
 -- the rows that pass, each with its keys, in an order that ORDER BY allows, and what is shown of them
@@ -61,32 +69,48 @@ pub record Picks (q : Query) (params : Row) (rows : List Row) (shown : List Row)
   pub sorted : IsSorted (output_cmp q) ordered
   pub is : shown ≡ map (λ (o : Output). o.1) ordered
 
-pub answer_is : (tree : ℕ) (terms project : List Term) (order : List (Term × Key)) (db : Trees) (params : Row) (rows : List Row)
-    → IsAnswer (over_table tree terms project order) db params rows → Picks (over_table tree terms project order) params (passing terms params (db tree)) rows
+pub answer_is : (tree : ℕ) (terms project : List Term)
+    (order : List (Term × Key)) (db : Trees) (params : Row) (rows : List Row)
+    → IsAnswer (over_table tree terms project order) db params rows
+    → Picks (over_table tree terms project order) params (passing terms params (db tree)) rows
 answer_is tree terms project order db params rows a =
     let q = over_table tree terms project order in
     let kept : a.kept ≡ map (λ r. output q (params ∷ r ∷ [])) (passing terms params (db tree)) =
-    a.distinct ∙ ap (map (output q)) (a.grouped ∙ envs_are terms params (db tree)) ∙ map-map (output q) (λ r. params ∷ r ∷ []) (passing terms params (db tree)) in
-    record { ordered = a.ordered; same = subst (λ k. IsPermutation k a.ordered) kept a.same; sorted = a.sorted; is = a.shown }
+    a.distinct ∙ ap (map (output q)) (a.grouped ∙ envs_are terms params (db tree))
+    ∙ map-map (output q) (λ r. params ∷ r ∷ []) (passing terms params (db tree)) in
+    record {
+      ordered = a.ordered;
+      same = subst (λ k. IsPermutation k a.ordered) kept a.same;
+      sorted = a.sorted;
+      is = a.shown;
+    }
 
 pub and_true : (b : Bool) → (b && true) ≡ b
 and_true true = refl
 and_true false = refl
 
 -- what a text over one table answers
-pub picked : (old new : State) (sql : List ℕ) (params : Row) (tree : ℕ) (terms project : List Term) (order : List (Term × Key)) (names : List (List ℕ)) (rows : List Row) → old.now.schema ≡ room_schema
-    → command_of (understood room_schema sql) ≡ Select (record { lets = []; body = over_table tree terms project order }) names → IsPlain (understood room_schema sql) × (reads_listing room_schema sql ≡ false)
-    → overlay old.now.trees [] tree ≡ old.now.trees tree → Shown sql params old new rows → Picks (over_table tree terms project order) params (passing terms params (old.now.trees tree)) rows
+pub picked : (old new : State) (sql : List ℕ) (params : Row) (tree : ℕ) (terms project : List Term)
+    (order : List (Term × Key)) (names : List (List ℕ)) (rows : List Row) → old.now.schema ≡ room_schema
+    → command_of (understood room_schema sql)
+    ≡ Select (record { lets = []; body = over_table tree terms project order }) names
+    → IsPlain (understood room_schema sql) × (reads_listing room_schema sql ≡ false)
+    → overlay old.now.trees [] tree ≡ old.now.trees tree → Shown sql params old new rows
+    → Picks (over_table tree terms project order) params (passing terms params (old.now.trees tree)) rows
 picked old new sql params tree terms project order names rows schema is plain here h =
     let read = reads_as sql params old new room_schema schema _ is plain.0 plain.1 rows h in
-    subst (λ all. Picks (over_table tree terms project order) params (passing terms params all) rows) here (answer_is tree terms project order (overlay old.now.trees []) params rows (read.answer Null))
+    subst (λ all. Picks (over_table tree terms project order) params (passing terms params all) rows) here
+    (answer_is tree terms project order (overlay old.now.trees []) params rows (read.answer Null))
 
 -- the rows that pass a test are shown, in some order
-pub found : (q : Query) (params : Row) (all rows : List Row) (p : Row → Bool) (show : Row → Row) → ((r : Row) → list_all (holds (params ∷ r ∷ [])) q.filter ≡ p r) → ((r : Row) → eval_all q.project (params ∷ r ∷ []) ≡ show r)
+pub found : (q : Query) (params : Row) (all rows : List Row) (p : Row → Bool) (show : Row → Row)
+    → ((r : Row) → list_all (holds (params ∷ r ∷ [])) q.filter ≡ p r)
+    → ((r : Row) → eval_all q.project (params ∷ r ∷ []) ≡ show r)
     → Picks q params (passing q.filter params all) rows → IsPermutation (map show (filter p all)) rows
 found q params all rows p show test shows k =
     let passed : passing q.filter params all ≡ filter p all = filter_same _ p test all in
-    let is = map-map (λ (o : Output). o.1) (λ r. output q (params ∷ r ∷ [])) (passing q.filter params all) ∙ map_same _ show shows (passing q.filter params all) ∙ ap (map show) passed in
+    let is = map-map (λ (o : Output). o.1) (λ r. output q (params ∷ r ∷ [])) (passing q.filter params all)
+    ∙ map_same _ show shows (passing q.filter params all) ∙ ap (map show) passed in
     subst₂ IsPermutation is (sym k.is) (IsPermutation-map (λ (o : Output). o.1) _ _ k.same)
 
 -- two comparisons in turn
@@ -102,30 +126,40 @@ same_parts : (show : Row → Row) (rows : List Row) → AllByRecursion (λ (o : 
 same_parts show [] = tt
 same_parts show (r ∷ rows) = (refl, same_parts show rows)
 
-parts_are : (os : List Output) → AllByRecursion (λ (o : Output). o.1 ≡ o.0) os → map (λ (o : Output). o.1) os ≡ map (λ (o : Output). o.0) os
+parts_are : (os : List Output) → AllByRecursion (λ (o : Output). o.1 ≡ o.0) os
+    → map (λ (o : Output). o.1) os ≡ map (λ (o : Output). o.0) os
 parts_are [] all = refl
 parts_are (o ∷ os) all = ap₂ (λ a l. a ∷ l) all.0 (parts_are os all.1)
 
-pub sorted_keys : (keys : List Key) (os : List Output) → IsSorted (on (λ (o : Output). o.0) (key_cmp 0 keys)) os → IsSorted (key_cmp 0 keys) (map (λ (o : Output). o.0) os)
+pub sorted_keys : (keys : List Key) (os : List Output) → IsSorted (on (λ (o : Output). o.0) (key_cmp 0 keys)) os
+    → IsSorted (key_cmp 0 keys) (map (λ (o : Output). o.0) os)
 sorted_keys keys os sorted = λ k d low high.
     let e : Output = (d, []) in
     let more : k + 1 < length os = omega (arith, high, length-map os (λ (o : Output). o.0)) in
     let here : k < length os = omega arith in
-    subst₂ (λ x y. is_lt (key_cmp 0 keys x y) ≡ false) (sym (get_or-map (λ (o : Output). o.0) os (k + 1) e d more)) (sym (get_or-map (λ (o : Output). o.0) os k e d here)) (sorted k e low more)
+    subst₂ (λ x y. is_lt (key_cmp 0 keys x y) ≡ false) (sym (get_or-map (λ (o : Output). o.0) os (k + 1) e d more))
+    (sym (get_or-map (λ (o : Output). o.0) os k e d here)) (sorted k e low more)
 
 -- Where ORDER BY names just what is shown, the answer is in the one order, if rows that tie are equal.
-pub listed : (q : Query) (params : Row) (all rows : List Row) (p : Row → Bool) (show : Row → Row) (P : Row → Type 0) → ((r : Row) → list_all (holds (params ∷ r ∷ [])) q.filter ≡ p r)
-    → ((r : Row) → output q (params ∷ r ∷ []) ≡ (show r, show r)) → ((a b : Row) → P a → P b → key_cmp 0 (map (λ k. k.1) q.order) a b ≡ Equal → a ≡ b) → AllByRecursion P rows
-    → Picks q params (passing q.filter params all) rows → rows ≡ sort_by (key_cmp 0 (map (λ k. k.1) q.order)) (map show (filter p all))
+pub listed : (q : Query) (params : Row) (all rows : List Row) (p : Row → Bool) (show : Row → Row) (P : Row → Type 0)
+    → ((r : Row) → list_all (holds (params ∷ r ∷ [])) q.filter ≡ p r)
+    → ((r : Row) → output q (params ∷ r ∷ []) ≡ (show r, show r))
+    → ((a b : Row) → P a → P b → key_cmp 0 (map (λ k. k.1) q.order) a b ≡ Equal → a ≡ b) → AllByRecursion P rows
+    → Picks q params (passing q.filter params all) rows
+    → rows ≡ sort_by (key_cmp 0 (map (λ k. k.1) q.order)) (map show (filter p all))
 listed q params all rows p show P test shows exact typed k =
     let keys : List Key = map (λ k. k.1) q.order in
     let passed : passing q.filter params all ≡ filter p all = filter_same _ p test all in
-    let outs : map (λ r. output q (params ∷ r ∷ [])) (passing q.filter params all) ≡ map (both show) (filter p all) = map_same _ (both show) shows _ ∙ ap (map (both show)) passed in
-    let same : IsPermutation (map (both show) (filter p all)) k.ordered = subst (λ l. IsPermutation l k.ordered) outs k.same in
+    let outs : map (λ r. output q (params ∷ r ∷ [])) (passing q.filter params all) ≡ map (both show) (filter p all) =
+    map_same _ (both show) shows _ ∙ ap (map (both show)) passed in
+    let same : IsPermutation (map (both show) (filter p all)) k.ordered =
+    subst (λ l. IsPermutation l k.ordered) outs k.same in
     let parts = parts_are k.ordered (all_permutation _ _ _ same (same_parts show (filter p all))) in
     let is : rows ≡ map (λ (o : Output). o.0) k.ordered = k.is ∙ parts in
-    let moved = subst₂ IsPermutation (map-map (λ (o : Output). o.0) (both show) (filter p all)) (sym is) (IsPermutation-map (λ (o : Output). o.0) _ _ same) in
-    sorted_answer (key_cmp 0 keys) (key_cmp_total keys 0) P exact _ rows typed moved (subst (IsSorted (key_cmp 0 keys)) (sym is) (sorted_keys keys k.ordered k.sorted))
+    let moved = subst₂ IsPermutation (map-map (λ (o : Output). o.0) (both show) (filter p all))
+    (sym is) (IsPermutation-map (λ (o : Output). o.0) _ _ same) in
+    sorted_answer (key_cmp 0 keys) (key_cmp_total keys 0) P exact _ rows typed moved
+    (subst (IsSorted (key_cmp 0 keys)) (sym is) (sorted_keys keys k.ordered k.sorted))
 
 -- ---- a query commits nothing, whatever the schema
 
@@ -147,31 +181,42 @@ unfolding returning
 none_returned schema base (written.Select s) h = refl
 none_returned schema base _ h = absurd (let e = h in cc)
 
-unreturned_meaning : (schema : Schema) (p : Parsed) (base : ℕ) (r : Result Command CompileError) (found : Command × Option Returning) → command schema p.formats base p.statement ≡ r
+unreturned_meaning : (schema : Schema) (p : Parsed) (base : ℕ) (r : Result Command CompileError)
+    (found : Command × Option Returning) → command schema p.formats base p.statement ≡ r
     → returning schema base p.statement ≡ Ok None → meaning schema p base ≡ Ok found → found.1 ≡ None
 unfolding meaning
-unreturned_meaning schema p base (Ok c) found is none h = let e = rw (none, is) at h in ap (λ (x : Command × Option Returning). x.1) (sym (ok_is e))
+unreturned_meaning schema p base (Ok c) found is none h = let e = rw (none, is) at h in
+    ap (λ (x : Command × Option Returning). x.1) (sym (ok_is e))
   where
     ok_is : {X : Type 0} {a b : X} → ◌≡◌ {A = Result X CompileError} (Ok a) (Ok b) → a ≡ b
     ok_is e = cc
 unreturned_meaning schema p base (Err e) found is none h = absurd (let bad = rw (none, is) at h in cc)
 
-unreturned_parsed : (schema : Schema) (p : Parsed) → is_select p.statement ≡ true → (r : Result (Command × Option Returning) CompileError) → meaning schema p (small p.names + small (timed_formats schema p.formats p.statement)) ≡ r
+unreturned_parsed : (schema : Schema) (p : Parsed) → is_select p.statement ≡ true
+    → (r : Result (Command × Option Returning) CompileError)
+    → meaning schema p (small p.names + small (timed_formats schema p.formats p.statement)) ≡ r
     → IsUnreturned (and_then (planned schema p) (λ plan. Ok (with_command p plan)))
 unfolding planned
-unreturned_parsed schema p h (Ok found) is = rw is (unreturned_meaning schema p (small p.names + small (timed_formats schema p.formats p.statement)) (command schema p.formats (small p.names + small (timed_formats schema p.formats p.statement)) p.statement) found refl (none_returned schema _ p.statement h) is)
+unreturned_parsed schema p h (Ok found) is =
+    rw is (unreturned_meaning schema p (small p.names + small (timed_formats schema p.formats p.statement))
+    (command schema p.formats (small p.names + small (timed_formats schema p.formats p.statement)) p.statement)
+    found refl (none_returned schema _ p.statement h) is)
 unreturned_parsed schema p h (Err e) is = rw is tt
 
-unreturned_by : (schema : Schema) (text : List ℕ) (r : Result Parsed CompileError) → first text ≡ r → is_query_text r ≡ true → IsUnreturned (compiled schema text)
+unreturned_by : (schema : Schema) (text : List ℕ) (r : Result Parsed CompileError)
+    → first text ≡ r → is_query_text r ≡ true → IsUnreturned (compiled schema text)
 unfolding compiled
 unreturned_by schema text (Err e) is h = rw is tt
 unreturned_by schema text (Ok p) is h = rw is (unreturned_parsed schema p h _ refl)
 
-unreturned : (schema : Schema) (text : List ℕ) → is_query_text (first text) ≡ true → IsUnreturned (understood schema text)
+unreturned : (schema : Schema) (text : List ℕ)
+    → is_query_text (first text) ≡ true → IsUnreturned (understood schema text)
 unfolding understood
-unreturned schema text h = go (reads_listing schema text) (compiled listing_schema text) (unreturned_by listing_schema text _ refl h) (unreturned_by schema text _ refl h)
+unreturned schema text h = go (reads_listing schema text) (compiled listing_schema text)
+    (unreturned_by listing_schema text _ refl h) (unreturned_by schema text _ refl h)
   where
-    if_selected : (r : Result Compiled CompileError) (c : Bool) → IsUnreturned r → IsUnreturned (cond c r (Err NoSuchTable))
+    if_selected : (r : Result Compiled CompileError) (c : Bool)
+        → IsUnreturned r → IsUnreturned (cond c r (Err NoSuchTable))
     if_selected r true h = h
     if_selected r false h = tt
 
@@ -179,42 +224,49 @@ unreturned schema text h = go (reads_listing schema text) (compiled listing_sche
     selected (Ok c) h = if_selected (Ok c) (listing.is_select c.command) h
     selected (Err e) h = tt
 
-    go : (b : Bool) (r : Result Compiled CompileError) → IsUnreturned r → IsUnreturned (compiled schema text) → IsUnreturned (cond b (if_select r) (compiled schema text))
+    go : (b : Bool) (r : Result Compiled CompileError) → IsUnreturned r
+        → IsUnreturned (compiled schema text) → IsUnreturned (cond b (if_select r) (compiled schema text))
     go true r p q = selected r p
     go false r p q = q
 
-pub query_commits_none : (sql : List ℕ) (params : Row) (s : State) (db : Trees) → is_query_text (first sql) ≡ true → ¬ CommitsShowing sql params s db
+pub query_commits_none : (sql : List ℕ) (params : Row) (s : State) (db : Trees)
+    → is_query_text (first sql) ≡ true → ¬ CommitsShowing sql params s db
 unfolding CommitsShowing
 query_commits_none sql params s db h it =
     let none : it.0.returning ≡ None = subst IsUnreturned it.1.is (unreturned s.now.schema sql h) in
     absurd (let some = rw none at it.2 in cc)
 
 -- a query commits nothing
-pub query_keeps : (sql : List ℕ) (params : Row) (old new : State) → is_query_text (first sql) ≡ true → Survives old new (CommitsShowing sql params old) → Survives old new (λ _. ⊥)
+pub query_keeps : (sql : List ℕ) (params : Row) (old new : State) → is_query_text (first sql) ≡ true
+    → Survives old new (CommitsShowing sql params old) → Survives old new (λ _. ⊥)
 query_keeps sql params old new h = survives_weaker old new _ _ (λ _ db. query_commits_none sql params old db h)
 
 -- a query that is plain leaves the connection as it was
-pub query_same : (sql : List ℕ) (params : Row) (old new : State) (rows : List Row) → old.now.schema ≡ room_schema → IsPlain (understood room_schema sql) → Shown sql params old new rows → IsUnchanged old new
+pub query_same : (sql : List ℕ) (params : Row) (old new : State) (rows : List Row) → old.now.schema ≡ room_schema
+    → IsPlain (understood room_schema sql) → Shown sql params old new rows → IsUnchanged old new
 unfolding Shown
 query_same sql params old new rows schema plain h =
     let none = (subst IsPlain h.1.is (subst (λ s. IsPlain (understood s sql)) (sym schema) plain)).0 in
     (subst (ShowsRows old new sql h.0 (timed params h.0.formats h.1.now) rows) none h.2).3
 
 -- and so does any query, whatever the schema
-pub query_leaves : (sql : List ℕ) (params : Row) (old new : State) (rows : List Row) → is_query_text (first sql) ≡ true → Shown sql params old new rows → IsUnchanged old new
+pub query_leaves : (sql : List ℕ) (params : Row) (old new : State) (rows : List Row)
+    → is_query_text (first sql) ≡ true → Shown sql params old new rows → IsUnchanged old new
 unfolding Shown
 query_leaves sql params old new rows text h =
     let none = subst IsUnreturned h.1.is (unreturned old.now.schema sql text) in
     (subst (ShowsRows old new sql h.0 (timed params h.0.formats h.1.now) rows) none h.2).3
 
 -- a query that failed outside a transaction
-pub fails_leaves : (sql : List ℕ) (params : Row) (old new : State) (e : Error) → FailsToQuery sql params old new e → IsUnchanged old new ⊎ IsRolledBack old new
+pub fails_leaves : (sql : List ℕ) (params : Row) (old new : State) (e : Error)
+    → FailsToQuery sql params old new e → IsUnchanged old new ⊎ IsRolledBack old new
 unfolding FailsToQuery IsNotRun
 fails_leaves sql params old new e (inl (inl h)) = inl h.1
 fails_leaves sql params old new e (inl (inr h)) = inr h.3
 fails_leaves sql params old new e (inr h) = shown h.0.returning h.2
   where
-    shown : (o : Option Returning) → FailsToShow old new sql h.0 (timed params h.0.formats h.1.now) e o → IsUnchanged old new ⊎ IsRolledBack old new
+    shown : (o : Option Returning) → FailsToShow old new sql h.0 (timed params h.0.formats h.1.now) e o
+        → IsUnchanged old new ⊎ IsRolledBack old new
     shown None it = inl it.3
     shown (Some what) (inl it) = inl it.1
     shown (Some what) (inr it) = inr it.3
@@ -223,51 +275,69 @@ pub left_open : (old new : State) → IsUnchanged old new ⊎ IsRolledBack old n
 left_open old new (inl h) is = h.0.was_open
 left_open old new (inr h) is = h.was_open is
 
-pub left_now : (old new : State) → old.now ≡ old.committed → IsUnchanged old new ⊎ IsRolledBack old new → new.is_open ≡ true → new.now ≡ old.now
+pub left_now : (old new : State) → old.now ≡ old.committed
+    → IsUnchanged old new ⊎ IsRolledBack old new → new.is_open ≡ true → new.now ≡ old.now
 left_now old new settled (inl h) is = h.0.now_is
 left_now old new settled (inr h) is = (h.undone is).0 ∙ sym settled
 
 -- one that answered showed an open connection
-pub shown_open : (sql : List ℕ) (params : Row) (old new : State) (rows : List Row) → Shown sql params old new rows → old.is_open ≡ true
+pub shown_open : (sql : List ℕ) (params : Row) (old new : State) (rows : List Row)
+    → Shown sql params old new rows → old.is_open ≡ true
 unfolding Shown
 shown_open sql params old new rows h = shown h.0.returning h.2
   where
-    shown : (o : Option Returning) → ShowsRows old new sql h.0 (timed params h.0.formats h.1.now) rows o → old.is_open ≡ true
+    shown : (o : Option Returning)
+        → ShowsRows old new sql h.0 (timed params h.0.formats h.1.now) rows o → old.is_open ≡ true
     shown None it = it.3.0.was_open
     shown (Some what) it = it.1.shown.was_open
 
 -- and it shows an open connection still
-pub shown_alive : (sql : List ℕ) (params : Row) (old new : State) (rows : List Row) → Shown sql params old new rows → new.is_open ≡ true
+pub shown_alive : (sql : List ℕ) (params : Row) (old new : State) (rows : List Row)
+    → Shown sql params old new rows → new.is_open ≡ true
 unfolding Shown
 shown_alive sql params old new rows h = shown h.0.returning h.2
   where
-    shown : (o : Option Returning) → ShowsRows old new sql h.0 (timed params h.0.formats h.1.now) rows o → new.is_open ≡ true
+    shown : (o : Option Returning)
+        → ShowsRows old new sql h.0 (timed params h.0.formats h.1.now) rows o → new.is_open ≡ true
     shown None it = it.3.0.is_open
     shown (Some what) it = it.1.shown.is_open
 
-pub query_alive : {V : Type 0} (items : V → List Row) (sql : List ℕ) (params : Row) (old new : State) (r : Result V Error) → IfOk r (λ rows. Shown sql params old new (items rows)) → OnOk r (new.is_open ≡ true)
+pub query_alive : {V : Type 0} (items : V → List Row) (sql : List ℕ) (params : Row) (old new : State)
+    (r : Result V Error) → IfOk r (λ rows. Shown sql params old new (items rows)) → OnOk r (new.is_open ≡ true)
 query_alive items sql params old new (Ok rows) ok = shown_alive sql params old new (items rows) ok
 query_alive items sql params old new (Err e) ok = tt
 
-pub query_open : {V : Type 0} (items : V → List Row) (sql : List ℕ) (params : Row) (old new : State) (r : Result V Error) → IfOk r (λ rows. Shown sql params old new (items rows)) → IfErr r (FailsToQuery sql params old new)
+pub query_open : {V : Type 0} (items : V → List Row) (sql : List ℕ)
+    (params : Row) (old new : State) (r : Result V Error)
+    → IfOk r (λ rows. Shown sql params old new (items rows)) → IfErr r (FailsToQuery sql params old new)
     → new.is_open ≡ true → old.is_open ≡ true
 query_open items sql params old new (Ok rows) ok err is = shown_open sql params old new (items rows) ok
 query_open items sql params old new (Err e) ok err is = left_open old new (fails_leaves sql params old new e err) is
 
-pub query_now : {V : Type 0} (items : V → List Row) (sql : List ℕ) (params : Row) (old new : State) (r : Result V Error) → old.now.schema ≡ room_schema → IsPlain (understood room_schema sql)
-    → IfOk r (λ rows. Shown sql params old new (items rows)) → IfErr r (FailsToQuery sql params old new) → new.is_open ≡ true → old.now ≡ old.committed → new.now ≡ old.now
-query_now items sql params old new (Ok rows) schema plain ok err is settled = (query_same sql params old new (items rows) schema plain ok).0.now_is
-query_now items sql params old new (Err e) schema plain ok err is settled = left_now old new settled (fails_leaves sql params old new e err) is
+pub query_now : {V : Type 0} (items : V → List Row) (sql : List ℕ) (params : Row) (old new : State) (r : Result V Error)
+    → old.now.schema ≡ room_schema → IsPlain (understood room_schema sql)
+    → IfOk r (λ rows. Shown sql params old new (items rows)) → IfErr r (FailsToQuery sql params old new)
+    → new.is_open ≡ true → old.now ≡ old.committed → new.now ≡ old.now
+query_now items sql params old new (Ok rows) schema plain ok err is settled =
+    (query_same sql params old new (items rows) schema plain ok).0.now_is
+query_now items sql params old new (Err e) schema plain ok err is settled =
+    left_now old new settled (fails_leaves sql params old new e err) is
 
-pub query_left : {V : Type 0} (items : V → List Row) (sql : List ℕ) (params : Row) (old new : State) (r : Result V Error) → is_query_text (first sql) ≡ true
-    → IfOk r (λ rows. Shown sql params old new (items rows)) → IfErr r (FailsToQuery sql params old new) → new.is_open ≡ true → old.now ≡ old.committed → new.now ≡ old.now
-query_left items sql params old new (Ok rows) text ok err is settled = (query_leaves sql params old new (items rows) text ok).0.now_is
-query_left items sql params old new (Err e) text ok err is settled = left_now old new settled (fails_leaves sql params old new e err) is
+pub query_left : {V : Type 0} (items : V → List Row) (sql : List ℕ) (params : Row)
+    (old new : State) (r : Result V Error) → is_query_text (first sql) ≡ true
+    → IfOk r (λ rows. Shown sql params old new (items rows)) → IfErr r (FailsToQuery sql params old new)
+    → new.is_open ≡ true → old.now ≡ old.committed → new.now ≡ old.now
+query_left items sql params old new (Ok rows) text ok err is settled =
+    (query_leaves sql params old new (items rows) text ok).0.now_is
+query_left items sql params old new (Err e) text ok err is settled =
+    left_now old new settled (fails_leaves sql params old new e err) is
 
 -- one that answered left an open connection, and the database as it was
-pub query_answered : {V : Type 0} (items : V → List Row) (sql : List ℕ) (params : Row) (old new : State) (r : Result V Error) → is_query_text (first sql) ≡ true
+pub query_answered : {V : Type 0} (items : V → List Row) (sql : List ℕ) (params : Row)
+    (old new : State) (r : Result V Error) → is_query_text (first sql) ≡ true
     → IfOk r (λ rows. Shown sql params old new (items rows)) → OnOk r ((new.is_open ≡ true) × (new.now ≡ old.now))
-query_answered items sql params old new (Ok rows) text ok = let it = query_leaves sql params old new (items rows) text ok in (it.0.is_open, it.0.now_is)
+query_answered items sql params old new (Ok rows) text ok =
+    let it = query_leaves sql params old new (items rows) text ok in (it.0.is_open, it.0.now_is)
 query_answered items sql params old new (Err e) text ok = tt
 
 pub only_permuted : {X : Type 0} (xs ys : List X) → IsPermutation xs ys → only ys ≡ only xs

@@ -1,5 +1,6 @@
 -- What a DELETE by a test leaves of a table.
-use Rattle.std.proofs.Common.{◌≡◌, ℤ, Bool, true, false, not, ◌||◌, cond, List, [], ◌∷◌, map, filter, inl, inr, refl, sym, ap, ◌∙◌, true≢false, Less, Equal, is_eq, IsPermutation}
+use Rattle.std.proofs.Common.{◌≡◌, ℤ, Bool, true, false, not, ◌||◌, cond, List, [], ◌∷◌, map, filter, inl, inr, refl}
+use Rattle.std.proofs.Common.{sym, ap, ◌∙◌, true≢false, Less, Equal, is_eq, IsPermutation}
 use Rattle.std.specs.List.{list_any}
 use Rattle.std.proofs.lemmas.Bool.{cases_Bool}
 use Rattle.std.proofs.lemmas.Cmp.{tied_itself}
@@ -26,38 +27,47 @@ among ids r = list_any (λ id. has_rowid id r) ids
 
 filter_on : {X : Type 0} (p q : X → Bool) (xs : List X) → ((x : X) → Has xs x → p x ≡ q x) → filter p xs ≡ filter q xs
 filter_on p q [] same = refl
-filter_on p q (x ∷ xs) same = rw (same x (inl refl)) (ap (λ l. cond (q x) (x ∷ l) l) (filter_on p q xs (λ y h. same y (inr h))))
+filter_on p q (x ∷ xs) same =
+    rw (same x (inl refl)) (ap (λ l. cond (q x) (x ∷ l) l) (filter_on p q xs (λ y h. same y (inr h))))
 
 filter_none_kept : {X : Type 0} (xs : List X) → filter (λ _. true) xs ≡ xs
 filter_none_kept [] = refl
 filter_none_kept (x ∷ xs) = ap (λ l. x ∷ l) (filter_none_kept xs)
 
-two_filters : {X : Type 0} (p q : X → Bool) (xs : List X) → filter (λ x. not (q x)) (filter (λ x. not (p x)) xs) ≡ filter (λ x. not (p x || q x)) xs
+two_filters : {X : Type 0} (p q : X → Bool) (xs : List X)
+    → filter (λ x. not (q x)) (filter (λ x. not (p x)) xs) ≡ filter (λ x. not (p x || q x)) xs
 two_filters p q [] = refl
 two_filters p q (x ∷ xs) = go (p x) (two_filters p q xs)
   where
     go : (b : Bool) → filter (λ y. not (q y)) (filter (λ y. not (p y)) xs) ≡ filter (λ y. not (p y || q y)) xs
-        → filter (λ y. not (q y)) (cond (not b) (x ∷ filter (λ y. not (p y)) xs) (filter (λ y. not (p y)) xs)) ≡ cond (not (b || q x)) (x ∷ filter (λ y. not (p y || q y)) xs) (filter (λ y. not (p y || q y)) xs)
+        → filter (λ y. not (q y)) (cond (not b) (x ∷ filter (λ y. not (p y)) xs) (filter (λ y. not (p y)) xs))
+        ≡ cond (not (b || q x)) (x ∷ filter (λ y. not (p y || q y)) xs) (filter (λ y. not (p y || q y)) xs)
     go true more = more
     go false more = ap (λ l. cond (not (q x)) (x ∷ l) l) more
 
 without_all_is : (ids : List ℤ) (rows : List Row) → without_all rows ids ≡ filter (λ r. not (among ids r)) rows
 without_all_is [] rows = sym (filter_none_kept rows)
-without_all_is (id ∷ ids) rows = without_all_is ids (without_rowid id rows) ∙ two_filters (has_rowid id) (among ids) rows
+without_all_is (id ∷ ids) rows =
+    without_all_is ids (without_rowid id rows) ∙ two_filters (has_rowid id) (among ids) rows
 
 pub has_permuted : {X : Type 0} (xs ys : List X) (x : X) → IsPermutation xs ys → Has ys x → Has xs x
-has_permuted xs ys x same = all_has (Has xs) ys x (all_permutation (Has xs) xs ys same (all_from (Has xs) xs (λ e h. h)))
+has_permuted xs ys x same =
+    all_has (Has xs) ys x (all_permutation (Has xs) xs ys same (all_from (Has xs) xs (λ e h. h)))
 
 is_its_rowid : (r : Row) → is_int (rowid r) ≡ true → has_rowid (id_in (rowid r)) r ≡ true
-is_its_rowid r int = ap (λ v. is_eq (value_cmp (rowid r) v)) (sym (int_is (rowid r) int)) ∙ ap is_eq (tied_itself value_cmp_total (rowid r))
+is_its_rowid r int = ap (λ v. is_eq (value_cmp (rowid r) v)) (sym (int_is (rowid r) int))
+    ∙ ap is_eq (tied_itself value_cmp_total (rowid r))
 
 abbrev id_of : Row → ℤ
 id_of r = id_in (rowid r)
 
 -- what goes where rows are taken by the rowids of those that pass
-pub removed : (p : Row → Bool) (rows found : List Row) → IsKeyed rows → IsPermutation (map (λ r. rowid r ∷ []) (filter p rows)) found → without_all rows (ids_of found) ≡ filter (λ r. not (p r)) rows
+pub removed : (p : Row → Bool) (rows found : List Row) → IsKeyed rows
+    → IsPermutation (map (λ r. rowid r ∷ []) (filter p rows)) found
+    → without_all rows (ids_of found) ≡ filter (λ r. not (p r)) rows
 removed p rows found keyed same =
-    without_all_is (ids_of found) rows ∙ filter_on (λ r. not (among (ids_of found) r)) (λ r. not (p r)) rows (λ x h. ap not (agrees x h (p x) refl))
+    without_all_is (ids_of found) rows
+    ∙ filter_on (λ r. not (among (ids_of found) r)) (λ r. not (p r)) rows (λ x h. ap not (agrees x h (p x) refl))
   where
     back : (x : Row) → Has rows x → p x ≡ false → among (ids_of found) x ≡ false
     back x h fails = elim (cases_Bool (among (ids_of found) x)) [
@@ -68,7 +78,8 @@ removed p rows found keyed same =
           let r = has_filtered p rows g.0 g.1 in
           let id : i.0 ≡ id_of g.0 = f.2 ∙ ap id_of g.2 in
           let tie : value_cmp (rowid x) (rowid g.0) ≡ Equal =
-          eq_is _ (ap (λ v. is_eq (value_cmp (rowid x) v)) (int_is (rowid g.0) (all_has _ rows g.0 keyed.ints r.0) ∙ ap Int (sym id)) ∙ i.2) in
+          eq_is _ (ap (λ v. is_eq (value_cmp (rowid x) v))
+          (int_is (rowid g.0) (all_has _ rows g.0 keyed.ints r.0) ∙ ap Int (sym id)) ∙ i.2) in
           let one = tied_same rows x g.0 keyed.table h r.0 tie in
           absurd (true≢false (sym (ap p one ∙ r.1) ∙ fails))
       | inr none ↦ none
@@ -78,13 +89,16 @@ removed p rows found keyed same =
     agrees x h true passes =
         let there = mapped_has (λ r. rowid r ∷ []) (filter p rows) x (has_kept p rows x h passes) in
         let found_it = has_permuted found _ (rowid x ∷ []) (IsPermutation-sym _ _ same) there in
-        some_from (λ id. has_rowid id x) (ids_of found) (id_of x) (mapped_has id_of found (rowid x ∷ []) found_it) (is_its_rowid x (all_has _ rows x keyed.ints h)) ∙ sym passes
+        some_from (λ id. has_rowid id x) (ids_of found) (id_of x) (mapped_has id_of found (rowid x ∷ []) found_it)
+        (is_its_rowid x (all_has _ rows x keyed.ints h)) ∙ sym passes
     agrees x h false fails = back x h fails ∙ sym fails
 
 -- the one row with a number, where it is there
-pub one_row : (p : Row → Bool) (rows : List Row) (r : Row) → IsTable rows → Has rows r → p r ≡ true → ((x y : Row) → Has rows x → Has rows y → p x ≡ true → p y ≡ true → value_cmp (rowid x) (rowid y) ≡ Equal)
+pub one_row : (p : Row → Bool) (rows : List Row) (r : Row) → IsTable rows → Has rows r → p r ≡ true
+    → ((x y : Row) → Has rows x → Has rows y → p x ≡ true → p y ≡ true → value_cmp (rowid x) (rowid y) ≡ Equal)
     → filter p rows ≡ r ∷ []
-one_row p rows r table there passes tie = same_list (filter p rows) (λ x h. let k = has_filtered p rows x h in tied_same rows x r table k.0 there (tie x r k.0 there k.1 passes))
+one_row p rows r table there passes tie = same_list (filter p rows) (λ x h. let k = has_filtered p rows x h in
+    tied_same rows x r table k.0 there (tie x r k.0 there k.1 passes))
     (has_kept p rows r there passes) (ascending-filter _ p rows table)
   where
     same_list : (xs : List Row) → ((x : Row) → Has xs x → x ≡ r) → Has xs r → IsTable xs → xs ≡ r ∷ []
@@ -94,21 +108,26 @@ one_row p rows r table there passes tie = same_list (filter p rows) (λ x h. let
         let e = all x (inl refl) in
         let f = all y (inr (inl refl)) in
         let low : value_cmp (rowid x) (rowid y) ≡ Less = up.0.0 in
-        let tied : value_cmp (rowid x) (rowid y) ≡ Equal = ap (λ z. value_cmp (rowid x) (rowid z)) (f ∙ sym e) ∙ tied_itself value_cmp_total (rowid x) in
+        let tied : value_cmp (rowid x) (rowid y) ≡ Equal =
+        ap (λ z. value_cmp (rowid x) (rowid z)) (f ∙ sym e) ∙ tied_itself value_cmp_total (rowid x) in
         absurd (let bad = sym low ∙ tied in cc)
 
 -- the same where the rowids are given
-pub removed_ids : (p : Row → Bool) (rows : List Row) (ids : List ℤ) → IsKeyed rows → ((id : ℤ) → Has ids id → (r : Row) × Has rows r × (p r ≡ true) × (rowid r ≡ Int id))
-    → ((r : Row) (id : ℤ) → Has rows r → p r ≡ true → rowid r ≡ Int id → Has ids id) → without_all rows ids ≡ filter (λ r. not (p r)) rows
+pub removed_ids : (p : Row → Bool) (rows : List Row) (ids : List ℤ) → IsKeyed rows
+    → ((id : ℤ) → Has ids id → (r : Row) × Has rows r × (p r ≡ true) × (rowid r ≡ Int id))
+    → ((r : Row) (id : ℤ) → Has rows r → p r ≡ true → rowid r ≡ Int id → Has ids id)
+    → without_all rows ids ≡ filter (λ r. not (p r)) rows
 removed_ids p rows ids keyed sound complete =
-    without_all_is ids rows ∙ filter_on (λ r. not (among ids r)) (λ r. not (p r)) rows (λ x h. ap not (agrees x h (p x) refl))
+    without_all_is ids rows ∙ filter_on (λ r. not (among ids r))
+    (λ r. not (p r)) rows (λ x h. ap not (agrees x h (p x) refl))
   where
     back : (x : Row) → Has rows x → p x ≡ false → among ids x ≡ false
     back x h fails = elim (cases_Bool (among ids x)) [
       | inl any ↦
           let i = some_has (λ id. has_rowid id x) ids any in
           let r = sound i.0 i.1 in
-          let tie : value_cmp (rowid x) (rowid r.0) ≡ Equal = eq_is _ (ap (λ v. is_eq (value_cmp (rowid x) v)) r.3 ∙ i.2) in
+          let tie : value_cmp (rowid x) (rowid r.0) ≡ Equal =
+          eq_is _ (ap (λ v. is_eq (value_cmp (rowid x) v)) r.3 ∙ i.2) in
           let one = tied_same rows x r.0 keyed.table h r.1 tie in
           absurd (true≢false (sym (ap p one ∙ r.2) ∙ fails))
       | inr none ↦ none
@@ -117,5 +136,6 @@ removed_ids p rows ids keyed sound complete =
     agrees : (x : Row) → Has rows x → (b : Bool) → p x ≡ b → among ids x ≡ p x
     agrees x h true passes =
         let int = all_has _ rows x keyed.ints h in
-        some_from (λ id. has_rowid id x) ids (id_of x) (complete x (id_of x) h passes (int_is (rowid x) int)) (is_its_rowid x int) ∙ sym passes
+        some_from (λ id. has_rowid id x) ids (id_of x)
+        (complete x (id_of x) h passes (int_is (rowid x) int)) (is_its_rowid x int) ∙ sym passes
     agrees x h false fails = back x h fails ∙ sym fails

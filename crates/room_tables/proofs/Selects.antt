@@ -2,7 +2,9 @@
 use Rattle.std.proofs.Common.{◌≡◌, true, refl}
 use Rattle.sqlite_tied.specs.Compute.{everything}
 use Rattle.sqlite_resolve.specs.Compile.{first}
-use Rattle.room_tables.specs.Texts.{find_version_text, find_node_text, find_child_text, list_children_text, count_children_text, list_entries_text, find_doc_text, find_session_text, find_slot_text, find_next_text}
+use Rattle.room_tables.specs.Texts.{find_version_text, find_node_text, find_child_text, list_children_text}
+use Rattle.room_tables.specs.Texts.{count_children_text, list_entries_text, find_doc_text, find_session_text}
+use Rattle.room_tables.specs.Texts.{find_slot_text, find_next_text}
 use Rattle.room_tables.proofs.Queries.{is_query_text}
 
 pub find_node_selects : is_query_text (first find_node_text) ≡ true

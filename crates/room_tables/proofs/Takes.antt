@@ -1,5 +1,6 @@
 -- The deletes that set nothing off, and the inserts.
-use Rattle.std.proofs.Common.{◌≡◌, ◌==◌, ℕ, suc, Bool, true, false, length, pos, ◌&&◌, List, [], ◌∷◌, ◌++◌, map, drop, Ok, refl, ap, ap₂}
+use Rattle.std.proofs.Common.{◌≡◌, ◌==◌, ℕ, suc, Bool, true, false, length, pos, ◌&&◌, List, [], ◌∷◌, ◌++◌}
+use Rattle.std.proofs.Common.{map, drop, Ok, refl, ap, ap₂}
 use Rattle.std.specs.List.{flat_map, filter_map}
 use Rattle.sqlite_value.specs.declared.value.Value.TheVariants.{Null, Int, Text, Blob}
 use Rattle.sqlite_value.specs.Order.{Row}
@@ -10,14 +11,21 @@ use Rattle.sqlite_rules.specs.Cast.{cast_row}
 use Rattle.sqlite_schema.specs.declared.schema.Keys.TheVariants.{Enforced}
 use Rattle.sqlite.specs.State.{State, Executes}
 use Rattle.room_tables.specs.Tables.{room_schema, entry_table, slot_table}
-use Rattle.room_tables.specs.Texts.{drop_entries_text, drop_entries_query, drop_slots_text, drop_slots_query, drop_slot_text, drop_slot_query, add_entry_text, add_entry_terms, add_two_text, add_two_terms, add_three_text, add_three_terms, add_four_text, add_four_terms, add_slot_text, add_slot_terms}
+use Rattle.room_tables.specs.Texts.{drop_entries_text, drop_entries_query, drop_slots_text, drop_slots_query}
+use Rattle.room_tables.specs.Texts.{drop_slot_text, drop_slot_query, add_entry_text, add_entry_terms, add_two_text}
+use Rattle.room_tables.specs.Texts.{add_two_terms, add_three_text, add_three_terms, add_four_text, add_four_terms}
+use Rattle.room_tables.specs.Texts.{add_slot_text, add_slot_terms}
 use Rattle.room_tables.specs.Rows.{has, has_text, is_slot}
 use Rattle.room_acl.specs.Entries.{EntryModel}
 use Rattle.room_tables.specs.Steps.{type_of, shown_as}
 use Rattle.room_tables.specs.Layout.{IsKeyed}
-use Rattle.room_tables.proofs.Meaning.{drop_entries_is, drop_entries_plain, drop_slots_is, drop_slots_plain, drop_slot_is, drop_slot_plain, add_entry_is, add_entry_plain, add_two_is, add_two_plain, add_three_is, add_three_plain, add_four_is, add_four_plain, add_slot_is, add_slot_plain}
+use Rattle.room_tables.proofs.Meaning.{drop_entries_is, drop_entries_plain, drop_slots_is, drop_slots_plain}
+use Rattle.room_tables.proofs.Meaning.{drop_slot_is, drop_slot_plain, add_entry_is, add_entry_plain, add_two_is}
+use Rattle.room_tables.proofs.Meaning.{add_two_plain, add_three_is, add_three_plain, add_four_is, add_four_plain}
+use Rattle.room_tables.proofs.Meaning.{add_slot_is, add_slot_plain}
 use Rattle.room_tables.proofs.Queries.{and_true}
-use Rattle.room_tables.proofs.Changes.{Added, Leaves, Others, HasAll, without, cleared, unnumbered, inserted_all, cast_null, cast_int}
+use Rattle.room_tables.proofs.Changes.{Added, Leaves, without, cleared, unnumbered}
+use Rattle.room_tables.proofs.Changes.{inserted_all, cast_null, cast_int}
 
 entries_quiet : (olds : List Row) → works room_schema Enforced 0 3 olds [] ≡ []
 unfolding everything
@@ -29,7 +37,8 @@ slots_quiet olds = refl
 
 -- what new rows of a table set off
 abbrev set_off : ℕ → List (Row × Row) → Bool → List Work
-set_off tree moves deletes = flat_map (λ child. filter_map (λ ref. work_by 0 tree moves child ref (deed_for Enforced deletes ref) (parent_key room_schema.tables ref)) child.references) room_schema.tables
+set_off tree moves deletes = flat_map (λ child. filter_map (λ ref. work_by 0 tree moves child ref
+    (deed_for Enforced deletes ref) (parent_key room_schema.tables ref)) child.references) room_schema.tables
 
 entries_set_off : (deletes : Bool) → set_off 3 [] deletes ≡ []
 unfolding everything
@@ -47,20 +56,26 @@ slots_set_off false = refl
 slot_quiet : (news : List Row) → works room_schema Enforced 0 8 [] news ≡ []
 slot_quiet news = slots_set_off (length news == 0)
 
-pub drops_entries : (old new : State) (id count : ℕ) → old.now.schema ≡ room_schema → IsKeyed (old.now.trees 3) → Executes drop_entries_text (Int (pos id) ∷ []) old new (Ok count)
+pub drops_entries : (old new : State) (id count : ℕ) → old.now.schema ≡ room_schema
+    → IsKeyed (old.now.trees 3) → Executes drop_entries_text (Int (pos id) ∷ []) old new (Ok count)
     → Leaves old.now new.now 3 (without (has 1 id) (old.now.trees 3))
 drops_entries old new id count schema keyed h =
-    cleared old new 2 entry_table drop_entries_text (Int (pos id) ∷ []) drop_entries_query.filter count (has 1 id) refl schema keyed drop_entries_is drop_entries_plain refl entries_quiet (λ r. and_true (has 1 id r)) h
+    cleared old new 2 entry_table drop_entries_text (Int (pos id) ∷ []) drop_entries_query.filter count (has 1 id)
+    refl schema keyed drop_entries_is drop_entries_plain refl entries_quiet (λ r. and_true (has 1 id r)) h
 
-pub drops_slots : (old new : State) (sid : List ℕ) (count : ℕ) → old.now.schema ≡ room_schema → IsKeyed (old.now.trees 8) → Executes drop_slots_text (Text sid ∷ []) old new (Ok count)
+pub drops_slots : (old new : State) (sid : List ℕ) (count : ℕ) → old.now.schema ≡ room_schema
+    → IsKeyed (old.now.trees 8) → Executes drop_slots_text (Text sid ∷ []) old new (Ok count)
     → Leaves old.now new.now 8 (without (has_text 1 sid) (old.now.trees 8))
 drops_slots old new sid count schema keyed h =
-    cleared old new 5 slot_table drop_slots_text (Text sid ∷ []) drop_slots_query.filter count (has_text 1 sid) refl schema keyed drop_slots_is drop_slots_plain refl slots_quiet (λ r. and_true (has_text 1 sid r)) h
+    cleared old new 5 slot_table drop_slots_text (Text sid ∷ []) drop_slots_query.filter count (has_text 1 sid)
+    refl schema keyed drop_slots_is drop_slots_plain refl slots_quiet (λ r. and_true (has_text 1 sid r)) h
 
-pub drops_slot : (old new : State) (sid : List ℕ) (slot count : ℕ) → old.now.schema ≡ room_schema → IsKeyed (old.now.trees 8) → Executes drop_slot_text (Text sid ∷ Int (pos slot) ∷ []) old new (Ok count)
+pub drops_slot : (old new : State) (sid : List ℕ) (slot count : ℕ) → old.now.schema ≡ room_schema
+    → IsKeyed (old.now.trees 8) → Executes drop_slot_text (Text sid ∷ Int (pos slot) ∷ []) old new (Ok count)
     → Leaves old.now new.now 8 (without (is_slot sid slot) (old.now.trees 8))
 drops_slot old new sid slot count schema keyed h =
-    cleared old new 5 slot_table drop_slot_text (Text sid ∷ Int (pos slot) ∷ []) drop_slot_query.filter count (is_slot sid slot) refl schema keyed drop_slot_is drop_slot_plain refl slots_quiet
+    cleared old new 5 slot_table drop_slot_text (Text sid ∷ Int (pos slot) ∷ []) drop_slot_query.filter
+    count (is_slot sid slot) refl schema keyed drop_slot_is drop_slot_plain refl slots_quiet
     (λ r. ap (λ b. has_text 1 sid r && b) (and_true (has 2 slot r))) h
 
 -- entries at places from a number on, as they are stored
@@ -73,43 +88,60 @@ abbrev pub bound_entries : ℕ → List EntryModel → Row
 bound_entries at [] = []
 bound_entries at (e ∷ es) = shown_as at e ++ bound_entries (suc at) es
 
-cast_stored : (node at : ℕ) (es : List EntryModel) → map (λ row. cast_row entry_table (drop 0 row)) (unnumbered (stored node at es)) ≡ unnumbered (stored node at es)
+cast_stored : (node at : ℕ) (es : List EntryModel)
+    → map (λ row. cast_row entry_table (drop 0 row)) (unnumbered (stored node at es)) ≡ unnumbered (stored node at es)
 cast_stored node at [] = refl
 cast_stored node at (e ∷ es) = ap₂ (λ row rows. row ∷ rows) one (cast_stored node (suc at) es)
   where
     one : cast_row entry_table (Null ∷ Int (pos node) ∷ shown_as at e) ≡ Null ∷ Int (pos node) ∷ shown_as at e
-    one = rw (cast_null, cast_int (pos node), cast_int (pos at), cast_int (pos (type_of e.allow)), cast_int (pos e.flags), cast_int (pos e.mask)) refl
+    one = rw (
+      cast_null,
+      cast_int (pos node),
+      cast_int (pos at),
+      cast_int (pos (type_of e.allow)),
+      cast_int (pos e.flags),
+      cast_int (pos e.mask),
+    ) refl
 
 -- what an INSERT of entries does, where its text means that
 abbrev pub AddsEntries : List ℕ → ℕ → ℕ → List EntryModel → Type 1
-AddsEntries text node at es = (old new : State) (count : ℕ) → old.now.schema ≡ room_schema → Executes text (Int (pos node) ∷ bound_entries at es) old new (Ok count)
+AddsEntries text node at es = (old new : State) (count : ℕ) → old.now.schema ≡ room_schema
+    → Executes text (Int (pos node) ∷ bound_entries at es) old new (Ok count)
     → Added old.now new.now 3 (stored node at es)
 
 pub adds_one : (node at : ℕ) (a : EntryModel) → AddsEntries add_entry_text node at (a ∷ [])
 adds_one node at a old new count schema h =
-    inserted_all old new 2 entry_table add_entry_text (Int (pos node) ∷ bound_entries at (a ∷ [])) (stored node at (a ∷ [])) add_entry_terms 7 count refl schema refl add_entry_is add_entry_plain entry_quiet
+    inserted_all old new 2 entry_table add_entry_text (Int (pos node) ∷ bound_entries at (a ∷ []))
+    (stored node at (a ∷ [])) add_entry_terms 7 count refl schema refl add_entry_is add_entry_plain entry_quiet
     (cast_stored node at (a ∷ [])) h
 
 pub adds_two : (node at : ℕ) (a b : EntryModel) → AddsEntries add_two_text node at (a ∷ b ∷ [])
 adds_two node at a b old new count schema h =
-    inserted_all old new 2 entry_table add_two_text (Int (pos node) ∷ bound_entries at (a ∷ b ∷ [])) (stored node at (a ∷ b ∷ [])) add_two_terms 7 count refl schema refl add_two_is add_two_plain entry_quiet
+    inserted_all old new 2 entry_table add_two_text (Int (pos node) ∷ bound_entries at (a ∷ b ∷ []))
+    (stored node at (a ∷ b ∷ [])) add_two_terms 7 count refl schema refl add_two_is add_two_plain entry_quiet
     (cast_stored node at (a ∷ b ∷ [])) h
 
 pub adds_three : (node at : ℕ) (a b c : EntryModel) → AddsEntries add_three_text node at (a ∷ b ∷ c ∷ [])
 adds_three node at a b c old new count schema h =
-    inserted_all old new 2 entry_table add_three_text (Int (pos node) ∷ bound_entries at (a ∷ b ∷ c ∷ [])) (stored node at (a ∷ b ∷ c ∷ [])) add_three_terms 7 count refl schema refl add_three_is add_three_plain entry_quiet
+    inserted_all old new 2 entry_table add_three_text
+    (Int (pos node) ∷ bound_entries at (a ∷ b ∷ c ∷ [])) (stored node at (a ∷ b ∷ c ∷ []))
+    add_three_terms 7 count refl schema refl add_three_is add_three_plain entry_quiet
     (cast_stored node at (a ∷ b ∷ c ∷ [])) h
 
 pub adds_four : (node at : ℕ) (a b c d : EntryModel) → AddsEntries add_four_text node at (a ∷ b ∷ c ∷ d ∷ [])
 adds_four node at a b c d old new count schema h =
-    inserted_all old new 2 entry_table add_four_text (Int (pos node) ∷ bound_entries at (a ∷ b ∷ c ∷ d ∷ [])) (stored node at (a ∷ b ∷ c ∷ d ∷ [])) add_four_terms 7 count refl schema refl add_four_is add_four_plain entry_quiet
+    inserted_all old new 2 entry_table add_four_text (Int (pos node) ∷ bound_entries at (a ∷ b ∷ c ∷ d ∷ []))
+    (stored node at (a ∷ b ∷ c ∷ d ∷ [])) add_four_terms 7 count
+    refl schema refl add_four_is add_four_plain entry_quiet
     (cast_stored node at (a ∷ b ∷ c ∷ d ∷ [])) h
 
 abbrev pub slot_values : List ℕ → ℕ → ℕ → List ℕ → List ℕ → Row
 slot_values sid slot seq request reply = Text sid ∷ Int (pos slot) ∷ Int (pos seq) ∷ Blob request ∷ Blob reply ∷ []
 
-pub adds_slot : (old new : State) (sid : List ℕ) (slot seq : ℕ) (request reply : List ℕ) (count : ℕ) → old.now.schema ≡ room_schema → Executes add_slot_text (slot_values sid slot seq request reply) old new (Ok count)
+pub adds_slot : (old new : State) (sid : List ℕ) (slot seq : ℕ) (request reply : List ℕ) (count : ℕ)
+    → old.now.schema ≡ room_schema → Executes add_slot_text (slot_values sid slot seq request reply) old new (Ok count)
     → Added old.now new.now 8 (slot_values sid slot seq request reply ∷ [])
 adds_slot old new sid slot seq request reply count schema h =
-    inserted_all old new 5 slot_table add_slot_text (slot_values sid slot seq request reply) (slot_values sid slot seq request reply ∷ []) add_slot_terms 6 count refl schema refl add_slot_is add_slot_plain slot_quiet
+    inserted_all old new 5 slot_table add_slot_text (slot_values sid slot seq request reply) (slot_values sid
+    slot seq request reply ∷ []) add_slot_terms 6 count refl schema refl add_slot_is add_slot_plain slot_quiet
     (rw (cast_null, cast_int (pos slot), cast_int (pos seq)) refl) h

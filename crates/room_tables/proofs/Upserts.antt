@@ -1,5 +1,7 @@
 -- What an upsert does: it puts one row in, in the place of the row with its rowid.
-use Rattle.std.proofs.Common.{◌≡◌, ◌⊎◌, inl, inr, ℕ, ℤ, Bool, true, false, ◌&&◌, ◌||◌, List, [], ◌∷◌, ◌++◌, ◌/◌, length, map, slice_get, filter, Option, None, Some, Ok, refl, sym, ap, ap₂, subst, subst₂, ◌∙◌, IsPermutation, is_eq, Equal}
+use Rattle.std.proofs.Common.{◌≡◌, inl, inr, ℕ, ℤ, Bool, true, false, ◌||◌, List, [], ◌∷◌, ◌++◌, ◌/◌, length}
+use Rattle.std.proofs.Common.{map, slice_get, filter, Option, None, Some, Ok, refl, sym, ap, ap₂, subst, subst₂, ◌∙◌}
+use Rattle.std.proofs.Common.{IsPermutation, is_eq}
 use Rattle.std.specs.List.{list_all}
 use Rattle.std.proofs.lemmas.Cmp.{tied_itself, alike_right}
 use Rattle.sqlite_value.specs.declared.value.Value.{Value}
@@ -13,7 +15,8 @@ use Rattle.sqlite_sql.specs.Program.{overlay}
 use Rattle.sqlite_keyed.proofs.RuleLemmas.{first_of_both}
 use Rattle.sqlite_keyed.proofs.ListLemmas.{filter_same}
 use Rattle.sqlite_rules.specs.Lists.{Has}
-use Rattle.sqlite_rules.specs.Edit.{with_rowid, edit_of, without_all, is_taken, are_fresh, put_all, left_by, taken_by, id_in}
+use Rattle.sqlite_rules.specs.Edit.{with_rowid, edit_of, without_all, is_taken, are_fresh, put_all}
+use Rattle.sqlite_rules.specs.Edit.{left_by, taken_by, id_in}
 use Rattle.sqlite_rules.specs.Calls.{ids_of}
 use Rattle.sqlite_rules.specs.Cast.{cast_row}
 use Rattle.sqlite_rules.specs.Keys.{AreConflicts, conflicts}
@@ -28,7 +31,8 @@ use Rattle.sqlite_schema.specs.declared.command.Upsert.{Upsert}
 use Rattle.sqlite.specs.Source.TheVariants.{Values}
 use Rattle.sqlite.specs.Command.TheVariants.{InsertOr}
 use Rattle.sqlite.specs.Effect.{Database, value_rows, IsDatabase}
-use Rattle.sqlite.specs.Rows.{Then, Written, Task, Puts, Updates, Tries, TriesEach, count_of, nothing, higher, joined, Judged, Meets, Upserts, Clears, stamped, shown, rowids_for}
+use Rattle.sqlite.specs.Rows.{Then, Written, Task, Puts, Updates, Tries, TriesEach, count_of, nothing, higher, joined}
+use Rattle.sqlite.specs.Rows.{Judged, Meets, Upserts, Clears, stamped, shown, rowids_for}
 use Rattle.sqlite.specs.Table.{Table}
 use Rattle.sqlite.specs.State.{State, Executes}
 use Rattle.sqlite.specs.Listing.{understood}
@@ -59,7 +63,8 @@ pub record PutInto (old new : Database) (tree : ℕ) (Fits Met : Row → Type 0)
   pub put : Put tree old.trees new.trees Fits Met
 
 -- the parts of an upsert: its table, what the update reads, and the row that is put
-pub record IsUpsert (table : Table) (target : List ℕ) (n : ℕ) (project : List Term) (params new : Row) (Fits Met : Row → Type 0) : Type 0 where
+pub record IsUpsert (table : Table) (target : List ℕ) (n : ℕ) (project : List Term)
+    (params new : Row) (Fits Met : Row → Type 0) : Type 0 where
   pub uncounted : table.is_counted ≡ false
   pub quiet_put : (row : Row) → works room_schema Enforced 0 table.tree [] (row ∷ []) ≡ []
   pub quiet_change : (olds : List Row) (row : Row) → works room_schema Enforced 0 table.tree olds (row ∷ []) ≡ []
@@ -71,13 +76,15 @@ pub record IsUpsert (table : Table) (target : List ℕ) (n : ℕ) (project : Lis
   pub met : (r : Row) → conflicts (Some target) room_schema.indexes table new r ≡ true → Met r
   pub there_at : (v : Value) → column (params ++ v ∷ shown table new) n ≡ v
   pub raw : Row → Row
-  pub reads : (there : Row) → eval_all project ((params ++ rowid there ∷ shown table new) ∷ there ∷ []) ≡ rowid there ∷ raw there
+  pub reads : (there : Row)
+      → eval_all project ((params ++ rowid there ∷ shown table new) ∷ there ∷ []) ≡ rowid there ∷ raw there
   pub renewed : Row → Row
   pub casts : (there : Row) (id : ℤ) → rowid there ≡ Int id → cast_row table (raw there) ≡ renewed there
   pub same_id : (there : Row) → rowid (renewed there) ≡ rowid there
   pub refits : (there : Row) (id : ℤ) → rowid there ≡ Int id → Met there → Fits (renewed there)
 
-module _ (table : Table) (target : List ℕ) (n : ℕ) (project : List Term) (params new : Row) (Fits Met : Row → Type 0) (it : IsUpsert table target n project params new Fits Met) where
+module _ (table : Table) (target : List ℕ) (n : ℕ) (project : List Term) (params new : Row)
+    (Fits Met : Row → Type 0) (it : IsUpsert table target n project params new Fits Met) where
   abbrev query : Query
   query = over_table table.tree (equals (col 1 0) (col 0 n) ∷ []) project []
 
@@ -90,13 +97,16 @@ module _ (table : Table) (target : List ℕ) (n : ℕ) (project : List Term) (pa
   abbrev Done : Trees → Trees → Type 0
   Done db next = Put table.tree db next Fits Met
 
-  none_gone : (id : ℤ) (rows : List Row) (row : Row) → rowid row ≡ Int id → is_taken rows row ≡ false → (r : Row) → Has rows r → has_rowid id r ≡ true → Met r
+  none_gone : (id : ℤ) (rows : List Row) (row : Row) → rowid row ≡ Int id
+      → is_taken rows row ≡ false → (r : Row) → Has rows r → has_rowid id r ≡ true → Met r
   none_gone id (x ∷ rows) row is free r (inl same) tie = absurd (go (is_eq (value_cmp (rowid x) (rowid row))) refl free)
     where
       go : (b : Bool) → is_eq (value_cmp (rowid x) (rowid row)) ≡ b → (b || is_taken rows row) ≡ false → ⊥
       go true e h = let bad = h in cc
-      go false e h = let bad : true ≡ false = sym tie ∙ ap (λ (v : Row). is_eq (value_cmp (rowid v) (Int id))) same ∙ ap (λ v. is_eq (value_cmp (rowid x) v)) (sym is) ∙ e in cc
-  none_gone id (x ∷ rows) row is free r (inr later) tie = none_gone id rows row is (go (is_eq (value_cmp (rowid x) (rowid row))) free) r later tie
+      go false e h = let bad : true ≡ false = sym tie ∙ ap (λ (v : Row). is_eq (value_cmp (rowid v) (Int id))) same
+          ∙ ap (λ v. is_eq (value_cmp (rowid x) v)) (sym is) ∙ e in cc
+  none_gone id (x ∷ rows) row is free r (inr later) tie =
+      none_gone id rows row is (go (is_eq (value_cmp (rowid x) (rowid row))) free) r later tie
     where
       go : (b : Bool) → (b || is_taken rows row) ≡ false → is_taken rows row ≡ false
       go true h = absurd (let bad = h in cc)
@@ -110,9 +120,12 @@ module _ (table : Table) (target : List ℕ) (n : ℕ) (project : List Term) (pa
       let edit = edit_of db table [] Given 0 (new ∷ []) in
       let news : edit.news ≡ new ∷ [] = ap (λ r. r ∷ []) it.cast in
       let trees : w.trees ≡ done.0 = ap (λ (x : Written). x.trees) (same_value done.2) in
-      let one = one_step room_schema Enforced db done.0 edit (subst (λ l. works room_schema Enforced 0 table.tree [] l ≡ []) (sym news) (it.quiet_put new)) done.1 in
-      let free : is_taken (db table.tree) new ≡ false = not_true _ (first_of_both _ _ (subst (λ l. are_fresh (db table.tree) l ≡ true) news one.fresh)) in
-      let taken : is_taken (db table.tree) (Int it.id ∷ []) ≡ false = ap (λ v. is_taken (db table.tree) (v ∷ [])) (sym it.has_id) ∙ free in
+      let one = one_step room_schema Enforced db done.0 edit
+      (subst (λ l. works room_schema Enforced 0 table.tree [] l ≡ []) (sym news) (it.quiet_put new)) done.1 in
+      let free : is_taken (db table.tree) new ≡ false =
+      not_true _ (first_of_both _ _ (subst (λ l. are_fresh (db table.tree) l ≡ true) news one.fresh)) in
+      let taken : is_taken (db table.tree) (Int it.id ∷ []) ≡ false =
+      ap (λ v. is_taken (db table.tree) (v ∷ [])) (sym it.has_id) ∙ free in
       let same : without_rowid it.id (db table.tree) ≡ db table.tree = none_to_drop it.id (db table.tree) taken in
       record {
         row = new;
@@ -120,32 +133,46 @@ module _ (table : Table) (target : List ℕ) (n : ℕ) (project : List Term) (pa
         id = it.id;
         has_id = it.has_id;
         free = subst (λ l. is_taken l new ≡ false) (sym same) free;
-        rows = ap (λ (t : Trees). t table.tree) trees ∙ one.rows ∙ ap (put_all (db table.tree)) news ∙ ap (put_row new) (sym same);
+        rows = ap (λ (t : Trees). t table.tree) trees ∙ one.rows
+            ∙ ap (put_all (db table.tree)) news ∙ ap (put_row new) (sym same);
         others = subst (λ t. Others table.tree db t) (sym trees) (others_of table.tree db done.0 one.tables);
         gone = none_gone it.id (db table.tree) new it.has_id free;
       }
 
-  tests : (given : Row) (id : ℤ) → column given n ≡ Int id → (r : Row) → list_all (holds (given ∷ r ∷ [])) (equals (col 1 0) (col 0 n) ∷ []) ≡ has_rowid id r
-  tests given id at r = and_true _ ∙ ap (λ v. Rattle.sqlite_schema.specs.Rules.equal Rattle.sqlite_value.specs.declared.keys.Collation.TheVariants.Binary (rowid r) v) at ∙ equal_is (rowid r) id
+  tests : (given : Row) (id : ℤ) → column given n ≡ Int id → (r : Row)
+      → list_all (holds (given ∷ r ∷ [])) (equals (col 1 0) (col 0 n) ∷ []) ≡ has_rowid id r
+  tests given id at r = and_true _ ∙ ap (λ v. Rattle.sqlite_schema.specs.Rules.equal
+      Rattle.sqlite_value.specs.declared.keys.Collation.TheVariants.Binary (rowid r) v) at ∙ equal_is (rowid r) id
 
   -- one row has the rowid, and its update is put in its place
-  updates_one : (limit : Option ℕ) (db : Trees) (there : Row) (id : ℤ) (w : Written) → filter (has_rowid id) (db table.tree) ≡ there ∷ [] → rowid there ≡ Int id → ((r : Row) → Has (db table.tree) r → has_rowid id r ≡ true → Met r) → Met there
-      → Updates (task limit) (record { lets = []; body = query }) (params ++ rowid there ∷ shown table new) db (Ok w) → Done db w.trees
+  updates_one : (limit : Option ℕ) (db : Trees) (there : Row) (id : ℤ) (w : Written)
+      → filter (has_rowid id) (db table.tree) ≡ there ∷ [] → rowid there ≡ Int id
+      → ((r : Row) → Has (db table.tree) r → has_rowid id r ≡ true → Met r) → Met there
+      → Updates (task limit) (record { lets = []; body = query }) (params ++ rowid there ∷ shown table new) db (Ok w)
+      → Done db w.trees
   updates_one limit db there id w only is gone met h =
       let given = params ++ rowid there ∷ shown table new in
       let read = went h in
       let done = went read.2 in
-      let p = subst (λ all. Picks query given (passing query.filter given all) read.0) (it.here db) (answer_is table.tree query.filter project [] (overlay db []) given read.0 (read.1.answer Null)) in
-      let found = filter_same _ (has_rowid id) (tests given id (it.there_at (rowid there) ∙ is)) (db table.tree) ∙ only in
+      let p = subst (λ all. Picks query given (passing query.filter given all) read.0) (it.here db)
+      (answer_is table.tree query.filter project [] (overlay db []) given read.0 (read.1.answer Null)) in
+      let found =
+      filter_same _ (has_rowid id) (tests given id (it.there_at (rowid there) ∙ is)) (db table.tree) ∙ only in
       let out : Output = output query (given ∷ there ∷ []) in
-      let one = one_permutation out p.ordered (subst (λ l. IsPermutation (map (λ r. output query (given ∷ r ∷ [])) l) p.ordered) found p.same) in
-      let rows : read.0 ≡ (rowid there ∷ it.raw there) ∷ [] = p.is ∙ ap (map (λ (o : Output). o.1)) one ∙ ap (λ r. r ∷ []) (it.reads there) in
+      let one = one_permutation out p.ordered
+      (subst (λ l. IsPermutation (map (λ r. output query (given ∷ r ∷ [])) l) p.ordered) found p.same) in
+      let rows : read.0 ≡ (rowid there ∷ it.raw there) ∷ [] =
+      p.is ∙ ap (map (λ (o : Output). o.1)) one ∙ ap (λ r. r ∷ []) (it.reads there) in
       let row = it.renewed there in
       let edit = edit_of db table (ids_of read.0) Given 1 read.0 in
-      let news : edit.news ≡ row ∷ [] = ap (λ all. (edit_of db table (ids_of all) Given 1 all).news) rows ∙ ap (λ r. r ∷ []) (it.casts there id is) in
-      let left : left_by db edit ≡ without_rowid id (db table.tree) = ap (λ all. without_all (db table.tree) (ids_of all)) rows ∙ ap (λ v. without_rowid (id_in v) (db table.tree)) is in
+      let news : edit.news ≡ row ∷ [] =
+      ap (λ all. (edit_of db table (ids_of all) Given 1 all).news) rows ∙ ap (λ r. r ∷ []) (it.casts there id is) in
+      let left : left_by db edit ≡ without_rowid id (db table.tree) =
+      ap (λ all. without_all (db table.tree) (ids_of all)) rows
+      ∙ ap (λ v. without_rowid (id_in v) (db table.tree)) is in
       let trees : w.trees ≡ done.0 = ap (λ (x : Written). x.trees) (same_value done.2) in
-      let step = one_step room_schema Enforced db done.0 edit (subst (λ l. works room_schema Enforced 0 table.tree (taken_by db edit) l ≡ []) (sym news) (it.quiet_change (taken_by db edit) row)) done.1 in
+      let step = one_step room_schema Enforced db done.0 edit (subst (λ l. works room_schema Enforced 0
+      table.tree (taken_by db edit) l ≡ []) (sym news) (it.quiet_change (taken_by db edit) row)) done.1 in
       record {
         row = row;
         fits = it.refits there id is met;
@@ -158,7 +185,8 @@ module _ (table : Table) (target : List ℕ) (n : ℕ) (project : List Term) (pa
       }
 
   -- whichever way it goes, a row is put
-  pub tries_one : (limit : Option ℕ) (db : Trees) (w : Written) → IsKeyed (db table.tree) → Tries (task limit) Abort (clause ∷ []) new db (Ok w) → Done db w.trees
+  pub tries_one : (limit : Option ℕ) (db : Trees) (w : Written) → IsKeyed (db table.tree)
+      → Tries (task limit) Abort (clause ∷ []) new db (Ok w) → Done db w.trees
   tries_one limit db w keyed (inl h) = absurd (let e = h.1 in cc)
   tries_one limit db w keyed (inr h) = judged h.0 h.2
     where
@@ -166,19 +194,26 @@ module _ (table : Table) (target : List ℕ) (n : ℕ) (project : List Term) (pa
       cleared [] x = puts_new limit db w x
       cleared (y ∷ more) x = puts_new limit db w x
 
-      meets : (found : List Row) → AreConflicts (Some target) room_schema.indexes table (db table.tree) new found → Meets (task limit) (Upserts (task limit) Abort new db []) new db clause found (Ok w) → Done db w.trees
+      meets : (found : List Row) → AreConflicts (Some target) room_schema.indexes table (db table.tree) new found
+          → Meets (task limit) (Upserts (task limit) Abort new db []) new db clause found (Ok w) → Done db w.trees
       meets [] c x = cleared x.0 x.2
       meets (there ∷ more) c x =
           let r = c.sound there (inl refl) in
           let met = it.met r.0 r.2 in
-          let is : rowid r.0 ≡ Int (id_in (rowid r.0)) = int_is (rowid r.0) (all_has _ (db table.tree) r.0 keyed.ints r.1) in
+          let is : rowid r.0 ≡ Int (id_in (rowid r.0)) =
+          int_is (rowid r.0) (all_has _ (db table.tree) r.0 keyed.ints r.1) in
           let id = id_in (rowid r.0) in
-          let mine : has_rowid id r.0 ≡ true = ap (λ v. is_eq (value_cmp (rowid r.0) v)) (sym is) ∙ ap is_eq (tied_itself value_cmp_total (rowid r.0)) in
-          let tie = λ (a b : Row) (p : has_rowid id a ≡ true) (q : has_rowid id b ≡ true). alike_right value_cmp_total (rowid b) (Int id) (rowid a) (eq_is _ q) ∙ eq_is _ p in
+          let mine : has_rowid id r.0 ≡ true =
+          ap (λ v. is_eq (value_cmp (rowid r.0) v)) (sym is) ∙ ap is_eq (tied_itself value_cmp_total (rowid r.0)) in
+          let tie = λ (a b : Row) (p : has_rowid id a ≡ true) (q : has_rowid id b ≡ true).
+          alike_right value_cmp_total (rowid b) (Int id) (rowid a) (eq_is _ q) ∙ eq_is _ p in
           let only = one_row (has_rowid id) (db table.tree) r.0 keyed.table r.1 mine (λ a b _ _ p q. tie a b p q) in
           let there_is : rowid there ≡ rowid r.0 = ap rowid r.3 in
-          let alone = λ (o : Row) (k : Has (db table.tree) o) (p : has_rowid id o ≡ true). subst Met (sym (only_has (filter (has_rowid id) (db table.tree)) o r.0 only (Rattle.sqlite_rules.proofs.ListLemmas.has_kept (has_rowid id) (db table.tree) o k p))) met in
-          updates_one limit db r.0 id w only is alone met (subst (λ v. Updates (task limit) (record { lets = []; body = query }) (params ++ v ∷ shown table new) db (Ok w)) there_is x)
+          let alone = λ (o : Row) (k : Has (db table.tree) o) (p : has_rowid id o ≡ true).
+          subst Met (sym (only_has (filter (has_rowid id) (db table.tree)) o r.0 only
+          (Rattle.sqlite_rules.proofs.ListLemmas.has_kept (has_rowid id) (db table.tree) o k p))) met in
+          updates_one limit db r.0 id w only is alone met (subst (λ v. Updates (task limit)
+          (record { lets = []; body = query }) (params ++ v ∷ shown table new) db (Ok w)) there_is x)
         where
           only_has : (l : List Row) (o r : Row) → l ≡ r ∷ [] → Has l o → o ≡ r
           only_has l o r e h = alone_in (subst (λ m. Has m o) e h)
@@ -187,18 +222,23 @@ module _ (table : Table) (target : List ℕ) (n : ℕ) (project : List Term) (pa
               alone_in (inl same) = same
               alone_in (inr later) = absurd later
 
-      judged : (verdict : Option Refusal) → Judged (task limit) Abort (clause ∷ []) new db verdict (Ok w) → Done db w.trees
+      judged : (verdict : Option Refusal)
+          → Judged (task limit) Abort (clause ∷ []) new db verdict (Ok w) → Done db w.trees
       judged None x = meets x.0 x.1 x.2
       judged (Some why) x = absurd (let e = x in cc)
 
 -- an upsert of one row
-pub put : (old new : State) (at : ℕ) (table : Table) (target : List ℕ) (n : ℕ) (project terms : List Term) (width count : ℕ) (sql : List ℕ) (params source row : Row) (Fits Met : Row → Type 0)
-    (it : IsUpsert table target n project params row Fits Met) → slice_get room_schema.tables at ≡ Some table → old.now.schema ≡ room_schema → IsKeyed (old.now.trees table.tree)
-    → command_of (understood room_schema sql) ≡ InsertOr at Abort (Values terms width) (clause table target n project params row Fits Met it ∷ []) → IsPlain (understood room_schema sql)
+pub put : (old new : State) (at : ℕ) (table : Table) (target : List ℕ) (n : ℕ) (project terms : List Term)
+    (width count : ℕ) (sql : List ℕ) (params source row : Row) (Fits Met : Row → Type 0)
+    (it : IsUpsert table target n project params row Fits Met) → slice_get room_schema.tables at ≡ Some table
+    → old.now.schema ≡ room_schema → IsKeyed (old.now.trees table.tree)
+    → command_of (understood room_schema sql) ≡ InsertOr at Abort (Values terms width)
+    (clause table target n project params row Fits Met it ∷ []) → IsPlain (understood room_schema sql)
     → value_rows (stamped table params) width (length terms / width) terms ≡ source ∷ []
     → with_rowid Chosen (old.now.trees table.tree) (cast_row table source) ≡ row
     → Executes sql params old new (Ok count) → PutInto old.now new.now table.tree Fits Met
-put old new at table target n project terms width count sql params source row Fits Met it place schema keyed is plain given_is row_is h =
+put old new at table target n project terms width count sql params source
+    row Fits Met it place schema keyed is plain given_is row_is h =
     let db = old.now.trees in
     let k = clause table target n project params row Fits Met it in
     let ran = runs_as sql params old new room_schema schema _ is plain count h in
@@ -208,12 +248,21 @@ put old new at table target n project terms width count sql params source row Fi
     let done = went counter.2 in
     let counted = went done.2 in
     let task_here = task table target n project params row Fits Met it old.step_limit in
-    let each = subst (λ l. TriesEach task_here Abort (k ∷ []) l (count_of counter.0) (nothing db) (Ok done.0)) (given.1.1 ∙ given_is) done.1 in
-    let by_choice : rowids_for table (count_of counter.0) ≡ Chosen = ap (λ b. Rattle.std.proofs.Common.cond b (Rattle.sqlite.specs.Rowids.TheVariants.Above (count_of counter.0)) Chosen) it.uncounted in
-    let new_is : with_rowid (rowids_for table (count_of counter.0)) (db table.tree) (cast_row table source) ≡ row = ap (λ c. with_rowid c (db table.tree) (cast_row table source)) by_choice ∙ row_is in
-    let one = went (subst (λ r. Then (Tries task_here Abort (k ∷ []) r db) (λ x. TriesEach task_here Abort (k ∷ []) [] (higher (count_of counter.0) r) (joined (nothing db) x)) (Ok done.0)) new_is each) in
+    let each = subst (λ l. TriesEach task_here Abort (k ∷ []) l (count_of counter.0) (nothing db) (Ok done.0))
+    (given.1.1 ∙ given_is) done.1 in
+    let by_choice : rowids_for table (count_of counter.0) ≡ Chosen = ap (λ b. Rattle.std.proofs.Common.cond b
+    (Rattle.sqlite.specs.Rowids.TheVariants.Above (count_of counter.0)) Chosen) it.uncounted in
+    let new_is : with_rowid (rowids_for table (count_of counter.0)) (db table.tree) (cast_row table source) ≡ row =
+    ap (λ c. with_rowid c (db table.tree) (cast_row table source)) by_choice ∙ row_is in
+    let one = went (subst (λ r. Then (Tries task_here Abort (k ∷ []) r db) (λ x. TriesEach task_here Abort
+    (k ∷ []) [] (higher (count_of counter.0) r) (joined (nothing db) x)) (Ok done.0)) new_is each) in
     let is_put = tries_one table target n project params row Fits Met it old.step_limit db one.0 keyed one.1 in
     let last : one.0.trees ≡ done.0.0.trees = ap (λ (x : Written × ℤ). x.0.trees) (sym (same_value one.2)) in
-    let trees : w.rows.trees ≡ one.0.trees = ap (λ (x : Written). x.trees) (same_value counted.2) ∙ not_counted (task_on old table params) done.0.0.trees counted.0 counter.0 _ it.uncounted counted.1 ∙ sym last in
+    let trees : w.rows.trees ≡ one.0.trees = ap (λ (x : Written). x.trees) (same_value counted.2) ∙ not_counted
+    (task_on old table params) done.0.0.trees counted.0 counter.0 _ it.uncounted counted.1 ∙ sym last in
     let now : new.now.trees ≡ one.0.trees = ap (λ (d : Database). d.trees) w.now ∙ trees in
-    record { schema = ap (λ (d : Database). d.schema) w.now; sound = ran.sound; put = subst (λ t. Put table.tree db t Fits Met) (sym now) is_put }
+    record {
+      schema = ap (λ (d : Database). d.schema) w.now;
+      sound = ran.sound;
+      put = subst (λ t. Put table.tree db t Fits Met) (sym now) is_put;
+    }

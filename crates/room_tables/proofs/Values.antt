@@ -1,11 +1,13 @@
 -- A column that has a number has no other.
-use Rattle.std.proofs.Common.{◌≡◌, ℕ, List, ℤ, pos, Bool, true, false, ◌||◌, cond, Some, refl, sym, ap, subst, ◌∙◌, Ordering, Less, Equal, Greater, is_eq, int_cmp, true≢false}
+use Rattle.std.proofs.Common.{◌≡◌, ℕ, List, ℤ, pos, Bool, true, false, ◌||◌, cond, Some, refl, sym, ap, subst, ◌∙◌}
+use Rattle.std.proofs.Common.{Ordering, Less, Equal, Greater, is_eq, true≢false}
 use Rattle.std.proofs.lemmas.Map.Lookups.{exact_signed, exact_bytes}
 use Rattle.std.proofs.lemmas.Cmp.{alike_right, tied_back, tied_itself}
 use Rattle.sqlite_value.specs.declared.value.Value.{Value}
 use Rattle.sqlite_value.specs.declared.value.Value.TheVariants.{Null, Int, Real, Text, Blob}
 use Rattle.sqlite_value.specs.Order.{Row, column, value_cmp}
-use Rattle.sqlite_value.proofs.OrderLemmas.{value_cmp-Int, value_cmp-Text, value_cmp-Null, value_cmp-apart, value_cmp_total}
+use Rattle.sqlite_value.proofs.OrderLemmas.{value_cmp-Int, value_cmp-Text, value_cmp-Null, value_cmp-apart}
+use Rattle.sqlite_value.proofs.OrderLemmas.{value_cmp_total}
 use Rattle.sqlite_sql.specs.Ops.{binary, is_null, is_true, from_truth}
 use Rattle.sqlite_trees.specs.View.{is_int}
 use Rattle.sqlite_rules.specs.Edit.{id_in}
@@ -17,7 +19,8 @@ truth_back true = refl
 truth_back false = refl
 
 -- SQL's = with a number is the order of values
-pub equal_is : (v : Value) (n : ℤ) → Rattle.sqlite_schema.specs.Rules.equal Rattle.sqlite_value.specs.declared.keys.Collation.TheVariants.Binary v (Int n) ≡ is_eq (value_cmp v (Int n))
+pub equal_is : (v : Value) (n : ℤ) → Rattle.sqlite_schema.specs.Rules.equal
+    Rattle.sqlite_value.specs.declared.keys.Collation.TheVariants.Binary v (Int n) ≡ is_eq (value_cmp v (Int n))
 unfolding binary
 equal_is Null n = sym (ap is_eq (value_cmp-Null (Int n)))
 equal_is (Int m) n = truth_back _
@@ -40,17 +43,16 @@ has_value place n row h = eq_is _ (sym (has_is place n row) ∙ h)
 pub has_one : (place m n : ℕ) (row : Row) → has place m row ≡ true → has place n row ≡ true → m ≡ n
 has_one place m n row p q =
     let tie : value_cmp (Int (pos m)) (Int (pos n)) ≡ Equal =
-    sym (alike_right value_cmp_total (column row place) (Int (pos n)) (Int (pos m)) (has_value place n row q)) ∙ tied_back value_cmp_total _ _ (has_value place m row p) in
+    sym (alike_right value_cmp_total (column row place) (Int (pos n)) (Int (pos m)) (has_value place n row q))
+    ∙ tied_back value_cmp_total _ _ (has_value place m row p) in
     let same : pos m ≡ pos n = exact_signed _ _ (sym (value_cmp-Int (pos m) (pos n)) ∙ tie) in
     cc
 
--- the column of a row that was written with the number has it
-pub has_written : (n m : ℕ) → is_eq (value_cmp (Int (pos m)) (Int (pos n))) ≡ is_eq (int_cmp (pos m) (pos n))
-has_written n m = ap is_eq (value_cmp-Int (pos m) (pos n))
-
 -- two columns that have a number tie
-pub has_tied : (place n : ℕ) (a b : Row) → has place n a ≡ true → has place n b ≡ true → value_cmp (column a place) (column b place) ≡ Equal
-has_tied place n a b p q = alike_right value_cmp_total (column b place) (Int (pos n)) (column a place) (has_value place n b q) ∙ has_value place n a p
+pub has_tied : (place n : ℕ) (a b : Row) → has place n a ≡ true
+    → has place n b ≡ true → value_cmp (column a place) (column b place) ≡ Equal
+has_tied place n a b p q = alike_right value_cmp_total (column b place)
+    (Int (pos n)) (column a place) (has_value place n b q) ∙ has_value place n a p
 
 pub has_int : (n : ℕ) (row : Row) → is_int (column row 0) ≡ true → has 0 n row ≡ true → column row 0 ≡ Int (pos n)
 has_int n row int h =
@@ -58,12 +60,14 @@ has_int n row int h =
     let tie = subst (λ v. value_cmp v (Int (pos n)) ≡ Equal) is (has_value 0 n row h) in
     is ∙ ap Int (exact_signed _ _ (sym (value_cmp-Int (id_in (column row 0)) (pos n)) ∙ tie))
 
-truth_of : (b : Bool) (o : Ordering) → is_true (cond b Null (from_truth (Some (is_eq o)))) ≡ true → (b ≡ false) × (o ≡ Equal)
+truth_of : (b : Bool) (o : Ordering)
+    → is_true (cond b Null (from_truth (Some (is_eq o)))) ≡ true → (b ≡ false) × (o ≡ Equal)
 truth_of true o h = absurd (true≢false (sym h))
 truth_of false o h = (refl, eq_is o (sym (truth_back (is_eq o)) ∙ h))
 
 -- what SQL's = finds equal ties
-pub equal_tied : (a b : Value) → Rattle.sqlite_schema.specs.Rules.equal Rattle.sqlite_value.specs.declared.keys.Collation.TheVariants.Binary a b ≡ true → value_cmp a b ≡ Equal
+pub equal_tied : (a b : Value) → Rattle.sqlite_schema.specs.Rules.equal
+    Rattle.sqlite_value.specs.declared.keys.Collation.TheVariants.Binary a b ≡ true → value_cmp a b ≡ Equal
 unfolding binary
 equal_tied a b h = (truth_of (is_null a || is_null b) (value_cmp a b) h).1
 
@@ -73,11 +77,13 @@ not_either false b h = refl
 
 pub has_not_null : (place n : ℕ) (row : Row) → has place n row ≡ true → is_null (column row place) ≡ false
 unfolding binary
-has_not_null place n row h = not_either _ _ (truth_of (is_null (column row place) || is_null (Int (pos n))) (value_cmp (column row place) (Int (pos n))) h).0
+has_not_null place n row h = not_either _ _
+    (truth_of (is_null (column row place) || is_null (Int (pos n))) (value_cmp (column row place) (Int (pos n))) h).0
 
 -- ---- texts
 
-pub equal_text : (v : Value) (t : List ℕ) → Rattle.sqlite_schema.specs.Rules.equal Rattle.sqlite_value.specs.declared.keys.Collation.TheVariants.Binary v (Text t) ≡ is_eq (value_cmp v (Text t))
+pub equal_text : (v : Value) (t : List ℕ) → Rattle.sqlite_schema.specs.Rules.equal
+    Rattle.sqlite_value.specs.declared.keys.Collation.TheVariants.Binary v (Text t) ≡ is_eq (value_cmp v (Text t))
 unfolding binary
 equal_text Null t = sym (ap is_eq (value_cmp-Null (Text t)))
 equal_text (Int m) t = truth_back _
@@ -93,17 +99,21 @@ text_tied (Real x) t h = absurd (let bad = sym (value_cmp-apart (Real x) (Text t
 text_tied (Text s) t h = ap Text (exact_bytes _ _ (sym (value_cmp-Text s t) ∙ h))
 text_tied (Blob b) t h = absurd (let bad = sym (value_cmp-apart (Blob b) (Text t) (λ e. let f = e in cc)) ∙ h in cc)
 
-pub has_text_is : (place : ℕ) (t : List ℕ) (row : Row) → has_text place t row ≡ is_eq (value_cmp (column row place) (Text t))
+pub has_text_is : (place : ℕ) (t : List ℕ) (row : Row)
+    → has_text place t row ≡ is_eq (value_cmp (column row place) (Text t))
 has_text_is place t row = equal_text (column row place) t
 
 pub has_text_value : (place : ℕ) (t : List ℕ) (row : Row) → has_text place t row ≡ true → column row place ≡ Text t
 has_text_value place t row h = text_tied _ t (eq_is _ (sym (has_text_is place t row) ∙ h))
 
 pub text_has : (place : ℕ) (t : List ℕ) (row : Row) → column row place ≡ Text t → has_text place t row ≡ true
-text_has place t row h = has_text_is place t row ∙ ap (λ v. is_eq (value_cmp v (Text t))) h ∙ ap is_eq (tied_itself value_cmp_total (Text t))
+text_has place t row h =
+    has_text_is place t row ∙ ap (λ v. is_eq (value_cmp v (Text t))) h ∙ ap is_eq (tied_itself value_cmp_total (Text t))
 
 pub int_has : (place n : ℕ) (row : Row) → column row place ≡ Int (pos n) → has place n row ≡ true
-int_has place n row h = has_is place n row ∙ ap (λ v. is_eq (value_cmp v (Int (pos n)))) h ∙ ap is_eq (tied_itself value_cmp_total (Int (pos n)))
+int_has place n row h = has_is place n row ∙ ap (λ v. is_eq (value_cmp v (Int (pos n)))) h
+    ∙ ap is_eq (tied_itself value_cmp_total (Int (pos n)))
 
-pub has_text_one : (place : ℕ) (s t : List ℕ) (row : Row) → has_text place s row ≡ true → has_text place t row ≡ true → s ≡ t
+pub has_text_one : (place : ℕ) (s t : List ℕ) (row : Row)
+    → has_text place s row ≡ true → has_text place t row ≡ true → s ≡ t
 has_text_one place s t row p q = let e = sym (has_text_value place s row p) ∙ has_text_value place t row q in cc

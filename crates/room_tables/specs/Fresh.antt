@@ -30,7 +30,8 @@ pub record IsFresh (owner group : List ℕ) (r : Records) : Type 0 where
 
 -- the records after a root and its entries are put into tables that were just made, where no number is next
 abbrev pub filled : Node → Vec EntryModel Global → Records
-filled root entries = apply_change (PutNext 2) (apply_change (PutEntries 1 entries) (apply_change (PutNode root) (no_records 0)))
+filled root entries =
+    apply_change (PutNext 2) (apply_change (PutEntries 1 entries) (apply_change (PutNode root) (no_records 0)))
 
 -- these are the records, in tables of version 1
 abbrev pub IsFilled : Node → Vec EntryModel Global → Trees → Type 0

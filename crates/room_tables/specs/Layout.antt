@@ -9,7 +9,8 @@ use Rattle.sqlite_trees.specs.View.{is_int}
 use Rattle.sqlite.specs.Table.{Table}
 use Rattle.sqlite.specs.Values.{or_null}
 use Rattle.sqlite.specs.Effect.{Database}
-use Rattle.room_tables.specs.Tables.{room_schema, room_table, node_table, entry_table, doc_table, session_table, slot_table}
+use Rattle.room_tables.specs.Tables.{room_schema, room_table, node_table, entry_table, doc_table}
+use Rattle.room_tables.specs.Tables.{session_table, slot_table}
 use Rattle.room_tables.specs.Rows.{version_rows, IsVersion1}
 
 -- the rowids are integers and rise, so none comes twice

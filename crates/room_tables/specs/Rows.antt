@@ -1,5 +1,7 @@
--- The rows of the six tables, as records. A value of another type than its column's has a meaning too, so that each row has one.
-use Rattle.std.specs.Prelude.{◌≡◌, ℕ, pos, Bool, ◌&&◌, ◌==◌, List, [], ◌∷◌, map, filter, Option, Some, None, option_map, unwrap_or, if◌then◌else◌}
+-- The rows of the six tables, as records. A value of another type
+-- than its column's has a meaning too, so that each row has one.
+use Rattle.std.specs.Prelude.{◌≡◌, ℕ, pos, Bool, ◌&&◌, ◌==◌, List, [], ◌∷◌, map, filter, Option, Some, None}
+use Rattle.std.specs.Prelude.{option_map, unwrap_or, if◌then◌else◌}
 use Rattle.sqlite_value.specs.declared.keys.Collation.TheVariants.{Binary}
 use Rattle.sqlite_value.specs.declared.keys.Key.{Key}
 use Rattle.sqlite_value.specs.declared.value.Value.{Value}
@@ -63,12 +65,14 @@ has place number row = equal Binary (column row place) (Int (pos number))
 abbrev pub has_text : ℕ → List ℕ → Row → Bool
 has_text place text row = equal Binary (column row place) (Text text)
 
--- A row of a table is its rowid and then its columns, so column i has place i + 1. An INTEGER PRIMARY KEY is the rowid, and its own column holds NULL.
+-- A row of a table is its rowid and then its columns, so column i has place i + 1. An INTEGER PRIMARY KEY is the rowid,
+-- and its own column holds NULL.
 
 -- ---- node: tree 1, whose rowid is the number
 
 abbrev pub shown_node : Row → Row
-shown_node row = column row 0 ∷ column row 2 ∷ column row 3 ∷ column row 4 ∷ column row 5 ∷ column row 6 ∷ column row 7 ∷ []
+shown_node row = column row 0 ∷ column row 2 ∷ column row 3
+    ∷ column row 4 ∷ column row 5 ∷ column row 6 ∷ column row 7 ∷ []
 
 abbrev pub node_of : Row → Node
 node_of row = record {
@@ -144,7 +148,12 @@ abbrev pub shown_session : Row → Row
 shown_session row = column row 2 ∷ column row 3 ∷ column row 4 ∷ []
 
 abbrev pub session_of : List ℕ → Row → SessionRow
-session_of sid row = record { sid = sid; owner = text_in (column row 0); slots = number_in (column row 1); is_open = number_in (column row 2) == 1 }
+session_of sid row = record {
+  sid = sid;
+  owner = text_in (column row 0);
+  slots = number_in (column row 1);
+  is_open = number_in (column row 2) == 1;
+}
 
 abbrev pub session_rows : Trees → List ℕ → List Row
 session_rows db sid = map shown_session (filter (has_text 1 sid) (db 6))
@@ -158,7 +167,8 @@ abbrev pub shown_slot : Row → Row
 shown_slot row = column row 3 ∷ column row 4 ∷ column row 5 ∷ []
 
 abbrev pub kept_of : Row → KeptModel
-kept_of row = record { seq = number_in (column row 0); request = bytes_in (column row 1); reply = bytes_in (column row 2) }
+kept_of row =
+    record { seq = number_in (column row 0); request = bytes_in (column row 1); reply = bytes_in (column row 2) }
 
 abbrev pub is_slot : List ℕ → ℕ → Row → Bool
 is_slot sid slot row = has_text 1 sid row && has 2 slot row
@@ -178,7 +188,8 @@ abbrev pub next_rows : Trees → List Row
 next_rows db = map shown_next (filter (has 0 1) (db 0))
 
 abbrev pub next_in : List Row → ℕ
-next_in rows = unwrap_or (option_map (λ row. number_in (column row 0)) (only (map shown_next (filter (has 0 1) rows)))) 0
+next_in rows =
+    unwrap_or (option_map (λ row. number_in (column row 0)) (only (map shown_next (filter (has 0 1) rows)))) 0
 
 abbrev pub shown_version : Row → Row
 shown_version row = column row 2 ∷ []
@@ -197,7 +208,12 @@ IsVersion1 rows = option_map (λ row. column row 0) (only rows) ≡ Some (Int (p
 
 abbrev pub records_of : Trees → Records
 records_of db = record {
-  objects = record { node = nodes_in (db 1); entries = entries_in (db 3); document = documents_in (db 5); next = next_in (db 0) };
+  objects = record {
+    node = nodes_in (db 1);
+    entries = entries_in (db 3);
+    document = documents_in (db 5);
+    next = next_in (db 0);
+  };
   session = sessions_in (db 6);
   slot = slots_in (db 8);
 }

@@ -34,7 +34,8 @@ abbrev pub IsReadBack : EntryModel → Type 0
 IsReadBack e = who_of e.flags (who_text e.who) ≡ e.who
 
 abbrev pub shown_as : ℕ → EntryModel → Row
-shown_as place e = Int (pos place) ∷ Int (pos (type_of e.allow)) ∷ Int (pos e.flags) ∷ Int (pos e.mask) ∷ Text (who_text e.who) ∷ []
+shown_as place e = Int (pos place) ∷ Int (pos (type_of e.allow))
+    ∷ Int (pos e.flags) ∷ Int (pos e.mask) ∷ Text (who_text e.who) ∷ []
 
 -- entries as they are shown, at places from a number on
 abbrev pub placed : ℕ → List EntryModel → List Row

@@ -1,5 +1,6 @@
 -- The six tables of a room.
-use Rattle.std.specs.Prelude.{true, false, Bool, ◌||◌, ◌&&◌, is_some, [], ◌∷◌, Some, None, option_and_then, slice_get, codes, List, ℕ, pos}
+use Rattle.std.specs.Prelude.{true, false, Bool, ◌||◌, ◌&&◌, is_some, [], ◌∷◌, Some, None, option_and_then}
+use Rattle.std.specs.Prelude.{slice_get, codes, List, ℕ, pos}
 use Rattle.std.specs.List.{list_all}
 use Rattle.sqlite_schema.specs.Names.{table_named, column_named}
 use Rattle.sqlite.specs.Collation.TheVariants.{Binary}
@@ -20,11 +21,13 @@ use Rattle.sqlite_schema.specs.declared.schema.Action.TheVariants.{NoAction, Cas
 use Rattle.sqlite_value.specs.Keys.{plain}
 
 abbrev pub filled : List ℕ → Kind → Column
-filled name kind = record { name = name; kind = kind; is_strict = true; not_null = true; default = Null; collation = Binary }
+filled name kind =
+    record { name = name; kind = kind; is_strict = true; not_null = true; default = Null; collation = Binary }
 
 -- a column that may be NULL, or is the INTEGER PRIMARY KEY
 abbrev pub loose : List ℕ → Kind → Column
-loose name kind = record { name = name; kind = kind; is_strict = true; not_null = false; default = Null; collation = Binary }
+loose name kind =
+    record { name = name; kind = kind; is_strict = true; not_null = false; default = Null; collation = Binary }
 
 abbrev pub no_stamps : Stamps
 no_stamps = record { places = []; terms = []; formats = [] }
@@ -36,10 +39,18 @@ abbrev pub zero_or_one : ℕ → Term
 zero_or_one place = op2 Or (equals place 0) (equals place 1)
 
 abbrev pub refers : ℕ → List ℕ → List ℕ → Action → Reference
-refers place parent name how = record { columns = place ∷ []; parent = parent; parent_columns = name ∷ []; on_delete = how; on_update = NoAction; is_deferred = false }
+refers place parent name how = record {
+  columns = place ∷ [];
+  parent = parent;
+  parent_columns = name ∷ [];
+  on_delete = how;
+  on_update = NoAction;
+  is_deferred = false;
+}
 
 abbrev pub room_text : List ℕ
-room_text = codes "CREATE TABLE room (one INTEGER PRIMARY KEY CHECK (one = 1), version INTEGER NOT NULL, next INTEGER NOT NULL) STRICT"
+room_text = codes
+    "CREATE TABLE room (one INTEGER PRIMARY KEY CHECK (one = 1), version INTEGER NOT NULL, next INTEGER NOT NULL) STRICT"
 
 abbrev pub room_table : Table
 room_table = record {
@@ -58,18 +69,22 @@ room_table = record {
 }
 
 abbrev pub node_text : List ℕ
-node_text = codes "CREATE TABLE node (id INTEGER PRIMARY KEY, parent INTEGER REFERENCES node(id), name TEXT NOT NULL, kind INTEGER NOT NULL CHECK (kind = 0 OR kind = 1), owner TEXT NOT NULL, grp TEXT NOT NULL, aclflag INTEGER NOT NULL CHECK (aclflag >= 0 AND aclflag <= 7), UNIQUE (parent, name)) STRICT"
+node_text = codes
+    "CREATE TABLE node (id INTEGER PRIMARY KEY, parent INTEGER REFERENCES node(id), name TEXT NOT NULL, kind INTEGER NOT NULL CHECK (kind = 0 OR kind = 1), owner TEXT NOT NULL, grp TEXT NOT NULL, aclflag INTEGER NOT NULL CHECK (aclflag >= 0 AND aclflag <= 7), UNIQUE (parent, name)) STRICT"
 
 abbrev pub node_table : Table
 node_table = record {
   name = codes "node";
   tree = 1;
-  columns = loose (codes "id") Integer ∷ loose (codes "parent") Integer ∷ filled (codes "name") Text ∷ filled (codes "kind") Integer ∷ filled (codes "owner") Text ∷ filled (codes "grp") Text ∷ filled (codes "aclflag") Integer ∷ [];
+  columns = loose (codes "id") Integer ∷ loose (codes "parent") Integer
+      ∷ filled (codes "name") Text ∷ filled (codes "kind") Integer ∷ filled (codes "owner") Text
+      ∷ filled (codes "grp") Text ∷ filled (codes "aclflag") Integer ∷ [];
   key = Some 0;
   primary = 0 ∷ [];
   uniques = (2 ∷ 3 ∷ []) ∷ [];
   orders = plain ∷ [];
-  checks = zero_or_one 4 ∷ op2 And (op2 (Compare Ge Binary) (col 1 7) (lit (Int (pos 0)))) (op2 (Compare Le Binary) (col 1 7) (lit (Int (pos 7)))) ∷ [];
+  checks = zero_or_one 4 ∷ op2 And (op2 (Compare Ge Binary) (col 1 7) (lit (Int (pos 0))))
+      (op2 (Compare Le Binary) (col 1 7) (lit (Int (pos 7)))) ∷ [];
   references = refers 2 (codes "node") (codes "id") NoAction ∷ [];
   computed = [];
   stamps = no_stamps;
@@ -77,13 +92,15 @@ node_table = record {
 }
 
 abbrev pub entry_text : List ℕ
-entry_text = codes "CREATE TABLE entry (node INTEGER NOT NULL REFERENCES node(id) ON DELETE CASCADE, place INTEGER NOT NULL, type INTEGER NOT NULL CHECK (type = 0 OR type = 1), flag INTEGER NOT NULL, mask INTEGER NOT NULL, who TEXT NOT NULL, PRIMARY KEY (node, place)) STRICT"
+entry_text = codes
+    "CREATE TABLE entry (node INTEGER NOT NULL REFERENCES node(id) ON DELETE CASCADE, place INTEGER NOT NULL, type INTEGER NOT NULL CHECK (type = 0 OR type = 1), flag INTEGER NOT NULL, mask INTEGER NOT NULL, who TEXT NOT NULL, PRIMARY KEY (node, place)) STRICT"
 
 abbrev pub entry_table : Table
 entry_table = record {
   name = codes "entry";
   tree = 3;
-  columns = filled (codes "node") Integer ∷ filled (codes "place") Integer ∷ filled (codes "type") Integer ∷ filled (codes "flag") Integer ∷ filled (codes "mask") Integer ∷ filled (codes "who") Text ∷ [];
+  columns = filled (codes "node") Integer ∷ filled (codes "place") Integer ∷ filled (codes "type") Integer
+      ∷ filled (codes "flag") Integer ∷ filled (codes "mask") Integer ∷ filled (codes "who") Text ∷ [];
   key = None;
   primary = 1 ∷ 2 ∷ [];
   uniques = (1 ∷ 2 ∷ []) ∷ [];
@@ -96,7 +113,8 @@ entry_table = record {
 }
 
 abbrev pub doc_text : List ℕ
-doc_text = codes "CREATE TABLE doc (node INTEGER PRIMARY KEY REFERENCES node(id) ON DELETE CASCADE, bytes BLOB NOT NULL) STRICT"
+doc_text = codes
+    "CREATE TABLE doc (node INTEGER PRIMARY KEY REFERENCES node(id) ON DELETE CASCADE, bytes BLOB NOT NULL) STRICT"
 
 abbrev pub doc_table : Table
 doc_table = record {
@@ -115,13 +133,15 @@ doc_table = record {
 }
 
 abbrev pub session_text : List ℕ
-session_text = codes "CREATE TABLE session (sid TEXT PRIMARY KEY NOT NULL, owner TEXT NOT NULL, slots INTEGER NOT NULL, open INTEGER NOT NULL CHECK (open = 0 OR open = 1)) STRICT"
+session_text = codes
+    "CREATE TABLE session (sid TEXT PRIMARY KEY NOT NULL, owner TEXT NOT NULL, slots INTEGER NOT NULL, open INTEGER NOT NULL CHECK (open = 0 OR open = 1)) STRICT"
 
 abbrev pub session_table : Table
 session_table = record {
   name = codes "session";
   tree = 6;
-  columns = filled (codes "sid") Text ∷ filled (codes "owner") Text ∷ filled (codes "slots") Integer ∷ filled (codes "open") Integer ∷ [];
+  columns = filled (codes "sid") Text ∷ filled (codes "owner") Text
+      ∷ filled (codes "slots") Integer ∷ filled (codes "open") Integer ∷ [];
   key = None;
   primary = 1 ∷ [];
   uniques = (1 ∷ []) ∷ [];
@@ -134,13 +154,15 @@ session_table = record {
 }
 
 abbrev pub slot_text : List ℕ
-slot_text = codes "CREATE TABLE slot (sid TEXT NOT NULL REFERENCES session(sid), slot INTEGER NOT NULL, seq INTEGER NOT NULL, request BLOB NOT NULL, reply BLOB NOT NULL, PRIMARY KEY (sid, slot)) STRICT"
+slot_text = codes
+    "CREATE TABLE slot (sid TEXT NOT NULL REFERENCES session(sid), slot INTEGER NOT NULL, seq INTEGER NOT NULL, request BLOB NOT NULL, reply BLOB NOT NULL, PRIMARY KEY (sid, slot)) STRICT"
 
 abbrev pub slot_table : Table
 slot_table = record {
   name = codes "slot";
   tree = 8;
-  columns = filled (codes "sid") Text ∷ filled (codes "slot") Integer ∷ filled (codes "seq") Integer ∷ filled (codes "request") Blob ∷ filled (codes "reply") Blob ∷ [];
+  columns = filled (codes "sid") Text ∷ filled (codes "slot") Integer ∷ filled (codes "seq") Integer
+      ∷ filled (codes "request") Blob ∷ filled (codes "reply") Blob ∷ [];
   key = None;
   primary = 1 ∷ 2 ∷ [];
   uniques = (1 ∷ 2 ∷ []) ∷ [];
@@ -153,16 +175,44 @@ slot_table = record {
 }
 
 abbrev pub node_index : Index
-node_index = record { name = codes "sqlite_autoindex_node_1"; tree = 2; table = 1; columns = 2 ∷ 3 ∷ []; order = plain; is_unique = true }
+node_index = record {
+  name = codes "sqlite_autoindex_node_1";
+  tree = 2;
+  table = 1;
+  columns = 2 ∷ 3 ∷ [];
+  order = plain;
+  is_unique = true;
+}
 
 abbrev pub entry_index : Index
-entry_index = record { name = codes "sqlite_autoindex_entry_1"; tree = 4; table = 3; columns = 1 ∷ 2 ∷ []; order = plain; is_unique = true }
+entry_index = record {
+  name = codes "sqlite_autoindex_entry_1";
+  tree = 4;
+  table = 3;
+  columns = 1 ∷ 2 ∷ [];
+  order = plain;
+  is_unique = true;
+}
 
 abbrev pub session_index : Index
-session_index = record { name = codes "sqlite_autoindex_session_1"; tree = 7; table = 6; columns = 1 ∷ []; order = plain; is_unique = true }
+session_index = record {
+  name = codes "sqlite_autoindex_session_1";
+  tree = 7;
+  table = 6;
+  columns = 1 ∷ [];
+  order = plain;
+  is_unique = true;
+}
 
 abbrev pub slot_index : Index
-slot_index = record { name = codes "sqlite_autoindex_slot_1"; tree = 9; table = 8; columns = 1 ∷ 2 ∷ []; order = plain; is_unique = true }
+slot_index = record {
+  name = codes "sqlite_autoindex_slot_1";
+  tree = 9;
+  table = 8;
+  columns = 1 ∷ 2 ∷ [];
+  order = plain;
+  is_unique = true;
+}
 
 abbrev pub schema_0 : Schema
 schema_0 = record { tables = []; indexes = []; views = [] }
@@ -174,16 +224,29 @@ abbrev pub schema_2 : Schema
 schema_2 = record { tables = room_table ∷ node_table ∷ []; indexes = node_index ∷ []; views = [] }
 
 abbrev pub schema_3 : Schema
-schema_3 = record { tables = room_table ∷ node_table ∷ entry_table ∷ []; indexes = node_index ∷ entry_index ∷ []; views = [] }
+schema_3 =
+    record { tables = room_table ∷ node_table ∷ entry_table ∷ []; indexes = node_index ∷ entry_index ∷ []; views = [] }
 
 abbrev pub schema_4 : Schema
-schema_4 = record { tables = room_table ∷ node_table ∷ entry_table ∷ doc_table ∷ []; indexes = node_index ∷ entry_index ∷ []; views = [] }
+schema_4 = record {
+  tables = room_table ∷ node_table ∷ entry_table ∷ doc_table ∷ [];
+  indexes = node_index ∷ entry_index ∷ [];
+  views = [];
+}
 
 abbrev pub schema_5 : Schema
-schema_5 = record { tables = room_table ∷ node_table ∷ entry_table ∷ doc_table ∷ session_table ∷ []; indexes = node_index ∷ entry_index ∷ session_index ∷ []; views = [] }
+schema_5 = record {
+  tables = room_table ∷ node_table ∷ entry_table ∷ doc_table ∷ session_table ∷ [];
+  indexes = node_index ∷ entry_index ∷ session_index ∷ [];
+  views = [];
+}
 
 abbrev pub room_schema : Schema
-room_schema = record { tables = room_table ∷ node_table ∷ entry_table ∷ doc_table ∷ session_table ∷ slot_table ∷ []; indexes = node_index ∷ entry_index ∷ session_index ∷ slot_index ∷ []; views = [] }
+room_schema = record {
+  tables = room_table ∷ node_table ∷ entry_table ∷ doc_table ∷ session_table ∷ slot_table ∷ [];
+  indexes = node_index ∷ entry_index ∷ session_index ∷ slot_index ∷ [];
+  views = [];
+}
 
 abbrev pub has_table : Schema → List ℕ → Bool
 has_table schema name = is_some (table_named schema name)
@@ -191,11 +254,13 @@ has_table schema name = is_some (table_named schema name)
 -- one of the six names is a table's
 abbrev pub has_a_table : Schema → Bool
 has_a_table schema =
-    has_table schema (codes "room") || has_table schema (codes "node") || has_table schema (codes "entry") || has_table schema (codes "doc") || has_table schema (codes "session") || has_table schema (codes "slot")
+    has_table schema (codes "room") || has_table schema (codes "node") || has_table schema (codes "entry")
+    || has_table schema (codes "doc") || has_table schema (codes "session") || has_table schema (codes "slot")
 
 -- the table is there, and has the column
 abbrev pub has_column : Schema → List ℕ → List ℕ → Bool
-has_column schema table column = is_some (option_and_then (λ (t : Table). column_named t column) (option_and_then (slice_get schema.tables) (table_named schema table)))
+has_column schema table column = is_some (option_and_then (λ (t : Table). column_named t column)
+    (option_and_then (slice_get schema.tables) (table_named schema table)))
 
 abbrev pub has_columns : Schema → List ℕ → List (List ℕ) → Bool
 has_columns schema table columns = list_all (has_column schema table) columns
@@ -204,8 +269,11 @@ has_columns schema table columns = list_all (has_column schema table) columns
 abbrev pub has_room : Schema → Bool
 has_room schema =
     has_columns schema (codes "room") (codes "one" ∷ codes "version" ∷ codes "next" ∷ [])
-    && has_columns schema (codes "node") (codes "id" ∷ codes "parent" ∷ codes "name" ∷ codes "kind" ∷ codes "owner" ∷ codes "grp" ∷ codes "aclflag" ∷ [])
-    && has_columns schema (codes "entry") (codes "node" ∷ codes "place" ∷ codes "type" ∷ codes "flag" ∷ codes "mask" ∷ codes "who" ∷ [])
+    && has_columns schema (codes "node")
+    (codes "id" ∷ codes "parent" ∷ codes "name" ∷ codes "kind" ∷ codes "owner" ∷ codes "grp" ∷ codes "aclflag" ∷ [])
+    && has_columns schema (codes "entry")
+    (codes "node" ∷ codes "place" ∷ codes "type" ∷ codes "flag" ∷ codes "mask" ∷ codes "who" ∷ [])
     && has_columns schema (codes "doc") (codes "node" ∷ codes "bytes" ∷ [])
     && has_columns schema (codes "session") (codes "sid" ∷ codes "owner" ∷ codes "slots" ∷ codes "open" ∷ [])
-    && has_columns schema (codes "slot") (codes "sid" ∷ codes "slot" ∷ codes "seq" ∷ codes "request" ∷ codes "reply" ∷ [])
+    && has_columns schema (codes "slot")
+    (codes "sid" ∷ codes "slot" ∷ codes "seq" ∷ codes "request" ∷ codes "reply" ∷ [])

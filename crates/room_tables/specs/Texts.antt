@@ -48,25 +48,31 @@ abbrev pub find_node_text : List ℕ
 find_node_text = codes "SELECT id, parent, name, kind, owner, grp, aclflag FROM node WHERE id = ?1"
 
 abbrev pub find_node_query : Query
-find_node_query = over_table 1 (equals (col 1 0) (col 0 0) ∷ []) (col 1 0 ∷ col 1 2 ∷ col 1 3 ∷ col 1 4 ∷ col 1 5 ∷ col 1 6 ∷ col 1 7 ∷ []) ([])
+find_node_query = over_table 1 (equals (col 1 0) (col 0 0) ∷ [])
+    (col 1 0 ∷ col 1 2 ∷ col 1 3 ∷ col 1 4 ∷ col 1 5 ∷ col 1 6 ∷ col 1 7 ∷ []) ([])
 
 abbrev pub find_child_text : List ℕ
 find_child_text = codes "SELECT id, parent, name, kind, owner, grp, aclflag FROM node WHERE parent = ?1 AND name = ?2"
 
 abbrev pub find_child_query : Query
-find_child_query = over_table 1 (equals (col 1 2) (col 0 0) ∷ equals (col 1 3) (col 0 1) ∷ []) (col 1 0 ∷ col 1 2 ∷ col 1 3 ∷ col 1 4 ∷ col 1 5 ∷ col 1 6 ∷ col 1 7 ∷ []) ([])
+find_child_query = over_table 1 (equals (col 1 2) (col 0 0) ∷ equals (col 1 3) (col 0 1) ∷ [])
+    (col 1 0 ∷ col 1 2 ∷ col 1 3 ∷ col 1 4 ∷ col 1 5 ∷ col 1 6 ∷ col 1 7 ∷ []) ([])
 
 abbrev pub list_children_text : List ℕ
-list_children_text = codes "SELECT id, parent, name, kind, owner, grp, aclflag FROM node WHERE parent = ?1 ORDER BY name"
+list_children_text =
+    codes "SELECT id, parent, name, kind, owner, grp, aclflag FROM node WHERE parent = ?1 ORDER BY name"
 
 abbrev pub list_children_query : Query
-list_children_query = over_table 1 (equals (col 1 2) (col 0 0) ∷ []) (col 1 0 ∷ col 1 2 ∷ col 1 3 ∷ col 1 4 ∷ col 1 5 ∷ col 1 6 ∷ col 1 7 ∷ []) (by (col 1 3) ∷ [])
+list_children_query = over_table 1 (equals (col 1 2) (col 0 0) ∷ [])
+    (col 1 0 ∷ col 1 2 ∷ col 1 3 ∷ col 1 4 ∷ col 1 5 ∷ col 1 6 ∷ col 1 7 ∷ []) (by (col 1 3) ∷ [])
 
 abbrev pub list_entries_text : List ℕ
-list_entries_text = codes "SELECT place, type, flag, mask, who FROM entry WHERE node = ?1 ORDER BY place, type, flag, mask, who"
+list_entries_text =
+    codes "SELECT place, type, flag, mask, who FROM entry WHERE node = ?1 ORDER BY place, type, flag, mask, who"
 
 abbrev pub list_entries_query : Query
-list_entries_query = over_table 3 (equals (col 1 1) (col 0 0) ∷ []) (col 1 2 ∷ col 1 3 ∷ col 1 4 ∷ col 1 5 ∷ col 1 6 ∷ []) (by (col 1 2) ∷ by (col 1 3) ∷ by (col 1 4) ∷ by (col 1 5) ∷ by (col 1 6) ∷ [])
+list_entries_query = over_table 3 (equals (col 1 1) (col 0 0) ∷ []) (col 1 2 ∷ col 1 3 ∷ col 1 4 ∷ col 1 5
+    ∷ col 1 6 ∷ []) (by (col 1 2) ∷ by (col 1 3) ∷ by (col 1 4) ∷ by (col 1 5) ∷ by (col 1 6) ∷ [])
 
 abbrev pub find_doc_text : List ℕ
 find_doc_text = codes "SELECT bytes FROM doc WHERE node = ?1"
@@ -84,7 +90,8 @@ abbrev pub find_slot_text : List ℕ
 find_slot_text = codes "SELECT seq, request, reply FROM slot WHERE sid = ?1 AND slot = ?2"
 
 abbrev pub find_slot_query : Query
-find_slot_query = over_table 8 (equals (col 1 1) (col 0 0) ∷ equals (col 1 2) (col 0 1) ∷ []) (col 1 3 ∷ col 1 4 ∷ col 1 5 ∷ []) ([])
+find_slot_query =
+    over_table 8 (equals (col 1 1) (col 0 0) ∷ equals (col 1 2) (col 0 1) ∷ []) (col 1 3 ∷ col 1 4 ∷ col 1 5 ∷ []) ([])
 
 abbrev pub drop_node_text : List ℕ
 drop_node_text = codes "DELETE FROM node WHERE id = ?1"
@@ -115,25 +122,29 @@ add_entry_text = codes "INSERT INTO entry (node, place, type, flag, mask, who) V
 
 -- one row of entries, whose parameters stand from a place on, and the node's number at place 0
 abbrev pub entry_terms : ℕ → List Term
-entry_terms from = lit Null ∷ col 0 0 ∷ col 0 from ∷ col 0 (from + 1) ∷ col 0 (from + 2) ∷ col 0 (from + 3) ∷ col 0 (from + 4) ∷ []
+entry_terms from = lit Null ∷ col 0 0 ∷ col 0 from ∷ col 0 (from + 1)
+    ∷ col 0 (from + 2) ∷ col 0 (from + 3) ∷ col 0 (from + 4) ∷ []
 
 abbrev pub add_entry_terms : List Term
 add_entry_terms = entry_terms 1
 
 abbrev pub add_two_text : List ℕ
-add_two_text = codes "INSERT INTO entry (node, place, type, flag, mask, who) VALUES (?1, ?2, ?3, ?4, ?5, ?6), (?1, ?7, ?8, ?9, ?10, ?11)"
+add_two_text = codes
+    "INSERT INTO entry (node, place, type, flag, mask, who) VALUES (?1, ?2, ?3, ?4, ?5, ?6), (?1, ?7, ?8, ?9, ?10, ?11)"
 
 abbrev pub add_two_terms : List Term
 add_two_terms = entry_terms 1 ++ entry_terms 6
 
 abbrev pub add_three_text : List ℕ
-add_three_text = codes "INSERT INTO entry (node, place, type, flag, mask, who) VALUES (?1, ?2, ?3, ?4, ?5, ?6), (?1, ?7, ?8, ?9, ?10, ?11), (?1, ?12, ?13, ?14, ?15, ?16)"
+add_three_text = codes
+    "INSERT INTO entry (node, place, type, flag, mask, who) VALUES (?1, ?2, ?3, ?4, ?5, ?6), (?1, ?7, ?8, ?9, ?10, ?11), (?1, ?12, ?13, ?14, ?15, ?16)"
 
 abbrev pub add_three_terms : List Term
 add_three_terms = entry_terms 1 ++ entry_terms 6 ++ entry_terms 11
 
 abbrev pub add_four_text : List ℕ
-add_four_text = codes "INSERT INTO entry (node, place, type, flag, mask, who) VALUES (?1, ?2, ?3, ?4, ?5, ?6), (?1, ?7, ?8, ?9, ?10, ?11), (?1, ?12, ?13, ?14, ?15, ?16), (?1, ?17, ?18, ?19, ?20, ?21)"
+add_four_text = codes
+    "INSERT INTO entry (node, place, type, flag, mask, who) VALUES (?1, ?2, ?3, ?4, ?5, ?6), (?1, ?7, ?8, ?9, ?10, ?11), (?1, ?12, ?13, ?14, ?15, ?16), (?1, ?17, ?18, ?19, ?20, ?21)"
 
 abbrev pub add_four_terms : List Term
 add_four_terms = entry_terms 1 ++ entry_terms 6 ++ entry_terms 11 ++ entry_terms 16
@@ -145,33 +156,38 @@ abbrev pub add_slot_terms : List Term
 add_slot_terms = lit Null ∷ col 0 0 ∷ col 0 1 ∷ col 0 2 ∷ col 0 3 ∷ col 0 4 ∷ []
 
 abbrev pub put_next_text : List ℕ
-put_next_text = codes "INSERT INTO room (one, version, next) VALUES (1, 1, ?1) ON CONFLICT (one) DO UPDATE SET version = excluded.version, next = excluded.next"
+put_next_text = codes
+    "INSERT INTO room (one, version, next) VALUES (1, 1, ?1) ON CONFLICT (one) DO UPDATE SET version = excluded.version, next = excluded.next"
 
 abbrev pub put_next_terms : List Term
 put_next_terms = lit (Int (pos 1)) ∷ lit Null ∷ lit (Int (pos 1)) ∷ col 0 0 ∷ []
 
 -- the update reads the parameters, then the rowid that is there in column 1, and the new row from column 2 on
 abbrev pub put_next_query : Query
-put_next_query = over_table 0 (equals (col 1 0) (col 0 1) ∷ []) (col 1 0 ∷ col 1 0 ∷ lit Null ∷ col 0 4 ∷ col 0 5 ∷ []) []
+put_next_query =
+    over_table 0 (equals (col 1 0) (col 0 1) ∷ []) (col 1 0 ∷ col 1 0 ∷ lit Null ∷ col 0 4 ∷ col 0 5 ∷ []) []
 
 abbrev pub put_next_clause : Upsert
 put_next_clause = record { target = Some (0 ∷ []); update = Some (record { lets = []; body = put_next_query }) }
 
 abbrev pub put_node_text : List ℕ
-put_node_text = codes "INSERT INTO node (id, parent, name, kind, owner, grp, aclflag) VALUES (?1, ?2, ?3, ?4, ?5, ?6, ?7) ON CONFLICT (id) DO UPDATE SET parent = excluded.parent, name = excluded.name, kind = excluded.kind, owner = excluded.owner, grp = excluded.grp, aclflag = excluded.aclflag"
+put_node_text = codes
+    "INSERT INTO node (id, parent, name, kind, owner, grp, aclflag) VALUES (?1, ?2, ?3, ?4, ?5, ?6, ?7) ON CONFLICT (id) DO UPDATE SET parent = excluded.parent, name = excluded.name, kind = excluded.kind, owner = excluded.owner, grp = excluded.grp, aclflag = excluded.aclflag"
 
 abbrev pub put_node_terms : List Term
 put_node_terms = col 0 0 ∷ lit Null ∷ col 0 1 ∷ col 0 2 ∷ col 0 3 ∷ col 0 4 ∷ col 0 5 ∷ col 0 6 ∷ []
 
 -- the update reads the parameters, then the rowid that is there in column 7, and the new row from column 8 on
 abbrev pub put_node_query : Query
-put_node_query = over_table 1 (equals (col 1 0) (col 0 7) ∷ []) (col 1 0 ∷ col 1 0 ∷ lit Null ∷ col 0 10 ∷ col 0 11 ∷ col 0 12 ∷ col 0 13 ∷ col 0 14 ∷ col 0 15 ∷ []) []
+put_node_query = over_table 1 (equals (col 1 0) (col 0 7) ∷ [])
+    (col 1 0 ∷ col 1 0 ∷ lit Null ∷ col 0 10 ∷ col 0 11 ∷ col 0 12 ∷ col 0 13 ∷ col 0 14 ∷ col 0 15 ∷ []) []
 
 abbrev pub put_node_clause : Upsert
 put_node_clause = record { target = Some (0 ∷ []); update = Some (record { lets = []; body = put_node_query }) }
 
 abbrev pub put_doc_text : List ℕ
-put_doc_text = codes "INSERT INTO doc (node, bytes) VALUES (?1, ?2) ON CONFLICT (node) DO UPDATE SET bytes = excluded.bytes"
+put_doc_text =
+    codes "INSERT INTO doc (node, bytes) VALUES (?1, ?2) ON CONFLICT (node) DO UPDATE SET bytes = excluded.bytes"
 
 abbrev pub put_doc_terms : List Term
 put_doc_terms = col 0 0 ∷ lit Null ∷ col 0 1 ∷ []
@@ -184,14 +200,16 @@ abbrev pub put_doc_clause : Upsert
 put_doc_clause = record { target = Some (0 ∷ []); update = Some (record { lets = []; body = put_doc_query }) }
 
 abbrev pub put_session_text : List ℕ
-put_session_text = codes "INSERT INTO session (sid, owner, slots, open) VALUES (?1, ?2, ?3, ?4) ON CONFLICT (sid) DO UPDATE SET owner = excluded.owner, slots = excluded.slots, open = excluded.open"
+put_session_text = codes
+    "INSERT INTO session (sid, owner, slots, open) VALUES (?1, ?2, ?3, ?4) ON CONFLICT (sid) DO UPDATE SET owner = excluded.owner, slots = excluded.slots, open = excluded.open"
 
 abbrev pub put_session_terms : List Term
 put_session_terms = lit Null ∷ col 0 0 ∷ col 0 1 ∷ col 0 2 ∷ col 0 3 ∷ []
 
 -- the update reads the parameters, then the rowid that is there in column 4, and the new row from column 5 on
 abbrev pub put_session_query : Query
-put_session_query = over_table 6 (equals (col 1 0) (col 0 4) ∷ []) (col 1 0 ∷ col 1 0 ∷ col 1 1 ∷ col 0 7 ∷ col 0 8 ∷ col 0 9 ∷ []) []
+put_session_query = over_table 6 (equals (col 1 0) (col 0 4) ∷ [])
+    (col 1 0 ∷ col 1 0 ∷ col 1 1 ∷ col 0 7 ∷ col 0 8 ∷ col 0 9 ∷ []) []
 
 abbrev pub put_session_clause : Upsert
 put_session_clause = record { target = Some (1 ∷ []); update = Some (record { lets = []; body = put_session_query }) }
@@ -207,4 +225,5 @@ abbrev pub counted : Grouping
 counted = record { keys = []; collations = []; aggregates = all_rows ∷ []; having = [] }
 
 abbrev pub count_children_query : Query
-count_children_query = record (over_table 1 (equals (col 1 2) (col 0 0) ∷ []) (col 1 0 ∷ []) []) { group = Some counted }
+count_children_query =
+    record (over_table 1 (equals (col 1 2) (col 0 0) ∷ []) (col 1 0 ∷ []) []) { group = Some counted }

@@ -1,34 +1,37 @@
 -- One object changed where it stands: what is planned is the effect.
-use Rattle.std.proofs.Common.{◌≡◌, ℕ, refl, ap, sym, ◌∙◌, subst, List, [], Option, None, Some, IsSome, IsNone, unwrap_or}
+use Rattle.std.proofs.Common.{◌≡◌, ℕ, refl, ap, sym, ◌∙◌, subst, inl, inr, List, [], Option, None, Some}
+use Rattle.std.proofs.Common.{IsSome, IsNone, unwrap_or}
 use Rattle.std.specs.Prelude.{Vec}
 use Rattle.std.specs.declared.alloc.Global.{Global}
-use Rattle.room_acl.specs.Entries.{EntryModel}
 use Rattle.std.specs.List.{AllByRecursion}
 use Rattle.room_acl.specs.declared.subject.Kind.{Kind}
 use Rattle.room_acl.specs.declared.subject.Kind.TheVariants.{File, Folder}
 use Rattle.room_acl.specs.SubjectModel.{SubjectModel}
 use Rattle.room_records.specs.declared.change.Change.{Change}
-use Rattle.room_records.specs.declared.change.Change.TheVariants.{PutNode, PutEntries, PutDoc}
+use Rattle.room_records.specs.declared.change.Change.TheVariants.{PutNode, PutDoc}
 use Rattle.room_records.specs.declared.node.Node.{Node}
 use Rattle.room_records.specs.Names.{Path}
 use Rattle.room_records.specs.Records.{ObjectRecords}
 use Rattle.room_records.specs.Changes.{apply_to_objects, apply_all_to_objects, IsOfObjects, ObjectRulesHoldAfterEach}
-use Rattle.room_records.specs.Room.{Object, Room, IsRoom}
+use Rattle.room_records.specs.Room.{Object, Room, IsRoom, object_at, list_of}
 use Rattle.room_records.specs.Representation.{RepresentsRoom, HasPath}
-use Rattle.room_records.proofs.RulesKept.{if_same, if_other, SamePlace, SameShape, shape_itself, shape_put, rules_put, rules_put_doc, rules_put_entries}
+use Rattle.room_records.proofs.RulesKept.{if_same, if_other, SamePlace, SameShape, shape_itself, shape_put}
+use Rattle.room_records.proofs.RulesKept.{rules_put, rules_put_doc}
 use Rattle.room_commands.specs.CommandModel.{CommandModel}
-use Rattle.room_tree.specs.declared.place.Place.{Place}
+use Rattle.room_tree.specs.declared.loaded.LoadedObject.{LoadedObject}
 use Rattle.room_tree.specs.declared.planning.Outcome.{Outcome}
-use Rattle.room_commands.specs.declared.reply.Fault.TheVariants.{IsDir}
+use Rattle.room_commands.specs.declared.reply.RefusalCode.TheVariants.{IsDir}
 use Rattle.room_commands.specs.Checks.{first_refusal, checks, check_file, refuse_if, is_kind}
 use Rattle.room_commands.specs.Effect.{changed, reply, with_object}
-use Rattle.room_tree.specs.Places.{IsPlace, node_of}
+use Rattle.room_tree.specs.LoadedObjects.{IsLoaded, node_of}
 use Rattle.room_tree.specs.Plans.{PlansEffect, place_after}
+use Rattle.room_tree.specs.Renewals.{ChangesFewRows}
 use Rattle.room_commands.specs.ReplyModel.{reply_model}
 use Rattle.room_tree.proofs.Checking.{file_check, there}
 use Rattle.room_tree.proofs.Outcomes.{success_plans}
 use Rattle.room_commands.proofs.RoomsObject.{elsewhere_unchanged}
-use Rattle.room_tree.proofs.RowsReplaced.{Replaces, replaced, replaced_keeps, changed_at}
+use Rattle.room_tree.proofs.RowsReplaced.{Replaces, replaced, replaced_keeps, changed_at, path_same_or_other}
+use Rattle.room_tree.proofs.StoredLists.{stored_list, list_part, lists_alike, same_parts}
 
 pub none_and_some : {X : Type 0} (o : Option X) → IsNone o → IsSome o → ⊥
 none_and_some None a b = let f = b in cc
@@ -45,120 +48,125 @@ none_new t later shape id absent present =
     let There : Option Node → Type 0 = λ o. IsSome o in
     none_and_some (t.node id) absent (subst There (sym before.1) refl)
 
-file_by_kind : (kind : Kind) (o : Object) → refuse_if (is_kind Folder (Some (record o { kind = kind }))) IsDir ≡ None → kind ≡ File
+file_by_kind : (kind : Kind) (o : Object)
+    → refuse_if (is_kind Folder (Some (record o { kind = kind }))) IsDir ≡ None → kind ≡ File
 file_by_kind File o h = refl
 file_by_kind Folder o h = cc
 
 -- a found object that passes as a document is one
-pub is_document : (t : ObjectRecords) (room : Room) (path : Path) (place : Place) (found : IsPlace t room path place) → check_file room path ≡ None → place.kind ≡ File
-is_document t room path place found passed = file_by_kind place.kind found.object (sym (file_check t room path place found) ∙ passed)
+pub is_document : (t : ObjectRecords) (room : Room) (path : Path) (loaded : LoadedObject)
+    (found : IsLoaded t room path loaded) → check_file room path ≡ None → loaded.kind ≡ File
+is_document t room path loaded found passed =
+    file_by_kind loaded.kind found.object (sym (file_check t room path loaded found) ∙ passed)
 
 -- what changed one object plans the effect
-pub replaced_plans : (t : ObjectRecords) (room : Room) (caller : SubjectModel) (command : CommandModel) (outcome : Outcome) (changes : List Change)
+pub replaced_plans : (t : ObjectRecords) (room : Room) (caller : SubjectModel)
+    (command : CommandModel) (outcome : Outcome) (changes : List Change)
     (path : Path) (o now_is : Object) (node now : Node) → RepresentsRoom t room
     → Replaces t (apply_all_to_objects changes t) room (changed room caller command) path o now_is node now
-    → first_refusal (checks room caller command) ≡ None → reply_model outcome.reply ≡ reply room caller command → outcome.changes.items ≡ changes
-    → AllByRecursion IsOfObjects changes → ObjectRulesHoldAfterEach changes t → ((q : Path) → place_after command None q ≡ q)
-    → PlansEffect t room caller command outcome
-replaced_plans t room caller command outcome changes path o now_is node now stand r passed replied planned of_objects rules stays =
+    → first_refusal (checks room caller command) ≡ None
+    → reply_model outcome.reply ≡ reply room caller command → outcome.changes.items ≡ changes
+    → AllByRecursion IsOfObjects changes → ObjectRulesHoldAfterEach changes t → ChangesFewRows t changes
+    → ((q : Path) → place_after command None q ≡ q) → PlansEffect t room caller command outcome
+replaced_plans t room caller command outcome changes path o now_is node
+    now stand r passed replied planned of_objects rules few stays =
     let later = apply_all_to_objects changes t in
-    success_plans t room caller command outcome stand changes passed replied planned of_objects rules
+    success_plans t room caller command outcome stand changes passed replied planned of_objects rules few
     (replaced t later room (changed room caller command) path o now_is node now stand r)
     (λ q id at stands there.
     let At : Path → Type 0 = λ p. HasPath later p id in
-    subst At (sym (stays q)) (replaced_keeps t later room (changed room caller command) path o now_is node now stand r q id at))
+    subst At (sym (stays q))
+    (replaced_keeps t later room (changed room caller command) path o now_is node now stand r q id at))
     (λ id absent present. absurd (none_new t later r.shape id absent present))
 
-module _ (t : ObjectRecords) (room : Room) (stand : RepresentsRoom t room) (path : Path) (place : Place) (found : IsPlace t room path place) (change : Object → Object)
+module _ (t : ObjectRecords) (room : Room) (stand : RepresentsRoom t room) (path : Path)
+    (loaded : LoadedObject) (found : IsLoaded t room path loaded) (change : Object → Object)
     (lawful : IsRoom (with_object room path change)) where
+  parts_stay : (change found.object).own ≡ found.object.own → (change found.object).aclflag ≡ found.object.aclflag
+      → (change found.object).kind ≡ found.object.kind
+      → (p : Path) → list_part (object_at (with_object room path change) p) ≡ list_part (object_at room p)
+  parts_stay own aclflag kind p = elim (path_same_or_other p path) [
+    | inl same ↦
+        let is_there = there t room path loaded found in
+        ap (λ (q : Path). list_part (object_at (with_object room path change) q)) same
+        ∙ ap list_part (changed_at room path change found.object is_there)
+        ∙ same_parts (change found.object) found.object own aclflag kind
+        ∙ ap list_part (sym is_there) ∙ ap (λ (q : Path). list_part (object_at room q)) (sym same)
+    | inr other ↦ ap list_part (elsewhere_unchanged room path change p other)
+  ]
+
+  -- where own entries, list flags and kind stay, all lists stay
+  lists_stay : (change found.object).own ≡ found.object.own → (change found.object).aclflag ≡ found.object.aclflag
+      → (change found.object).kind ≡ found.object.kind
+      → (q : Path) → list_of room q ≡ list_of (with_object room path change) q
+  lists_stay own aclflag kind q = sym (lists_alike (with_object room path change) room (parts_stay own aclflag kind) q)
+
   -- its document
-  pub document_replaces : (file : place.kind ≡ File) (bytes : Vec ℕ Global) → change found.object ≡ record found.object { bytes = bytes.items }
-      → Replaces t (apply_to_objects (PutDoc place.id bytes) t) room (with_object room path change) path found.object (change found.object) (node_of place) (node_of place)
+  pub document_replaces : (file : loaded.kind ≡ File) (bytes : Vec ℕ Global)
+      → change found.object ≡ record found.object { bytes = bytes.items }
+      → Replaces t (apply_to_objects (PutDoc loaded.id bytes) t) room (with_object room path change)
+      path found.object (change found.object) (node_of loaded) (node_of loaded)
   document_replaces file bytes becomes =
-      let later = apply_to_objects (PutDoc place.id bytes) t in
+      let later = apply_to_objects (PutDoc loaded.id bytes) t in
       let shows = found.is_there.shows in
+      let flags = ap (λ (o : Object). o.aclflag) becomes in
+      let stays = lists_stay (ap (λ (o : Object). o.own) becomes) flags (ap (λ (o : Object). o.kind) becomes) in
       record {
         is_there = found.is_there;
         shape = shape_itself t later refl;
-        rules = rules_put_doc t stand.rules place.id (node_of place) found.is_there.node_stands file bytes;
+        rules = rules_put_doc t stand.rules loaded.id (node_of loaded) found.is_there.node_stands file bytes;
         stands = found.is_there.node_stands;
         shows = record {
           kind = shows.kind ∙ sym (ap (λ (o : Object). o.kind) becomes);
           owner = shows.owner ∙ sym (ap (λ (o : Object). o.owner) becomes);
           group = shows.group ∙ sym (ap (λ (o : Object). o.group) becomes);
           aclflag = shows.aclflag ∙ sym (ap (λ (o : Object). o.aclflag) becomes);
-          entries = shows.entries ∙ sym (ap (λ (o : Object). o.own) becomes);
-          bytes = ap (λ (d : Option (List ℕ)). unwrap_or d []) (if_same place.id place.id (Some bytes.items) (t.document place.id) refl) ∙ sym (ap (λ (o : Object). o.bytes) becomes);
+          entries = shows.entries ∙ stays path;
+          bytes = ap (λ (d : Option (List ℕ)). unwrap_or d [])
+              (if_same loaded.id loaded.id (Some bytes.items) (t.document loaded.id) refl)
+              ∙ sym (ap (λ (o : Object). o.bytes) becomes);
         };
         nodes_away = λ id other. refl;
-        entries_away = λ id other. refl;
-        documents_away = λ id other. if_other id place.id (Some bytes.items) (t.document id) other;
+        lists_away = λ q id at other. stored_list t room stand q id at ∙ stays q;
+        documents_away = λ id other. if_other id loaded.id (Some bytes.items) (t.document id) other;
         next = refl;
         made = refl;
         lawful = lawful;
-        at_path = changed_at room path change found.object (there t room path place found);
+        at_path = changed_at room path change found.object (there t room path loaded found);
         away = elsewhere_unchanged room path change;
       }
 
   -- its row
-  pub row_replaces : (now : Node) → SamePlace now (node_of place) → now.owner ≡ (change found.object).owner → now.group ≡ (change found.object).group
-      → now.aclflag ≡ (change found.object).aclflag → (change found.object).kind ≡ found.object.kind → (change found.object).own ≡ found.object.own → (change found.object).bytes ≡ found.object.bytes
-      → Replaces t (apply_to_objects (PutNode now) t) room (with_object room path change) path found.object (change found.object) (node_of place) now
-  row_replaces now same owner group aclflag kind own bytes =
+  pub row_replaces : (now : Node) → SamePlace now (node_of loaded)
+      → now.owner ≡ (change found.object).owner → now.group ≡ (change found.object).group
+      → now.aclflag ≡ (change found.object).aclflag → (change found.object).aclflag ≡ found.object.aclflag
+      → (change found.object).kind ≡ found.object.kind → (change found.object).own ≡ found.object.own
+      → (change found.object).bytes ≡ found.object.bytes
+      → Replaces t (apply_to_objects (PutNode now) t) room (with_object room path change)
+      path found.object (change found.object) (node_of loaded) now
+  row_replaces now same owner group aclflag flags kind own bytes =
       let later = apply_to_objects (PutNode now) t in
       let shows = found.is_there.shows in
+      let stays = lists_stay own flags kind in
       record {
         is_there = found.is_there;
-        shape = shape_put t stand.rules (node_of place) now found.is_there.node_stands same;
-        rules = rules_put t stand.rules (node_of place) now found.is_there.node_stands same;
-        stands = if_same place.id now.id (Some now) (t.node place.id) (sym same.id);
+        shape = shape_put t stand.rules (node_of loaded) now found.is_there.node_stands same;
+        rules = rules_put t stand.rules (node_of loaded) now found.is_there.node_stands same;
+        stands = if_same loaded.id now.id (Some now) (t.node loaded.id) (sym same.id);
         shows = record {
           kind = same.kind ∙ shows.kind ∙ sym kind;
           owner = owner;
           group = group;
           aclflag = aclflag;
-          entries = ap t.entries same.id ∙ shows.entries ∙ sym own;
+          entries = ap t.entries same.id ∙ shows.entries ∙ stays path;
           bytes = ap (λ id. unwrap_or (t.document id) []) same.id ∙ shows.bytes ∙ sym bytes;
         };
         nodes_away = λ id other. if_other id now.id (Some now) (t.node id) (λ is. other (is ∙ same.id));
-        entries_away = λ id other. refl;
+        lists_away = λ q id at other. stored_list t room stand q id at ∙ stays q;
         documents_away = λ id other. refl;
         next = refl;
         made = refl;
         lawful = lawful;
-        at_path = changed_at room path change found.object (there t room path place found);
-        away = elsewhere_unchanged room path change;
-      }
-
-  -- its row and its entries
-  pub entries_replace : (now : Node) (entries : Vec EntryModel Global) → SamePlace now (node_of place) → now.owner ≡ (change found.object).owner → now.group ≡ (change found.object).group
-      → now.aclflag ≡ (change found.object).aclflag → (change found.object).kind ≡ found.object.kind → (change found.object).own ≡ entries.items → (change found.object).bytes ≡ found.object.bytes
-      → Replaces t (apply_to_objects (PutEntries place.id entries) (apply_to_objects (PutNode now) t)) room (with_object room path change) path found.object (change found.object) (node_of place) now
-  entries_replace now entries same owner group aclflag kind own bytes =
-      let first = apply_to_objects (PutNode now) t in
-      let shows = found.is_there.shows in
-      let shape = shape_put t stand.rules (node_of place) now found.is_there.node_stands same in
-      let rules = rules_put t stand.rules (node_of place) now found.is_there.node_stands same in
-      let stands = if_same place.id now.id (Some now) (t.node place.id) (sym same.id) in
-      record {
-        is_there = found.is_there;
-        shape = record { back = shape.back; forth = shape.forth };
-        rules = rules_put_entries first rules place.id now stands entries;
-        stands = stands;
-        shows = record {
-          kind = same.kind ∙ shows.kind ∙ sym kind;
-          owner = owner;
-          group = group;
-          aclflag = aclflag;
-          entries = if_same now.id place.id entries.items (t.entries now.id) same.id ∙ sym own;
-          bytes = ap (λ id. unwrap_or (t.document id) []) same.id ∙ shows.bytes ∙ sym bytes;
-        };
-        nodes_away = λ id other. if_other id now.id (Some now) (t.node id) (λ is. other (is ∙ same.id));
-        entries_away = λ id other. if_other id place.id entries.items (t.entries id) other;
-        documents_away = λ id other. refl;
-        next = refl;
-        made = refl;
-        lawful = lawful;
-        at_path = changed_at room path change found.object (there t room path place found);
+        at_path = changed_at room path change found.object (there t room path loaded found);
         away = elsewhere_unchanged room path change;
       }

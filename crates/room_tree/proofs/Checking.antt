@@ -1,5 +1,6 @@
 -- Checks at a found object.
-use Rattle.std.proofs.Common.{◌≡◌, ℕ, false, ◌≤◌, arith, length, Result, Ok, Err, IfOk, refl, ap, sym, ◌∙◌, Option, None, Some, List, [], ◌∷◌, ◌++◌}
+use Rattle.std.proofs.Common.{◌≡◌, ℕ, false, ◌≤◌, arith, length, Result, Ok, Err, IfOk, refl, ap, sym, ◌∙◌}
+use Rattle.std.proofs.Common.{Option, None, Some, List, [], ◌∷◌, ◌++◌}
 use Rattle.std.specs.Prelude.{not, is_some, nat_lt}
 use borrow.Author.Tests.{ltb-false}
 use Rattle.room_commands.proofs.ChecksTell.{not_refused}
@@ -13,20 +14,24 @@ use Rattle.room_records.specs.Limits.{max_document}
 use Rattle.room_records.specs.Representation.{RepresentsRoom}
 use Rattle.room_records.proofs.RoomsMap.{object_there_is_lawful}
 use Rattle.room_records.specs.Room.{Object, Room, object_at, standing_of}
-use Rattle.room_tree.specs.declared.place.Place.{Place}
-use Rattle.room_commands.specs.declared.reply.Fault.TheVariants.{NoEnt, Exist, IsDir, NotDir, FBig}
+use Rattle.room_tree.specs.declared.loaded.LoadedObject.{LoadedObject}
+use Rattle.room_commands.specs.declared.reply.RefusalCode.TheVariants.{NoEnt, Exist, IsDir, NotDir, FBig}
 use Rattle.room_commands.specs.ReplyModel.{Refusal}
-use Rattle.room_commands.specs.Checks.{refuse_if, refusal_without_place, is_kind, denied_at, right_on, check_exists, check_absent, check_right, check_folder, check_file, prefix_fault, first_refusal, is_root, bytes_at, check_size}
-use Rattle.room_tree.specs.Places.{IsPlace}
+use Rattle.room_commands.specs.Checks.{refuse_if, refusal_without_place, is_kind, denied_at, right_on, check_exists}
+use Rattle.room_commands.specs.Checks.{check_absent, check_right, check_folder, check_file, prefix_refusal}
+use Rattle.room_commands.specs.Checks.{first_refusal, is_root, bytes_at, check_size}
+use Rattle.room_tree.specs.LoadedObjects.{IsLoaded}
 
 pub first_alone : (o : Option Refusal) → first_refusal (o ∷ []) ≡ o
 first_alone None = refl
 first_alone (Some r) = refl
 
-pub skip : (o : Option Refusal) (others : List (Option Refusal)) → o ≡ None → first_refusal (o ∷ others) ≡ first_refusal others
+pub skip : (o : Option Refusal) (others : List (Option Refusal))
+    → o ≡ None → first_refusal (o ∷ others) ≡ first_refusal others
 skip o others none = ap (λ first. first_refusal (first ∷ others)) none
 
-pub stop : (o : Option Refusal) (others : List (Option Refusal)) (r : Refusal) → o ≡ Some r → first_refusal (o ∷ others) ≡ Some r
+pub stop : (o : Option Refusal) (others : List (Option Refusal)) (r : Refusal)
+    → o ≡ Some r → first_refusal (o ∷ others) ≡ Some r
 stop o others r some = ap (λ first. first_refusal (first ∷ others)) some
 
 pub off_root : (path : Path) → (length path ≡ 0 → ⊥) → is_root path ≡ false
@@ -36,7 +41,8 @@ off_root (name ∷ path) h = refl
 pub is_absent : (room : Room) (path : Path) → object_at room path ≡ None → check_absent room path ≡ None
 is_absent room path nothing = ap (λ (o : Option Object). refuse_if (is_some o) Exist) nothing
 
-module _ (t : ObjectRecords) (room : Room) (path : Path) (place : Place) (found : IsPlace t room path place) where
+module _ (t : ObjectRecords) (room : Room) (path : Path)
+    (loaded : LoadedObject) (found : IsLoaded t room path loaded) where
   pub there : object_at room path ≡ Some found.object
   there = found.is_there.object_stands
 
@@ -46,42 +52,52 @@ module _ (t : ObjectRecords) (room : Room) (path : Path) (place : Place) (found 
   pub not_absent : check_absent room path ≡ Some (refusal_without_place Exist)
   not_absent = ap (λ (o : Option Object). refuse_if (is_some o) Exist) there
 
-  pub kind_there : place.kind ≡ found.object.kind
+  pub kind_there : loaded.kind ≡ found.object.kind
   kind_there = found.is_there.shows.kind
 
-  pub folder_check : check_folder room path ≡ refuse_if (is_kind File (Some (record found.object { kind = place.kind }))) NotDir
+  pub folder_check : check_folder room path
+      ≡ refuse_if (is_kind File (Some (record found.object { kind = loaded.kind }))) NotDir
   folder_check =
       ap (λ (o : Option Object). refuse_if (is_kind File o) NotDir) there
       ∙ ap (λ (k : Kind). refuse_if (is_kind File (Some (record found.object { kind = k }))) NotDir) (sym kind_there)
 
-  pub file_check : check_file room path ≡ refuse_if (is_kind Folder (Some (record found.object { kind = place.kind }))) IsDir
+  pub file_check : check_file room path
+      ≡ refuse_if (is_kind Folder (Some (record found.object { kind = loaded.kind }))) IsDir
   file_check =
       ap (λ (o : Option Object). refuse_if (is_kind Folder o) IsDir) there
       ∙ ap (λ (k : Kind). refuse_if (is_kind Folder (Some (record found.object { kind = k }))) IsDir) (sym kind_there)
 
-  pub right_check : (caller : SubjectModel) (wanted : ℕ) → check_right room caller path wanted ≡ denied_at path (decision place.list.items caller place.standing wanted)
+  pub right_check : (caller : SubjectModel) (wanted : ℕ)
+      → check_right room caller path wanted ≡ denied_at path (decision loaded.list.items caller loaded.standing wanted)
   right_check caller wanted =
       ap (right_on room caller path wanted) there
       ∙ ap (λ list. denied_at path (decision list caller (standing_of found.object) wanted)) (sym found.list)
-      ∙ ap (λ owner. denied_at path (decision place.list.items caller (record { owner = owner; group = found.object.group }) wanted)) (sym found.is_there.shows.owner)
-      ∙ ap (λ group. denied_at path (decision place.list.items caller (record { owner = place.standing.owner; group = group }) wanted)) (sym found.is_there.shows.group)
+      ∙ ap (λ owner. denied_at path (decision loaded.list.items caller
+      (record { owner = owner; group = found.object.group }) wanted)) (sym found.is_there.shows.owner)
+      ∙ ap (λ group. denied_at path (decision loaded.list.items caller
+      (record { owner = loaded.standing.owner; group = group }) wanted)) (sym found.is_there.shows.group)
 
   -- a folder on the way
-  pub way_check : (caller : SubjectModel) → prefix_fault room caller path ≡ first_refusal (check_folder room path ∷ check_right room caller path 0x20 ∷ [])
-  way_check caller = ap (λ o. first_refusal (o ∷ check_folder room path ∷ check_right room caller path 0x20 ∷ [])) exists_there
+  pub way_check : (caller : SubjectModel) → prefix_refusal room caller path
+      ≡ first_refusal (check_folder room path ∷ check_right room caller path 0x20 ∷ [])
+  way_check caller =
+      ap (λ o. first_refusal (o ∷ check_folder room path ∷ check_right room caller path 0x20 ∷ [])) exists_there
 
   -- nothing is refused at an object that is there
   pub passes_to : (way : Option Refusal) → way ≡ None → first_refusal (way ∷ check_exists room path ∷ []) ≡ None
-  passes_to way none = ap (λ (o : Option Refusal). first_refusal (o ∷ check_exists room path ∷ [])) none ∙ ap (λ (o : Option Refusal). first_refusal (o ∷ [])) exists_there
+  passes_to way none = ap (λ (o : Option Refusal). first_refusal (o ∷ check_exists room path ∷ [])) none
+      ∙ ap (λ (o : Option Refusal). first_refusal (o ∷ [])) exists_there
 
 -- the checks before others decide, where they refuse
-pub some_stays : (done others : List (Option Refusal)) (r : Refusal) → first_refusal done ≡ Some r → first_refusal (done ++ others) ≡ Some r
+pub some_stays : (done others : List (Option Refusal)) (r : Refusal)
+    → first_refusal done ≡ Some r → first_refusal (done ++ others) ≡ Some r
 some_stays [] others r h = cc
 some_stays (None ∷ done) others r h = some_stays done others r h
 some_stays (Some x ∷ done) others r h = h
 
 -- and else the others do
-pub none_passes : (done others : List (Option Refusal)) → first_refusal done ≡ None → first_refusal (done ++ others) ≡ first_refusal others
+pub none_passes : (done others : List (Option Refusal)) → first_refusal done ≡ None
+    → first_refusal (done ++ others) ≡ first_refusal others
 none_passes [] others h = refl
 none_passes (None ∷ done) others h = none_passes done others h
 none_passes (Some x ∷ done) others h = cc
@@ -97,9 +113,10 @@ pub if_ok_map : {T E : Type 0} (P Q : T → Type 0) → ((x : T) → P x → Q x
 if_ok_map P Q weaker (Ok x) h = weaker x h
 if_ok_map P Q weaker (Err e) h = tt
 
-module _ (t : ObjectRecords) (room : Room) (stand : RepresentsRoom t room) (path : Path) (place : Place) (found : IsPlace t room path place) where
+module _ (t : ObjectRecords) (room : Room) (stand : RepresentsRoom t room)
+    (path : Path) (loaded : LoadedObject) (found : IsLoaded t room path loaded) where
   pub bytes_there : bytes_at room path ≡ found.object.bytes
-  bytes_there = ap (λ (o : Option Object). bytes_in o) (there t room path place found)
+  bytes_there = ap (λ (o : Option Object). bytes_in o) (there t room path loaded found)
     where
       bytes_in : Option Object → List ℕ
       bytes_in None = []
@@ -107,7 +124,7 @@ module _ (t : ObjectRecords) (room : Room) (stand : RepresentsRoom t room) (path
 
   pub few_bytes : length (bytes_at room path) ≤ max_document
   few_bytes =
-      let small = (object_there_is_lawful room stand.lawful path found.object (there t room path place found)).small in
+      let small = (object_there_is_lawful room stand.lawful path found.object (there t room path loaded found)).small in
       omega (arith, ap length bytes_there, small)
 
 -- what passes is not too large

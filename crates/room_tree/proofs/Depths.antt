@@ -1,5 +1,7 @@
 -- How far down a subtree reaches: by its nodes, and as RENAME checks it.
-use Rattle.std.proofs.Common.{◌≡◌, ℕ, ◌+◌, ◌-◌, ◌<◌, ◌≤◌, refl, ap, sym, ◌∙◌, subst, arith, Bool, true, false, ◌&&◌, ◌||◌, inl, inr, List, [], ◌∷◌, ◌++◌, take, drop, length, append-nil, append_assoc, length-append, Option, None, Some, nat_lt}
+use Rattle.std.proofs.Common.{◌≡◌, ℕ, ◌+◌, ◌-◌, ◌<◌, ◌≤◌, refl, ap, sym, ◌∙◌, subst, arith, Bool, true, false, ◌&&◌}
+use Rattle.std.proofs.Common.{◌||◌, inl, inr, List, [], ◌∷◌, ◌++◌, take, drop, length, append-nil, append_assoc}
+use Rattle.std.proofs.Common.{length-append, Option, None, Some, nat_lt}
 use Rattle.std.specs.List.{AllByRecursion, list_any}
 use Rattle.std.proofs.lemmas.List.{take-append-drop, length-take}
 use Rattle.std.proofs.lemmas.Bool.{ltb-true}
@@ -16,8 +18,9 @@ use Rattle.room_records.specs.Representation.{HasPath, RepresentsRoom}
 use Rattle.room_records.proofs.Folders.{object_child, child_named}
 use Rattle.room_records.proofs.Lists.{all_at}
 use Rattle.room_records.proofs.Paths.{child_is_at, object_at_node}
-use Rattle.room_records.proofs.RoomsMap.{none_is_some, nothing_below, nothing_in_a_file, StandsIn, found_stands, standing_found}
-use Rattle.room_commands.specs.declared.reply.Fault.TheVariants.{TooDeep}
+use Rattle.room_records.proofs.RoomsMap.{none_is_some, nothing_below, nothing_in_a_file, StandsIn}
+use Rattle.room_records.proofs.RoomsMap.{found_stands, standing_found}
+use Rattle.room_commands.specs.declared.reply.RefusalCode.TheVariants.{TooDeep}
 use Rattle.room_commands.specs.Checks.{is_at_or_below, refuse_if, check_depth}
 use Rattle.room_tree.specs.Depths.{StandsBelow, TellsBelow}
 use Rattle.room_commands.proofs.Renaming.{at_behind}
@@ -29,22 +32,28 @@ some_there (Some x) h = (x, refl)
 
 module _ (room : Room) (lawful : IsRoom room) where
   -- what stands below an object stands on a way of objects
-  on_the_way : (path front rest : Path) (o : Object) → path ≡ front ++ rest → object_at room path ≡ Some o → (above : Object) × (object_at room front ≡ Some above)
+  on_the_way : (path front rest : Path) (o : Object) → path ≡ front ++ rest
+      → object_at room path ≡ Some o → (above : Object) × (object_at room front ≡ Some above)
   on_the_way path front rest o same is =
-      some_there (object_at room front) (λ none. none_is_some o (sym (nothing_below room lawful rest front none) ∙ ap (object_at room) (sym same) ∙ is))
+      some_there (object_at room front) (λ none.
+      none_is_some o (sym (nothing_below room lawful rest front none) ∙ ap (object_at room) (sym same) ∙ is))
 
   -- a file has nothing below it
-  pub nothing_below_file : (path : Path) (o : Object) (levels : ℕ) → object_at room path ≡ Some o → o.kind ≡ File → 0 < levels → StandsBelow room path levels → ⊥
+  pub nothing_below_file : (path : Path) (o : Object) (levels : ℕ) → object_at room path ≡ Some o
+      → o.kind ≡ File → 0 < levels → StandsBelow room path levels → ⊥
   nothing_below_file path o levels is file some below = by_rest below.rest below.stands below.deep
     where
       by_rest : (rest : Path) → object_at room (path ++ rest) ≡ Some below.object → length rest ≡ levels → ⊥
       by_rest [] stands deep = omega (arith, deep, some)
       by_rest (name ∷ rest) stands deep =
-          let none = nothing_in_a_file room lawful path o is (λ folder. let f : File ≡ Folder = sym file ∙ folder in cc) name in
-          none_is_some below.object (sym (nothing_below room lawful rest (path ++ name ∷ []) none) ∙ ap (object_at room) (append_assoc path (name ∷ []) rest) ∙ stands)
+          let none = nothing_in_a_file room lawful path o is
+          (λ folder. let f : File ≡ Folder = sym file ∙ folder in cc) name in
+          none_is_some below.object (sym (nothing_below room lawful rest (path ++ name ∷ []) none)
+          ∙ ap (object_at room) (append_assoc path (name ∷ []) rest) ∙ stands)
 
 -- a level further up
-pub one_level_more : (room : Room) (path : Path) (name : Name) (levels : ℕ) → 0 < levels → StandsBelow room (path ++ name ∷ []) (levels - 1) → StandsBelow room path levels
+pub one_level_more : (room : Room) (path : Path) (name : Name) (levels : ℕ) → 0 < levels
+    → StandsBelow room (path ++ name ∷ []) (levels - 1) → StandsBelow room path levels
 one_level_more room path name levels some below = record {
   rest = name ∷ below.rest;
   object = below.object;
@@ -54,25 +63,31 @@ one_level_more room path name levels some below = record {
 
 -- something stands so many levels below no child
 abbrev pub NoneBelowEach : Room → Path → ℕ → List Node → Type 0
-NoneBelowEach room path levels nodes = AllByRecursion (λ (node : Node). StandsBelow room (path ++ name_of node ∷ []) levels → ⊥) nodes
+NoneBelowEach room path levels nodes =
+    AllByRecursion (λ (node : Node). StandsBelow room (path ++ name_of node ∷ []) levels → ⊥) nodes
 
 module _ (t : ObjectRecords) (room : Room) (stand : RepresentsRoom t room) where
-  pub itself_below : (path : Path) (id : ℕ) (node : Node) → HasPath t path id → t.node id ≡ Some node → StandsBelow room path 0
+  pub itself_below : (path : Path) (id : ℕ) (node : Node)
+      → HasPath t path id → t.node id ≡ Some node → StandsBelow room path 0
   itself_below path id node at stands =
       let found = object_at_node t room stand path id node at stands in
       record { rest = []; object = found.0; stands = ap (object_at room) (append-nil path) ∙ found.1; deep = refl }
 
-  pub none_below_file : (path : Path) (id : ℕ) (node : Node) (levels : ℕ) → HasPath t path id → t.node id ≡ Some node → node.kind ≡ File → 0 < levels → StandsBelow room path levels → ⊥
+  pub none_below_file : (path : Path) (id : ℕ) (node : Node) (levels : ℕ) → HasPath t path id
+      → t.node id ≡ Some node → node.kind ≡ File → 0 < levels → StandsBelow room path levels → ⊥
   none_below_file path id node levels at stands file some below =
       let found = object_at_node t room stand path id node at stands in
       nothing_below_file room stand.lawful path found.0 levels found.1 (sym found.2.kind ∙ file) some below
 
   -- a child has its path
-  pub child_path : (path : Path) (id : ℕ) (node : Node) → HasPath t path id → IsChild t id node → HasPath t (path ++ name_of node ∷ []) node.id
-  child_path path id node at child = child_is_at t stand.rules path (name_of node) id node at child (child_named t stand.rules id node child)
+  pub child_path : (path : Path) (id : ℕ) (node : Node) → HasPath t path id
+      → IsChild t id node → HasPath t (path ++ name_of node ∷ []) node.id
+  child_path path id node at child =
+      child_is_at t stand.rules path (name_of node) id node at child (child_named t stand.rules id node child)
 
   -- what stands further down stands below a child
-  pub none_below_children : (path : Path) (id levels : ℕ) (nodes : List Node) → HasPath t path id → AreChildren t id nodes → 0 < levels
+  pub none_below_children : (path : Path) (id levels : ℕ) (nodes : List Node)
+      → HasPath t path id → AreChildren t id nodes → 0 < levels
       → NoneBelowEach room path (levels - 1) nodes → StandsBelow room path levels → ⊥
   none_below_children path id levels nodes at are some none below = by_rest below.rest below.stands below.deep
     where
@@ -85,7 +100,8 @@ module _ (t : ObjectRecords) (room : Room) (stand : RepresentsRoom t room) where
       by_rest : (rest : Path) → object_at room (path ++ rest) ≡ Some below.object → length rest ≡ levels → ⊥
       by_rest [] stands deep = omega (arith, deep, some)
       by_rest (name ∷ rest) stands deep =
-          let first = on_the_way room stand.lawful (path ++ name ∷ rest) (path ++ name ∷ []) rest below.object (sym (append_assoc path (name ∷ []) rest)) stands in
+          let first = on_the_way room stand.lawful (path ++ name ∷ rest) (path ++ name ∷ [])
+          rest below.object (sym (append_assoc path (name ∷ []) rest)) stands in
           let child = object_child t room stand path id at name first.0 first.1 in
           let held = are.every child.0 child.1 in
           let here : P child.0 = subst P held.2 (all_at P nodes held.0 child.0 none held.1) in
@@ -98,7 +114,8 @@ module _ (t : ObjectRecords) (room : Room) (stand : RepresentsRoom t room) where
           })
 
 -- a test on the list of objects
-any_of : (test : Path × Object → Bool) (es : List (Path × Object)) (q : Path) (o : Object) → StandsIn es q o → test (q, o) ≡ true → list_any test es ≡ true
+any_of : (test : Path × Object → Bool) (es : List (Path × Object)) (q : Path) (o : Object)
+    → StandsIn es q o → test (q, o) ≡ true → list_any test es ≡ true
 any_of test [] q o stands passes = absurd stands
 any_of test (e ∷ es) q o (inl here) passes =
     let same : e ≡ (q, o) = (λ i. (here.0 i, here.1 i)) in
@@ -109,26 +126,33 @@ any_of test (e ∷ es) q o (inr there) passes = either (test e) (list_any test e
     either true b h = refl
     either false b h = h
 
-none_if : (test : Path × Object → Bool) (es : List (Path × Object)) → ((q : Path) (o : Object) → StandsIn es q o → test (q, o) ≡ false) → list_any test es ≡ false
+none_if : (test : Path × Object → Bool) (es : List (Path × Object))
+    → ((q : Path) (o : Object) → StandsIn es q o → test (q, o) ≡ false) → list_any test es ≡ false
 none_if test [] off = refl
 none_if test (e ∷ es) off =
-    ap (λ b. b || list_any test es) (off e.0 e.1 (inl (refl, refl))) ∙ none_if test es (λ q o there. off q o (inr there))
+    ap (λ b. b || list_any test es) (off e.0 e.1 (inl (refl, refl)))
+    ∙ none_if test es (λ q o there. off q o (inr there))
 
 is_less : (m n : ℕ) → m < n → nat_lt m n ≡ true
 is_less m n h = grind (arith, nat_tests)
 
 -- the check of a move, by what stands one level too far down
-pub depth_check : (room : Room) → IsRoom room → (path to : Path) (b : Bool) → length to ≤ max_names → TellsBelow room path (17 - length to) b
+pub depth_check : (room : Room) → IsRoom room → (path to : Path) (b : Bool)
+    → length to ≤ max_names → TellsBelow room path (17 - length to) b
     → check_depth room path to ≡ refuse_if b TooDeep
 depth_check room lawful path to true short below =
     let whole = found_stands room.objects (path ++ below.rest) below.object below.stands in
-    let long : max_names < length to + (length (path ++ below.rest) - length path) = omega (arith, length-append path below.rest, below.deep, short) in
+    let long : max_names < length to + (length (path ++ below.rest) - length path) =
+    omega (arith, length-append path below.rest, below.deep, short) in
     ap (λ b. refuse_if b TooDeep) (any_of _ room.objects (path ++ below.rest) below.object whole
-    (ap (λ b. b && nat_lt max_names (length to + (length (path ++ below.rest) - length path))) (at_behind path below.rest) ∙ is_less _ _ long))
+    (ap (λ b. b && nat_lt max_names (length to + (length (path ++ below.rest) - length path)))
+    (at_behind path below.rest) ∙ is_less _ _ long))
 depth_check room lawful path to false short none =
-    ap (λ b. refuse_if b TooDeep) (none_if _ room.objects (λ q o stands. by_place q o stands (is_at_or_below q path) refl))
+    ap (λ b. refuse_if b TooDeep)
+    (none_if _ room.objects (λ q o stands. by_place q o stands (is_at_or_below q path) refl))
   where
-    too_far : (q : Path) (o : Object) → StandsIn room.objects q o → is_at_or_below q path ≡ true → max_names < length to + (length q - length path) → ⊥
+    too_far : (q : Path) (o : Object) → StandsIn room.objects q o
+        → is_at_or_below q path ≡ true → max_names < length to + (length q - length path) → ⊥
     too_far q o stands below long =
         let levels = 17 - length to in
         let rest = drop (length path) q in
@@ -136,14 +160,25 @@ depth_check room lawful path to false short none =
         let lengths : length q ≡ length path + length rest = ap length same ∙ length-append path rest in
         let enough : levels ≤ length rest = omega (arith, lengths, long, short) in
         let split : q ≡ (path ++ take levels rest) ++ drop levels rest =
-        same ∙ ap (λ r. path ++ r) (sym (take-append-drop levels rest)) ∙ sym (append_assoc path (take levels rest) (drop levels rest)) in
-        let above = on_the_way room lawful q (path ++ take levels rest) (drop levels rest) o split (standing_found room.objects lawful.once q o stands) in
-        none (record { rest = take levels rest; object = above.0; stands = above.1; deep = omega (arith, length-take levels rest, enough) })
+        same ∙ ap (λ r. path ++ r) (sym (take-append-drop levels rest))
+        ∙ sym (append_assoc path (take levels rest) (drop levels rest)) in
+        let above = on_the_way room lawful q (path ++ take levels rest) (drop levels rest)
+        o split (standing_found room.objects lawful.once q o stands) in
+        none (record {
+          rest = take levels rest;
+          object = above.0;
+          stands = above.1;
+          deep = omega (arith, length-take levels rest, enough);
+        })
 
-    by_depth : (q : Path) (o : Object) → StandsIn room.objects q o → is_at_or_below q path ≡ true → (b : Bool) → nat_lt max_names (length to + (length q - length path)) ≡ b → b ≡ false
+    by_depth : (q : Path) (o : Object) → StandsIn room.objects q o → is_at_or_below q path ≡ true
+        → (b : Bool) → nat_lt max_names (length to + (length q - length path)) ≡ b → b ≡ false
     by_depth q o stands below false is = refl
-    by_depth q o stands below true is = absurd (too_far q o stands below (ltb-true max_names (length to + (length q - length path)) is))
+    by_depth q o stands below true is =
+        absurd (too_far q o stands below (ltb-true max_names (length to + (length q - length path)) is))
 
-    by_place : (q : Path) (o : Object) → StandsIn room.objects q o → (b : Bool) → is_at_or_below q path ≡ b → (b && nat_lt max_names (length to + (length q - length path))) ≡ false
+    by_place : (q : Path) (o : Object) → StandsIn room.objects q o → (b : Bool) → is_at_or_below q path ≡ b
+        → (b && nat_lt max_names (length to + (length q - length path))) ≡ false
     by_place q o stands false off = refl
-    by_place q o stands true below = by_depth q o stands below (nat_lt max_names (length to + (length q - length path))) refl
+    by_place q o stands true below =
+        by_depth q o stands below (nat_lt max_names (length to + (length q - length path))) refl

@@ -1,35 +1,35 @@
 -- The list of an object by its rows and those of the folders above it.
-use Rattle.std.proofs.Common.{◌≡◌, ℕ, ◌+◌, ◌≤◌, refl, ap, sym, ◌∙◌, subst, arith, Bool, true, false, cond, ◌⊎◌, inl, inr, List, [], ◌∷◌, ◌++◌, length, reverse, append-nil, Option, None, Some, IsSome}
+use Rattle.std.proofs.Common.{◌≡◌, ℕ, ◌+◌, ◌≤◌, refl, ap, sym, ◌∙◌, subst, arith, Bool, true, false, cond, inl, inr}
+use Rattle.std.proofs.Common.{List, [], ◌∷◌, ◌++◌, length, reverse, append-nil, Option, None, Some, IsSome}
 use Rattle.std.proofs.lemmas.List.{reverse-append, length_push}
 use Rattle.room_acl.specs.Entries.{EntryModel}
-use Rattle.room_acl.specs.Inheritance.{handed_down}
+use Rattle.room_acl.specs.Inheritance.{handed_down, own_part}
 use Rattle.room_records.specs.declared.node.Node.{Node}
 use Rattle.room_records.specs.Names.{Name, Path}
 use Rattle.room_records.specs.Records.{ObjectRecords}
 use Rattle.room_records.specs.Limits.{max_names}
-use Rattle.room_records.specs.Room.{Room, object_at, list_of, root_list, follows}
+use Rattle.room_records.specs.Room.{Object, Room, object_at, list_of, follows}
 use Rattle.room_records.specs.Representation.{HasPath, NamesUpwards, RepresentsRoom}
 use Rattle.room_records.proofs.Paths.{object_at_node, root_only}
-use Rattle.room_records.proofs.RoomsMap.{some_is, none_is_some, Ends, ends, path_of_object}
-use Rattle.room_tree.proofs.Places.{list_of_child}
-
-root_or_below : (path : Path) → (path ≡ []) ⊎ Ends path
-root_or_below [] = inl refl
-root_or_below (first ∷ rest) = inr (ends first rest)
+use Rattle.room_records.proofs.RoomsLists.{list_of_child, list_of_root}
+use Rattle.room_records.proofs.RoomsMap.{some_is, none_is_some, Ends, path_of_object}
+use Rattle.room_tree.proofs.OwnPart.{root_or_below, own_part_of_list}
 
 -- the folder above a node, on its path
 pub record IsUnder (t : ObjectRecords) (room : Room) (path : Path) (id : ℕ) (node : Node) (above : ℕ) : Type 0 where
   pub folder : Path
   pub at : HasPath t folder above
   pub one_more : length folder + 1 ≡ length path
-  pub list : t.entries id ++ cond (follows node.aclflag) (handed_down (list_of room folder) node.kind) [] ≡ list_of room path
+  pub list : own_part (t.entries id)
+      ++ cond (follows node.aclflag) (handed_down (list_of room folder) node.kind) [] ≡ list_of room path
 
 is_present : {X : Type 0} (o : Option X) → IsSome o → (x : X) × (o ≡ Some x)
 is_present None h = let f = h in cc
 is_present (Some x) h = (x, refl)
 
 -- a number that has a path is a node's
-pub node_there : (t : ObjectRecords) (room : Room) → RepresentsRoom t room → (path : Path) (id : ℕ) → HasPath t path id → t.node id ≡ None → ⊥
+pub node_there : (t : ObjectRecords) (room : Room) → RepresentsRoom t room
+    → (path : Path) (id : ℕ) → HasPath t path id → t.node id ≡ None → ⊥
 node_there t room stand path id at none = elim (root_or_below path) [
   | inl root ↦ (
       let At : Path → Type 0 = λ p. HasPath t p id in
@@ -42,7 +42,8 @@ node_there t room stand path id at none = elim (root_or_below path) [
       none_is_some up.0 (sym none ∙ up.2))
 ]
 
-module _ (t : ObjectRecords) (room : Room) (stand : RepresentsRoom t room) (path : Path) (id : ℕ) (node : Node) (at : HasPath t path id) (stands : t.node id ≡ Some node) where
+module _ (t : ObjectRecords) (room : Room) (stand : RepresentsRoom t room) (path : Path)
+    (id : ℕ) (node : Node) (at : HasPath t path id) (stands : t.node id ≡ Some node) where
   number : node.id ≡ id
   number = (stand.rules.numbered id node stands).0
 
@@ -52,10 +53,18 @@ module _ (t : ObjectRecords) (room : Room) (stand : RepresentsRoom t room) (path
       let found = object_at_node t room stand path id node at stands in
       (path_of_object room stand.lawful path found.0 found.1).short
 
-  at_root : path ≡ [] → t.entries id ≡ list_of room path
+  -- the own entries of the object there
+  own_of : (o : Object) → object_at room path ≡ Some o → own_part (t.entries id) ≡ o.own
+  own_of o there =
+      let found = object_at_node t room stand path id node at stands in
+      ap (λ k. own_part (t.entries k)) (sym number) ∙ ap own_part found.2.entries
+      ∙ own_part_of_list room stand.lawful path o there
+
+  at_root : path ≡ [] → own_part (t.entries id) ≡ list_of room path
   at_root root =
       let found = object_at_node t room stand path id node at stands in
-      ap t.entries (sym number) ∙ found.2.entries ∙ ap root_list (sym (ap (object_at room) (sym root) ∙ found.1)) ∙ ap (list_of room) (sym root)
+      own_of found.0 found.1 ∙ sym (list_of_root room found.0 (ap (object_at room) (sym root) ∙ found.1))
+      ∙ ap (list_of room) (sym root)
 
   above_of : (end : Ends path) → (above : ℕ) × (node.parent ≡ Some above) × HasPath t end.folder above
   above_of end =
@@ -63,29 +72,34 @@ module _ (t : ObjectRecords) (room : Room) (stand : RepresentsRoom t room) (path
       let up = subst Up (ap reverse end.is ∙ reverse-append end.folder (end.name ∷ [])) at in
       (up.1, ap (λ (n : Node). n.parent) (some_is node up.0 (sym stands ∙ up.2)) ∙ up.4, up.5)
 
-  list_below : (end : Ends path) → t.entries id ++ cond (follows node.aclflag) (handed_down (list_of room end.folder) node.kind) [] ≡ list_of room path
+  list_below : (end : Ends path) → own_part (t.entries id)
+      ++ cond (follows node.aclflag) (handed_down (list_of room end.folder) node.kind) [] ≡ list_of room path
   list_below end =
       let found = object_at_node t room stand path id node at stands in
-      let there : object_at room (end.folder ++ end.name ∷ []) ≡ Some found.0 = ap (object_at room) (sym end.is) ∙ found.1 in
+      let there : object_at room (end.folder ++ end.name ∷ []) ≡ Some found.0 =
+      ap (object_at room) (sym end.is) ∙ found.1 in
       let above = list_of room end.folder in
-      ap (λ (own : List EntryModel). own ++ cond (follows node.aclflag) (handed_down above node.kind) []) (ap t.entries (sym number) ∙ found.2.entries)
+      ap (λ (own : List EntryModel). own ++ cond (follows node.aclflag) (handed_down above node.kind) [])
+      (own_of found.0 found.1)
       ∙ ap (λ flag. found.0.own ++ cond (follows flag) (handed_down above node.kind) []) found.2.aclflag
       ∙ ap (λ kind. found.0.own ++ cond (follows found.0.aclflag) (handed_down above kind) []) found.2.kind
       ∙ sym (list_of_child room end.folder end.name found.0 there) ∙ ap (list_of room) (sym end.is)
 
   -- the root has its own entries alone
-  pub list_of_root : node.parent ≡ None → t.entries id ≡ list_of room path
-  list_of_root none = elim (root_or_below path) [
+  pub list_in_none : node.parent ≡ None → own_part (t.entries id) ≡ list_of room path
+  list_in_none none = elim (root_or_below path) [
     | inl root ↦ at_root root
     | inr end ↦ absurd (let above = above_of end in none_is_some above.0 (sym none ∙ above.1))
   ]
 
   -- as has what does not follow
-  pub list_of_its_own : follows node.aclflag ≡ false → t.entries id ≡ list_of room path
+  pub list_of_its_own : follows node.aclflag ≡ false → own_part (t.entries id) ≡ list_of room path
   list_of_its_own off = elim (root_or_below path) [
     | inl root ↦ at_root root
     | inr end ↦
-        sym (append-nil (t.entries id)) ∙ ap (λ b. t.entries id ++ cond b (handed_down (list_of room end.folder) node.kind) []) (sym off) ∙ list_below end
+        sym (append-nil (own_part (t.entries id)))
+        ∙ ap (λ b. own_part (t.entries id) ++ cond b (handed_down (list_of room end.folder) node.kind) [])
+        (sym off) ∙ list_below end
   ]
 
   -- another's goes on with what its folder hands down
@@ -108,15 +122,16 @@ module _ (t : ObjectRecords) (room : Room) (stand : RepresentsRoom t room) (path
   ]
 
   -- where the list goes on with no folder's, it ends
-  pub list_ends : cond (follows node.aclflag) node.parent None ≡ None → t.entries id ≡ list_of room path
+  pub list_ends : cond (follows node.aclflag) node.parent None ≡ None → own_part (t.entries id) ≡ list_of room path
   list_ends none = by_test (follows node.aclflag) refl
     where
-      by_test : (b : Bool) → follows node.aclflag ≡ b → t.entries id ≡ list_of room path
-      by_test true is = list_of_root (ap (λ b. cond b node.parent None) (sym is) ∙ none)
+      by_test : (b : Bool) → follows node.aclflag ≡ b → own_part (t.entries id) ≡ list_of room path
+      by_test true is = list_in_none (ap (λ b. cond b node.parent None) (sym is) ∙ none)
       by_test false is = list_of_its_own is
 
   -- and else the folder is the one above
-  pub goes_on : (above : ℕ) → cond (follows node.aclflag) node.parent None ≡ Some above → IsUnder t room path id node above
+  pub goes_on : (above : ℕ) → cond (follows node.aclflag) node.parent None ≡ Some above
+      → IsUnder t room path id node above
   goes_on above some = by_test (follows node.aclflag) refl
     where
       by_test : (b : Bool) → follows node.aclflag ≡ b → IsUnder t room path id node above

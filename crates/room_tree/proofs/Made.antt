@@ -1,5 +1,6 @@
 -- A new object: what is planned is the effect.
-use Rattle.std.proofs.Common.{◌≡◌, ◌≢◌, ℕ, ◌+◌, ◌<◌, ◌≤◌, refl, ap, sym, ◌∙◌, subst, arith, false, inl, inr, List, [], ◌∷◌, ◌++◌, length, Option, None, Some, IsSome, IsNone, unwrap_or}
+use Rattle.std.proofs.Common.{◌≡◌, ◌≢◌, ℕ, ◌+◌, ◌<◌, ◌≤◌, refl, ap, sym, ◌∙◌, subst, arith, cond, false, inl, inr, List}
+use Rattle.std.proofs.Common.{[], ◌∷◌, ◌++◌, length, Option, None, Some, IsSome, IsNone, unwrap_or}
 use Rattle.std.specs.Prelude.{nat_lt, nat_le, Vec}
 use Rattle.std.specs.declared.alloc.Global.{Global}
 use Rattle.std.proofs.lemmas.Bool.Decides.{nat_tests}
@@ -12,31 +13,40 @@ use Rattle.room_records.specs.Limits.{max_objects}
 use Rattle.room_records.specs.Names.{Path, IsPath}
 use Rattle.room_records.specs.Records.{ObjectRecords}
 use Rattle.room_records.specs.Rules.{ObjectRules}
-use Rattle.room_records.specs.Changes.{apply_to_objects}
-use Rattle.room_records.specs.Room.{Object, Room, IsRoom, object_at, parent_of}
+use Rattle.room_records.specs.Changes.{apply_to_objects, apply_all_to_objects, IsOfObjects}
+use Rattle.room_records.specs.Room.{Object, Room, IsRoom, object_at, parent_of, list_of, follows}
 use Rattle.room_records.specs.Representation.{RepresentsRoom, HasPath}
+use Rattle.room_records.proofs.Lists.{all_append}
 use Rattle.room_records.proofs.Paths.{object_at_node, child_is_at}
-use Rattle.room_records.proofs.RoomsMap.{some_is, none_is_some, Ends, ends, parent_of_end}
-use Rattle.room_records.proofs.RulesKept.{same_or_other, some_or_none, if_same, if_other, rules_put_next, rules_put_doc}
+use Rattle.room_records.proofs.RoomsMap.{some_is, none_is_some, Ends, ends, parent_of_end, nothing_below}
+use Rattle.room_records.proofs.RoomsLists.{list_of_child, lists_by_objects_above}
+use Rattle.room_records.proofs.RulesKept.{same_or_other, some_or_none, if_same, if_other, rules_put_next}
+use Rattle.room_records.proofs.RulesKept.{rules_put_doc}
 use Rattle.room_commands.specs.CommandModel as C
-use Rattle.room_tree.specs.declared.place.Place.{Place}
+use Rattle.room_tree.specs.declared.loaded.LoadedObject.{LoadedObject}
 use Rattle.room_tree.specs.declared.planning.Outcome.{Outcome}
-use Rattle.room_commands.specs.declared.reply.Fault.TheVariants.{Exist, RoomFull}
-use Rattle.room_commands.specs.Checks.{first_refusal, checks, refuse_if, is_root, walk, check_absent, check_right, check_size, check_folder_full, check_room_full}
+use Rattle.room_commands.specs.declared.reply.RefusalCode.TheVariants.{Exist, RoomFull}
+use Rattle.room_commands.specs.Checks.{first_refusal, checks, refuse_if, is_root, walk, check_absent, check_right}
+use Rattle.room_commands.specs.Checks.{check_size, check_folder_full, check_room_full}
 use Rattle.room_acl.specs.Entries.{EntryModel}
+use Rattle.room_acl.specs.Inheritance.{handed_down}
 use Rattle.room_commands.specs.Effect.{object_or_default, with_new, new_object}
-use Rattle.room_tree.specs.Places.{IsPlace, IsNewNode, node_of}
+use Rattle.room_tree.specs.LoadedObjects.{IsLoaded, IsNewNode, node_of}
 use Rattle.room_tree.specs.Plans.{PlansEffect}
+use Rattle.room_tree.specs.Renewals.{puts_new}
 use Rattle.room_commands.specs.ReplyModel.{Done, Size, reply_model}
 use Rattle.room_tree.proofs.Changed.{none_and_some}
 use Rattle.room_tree.proofs.Checking.{none_passes}
 use Rattle.room_commands.proofs.ChecksTell.{not_refused, none_there}
 use Rattle.room_commands.proofs.EffectIsRoom.{changed_is_room, created_is_room}
+use Rattle.room_tree.proofs.FewRows.{few_for_folder, few_for_document}
+use Rattle.room_tree.proofs.NewLists.{apply_append, rules_append, gives_list}
 use Rattle.room_tree.proofs.Outcomes.{success_plans}
 use Rattle.room_tree.proofs.Replies.{object_is}
 use Rattle.room_commands.proofs.Rights.{all_none}
-use Rattle.room_commands.proofs.RoomsNew.{new_there, old_stays, new_or_old}
+use Rattle.room_commands.proofs.RoomsNew.{new_there, elsewhere_as_before, old_stays, new_or_old}
 use Rattle.room_tree.proofs.RowsAdded.{IsFree, rules_put_new, Adds, added, added_keeps, last_is_name}
+use Rattle.room_tree.proofs.StoredLists.{node_at_path, stored_list}
 
 -- the group that a new object gets
 abbrev object_group : Room → Path → List ℕ
@@ -53,9 +63,12 @@ pub ends_of : (path : Path) → is_root path ≡ false → Ends path
 ends_of [] h = cc
 ends_of (first ∷ rest) h = ends first rest
 
-module _ (t : ObjectRecords) (room : Room) (caller : SubjectModel) (path : Path) (above : Place) (kind : Kind) (id : ℕ) (node : Node) (stand : RepresentsRoom t room)
-    (is_path : IsPath path) (root_off : is_root path ≡ false) (absent : object_at room path ≡ None) (found : IsPlace t room (parent_of path) above) (number : id ≡ t.next)
-    (few : t.next ≤ max_objects) (new : IsNewNode caller path above kind id node) (o : Object) (lawful : IsRoom (with_new room path o)) where
+module _ (t : ObjectRecords) (room : Room) (caller : SubjectModel) (path : Path)
+    (above : LoadedObject) (kind : Kind) (id : ℕ) (node : Node) (stand : RepresentsRoom t room)
+    (is_path : IsPath path) (root_off : is_root path ≡ false) (absent : object_at room path ≡ None)
+    (found : IsLoaded t room (parent_of path) above) (number : id ≡ t.next)
+    (few : t.next ≤ max_objects) (new : IsNewNode caller path above kind id node)
+    (o : Object) (lawful : IsRoom (with_new room path o)) where
   end : Ends path
   end = ends_of path root_off
 
@@ -70,6 +83,10 @@ module _ (t : ObjectRecords) (room : Room) (caller : SubjectModel) (path : Path)
     | inl none ↦ none
     | inr some ↦ absurd (let below = (stand.rules.numbered node.id some.0 some.1).2 in omega (arith, below, numbered))
   ]
+
+  -- nothing is stored of it before
+  pub no_entries : t.entries id ≡ []
+  no_entries = ap t.entries (sym new.number) ∙ stand.rules.entries node.id fresh
 
   no_document : unwrap_or (t.document node.id) [] ≡ []
   no_document = elim (some_or_none (t.document node.id)) [
@@ -87,8 +104,10 @@ module _ (t : ObjectRecords) (room : Room) (caller : SubjectModel) (path : Path)
   folder_is =
       let At : Path → Type 0 = λ p. object_at (with_new room path o) p ≡ Some o in
       let parent = lawful.parents end.folder end.name o (subst At end.is (new_there room path o)) in
-      let still : object_at (with_new room path o) (parent_of path) ≡ Some found.object = old_stays room path o absent (parent_of path) found.object found.is_there.object_stands in
-      let same : found.object ≡ parent.0 = some_is found.object parent.0 (sym still ∙ ap (object_at (with_new room path o)) in_folder ∙ parent.1) in
+      let still : object_at (with_new room path o) (parent_of path) ≡ Some found.object =
+      old_stays room path o absent (parent_of path) found.object found.is_there.object_stands in
+      let same : found.object ≡ parent.0 =
+      some_is found.object parent.0 (sym still ∙ ap (object_at (with_new room path o)) in_folder ∙ parent.1) in
       found.is_there.shows.kind ∙ ap (λ (p : Object). p.kind) same ∙ parent.2
 
   folder_at : HasPath t end.folder above.id
@@ -97,7 +116,8 @@ module _ (t : ObjectRecords) (room : Room) (caller : SubjectModel) (path : Path)
   free : IsFree (apply_to_objects (PutNext (id + 1)) t) node above.id end.name
   free = record {
     fresh = fresh;
-    positive = (let first = is_there (t.node 1) stand.rules.has_root in let one = stand.rules.numbered 1 first.0 first.1 in omega (arith, one.2, numbered));
+    positive = (let first = is_there (t.node 1) stand.rules.has_root in
+        let one = stand.rules.numbered 1 first.0 first.1 in omega (arith, one.2, numbered));
     below = omega (arith, new.number);
     parent = node_of above;
     stands = found.is_there.node_stands;
@@ -106,7 +126,8 @@ module _ (t : ObjectRecords) (room : Room) (caller : SubjectModel) (path : Path)
     named = new.name end.folder end.name end.is;
     lawful = (let P : Path → Type 0 = λ p. IsPath p in last_is_name end.folder end.name (subst P end.is is_path).names);
     alone = λ other child named.
-        let at = child_is_at t stand.rules end.folder end.name above.id other folder_at (record { stands = child.stands; inside = child.inside }) named in
+        let at = child_is_at t stand.rules end.folder end.name above.id other folder_at
+        (record { stands = child.stands; inside = child.inside }) named in
         let there = object_at_node t room stand (end.folder ++ end.name ∷ []) other.id other at child.stands in
         none_is_some there.0 (sym absent ∙ ap (object_at room) end.is ∙ there.1);
   }
@@ -118,22 +139,58 @@ module _ (t : ObjectRecords) (room : Room) (caller : SubjectModel) (path : Path)
   pub rules_made : ObjectRules (apply_to_objects (PutNode node) (apply_to_objects (PutNext (id + 1)) t))
   rules_made = rules_put_new (apply_to_objects (PutNext (id + 1)) t) rules_bumped node above.id end.name free
 
-  pub new_stands : (k : ℕ) → k ≡ node.id → (apply_to_objects (PutNode node) (apply_to_objects (PutNext (id + 1)) t)).node k ≡ Some node
+  pub new_stands : (k : ℕ) → k ≡ node.id
+      → (apply_to_objects (PutNode node) (apply_to_objects (PutNext (id + 1)) t)).node k ≡ Some node
   new_stands k same = if_same k node.id (Some node) (t.node k) same
 
   group_is : node.group ≡ (object_group room path)
-  group_is = new.group ∙ found.is_there.shows.group ∙ ap (λ (p : Object). p.group) (sym (object_is t room (parent_of path) above found))
+  group_is = new.group ∙ found.is_there.shows.group
+      ∙ ap (λ (p : Object). p.group) (sym (object_is t room (parent_of path) above found))
 
-  pub adds : (later : ObjectRecords) → later.node ≡ (apply_to_objects (PutNode node) (apply_to_objects (PutNext (id + 1)) t)).node → later.entries ≡ t.entries
+  -- what is there keeps its list
+  lists_stay : (q : Path) (p : Object) → object_at room q ≡ Some p → list_of room q ≡ list_of (with_new room path o) q
+  lists_stay q p there = lists_by_objects_above room (with_new room path o) q
+      (λ front rest is. sym (elsewhere_as_before room path o front (λ same.
+      let none = nothing_below room stand.lawful rest front (ap (object_at room) same ∙ absent) in
+      none_is_some p (sym (ap (object_at room) is ∙ none) ∙ there))))
+
+  -- and the new object has what its folder hands down
+  list_of_new : o.kind ≡ kind → o.aclflag ≡ 1 → o.own ≡ []
+      → handed_down above.list.items kind ≡ list_of (with_new room path o) path
+  list_of_new kind_is aclflag own =
+      let after = with_new room path o in
+      let given = list_of after end.folder in
+      let list : List EntryModel → ℕ → Kind → List EntryModel =
+      λ entries flag k. entries ++ cond (follows flag) (handed_down given k) [] in
+      let folder_list : above.list.items ≡ given =
+      found.list ∙ lists_stay (parent_of path) found.object found.is_there.object_stands
+      ∙ ap (list_of after) in_folder in
+      let follows_it : handed_down given kind ≡ list [] 1 kind = refl in
+      let At : Path → Type 0 = λ p. object_at after p ≡ Some o in
+      ap (λ (entries : List EntryModel). handed_down entries kind) folder_list ∙ follows_it
+      ∙ ap (λ entries. list entries 1 kind) (sym own) ∙ ap (λ flag. list o.own flag kind) (sym aclflag)
+      ∙ ap (list o.own o.aclflag) (sym kind_is)
+      ∙ sym (list_of_child after end.folder end.name o (subst At end.is (new_there room path o)))
+      ∙ ap (list_of after) (sym end.is)
+
+  pub adds : (later : ObjectRecords)
+      → later.node ≡ (apply_to_objects (PutNode node) (apply_to_objects (PutNext (id + 1)) t)).node
+      → ((k : ℕ) → k ≢ node.id → later.entries k ≡ t.entries k)
+      → later.entries node.id ≡ handed_down above.list.items kind
       → ((k : ℕ) → k ≢ node.id → later.document k ≡ t.document k) → later.next ≡ id + 1 → ObjectRules later
-      → o.kind ≡ kind → o.owner ≡ caller.name → o.group ≡ object_group room path → o.aclflag ≡ 1 → o.own ≡ [] → unwrap_or (later.document node.id) [] ≡ o.bytes
+      → o.kind ≡ kind → o.owner ≡ caller.name → o.group ≡ object_group room path
+      → o.aclflag ≡ 1 → o.own ≡ [] → unwrap_or (later.document node.id) [] ≡ o.bytes
       → Adds t later room (with_new room path o) path o node
-  adds later nodes entries documents next rules kind_is owner group aclflag own bytes = record {
+  adds later nodes entries list documents next rules kind_is owner group aclflag own bytes = record {
     fresh = fresh;
     rules = rules;
     stands = ap (λ (f : ℕ → Option Node). f node.id) nodes ∙ new_stands node.id refl;
     nodes_away = λ k other. ap (λ (f : ℕ → Option Node). f k) nodes ∙ if_other k node.id (Some node) (t.node k) other;
-    entries_away = λ k other. ap (λ (f : ℕ → List EntryModel). f k) entries;
+    lists_away = λ q k at.
+        let there = node_at_path t room stand q k at in
+        let apart : k ≢ node.id = (λ same. none_is_some there.0 (sym fresh ∙ ap t.node (sym same) ∙ there.1)) in
+        let stands = object_at_node t room stand q k there.0 at there.1 in
+        entries k apart ∙ stored_list t room stand q k at ∙ lists_stay q stands.0 stands.1;
     documents_away = documents;
     folder = end.folder;
     name = end.name;
@@ -147,7 +204,7 @@ module _ (t : ObjectRecords) (room : Room) (caller : SubjectModel) (path : Path)
       owner = new.owner ∙ sym owner;
       group = group_is ∙ sym group;
       aclflag = new.aclflag ∙ sym aclflag;
-      entries = ap (λ (f : ℕ → List EntryModel). f node.id) entries ∙ stand.rules.entries node.id fresh ∙ sym own;
+      entries = list ∙ list_of_new kind_is aclflag own;
       bytes = bytes;
     };
     next = next ∙ ap (λ n. n + 1) (number ∙ stand.next);
@@ -157,30 +214,40 @@ module _ (t : ObjectRecords) (room : Room) (caller : SubjectModel) (path : Path)
     new_or_old = new_or_old room path o;
   }
 
-  pub only_next : (later : ObjectRecords) → later.node ≡ (apply_to_objects (PutNode node) (apply_to_objects (PutNext (id + 1)) t)).node
+  pub only_next : (later : ObjectRecords)
+      → later.node ≡ (apply_to_objects (PutNode node) (apply_to_objects (PutNext (id + 1)) t)).node
       → (k : ℕ) → IsNone (t.node k) → IsSome (later.node k) → k ≡ t.next
   only_next later nodes k none some = elim (same_or_other k node.id) [
     | inl same ↦ same ∙ numbered
     | inr other ↦ absurd (
         let There : Option Node → Type 0 = λ n. IsSome n in
-        none_and_some (t.node k) none (subst There (ap (λ (f : ℕ → Option Node). f k) nodes ∙ if_other k node.id (Some node) (t.node k) other) some))
+        none_and_some (t.node k) none (subst There
+        (ap (λ (f : ℕ → Option Node). f k) nodes ∙ if_other k node.id (Some node) (t.node k) other) some))
   ]
 
-few_made : (t : ObjectRecords) (room : Room) → RepresentsRoom t room → check_room_full room ≡ None → t.next ≤ max_objects
+few_made : (t : ObjectRecords) (room : Room) → RepresentsRoom t room
+    → check_room_full room ≡ None → t.next ≤ max_objects
 few_made t room stand passed =
     let below = below_by_test max_objects room.made (not_refused (nat_le max_objects room.made) RoomFull passed) in
     omega (arith, below, stand.next)
 
 -- MKDIR
-pub mkdir_plans : (t : ObjectRecords) (room : Room) (caller : SubjectModel) (path : Path) (above : Place) (id : ℕ) (node : Node) (outcome : Outcome) → RepresentsRoom t room → IsPath path
-    → first_refusal (refuse_if (is_root path) Exist ∷ walk room caller path ∷ check_absent room path ∷ check_right room caller (parent_of path) 0x4 ∷ []) ≡ None
-    → IsPlace t room (parent_of path) above → (first_refusal (check_folder_full room (parent_of path) ∷ check_room_full room ∷ []) ≡ None) × (id ≡ t.next)
-    → IsNewNode caller path above Folder id node → outcome.changes.items ≡ PutNext (id + 1) ∷ PutNode node ∷ [] → reply_model outcome.reply ≡ Done
+pub mkdir_plans : (t : ObjectRecords) (room : Room) (caller : SubjectModel) (path : Path)
+    (above : LoadedObject) (id : ℕ) (node : Node) (list : Vec EntryModel Global) (outcome : Outcome)
+    → RepresentsRoom t room → IsPath path
+    → first_refusal (refuse_if (is_root path) Exist ∷ walk room caller path
+    ∷ check_absent room path ∷ check_right room caller (parent_of path) 0x4 ∷ []) ≡ None
+    → IsLoaded t room (parent_of path) above
+    → (first_refusal (check_folder_full room (parent_of path) ∷ check_room_full room ∷ []) ≡ None) × (id ≡ t.next)
+    → IsNewNode caller path above Folder id node → list.items ≡ handed_down above.list.items Folder
+    → outcome.changes.items ≡ PutNext (id + 1) ∷ PutNode node ∷ puts_new id list
+    → reply_model outcome.reply ≡ Done
     → PlansEffect t room caller (C.Mkdir path) outcome
-mkdir_plans t room caller path above id node outcome stand is_path before found number new planned replied =
+mkdir_plans t room caller path above id node list outcome stand is_path before found number new given planned replied =
     let command = C.Mkdir path in
     let passed : first_refusal (checks room caller command) ≡ None =
-    none_passes (refuse_if (is_root path) Exist ∷ walk room caller path ∷ check_absent room path ∷ check_right room caller (parent_of path) 0x4 ∷ [])
+    none_passes (refuse_if (is_root path) Exist ∷ walk room caller path
+    ∷ check_absent room path ∷ check_right room caller (parent_of path) 0x4 ∷ [])
     (check_folder_full room (parent_of path) ∷ check_room_full room ∷ []) before ∙ number.0 in
     let a = all_none (checks room caller command) passed in
     let root_off = not_refused (is_root path) Exist a.0 in
@@ -189,30 +256,57 @@ mkdir_plans t room caller path above id node outcome stand is_path before found 
     let o = new_object room caller path Folder [] in
     let lawful = changed_is_room room caller command is_path stand.lawful passed in
     let first = apply_to_objects (PutNext (id + 1)) t in
-    let later = apply_to_objects (PutNode node) first in
-    let rules = rules_made t room caller path above Folder id node stand is_path root_off absent found number.1 few new o lawful in
-    let r = adds t room caller path above Folder id node stand is_path root_off absent found number.1 few new o lawful later refl refl (λ k other. refl) refl rules refl refl refl refl refl
-    (no_document t room caller path above Folder id node stand is_path root_off absent found number.1 few new o lawful) in
-    success_plans t room caller command outcome stand (PutNext (id + 1) ∷ PutNode node ∷ []) passed replied planned (tt, (tt, tt))
-    (rules_bumped t room caller path above Folder id node stand is_path root_off absent found number.1 few new o lawful, (rules, tt))
+    let second = apply_to_objects (PutNode node) first in
+    let rules = rules_made t room caller path above Folder id node
+    stand is_path root_off absent found number.1 few new o lawful in
+    let stands = new_stands t room caller path above Folder id node stand is_path
+    root_off absent found number.1 few new o lawful id (sym new.number) in
+    let none = no_entries t room caller path above Folder id node stand is_path
+    root_off absent found number.1 few new o lawful in
+    let later = apply_all_to_objects (puts_new id list) second in
+    let gives = gives_list second id node list rules stands none in
+    let r = adds t room caller path above Folder id node stand is_path
+    root_off absent found number.1 few new o lawful later gives.nodes
+    (λ k other. gives.away k (λ is. other (is ∙ sym new.number)))
+    (ap later.entries new.number ∙ gives.listed ∙ given)
+    (λ k other. ap (λ (f : ℕ → Option (List ℕ)). f k) gives.documents) gives.next gives.rules refl refl refl refl refl
+    (ap (λ (f : ℕ → Option (List ℕ)). unwrap_or (f node.id) []) gives.documents
+    ∙ no_document t room caller path above Folder id node stand
+    is_path root_off absent found number.1 few new o lawful) in
+    success_plans t room caller command outcome stand
+    (PutNext (id + 1) ∷ PutNode node ∷ puts_new id list) passed replied planned (tt, (tt, gives.of_objects)) (
+      rules_bumped t room caller path above Folder id node stand is_path
+          root_off absent found number.1 few new o lawful,
+      (rules, gives.each),
+    )
+    (few_for_folder t id none (id + 1) node list)
     (added t later room (with_new room path o) path o node stand r)
     (λ q k at stands there. added_keeps t later room (with_new room path o) path o node stand r q k at)
-    (only_next t room caller path above Folder id node stand is_path root_off absent found number.1 few new o lawful later refl)
+    (only_next t room caller path above Folder id node stand is_path
+    root_off absent found number.1 few new o lawful later gives.nodes)
 
 -- CREATE
-pub create_plans : (t : ObjectRecords) (room : Room) (caller : SubjectModel) (bytes : List ℕ) (path : Path) (above : Place) (id : ℕ) (node : Node) (copy : Vec ℕ Global) (outcome : Outcome)
+pub create_plans : (t : ObjectRecords) (room : Room) (caller : SubjectModel) (bytes : List ℕ) (path : Path)
+    (above : LoadedObject) (id : ℕ) (node : Node) (list : Vec EntryModel Global) (copy : Vec ℕ Global)
+    (outcome : Outcome)
     → RepresentsRoom t room → IsPath path
-    → first_refusal (refuse_if (is_root path) Exist ∷ walk room caller path ∷ check_absent room path ∷ check_right room caller (parent_of path) 0x2 ∷ []) ≡ None
+    → first_refusal (refuse_if (is_root path) Exist ∷ walk room caller path
+    ∷ check_absent room path ∷ check_right room caller (parent_of path) 0x2 ∷ []) ≡ None
     → check_size (length bytes) ≡ None
-    → IsPlace t room (parent_of path) above → (first_refusal (check_folder_full room (parent_of path) ∷ check_room_full room ∷ []) ≡ None) × (id ≡ t.next)
-    → IsNewNode caller path above File id node → copy.items ≡ bytes → outcome.changes.items ≡ PutNext (id + 1) ∷ PutNode node ∷ PutDoc id copy ∷ []
+    → IsLoaded t room (parent_of path) above
+    → (first_refusal (check_folder_full room (parent_of path) ∷ check_room_full room ∷ []) ≡ None) × (id ≡ t.next)
+    → IsNewNode caller path above File id node → list.items ≡ handed_down above.list.items File → copy.items ≡ bytes
+    → outcome.changes.items ≡ PutNext (id + 1) ∷ PutNode node ∷ puts_new id list ++ PutDoc id copy ∷ []
     → reply_model outcome.reply ≡ Size (length bytes) → PlansEffect t room caller (C.Create bytes path) outcome
-create_plans t room caller bytes path above id node copy outcome stand is_path before small found number new same planned replied =
+create_plans t room caller bytes path above id node list copy outcome stand
+    is_path before small found number new given same planned replied =
     let command = C.Create bytes path in
     let passed : first_refusal (checks room caller command) ≡ None =
-    none_passes (refuse_if (is_root path) Exist ∷ walk room caller path ∷ check_absent room path ∷ check_right room caller (parent_of path) 0x2 ∷ [])
+    none_passes (refuse_if (is_root path) Exist ∷ walk room caller path
+    ∷ check_absent room path ∷ check_right room caller (parent_of path) 0x2 ∷ [])
     (check_size (length bytes) ∷ check_folder_full room (parent_of path) ∷ check_room_full room ∷ []) before
-    ∙ ap (λ o. first_refusal (o ∷ check_folder_full room (parent_of path) ∷ check_room_full room ∷ [])) small ∙ number.0 in
+    ∙ ap (λ o. first_refusal (o ∷ check_folder_full room (parent_of path) ∷ check_room_full room ∷ [])) small
+    ∙ number.0 in
     let a = all_none (checks room caller command) passed in
     let root_off = not_refused (is_root path) Exist a.0 in
     let absent = none_there (object_at room path) (not_refused _ Exist a.1.1.0) in
@@ -221,15 +315,40 @@ create_plans t room caller bytes path above id node copy outcome stand is_path b
     let lawful = created_is_room room caller bytes path is_path stand.lawful passed in
     let first = apply_to_objects (PutNext (id + 1)) t in
     let second = apply_to_objects (PutNode node) first in
-    let later = apply_to_objects (PutDoc id copy) second in
-    let rules = rules_made t room caller path above File id node stand is_path root_off absent found number.1 few new o lawful in
-    let stands = new_stands t room caller path above File id node stand is_path root_off absent found number.1 few new o lawful id (sym new.number) in
-    let last = rules_put_doc second rules id node stands new.kind_is copy in
-    let r = adds t room caller path above File id node stand is_path root_off absent found number.1 few new o lawful later refl refl
-    (λ k other. if_other k id (Some copy.items) (t.document k) (λ is. other (is ∙ sym new.number))) refl last refl refl refl refl refl
-    (ap (λ (d : Option (List ℕ)). unwrap_or d []) (if_same node.id id (Some copy.items) (t.document node.id) new.number) ∙ same) in
-    success_plans t room caller command outcome stand (PutNext (id + 1) ∷ PutNode node ∷ PutDoc id copy ∷ []) passed replied planned (tt, (tt, (tt, tt)))
-    (rules_bumped t room caller path above File id node stand is_path root_off absent found number.1 few new o lawful, (rules, (last, tt)))
-    (added t later room (with_new room path o) path o node stand r)
-    (λ q k at stands there. added_keeps t later room (with_new room path o) path o node stand r q k at)
-    (only_next t room caller path above File id node stand is_path root_off absent found number.1 few new o lawful later refl)
+    let rules = rules_made t room caller path above File id node stand
+    is_path root_off absent found number.1 few new o lawful in
+    let stands = new_stands t room caller path above File id node stand is_path
+    root_off absent found number.1 few new o lawful id (sym new.number) in
+    let none = no_entries t room caller path above File id node stand is_path
+    root_off absent found number.1 few new o lawful in
+    let puts = puts_new id list in
+    let third = apply_all_to_objects puts second in
+    let later = apply_to_objects (PutDoc id copy) third in
+    let gives = gives_list second id node list rules stands none in
+    let last = rules_put_doc third gives.rules id node (ap (λ (f : ℕ → Option Node). f id) gives.nodes ∙ stands)
+    new.kind_is copy in
+    let r = adds t room caller path above File id node stand is_path
+    root_off absent found number.1 few new o lawful later gives.nodes
+    (λ k other. gives.away k (λ is. other (is ∙ sym new.number)))
+    (ap third.entries new.number ∙ gives.listed ∙ given)
+    (λ k other. if_other k id (Some copy.items) (third.document k) (λ is. other (is ∙ sym new.number))
+    ∙ ap (λ (f : ℕ → Option (List ℕ)). f k) gives.documents)
+    gives.next last refl refl refl refl refl
+    (ap (λ (d : Option (List ℕ)). unwrap_or d [])
+    (if_same node.id id (Some copy.items) (third.document node.id) new.number) ∙ same) in
+    let whole = sym (apply_append puts (PutDoc id copy ∷ []) second) in
+    let Stands : ObjectRecords → Type 0 = λ s. RepresentsRoom s (with_new room path o) in
+    let Keeps : ObjectRecords → Type 0 = λ s. (q : Path) (k : ℕ) → HasPath t q k → HasPath s q k in
+    let New : ObjectRecords → Type 0 = λ s. (k : ℕ) → IsNone (t.node k) → IsSome (s.node k) → k ≡ t.next in
+    let keeps = subst Keeps whole (added_keeps t later room (with_new room path o) path o node stand r) in
+    success_plans t room caller command outcome stand
+    (PutNext (id + 1) ∷ PutNode node ∷ puts ++ PutDoc id copy ∷ []) passed replied planned
+    (tt, (tt, all_append IsOfObjects puts (PutDoc id copy ∷ []) gives.of_objects (tt, tt))) (
+      rules_bumped t room caller path above File id node stand is_path root_off absent found number.1 few new o lawful,
+      (rules, rules_append puts (PutDoc id copy ∷ []) second gives.each (last, tt)),
+    )
+    (few_for_document t id none (id + 1) node list copy)
+    (subst Stands whole (added t later room (with_new room path o) path o node stand r))
+    (λ q k at stands there. keeps q k at)
+    (subst New whole (only_next t room caller path above File id node stand is_path
+    root_off absent found number.1 few new o lawful later gives.nodes))

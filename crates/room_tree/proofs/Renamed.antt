@@ -1,36 +1,51 @@
 -- RENAME: its checks by what was read, and what it plans.
-use Rattle.std.proofs.Common.{◌≡◌, ℕ, refl, ap, sym, ◌∙◌, subst, Bool, true, false, not, ◌||◌, [], ◌∷◌, ◌++◌, length, None, Some, reverse}
+use Rattle.std.proofs.Common.{◌≡◌, ℕ, refl, ap, sym, ◌∙◌, subst, Bool, true, false, not, ◌||◌, List, [], ◌∷◌, ◌++◌, map}
+use Rattle.std.proofs.Common.{drop, length, Option, None, Some, reverse}
+use Rattle.std.specs.Prelude.{Vec}
+use Rattle.std.specs.declared.alloc.Global.{Global}
 use Rattle.std.proofs.lemmas.Bool.{or_parts}
+use Rattle.room_acl.specs.Entries.{EntryModel}
+use Rattle.room_acl.specs.Inheritance.{own_part, with_inherited}
 use Rattle.room_acl.specs.SubjectModel.{SubjectModel}
 use Rattle.room_records.specs.declared.change.Change.TheVariants.{PutNode}
 use Rattle.room_records.specs.declared.node.Node.{Node}
 use Rattle.room_records.specs.Names.{Name, Path, IsPath, name_eq, path_eq}
 use Rattle.room_records.specs.Records.{ObjectRecords}
-use Rattle.room_records.specs.Changes.{apply_to_objects}
-use Rattle.room_records.specs.Room.{Object, Room, IsRoom, object_at, parent_of}
+use Rattle.room_records.specs.Rules.{ObjectRules}
+use Rattle.room_records.specs.Changes.{apply_to_objects, apply_all_to_objects, ObjectRulesHoldAfterEach}
+use Rattle.room_records.specs.Room.{Object, Room, IsRoom, object_at, list_of, parent_of}
 use Rattle.room_records.specs.Representation.{RepresentsRoom, HasPath}
-use Rattle.room_records.proofs.Paths.{reads_one}
+use Rattle.room_records.proofs.Paths.{reads_one, object_at_node}
 use Rattle.room_records.proofs.RoomsMap.{some_is, path_itself, other_path, parent_of_end}
 use Rattle.room_records.proofs.RoomsChildren.{name_itself, same_name}
 use Rattle.room_commands.specs.CommandModel as C
 use Rattle.room_tree.specs.declared.planning.Outcome.{Outcome}
-use Rattle.room_tree.specs.declared.place.Place.{Place}
+use Rattle.room_tree.specs.declared.loaded.LoadedObject.{LoadedObject}
 use Rattle.room_tree.specs.declared.moving.Move.{Move}
-use Rattle.room_commands.specs.declared.reply.Fault.TheVariants.{Inval}
+use Rattle.room_commands.specs.declared.reply.RefusalCode.TheVariants.{Inval}
 use Rattle.room_commands.specs.Checks.{first_refusal, checks, refuse_if, is_root, is_at_or_below, walk}
 use Rattle.room_commands.specs.Effect.{renamed, moved}
-use Rattle.room_tree.specs.Places.{IsPlace, node_of}
+use Rattle.room_tree.specs.LoadedObjects.{IsLoaded, node_of}
 use Rattle.room_tree.specs.Plans.{PlansEffect}
 use Rattle.room_tree.specs.Renames.{IsMove}
+use Rattle.room_tree.specs.Renewals.{list_below, PutsList}
 use Rattle.room_commands.specs.ReplyModel.{Done, reply_model}
 use Rattle.room_commands.proofs.ChecksTell.{not_refused, absent_there, walk_ends_in_folder}
 use Rattle.room_commands.proofs.EffectIsRoom.{changed_is_room}
+use Rattle.room_commands.proofs.RoomsRenamed.{rest_below}
+use Rattle.room_tree.proofs.ListsMoved.{list_of_stayed, list_of_moved, lists_of_moved}
 use Rattle.room_tree.proofs.Made.{ends_of}
 use Rattle.room_tree.proofs.Outcomes.{success_plans}
+use Rattle.room_tree.proofs.OwnPart.{own_part_of_list}
+use Rattle.room_tree.proofs.Renewed.{Puts, put, Relists, IsChangeOf, list_then, list_then_is, changes_list, puts_relist}
+use Rattle.room_tree.proofs.Renewed.{stored_at, nodes_stay, documents_stay, next_stays, relisted_at, relisted_off}
+use Rattle.room_tree.proofs.Renewed.{relisted_of_objects, relisted_rules, relisted_few}
 use Rattle.room_commands.proofs.Rights.{all_none}
 use Rattle.room_tree.proofs.RowsAdded.{last_is_name}
-use Rattle.room_tree.proofs.RowsMoved.{MovesNode, rules_moved, moved_represents, moved_keeps, none_new_moved}
+use Rattle.room_tree.proofs.RowsMoved.{MovesNode, MovesLists, moved_off, moved_rest, rules_moved, moved_represents}
+use Rattle.room_tree.proofs.RowsMoved.{moved_keeps, none_new_moved}
 use Rattle.room_tree.proofs.RowsReplaced.{path_of_node}
+use Rattle.room_tree.proofs.StoredLists.{node_at_path, stored_list}
 
 -- a test that two names are other
 pub other_names : (a b : Name) (differ : Bool) → differ ≡ not (name_eq a b) → differ ≡ true → a ≡ b → ⊥
@@ -55,35 +70,101 @@ pub record PathsPass (path to : Path) : Type 0 where
   pub to_below_root : is_root to ≡ false
   pub apart : is_at_or_below to path ≡ false
 
-pub paths_pass : (path to : Path) → refuse_if (is_root path || is_root to || is_at_or_below to path) Inval ≡ None → PathsPass path to
+pub paths_pass : (path to : Path)
+    → refuse_if (is_root path || is_root to || is_at_or_below to path) Inval ≡ None → PathsPass path to
 paths_pass path to passed =
     let apart = or_parts (is_root path || is_root to) (is_at_or_below to path) (not_refused _ Inval passed) in
     let roots = or_parts (is_root path) (is_root to) apart.0 in
     record { below_root = roots.0; to_below_root = roots.1; apart = apart.1 }
 
-module _ (t : ObjectRecords) (room : Room) (stand : RepresentsRoom t room) (a b : Path) (here there : Place) (is_here : IsPlace t room a here) (is_there : IsPlace t room b there) where
+module _ (t : ObjectRecords) (room : Room) (stand : RepresentsRoom t room) (a b : Path)
+    (here there : LoadedObject) (is_here : IsLoaded t room a here) (is_there : IsLoaded t room b there) where
   -- a folder is another one exactly where its number is
   pub same_folder : here.id ≡ there.id → path_eq a b ≡ true
   same_folder same =
       let At : ℕ → Type 0 = λ id. HasPath t a id in
-      let one : a ≡ b = path_of_node t stand.rules a b there.id (subst At same is_here.is_there.at) is_there.is_there.at in
+      let one : a ≡ b =
+      path_of_node t stand.rules a b there.id (subst At same is_here.is_there.at) is_there.is_there.at in
       ap (path_eq a) (sym one) ∙ path_itself a
 
   pub other_folder : (here.id ≡ there.id → ⊥) → path_eq a b ≡ false
   other_folder other = other_path a b (λ same.
       let At : Path → Type 0 = λ p. HasPath t p there.id in
-      other (reads_one t stand.rules (reverse a) here.id there.id is_here.is_there.at (subst At (sym same) is_there.is_there.at)))
+      other (reads_one t stand.rules (reverse a) here.id there.id
+      is_here.is_there.at (subst At (sym same) is_there.is_there.at)))
 
 not_in_root : (path : Path) → is_root path ≡ false → is_at_or_below [] path ≡ false
 not_in_root [] off = cc
 not_in_root (name ∷ path) off = refl
 
+-- a list that is moved: the own entries of the old one, and what the new folder hands down
+abbrev pub moved_list : Move → List EntryModel
+moved_list move =
+    with_inherited (own_part move.loaded.list.items) move.loaded.aclflag move.loaded.kind move.into.list.items
+
+module _ (t : ObjectRecords) (room : Room) (stand : RepresentsRoom t room)
+    (path up : Path) (last : Name) (o : Object) (node now : Node) (above : ℕ)
+    (m : MovesNode t room path up last o node now above) (list : List EntryModel)
+    (is : list_of (renamed room path (up ++ last ∷ [])) (up ++ last ∷ []) ≡ list)
+    (puts : Puts) (r : Relists t room path list puts) where
+  abbrev to : Path
+  to = up ++ last ∷ []
+
+  abbrev first : ObjectRecords
+  first = apply_to_objects (PutNode now) t
+
+  abbrev rows : ObjectRecords
+  rows = apply_all_to_objects (PutNode now ∷ map put puts) t
+
+  -- each object has its list at the place where it is now
+  lists_after : (q : Path) (id : ℕ) → HasPath t q id
+      → rows.entries id ≡ list_of (renamed room path to) (moved path to q)
+  lists_after q id at = by_place (is_at_or_below q path) refl
+    where
+      by_place : (b : Bool) → is_at_or_below q path ≡ b
+          → rows.entries id ≡ list_of (renamed room path to) (moved path to q)
+      by_place true below =
+          let rest = drop (length path) q in
+          let split : q ≡ path ++ rest = rest_below path q below in
+          let At : Path → Type 0 = λ p. HasPath t p id in
+          relisted_at t room stand path list puts r now rest id (subst At split at)
+          ∙ ap (λ l. list_below room path l (reverse rest)) (sym is)
+          ∙ sym (lists_of_moved room stand.lawful path to o m.apart m.is_there.object_stands m.free rest)
+          ∙ ap (list_of (renamed room path to)) (sym (ap (moved path to) split ∙ moved_rest path to rest))
+      by_place false off =
+          let found = node_at_path t room stand q id at in
+          let other = object_at_node t room stand q id found.0 at found.1 in
+          relisted_off t room stand path list puts r now q id at off
+          ∙ stored_list t room stand q id at
+          ∙ sym (list_of_stayed room stand.lawful path to o m.apart
+          m.is_there.object_stands m.free q other.0 other.1 off)
+          ∙ ap (list_of (renamed room path to)) (sym (moved_off q path to off))
+
+  pub rules_after : ObjectRulesHoldAfterEach (PutNode now ∷ map put puts) t × ObjectRules rows
+  rules_after = relisted_rules t room stand path list puts r now
+      (rules_moved t room stand path up last o node now above m)
+
+  pub moves_lists : MovesLists t rows now room path to
+  moves_lists = record {
+    nodes = nodes_stay puts first;
+    documents = documents_stay puts first;
+    next = next_stays puts first;
+    rules = rules_after.1;
+    lists = lists_after;
+  }
+
 -- the row that is planned leads to the room with the subtree moved
-pub rename_plans : (t : ObjectRecords) (room : Room) (caller : SubjectModel) (path to : Path) (move : Move) (now : Node) (outcome : Outcome) → RepresentsRoom t room
-    → IsPath path → IsPath to → first_refusal (checks room caller (C.Rename path to)) ≡ None → IsMove t room path to move
-    → ((folder : Path) (name : Name) → to ≡ folder ++ name ∷ [] → now ≡ record (node_of move.place) { parent = Some move.into.id; name = Some name })
-    → outcome.changes.items ≡ PutNode now ∷ [] → reply_model outcome.reply ≡ Done → PlansEffect t room caller (C.Rename path to) outcome
-rename_plans t room caller path to move now outcome stand is_path is_to passed found row planned replied =
+pub rename_plans : (t : ObjectRecords) (room : Room) (caller : SubjectModel)
+    (path to : Path) (move : Move) (now : Node) (outcome : Outcome) → RepresentsRoom t room
+    → IsPath path → IsPath to → first_refusal (checks room caller (C.Rename path to)) ≡ None
+    → IsMove t room path to move
+    → ((folder : Path) (name : Name) → to ≡ folder ++ name ∷ []
+    → now ≡ record (node_of move.loaded) { parent = Some move.into.id; name = Some name })
+    → (new : Option (Vec EntryModel Global)) → IsChangeOf move.loaded.list.items (moved_list move) new
+    → (HasPath t path now.id → t.node now.id ≡ Some (node_of move.loaded)
+    → (node_of move.loaded).kind ≡ now.kind → PutsList t room path now new outcome.changes.items)
+    → reply_model outcome.reply ≡ Done → PlansEffect t room caller (C.Rename path to) outcome
+rename_plans t room caller path to move now outcome stand is_path is_to passed found row new changes planned replied =
     let command = C.Rename path to in
     let a = all_none (checks room caller command) passed in
     let pass = paths_pass path to a.0 in
@@ -94,12 +175,14 @@ rename_plans t room caller path to move now outcome stand is_path is_to passed f
     let Walked : Path → Type 0 = λ p. walk room caller p ≡ None in
     let above = walk_ends_in_folder room caller last.folder last.name (subst Walked last.is a.1.1.1.0) in
     let into = found.into.is_there in
-    let same : found.into.object ≡ above.0 = some_is found.into.object above.0 (sym into.object_stands ∙ ap (object_at room) in_folder ∙ above.1) in
+    let same : found.into.object ≡ above.0 =
+    some_is found.into.object above.0 (sym into.object_stands ∙ ap (object_at room) in_folder ∙ above.1) in
     let At : Path → Type 0 = λ p. HasPath t p move.into.id in
     let Lawful : Path → Type 0 = λ p. IsRoom (renamed room path p) in
     let Names : Path → Type 0 = λ p. IsPath p in
-    let m : MovesNode t room path last.folder last.name found.place.object (node_of move.place) now move.into.id = record {
-      is_there = found.place.is_there;
+    let m : MovesNode t room path last.folder last.name found.loaded.object (node_of move.loaded) now move.into.id =
+    record {
+      is_there = found.loaded.is_there;
       end = ends_of path pass.below_root;
       off_root = not_in_root path pass.below_root;
       apart = ap (λ p. is_at_or_below p path) (sym last.is) ∙ pass.apart;
@@ -121,15 +204,46 @@ rename_plans t room caller path to move now outcome stand is_path is_to passed f
     plan_by last.folder last.name last.is m
   where
     plan_by : (up : Path) (name : Name) → to ≡ up ++ name ∷ []
-        → MovesNode t room path up name found.place.object (node_of move.place) now move.into.id → PlansEffect t room caller (C.Rename path to) outcome
+        → MovesNode t room path up name found.loaded.object (node_of move.loaded) now move.into.id
+        → PlansEffect t room caller (C.Rename path to) outcome
     plan_by up name is m =
-        let later = apply_to_objects (PutNode now) t in
-        let o = found.place.object in
-        let node = node_of move.place in
+        let target : Path = up ++ name ∷ [] in
+        let o = found.loaded.object in
+        let node = node_of move.loaded in
+        let loaded = move.loaded in
+        let there = found.loaded.is_there in
+        let stored = stored_at t room path loaded found.loaded in
+        let Here : ℕ → Type 0 = λ k. HasPath t path k in
+        let puts = planned (subst Here (sym m.id) there.at) (ap t.node m.id ∙ there.node_stands) (sym m.kind) in
+        let changed = changes_list t loaded.id loaded.list.items (moved_list move) stored new changes in
+        let what = puts_relist t room stand path loaded.id there.at now m.id new changed outcome.changes.items puts in
+        let list = list_then t loaded.id new in
+        let in_folder : parent_of to ≡ up = ap parent_of is ∙ parent_of_end up name in
+        let own : own_part loaded.list.items ≡ o.own =
+        ap own_part found.loaded.list ∙ own_part_of_list room stand.lawful path o there.object_stands in
+        let handed : move.into.list.items ≡ list_of room up = found.into.list ∙ ap (list_of room) in_folder in
+        let as_moved : list_of (renamed room path target) target ≡ moved_list move =
+        list_of_moved room stand.lawful path target o m.apart there.object_stands m.free up name found.into.object refl
+        (ap (object_at room) (sym in_folder) ∙ found.into.is_there.object_stands)
+        ∙ ap (λ es. with_inherited es o.aclflag o.kind (list_of room up)) (sym own)
+        ∙ ap (λ flag. with_inherited (own_part loaded.list.items) flag o.kind (list_of room up))
+        (sym there.shows.aclflag)
+        ∙ ap (λ kind. with_inherited (own_part loaded.list.items) loaded.aclflag kind (list_of room up))
+        (sym there.shows.kind)
+        ∙ ap (with_inherited (own_part loaded.list.items) loaded.aclflag loaded.kind) (sym handed) in
+        let list_is : list_of (renamed room path target) target ≡ list =
+        as_moved ∙ sym (list_then_is t loaded.id loaded.list.items (moved_list move) stored new changes) in
+        let later = apply_all_to_objects (PutNode now ∷ map put what.0) t in
+        let w = moves_lists t room stand path up name o node now move.into.id m list list_is what.0 what.2 in
         let Stands : Path → Type 0 = λ p. RepresentsRoom later (renamed room path p) in
         let Keeps : Path → Type 0 = λ p. (q : Path) (id : ℕ) → HasPath t q id → HasPath later (moved path p q) id in
-        success_plans t room caller (C.Rename path to) outcome stand (PutNode now ∷ []) passed replied planned (tt, tt)
-        (rules_moved t room stand path up name o node now move.into.id m, tt)
-        (subst Stands (sym is) (moved_represents t room stand path up name o node now move.into.id m))
-        (λ q id at stands there. subst Keeps (sym is) (moved_keeps t room stand path up name o node now move.into.id m) q id at)
-        (λ id absent present. absurd (none_new_moved t room stand path up name o node now move.into.id m id absent present))
+        success_plans t room caller (C.Rename path to) outcome stand
+        (PutNode now ∷ map put what.0) passed replied what.1
+        (relisted_of_objects t room stand path list what.0 what.2 now)
+        (rules_after t room stand path up name o node now move.into.id m list list_is what.0 what.2).0
+        (relisted_few t room stand path list what.0 what.2 now)
+        (subst Stands (sym is) (moved_represents t room stand path up name o node now move.into.id m later w))
+        (λ q id at stands there.
+        subst Keeps (sym is) (moved_keeps t room stand path up name o node now move.into.id m later w) q id at)
+        (λ id absent present.
+        absurd (none_new_moved t room stand path up name o node now move.into.id m later w id absent present))

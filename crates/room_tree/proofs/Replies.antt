@@ -13,10 +13,10 @@ use Rattle.room_records.specs.Records.{ObjectRecords, IsChild}
 use Rattle.room_records.specs.Room.{Object, Room, list_of, standing_of}
 use Rattle.room_records.specs.Rules.{ObjectRules}
 use Rattle.room_records.proofs.Folders.{pair_of, child_named}
-use Rattle.room_tree.specs.declared.place.Place.{Place}
+use Rattle.room_tree.specs.declared.loaded.LoadedObject.{LoadedObject}
 use Rattle.room_commands.specs.ReplyModel.{ReplyModel, Stat, Entries, Allowed}
 use Rattle.room_commands.specs.Effect.{object_or_default, attributes_of, size_of, no_object}
-use Rattle.room_tree.specs.Places.{IsPlace, node_of, listed}
+use Rattle.room_tree.specs.LoadedObjects.{IsLoaded, node_of, listed}
 use Rattle.room_tree.proofs.Checking.{there}
 
 or_default : Option Object → Object
@@ -24,36 +24,49 @@ or_default None = no_object
 or_default (Some o) = o
 
 abbrev pub stat_of : Node → ℕ → ReplyModel
-stat_of node size = Stat (record { aclflag = node.aclflag; group = node.group; kind = node.kind; owner = node.owner; size = size })
+stat_of node size =
+    Stat (record { aclflag = node.aclflag; group = node.group; kind = node.kind; owner = node.owner; size = size })
 
-module _ (t : ObjectRecords) (room : Room) (path : Path) (place : Place) (found : IsPlace t room path place) where
+module _ (t : ObjectRecords) (room : Room) (path : Path)
+    (loaded : LoadedObject) (found : IsLoaded t room path loaded) where
   pub object_is : object_or_default room path ≡ found.object
-  object_is = ap (λ (o : Option Object). object_from o) (there t room path place found)
+  object_is = ap (λ (o : Option Object). object_from o) (there t room path loaded found)
     where
       object_from : Option Object → Object
       object_from None = no_object
       object_from (Some o) = o
 
-  pub stat_reply : (node : Node) (size : ℕ) → node ≡ node_of place → size ≡ size_of room path place.kind → stat_of node size ≡ Stat (attributes_of room path (object_or_default room path))
+  pub stat_reply : (node : Node) (size : ℕ) → node ≡ node_of loaded → size ≡ size_of room path loaded.kind
+      → stat_of node size ≡ Stat (attributes_of room path (object_or_default room path))
   stat_reply node size is sized =
       let shows = found.is_there.shows in
       let size_is : size ≡ size_of room path found.object.kind = sized ∙ ap (size_of room path) shows.kind in
-      let shown : stat_of (node_of place) size ≡ Stat (attributes_of room path found.object) =
-      (λ i. Stat (record { aclflag = shows.aclflag i; group = shows.group i; kind = shows.kind i; owner = shows.owner i; size = size_is i })) in
+      let shown : stat_of (node_of loaded) size ≡ Stat (attributes_of room path found.object) =
+      (λ i. Stat (record {
+        aclflag = shows.aclflag i;
+        group = shows.group i;
+        kind = shows.kind i;
+        owner = shows.owner i;
+        size = size_is i;
+      })) in
       ap (λ n. stat_of n size) is ∙ shown ∙ ap (λ o. Stat (attributes_of room path o)) (sym object_is)
 
-  pub entries_reply : Entries place.aclflag place.list.items ≡ Entries (object_or_default room path).aclflag (list_of room path)
+  pub entries_reply : Entries loaded.aclflag loaded.list.items
+      ≡ Entries (object_or_default room path).aclflag (list_of room path)
   entries_reply =
-      let flags : place.aclflag ≡ (object_or_default room path).aclflag = found.is_there.shows.aclflag ∙ ap (λ (o : Object). o.aclflag) (sym object_is) in
+      let flags : loaded.aclflag ≡ (object_or_default room path).aclflag =
+      found.is_there.shows.aclflag ∙ ap (λ (o : Object). o.aclflag) (sym object_is) in
       (λ i. Entries (flags i) (found.list i))
 
-  pub access_reply : (caller : SubjectModel) (mask : ℕ) → Allowed (bit_and mask (allowed_mask place.list.items caller place.standing))
+  pub access_reply : (caller : SubjectModel) (mask : ℕ)
+      → Allowed (bit_and mask (allowed_mask loaded.list.items caller loaded.standing))
       ≡ Allowed (bit_and mask (allowed_mask (list_of room path) caller (standing_of (object_or_default room path))))
   access_reply caller mask =
       let shows = found.is_there.shows in
-      let shown : Allowed (bit_and mask (allowed_mask place.list.items caller place.standing))
+      let shown : Allowed (bit_and mask (allowed_mask loaded.list.items caller loaded.standing))
       ≡ Allowed (bit_and mask (allowed_mask (list_of room path) caller (standing_of found.object))) =
-      (λ i. Allowed (bit_and mask (allowed_mask (found.list i) caller (record { owner = shows.owner i; group = shows.group i })))) in
+      (λ i. Allowed (bit_and mask
+      (allowed_mask (found.list i) caller (record { owner = shows.owner i; group = shows.group i })))) in
       shown ∙ ap (λ o. Allowed (bit_and mask (allowed_mask (list_of room path) caller (standing_of o)))) (sym object_is)
 
 pub common_is_mask : (a b : ℕ) → IsMask a → IsMask (bit_and a b)
@@ -63,8 +76,10 @@ common_is_mask a b mask =
     rw (and_comm a b) turned
 
 -- the nodes in a folder have names
-pub all_listed : (t : ObjectRecords) (rules : ObjectRules t) (id : ℕ) (nodes : List Node) → AllByRecursion (IsChild t id) nodes → filter_map listed nodes ≡ map pair_of nodes
+pub all_listed : (t : ObjectRecords) (rules : ObjectRules t) (id : ℕ) (nodes : List Node)
+    → AllByRecursion (IsChild t id) nodes → filter_map listed nodes ≡ map pair_of nodes
 all_listed t rules id [] all = refl
 all_listed t rules id (node ∷ nodes) all =
-    ap (λ name. cons_option (option_map (λ (n : Name). (n, node.kind)) name) (filter_map listed nodes)) (child_named t rules id node all.0)
+    ap (λ name. cons_option (option_map (λ (n : Name). (n, node.kind)) name) (filter_map listed nodes))
+    (child_named t rules id node all.0)
     ∙ ap (λ rest. pair_of node ∷ rest) (all_listed t rules id nodes all.1)

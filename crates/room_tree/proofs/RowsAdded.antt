@@ -1,5 +1,6 @@
 -- Rows with one object more stand for the room with it.
-use Rattle.std.proofs.Common.{◌≡◌, ◌≢◌, ℕ, ◌+◌, ◌<◌, ◌≤◌, refl, ap, sym, ◌∙◌, subst, arith, ◌⊎◌, inl, inr, List, [], ◌∷◌, ◌++◌, reverse, Option, None, Some, IsSome, IfSome, unwrap_or}
+use Rattle.std.proofs.Common.{◌≡◌, ◌≢◌, ℕ, ◌+◌, ◌<◌, ◌≤◌, refl, ap, sym, ◌∙◌, subst, arith, ◌⊎◌, inl, inr, List, []}
+use Rattle.std.proofs.Common.{◌∷◌, ◌++◌, reverse, Option, None, Some, IsSome, IfSome, unwrap_or}
 use Rattle.std.specs.List.{AllByRecursion}
 use Rattle.std.proofs.lemmas.List.{reverse-append}
 use Rattle.room_acl.specs.declared.subject.Kind.TheVariants.{Folder}
@@ -9,7 +10,7 @@ use Rattle.room_records.specs.Names.{Name, Path, IsFileName}
 use Rattle.room_records.specs.Records.{ObjectRecords, IsChild}
 use Rattle.room_records.specs.Rules.{ObjectRules, IsRoot}
 use Rattle.room_records.specs.Changes.{apply_to_objects}
-use Rattle.room_records.specs.Room.{Object, Room, IsRoom, object_at}
+use Rattle.room_records.specs.Room.{Object, Room, IsRoom, object_at, list_of}
 use Rattle.room_records.specs.Representation.{RepresentsRoom, NodeIsObject, RowsShowObject, HasPath, NamesUpwards}
 use Rattle.room_records.proofs.RoomsMap.{some_is, none_is_some}
 use Rattle.room_records.proofs.RulesKept.{same_or_other, if_same, if_other, some_or_none}
@@ -27,22 +28,26 @@ pub record IsFree (t : ObjectRecords) (node : Node) (above : ℕ) (name : Name) 
   pub lawful : IsFileName name
   pub alone : (other : Node) → IsChild t above other → other.name ≡ Some name → ⊥
 
-module _ (t : ObjectRecords) (rules : ObjectRules t) (node : Node) (above : ℕ) (name : Name) (free : IsFree t node above name) where
+module _ (t : ObjectRecords) (rules : ObjectRules t) (node : Node)
+    (above : ℕ) (name : Name) (free : IsFree t node above name) where
   abbrev later : ObjectRecords
   later = apply_to_objects (PutNode node) t
 
   forth : (id : ℕ) (found : Node) → t.node id ≡ Some found → later.node id ≡ Some found
   forth id found stands =
-      if_other id node.id (Some node) (t.node id) (λ same. none_is_some found (sym free.fresh ∙ ap t.node (sym same) ∙ stands)) ∙ stands
+      if_other id node.id (Some node) (t.node id)
+      (λ same. none_is_some found (sym free.fresh ∙ ap t.node (sym same) ∙ stands)) ∙ stands
 
-  back : (id : ℕ) (found : Node) → later.node id ≡ Some found → ((id ≡ node.id) × (node ≡ found)) ⊎ (t.node id ≡ Some found)
+  back : (id : ℕ) (found : Node) → later.node id ≡ Some found
+      → ((id ≡ node.id) × (node ≡ found)) ⊎ (t.node id ≡ Some found)
   back id found stands = elim (same_or_other id node.id) [
     | inl same ↦ inl (same, some_is node found (sym (if_same id node.id (Some node) (t.node id) same) ∙ stands))
     | inr other ↦ inr (sym (if_other id node.id (Some node) (t.node id) other) ∙ stands)
   ]
 
   in_folder : (other : Node) → t.node other.id ≡ Some other → other.parent ≡ node.parent → other.name ≡ node.name → ⊥
-  in_folder other stands parent named = free.alone other (record { stands = stands; inside = parent ∙ free.inside }) (named ∙ free.named)
+  in_folder other stands parent named =
+      free.alone other (record { stands = stands; inside = parent ∙ free.inside }) (named ∙ free.named)
 
   pub rules_put_new : ObjectRules later
   rules_put_new = record {
@@ -52,12 +57,16 @@ module _ (t : ObjectRecords) (rules : ObjectRules t) (node : Node) (above : ℕ)
       | inr old ↦ rules.numbered id found old
     ];
     root = elim (some_or_none (t.node 1)) [
-      | inl none ↦ absurd (let There : Option Node → Type 0 = λ o. IsSome o in let f = subst There none rules.has_root in cc)
-      | inr found ↦ (let Root : Option Node → Type 0 = λ o. IfSome o IsRoot in subst Root (found.1 ∙ sym (forth 1 found.0 found.1)) rules.root)
+      | inl none ↦
+          absurd (let There : Option Node → Type 0 = λ o. IsSome o in let f = subst There none rules.has_root in cc)
+      | inr found ↦ (let Root : Option Node → Type 0 = λ o. IfSome o IsRoot in
+          subst Root (found.1 ∙ sym (forth 1 found.0 found.1)) rules.root)
     ];
     has_root = elim (some_or_none (t.node 1)) [
-      | inl none ↦ absurd (let There : Option Node → Type 0 = λ o. IsSome o in let f = subst There none rules.has_root in cc)
-      | inr found ↦ (let There : Option Node → Type 0 = λ o. IsSome o in subst There (sym (forth 1 found.0 found.1)) refl)
+      | inl none ↦
+          absurd (let There : Option Node → Type 0 = λ o. IsSome o in let f = subst There none rules.has_root in cc)
+      | inr found ↦
+          (let There : Option Node → Type 0 = λ o. IsSome o in subst There (sym (forth 1 found.0 found.1)) refl)
     ];
     below = λ id found stands other. elim (back id found stands) [
       | inl new ↦ record {
@@ -84,10 +93,12 @@ module _ (t : ObjectRecords) (rules : ObjectRules t) (node : Node) (above : ℕ)
     once = λ a b a_stands b_stands parents names. elim (back a.id a a_stands) [
       | inl a_new ↦ elim (back b.id b b_stands) [
         | inl b_new ↦ a_new.0 ∙ sym b_new.0
-        | inr b_old ↦ absurd (in_folder b b_old (sym parents ∙ ap (λ (n : Node). n.parent) (sym a_new.1)) (sym names ∙ ap (λ (n : Node). n.name) (sym a_new.1)))
+        | inr b_old ↦ absurd (in_folder b b_old (sym parents ∙ ap (λ (n : Node). n.parent) (sym a_new.1))
+            (sym names ∙ ap (λ (n : Node). n.name) (sym a_new.1)))
       ]
       | inr a_old ↦ elim (back b.id b b_stands) [
-        | inl b_new ↦ absurd (in_folder a a_old (parents ∙ ap (λ (n : Node). n.parent) (sym b_new.1)) (names ∙ ap (λ (n : Node). n.name) (sym b_new.1)))
+        | inl b_new ↦ absurd (in_folder a a_old (parents ∙ ap (λ (n : Node). n.parent) (sym b_new.1))
+            (names ∙ ap (λ (n : Node). n.name) (sym b_new.1)))
         | inr b_old ↦ rules.once a b a_old b_old parents names
       ]
     ];
@@ -105,7 +116,7 @@ pub record Adds (t later : ObjectRecords) (room after : Room) (path : Path) (o :
   pub rules : ObjectRules later
   pub stands : later.node node.id ≡ Some node
   pub nodes_away : (id : ℕ) → id ≢ node.id → later.node id ≡ t.node id
-  pub entries_away : (id : ℕ) → id ≢ node.id → later.entries id ≡ t.entries id
+  pub lists_away : (q : Path) (id : ℕ) → HasPath t q id → later.entries id ≡ list_of after q
   pub documents_away : (id : ℕ) → id ≢ node.id → later.document id ≡ t.document id
   pub folder : Path
   pub name : Name
@@ -119,9 +130,11 @@ pub record Adds (t later : ObjectRecords) (room after : Room) (path : Path) (o :
   pub lawful : IsRoom after
   pub at_path : object_at after path ≡ Some o
   pub old : (q : Path) (p : Object) → object_at room q ≡ Some p → object_at after q ≡ Some p
-  pub new_or_old : (q : Path) (p : Object) → object_at after q ≡ Some p → ((q ≡ path) × (o ≡ p)) ⊎ (object_at room q ≡ Some p)
+  pub new_or_old : (q : Path) (p : Object) → object_at after q ≡ Some p
+      → ((q ≡ path) × (o ≡ p)) ⊎ (object_at room q ≡ Some p)
 
-module _ (t later : ObjectRecords) (room after : Room) (path : Path) (o : Object) (node : Node) (stand : RepresentsRoom t room) (a : Adds t later room after path o node) where
+module _ (t later : ObjectRecords) (room after : Room) (path : Path) (o : Object) (node : Node)
+    (stand : RepresentsRoom t room) (a : Adds t later room after path o node) where
   apart : (id : ℕ) (found : Node) → t.node id ≡ Some found → id ≢ node.id
   apart id found stands same = none_is_some found (sym a.fresh ∙ ap t.node (sym same) ∙ stands)
 
@@ -136,9 +149,11 @@ module _ (t later : ObjectRecords) (room after : Room) (path : Path) (o : Object
   new_at : HasPath later path node.id
   new_at =
       let Up : List Name → Type 0 = λ names. NamesUpwards later names node.id in
-      subst Up (sym (ap reverse a.path_is ∙ reverse-append a.folder (a.name ∷ []))) (node, a.above, a.stands, a.named, a.inside, names_stay (reverse a.folder) a.above a.folder_at)
+      subst Up (sym (ap reverse a.path_is ∙ reverse-append a.folder (a.name ∷ [])))
+      (node, a.above, a.stands, a.named, a.inside, names_stay (reverse a.folder) a.above a.folder_at)
 
-  old_is : (id : ℕ) (found : Node) (q : Path) (p : Object) → NodeIsObject t room id found q p → NodeIsObject later after id found q p
+  old_is : (id : ℕ) (found : Node) (q : Path) (p : Object)
+      → NodeIsObject t room id found q p → NodeIsObject later after id found q p
   old_is id found q p is =
       let number : found.id ≡ id = (stand.rules.numbered id found is.node_stands).0 in
       let other = apart id found is.node_stands in
@@ -152,8 +167,9 @@ module _ (t later : ObjectRecords) (room after : Room) (path : Path) (o : Object
           owner = is.shows.owner;
           group = is.shows.group;
           aclflag = is.shows.aclflag;
-          entries = a.entries_away found.id other_number ∙ is.shows.entries;
-          bytes = ap (λ (d : Option (List ℕ)). unwrap_or d []) (a.documents_away found.id other_number) ∙ is.shows.bytes;
+          entries = ap later.entries number ∙ a.lists_away q id is.at;
+          bytes = ap (λ (d : Option (List ℕ)). unwrap_or d [])
+              (a.documents_away found.id other_number) ∙ is.shows.bytes;
         };
       }
 

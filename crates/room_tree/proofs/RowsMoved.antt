@@ -1,5 +1,7 @@
 -- Rows where one node has another folder and name stand for the room with its subtree moved.
-use Rattle.std.proofs.Common.{◌≡◌, ◌≢◌, ℕ, ◌≤◌, refl, ap, sym, ◌∙◌, subst, arith, Bool, true, false, cond, ◌⊎◌, inl, inr, List, [], ◌∷◌, ◌++◌, reverse, length, drop, append_assoc, append-nil, length-append, Option, None, Some, IsSome, IsNone, IfSome, unwrap_or}
+use Rattle.std.proofs.Common.{◌≡◌, ◌≢◌, ℕ, ◌≤◌, refl, ap, sym, ◌∙◌, subst, arith, Bool, true, false, cond, ◌⊎◌, inl}
+use Rattle.std.proofs.Common.{inr, List, [], ◌∷◌, ◌++◌, reverse, length, drop, append_assoc, append-nil, length-append}
+use Rattle.std.proofs.Common.{Option, None, Some, IsSome, IsNone, IfSome, unwrap_or}
 use Rattle.std.proofs.lemmas.List.{reverse-append, reverse-reverse, drop-append-le, drop_all, same_from_push}
 use Rattle.room_acl.specs.declared.subject.Kind.TheVariants.{Folder}
 use Rattle.room_records.specs.declared.node.Node.{Node}
@@ -8,59 +10,69 @@ use Rattle.room_records.specs.Names.{Name, Path, IsFileName}
 use Rattle.room_records.specs.Records.{ObjectRecords, IsChild}
 use Rattle.room_records.specs.Rules.{ObjectRules, IsRoot}
 use Rattle.room_records.specs.Changes.{apply_to_objects}
-use Rattle.room_records.specs.Room.{Object, Room, IsRoom, object_at}
+use Rattle.room_records.specs.Room.{Object, Room, IsRoom, object_at, list_of}
 use Rattle.room_records.specs.Representation.{RepresentsRoom, NodeIsObject, HasPath, NamesUpwards}
 use Rattle.room_records.proofs.Paths.{root_only, reads_one, child_is_at, object_at_node}
 use Rattle.room_records.proofs.RoomsMap.{some_is, none_is_some, Ends, ends}
-use Rattle.room_records.proofs.RulesKept.{same_or_other, if_same, if_other, some_or_none}
+use Rattle.room_records.proofs.RulesKept.{same_or_other, if_same, if_other, some_or_none, shape_itself, names_by_shape}
 use Rattle.room_commands.specs.Checks.{is_at_or_below}
 use Rattle.room_commands.specs.Effect.{renamed, moved}
 use Rattle.room_tree.proofs.Changed.{none_and_some}
 use Rattle.room_commands.proofs.Renaming.{at_behind}
-use Rattle.room_commands.proofs.RoomsRenamed.{rest_below, below_more, not_both, at_moved, Stands, Moved, Stayed, stands_after}
+use Rattle.room_commands.proofs.RoomsRenamed.{rest_below, below_more, not_both, at_moved, Stands, Moved}
+use Rattle.room_commands.proofs.RoomsRenamed.{Stayed, stands_after}
 use Rattle.room_tree.proofs.RowsReplaced.{path_of_node}
 
 -- an object below a path, but not at it, has its folder there too
-below_parent : (q path : Path) (name : Name) → is_at_or_below (q ++ name ∷ []) path ≡ true → (q ++ name ∷ [] ≡ path → ⊥) → is_at_or_below q path ≡ true
-below_parent q path name below other = by_rest (drop (length path) (q ++ name ∷ [])) (rest_below path (q ++ name ∷ []) below)
+below_parent : (q path : Path) (name : Name) → is_at_or_below (q ++ name ∷ []) path ≡ true
+    → (q ++ name ∷ [] ≡ path → ⊥) → is_at_or_below q path ≡ true
+below_parent q path name below other =
+    by_rest (drop (length path) (q ++ name ∷ [])) (rest_below path (q ++ name ∷ []) below)
   where
     by_rest : (rest : Path) → q ++ name ∷ [] ≡ path ++ rest → is_at_or_below q path ≡ true
     by_rest [] same = absurd (other (same ∙ append-nil path))
     by_rest (first ∷ rest) same =
         let end = ends first rest in
-        let split : q ++ name ∷ [] ≡ (path ++ end.folder) ++ end.name ∷ [] = same ∙ ap (λ r. path ++ r) end.is ∙ sym (append_assoc path end.folder (end.name ∷ [])) in
+        let split : q ++ name ∷ [] ≡ (path ++ end.folder) ++ end.name ∷ [] =
+        same ∙ ap (λ r. path ++ r) end.is ∙ sym (append_assoc path end.folder (end.name ∷ [])) in
         let parts = same_from_push q (path ++ end.folder) name end.name split in
         ap (λ p. is_at_or_below p path) parts.0 ∙ at_behind path end.folder
 
 -- an object in a moved folder moves with it
-moved_child : (q path to : Path) (name : Name) → is_at_or_below q path ≡ true → moved path to (q ++ name ∷ []) ≡ moved path to q ++ name ∷ []
+moved_child : (q path to : Path) (name : Name) → is_at_or_below q path ≡ true
+    → moved path to (q ++ name ∷ []) ≡ moved path to q ++ name ∷ []
 moved_child q path to name below =
     let whole = below_more path q (name ∷ []) below in
-    let long : length path ≤ length q = omega (arith, ap length (rest_below path q below) ∙ length-append path (drop (length path) q)) in
+    let long : length path ≤ length q =
+    omega (arith, ap length (rest_below path q below) ∙ length-append path (drop (length path) q)) in
     ap (λ b. cond b (to ++ drop (length path) (q ++ name ∷ [])) (q ++ name ∷ [])) whole
     ∙ ap (λ r. to ++ r) (drop-append-le (length path) q (name ∷ []) long)
     ∙ sym (append_assoc to (drop (length path) q) (name ∷ []))
     ∙ ap (λ b. cond b (to ++ drop (length path) q) q ++ name ∷ []) (sym below)
 
-moved_off : (q path to : Path) → is_at_or_below q path ≡ false → moved path to q ≡ q
+pub moved_off : (q path to : Path) → is_at_or_below q path ≡ false → moved path to q ≡ q
 moved_off q path to off = ap (λ b. cond b (to ++ drop (length path) q) q) off
 
 -- what is at the path goes to the new one
 moved_top : (path to : Path) → moved path to path ≡ to
 moved_top path to =
-    let here : is_at_or_below path path ≡ true = ap (λ p. is_at_or_below p path) (sym (append-nil path)) ∙ at_behind path [] in
-    ap (λ b. cond b (to ++ drop (length path) path) path) here ∙ ap (λ r. to ++ r) (drop_all (length path) path (omega arith)) ∙ append-nil to
+    let here : is_at_or_below path path ≡ true =
+    ap (λ p. is_at_or_below p path) (sym (append-nil path)) ∙ at_behind path [] in
+    ap (λ b. cond b (to ++ drop (length path) path) path) here
+    ∙ ap (λ r. to ++ r) (drop_all (length path) path (omega arith)) ∙ append-nil to
 
-moved_rest : (path to rest : Path) → moved path to (path ++ rest) ≡ to ++ rest
+pub moved_rest : (path to rest : Path) → moved path to (path ++ rest) ≡ to ++ rest
 moved_rest path to rest = by_rest rest
   where
     by_rest : (r : Path) → moved path to (path ++ r) ≡ to ++ r
     by_rest r =
         ap (λ b. cond b (to ++ drop (length path) (path ++ r)) (path ++ r)) (at_behind path r)
-        ∙ ap (λ x. to ++ x) (drop-append-le (length path) path r (omega arith) ∙ ap (λ x. x ++ r) (drop_all (length path) path (omega arith)))
+        ∙ ap (λ x. to ++ x) (drop-append-le (length path) path r (omega arith)
+        ∙ ap (λ x. x ++ r) (drop_all (length path) path (omega arith)))
 
 -- one node with another folder and name
-pub record MovesNode (t : ObjectRecords) (room : Room) (path up : Path) (last : Name) (o : Object) (node now : Node) (above : ℕ) : Type 0 where
+pub record MovesNode (t : ObjectRecords) (room : Room) (path up : Path)
+    (last : Name) (o : Object) (node now : Node) (above : ℕ) : Type 0 where
   pub is_there : NodeIsObject t room node.id node path o
   pub end : Ends path
   pub off_root : is_at_or_below [] path ≡ false
@@ -80,7 +92,16 @@ pub record MovesNode (t : ObjectRecords) (room : Room) (path up : Path) (last : 
   pub aclflag : now.aclflag ≡ node.aclflag
   pub lawful : IsRoom (renamed room path (up ++ last ∷ []))
 
-module _ (t : ObjectRecords) (room : Room) (stand : RepresentsRoom t room) (path up : Path) (last : Name) (o : Object) (node now : Node) (above : ℕ)
+-- the rows after it, where each list is that of the room after
+pub record MovesLists (t rows : ObjectRecords) (now : Node) (room : Room) (path to : Path) : Type 0 where
+  pub nodes : rows.node ≡ (apply_to_objects (PutNode now) t).node
+  pub documents : rows.document ≡ t.document
+  pub next : rows.next ≡ t.next
+  pub rules : ObjectRules rows
+  pub lists : (q : Path) (id : ℕ) → HasPath t q id → rows.entries id ≡ list_of (renamed room path to) (moved path to q)
+
+module _ (t : ObjectRecords) (room : Room) (stand : RepresentsRoom t room)
+    (path up : Path) (last : Name) (o : Object) (node now : Node) (above : ℕ)
     (m : MovesNode t room path up last o node now above) where
   abbrev to : Path
   to = up ++ last ∷ []
@@ -99,7 +120,8 @@ module _ (t : ObjectRecords) (room : Room) (stand : RepresentsRoom t room) (path
     where
       by_test : (b : Bool) → is_at_or_below q path ≡ b → b ≡ false
       by_test false e = refl
-      by_test true below = absurd (not_both (is_at_or_below (q ++ name ∷ []) path) (below_more path q (name ∷ []) below) off)
+      by_test true below =
+          absurd (not_both (is_at_or_below (q ++ name ∷ []) path) (below_more path q (name ∷ []) below) off)
 
   turned : (name : Name) (names : List Name) → reverse (name ∷ names) ≡ reverse names ++ name ∷ []
   turned name names = reverse-append (name ∷ []) names
@@ -108,46 +130,59 @@ module _ (t : ObjectRecords) (room : Room) (stand : RepresentsRoom t room) (path
   is_path_of names id at same =
       let At : List Name → Type 0 = λ ns. NamesUpwards t ns id in
       let Here : ℕ → Type 0 = λ k. HasPath t (reverse names) k in
-      path_of_node t stand.rules (reverse names) path node.id (subst Here same (subst At (sym (reverse-reverse names)) at)) m.is_there.at
+      path_of_node t stand.rules (reverse names) path node.id
+      (subst Here same (subst At (sym (reverse-reverse names)) at)) m.is_there.at
 
   itself_below : is_at_or_below path path ≡ true
   itself_below = ap (λ p. is_at_or_below p path) (sym (append-nil path)) ∙ at_behind path []
 
   -- what is not below the old place stays
-  names_off : (names : List Name) (id : ℕ) → NamesUpwards t names id → is_at_or_below (reverse names) path ≡ false → NamesUpwards later names id
+  names_off : (names : List Name) (id : ℕ) → NamesUpwards t names id
+      → is_at_or_below (reverse names) path ≡ false → NamesUpwards later names id
   names_off [] id at off = at
   names_off (name ∷ names) id (found, parent, stands, named, inside, rest) off =
       let other : id ≢ node.id = (λ same. not_both (is_at_or_below (reverse (name ∷ names)) path)
-      (ap (λ p. is_at_or_below p path) (is_path_of (name ∷ names) id (found, parent, stands, named, inside, rest) same) ∙ itself_below) off) in (
+      (ap (λ p. is_at_or_below p path) (is_path_of (name ∷ names) id (found, parent, stands, named, inside, rest) same)
+      ∙ itself_below) off) in (
         found,
         parent,
         away id other ∙ stands,
         named,
         inside,
-        names_off names parent rest (off_by (reverse names) name (ap (λ p. is_at_or_below p path) (sym (turned name names)) ∙ off)),
+        names_off names parent rest
+            (off_by (reverse names) name (ap (λ p. is_at_or_below p path) (sym (turned name names)) ∙ off)),
       )
 
   at_to : HasPath later to node.id
   at_to =
       let At : List Name → Type 0 = λ ns. NamesUpwards later ns node.id in
       let Off : Path → Type 0 = λ p. is_at_or_below p path ≡ false in
-      subst At (sym (reverse-append up (last ∷ [])))
-      (now, above, put node.id refl, m.name, m.inside, names_off (reverse up) above m.up_at (subst Off (sym (reverse-reverse up)) (off_by up last m.apart)))
+      subst At (sym (reverse-append up (last ∷ []))) (
+        now,
+        above,
+        put node.id refl,
+        m.name,
+        m.inside,
+        names_off (reverse up) above m.up_at (subst Off (sym (reverse-reverse up)) (off_by up last m.apart)),
+      )
 
   -- each node is where its path was moved
-  names_moved : (names : List Name) (id : ℕ) → NamesUpwards t names id → HasPath later (moved path to (reverse names)) id
+  names_moved : (names : List Name) (id : ℕ) → NamesUpwards t names id
+      → HasPath later (moved path to (reverse names)) id
   names_moved [] id at =
       let At : Path → Type 0 = λ p. HasPath later p id in
       subst At (sym (moved_off [] path to m.off_root)) at
   names_moved (name ∷ names) id (found, parent, stands, named, inside, rest) =
       by_place (is_at_or_below (reverse (name ∷ names)) path) refl (names_moved names parent rest)
     where
-      by_place : (b : Bool) → is_at_or_below (reverse (name ∷ names)) path ≡ b → HasPath later (moved path to (reverse names)) parent → HasPath later (moved path to (reverse (name ∷ names))) id
+      by_place : (b : Bool) → is_at_or_below (reverse (name ∷ names)) path ≡ b → HasPath later
+          (moved path to (reverse names)) parent → HasPath later (moved path to (reverse (name ∷ names))) id
       by_place false off folder =
           let Up : List Name → Type 0 = λ ns. NamesUpwards later ns id in
           let Here : Path → Type 0 = λ p. HasPath later p id in
           subst Here (sym (moved_off (reverse (name ∷ names)) path to off))
-          (subst Up (sym (reverse-reverse (name ∷ names))) (names_off (name ∷ names) id (found, parent, stands, named, inside, rest) off))
+          (subst Up (sym (reverse-reverse (name ∷ names)))
+          (names_off (name ∷ names) id (found, parent, stands, named, inside, rest) off))
       by_place true below folder = elim (same_or_other id node.id) [
         | inl same ↦
             let Here : Path → Type 0 = λ p. HasPath later p id in
@@ -159,16 +194,20 @@ module _ (t : ObjectRecords) (room : Room) (stand : RepresentsRoom t room) (path
             let not_top : reverse names ++ name ∷ [] ≡ path → ⊥ = (λ top. other (
             let Up : List Name → Type 0 = λ ns. NamesUpwards t ns id in
             reads_one t stand.rules (reverse path) id node.id
-            (subst Up (sym (ap reverse (sym (turned name names ∙ top)) ∙ reverse-reverse (name ∷ names))) (found, parent, stands, named, inside, rest)) m.is_there.at)) in
-            let in_subtree = below_parent (reverse names) path name (ap (λ p. is_at_or_below p path) (sym (turned name names)) ∙ below) not_top in
+            (subst Up (sym (ap reverse (sym (turned name names ∙ top)) ∙ reverse-reverse (name ∷ names)))
+            (found, parent, stands, named, inside, rest)) m.is_there.at)) in
+            let in_subtree = below_parent (reverse names) path name
+            (ap (λ p. is_at_or_below p path) (sym (turned name names)) ∙ below) not_top in
             let Up : List Name → Type 0 = λ ns. NamesUpwards later ns id in
-            subst Here (sym (ap (moved path to) (turned name names) ∙ moved_child (reverse names) path to name in_subtree))
-            (subst Up (sym (reverse-append (moved path to (reverse names)) (name ∷ []))) (found, parent, away id other ∙ stands, named, inside, folder))
+            subst Here
+            (sym (ap (moved path to) (turned name names) ∙ moved_child (reverse names) path to name in_subtree))
+            (subst Up (sym (reverse-append (moved path to (reverse names)) (name ∷ [])))
+            (found, parent, away id other ∙ stands, named, inside, folder))
       ]
 
   -- numbers are kept
-  pub moved_keeps : (q : Path) (id : ℕ) → HasPath t q id → HasPath later (moved path to q) id
-  moved_keeps q id at =
+  keeps_place : (q : Path) (id : ℕ) → HasPath t q id → HasPath later (moved path to q) id
+  keeps_place q id at =
       let Here : Path → Type 0 = λ p. HasPath later (moved path to p) id in
       subst Here (reverse-reverse q) (names_moved (reverse q) id at)
 
@@ -178,13 +217,20 @@ module _ (t : ObjectRecords) (room : Room) (stand : RepresentsRoom t room) (path
       let up_names = subst Up (ap reverse m.end.is ∙ reverse-append m.end.folder (m.end.name ∷ [])) m.is_there.at in
       root_only t stand.rules up_names.0 up_names.1 (ap t.node (sym same) ∙ up_names.2) up_names.4
 
-  forth : (id : ℕ) (found : Node) → t.node id ≡ Some found → (after : Node) × (later.node id ≡ Some after) × (after.kind ≡ found.kind)
+  forth : (id : ℕ) (found : Node) → t.node id ≡ Some found
+      → (after : Node) × (later.node id ≡ Some after) × (after.kind ≡ found.kind)
   forth id found stands = elim (same_or_other id node.id) [
-    | inl same ↦ (now, put id same, m.kind ∙ ap (λ (n : Node). n.kind) (some_is node found (sym m.is_there.node_stands ∙ ap t.node (sym same) ∙ stands)))
+    | inl same ↦ (
+      now,
+      put id same,
+      m.kind
+          ∙ ap (λ (n : Node). n.kind) (some_is node found (sym m.is_there.node_stands ∙ ap t.node (sym same) ∙ stands)),
+    )
     | inr other ↦ (found, away id other ∙ stands, refl)
   ]
 
-  back : (id : ℕ) (found : Node) → later.node id ≡ Some found → ((id ≡ node.id) × (now ≡ found)) ⊎ ((id ≢ node.id) × (t.node id ≡ Some found))
+  back : (id : ℕ) (found : Node) → later.node id ≡ Some found
+      → ((id ≡ node.id) × (now ≡ found)) ⊎ ((id ≢ node.id) × (t.node id ≡ Some found))
   back id found stands = elim (same_or_other id node.id) [
     | inl same ↦ inl (same, some_is now found (sym (put id same) ∙ stands))
     | inr other ↦ inr (other, sym (away id other) ∙ stands)
@@ -207,8 +253,11 @@ module _ (t : ObjectRecords) (room : Room) (stand : RepresentsRoom t room) (path
   pub rules_moved : ObjectRules (apply_to_objects (PutNode now) t)
   rules_moved = record {
     numbered = λ id found stands. elim (back id found stands) [
-      | inl new ↦ (let old = stand.rules.numbered node.id node m.is_there.node_stands in
-          (ap (λ (n : Node). n.id) (sym new.1) ∙ m.id ∙ sym new.0, omega (arith, new.0, old.1), omega (arith, new.0, old.2)))
+      | inl new ↦ (let old = stand.rules.numbered node.id node m.is_there.node_stands in (
+        ap (λ (n : Node). n.id) (sym new.1) ∙ m.id ∙ sym new.0,
+        omega (arith, new.0, old.1),
+        omega (arith, new.0, old.2),
+      ))
       | inr old ↦ stand.rules.numbered id found old.1
     ];
     root =
@@ -228,24 +277,27 @@ module _ (t : ObjectRecords) (room : Room) (stand : RepresentsRoom t room) (path
         named = ap (λ (n : Node). n.name) (sym new.1) ∙ m.name;
         lawful = m.named;
       })
-      | inr old ↦ (let under = stand.rules.below id found old.1 other in let parent = forth under.above under.parent under.stands in record {
-        above = under.above;
-        parent = parent.0;
-        has_parent = under.has_parent;
-        stands = parent.1;
-        folder = parent.2 ∙ under.folder;
-        name = under.name;
-        named = under.named;
-        lawful = under.lawful;
-      })
+      | inr old ↦ (let under = stand.rules.below id found old.1 other in
+          let parent = forth under.above under.parent under.stands in record {
+            above = under.above;
+            parent = parent.0;
+            has_parent = under.has_parent;
+            stands = parent.1;
+            folder = parent.2 ∙ under.folder;
+            name = under.name;
+            named = under.named;
+            lawful = under.lawful;
+          })
     ];
     once = λ a b a_stands b_stands parents names. elim (back a.id a a_stands) [
       | inl a_new ↦ elim (back b.id b b_stands) [
         | inl b_new ↦ a_new.0 ∙ sym b_new.0
-        | inr b_old ↦ absurd (alone b b_old.1 (sym parents ∙ ap (λ (n : Node). n.parent) (sym a_new.1)) (sym names ∙ ap (λ (n : Node). n.name) (sym a_new.1)))
+        | inr b_old ↦ absurd (alone b b_old.1 (sym parents ∙ ap (λ (n : Node). n.parent) (sym a_new.1))
+            (sym names ∙ ap (λ (n : Node). n.name) (sym a_new.1)))
       ]
       | inr a_old ↦ elim (back b.id b b_stands) [
-        | inl b_new ↦ absurd (alone a a_old.1 (parents ∙ ap (λ (n : Node). n.parent) (sym b_new.1)) (names ∙ ap (λ (n : Node). n.name) (sym b_new.1)))
+        | inl b_new ↦ absurd (alone a a_old.1 (parents ∙ ap (λ (n : Node). n.parent) (sym b_new.1))
+            (names ∙ ap (λ (n : Node). n.name) (sym b_new.1)))
         | inr b_old ↦ stand.rules.once a b a_old.1 b_old.1 parents names
       ]
     ];
@@ -257,88 +309,108 @@ module _ (t : ObjectRecords) (room : Room) (stand : RepresentsRoom t room) (path
     next = stand.rules.next;
   }
 
-  -- what a node shows moves with it
-  moved_is : (id : ℕ) (found : Node) (q : Path) (p : Object) → NodeIsObject t room id found q p → (after : Node) × NodeIsObject later (renamed room path to) id after (moved path to q) p
-  moved_is id found q p is = elim (same_or_other id node.id) [
-    | inl same ↦
-        let same_node : node ≡ found = some_is node found (sym m.is_there.node_stands ∙ ap t.node (sym same) ∙ is.node_stands) in (
-          now,
-          record {
-            at = moved_keeps q id is.at;
-            node_stands = put id same;
-            object_stands = stands_there;
-            shows = record {
-              kind = m.kind ∙ ap (λ (n : Node). n.kind) same_node ∙ is.shows.kind;
-              owner = m.owner ∙ ap (λ (n : Node). n.owner) same_node ∙ is.shows.owner;
-              group = m.group ∙ ap (λ (n : Node). n.group) same_node ∙ is.shows.group;
-              aclflag = m.aclflag ∙ ap (λ (n : Node). n.aclflag) same_node ∙ is.shows.aclflag;
-              entries = ap t.entries (m.id ∙ ap (λ (n : Node). n.id) same_node) ∙ is.shows.entries;
-              bytes = ap (λ k. unwrap_or (t.document k) []) (m.id ∙ ap (λ (n : Node). n.id) same_node) ∙ is.shows.bytes;
-            };
-          },
-        )
-    | inr other ↦ (
-      found,
-      record {
-        at = moved_keeps q id is.at;
-        node_stands = away id other ∙ is.node_stands;
-        object_stands = stands_there;
-        shows = record {
-          kind = is.shows.kind;
-          owner = is.shows.owner;
-          group = is.shows.group;
-          aclflag = is.shows.aclflag;
-          entries = is.shows.entries;
-          bytes = is.shows.bytes;
-        };
-      },
-    )
-  ]
-    where
-      stands_there : object_at (renamed room path to) (moved path to q) ≡ Some p
-      stands_there = at_moved room stand.lawful path to o m.apart m.is_there.object_stands m.free q p is.object_stands
-
-  same_row : (id : ℕ) (a b : Node) → later.node id ≡ Some a → later.node id ≡ Some b → a ≡ b
-  same_row id a b x y = some_is a b (sym x ∙ y)
-
   old_node : (id : ℕ) (found : Node) → later.node id ≡ Some found → (before : Node) × (t.node id ≡ Some before)
   old_node id found stands = elim (back id found stands) [
     | inl new ↦ (node, ap t.node new.0 ∙ m.is_there.node_stands)
     | inr old ↦ (found, old.1)
   ]
 
-  abbrev Found : Path → Object → Type 0
-  Found q p = (id : ℕ) × (found : Node) × NodeIsObject later (renamed room path to) id found q p
+  -- with other entries, where each is the list of its object in the room after
+  module _ (rows : ObjectRecords) (w : MovesLists t rows now room path to) where
+    row_after : (id : ℕ) → rows.node id ≡ later.node id
+    row_after id = ap (λ (f : ℕ → Option Node). f id) w.nodes
 
-  pub moved_represents : RepresentsRoom (apply_to_objects (PutNode now) t) (renamed room path to)
-  moved_represents = record {
-    rules = rules_moved;
-    lawful = m.lawful;
-    nodes = λ id found stands.
-        let before = old_node id found stands in
-        let was = stand.nodes id before.0 before.1 in
-        let after = moved_is id before.0 was.0 was.1 was.2 in
-        let Row : Node → Type 0 = λ n. NodeIsObject later (renamed room path to) id n (moved path to was.0) was.1 in
-        (moved path to was.0, was.1, subst Row (same_row id after.0 found after.1.node_stands stands) after.1);
-    objects = λ q p stands. by_stand q p (stands_after room stand.lawful path to o m.apart m.is_there.object_stands m.free q p stands);
-    next = stand.next;
-  }
-    where
-      there : (q : Path) (p : Object) → object_at room q ≡ Some p → Found (moved path to q) p
-      there q p stands =
-          let was = stand.objects q p stands in
-          let after = moved_is was.0 was.1 q p was.2 in
-          (was.0, after.0, after.1)
+    bytes_after : (id : ℕ) → unwrap_or (rows.document id) [] ≡ unwrap_or (t.document id) []
+    bytes_after id = ap (λ (f : ℕ → Option (List ℕ)). unwrap_or (f id) []) w.documents
 
-      by_stand : (q : Path) (p : Object) → Stands room stand.lawful path to o m.apart m.is_there.object_stands m.free q p → Found q p
-      by_stand q p (Moved _ _ rest same stands) =
-          let At : Path → Type 0 = λ x. Found x p in subst At (moved_rest path to rest ∙ sym same) (there (path ++ rest) p stands)
-      by_stand q p (Stayed _ _ off off_to stands) =
-          let At : Path → Type 0 = λ x. Found x p in subst At (moved_off q path to off) (there q p stands)
+    -- numbers are kept
+    pub moved_keeps : (q : Path) (id : ℕ) → HasPath t q id → HasPath rows (moved path to q) id
+    moved_keeps q id at =
+        names_by_shape later rows (shape_itself later rows w.nodes) (reverse (moved path to q)) id (keeps_place q id at)
 
-  pub none_new_moved : (id : ℕ) → IsNone (t.node id) → IsSome (later.node id) → ⊥
-  none_new_moved id none some = elim (some_or_none (later.node id)) [
-    | inl gone ↦ (let There : Option Node → Type 0 = λ x. IsSome x in none_and_some {X = Node} None refl (subst There gone some))
-    | inr found ↦ (let There : Option Node → Type 0 = λ x. IsSome x in
-        none_and_some (t.node id) none (subst There (sym (old_node id found.0 found.1).1) refl))
-  ]
+    -- what a node shows moves with it
+    moved_is : (id : ℕ) (found : Node) (q : Path) (p : Object) → NodeIsObject t room id found q p
+        → (after : Node) × NodeIsObject rows (renamed room path to) id after (moved path to q) p
+    moved_is id found q p is = elim (same_or_other id node.id) [
+      | inl same ↦
+          let same_node : node ≡ found =
+          some_is node found (sym m.is_there.node_stands ∙ ap t.node (sym same) ∙ is.node_stands) in (
+            now,
+            record {
+              at = moved_keeps q id is.at;
+              node_stands = row_after id ∙ put id same;
+              object_stands = stands_there;
+              shows = record {
+                kind = m.kind ∙ ap (λ (n : Node). n.kind) same_node ∙ is.shows.kind;
+                owner = m.owner ∙ ap (λ (n : Node). n.owner) same_node ∙ is.shows.owner;
+                group = m.group ∙ ap (λ (n : Node). n.group) same_node ∙ is.shows.group;
+                aclflag = m.aclflag ∙ ap (λ (n : Node). n.aclflag) same_node ∙ is.shows.aclflag;
+                entries = ap rows.entries (m.id ∙ sym same) ∙ w.lists q id is.at;
+                bytes = bytes_after now.id
+                    ∙ ap (λ k. unwrap_or (t.document k) []) (m.id ∙ ap (λ (n : Node). n.id) same_node) ∙ is.shows.bytes;
+              };
+            },
+          )
+      | inr other ↦ (
+        found,
+        record {
+          at = moved_keeps q id is.at;
+          node_stands = row_after id ∙ away id other ∙ is.node_stands;
+          object_stands = stands_there;
+          shows = record {
+            kind = is.shows.kind;
+            owner = is.shows.owner;
+            group = is.shows.group;
+            aclflag = is.shows.aclflag;
+            entries = ap rows.entries (stand.rules.numbered id found is.node_stands).0 ∙ w.lists q id is.at;
+            bytes = bytes_after found.id ∙ is.shows.bytes;
+          };
+        },
+      )
+    ]
+      where
+        stands_there : object_at (renamed room path to) (moved path to q) ≡ Some p
+        stands_there = at_moved room stand.lawful path to o m.apart m.is_there.object_stands m.free q p is.object_stands
+
+    same_row : (id : ℕ) (a b : Node) → rows.node id ≡ Some a → rows.node id ≡ Some b → a ≡ b
+    same_row id a b x y = some_is a b (sym x ∙ y)
+
+    abbrev Found : Path → Object → Type 0
+    Found q p = (id : ℕ) × (found : Node) × NodeIsObject rows (renamed room path to) id found q p
+
+    pub moved_represents : RepresentsRoom rows (renamed room path to)
+    moved_represents = record {
+      rules = w.rules;
+      lawful = m.lawful;
+      nodes = λ id found stands.
+          let before = old_node id found (sym (row_after id) ∙ stands) in
+          let was = stand.nodes id before.0 before.1 in
+          let after = moved_is id before.0 was.0 was.1 was.2 in
+          let Row : Node → Type 0 = λ n. NodeIsObject rows (renamed room path to) id n (moved path to was.0) was.1 in
+          (moved path to was.0, was.1, subst Row (same_row id after.0 found after.1.node_stands stands) after.1);
+      objects = λ q p stands. by_stand q p
+          (stands_after room stand.lawful path to o m.apart m.is_there.object_stands m.free q p stands);
+      next = w.next ∙ stand.next;
+    }
+      where
+        there : (q : Path) (p : Object) → object_at room q ≡ Some p → Found (moved path to q) p
+        there q p stands =
+            let was = stand.objects q p stands in
+            let after = moved_is was.0 was.1 q p was.2 in
+            (was.0, after.0, after.1)
+
+        by_stand : (q : Path) (p : Object)
+            → Stands room stand.lawful path to o m.apart m.is_there.object_stands m.free q p → Found q p
+        by_stand q p (Moved _ _ rest same stands) =
+            let At : Path → Type 0 = λ x. Found x p in
+            subst At (moved_rest path to rest ∙ sym same) (there (path ++ rest) p stands)
+        by_stand q p (Stayed _ _ off off_to stands) =
+            let At : Path → Type 0 = λ x. Found x p in subst At (moved_off q path to off) (there q p stands)
+
+    pub none_new_moved : (id : ℕ) → IsNone (t.node id) → IsSome (rows.node id) → ⊥
+    none_new_moved id none some = elim (some_or_none (later.node id)) [
+      | inl gone ↦ (let There : Option Node → Type 0 = λ x. IsSome x in
+          none_and_some {X = Node} None refl (subst There (row_after id ∙ gone) some))
+      | inr found ↦ (let There : Option Node → Type 0 = λ x. IsSome x in
+          none_and_some (t.node id) none (subst There (sym (old_node id found.0 found.1).1) refl))
+    ]

@@ -1,5 +1,6 @@
 -- Rows without one node stand for the room without its object.
-use Rattle.std.proofs.Common.{◌≡◌, ◌≢◌, ℕ, refl, ap, sym, ◌∙◌, subst, inl, inr, List, [], ◌∷◌, ◌++◌, reverse, length, Option, None, Some, IsSome, IsNone, IfSome, false, unwrap_or}
+use Rattle.std.proofs.Common.{◌≡◌, ◌≢◌, ℕ, refl, ap, sym, ◌∙◌, subst, inl, inr, List, [], ◌∷◌, ◌++◌, reverse, length}
+use Rattle.std.proofs.Common.{Option, None, Some, IsSome, IsNone, IfSome, false, unwrap_or, append-nil, append_assoc}
 use Rattle.std.proofs.lemmas.List.{reverse-append}
 use Rattle.room_records.specs.declared.node.Node.{Node}
 use Rattle.room_records.specs.declared.change.Change.TheVariants.{DropNode}
@@ -8,31 +9,35 @@ use Rattle.room_records.specs.Records.{ObjectRecords, IsChild}
 use Rattle.room_records.specs.Rules.{ObjectRules, IsRoot}
 use Rattle.room_records.specs.Changes.{apply_to_objects}
 use Rattle.room_records.specs.Shelf.{name_of}
-use Rattle.room_records.specs.Room.{Object, Room, IsRoom, object_at, children}
+use Rattle.room_records.specs.Room.{Object, Room, IsRoom, object_at, children, list_of}
 use Rattle.room_records.specs.Representation.{RepresentsRoom, NodeIsObject, HasPath, NamesUpwards}
 use Rattle.room_records.proofs.Folders.{child_named}
 use Rattle.room_records.proofs.Paths.{root_only, reads_one, child_is_at, object_at_node}
-use Rattle.room_records.proofs.RoomsMap.{none_is_some, Ends}
+use Rattle.room_records.proofs.RoomsMap.{none_is_some, Ends, nothing_below}
+use Rattle.room_records.proofs.RoomsLists.{lists_by_objects_above}
 use Rattle.room_records.proofs.RoomsChildren.{nothing_in_empty}
 use Rattle.room_records.proofs.RulesKept.{same_or_other, if_same, if_other, some_or_none}
 use Rattle.room_commands.specs.CommandModel as C
-use Rattle.room_tree.specs.declared.place.Place.{Place}
+use Rattle.room_tree.specs.declared.loaded.LoadedObject.{LoadedObject}
 use Rattle.room_tree.specs.declared.planning.Outcome.{Outcome}
 use Rattle.room_commands.specs.Checks.{first_refusal, checks, is_root}
 use Rattle.room_commands.specs.Effect.{without}
-use Rattle.room_tree.specs.Places.{IsPlace, node_of}
+use Rattle.room_tree.specs.LoadedObjects.{IsLoaded, node_of}
 use Rattle.room_tree.specs.Plans.{PlansEffect}
 use Rattle.room_commands.specs.ReplyModel.{Done, reply_model}
 use Rattle.room_acl.specs.SubjectModel.{SubjectModel}
 use Rattle.room_tree.proofs.Changed.{none_and_some}
+use Rattle.room_tree.proofs.FewRows.{few_dropped}
 use Rattle.room_commands.proofs.EffectIsRoom.{changed_is_room}
 use Rattle.room_tree.proofs.Made.{ends_of}
 use Rattle.room_tree.proofs.Outcomes.{success_plans}
 use Rattle.room_commands.proofs.RoomsWithout.{at_removed, elsewhere_left, left_was_there}
 use Rattle.room_tree.proofs.RowsReplaced.{path_of_node}
 
-module _ (t : ObjectRecords) (room : Room) (stand : RepresentsRoom t room) (path : Path) (id : ℕ) (node : Node) (o : Object) (is : NodeIsObject t room id node path o)
-    (end : Ends path) (empty : (name : Name) → object_at room (path ++ name ∷ []) ≡ None) (lawful : IsRoom (without room path)) where
+module _ (t : ObjectRecords) (room : Room) (stand : RepresentsRoom t room) (path : Path)
+    (id : ℕ) (node : Node) (o : Object) (is : NodeIsObject t room id node path o)
+    (end : Ends path) (empty : (name : Name) → object_at room (path ++ name ∷ []) ≡ None)
+    (lawful : IsRoom (without room path)) where
   abbrev later : ObjectRecords
   later = apply_to_objects (DropNode id) t
 
@@ -40,7 +45,8 @@ module _ (t : ObjectRecords) (room : Room) (stand : RepresentsRoom t room) (path
   childless k found stands inside =
       let number = (stand.rules.numbered k found stands).0 in
       let child : IsChild t id found = record { stands = ap t.node number ∙ stands; inside = inside } in
-      let at = child_is_at t stand.rules path (name_of found) id found is.at child (child_named t stand.rules id found child) in
+      let at = child_is_at t stand.rules path (name_of found) id found
+      is.at child (child_named t stand.rules id found child) in
       let there = object_at_node t room stand (path ++ name_of found ∷ []) found.id found at child.stands in
       none_is_some there.0 (sym (empty (name_of found)) ∙ there.1)
 
@@ -75,19 +81,23 @@ module _ (t : ObjectRecords) (room : Room) (stand : RepresentsRoom t room) (path
           above = under.above;
           parent = under.parent;
           has_parent = under.has_parent;
-          stands = forth under.above under.parent under.stands (λ same. childless k found before.1 (under.has_parent ∙ ap Some same));
+          stands = forth under.above under.parent under.stands
+              (λ same. childless k found before.1 (under.has_parent ∙ ap Some same));
           folder = under.folder;
           name = under.name;
           named = under.named;
           lawful = under.lawful;
         };
-    once = λ a b a_stands b_stands parents names. stand.rules.once a b (back a.id a a_stands).1 (back b.id b b_stands).1 parents names;
+    once = λ a b a_stands b_stands parents names.
+        stand.rules.once a b (back a.id a a_stands).1 (back b.id b b_stands).1 parents names;
     entries = λ k gone. elim (same_or_other k id) [
       | inl same ↦ if_same k id [] (t.entries k) same
-      | inr other ↦ if_other k id [] (t.entries k) other ∙ stand.rules.entries k (sym (if_other k id None (t.node k) other) ∙ gone)
+      | inr other ↦ if_other k id [] (t.entries k) other
+          ∙ stand.rules.entries k (sym (if_other k id None (t.node k) other) ∙ gone)
     ];
     documents = λ k there. elim (same_or_other k id) [
-      | inl same ↦ absurd (let There : Option (List ℕ) → Type 0 = λ d. IsSome d in none_and_some {X = List ℕ} None refl (subst There (if_same k id None (t.document k) same) there))
+      | inl same ↦ absurd (let There : Option (List ℕ) → Type 0 = λ d. IsSome d in
+          none_and_some {X = List ℕ} None refl (subst There (if_same k id None (t.document k) same) there))
       | inr other ↦ (let There : Option (List ℕ) → Type 0 = λ d. IsSome d in
           let owner = stand.rules.documents k (subst There (if_other k id None (t.document k) other) there) in
           (owner.0, forth k owner.0 owner.1 other, owner.2))
@@ -106,7 +116,22 @@ module _ (t : ObjectRecords) (room : Room) (stand : RepresentsRoom t room) (path
     names_stay above parent up (λ same. childless k found stands (inside ∙ ap Some same)),
   )
 
-  still : (k : ℕ) (found : Node) (q : Path) (p : Object) → k ≢ id → NodeIsObject t room k found q p → NodeIsObject later (without room path) k found q p
+  not_below : (q : Path) (p : Object) → object_at room q ≡ Some p
+      → (q ≡ path → ⊥) → (rest : Path) → q ≡ path ++ rest → ⊥
+  not_below q p there away [] is = away (is ∙ append-nil path)
+  not_below q p there away (name ∷ rest) is =
+      let none = nothing_below room stand.lawful rest (path ++ name ∷ []) (empty name) in
+      none_is_some p (sym (ap (object_at room) (is ∙ sym (append_assoc path (name ∷ []) rest)) ∙ none) ∙ there)
+
+  -- what stays keeps its list, since nothing of it stands below the removed object
+  lists_stay : (q : Path) (p : Object) → object_at room q ≡ Some p
+      → (q ≡ path → ⊥) → list_of room q ≡ list_of (without room path) q
+  lists_stay q p there away = lists_by_objects_above room (without room path) q
+      (λ front rest is. sym (elsewhere_left room path front (λ same.
+      not_below q p there away rest (is ∙ ap (λ (f : Path). f ++ rest) same))))
+
+  still : (k : ℕ) (found : Node) (q : Path) (p : Object) → k ≢ id
+      → NodeIsObject t room k found q p → NodeIsObject later (without room path) k found q p
   still k found q p other at =
       let number : found.id ≡ k = (stand.rules.numbered k found at.node_stands).0 in
       let apart : found.id ≢ id = (λ same. other (sym number ∙ same)) in
@@ -122,8 +147,10 @@ module _ (t : ObjectRecords) (room : Room) (stand : RepresentsRoom t room) (path
           owner = at.shows.owner;
           group = at.shows.group;
           aclflag = at.shows.aclflag;
-          entries = if_other found.id id [] (t.entries found.id) apart ∙ at.shows.entries;
-          bytes = ap (λ (d : Option (List ℕ)). unwrap_or d []) (if_other found.id id None (t.document found.id) apart) ∙ at.shows.bytes;
+          entries = if_other found.id id [] (t.entries found.id) apart
+              ∙ at.shows.entries ∙ lists_stay q p at.object_stands away;
+          bytes = ap (λ (d : Option (List ℕ)). unwrap_or d [])
+              (if_other found.id id None (t.document found.id) apart) ∙ at.shows.bytes;
         };
       }
     where
@@ -153,26 +180,34 @@ module _ (t : ObjectRecords) (room : Room) (stand : RepresentsRoom t room) (path
       let At : ℕ → Type 0 = λ x. HasPath t q x in
       let here = path_of_node t stand.rules q path id (subst At same at) is.at in
       let There : Option Object → Type 0 = λ x. IsSome x in
-      none_and_some {X = Object} None refl (subst There (ap (object_at (without room path)) here ∙ at_removed room path) there))
+      none_and_some {X = Object} None refl
+      (subst There (ap (object_at (without room path)) here ∙ at_removed room path) there))
 
   pub none_made : (k : ℕ) → IsNone (t.node k) → IsSome (later.node k) → ⊥
   none_made k none some = elim (some_or_none (later.node k)) [
-    | inl gone ↦ (let There : Option Node → Type 0 = λ x. IsSome x in none_and_some {X = Node} None refl (subst There gone some))
+    | inl gone ↦ (let There : Option Node → Type 0 = λ x. IsSome x in
+        none_and_some {X = Node} None refl (subst There gone some))
     | inr found ↦ (let There : Option Node → Type 0 = λ x. IsSome x in
         none_and_some (t.node k) none (subst There (sym (back k found.0 found.1).1) refl))
   ]
 
 -- REMOVE
-pub remove_plans : (t : ObjectRecords) (room : Room) (caller : SubjectModel) (path : Path) (place : Place) (outcome : Outcome) → RepresentsRoom t room → IsPlace t room path place
-    → first_refusal (checks room caller (C.Remove path)) ≡ None → is_root path ≡ false → IsPath path → length (children room path) ≡ 0
-    → outcome.changes.items ≡ DropNode place.id ∷ [] → reply_model outcome.reply ≡ Done → PlansEffect t room caller (C.Remove path) outcome
-remove_plans t room caller path place outcome stand found passed root_off is_path none planned replied =
+pub remove_plans : (t : ObjectRecords) (room : Room) (caller : SubjectModel) (path : Path)
+    (loaded : LoadedObject) (outcome : Outcome) → RepresentsRoom t room → IsLoaded t room path loaded
+    → first_refusal (checks room caller (C.Remove path)) ≡ None
+    → is_root path ≡ false → IsPath path → length (children room path) ≡ 0
+    → outcome.changes.items ≡ DropNode loaded.id ∷ [] → reply_model outcome.reply ≡ Done
+    → PlansEffect t room caller (C.Remove path) outcome
+remove_plans t room caller path loaded outcome stand found passed root_off is_path none planned replied =
     let end = ends_of path root_off in
     let empty = nothing_in_empty room path none in
     let lawful = changed_is_room room caller (C.Remove path) is_path stand.lawful passed in
-    let node = node_of place in
-    success_plans t room caller (C.Remove path) outcome stand (DropNode place.id ∷ []) passed replied planned (tt, tt)
-    (rules_dropped t room stand path place.id node found.object found.is_there end empty lawful, tt)
-    (removed t room stand path place.id node found.object found.is_there end empty lawful)
-    (λ q k at stands there. removed_keeps t room stand path place.id node found.object found.is_there end empty lawful q k at there)
-    (λ k absent present. absurd (none_made t room stand path place.id node found.object found.is_there end empty lawful k absent present))
+    let node = node_of loaded in
+    success_plans t room caller (C.Remove path) outcome stand (DropNode loaded.id ∷ []) passed replied planned (tt, tt)
+    (rules_dropped t room stand path loaded.id node found.object found.is_there end empty lawful, tt)
+    (few_dropped t loaded.id)
+    (removed t room stand path loaded.id node found.object found.is_there end empty lawful)
+    (λ q k at stands there. removed_keeps t room stand path loaded.id
+    node found.object found.is_there end empty lawful q k at there)
+    (λ k absent present. absurd (none_made t room stand path loaded.id node
+    found.object found.is_there end empty lawful k absent present))

@@ -1,11 +1,12 @@
 -- Rows where one object changed stand for the room with that object changed.
-use Rattle.std.proofs.Common.{◌≡◌, ◌≢◌, ℕ, ◌+◌, refl, ap, sym, ◌∙◌, subst, Bool, true, false, ◌⊎◌, inl, inr, List, [], reverse, Option, Some, option_map, unwrap_or}
+use Rattle.std.proofs.Common.{◌≡◌, ◌≢◌, ℕ, ◌+◌, refl, ap, sym, ◌∙◌, subst, Bool, true, false, ◌⊎◌, inl, inr, List, []}
+use Rattle.std.proofs.Common.{reverse, Option, Some, option_map, unwrap_or}
 use Rattle.std.proofs.lemmas.List.{reverse-reverse}
 use Rattle.room_records.specs.declared.node.Node.{Node}
 use Rattle.room_records.specs.Names.{Path, path_eq}
 use Rattle.room_records.specs.Records.{ObjectRecords}
 use Rattle.room_records.specs.Rules.{ObjectRules}
-use Rattle.room_records.specs.Room.{Object, Room, IsRoom, object_at}
+use Rattle.room_records.specs.Room.{Object, Room, IsRoom, object_at, list_of}
 use Rattle.room_records.specs.Representation.{RepresentsRoom, NodeIsObject, RowsShowObject, HasPath}
 use Rattle.room_records.proofs.Paths.{reads_one, one_path}
 use Rattle.room_records.proofs.RoomsMap.{some_is, same_path, path_itself}
@@ -15,7 +16,8 @@ use Rattle.room_commands.proofs.RoomsObject.{at_changed}
 
 -- a node has one path
 pub path_of_node : (t : ObjectRecords) → ObjectRules t → (a b : Path) (id : ℕ) → HasPath t a id → HasPath t b id → a ≡ b
-path_of_node t rules a b id at also = sym (reverse-reverse a) ∙ ap reverse (one_path t rules (reverse a) (reverse b) id at also) ∙ reverse-reverse b
+path_of_node t rules a b id at also =
+    sym (reverse-reverse a) ∙ ap reverse (one_path t rules (reverse a) (reverse b) id at also) ∙ reverse-reverse b
 
 pub path_same_or_other : (a b : Path) → (a ≡ b) ⊎ (a ≡ b → ⊥)
 path_same_or_other a b = by_test (path_eq a b) refl
@@ -25,14 +27,15 @@ path_same_or_other a b = by_test (path_eq a b) refl
     by_test false e = inr (λ same. let f : true ≡ false = sym (ap (path_eq a) (sym same) ∙ path_itself a) ∙ e in cc)
 
 -- one node of the rows changed, and stays where it is
-pub record Replaces (t later : ObjectRecords) (room after : Room) (path : Path) (o now_is : Object) (node now : Node) : Type 0 where
+pub record Replaces (t later : ObjectRecords) (room after : Room)
+    (path : Path) (o now_is : Object) (node now : Node) : Type 0 where
   pub is_there : NodeIsObject t room node.id node path o
   pub shape : SameShape t later
   pub rules : ObjectRules later
   pub stands : later.node node.id ≡ Some now
   pub shows : RowsShowObject later now after path now_is
   pub nodes_away : (id : ℕ) → id ≢ node.id → later.node id ≡ t.node id
-  pub entries_away : (id : ℕ) → id ≢ node.id → later.entries id ≡ t.entries id
+  pub lists_away : (q : Path) (id : ℕ) → HasPath t q id → id ≢ node.id → later.entries id ≡ list_of after q
   pub documents_away : (id : ℕ) → id ≢ node.id → later.document id ≡ t.document id
   pub next : later.next ≡ t.next
   pub made : after.made ≡ room.made
@@ -45,7 +48,8 @@ module _ (t later : ObjectRecords) (room after : Room) (path : Path) (o now_is :
   stays_at : (q : Path) (id : ℕ) → HasPath t q id → HasPath later q id
   stays_at q id at = names_by_shape t later r.shape (reverse q) id at
 
-  here_is : (id : ℕ) → id ≡ node.id → (found : Node) → later.node id ≡ Some found → NodeIsObject later after id found path now_is
+  here_is : (id : ℕ) → id ≡ node.id → (found : Node) → later.node id ≡ Some found
+      → NodeIsObject later after id found path now_is
   here_is id same found stands =
       let is : now ≡ found = some_is now found (sym r.stands ∙ ap later.node (sym same) ∙ stands) in
       let At : ℕ → Type 0 = λ k. HasPath later path k in
@@ -57,12 +61,14 @@ module _ (t later : ObjectRecords) (room after : Room) (path : Path) (o now_is :
         shows = subst Shown is r.shows;
       }
 
-  away_is : (id : ℕ) → id ≢ node.id → (found : Node) (q : Path) (p : Object) → NodeIsObject t room id found q p → NodeIsObject later after id found q p
+  away_is : (id : ℕ) → id ≢ node.id → (found : Node) (q : Path) (p : Object)
+      → NodeIsObject t room id found q p → NodeIsObject later after id found q p
   away_is id other found q p is =
       let number : found.id ≡ id = (stand.rules.numbered id found is.node_stands).0 in
       let apart : found.id ≢ node.id = (λ same. other (sym number ∙ same)) in
       let At : Path → Type 0 = λ a. HasPath t a id in
-      let moved : q ≡ path → ⊥ = (λ same. other (reads_one t stand.rules (reverse path) id node.id (subst At same is.at) r.is_there.at)) in
+      let moved : q ≡ path → ⊥ =
+      (λ same. other (reads_one t stand.rules (reverse path) id node.id (subst At same is.at) r.is_there.at)) in
       record {
         at = stays_at q id is.at;
         node_stands = r.nodes_away id other ∙ is.node_stands;
@@ -72,7 +78,7 @@ module _ (t later : ObjectRecords) (room after : Room) (path : Path) (o now_is :
           owner = is.shows.owner;
           group = is.shows.group;
           aclflag = is.shows.aclflag;
-          entries = r.entries_away found.id apart ∙ is.shows.entries;
+          entries = ap later.entries number ∙ r.lists_away q id is.at other;
           bytes = ap (λ (d : Option (List ℕ)). unwrap_or d []) (r.documents_away found.id apart) ∙ is.shows.bytes;
         };
       }
@@ -109,5 +115,6 @@ module _ (t later : ObjectRecords) (room after : Room) (path : Path) (o now_is :
   replaced_keeps q id at = stays_at q id at
 
 -- the room with the object at one path changed
-pub changed_at : (room : Room) (path : Path) (change : Object → Object) (o : Object) → object_at room path ≡ Some o → object_at (with_object room path change) path ≡ Some (change o)
+pub changed_at : (room : Room) (path : Path) (change : Object → Object) (o : Object)
+    → object_at room path ≡ Some o → object_at (with_object room path change) path ≡ Some (change o)
 changed_at room path change o there = at_changed room path change ∙ ap (option_map change) there

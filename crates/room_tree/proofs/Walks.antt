@@ -1,51 +1,60 @@
 -- The walk of a path, one folder after another.
-use Rattle.std.proofs.Common.{◌≡◌, ℕ, ◌+◌, ◌<◌, ◌≤◌, refl, ap, sym, ◌∙◌, subst, List, [], ◌∷◌, ◌++◌, map, take, drop, length, get_or, append_assoc, arith, Option, None, Some}
+use Rattle.std.proofs.Common.{◌≡◌, ℕ, ◌+◌, ◌<◌, ◌≤◌, refl, ap, sym, ◌∙◌, subst, List, [], ◌∷◌, ◌++◌, map, take, drop}
+use Rattle.std.proofs.Common.{length, get_or, append_assoc, arith, Option, None, Some}
 use Rattle.std.specs.Prelude.{not, is_some}
 use Rattle.std.proofs.lemmas.List.{take_more, drop_more, drop_all, take_all, append-nil}
 use Rattle.room_acl.specs.SubjectModel.{SubjectModel}
 use Rattle.room_records.specs.Names.{Name, Path}
 use Rattle.room_records.specs.Room.{Object, Room, object_at, parent_of}
-use Rattle.room_commands.specs.declared.reply.Fault.TheVariants.{NoEnt}
+use Rattle.room_commands.specs.declared.reply.RefusalCode.TheVariants.{NoEnt}
 use Rattle.room_commands.specs.ReplyModel.{Refusal}
 use Rattle.room_tree.specs.declared.refusal.Stop.{Stop}
 use Rattle.room_tree.specs.declared.refusal.Stop.TheVariants.{Refused, Shelf}
 use Rattle.room_tree.specs.Stops.{Stopped}
-use Rattle.room_commands.specs.Checks.{refuse_if, refusal_without_place, first_refusal, check_folder, check_right, prefix_fault, proper_prefixes, walk}
+use Rattle.room_commands.specs.Checks.{refuse_if, refusal_without_place, first_refusal, check_folder, check_right}
+use Rattle.room_commands.specs.Checks.{prefix_refusal, proper_prefixes, walk}
 
 -- the first fault from this front on
 abbrev pub walk_from : Room → SubjectModel → Path → Path → Option Refusal
-walk_from room caller front rest = first_refusal (map (λ (more : Path). prefix_fault room caller (front ++ more)) (proper_prefixes rest))
+walk_from room caller front rest =
+    first_refusal (map (λ (more : Path). prefix_refusal room caller (front ++ more)) (proper_prefixes rest))
 
 module _ (room : Room) (caller : SubjectModel) where
   shifted : (front : Path) (name : Name) (fronts : List Path)
-      → map (λ (more : Path). prefix_fault room caller (front ++ more)) (map (λ (more : Path). name ∷ more) fronts)
-      ≡ map (λ (more : Path). prefix_fault room caller ((front ++ name ∷ []) ++ more)) fronts
+      → map (λ (more : Path). prefix_refusal room caller (front ++ more)) (map (λ (more : Path). name ∷ more) fronts)
+      ≡ map (λ (more : Path). prefix_refusal room caller ((front ++ name ∷ []) ++ more)) fronts
   shifted front name [] = refl
   shifted front name (more ∷ fronts) =
-      let head : prefix_fault room caller (front ++ name ∷ more) ≡ prefix_fault room caller ((front ++ name ∷ []) ++ more) =
-      ap (prefix_fault room caller) (sym (append_assoc front (name ∷ []) more)) in
+      let head : prefix_refusal room caller (front ++ name ∷ more)
+      ≡ prefix_refusal room caller ((front ++ name ∷ []) ++ more) =
+      ap (prefix_refusal room caller) (sym (append_assoc front (name ∷ []) more)) in
       let rest = shifted front name fronts in
       (λ i. head i ∷ rest i)
 
-  after_none : (o : Option Refusal) (others : List (Option Refusal)) → o ≡ None → first_refusal (o ∷ others) ≡ first_refusal others
+  after_none : (o : Option Refusal) (others : List (Option Refusal))
+      → o ≡ None → first_refusal (o ∷ others) ≡ first_refusal others
   after_none o others none = ap (λ first. first_refusal (first ∷ others)) none
 
-  after_some : (o : Option Refusal) (others : List (Option Refusal)) (r : Refusal) → o ≡ Some r → first_refusal (o ∷ others) ≡ Some r
+  after_some : (o : Option Refusal) (others : List (Option Refusal)) (r : Refusal)
+      → o ≡ Some r → first_refusal (o ∷ others) ≡ Some r
   after_some o others r some = ap (λ first. first_refusal (first ∷ others)) some
 
-  one_on : (front : Path) (name : Name) (rest : Path) → prefix_fault room caller front ≡ None
+  one_on : (front : Path) (name : Name) (rest : Path) → prefix_refusal room caller front ≡ None
       → walk_from room caller front (name ∷ rest) ≡ walk_from room caller (front ++ name ∷ []) rest
   one_on front name rest none =
-      let others = map (λ (more : Path). prefix_fault room caller (front ++ more)) (map (λ (more : Path). name ∷ more) (proper_prefixes rest)) in
-      after_none (prefix_fault room caller (front ++ [])) others (ap (prefix_fault room caller) (append-nil front) ∙ none)
+      let others = map (λ (more : Path). prefix_refusal room caller (front ++ more))
+      (map (λ (more : Path). name ∷ more) (proper_prefixes rest)) in
+      after_none (prefix_refusal room caller (front ++ [])) others
+      (ap (prefix_refusal room caller) (append-nil front) ∙ none)
       ∙ ap first_refusal (shifted front name (proper_prefixes rest))
 
-  one_off : (front : Path) (name : Name) (rest : Path) (r : Refusal) → prefix_fault room caller front ≡ Some r
+  one_off : (front : Path) (name : Name) (rest : Path) (r : Refusal) → prefix_refusal room caller front ≡ Some r
       → walk_from room caller front (name ∷ rest) ≡ Some r
   one_off front name rest r some =
-      after_some (prefix_fault room caller (front ++ []))
-      (map (λ (more : Path). prefix_fault room caller (front ++ more)) (map (λ (more : Path). name ∷ more) (proper_prefixes rest))) r
-      (ap (prefix_fault room caller) (append-nil front) ∙ some)
+      after_some (prefix_refusal room caller (front ++ []))
+      (map (λ (more : Path). prefix_refusal room caller (front ++ more))
+      (map (λ (more : Path). name ∷ more) (proper_prefixes rest))) r
+      (ap (prefix_refusal room caller) (append-nil front) ∙ some)
 
   pub walked_to_root : (path : Path) → walk room caller path ≡ walk_from room caller (take 0 path) (drop 0 path)
   walked_to_root path = refl
@@ -57,35 +66,46 @@ module _ (room : Room) (caller : SubjectModel) where
     next_front : take (i + 1) path ≡ take i path ++ name ∷ []
     next_front = take_more path i name below ∙ ap (λ n. take i path ++ n ∷ []) (sym is)
 
-    pub walk_stops : (r : Refusal) → walk room caller path ≡ walk_from room caller (take i path) (drop i path) → prefix_fault room caller (take i path) ≡ Some r → walk room caller path ≡ Some r
-    walk_stops r so some = so ∙ ap (walk_from room caller (take i path)) here_on ∙ one_off (take i path) name (drop (i + 1) path) r some
+    pub walk_stops : (r : Refusal) → walk room caller path ≡ walk_from room caller (take i path) (drop i path)
+        → prefix_refusal room caller (take i path) ≡ Some r → walk room caller path ≡ Some r
+    walk_stops r so some = so ∙ ap (walk_from room caller (take i path)) here_on
+        ∙ one_off (take i path) name (drop (i + 1) path) r some
 
-    pub walk_stopped : (why : Stop) → walk room caller path ≡ walk_from room caller (take i path) (drop i path) → Stopped (prefix_fault room caller (take i path)) why → Stopped (walk room caller path) why
+    pub walk_stopped : (why : Stop) → walk room caller path ≡ walk_from room caller (take i path) (drop i path)
+        → Stopped (prefix_refusal room caller (take i path)) why → Stopped (walk room caller path) why
     walk_stopped (Refused r) so is = walk_stops r so is
     walk_stopped (Shelf fault) so is = tt
 
-    pub walk_goes_on : walk room caller path ≡ walk_from room caller (take i path) (drop i path) → prefix_fault room caller (take i path) ≡ None
+    pub walk_goes_on : walk room caller path ≡ walk_from room caller (take i path) (drop i path)
+        → prefix_refusal room caller (take i path) ≡ None
         → walk room caller path ≡ walk_from room caller (take (i + 1) path) (drop (i + 1) path)
     walk_goes_on so none =
         so ∙ ap (walk_from room caller (take i path)) here_on ∙ one_on (take i path) name (drop (i + 1) path) none
         ∙ ap (λ front. walk_from room caller front (drop (i + 1) path)) (sym next_front)
 
-    pub walk_ends : walk room caller path ≡ walk_from room caller (take i path) (drop i path) → prefix_fault room caller (take i path) ≡ None
+    pub walk_ends : walk room caller path ≡ walk_from room caller (take i path) (drop i path)
+        → prefix_refusal room caller (take i path) ≡ None
         → length path ≤ i + 1 → walk room caller path ≡ None
-    walk_ends so none last = walk_goes_on so none ∙ ap (walk_from room caller (take (i + 1) path)) (drop_all (i + 1) path last)
+    walk_ends so none last =
+        walk_goes_on so none ∙ ap (walk_from room caller (take (i + 1) path)) (drop_all (i + 1) path last)
 
-    pub walk_is_cut : walk room caller path ≡ walk_from room caller (take i path) (drop i path) → prefix_fault room caller (take i path) ≡ None
-        → object_at room (take i path ++ name ∷ []) ≡ None → i + 1 < length path → walk room caller path ≡ Some (refusal_without_place NoEnt)
+    pub walk_is_cut : walk room caller path ≡ walk_from room caller (take i path) (drop i path)
+        → prefix_refusal room caller (take i path) ≡ None
+        → object_at room (take i path ++ name ∷ []) ≡ None → i + 1 < length path
+        → walk room caller path ≡ Some (refusal_without_place NoEnt)
     walk_is_cut so none nothing more =
         let front = take (i + 1) path in
-        let rest : drop (i + 1) path ≡ get_or path (i + 1) name ∷ drop (i + 1 + 1) path = drop_more path (i + 1) name more in
-        let missing : prefix_fault room caller front ≡ Some (refusal_without_place NoEnt) =
-        ap (λ (o : Option Object). first_refusal (refuse_if (not (is_some o)) NoEnt ∷ check_folder room front ∷ check_right room caller front 0x20 ∷ []))
+        let rest : drop (i + 1) path ≡ get_or path (i + 1) name ∷ drop (i + 1 + 1) path =
+        drop_more path (i + 1) name more in
+        let missing : prefix_refusal room caller front ≡ Some (refusal_without_place NoEnt) =
+        ap (λ (o : Option Object). first_refusal (refuse_if (not (is_some o)) NoEnt
+        ∷ check_folder room front ∷ check_right room caller front 0x20 ∷ []))
         (ap (object_at room) next_front ∙ nothing) in
         walk_goes_on so none ∙ ap (walk_from room caller front) rest
         ∙ one_off front (get_or path (i + 1) name) (drop (i + 1 + 1) path) (refusal_without_place NoEnt) missing
 
-    pub last_is_absent : object_at room (take i path ++ name ∷ []) ≡ None → length path ≤ i + 1 → object_at room path ≡ None
+    pub last_is_absent : object_at room (take i path ++ name ∷ []) ≡ None
+        → length path ≤ i + 1 → object_at room path ≡ None
     last_is_absent nothing last = ap (object_at room) (sym (sym next_front ∙ take_all (i + 1) path last)) ∙ nothing
 
     pub next_is_there : (P : Path → Type 0) → P (take i path ++ name ∷ []) → P (take (i + 1) path)
@@ -94,5 +114,6 @@ module _ (room : Room) (caller : SubjectModel) where
     pub last_folder : length path ≤ i + 1 → take i path ≡ parent_of path
     last_folder last = ap (λ (n : ℕ). take n path) (omega (arith, last, below))
 
-  pub walk_done : (path : Path) (i : ℕ) → walk room caller path ≡ walk_from room caller (take i path) (drop i path) → length path ≤ i → walk room caller path ≡ None
+  pub walk_done : (path : Path) (i : ℕ) → walk room caller path ≡ walk_from room caller (take i path) (drop i path)
+      → length path ≤ i → walk room caller path ≡ None
   walk_done path i so all = so ∙ ap (walk_from room caller (take i path)) (drop_all i path all)

@@ -1,5 +1,6 @@
 pub mod Stops
 pub mod Plans
-pub mod Places
+pub mod LoadedObjects
 pub mod Depths
 pub mod Renames
+pub mod Renewals

@@ -14,6 +14,7 @@ use Rattle.room_commands.specs.ReplyModel.{reply_model, IsRefused, Refusal}
 use Rattle.room_commands.specs.Effect.{effect, moved}
 use Rattle.room_commands.specs.Needs.{NeedsAllowed}
 use Rattle.room_records.specs.Representation.{RepresentsRoom, HasPath}
+use Rattle.room_tree.specs.Renewals.{ChangesFewRows}
 use Rattle.room_tree.specs.declared.refusal.Stop.{Stop}
 use Rattle.room_tree.specs.Stops.{OrStopped}
 
@@ -24,9 +25,11 @@ place_after (C.Rename from to) None path = moved from to path
 place_after command None path = path
 
 -- an object that stays keeps its number, and a new one takes the next
-pub record KeepsNumbers (t after : ObjectRecords) (room : Room) (caller : SubjectModel) (command : CommandModel) : Type 0 where
+pub record KeepsNumbers (t after : ObjectRecords) (room : Room)
+    (caller : SubjectModel) (command : CommandModel) : Type 0 where
   pub kept : (path : Path) (id : ℕ) → HasPath t path id → IsSome (t.node id)
-      → IsSome (object_at (effect room caller command).room (place_after command (first_refusal (checks room caller command)) path))
+      → IsSome (object_at (effect room caller command).room
+      (place_after command (first_refusal (checks room caller command)) path))
       → HasPath after (place_after command (first_refusal (checks room caller command)) path) id
   pub new : (id : ℕ) → IsNone (t.node id) → IsSome (after.node id) → id ≡ t.next
 
@@ -40,15 +43,18 @@ OnlyReads (C.Access mask path) = Unit {0}
 OnlyReads command = ⊥
 
 -- the reply is the effect's, and the changes lead to rows that stand for the effect's room
-pub record PlansEffect (t : ObjectRecords) (room : Room) (caller : SubjectModel) (command : CommandModel) (outcome : Outcome) : Type 0 where
+pub record PlansEffect (t : ObjectRecords) (room : Room) (caller : SubjectModel)
+    (command : CommandModel) (outcome : Outcome) : Type 0 where
   pub reply : reply_model outcome.reply ≡ (effect room caller command).reply
   pub of_tree : AllByRecursion IsOfObjects outcome.changes.items
   pub rules : ObjectRulesHoldAfterEach outcome.changes.items t
   pub leads : RepresentsRoom (apply_all_to_objects outcome.changes.items t) (effect room caller command).room
   pub numbers : KeepsNumbers t (apply_all_to_objects outcome.changes.items t) room caller command
+  pub few : ChangesFewRows t outcome.changes.items
   pub refusal : IsRefused (reply_model outcome.reply) → outcome.changes.items ≡ []
   pub allowed : (IsRefused (reply_model outcome.reply) → ⊥) → NeedsAllowed room caller command
 
 -- and where a check refuses, the first that does
 abbrev pub Plans : ObjectRecords → Room → SubjectModel → CommandModel → Result Outcome Stop → Type 0
-Plans t room caller command result = OrStopped (first_refusal (checks room caller command)) (PlansEffect t room caller command) result
+Plans t room caller command result =
+    OrStopped (first_refusal (checks room caller command)) (PlansEffect t room caller command) result

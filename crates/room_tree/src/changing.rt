@@ -4,18 +4,17 @@ ghost use Rattle.room_records.specs.Shelf.{ShelfRead};
 ghost use Rattle.room_records.specs.declared.shelf.ShelfFault.TheVariants.{Store};
 ghost use Rattle.room_commands.specs.Checks.{check_size};
 ghost use Rattle.room_commands.specs.CommandModel as C;
-ghost use Rattle.room_tree.specs.Places.{OfRoom, node_of};
+ghost use Rattle.room_tree.specs.LoadedObjects.{OfRoom, node_of};
 ghost use Rattle.room_tree.specs.Plans.{Plans};
 ghost use Rattle.room_tree.specs.Stops.{Passes, refusal_in, stop_fault};
 ghost use Rattle.room_commands.specs.ReplyModel.{reply_model, Size, Done};
 
-use crate::masks::{APPEND_DATA, WRITE_DATA, WRITE_OWNER};
-use crate::place::Place;
+use crate::loaded::LoadedObject;
 use crate::planning::Outcome;
 use crate::reaching::{as_size, bytes_of, reach_to_use};
 use crate::refusal::{Refusal, Stop};
-use room_acl::{Kind, Principal, Subject};
-use room_commands::{Fault, Reply};
+use room_acl::{Kind, Mask, Principal, Subject};
+use room_commands::{RefusalCode, Reply};
 use room_records::{Change, MAX_DOCUMENT, Node, Path, Shelf};
 use std::alloc::{AllocError, Global};
 
@@ -24,7 +23,7 @@ pub(crate) fn check_size(size: u64) -> Result<(), Refusal>
     ensures { refusal_in result ≡ check_size size }
 {
     if size > MAX_DOCUMENT {
-        Err(Refusal::of(Fault::FBig))
+        Err(Refusal::of(RefusalCode::FBig))
     } else {
         Ok(())
     }
@@ -43,7 +42,8 @@ pub(crate) fn one_change(alloc: Global, change: Change, reply: Reply) -> Result<
 /// A document with these bytes.
 fn with_document(alloc: Global, id: u32, bytes: Vec<u8>) -> Result<Outcome, AllocError>
     ensures changes { IfOk result (λ outcome. outcome.changes.items ≡ Change.PutDoc id bytes ∷ []) }
-    ensures reply { IfOk result (λ outcome. length bytes.items < 2 ^ 32 → reply_model outcome.reply ≡ Size (length bytes.items)) }
+    ensures reply { IfOk result (λ outcome. length bytes.items < 2 ^ 32
+        → reply_model outcome.reply ≡ Size (length bytes.items)) }
 {
     let size = as_size(bytes.len() as u64);
     one_change(alloc, Change::PutDoc(id, bytes), Reply::Size(size))
@@ -57,19 +57,28 @@ pub(crate) fn plan_write<S: Shelf>(
     bytes: &[u8],
     path: &Path,
 ) -> Result<Outcome, Stop>
-    ensures effect { OfRoom (S.view shelf.old) (S.view shelf.new) (λ t room. Plans t room subject.now (C.Write bytes.now path.now) result) }
+    ensures effect { OfRoom (S.view shelf.old) (S.view shelf.new)
+        (λ t room. Plans t room subject.now (C.Write bytes.now path.now) result) }
     ensures frame { ShelfRead (S.view shelf.old) (S.view shelf.new) (stop_fault result) }
 {
-    let place = reach_to_use(alloc, shelf, subject, path, Some(Kind::File), WRITE_DATA)?;
+    let loaded = reach_to_use(
+        alloc,
+        shelf,
+        subject,
+        path,
+        Some(Kind::File),
+        Mask::WRITE_DATA,
+    )?;
     check_size(bytes.len() as u64)?;
     let copy = bytes.to_vec(alloc)?;
-    let outcome = with_document(alloc, place.id, copy)?;
+    let outcome = with_document(alloc, loaded.id, copy)?;
     Ok(outcome)
 }
 
 /// The bytes of both, where they are not too many for a document.
 fn appended(mut old: Vec<u8>, more: &[u8]) -> Result<Vec<u8>, Stop>
-    ensures value { Passes (check_size (length old.items + length more.now)) (λ all. all.items ≡ old.items ++ more.now) result }
+    ensures value { Passes (check_size (length old.items + length more.now))
+        (λ all. all.items ≡ old.items ++ more.now) result }
     ensures quiet { stop_fault result ≢ Some Store }
 {
     check_size(old.len() as u64 + more.len() as u64)?;
@@ -85,30 +94,42 @@ pub(crate) fn plan_append<S: Shelf>(
     bytes: &[u8],
     path: &Path,
 ) -> Result<Outcome, Stop>
-    ensures effect { OfRoom (S.view shelf.old) (S.view shelf.new) (λ t room. Plans t room subject.now (C.Append bytes.now path.now) result) }
+    ensures effect { OfRoom (S.view shelf.old) (S.view shelf.new)
+        (λ t room. Plans t room subject.now (C.Append bytes.now path.now) result) }
     ensures frame { ShelfRead (S.view shelf.old) (S.view shelf.new) (stop_fault result) }
 {
-    let place = reach_to_use(alloc, shelf, subject, path, Some(Kind::File), APPEND_DATA)?;
-    let old = bytes_of(shelf, &place)?;
+    let loaded = reach_to_use(
+        alloc,
+        shelf,
+        subject,
+        path,
+        Some(Kind::File),
+        Mask::APPEND_DATA,
+    )?;
+    let old = bytes_of(shelf, &loaded)?;
     let all = appended(old, bytes)?;
-    let outcome = with_document(alloc, place.id, all)?;
+    let outcome = with_document(alloc, loaded.id, all)?;
     Ok(outcome)
 }
 
 /// The row of a found object with another owner and group.
-fn with_standing(place: Place, owner: &Principal, group: &Principal) -> Result<Node, AllocError>
-    ensures { IfOk result (λ node. node ≡ record (node_of place) { owner = owner.now; group = group.now }) }
+fn with_standing(
+    loaded: LoadedObject,
+    owner: &Principal,
+    group: &Principal,
+) -> Result<Node, AllocError>
+    ensures { IfOk result (λ node. node ≡ record (node_of loaded) { owner = owner.now; group = group.now }) }
 {
     let owner = owner.clone()?;
     let group = group.clone()?;
     Ok(Node {
-        id: place.id,
-        parent: place.parent,
-        name: place.name,
-        kind: place.kind,
+        id: loaded.id,
+        parent: loaded.parent,
+        name: loaded.name,
+        kind: loaded.kind,
         owner,
         group,
-        aclflag: place.aclflag,
+        aclflag: loaded.aclflag,
     })
 }
 
@@ -121,11 +142,12 @@ pub(crate) fn plan_chown<S: Shelf>(
     owner: &Principal,
     path: &Path,
 ) -> Result<Outcome, Stop>
-    ensures effect { OfRoom (S.view shelf.old) (S.view shelf.new) (λ t room. Plans t room subject.now (C.Chown group.now owner.now path.now) result) }
+    ensures effect { OfRoom (S.view shelf.old) (S.view shelf.new)
+        (λ t room. Plans t room subject.now (C.Chown group.now owner.now path.now) result) }
     ensures frame { ShelfRead (S.view shelf.old) (S.view shelf.new) (stop_fault result) }
 {
-    let place = reach_to_use(alloc, shelf, subject, path, None, WRITE_OWNER)?;
-    let node = with_standing(place, owner, group)?;
+    let loaded = reach_to_use(alloc, shelf, subject, path, None, Mask::WRITE_OWNER)?;
+    let node = with_standing(loaded, owner, group)?;
     let outcome = one_change(alloc, Change::PutNode(node), Reply::Done)?;
     Ok(outcome)
 }

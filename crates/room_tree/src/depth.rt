@@ -6,13 +6,13 @@ ghost use Rattle.room_records.specs.Representation.{HasPath};
 ghost use Rattle.room_records.specs.Shelf.{ShelfRead, fault_in};
 ghost use Rattle.room_commands.specs.Checks.{check_depth};
 ghost use Rattle.room_tree.specs.Depths.{TellsBelow};
-ghost use Rattle.room_tree.specs.Places.{OfRoom, IsPlace};
+ghost use Rattle.room_tree.specs.LoadedObjects.{OfRoom, IsLoaded};
 ghost use Rattle.room_tree.specs.Stops.{Passes, stop_fault};
 
-use crate::place::Place;
+use crate::loaded::LoadedObject;
 use crate::refusal::Stop;
 use room_acl::Kind;
-use room_commands::Fault;
+use room_commands::RefusalCode;
 use room_records::{MAX_NAMES, Path, Shelf, ShelfFault};
 
 /// Whether something stands this many levels below the node of this number and kind: 0 is the node itself.
@@ -45,15 +45,20 @@ fn reaches_down<S: Shelf>(
 }
 
 /// Whether an object of the subtree at this place would have too many names where it goes to `to`.
-pub(crate) fn check_depth<S: Shelf>(shelf: &mut S, place: &Place, to: &Path) -> Result<(), Stop>
-    ensures value { OfRoom (S.view shelf.old) (S.view shelf.new) (λ t room. (path : PathModel) → IsPlace t room path place.now →
+pub(crate) fn check_depth<S: Shelf>(
+    shelf: &mut S,
+    loaded: &LoadedObject,
+    to: &Path,
+) -> Result<(), Stop>
+    ensures value { OfRoom (S.view shelf.old) (S.view shelf.new) (λ t room. (path : PathModel)
+        → IsLoaded t room path loaded.now →
         Passes (check_depth room path to.now) (λ _. Unit {0}) result) }
     ensures frame { ShelfRead (S.view shelf.old) (S.view shelf.new) (stop_fault result) }
 {
     let too_deep = MAX_NAMES + 1 - to.names().len();
-    let deep = reaches_down(shelf, place.id, place.kind, too_deep)?;
+    let deep = reaches_down(shelf, loaded.id, loaded.kind, too_deep)?;
     if deep {
-        Err(Stop::of(Fault::TooDeep))
+        Err(Stop::of(RefusalCode::TooDeep))
     } else {
         Ok(())
     }

@@ -1,24 +1,25 @@
 //! Commands that make an object.
-ghost use Rattle.std.specs.Prelude.{◌≡◌, ℕ, List, ◌+◌, ◌-◌, ◌≤◌, ◌<◌, ◌^◌, [], ◌∷◌, ◌++◌, Some, IfOk, nat_lt, nat_le};
-ghost use Rattle.room_acl.specs.Bits.{IsMask};
+ghost use Rattle.std.specs.Prelude.{◌≡◌, ℕ, List, ◌+◌, ◌-◌, ◌≤◌, ◌<◌, ◌^◌, [], ◌∷◌, ◌++◌, Some, IfOk, OnOk};
+ghost use Rattle.std.specs.Prelude.{nat_lt, nat_le};
 ghost use Rattle.room_records.specs.Limits.{max_children, max_objects};
 ghost use Rattle.room_records.specs.Names.{IsPath, Path as PathModel};
 ghost use Rattle.room_records.specs.Room.{parent_of};
 ghost use Rattle.room_records.specs.Shelf.{ShelfRead};
-ghost use Rattle.room_commands.specs.Checks.{first_refusal, refuse_if, is_root, walk, check_absent, check_right, check_folder_full, check_room_full};
+ghost use Rattle.room_commands.specs.Checks.{first_refusal, refuse_if, is_root, walk, check_absent, check_right};
+ghost use Rattle.room_commands.specs.Checks.{check_folder_full, check_room_full};
 ghost use Rattle.room_commands.specs.CommandModel as C;
-ghost use Rattle.room_tree.specs.Places.{OfRoom, IsPlace, IsNewNode};
+ghost use Rattle.room_tree.specs.LoadedObjects.{OfRoom, IsLoaded, IsNewNode};
 ghost use Rattle.room_tree.specs.Plans.{Plans};
+ghost use Rattle.room_tree.specs.Renewals.{puts_new};
 ghost use Rattle.room_tree.specs.Stops.{Passes, refusal_in, stop_fault};
 
 use crate::changing::check_size;
-use crate::masks::{ADD_FILE, ADD_SUBDIRECTORY};
-use crate::place::Place;
+use crate::loaded::LoadedObject;
 use crate::planning::Outcome;
 use crate::reaching::{as_size, count_children, folder_of_free};
 use crate::refusal::{Refusal, Stop};
-use room_acl::{Kind, ListFlags, Subject};
-use room_commands::{Fault, Reply};
+use room_acl::{Entry, Kind, ListFlags, Mask, Subject, hand_down};
+use room_commands::{RefusalCode, Reply};
 use room_records::{Change, FileName, MAX_CHILDREN, MAX_OBJECTS, Node, Path, Shelf};
 use std::alloc::{AllocError, Global};
 
@@ -28,18 +29,18 @@ fn folder_for_new<S: Shelf>(
     shelf: &mut S,
     subject: &Subject,
     path: &Path,
-    wanted: u32,
-) -> Result<Place, Stop>
-    requires { IsMask wanted }
+    wanted: Mask,
+) -> Result<LoadedObject, Stop>
     ensures lawful { IsPath path.now }
     ensures value { OfRoom (S.view shelf.old) (S.view shelf.new) (λ t room.
-        Passes (first_refusal (refuse_if (is_root path.now) Fault.Exist ∷ walk room subject.now path.now
-        ∷ check_absent room path.now ∷ check_right room subject.now (parent_of path.now) wanted ∷ [])) (IsPlace t room (parent_of path.now)) result) }
+        Passes (first_refusal (refuse_if (is_root path.now) RefusalCode.Exist ∷ walk room subject.now path.now
+        ∷ check_absent room path.now ∷ check_right room subject.now (parent_of path.now) wanted ∷ []))
+        (IsLoaded t room (parent_of path.now)) result) }
     ensures frame { ShelfRead (S.view shelf.old) (S.view shelf.new) (stop_fault result) }
 {
     let count = path.names().len();
     if count == 0 {
-        return Err(Stop::of(Fault::Exist));
+        return Err(Stop::of(RefusalCode::Exist));
     }
     let above = folder_of_free(alloc, shelf, subject, path)?;
     above.check_right(alloc, subject, wanted, path, count - 1)?;
@@ -48,10 +49,10 @@ fn folder_for_new<S: Shelf>(
 
 /// Whether a folder with this many children is full.
 pub(crate) fn check_children(count: u64) -> Result<(), Refusal>
-    ensures { refusal_in result ≡ refuse_if (nat_le max_children count) Fault.FolderFull }
+    ensures { refusal_in result ≡ refuse_if (nat_le max_children count) RefusalCode.FolderFull }
 {
     if count >= MAX_CHILDREN {
-        Err(Refusal::of(Fault::FolderFull))
+        Err(Refusal::of(RefusalCode::FolderFull))
     } else {
         Ok(())
     }
@@ -59,19 +60,20 @@ pub(crate) fn check_children(count: u64) -> Result<(), Refusal>
 
 /// Whether no number is left for a new object.
 fn check_number(next: u32) -> Result<(), Refusal>
-    ensures { refusal_in result ≡ refuse_if (nat_lt max_objects next) Fault.RoomFull }
+    ensures { refusal_in result ≡ refuse_if (nat_lt max_objects next) RefusalCode.RoomFull }
 {
     if next > MAX_OBJECTS {
-        Err(Refusal::of(Fault::RoomFull))
+        Err(Refusal::of(RefusalCode::RoomFull))
     } else {
         Ok(())
     }
 }
 
 /// The number of a new object in this folder, or why there is no room for one.
-fn number_for_new<S: Shelf>(shelf: &mut S, above: &Place) -> Result<u32, Stop>
+fn number_for_new<S: Shelf>(shelf: &mut S, above: &LoadedObject) -> Result<u32, Stop>
     ensures small { IfOk result (λ id. id ≤ max_objects) }
-    ensures value { OfRoom (S.view shelf.old) (S.view shelf.new) (λ t room. (folder : PathModel) → IsPlace t room folder above.now →
+    ensures value { OfRoom (S.view shelf.old) (S.view shelf.new) (λ t room. (folder : PathModel)
+        → IsLoaded t room folder above.now →
         Passes (first_refusal (check_folder_full room folder ∷ check_room_full room ∷ [])) (λ id. id ≡ t.next) result) }
     ensures frame { ShelfRead (S.view shelf.old) (S.view shelf.new) (stop_fault result) }
 {
@@ -84,7 +86,8 @@ fn number_for_new<S: Shelf>(shelf: &mut S, above: &Place) -> Result<u32, Stop>
 
 /// The last name of a path, which the root has not.
 pub(crate) fn last_name(path: &Path) -> Result<Option<FileName>, AllocError>
-    ensures { (folder : PathModel) (name : List ℕ) → path.now ≡ folder ++ name ∷ [] → IfOk result (λ last. last ≡ Some name) }
+    ensures { (folder : PathModel) (name : List ℕ)
+        → path.now ≡ folder ++ name ∷ [] → IfOk result (λ last. last ≡ Some name) }
 {
     let names = path.names();
     let count = names.len();
@@ -99,7 +102,7 @@ pub(crate) fn last_name(path: &Path) -> Result<Option<FileName>, AllocError>
 fn new_node(
     subject: &Subject,
     path: &Path,
-    above: &Place,
+    above: &LoadedObject,
     kind: Kind,
     id: u32,
 ) -> Result<Node, AllocError>
@@ -119,14 +122,31 @@ fn new_node(
     })
 }
 
-/// The changes for a new object: the next number first, since each number is below it.
-fn new_object(alloc: Global, id: u32, node: Node) -> Result<Vec<Change>, AllocError>
+/// Adds the entries of a new object, if it has any.
+fn add_list(changes: &mut Vec<Change>, id: u32, list: Vec<Entry>) -> Result<(), AllocError>
+    ensures { OnOk result (changes.new.items ≡ changes.old.items ++ puts_new id list) }
+{
+    if !list.is_empty() {
+        changes.push(Change::PutEntries(id, list))?;
+    }
+    Ok(())
+}
+
+/// The changes for a new object with this list: the next number first, since each number is below it.
+fn new_object(
+    alloc: Global,
+    id: u32,
+    node: Node,
+    list: Vec<Entry>,
+) -> Result<Vec<Change>, AllocError>
     requires { id < 2 ^ 32 - 1 }
-    ensures { IfOk result (λ changes. changes.items ≡ Change.PutNext (id + 1) ∷ Change.PutNode node ∷ []) }
+    ensures { IfOk result (λ changes. changes.items
+        ≡ Change.PutNext (id + 1) ∷ Change.PutNode node ∷ puts_new id list) }
 {
     let mut changes = Vec::new(alloc);
     changes.push(Change::PutNext(id + 1))?;
     changes.push(Change::PutNode(node))?;
+    add_list(&mut changes, id, list)?;
     Ok(changes)
 }
 
@@ -135,12 +155,14 @@ fn new_document(
     alloc: Global,
     id: u32,
     node: Node,
+    list: Vec<Entry>,
     bytes: Vec<u8>,
 ) -> Result<Vec<Change>, AllocError>
     requires { id < 2 ^ 32 - 1 }
-    ensures { IfOk result (λ changes. changes.items ≡ Change.PutNext (id + 1) ∷ Change.PutNode node ∷ Change.PutDoc id bytes ∷ []) }
+    ensures { IfOk result (λ changes. changes.items
+        ≡ Change.PutNext (id + 1) ∷ Change.PutNode node ∷ puts_new id list ++ Change.PutDoc id bytes ∷ []) }
 {
-    let mut changes = new_object(alloc, id, node)?;
+    let mut changes = new_object(alloc, id, node, list)?;
     changes.push(Change::PutDoc(id, bytes))?;
     Ok(changes)
 }
@@ -152,13 +174,15 @@ pub(crate) fn plan_mkdir<S: Shelf>(
     subject: &Subject,
     path: &Path,
 ) -> Result<Outcome, Stop>
-    ensures effect { OfRoom (S.view shelf.old) (S.view shelf.new) (λ t room. Plans t room subject.now (C.Mkdir path.now) result) }
+    ensures effect { OfRoom (S.view shelf.old) (S.view shelf.new)
+        (λ t room. Plans t room subject.now (C.Mkdir path.now) result) }
     ensures frame { ShelfRead (S.view shelf.old) (S.view shelf.new) (stop_fault result) }
 {
-    let above = folder_for_new(alloc, shelf, subject, path, ADD_SUBDIRECTORY)?;
+    let above = folder_for_new(alloc, shelf, subject, path, Mask::ADD_SUBDIRECTORY)?;
     let id = number_for_new(shelf, &above)?;
     let node = new_node(subject, path, &above, Kind::Folder, id)?;
-    let changes = new_object(alloc, id, node)?;
+    let list = hand_down(alloc, &above.list, Kind::Folder)?;
+    let changes = new_object(alloc, id, node, list)?;
     Ok(Outcome {
         changes,
         reply: Reply::Done,
@@ -173,15 +197,17 @@ pub(crate) fn plan_create<S: Shelf>(
     bytes: &[u8],
     path: &Path,
 ) -> Result<Outcome, Stop>
-    ensures effect { OfRoom (S.view shelf.old) (S.view shelf.new) (λ t room. Plans t room subject.now (C.Create bytes.now path.now) result) }
+    ensures effect { OfRoom (S.view shelf.old) (S.view shelf.new)
+        (λ t room. Plans t room subject.now (C.Create bytes.now path.now) result) }
     ensures frame { ShelfRead (S.view shelf.old) (S.view shelf.new) (stop_fault result) }
 {
-    let above = folder_for_new(alloc, shelf, subject, path, ADD_FILE)?;
+    let above = folder_for_new(alloc, shelf, subject, path, Mask::ADD_FILE)?;
     check_size(bytes.len() as u64)?;
     let id = number_for_new(shelf, &above)?;
     let node = new_node(subject, path, &above, Kind::File, id)?;
+    let list = hand_down(alloc, &above.list, Kind::File)?;
     let copy = bytes.to_vec(alloc)?;
-    let changes = new_document(alloc, id, node, copy)?;
+    let changes = new_document(alloc, id, node, list, copy)?;
     Ok(Outcome {
         changes,
         reply: Reply::Size(as_size(bytes.len() as u64)),

@@ -1,6 +1,7 @@
 //! RENAME.
 ghost use Rattle.std.specs.Prelude.{◌≡◌, ◌≢◌, ℕ, false, List, [], ◌∷◌, ◌++◌, ◌||◌, Some, IfOk, if◌then◌else◌};
-ghost use Rattle.room_acl.specs.Bits.{IsMask, add_file, add_subdirectory};
+ghost use Rattle.room_acl.specs.Bits.{add_file, add_subdirectory};
+ghost use Rattle.room_acl.specs.Inheritance.{own_part, with_inherited};
 ghost use Rattle.room_records.specs.Names.{IsPath, Path as PathModel};
 ghost use Rattle.room_records.specs.Records.{ObjectRecords};
 ghost use Rattle.room_records.specs.Room.{Object, Room};
@@ -8,31 +9,30 @@ ghost use Rattle.room_records.specs.Shelf.{ShelfRead};
 ghost use Rattle.room_records.specs.declared.shelf.ShelfFault.TheVariants.{Store};
 ghost use Rattle.room_commands.specs.Checks.{first_refusal, refuse_if, is_root, is_kind, is_at_or_below};
 ghost use Rattle.room_commands.specs.CommandModel as C;
-ghost use Rattle.room_tree.specs.Places.{OfRoom, node_of};
+ghost use Rattle.room_tree.specs.LoadedObjects.{OfRoom, node_of};
 ghost use Rattle.room_tree.specs.Plans.{Plans};
 ghost use Rattle.room_tree.specs.Renames.{IsMove, end_checks, move_rights, move_limits};
 ghost use Rattle.room_tree.specs.Stops.{Passes, refusal_in, stop_fault};
 
-use crate::changing::one_change;
 use crate::depth::check_depth;
+use crate::loaded::LoadedObject;
 use crate::making::{check_children, last_name};
-use crate::masks::{ADD_FILE, ADD_SUBDIRECTORY};
-use crate::place::Place;
 use crate::planning::Outcome;
 use crate::reaching::{count_children, folder_of_free, reach_with_folder};
 use crate::refusal::{Refusal, Stop};
 use crate::removing::check_removal;
-use room_acl::{Kind, Subject};
-use room_commands::{Fault, Reply};
-use room_records::{Change, FileName, Node, Path, Shelf};
+use crate::renewing::{if_changed, with_list};
+use room_acl::{Entry, Kind, Mask, Subject, own_part, with_inherited};
+use room_commands::{RefusalCode, Reply};
+use room_records::{FileName, Node, Path, Shelf};
 use std::alloc::{AllocError, Global};
 
 /// An object that is to be moved, its folder, and the folder where it goes.
 #[derive(Debug, Drop)]
 pub(crate) struct Move {
-    place: Place,
-    from: Place,
-    into: Place,
+    loaded: LoadedObject,
+    from: LoadedObject,
+    into: LoadedObject,
 }
 
 /// Whether these names begin with those of `top`.
@@ -53,12 +53,13 @@ fn begins_with(names: &[FileName], top: &[FileName]) -> bool
 /// Whether the root would be moved or replaced, or a folder would be moved into itself.
 fn check_paths(path: &Path, to: &Path) -> Result<(), Refusal>
     ensures lawful { IsPath path.now × IsPath to.now }
-    ensures value { refusal_in result ≡ refuse_if (is_root path.now || is_root to.now || is_at_or_below to.now path.now) Fault.Inval }
+    ensures value { refusal_in result
+        ≡ refuse_if (is_root path.now || is_root to.now || is_at_or_below to.now path.now) RefusalCode.Inval }
 {
     let names = path.names();
     let names_after = to.names();
     if names.is_empty() || names_after.is_empty() || begins_with(names_after, names) {
-        Err(Refusal::of(Fault::Inval))
+        Err(Refusal::of(RefusalCode::Inval))
     } else {
         Ok(())
     }
@@ -78,18 +79,18 @@ fn ends_of_move<S: Shelf>(
 {
     let found = reach_with_folder(alloc, shelf, subject, path)?;
     let into = folder_of_free(alloc, shelf, subject, to)?;
-    let (place, from) = found;
-    Ok(Move { place, from, into })
+    let (loaded, from) = found;
+    Ok(Move { loaded, from, into })
 }
 
 /// What adding an object of this kind to a folder needs.
-fn right_to_add(kind: Kind) -> u32
-    ensures mask { IsMask result }
-    ensures value { (o : Object) → o.kind ≡ kind → result ≡ (if is_kind Kind.Folder (Some o) then add_subdirectory else add_file) }
+fn right_to_add(kind: Kind) -> Mask
+    ensures value { (o : Object) → o.kind ≡ kind
+        → result ≡ (if is_kind Kind.Folder (Some o) then add_subdirectory else add_file) }
 {
     match kind {
-        Kind::File => ADD_FILE,
-        Kind::Folder => ADD_SUBDIRECTORY,
+        Kind::File => Mask::ADD_FILE,
+        Kind::Folder => Mask::ADD_SUBDIRECTORY,
     }
 }
 
@@ -106,19 +107,20 @@ impl Move {
             Passes (first_refusal (move_rights room subject.now path.now to.now)) (λ _. Unit {0}) result }
         ensures quiet { stop_fault result ≢ Some Store }
     {
-        check_removal(alloc, subject, path, &self.place, &self.from)?;
+        check_removal(alloc, subject, path, &self.loaded, &self.from)?;
         let count = to.names().len().saturating_sub(1);
         self.into
-            .check_right(alloc, subject, right_to_add(self.place.kind), to, count)
+            .check_right(alloc, subject, right_to_add(self.loaded.kind), to, count)
     }
 
     /// Whether the subtree would reach too far down, or another folder would have too many children.
     fn check_limits<S: Shelf>(&self, shelf: &mut S, to: &Path) -> Result<(), Stop>
-        ensures value { OfRoom (S.view shelf.old) (S.view shelf.new) (λ t room. (path : PathModel) → IsMove t room path to.now self.now →
+        ensures value { OfRoom (S.view shelf.old) (S.view shelf.new) (λ t room. (path : PathModel)
+            → IsMove t room path to.now self.now →
             Passes (first_refusal (move_limits room path to.now)) (λ _. Unit {0}) result) }
         ensures frame { ShelfRead (S.view shelf.old) (S.view shelf.new) (stop_fault result) }
     {
-        check_depth(shelf, &self.place, to)?;
+        check_depth(shelf, &self.loaded, to)?;
         if self.from.id == self.into.id {
             return Ok(());
         }
@@ -138,8 +140,10 @@ fn allowed_move<S: Shelf>(
 ) -> Result<Move, Stop>
     ensures lawful { IsPath path.now × IsPath to.now }
     ensures value { OfRoom (S.view shelf.old) (S.view shelf.new) (λ t room.
-        Passes (first_refusal (refuse_if (is_root path.now || is_root to.now || is_at_or_below to.now path.now) Fault.Inval
-        ∷ (end_checks room subject.now path.now to.now ++ move_rights room subject.now path.now to.now))) (IsMove t room path.now to.now) result) }
+        Passes (first_refusal
+        (refuse_if (is_root path.now || is_root to.now || is_at_or_below to.now path.now) RefusalCode.Inval
+        ∷ (end_checks room subject.now path.now to.now ++ move_rights room subject.now path.now to.now)))
+        (IsMove t room path.now to.now) result) }
     ensures frame { ShelfRead (S.view shelf.old) (S.view shelf.new) (stop_fault result) }
 {
     check_paths(path, to)?;
@@ -149,24 +153,37 @@ fn allowed_move<S: Shelf>(
 }
 
 /// The row of a found object in another folder, under the last name of `to`.
-fn moved_node(place: Place, into: u32, to: &Path) -> Result<Node, AllocError>
+fn moved_node(loaded: LoadedObject, into: u32, to: &Path) -> Result<Node, AllocError>
     ensures { (folder : PathModel) (name : List ℕ) → to.now ≡ folder ++ name ∷ [] →
-        IfOk result (λ node. node ≡ record (node_of place) { parent = Some into; name = Some name }) }
+        IfOk result (λ node. node ≡ record (node_of loaded) { parent = Some into; name = Some name }) }
 {
     let name = last_name(to)?;
     Ok(Node {
-        id: place.id,
+        id: loaded.id,
         parent: Some(into),
         name,
-        kind: place.kind,
-        owner: place.standing.owner,
-        group: place.standing.group,
-        aclflag: place.aclflag,
+        kind: loaded.kind,
+        owner: loaded.standing.owner,
+        group: loaded.standing.group,
+        aclflag: loaded.aclflag,
     })
 }
 
-/// RENAME: an object and what is below it go to another path. Only the row of the object changes: what is below
-/// it is found by that row, and lists by walking up.
+/// The list of a found object in another folder.
+fn moved_list(
+    alloc: Global,
+    loaded: &LoadedObject,
+    into: &LoadedObject,
+) -> Result<Vec<Entry>, AllocError>
+    ensures { IfOk result (λ list. list.items
+        ≡ with_inherited (own_part loaded.now.list.items) loaded.now.aclflag loaded.now.kind into.now.list.items) }
+{
+    let own = own_part(alloc, &loaded.list)?;
+    with_inherited(alloc, own, loaded.aclflag, loaded.kind, &into.list)
+}
+
+/// RENAME: an object and what is below it go to another path. The row of the object changes, its list to what the new
+/// folder hands down, and the lists below with it.
 pub(crate) fn plan_rename<S: Shelf>(
     alloc: Global,
     shelf: &mut S,
@@ -174,12 +191,18 @@ pub(crate) fn plan_rename<S: Shelf>(
     path: &Path,
     to: &Path,
 ) -> Result<Outcome, Stop>
-    ensures effect { OfRoom (S.view shelf.old) (S.view shelf.new) (λ t room. Plans t room subject.now (C.Rename path.now to.now) result) }
+    ensures effect { OfRoom (S.view shelf.old) (S.view shelf.new)
+        (λ t room. Plans t room subject.now (C.Rename path.now to.now) result) }
     ensures frame { ShelfRead (S.view shelf.old) (S.view shelf.new) (stop_fault result) }
 {
     let moving = allowed_move(alloc, shelf, subject, path, to)?;
     moving.check_limits(shelf, to)?;
-    let node = moved_node(moving.place, moving.into.id, to)?;
-    let outcome = one_change(alloc, Change::PutNode(node), Reply::Done)?;
-    Ok(outcome)
+    let list = moved_list(alloc, &moving.loaded, &moving.into)?;
+    let list = if_changed(&moving.loaded.list, list);
+    let node = moved_node(moving.loaded, moving.into.id, to)?;
+    let changes = with_list(alloc, shelf, node, list)?;
+    Ok(Outcome {
+        changes,
+        reply: Reply::Done,
+    })
 }

@@ -5,7 +5,7 @@ ghost use Rattle.room_records.specs.Shelf.{ShelfRead, fault_in};
 ghost use Rattle.room_commands.specs.CommandModel.{command_model};
 ghost use Rattle.room_records.specs.Room.{Room};
 ghost use Rattle.room_records.specs.Representation.{RepresentsRoom};
-ghost use Rattle.room_tree.specs.Places.{OfRoom};
+ghost use Rattle.room_tree.specs.LoadedObjects.{OfRoom};
 ghost use Rattle.room_tree.specs.Plans.{OnlyReads, Plans, PlansEffect};
 ghost use Rattle.room_tree.specs.Stops.{stop_fault};
 ghost use Rattle.room_commands.specs.ReplyModel.{reply_model, Refused};
@@ -30,8 +30,8 @@ pub struct Outcome {
 }
 
 impl Outcome {
-    /// A copy of the outcome: as many changes, each of which does the same to all records. `AllocError` where memory
-    /// is refused.
+    /// A copy of the outcome: as many changes, each of which does the
+    /// same to all records. `AllocError` where memory is refused.
     pub fn clone(&self) -> Result<Outcome, AllocError>
         ensures changes { IfOk result (λ copy. AreSameChanges copy.changes.items self.now.changes.items) }
         ensures reply { IfOk result (λ copy. reply_model copy.reply ≡ reply_model self.now.reply) }
@@ -87,7 +87,8 @@ fn plan_or_stop<S: Shelf>(
     subject: &Subject,
     command: &Command,
 ) -> Result<Outcome, Stop>
-    ensures effect { OfRoom (S.view shelf.old) (S.view shelf.new) (λ t room. Plans t room subject.now (command_model command.now) result) }
+    ensures effect { OfRoom (S.view shelf.old) (S.view shelf.new)
+        (λ t room. Plans t room subject.now (command_model command.now) result) }
     ensures reads { OnlyReads (command_model command.now) → IfOk result (λ outcome. outcome.changes.items ≡ []) }
     ensures frame { ShelfRead (S.view shelf.old) (S.view shelf.new) (stop_fault result) }
 {
@@ -127,7 +128,8 @@ pub fn plan<S: Shelf>(
     subject: &Subject,
     command: &Command,
 ) -> Result<Outcome, ShelfFault>
-    ensures effect { (S.view shelf.new).is_available → (S.view shelf.old).is_laid_out → (room : Room) → RepresentsRoom (S.view shelf.old).records.objects room →
+    ensures effect { (S.view shelf.new).is_available → (S.view shelf.old).is_laid_out
+        → (room : Room) → RepresentsRoom (S.view shelf.old).records.objects room →
         IfOk result (PlansEffect (S.view shelf.old).records.objects room subject.now (command_model command.now)) }
     ensures reads { OnlyReads (command_model command.now) → IfOk result (λ outcome. outcome.changes.items ≡ []) }
     ensures frame { ShelfRead (S.view shelf.old) (S.view shelf.new) (fault_in result) }

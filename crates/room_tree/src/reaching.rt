@@ -1,19 +1,18 @@
 //! The object that a command is about.
 ghost use Rattle.std.specs.Prelude.{◌≡◌, ◌<◌, ◌^◌, false, [], ◌∷◌, length, IfOk};
-ghost use Rattle.room_acl.specs.Bits.{IsMask};
 ghost use Rattle.room_records.specs.Names.{Path as PathModel};
 ghost use Rattle.room_records.specs.Shelf.{ShelfRead, fault_in};
 ghost use Rattle.room_commands.specs.Checks.{first_refusal, is_root, walk, check_absent, check_exists, bytes_at};
 ghost use Rattle.room_records.specs.Room.{children, parent_of};
 ghost use Rattle.room_commands.specs.Effect.{size_of};
-ghost use Rattle.room_tree.specs.Places.{OfRoom, IsPlace, use_checks};
+ghost use Rattle.room_tree.specs.LoadedObjects.{OfRoom, IsLoaded, use_checks};
 ghost use Rattle.room_tree.specs.Stops.{Passes, stop_fault};
 
-use crate::place::Place;
+use crate::loaded::LoadedObject;
 use crate::refusal::Stop;
 use crate::walking::{Walk, walk_path};
-use room_acl::{Kind, Subject};
-use room_commands::Fault;
+use room_acl::{Kind, Mask, Subject};
+use room_commands::RefusalCode;
 use room_records::{Path, Shelf, ShelfFault};
 use std::alloc::Global;
 
@@ -23,14 +22,15 @@ pub(crate) fn reach<S: Shelf>(
     shelf: &mut S,
     subject: &Subject,
     path: &Path,
-) -> Result<Place, Stop>
+) -> Result<LoadedObject, Stop>
     ensures value { OfRoom (S.view shelf.old) (S.view shelf.new) (λ t room.
-        Passes (first_refusal (walk room subject.now path.now ∷ check_exists room path.now ∷ [])) (IsPlace t room path.now) result) }
+        Passes (first_refusal (walk room subject.now path.now ∷ check_exists room path.now ∷ []))
+        (IsLoaded t room path.now) result) }
     ensures frame { ShelfRead (S.view shelf.old) (S.view shelf.new) (stop_fault result) }
 {
     match walk_path(alloc, shelf, subject, path)? {
-        Walk::Absent(_) => Err(Stop::of(Fault::NoEnt)),
-        Walk::Found(place, _) => Ok(place),
+        Walk::Absent(_) => Err(Stop::of(RefusalCode::NoEnt)),
+        Walk::Found(loaded, _) => Ok(loaded),
     }
 }
 
@@ -40,19 +40,19 @@ pub(crate) fn reach_with_folder<S: Shelf>(
     shelf: &mut S,
     subject: &Subject,
     path: &Path,
-) -> Result<(Place, Place), Stop>
+) -> Result<(LoadedObject, LoadedObject), Stop>
     ensures value { OfRoom (S.view shelf.old) (S.view shelf.new) (λ t room. is_root path.now ≡ false →
         Passes (first_refusal (walk room subject.now path.now ∷ check_exists room path.now ∷ []))
-        (λ found. IsPlace t room path.now found.0 × IsPlace t room (parent_of path.now) found.1) result) }
+        (λ found. IsLoaded t room path.now found.0 × IsLoaded t room (parent_of path.now) found.1) result) }
     ensures frame { ShelfRead (S.view shelf.old) (S.view shelf.new) (stop_fault result) }
 {
-    let (place, above) = match walk_path(alloc, shelf, subject, path)? {
-        Walk::Absent(_) => return Err(Stop::of(Fault::NoEnt)),
-        Walk::Found(place, above) => (place, above),
+    let (loaded, above) = match walk_path(alloc, shelf, subject, path)? {
+        Walk::Absent(_) => return Err(Stop::of(RefusalCode::NoEnt)),
+        Walk::Found(loaded, above) => (loaded, above),
     };
     match above {
-        Some(folder) => Ok((place, folder)),
-        None => Err(Stop::of(Fault::Inval)),
+        Some(folder) => Ok((loaded, folder)),
+        None => Err(Stop::of(RefusalCode::Inval)),
     }
 }
 
@@ -62,13 +62,14 @@ pub(crate) fn folder_of_free<S: Shelf>(
     shelf: &mut S,
     subject: &Subject,
     path: &Path,
-) -> Result<Place, Stop>
+) -> Result<LoadedObject, Stop>
     ensures value { OfRoom (S.view shelf.old) (S.view shelf.new) (λ t room.
-        Passes (first_refusal (walk room subject.now path.now ∷ check_absent room path.now ∷ [])) (IsPlace t room (parent_of path.now)) result) }
+        Passes (first_refusal (walk room subject.now path.now ∷ check_absent room path.now ∷ []))
+        (IsLoaded t room (parent_of path.now)) result) }
     ensures frame { ShelfRead (S.view shelf.old) (S.view shelf.new) (stop_fault result) }
 {
     match walk_path(alloc, shelf, subject, path)? {
-        Walk::Found(_, _) => Err(Stop::of(Fault::Exist)),
+        Walk::Found(_, _) => Err(Stop::of(RefusalCode::Exist)),
         Walk::Absent(above) => Ok(above),
     }
 }
@@ -80,50 +81,59 @@ pub(crate) fn reach_to_use<S: Shelf>(
     subject: &Subject,
     path: &Path,
     only: Option<Kind>,
-    wanted: u32,
-) -> Result<Place, Stop>
-    requires { IsMask wanted }
+    wanted: Mask,
+) -> Result<LoadedObject, Stop>
     ensures value { OfRoom (S.view shelf.old) (S.view shelf.new) (λ t room.
-        Passes (first_refusal (walk room subject.now path.now ∷ check_exists room path.now ∷ use_checks room subject.now path.now only wanted))
-        (IsPlace t room path.now) result) }
+        Passes (first_refusal (walk room subject.now path.now ∷ check_exists room path.now
+        ∷ use_checks room subject.now path.now only wanted))
+        (IsLoaded t room path.now) result) }
     ensures frame { ShelfRead (S.view shelf.old) (S.view shelf.new) (stop_fault result) }
 {
-    let place = reach(alloc, shelf, subject, path)?;
-    place.check_use(alloc, subject, path, only, wanted)?;
-    Ok(place)
+    let loaded = reach(alloc, shelf, subject, path)?;
+    loaded.check_use(alloc, subject, path, only, wanted)?;
+    Ok(loaded)
 }
 
 /// How many are in a folder.
-pub(crate) fn count_children<S: Shelf>(shelf: &mut S, place: &Place) -> Result<u64, ShelfFault>
-    ensures value { OfRoom (S.view shelf.old) (S.view shelf.new) (λ t room. (path : PathModel) → IsPlace t room path place.now →
+pub(crate) fn count_children<S: Shelf>(
+    shelf: &mut S,
+    loaded: &LoadedObject,
+) -> Result<u64, ShelfFault>
+    ensures value { OfRoom (S.view shelf.old) (S.view shelf.new) (λ t room. (path : PathModel)
+        → IsLoaded t room path loaded.now →
         IfOk result (λ count. count ≡ length (children room path))) }
     ensures frame { ShelfRead (S.view shelf.old) (S.view shelf.new) (fault_in result) }
 {
-    shelf.child_count(place.id)
+    shelf.child_count(loaded.id)
 }
 
 /// The bytes of a document.
-pub(crate) fn bytes_of<S: Shelf>(shelf: &mut S, place: &Place) -> Result<Vec<u8>, ShelfFault>
-    ensures value { OfRoom (S.view shelf.old) (S.view shelf.new) (λ t room. (path : PathModel) → IsPlace t room path place.now →
+pub(crate) fn bytes_of<S: Shelf>(
+    shelf: &mut S,
+    loaded: &LoadedObject,
+) -> Result<Vec<u8>, ShelfFault>
+    ensures value { OfRoom (S.view shelf.old) (S.view shelf.new) (λ t room. (path : PathModel)
+        → IsLoaded t room path loaded.now →
         IfOk result (λ bytes. bytes.items ≡ bytes_at room path)) }
     ensures frame { ShelfRead (S.view shelf.old) (S.view shelf.new) (fault_in result) }
 {
-    shelf.doc(place.id)
+    shelf.doc(loaded.id)
 }
 
 /// The size of a document, or how many are in a folder.
-pub(crate) fn size_of<S: Shelf>(shelf: &mut S, place: &Place) -> Result<u32, ShelfFault>
-    ensures value { OfRoom (S.view shelf.old) (S.view shelf.new) (λ t room. (path : PathModel) → IsPlace t room path place.now →
-        IfOk result (λ size. size ≡ size_of room path place.now.kind)) }
+pub(crate) fn size_of<S: Shelf>(shelf: &mut S, loaded: &LoadedObject) -> Result<u32, ShelfFault>
+    ensures value { OfRoom (S.view shelf.old) (S.view shelf.new) (λ t room. (path : PathModel)
+        → IsLoaded t room path loaded.now →
+        IfOk result (λ size. size ≡ size_of room path loaded.now.kind)) }
     ensures frame { ShelfRead (S.view shelf.old) (S.view shelf.new) (fault_in result) }
 {
-    match place.kind {
+    match loaded.kind {
         Kind::File => {
-            let bytes = bytes_of(shelf, place)?;
+            let bytes = bytes_of(shelf, loaded)?;
             Ok(as_size(bytes.len() as u64))
         }
         Kind::Folder => {
-            let count = count_children(shelf, place)?;
+            let count = count_children(shelf, loaded)?;
             Ok(as_size(count))
         }
     }

@@ -7,10 +7,9 @@ ghost use Rattle.room_records.specs.Shelf.{ShelfRead, fault_in};
 ghost use Rattle.room_commands.specs.CommandModel as C;
 ghost use Rattle.room_tree.specs.Plans.{Plans};
 ghost use Rattle.room_tree.specs.Stops.{stop_fault};
-ghost use Rattle.room_tree.specs.Places.{OfRoom, IsPlace, listed};
+ghost use Rattle.room_tree.specs.LoadedObjects.{OfRoom, IsLoaded, listed};
 
-use crate::masks::{LIST_DIRECTORY, READ_ACL, READ_ATTRIBUTES, READ_DATA};
-use crate::place::Place;
+use crate::loaded::LoadedObject;
 use crate::planning::Outcome;
 use crate::reaching::{bytes_of, reach, reach_to_use, size_of};
 use crate::refusal::Stop;
@@ -26,13 +25,14 @@ pub(crate) fn plan_stat<S: Shelf>(
     subject: &Subject,
     path: &Path,
 ) -> Result<Outcome, Stop>
-    ensures effect { OfRoom (S.view shelf.old) (S.view shelf.new) (λ t room. Plans t room subject.now (C.Stat path.now) result) }
+    ensures effect { OfRoom (S.view shelf.old) (S.view shelf.new)
+        (λ t room. Plans t room subject.now (C.Stat path.now) result) }
     ensures none { IfOk result (λ outcome. outcome.changes.items ≡ []) }
     ensures frame { ShelfRead (S.view shelf.old) (S.view shelf.new) (stop_fault result) }
 {
-    let place = reach_to_use(alloc, shelf, subject, path, None, READ_ATTRIBUTES)?;
-    let size = size_of(shelf, &place)?;
-    let node = place.into_node();
+    let loaded = reach_to_use(alloc, shelf, subject, path, None, Mask::READ_ATTRIBUTES)?;
+    let size = size_of(shelf, &loaded)?;
+    let node = loaded.into_node();
     Ok(Outcome::reading(
         alloc,
         Reply::Stat {
@@ -52,19 +52,20 @@ pub(crate) fn plan_list<S: Shelf>(
     subject: &Subject,
     path: &Path,
 ) -> Result<Outcome, Stop>
-    ensures effect { OfRoom (S.view shelf.old) (S.view shelf.new) (λ t room. Plans t room subject.now (C.ListNames path.now) result) }
+    ensures effect { OfRoom (S.view shelf.old) (S.view shelf.new)
+        (λ t room. Plans t room subject.now (C.ListNames path.now) result) }
     ensures none { IfOk result (λ outcome. outcome.changes.items ≡ []) }
     ensures frame { ShelfRead (S.view shelf.old) (S.view shelf.new) (stop_fault result) }
 {
-    let place = reach_to_use(
+    let loaded = reach_to_use(
         alloc,
         shelf,
         subject,
         path,
         Some(Kind::Folder),
-        LIST_DIRECTORY,
+        Mask::LIST_DIRECTORY,
     )?;
-    let names = names_in(alloc, shelf, &place)?;
+    let names = names_in(alloc, shelf, &loaded)?;
     Ok(Outcome::reading(alloc, Reply::Names(names)))
 }
 
@@ -72,13 +73,14 @@ pub(crate) fn plan_list<S: Shelf>(
 fn names_in<S: Shelf>(
     alloc: Global,
     shelf: &mut S,
-    place: &Place,
+    loaded: &LoadedObject,
 ) -> Result<Vec<(FileName, Kind)>, ShelfFault>
-    ensures value { OfRoom (S.view shelf.old) (S.view shelf.new) (λ t room. (path : PathModel) → IsPlace t room path place.now →
+    ensures value { OfRoom (S.view shelf.old) (S.view shelf.new) (λ t room. (path : PathModel)
+        → IsLoaded t room path loaded.now →
         IfOk result (λ names. names.items ≡ children room path)) }
     ensures frame { ShelfRead (S.view shelf.old) (S.view shelf.new) (fault_in result) }
 {
-    let nodes = shelf.children(place.id)?;
+    let nodes = shelf.children(loaded.id)?;
     let names = listing(alloc, nodes)?;
     Ok(names)
 }
@@ -103,12 +105,20 @@ pub(crate) fn plan_read<S: Shelf>(
     subject: &Subject,
     path: &Path,
 ) -> Result<Outcome, Stop>
-    ensures effect { OfRoom (S.view shelf.old) (S.view shelf.new) (λ t room. Plans t room subject.now (C.Read path.now) result) }
+    ensures effect { OfRoom (S.view shelf.old) (S.view shelf.new)
+        (λ t room. Plans t room subject.now (C.Read path.now) result) }
     ensures none { IfOk result (λ outcome. outcome.changes.items ≡ []) }
     ensures frame { ShelfRead (S.view shelf.old) (S.view shelf.new) (stop_fault result) }
 {
-    let place = reach_to_use(alloc, shelf, subject, path, Some(Kind::File), READ_DATA)?;
-    let bytes = bytes_of(shelf, &place)?;
+    let loaded = reach_to_use(
+        alloc,
+        shelf,
+        subject,
+        path,
+        Some(Kind::File),
+        Mask::READ_DATA,
+    )?;
+    let bytes = bytes_of(shelf, &loaded)?;
     Ok(Outcome::reading(alloc, Reply::Bytes(bytes)))
 }
 
@@ -119,16 +129,17 @@ pub(crate) fn plan_getlist<S: Shelf>(
     subject: &Subject,
     path: &Path,
 ) -> Result<Outcome, Stop>
-    ensures effect { OfRoom (S.view shelf.old) (S.view shelf.new) (λ t room. Plans t room subject.now (C.GetList path.now) result) }
+    ensures effect { OfRoom (S.view shelf.old) (S.view shelf.new)
+        (λ t room. Plans t room subject.now (C.GetList path.now) result) }
     ensures none { IfOk result (λ outcome. outcome.changes.items ≡ []) }
     ensures frame { ShelfRead (S.view shelf.old) (S.view shelf.new) (stop_fault result) }
 {
-    let place = reach_to_use(alloc, shelf, subject, path, None, READ_ACL)?;
+    let loaded = reach_to_use(alloc, shelf, subject, path, None, Mask::READ_ACL)?;
     Ok(Outcome::reading(
         alloc,
         Reply::Entries {
-            aclflag: place.aclflag,
-            entries: place.list,
+            aclflag: loaded.aclflag,
+            entries: loaded.list,
         },
     ))
 }
@@ -141,12 +152,13 @@ pub(crate) fn plan_access<S: Shelf>(
     mask: Mask,
     path: &Path,
 ) -> Result<Outcome, Stop>
-    ensures effect { OfRoom (S.view shelf.old) (S.view shelf.new) (λ t room. Plans t room subject.now (C.Access mask path.now) result) }
+    ensures effect { OfRoom (S.view shelf.old) (S.view shelf.new)
+        (λ t room. Plans t room subject.now (C.Access mask path.now) result) }
     ensures none { IfOk result (λ outcome. outcome.changes.items ≡ []) }
     ensures frame { ShelfRead (S.view shelf.old) (S.view shelf.new) (stop_fault result) }
 {
-    let place = reach(alloc, shelf, subject, path)?;
-    let allowed = allowed_bits(&place.list, subject, &place.standing);
+    let loaded = reach(alloc, shelf, subject, path)?;
+    let allowed = allowed_bits(&loaded.list, subject, &loaded.standing);
     Ok(Outcome::reading(alloc, Reply::Allowed(common_bits(mask, allowed))))
 }
 

@@ -3,7 +3,7 @@ ghost use Rattle.std.specs.Prelude.{◌≡◌, None};
 ghost use Rattle.room_commands.specs.Checks.{refusal_without_place};
 ghost use Rattle.room_tree.specs.declared.refusal.Stop.TheVariants as S;
 
-use room_commands::Fault;
+use room_commands::RefusalCode;
 use room_records::{Path, ShelfFault};
 use std::alloc::AllocError;
 use std::marker::Model;
@@ -11,7 +11,7 @@ use std::marker::Model;
 /// Why a command is refused. For a denied access the place is the path whose list was asked, and the lowest bit.
 #[derive(Debug, Drop)]
 pub(crate) struct Refusal {
-    pub code: Fault,
+    pub code: RefusalCode,
     pub place: Option<(Path, u32)>,
 }
 
@@ -24,7 +24,7 @@ impl Model for Refusal {
 }
 
 impl Refusal {
-    pub(crate) fn of(code: Fault) -> Refusal
+    pub(crate) fn of(code: RefusalCode) -> Refusal
         ensures { result ≡ refusal_without_place code }
     {
         Refusal { code, place: None }
@@ -40,7 +40,7 @@ pub(crate) enum Stop {
 
 impl Stop {
     /// A refusal other than that of a right.
-    pub(crate) fn of(code: Fault) -> Stop
+    pub(crate) fn of(code: RefusalCode) -> Stop
         ensures { result ≡ S.Refused (refusal_without_place code) }
     {
         Stop::Refused(Refusal::of(code))

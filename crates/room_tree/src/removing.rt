@@ -7,18 +7,17 @@ ghost use Rattle.room_records.specs.Shelf.{ShelfRead};
 ghost use Rattle.room_records.specs.declared.shelf.ShelfFault.TheVariants.{Store};
 ghost use Rattle.room_commands.specs.Checks.{first_refusal, refuse_if, is_root, walk, check_exists, check_removal};
 ghost use Rattle.room_commands.specs.CommandModel as C;
-ghost use Rattle.room_tree.specs.Places.{OfRoom, IsPlace};
+ghost use Rattle.room_tree.specs.LoadedObjects.{OfRoom, IsLoaded};
 ghost use Rattle.room_tree.specs.Plans.{Plans};
 ghost use Rattle.room_tree.specs.Stops.{Passes, refusal_in, stop_fault};
 
 use crate::changing::one_change;
-use crate::masks::{DELETE, DELETE_CHILD};
-use crate::place::Place;
+use crate::loaded::LoadedObject;
 use crate::planning::Outcome;
 use crate::reaching::{count_children, reach_with_folder};
 use crate::refusal::{Refusal, Stop};
-use room_acl::Subject;
-use room_commands::{Fault, Reply};
+use room_acl::{Mask, Subject};
+use room_commands::{RefusalCode, Reply};
 use room_records::{Change, Path, Shelf};
 use std::alloc::Global;
 
@@ -28,23 +27,24 @@ pub(crate) fn check_removal(
     alloc: Global,
     subject: &Subject,
     path: &Path,
-    place: &Place,
-    above: &Place,
+    loaded: &LoadedObject,
+    above: &LoadedObject,
 ) -> Result<(), Stop>
-    ensures value { (t : ObjectRecords) (room : Room) → IsPlace t room path.now place.now → IsPlace t room (parent_of path.now) above.now →
+    ensures value { (t : ObjectRecords) (room : Room) → IsLoaded t room path.now loaded.now
+        → IsLoaded t room (parent_of path.now) above.now →
         Passes (check_removal room subject.now path.now) (λ _. Unit {0}) result }
     ensures quiet { stop_fault result ≢ Some Store }
 {
-    if place.allows(subject, DELETE) {
+    if loaded.allows(subject, Mask::DELETE) {
         return Ok(());
     }
-    if above.allows(subject, DELETE_CHILD) {
+    if above.allows(subject, Mask::DELETE_CHILD) {
         return Ok(());
     }
     let at = path.front(alloc, path.names().len())?;
     Err(Stop::Refused(Refusal {
-        code: Fault::Access,
-        place: Some((at, DELETE)),
+        code: RefusalCode::Access,
+        place: Some((at, Mask::DELETE.bits())),
     }))
 }
 
@@ -54,28 +54,29 @@ fn removable<S: Shelf>(
     shelf: &mut S,
     subject: &Subject,
     path: &Path,
-) -> Result<Place, Stop>
+) -> Result<LoadedObject, Stop>
     ensures lawful { IsPath path.now }
     ensures value { OfRoom (S.view shelf.old) (S.view shelf.new) (λ t room.
-        Passes (first_refusal (refuse_if (is_root path.now) Fault.Inval ∷ walk room subject.now path.now
-        ∷ check_exists room path.now ∷ check_removal room subject.now path.now ∷ [])) (IsPlace t room path.now) result) }
+        Passes (first_refusal (refuse_if (is_root path.now) RefusalCode.Inval ∷ walk room subject.now path.now
+        ∷ check_exists room path.now ∷ check_removal room subject.now path.now ∷ []))
+        (IsLoaded t room path.now) result) }
     ensures frame { ShelfRead (S.view shelf.old) (S.view shelf.new) (stop_fault result) }
 {
     if path.names().len() == 0 {
-        return Err(Stop::of(Fault::Inval));
+        return Err(Stop::of(RefusalCode::Inval));
     }
     let found = reach_with_folder(alloc, shelf, subject, path)?;
-    let (place, folder) = found;
-    check_removal(alloc, subject, path, &place, &folder)?;
-    Ok(place)
+    let (loaded, folder) = found;
+    check_removal(alloc, subject, path, &loaded, &folder)?;
+    Ok(loaded)
 }
 
 /// Whether something is in the object, of which there are so many.
 fn check_empty(count: u64) -> Result<(), Refusal>
-    ensures { refusal_in result ≡ refuse_if (nat_lt 0 count) Fault.NotEmpty }
+    ensures { refusal_in result ≡ refuse_if (nat_lt 0 count) RefusalCode.NotEmpty }
 {
     if count > 0 {
-        Err(Refusal::of(Fault::NotEmpty))
+        Err(Refusal::of(RefusalCode::NotEmpty))
     } else {
         Ok(())
     }
@@ -88,12 +89,13 @@ pub(crate) fn plan_remove<S: Shelf>(
     subject: &Subject,
     path: &Path,
 ) -> Result<Outcome, Stop>
-    ensures effect { OfRoom (S.view shelf.old) (S.view shelf.new) (λ t room. Plans t room subject.now (C.Remove path.now) result) }
+    ensures effect { OfRoom (S.view shelf.old) (S.view shelf.new)
+        (λ t room. Plans t room subject.now (C.Remove path.now) result) }
     ensures frame { ShelfRead (S.view shelf.old) (S.view shelf.new) (stop_fault result) }
 {
-    let place = removable(alloc, shelf, subject, path)?;
-    let count = count_children(shelf, &place)?;
+    let loaded = removable(alloc, shelf, subject, path)?;
+    let count = count_children(shelf, &loaded)?;
     check_empty(count)?;
-    let outcome = one_change(alloc, Change::DropNode(place.id), Reply::Done)?;
+    let outcome = one_change(alloc, Change::DropNode(loaded.id), Reply::Done)?;
     Ok(outcome)
 }

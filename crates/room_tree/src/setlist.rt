@@ -5,18 +5,18 @@ ghost use Rattle.room_acl.specs.Inheritance.{own_entries_fault};
 ghost use Rattle.room_records.specs.Shelf.{ShelfRead};
 ghost use Rattle.room_commands.specs.Checks.{check_lawful};
 ghost use Rattle.room_commands.specs.CommandModel as C;
-ghost use Rattle.room_tree.specs.Places.{OfRoom, node_of, kept_entry};
+ghost use Rattle.room_tree.specs.LoadedObjects.{OfRoom, node_of, kept_entry};
 ghost use Rattle.room_tree.specs.Plans.{Plans};
 ghost use Rattle.room_tree.specs.Stops.{refusal_in, stop_fault};
 ghost use Rattle.room_commands.specs.SetList.{follows_at};
 
-use crate::masks::WRITE_ACL;
-use crate::place::Place;
+use crate::loaded::LoadedObject;
 use crate::planning::Outcome;
 use crate::reaching::reach_to_use;
 use crate::refusal::{Refusal, Stop};
-use room_acl::{Entry, Kind, ListFault, ListFlags, Subject, check_own};
-use room_commands::{Fault, Reply};
+use crate::renewing::{if_changed, list_in_folder, with_list};
+use room_acl::{Entry, Kind, ListFault, ListFlags, Mask, Subject, check_own};
+use room_commands::{RefusalCode, Reply};
 use room_records::{Change, Path, Shelf};
 use std::alloc::{AllocError, Global};
 
@@ -31,7 +31,8 @@ fn follows_at(path: &Path, aclflag: ListFlags) -> bool
     }
 }
 
-/// What becomes of an entry that is sent: with the mark it is dropped where the object follows, and an own entry elsewhere.
+/// What becomes of an entry that is sent: with the mark it is
+/// dropped where the object follows, and an own entry elsewhere.
 fn own_entry(entry: &Entry, follows: bool) -> Result<Option<Entry>, AllocError>
     ensures { IfOk result (λ own. own ≡ kept_entry follows entry.now) }
 {
@@ -61,31 +62,13 @@ fn check_lawful(entries: &[Entry], kind: Kind) -> Result<(), Refusal>
     match check_own(entries, kind) {
         Ok(()) => Ok(()),
         Err(fault) => match fault {
-            ListFault::Inval => Err(Refusal::of(Fault::Inval)),
-            ListFault::AttrNotSupp => Err(Refusal::of(Fault::AttrNotSupp)),
+            ListFault::Inval => Err(Refusal::of(RefusalCode::Inval)),
+            ListFault::AttrNotSupp => Err(Refusal::of(RefusalCode::AttrNotSupp)),
         },
     }
 }
 
-/// The row with other list flags, and the own entries.
-fn with_list(
-    alloc: Global,
-    place: Place,
-    aclflag: ListFlags,
-    own: Vec<Entry>,
-) -> Result<Vec<Change>, AllocError>
-    ensures { IfOk result (λ changes. changes.items
-        ≡ Change.PutNode (record (node_of place) { aclflag = aclflag }) ∷ Change.PutEntries place.id own ∷ []) }
-{
-    let id = place.id;
-    let node = place.with_flags(aclflag);
-    let mut changes = Vec::new(alloc);
-    changes.push(Change::PutNode(node))?;
-    changes.push(Change::PutEntries(id, own))?;
-    Ok(changes)
-}
-
-/// SETLIST: other list flags and other own entries.
+/// SETLIST: other list flags and other own entries, with what the folder hands down, and the lists below renewed.
 pub(crate) fn plan_setlist<S: Shelf>(
     alloc: Global,
     shelf: &mut S,
@@ -94,13 +77,17 @@ pub(crate) fn plan_setlist<S: Shelf>(
     entries: &[Entry],
     path: &Path,
 ) -> Result<Outcome, Stop>
-    ensures effect { OfRoom (S.view shelf.old) (S.view shelf.new) (λ t room. Plans t room subject.now (C.SetList aclflag entries.now path.now) result) }
+    ensures effect { OfRoom (S.view shelf.old) (S.view shelf.new)
+        (λ t room. Plans t room subject.now (C.SetList aclflag entries.now path.now) result) }
     ensures frame { ShelfRead (S.view shelf.old) (S.view shelf.new) (stop_fault result) }
 {
-    let place = reach_to_use(alloc, shelf, subject, path, None, WRITE_ACL)?;
+    let loaded = reach_to_use(alloc, shelf, subject, path, None, Mask::WRITE_ACL)?;
     let own = own_entries(alloc, follows_at(path, aclflag), entries)?;
-    check_lawful(own.as_slice(), place.kind)?;
-    let changes = with_list(alloc, place, aclflag, own)?;
+    check_lawful(own.as_slice(), loaded.kind)?;
+    let list = list_in_folder(alloc, shelf, loaded.parent, own, aclflag, loaded.kind)?;
+    let list = if_changed(&loaded.list, list);
+    let node = loaded.with_flags(aclflag);
+    let changes = with_list(alloc, shelf, node, list)?;
     Ok(Outcome {
         changes,
         reply: Reply::Done,

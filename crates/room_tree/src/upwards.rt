@@ -1,12 +1,12 @@
-//! Lists, found from below.
+//! Lists, found from below. Commands read them from their rows; tests compare the two.
 ghost use Rattle.std.specs.Prelude.{◌≡◌, ◌≤◌, [], length, None, Some, IfOk, OnOk, Err, if◌then◌else◌};
 ghost use Rattle.room_records.specs.Names.{Path as PathModel};
 ghost use Rattle.room_records.specs.Representation.{HasPath, RepresentsRoom};
 ghost use Rattle.room_records.specs.Room.{Room, list_of, follows};
 ghost use Rattle.room_records.specs.Shelf.{ShelfRead, fault_in};
-ghost use Rattle.room_tree.specs.Places.{OfRoom};
+ghost use Rattle.room_tree.specs.LoadedObjects.{OfRoom};
 
-use room_acl::{Entry, with_inherited};
+use room_acl::{Entry, own_part, with_inherited};
 use room_records::{MAX_NAMES, Node, Shelf, ShelfFault};
 use std::alloc::Global;
 
@@ -32,12 +32,15 @@ fn list_within<S: Shelf>(
     node: &Node,
     levels: u32,
 ) -> Result<Vec<Entry>, ShelfFault>
-    ensures value { OfRoom (S.view shelf.old) (S.view shelf.new) (λ t room. (path : PathModel) → HasPath t path node.now.id →
-        t.node node.now.id ≡ Some node.now → length path ≤ levels → IfOk result (λ list. list.items ≡ list_of room path)) }
+    ensures value { OfRoom (S.view shelf.old) (S.view shelf.new) (λ t room. (path : PathModel)
+        → HasPath t path node.now.id →
+        t.node node.now.id ≡ Some node.now → length path ≤ levels
+        → IfOk result (λ list. list.items ≡ list_of room path)) }
     ensures there { (S.view shelf.new).is_intact → OnOk result (S.view shelf.new).is_available }
     ensures frame { ShelfRead (S.view shelf.old) (S.view shelf.new) (fault_in result) }
 {
-    let own = shelf.entries(node.id)?;
+    let stored = shelf.entries(node.id)?;
+    let own = own_part(alloc, stored.as_slice())?;
     let Some(folder) = folder_followed(node) else {
         return Ok(own);
     };
@@ -52,17 +55,20 @@ fn list_within<S: Shelf>(
     Ok(list)
 }
 
-/// The whole list of the object of this number: its own entries, then, where it follows, what its folder's list hands
-/// down. It reads at most 17 objects, whatever the rows are: the object and the folders above it. Where no object has
-/// the number, the list is empty.
+/// The whole list of the object of this number, from scratch: its own entries, which are those without the mark, then,
+/// where it follows, what its folder's list hands down. It reads at most 17 objects, whatever the rows are: the object
+/// and the folders above it. Where no object has the number, the list is empty.
 pub fn list_upwards<S: Shelf>(
     alloc: Global,
     shelf: &mut S,
     id: u32,
 ) -> Result<Vec<Entry>, ShelfFault>
-    ensures value { (S.view shelf.new).is_available → (S.view shelf.old).is_laid_out → (room : Room) → RepresentsRoom (S.view shelf.old).records.objects room →
-        (path : PathModel) → HasPath (S.view shelf.old).records.objects path id → IfOk result (λ list. list.items ≡ list_of room path) }
-    ensures absent { (S.view shelf.new).is_available → (S.view shelf.old).is_laid_out → (S.view shelf.old).records.objects.node id ≡ None → IfOk result (λ list. list.items ≡ []) }
+    ensures value { (S.view shelf.new).is_available → (S.view shelf.old).is_laid_out
+        → (room : Room) → RepresentsRoom (S.view shelf.old).records.objects room →
+        (path : PathModel) → HasPath (S.view shelf.old).records.objects path id
+        → IfOk result (λ list. list.items ≡ list_of room path) }
+    ensures absent { (S.view shelf.new).is_available → (S.view shelf.old).is_laid_out
+        → (S.view shelf.old).records.objects.node id ≡ None → IfOk result (λ list. list.items ≡ []) }
     ensures there { (S.view shelf.new).is_intact → OnOk result (S.view shelf.new).is_available }
     ensures frame { ShelfRead (S.view shelf.old) (S.view shelf.new) (fault_in result) }
 {

@@ -1,17 +1,16 @@
 //! The walk of a path, from the root down.
-ghost use Rattle.std.specs.Prelude.{◌≡◌, ◌++◌, [], ◌∷◌, IfOk, MatchOption, Err, if◌then◌else◌};
-ghost use Rattle.room_acl.specs.Inheritance.{handed_down};
+ghost use Rattle.std.specs.Prelude.{◌≡◌, ◌++◌, [], ◌∷◌, IfOk, MatchOption};
 ghost use Rattle.room_records.specs.Names.{Path as PathModel};
-ghost use Rattle.room_records.specs.Room.{follows, object_at};
+ghost use Rattle.room_records.specs.Room.{object_at};
 ghost use Rattle.room_records.specs.Shelf.{ShelfRead, fault_in};
 ghost use Rattle.room_commands.specs.Checks.{walk};
-ghost use Rattle.room_tree.specs.Places.{OfRoom, IsPlace, IsWalk, node_of};
+ghost use Rattle.room_tree.specs.LoadedObjects.{OfRoom, IsLoaded, IsWalk};
 ghost use Rattle.room_tree.specs.Stops.{Passes, stop_fault};
 
-use crate::place::Place;
+use crate::loaded::LoadedObject;
 use crate::refusal::Stop;
-use room_acl::{Entry, Kind, Mask, Subject, with_inherited};
-use room_commands::Fault;
+use room_acl::{Entry, Kind, Mask, Subject};
+use room_commands::RefusalCode;
 use room_records::{FileName, Node, Path, Shelf, ShelfFault};
 use std::alloc::{AllocError, Global};
 
@@ -19,61 +18,45 @@ use std::alloc::{AllocError, Global};
 #[derive(Debug, Drop)]
 pub(crate) enum Walk {
     /// Nothing is there: the folder where it would stand.
-    Absent(Place),
+    Absent(LoadedObject),
     /// The object, and but for the root its folder.
-    Found(Place, Option<Place>),
-}
-
-/// The node with its list, under a folder with this list.
-fn place_under<S: Shelf>(
-    alloc: Global,
-    shelf: &mut S,
-    node: Node,
-    above: &[Entry],
-) -> Result<Place, ShelfFault>
-    ensures value { (S.view shelf.new).is_available → (S.view shelf.old).is_laid_out → IfOk result (λ place. (node_of place ≡ node)
-        × (place.list.items ≡ (S.view shelf.old).records.objects.entries node.id ++ (if follows node.aclflag then handed_down above.now node.kind else []))) }
-    ensures frame { ShelfRead (S.view shelf.old) (S.view shelf.new) (fault_in result) }
-{
-    let own = shelf.entries(node.id)?;
-    let list = with_inherited(alloc, own, node.aclflag, node.kind, above)?;
-    Ok(Place::of(node, list))
+    Found(LoadedObject, Option<LoadedObject>),
 }
 
 /// The root, where the rows stand for a room.
-fn root_place<S: Shelf>(shelf: &mut S) -> Result<Option<Place>, ShelfFault>
+fn load_root<S: Shelf>(shelf: &mut S) -> Result<Option<LoadedObject>, ShelfFault>
     ensures value { OfRoom (S.view shelf.old) (S.view shelf.new) (λ t room. IfOk result (λ found.
-        MatchOption found ⊥ (IsPlace t room []))) }
+        MatchOption found ⊥ (IsLoaded t room []))) }
     ensures frame { ShelfRead (S.view shelf.old) (S.view shelf.new) (fault_in result) }
 {
     let Some(root) = shelf.node(1)? else {
         return Ok(None);
     };
-    let own = shelf.entries(1)?;
-    Ok(Some(Place::of(root, own)))
+    let list = shelf.entries(1)?;
+    Ok(Some(LoadedObject::of(root, list)))
 }
 
 /// The child of this name, with its list.
-fn child_place<S: Shelf>(
-    alloc: Global,
+fn load_child<S: Shelf>(
     shelf: &mut S,
-    here: &Place,
+    here: &LoadedObject,
     name: &FileName,
-) -> Result<Option<Place>, ShelfFault>
-    ensures value { OfRoom (S.view shelf.old) (S.view shelf.new) (λ t room. (path : PathModel) → IsPlace t room path here.now →
-        IfOk result (λ found. MatchOption found (object_at room (path ++ name.now ∷ []) ≡ None) (IsPlace t room (path ++ name.now ∷ [])))) }
+) -> Result<Option<LoadedObject>, ShelfFault>
+    ensures value { OfRoom (S.view shelf.old) (S.view shelf.new) (λ t room. (path : PathModel)
+        → IsLoaded t room path here.now →
+        IfOk result (λ found. MatchOption found (object_at room (path ++ name.now ∷ []) ≡ None)
+        (IsLoaded t room (path ++ name.now ∷ [])))) }
     ensures frame { ShelfRead (S.view shelf.old) (S.view shelf.new) (fault_in result) }
 {
     let Some(node) = shelf.child(here.id, name)? else {
         return Ok(None);
     };
-    let place = place_under(alloc, shelf, node, &here.list)?;
-    Ok(Some(place))
+    let list = shelf.entries(node.id)?;
+    Ok(Some(LoadedObject::of(node, list)))
 }
 
 /// Walks a path from the root down, with EXECUTE on each folder on the way. It is refused where a folder on the way is
-/// not there, is none, or does not let the caller through. It carries the list of the folder with it, so each row is
-/// read once.
+/// not there, is none, or does not let the caller through.
 pub(crate) fn walk_path<S: Shelf>(
     alloc: Global,
     shelf: &mut S,
@@ -84,16 +67,16 @@ pub(crate) fn walk_path<S: Shelf>(
         Passes (walk room subject.now path.now) (IsWalk t room path.now) result) }
     ensures frame { ShelfRead (S.view shelf.old) (S.view shelf.new) (stop_fault result) }
 {
-    let Some(mut here) = root_place(shelf)? else {
-        return Err(Stop::of(Fault::NoEnt));
+    let Some(mut here) = load_root(shelf)? else {
+        return Err(Stop::of(RefusalCode::NoEnt));
     };
     let names = path.names();
-    let mut above: Option<Place> = None;
+    let mut above: Option<LoadedObject> = None;
     for index in 0..names.len() {
         here.check_way(alloc, subject, path, index)?;
-        let Some(next) = child_place(alloc, shelf, &here, &names[index])? else {
+        let Some(next) = load_child(shelf, &here, &names[index])? else {
             if index + 1 < names.len() {
-                return Err(Stop::of(Fault::NoEnt));
+                return Err(Stop::of(RefusalCode::NoEnt));
             }
             return Ok(Walk::Absent(here));
         };

@@ -1,7 +1,7 @@
 //! What messages ask: routes, the caller, events and questions.
 pub(crate) mod ask;
 pub(crate) mod caller;
-pub(crate) mod checking;
+pub(crate) mod check_ask;
 pub(crate) mod decoding;
 pub(crate) mod event;
 pub(crate) mod laws;

@@ -1,6 +1,6 @@
 //! Serving the messages of a stream.
 pub(crate) mod buffers;
-pub(crate) mod checks;
+pub(crate) mod check_service;
 pub(crate) mod input;
 pub(crate) mod laws;
 pub(crate) mod service;

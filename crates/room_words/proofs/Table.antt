@@ -1,5 +1,7 @@
 -- Words that are no row of the command table, and words that are.
-use Rattle.std.proofs.Common.{◌≡◌, ◌∙◌, ap, sym, Bool, true, false, cond, List, [], ◌∷◌, map, Option, Some, None, option_map, Result, Ok, Err, IfOk, IfErr, is_some, IfSome, ℕ, ◌<◌, ◌⊎◌, lit<, Box, codes, inl, inr, refl, subst, slice_index, arith}
+use Rattle.std.proofs.Common.{◌≡◌, ◌∙◌, ap, sym, Bool, true, false, cond, List, [], ◌∷◌, map, Option, Some, None}
+use Rattle.std.proofs.Common.{option_map, Result, Ok, Err, IfOk, IfErr, is_some, IfSome, ℕ, ◌<◌, ◌⊎◌, lit<, Box, codes}
+use Rattle.std.proofs.Common.{inl, inr, refl, subst, slice_index, arith}
 use Rattle.std.specs.Prelude.{find, not, ◌&&◌}
 use Rattle.clap.specs.Words.{Row, Shape, Text, fault_of, kind_of, subcommand_of, HasKind, IsAmong}
 use Rattle.std.specs.Str.Parse.{digits_value, without_leading_plus}
@@ -23,10 +25,12 @@ use Rattle.room_words.specs.declared.job.Job.{Job}
 use Rattle.room_words.specs.declared.job.Job.TheVariants.{Check, Init, Replay, Serve, Report, Selftest}
 use Rattle.room_words.specs.declared.fault.WordsFault.{WordsFault}
 use Rattle.room_words.specs.declared.fault.WordsFault.TheVariants.{Usage, Help, Memory}
-use Rattle.room_words.specs.CommandLine.{program_command, command_names, IsOneOf, IsRowOf, IsReadAs, ReadsWith, TellsKind}
+use Rattle.room_words.specs.CommandLine.{program_command, command_names, IsOneOf, IsRowOf, IsReadAs}
+use Rattle.room_words.specs.CommandLine.{ReadsWith, TellsKind}
 
 -- a fault that tells the error's kind says what the words are
-pub told : (p : ValueParser) (words : List Text) (e : Error) (f : WordsFault) → HasKind (fault_of (program_command p) words) e → TellsKind (kind_of e) f → ReadsWith p words (Err f)
+pub told : (p : ValueParser) (words : List Text) (e : Error) (f : WordsFault)
+    → HasKind (fault_of (program_command p) words) e → TellsKind (kind_of e) f → ReadsWith p words (Err f)
 told p words e (Usage text) (inl m) k = absurd (k.1 m)
 told p words e (Usage text) (inr a) k = (kind_of e, a, k.0)
 told p words e (Help text) (inl m) k = cc (m, k)
@@ -34,7 +38,8 @@ told p words e (Help text) (inr a) k = subst (λ (x : ErrorKind). IsAmong x (fau
 told p words e Memory h k = tt
 
 -- words that are not refused are refused for want of memory alone
-taken_refused : (p : ValueParser) (words : List Text) (job : Job) (f : WordsFault) → fault_of (program_command p) words ≡ [] → ReadsWith p words (Err f) → IsReadAs job (Err f)
+taken_refused : (p : ValueParser) (words : List Text) (job : Job) (f : WordsFault)
+    → fault_of (program_command p) words ≡ [] → ReadsWith p words (Err f) → IsReadAs job (Err f)
 taken_refused p words job (Usage text) none r = subst (λ (ks : Kinds). IsAmong r.0 ks) none r.1
 taken_refused p words job (Help text) none r = subst (λ (ks : Kinds). IsAmong kind.DisplayHelp ks) none r
 taken_refused p words job Memory none r = tt
@@ -47,24 +52,31 @@ selftest_passes : (p : ValueParser) → fault_of (program_command p) (codes "sel
 unfolding clap_on_literals program_command
 selftest_passes p = refl
 
-pub check_refused : (p : ValueParser) (words : List Text) (f : WordsFault) → ReadsWith p words (Err f) → words ≡ codes "check" ∷ [] → IsReadAs Check (Err f)
+pub check_refused : (p : ValueParser) (words : List Text) (f : WordsFault)
+    → ReadsWith p words (Err f) → words ≡ codes "check" ∷ [] → IsReadAs Check (Err f)
 check_refused p words f r e = taken_refused p words Check f (ap (fault_of (program_command p)) e ∙ check_passes p) r
 
-pub selftest_refused : (p : ValueParser) (words : List Text) (f : WordsFault) → ReadsWith p words (Err f) → words ≡ codes "selftest" ∷ [] → IsReadAs Selftest (Err f)
-selftest_refused p words f r e = taken_refused p words Selftest f (ap (fault_of (program_command p)) e ∙ selftest_passes p) r
+pub selftest_refused : (p : ValueParser) (words : List Text) (f : WordsFault)
+    → ReadsWith p words (Err f) → words ≡ codes "selftest" ∷ [] → IsReadAs Selftest (Err f)
+selftest_refused p words f r e =
+    taken_refused p words Selftest f (ap (fault_of (program_command p)) e ∙ selftest_passes p) r
 
 -- the row of each of these words
-check_row : (p : ValueParser) → option_map (λ (r : Text × List Row). r.0) (subcommand_of (program_command p) (codes "check" ∷ [])) ≡ Some (codes "check")
+check_row : (p : ValueParser) → option_map (λ (r : Text × List Row). r.0)
+    (subcommand_of (program_command p) (codes "check" ∷ [])) ≡ Some (codes "check")
 unfolding clap_on_literals program_command
 check_row p = refl
 
-selftest_row : (p : ValueParser) → option_map (λ (r : Text × List Row). r.0) (subcommand_of (program_command p) (codes "selftest" ∷ [])) ≡ Some (codes "selftest")
+selftest_row : (p : ValueParser) → option_map (λ (r : Text × List Row). r.0)
+    (subcommand_of (program_command p) (codes "selftest" ∷ [])) ≡ Some (codes "selftest")
 unfolding clap_on_literals program_command
 selftest_row p = refl
 
-named : (p : ValueParser) (words : List Text) (row : Text × List Row) (one : Text) → subcommand_of (program_command p) words ≡ Some row
+named : (p : ValueParser) (words : List Text) (row : Text × List Row) (one : Text)
+    → subcommand_of (program_command p) words ≡ Some row
     → option_map (λ (r : Text × List Row). r.0) (subcommand_of (program_command p) words) ≡ Some one → row.0 ≡ one
-named p words row one is e = let both : Some row.0 ≡ Some one = sym (ap (option_map (λ (r : Text × List Row). r.0)) is) ∙ e in cc
+named p words row one is e =
+    let both : Some row.0 ≡ Some one = sym (ap (option_map (λ (r : Text × List Row). r.0)) is) ∙ e in cc
 
 apart : (name a b : Text) → name ≡ a → name ≡ b → slice_index a 0 ≡ slice_index b 0
 apart name a b ea eb = ap (λ (t : Text). slice_index t 0) (sym ea ∙ eb)
@@ -76,50 +88,68 @@ clash : {X : Type 0} (n m : ℕ) → n < m → (n ≡ m) ⊎ (m ≡ n) → X
 clash n m less (inl e) = absurd (omega arith)
 clash n m less (inr e) = absurd (omega arith)
 
-is_check : (row : Text × List Row) (r : Result Job WordsFault) → row.0 ≡ codes "check" → IfOk r (IsRowOf row) → IfErr r (λ f. f ≡ Memory) → IsReadAs Check r
+is_check : (row : Text × List Row) (r : Result Job WordsFault) → row.0 ≡ codes "check"
+    → IfOk r (IsRowOf row) → IfErr r (λ f. f ≡ Memory) → IsReadAs Check r
 is_check row (Ok Check) e ok err = refl
-is_check row (Ok (Init db owner group)) e ok err = clash 99 105 (lit< tt) (inl (apart row.0 (codes "check") (codes "init") e ok.0))
-is_check row (Ok (Replay roster owner group)) e ok err = clash 99 114 (lit< tt) (inl (apart row.0 (codes "check") (codes "replay") e ok.0))
-is_check row (Ok (Serve db roster port count)) e ok err = clash 99 115 (lit< tt) (inl (apart row.0 (codes "check") (codes "serve") e ok.0))
-is_check row (Ok (Report db roster kind)) e ok err = clash 99 114 (lit< tt) (inl (apart row.0 (codes "check") (codes "report") e ok.0))
+is_check row (Ok (Init db owner group)) e ok err =
+    clash 99 105 (lit< tt) (inl (apart row.0 (codes "check") (codes "init") e ok.0))
+is_check row (Ok (Replay roster owner group)) e ok err =
+    clash 99 114 (lit< tt) (inl (apart row.0 (codes "check") (codes "replay") e ok.0))
+is_check row (Ok (Serve db roster port count)) e ok err =
+    clash 99 115 (lit< tt) (inl (apart row.0 (codes "check") (codes "serve") e ok.0))
+is_check row (Ok (Report db roster kind)) e ok err =
+    clash 99 114 (lit< tt) (inl (apart row.0 (codes "check") (codes "report") e ok.0))
 is_check row (Ok Selftest) e ok err = clash 99 115 (lit< tt) (inl (apart row.0 (codes "check") (codes "selftest") e ok))
 is_check row (Err (Usage t)) e ok err = cc
 is_check row (Err (Help t)) e ok err = cc
 is_check row (Err Memory) e ok err = tt
 
-is_selftest : (row : Text × List Row) (r : Result Job WordsFault) → row.0 ≡ codes "selftest" → IfOk r (IsRowOf row) → IfErr r (λ f. f ≡ Memory) → IsReadAs Selftest r
+is_selftest : (row : Text × List Row) (r : Result Job WordsFault) → row.0 ≡ codes "selftest"
+    → IfOk r (IsRowOf row) → IfErr r (λ f. f ≡ Memory) → IsReadAs Selftest r
 is_selftest row (Ok Check) e ok err = clash 99 115 (lit< tt) (inr (apart row.0 (codes "selftest") (codes "check") e ok))
-is_selftest row (Ok (Init db owner group)) e ok err = clash 105 115 (lit< tt) (inr (apart row.0 (codes "selftest") (codes "init") e ok.0))
-is_selftest row (Ok (Replay roster owner group)) e ok err = clash 114 115 (lit< tt) (inr (apart row.0 (codes "selftest") (codes "replay") e ok.0))
+is_selftest row (Ok (Init db owner group)) e ok err =
+    clash 105 115 (lit< tt) (inr (apart row.0 (codes "selftest") (codes "init") e ok.0))
+is_selftest row (Ok (Replay roster owner group)) e ok err =
+    clash 114 115 (lit< tt) (inr (apart row.0 (codes "selftest") (codes "replay") e ok.0))
 is_selftest row (Ok (Serve db roster port count)) e ok err =
     clash 108 114 (lit< tt) (inl (apart_third row.0 (codes "selftest") (codes "serve") e ok.0))
-is_selftest row (Ok (Report db roster kind)) e ok err = clash 114 115 (lit< tt) (inr (apart row.0 (codes "selftest") (codes "report") e ok.0))
+is_selftest row (Ok (Report db roster kind)) e ok err =
+    clash 114 115 (lit< tt) (inr (apart row.0 (codes "selftest") (codes "report") e ok.0))
 is_selftest row (Ok Selftest) e ok err = refl
 is_selftest row (Err (Usage t)) e ok err = cc
 is_selftest row (Err (Help t)) e ok err = cc
 is_selftest row (Err Memory) e ok err = tt
 
-pub check_taken : (p : ValueParser) (words : List Text) (row : Text × List Row) (r : Result Job WordsFault) → subcommand_of (program_command p) words ≡ Some row → IfOk r (IsRowOf row) → IfErr r (λ f. f ≡ Memory)
+pub check_taken : (p : ValueParser) (words : List Text) (row : Text × List Row) (r : Result Job WordsFault)
+    → subcommand_of (program_command p) words ≡ Some row → IfOk r (IsRowOf row) → IfErr r (λ f. f ≡ Memory)
     → words ≡ codes "check" ∷ [] → IsReadAs Check r
 check_taken p words row r is ok err e =
-    is_check row r (named p words row (codes "check") is (ap (λ (w : List Text). option_map (λ (x : Text × List Row). x.0) (subcommand_of (program_command p) w)) e ∙ check_row p)) ok err
+    is_check row r (named p words row (codes "check") is (ap (λ (w : List Text).
+    option_map (λ (x : Text × List Row). x.0) (subcommand_of (program_command p) w)) e ∙ check_row p)) ok err
 
-pub selftest_taken : (p : ValueParser) (words : List Text) (row : Text × List Row) (r : Result Job WordsFault) → subcommand_of (program_command p) words ≡ Some row → IfOk r (IsRowOf row) → IfErr r (λ f. f ≡ Memory)
+pub selftest_taken : (p : ValueParser) (words : List Text) (row : Text × List Row) (r : Result Job WordsFault)
+    → subcommand_of (program_command p) words ≡ Some row → IfOk r (IsRowOf row) → IfErr r (λ f. f ≡ Memory)
     → words ≡ codes "selftest" ∷ [] → IsReadAs Selftest r
 selftest_taken p words row r is ok err e =
-    is_selftest row r (named p words row (codes "selftest") is (ap (λ (w : List Text). option_map (λ (x : Text × List Row). x.0) (subcommand_of (program_command p) w)) e ∙ selftest_row p)) ok err
+    is_selftest row r (named p words row (codes "selftest") is (ap (λ (w : List Text).
+    option_map (λ (x : Text × List Row). x.0) (subcommand_of (program_command p) w)) e ∙ selftest_row p)) ok err
 
 -- a row has the name of a command
-found_by : (b : Bool) (s : Shape) (rest : Option Shape) (words : List Text) (row : Text × List Row) (names : List Text) → (option_map (λ x. rows_at x words) rest ≡ Some row → IsOneOf row.0 names)
+found_by : (b : Bool) (s : Shape) (rest : Option Shape) (words : List Text) (row : Text × List Row) (names : List Text)
+    → (option_map (λ x. rows_at x words) rest ≡ Some row → IsOneOf row.0 names)
     → option_map (λ x. rows_at x words) (cond b (Some s) rest) ≡ Some row → IsOneOf row.0 (s.name ∷ names)
-found_by true s rest words row names behind e = let same : row ≡ rows_at s words = cc in inl (ap (λ (r : Text × List Row). r.0) same)
+found_by true s rest words row names behind e = let same : row ≡ rows_at s words = cc in
+    inl (ap (λ (r : Text × List Row). r.0) same)
 found_by false s rest words row names behind e = inr (behind e)
 
-found_name : (test : Shape → Bool) (subs : List Shape) (words : List Text) (row : Text × List Row) → option_map (λ s. rows_at s words) (find test subs) ≡ Some row → IsOneOf row.0 (map (λ s. s.name) subs)
+found_name : (test : Shape → Bool) (subs : List Shape) (words : List Text) (row : Text × List Row)
+    → option_map (λ s. rows_at s words) (find test subs) ≡ Some row → IsOneOf row.0 (map (λ s. s.name) subs)
 found_name test [] words row e = cc
-found_name test (s ∷ subs) words row e = found_by (test s) s (find test subs) words row (map (λ x. x.name) subs) (found_name test subs words row) e
+found_name test (s ∷ subs) words row e =
+    found_by (test s) s (find test subs) words row (map (λ x. x.name) subs) (found_name test subs words row) e
 
-entered_name : (a : App) (stop : Option (Text × List Text)) (row : Text × List Row) → entered a stop ≡ Some row → IsOneOf row.0 (map (λ s. s.name) a.subs)
+entered_name : (a : App) (stop : Option (Text × List Text)) (row : Text × List Row)
+    → entered a stop ≡ Some row → IsOneOf row.0 (map (λ s. s.name) a.subs)
 entered_name a None row e = cc
 entered_name a (Some p) row e = found_name (λ s. answers_to p.0 (label_of s)) a.subs p.1 row e
 
@@ -127,8 +157,10 @@ names_are : (p : ValueParser) → map (λ (s : Shape). s.name) (built (program_c
 unfolding program_command
 names_are p = refl
 
-pub row_name : (p : ValueParser) (words : List Text) (row : Text × List Row) → subcommand_of (program_command p) words ≡ Some row → IsOneOf row.0 command_names
-row_name p words row e = subst (λ (names : List Text). IsOneOf row.0 names) (names_are p) (entered_name (built (program_command p)) _ row e)
+pub row_name : (p : ValueParser) (words : List Text) (row : Text × List Row)
+    → subcommand_of (program_command p) words ≡ Some row → IsOneOf row.0 command_names
+row_name p words row e =
+    subst (λ (names : List Text). IsOneOf row.0 names) (names_are p) (entered_name (built (program_command p)) _ row e)
 
 -- a command is wanted
 or_else_none : (ks next : Kinds) → or_else ks next ≡ [] → next ≡ []
@@ -142,38 +174,47 @@ wanted_true false c e = cc
 wanted : (a b c : Bool) → b ≡ true → check_kinds a b c ≡ [] → ⊥
 wanted a b c is e = wanted_true a c (subst (λ (x : Bool). check_kinds a x c ≡ []) is e)
 
-level_wanted : (s : Shape) (names : Names) (h : Held) (words : List Text) (has : Bool) (below : Kinds) → has ≡ false → s.subcommand_required ≡ true → level_fault s names h words has below ≡ [] → ⊥
+level_wanted : (s : Shape) (names : Names) (h : Held) (words : List Text) (has : Bool) (below : Kinds)
+    → has ≡ false → s.subcommand_required ≡ true → level_fault s names h words has below ≡ [] → ⊥
 level_wanted s names h words has below none required e =
     let end = (walk s.rules names h words).held in
     let rows = finished s.rules end in
     let last = check_fault s rows has in
     let defaults = defaults_fault (settled s.rules end).rows s.rules in
     let settling = settle_fault s.rules s.args_override_self end in
-    let after_walk = or_else_none (walk_fault s names (walk_from h) words) (or_else below (or_else settling (or_else defaults last))) e in
+    let after_walk = or_else_none (walk_fault s names (walk_from h) words)
+    (or_else below (or_else settling (or_else defaults last))) e in
     let after_below = or_else_none below (or_else settling (or_else defaults last)) after_walk in
     let after_settling = or_else_none settling (or_else defaults last) after_below in
     let at_last = or_else_none defaults last after_settling in
-    wanted (not has && (s.arg_required_else_help && not (list_any (λ (r : Row). explicit_source r.source) rows))) (not has && s.subcommand_required)
-    (not (s.subcommand_negates_reqs && has) && list_any (λ (a : Rule). a.required && not (is_given a.id rows)) s.rules) (λ i. not (none i) && required i) at_last
+    wanted (not has && (s.arg_required_else_help && not (list_any (λ (r : Row). explicit_source r.source) rows)))
+    (not has && s.subcommand_required)
+    (not (s.subcommand_negates_reqs && has) && list_any (λ (a : Rule). a.required && not (is_given a.id rows)) s.rules)
+    (λ i. not (none i) && required i) at_last
 
 required_is : (p : ValueParser) → (built (program_command p)).top.subcommand_required ≡ true
 unfolding program_command
 required_is p = refl
 
-pub none_refused : (p : ValueParser) (words : List Text) → subcommand_of (program_command p) words ≡ None → fault_of (program_command p) words ≡ [] → ⊥
+pub none_refused : (p : ValueParser) (words : List Text)
+    → subcommand_of (program_command p) words ≡ None → fault_of (program_command p) words ≡ [] → ⊥
 none_refused p words none e =
     let b = built (program_command p) in
     let ws = argument_words (program_command p) words in
     let stop = (walk b.top.rules (names_of b) nothing_held ws).stopped in
-    level_wanted b.top (names_of b) nothing_held ws (is_some (entered b stop)) (entered_fault b stop) (ap is_some none) (required_is p) e
+    level_wanted b.top (names_of b) nothing_held ws (is_some (entered b stop))
+    (entered_fault b stop) (ap is_some none) (required_is p) e
 
 -- a pair by its parts
-pub pair_is : (o : Option (Text × List Row)) (name : Text) (rows : List Row) → Some name ≡ option_map (λ (p : Text × List Row). p.0) o → Some rows ≡ option_map (λ (p : Text × List Row). p.1) o → o ≡ Some (name, rows)
+pub pair_is : (o : Option (Text × List Row)) (name : Text) (rows : List Row)
+    → Some name ≡ option_map (λ (p : Text × List Row). p.0) o
+    → Some rows ≡ option_map (λ (p : Text × List Row). p.1) o → o ≡ Some (name, rows)
 pair_is None name rows a b = cc
 pair_is (Some p) name rows a b = let x : name ≡ p.0 = cc in let y : rows ≡ p.1 = cc in λ i. Some (sym x i, sym y i)
 
 -- the name that the parse met
-pub met_name : {Z : Type 0} (o : Option (Box SubCommand Z)) → option_map (λ b. (out-SubCommand (box_value b)).name.now) o ≡ option_map (λ (p : Text × List Row). p.0) (subcommand_rows o)
+pub met_name : {Z : Type 0} (o : Option (Box SubCommand Z)) → option_map (λ b. (out-SubCommand (box_value b)).name.now)
+    o ≡ option_map (λ (p : Text × List Row). p.0) (subcommand_rows o)
 met_name None = refl
 met_name (Some b) = refl
 
@@ -182,7 +223,9 @@ no_pair None e = refl
 no_pair (Some p) e = cc
 
 -- a number, read from the text that is there
-pub number_is : {E : Type 0} (gives : Text → Result ℕ E → Type 0) (o : Option Text) (r : Option ℕ) → ((t : Text) (n : ℕ) → gives t (Ok n) → n ≡ digits_value 10 (without_leading_plus t)) → (o ≡ None → r ≡ None) → ((t : Text) → o ≡ Some t → ReadsOne gives t r)
+pub number_is : {E : Type 0} (gives : Text → Result ℕ E → Type 0) (o : Option Text) (r : Option ℕ)
+    → ((t : Text) (n : ℕ) → gives t (Ok n) → n ≡ digits_value 10 (without_leading_plus t))
+    → (o ≡ None → r ≡ None) → ((t : Text) → o ≡ Some t → ReadsOne gives t r)
     → IfSome r (λ n. (t : Text) × (o ≡ Some t) × (n ≡ digits_value 10 (without_leading_plus t)))
 number_is gives o None means none value = tt
 number_is gives None (Some n) means none value = let bad : Some n ≡ None = none refl in cc

@@ -1,7 +1,8 @@
 //! The command table as `clap` knows it.
 ghost use Rattle.std.specs.Prelude.{◌≡◌, false, IfOk, codes};
 ghost use Rattle.clap.specs.Words.{app_of, new_app, rule_of};
-ghost use Rattle.room_words.specs.CommandLine.{program_command, value_rule, parsed_rule, init_command, replay_command, serve_command, report_command, bare_program, IsCommand, IsKindParser};
+ghost use Rattle.room_words.specs.CommandLine.{program_command, value_rule, parsed_rule, init_command, replay_command};
+ghost use Rattle.room_words.specs.CommandLine.{serve_command, report_command, bare_program, IsCommand, IsKindParser};
 
 use clap::builder::ValueParser;
 use clap::{Arg, Command};

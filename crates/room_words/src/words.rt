@@ -18,7 +18,8 @@ fn parse<'a>(
     kind: ValueParser<'a>,
     words: &'a [String],
 ) -> Result<ArgMatches<'a>, Error>
-    ensures found { IfOk result (λ m. subcommand_rows_of m ≡ subcommand_of (program_command kind.entry) (texts_of words.entry.now)) }
+    ensures found { IfOk result
+        (λ m. subcommand_rows_of m ≡ subcommand_of (program_command kind.entry) (texts_of words.entry.now)) }
     ensures fails { FailsBy (fault_of (program_command kind.entry) (texts_of words.entry.now)) result }
 {
     command_table(alloc, kind)?.try_get_matches_from(words)

@@ -1,4 +1,5 @@
-//! Public calls of the lower crates: each once, their limits, growths that are refused, and plans of RENAME.
+//! Public calls of the lower crates: each once, their limits, growths that are refused, plans of RENAME, and which
+//! lists a command puts.
 #![tactic(auto)]
 
 #[cfg(test)]
@@ -8,8 +9,14 @@ mod lists;
 #[cfg(test)]
 mod model;
 #[cfg(test)]
+mod pending;
+#[cfg(test)]
 mod plans;
 #[cfg(test)]
+mod play;
+#[cfg(test)]
 mod records;
+#[cfg(test)]
+mod renewals;
 #[cfg(test)]
 mod slots;

@@ -1,6 +1,6 @@
 //! Worked examples, whose replies are known from outside.
 use room_acl::Subject;
-use room_commands::{Command, Fault, Reply};
+use room_commands::{Command, RefusalCode, Reply};
 use room_model::PlainRoom;
 use room_records::Path;
 use std::alloc::Global;
@@ -38,7 +38,7 @@ impl Play {
     }
 }
 
-fn is_refused(reply: &Reply, with: Fault) -> bool {
+fn is_refused(reply: &Reply, with: RefusalCode) -> bool {
     match reply {
         Reply::Refused { code, .. } => *code == with,
         _ => false,
@@ -60,6 +60,6 @@ fn largest_document(rt: HostRuntime) -> Result<(), Fail> {
     let created = play.create(&ann, "/x", &bytes.as_slice()[1..])?;
     assert!(rt; is_size(&created, 65536));
     let refused = play.create(&ann, "/y", bytes.as_slice())?;
-    assert!(rt; is_refused(&refused, Fault::FBig));
+    assert!(rt; is_refused(&refused, RefusalCode::FBig));
     Ok(())
 }

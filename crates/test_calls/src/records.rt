@@ -140,7 +140,7 @@ fn folder(alloc: Global, id: u32, name: &str, kind: Kind) -> Result<Node, Fail> 
         kind,
         owner: named(alloc, "ann")?,
         group: named(alloc, "eng")?,
-        aclflag: ListFlags::new(1).ok_or("list flags")?,
+        aclflag: ListFlags::new(0).ok_or("list flags")?,
     })
 }
 

@@ -13,8 +13,8 @@ fn went(scene: &Scene, place: u64) -> Result<Went, Fail> {
     Ok(went)
 }
 
-/// Each of a part of the calls fails in turn. At some of them a step is answered DELAY, and when it is sent again as in
-/// the story.
+/// Each of a part of the calls fails in turn. At some of them a step
+/// is answered DELAY, and when it is sent again as in the story.
 fn heals(alloc: Global, case: Case, part: u64) -> Result<(), Fail> {
     let scene = Scene::new(alloc, case)?;
     let (from, to) = part_of(scene.count_calls()?, part);

@@ -1,5 +1,5 @@
-//! Rows that are no values, under the desk: a request that meets one is answered DELAY, and acts once when the row is
-//! mended.
+//! Rows that are no values, under the desk: a request that meets
+//! one is answered DELAY, and acts once when the row is mended.
 use crate::rooms::contents;
 use crate::story::{Ask, STEPS, Step, has_answer, is_answered};
 use room_desk::Desk;
@@ -20,8 +20,8 @@ INSERT INTO room VALUES (1, 1, 2);
 INSERT INTO node VALUES (1, NULL, '', 1, 'ann', 'eng', 0);
 INSERT INTO entry VALUES (1, 0, 0, 3, 2033663, 'OWNER@'), (1, 1, 0, 3, 1179817, 'GROUP@');";
 
-/// How many steps of the story come before: there is a folder of number 2, in it a file of number 3, and three
-/// requests were answered.
+/// How many steps of the story come before: there is a folder of number
+/// 2, in it a file of number 3, and three requests were answered.
 const BEFORE: usize = 4;
 
 const READ: Step = Step(
@@ -39,11 +39,20 @@ const MKDIR: Step = Step(
     r#"{"code":0}"#,
 );
 
+/// It reads the list of each object, since all follow.
+const SETLIST: Step = Step(
+    Ask::Run(
+        4,
+        r#"{"aclflag":0,"cmd":"SETLIST","entries":[{"flag":3,"mask":2033663,"type":0,"who":"OWNER@"}],"path":"/"}"#,
+    ),
+    r#"{"code":0}"#,
+);
+
 /// What another program does to the rows, what mends them, and a request that meets them.
 #[derive(Clone, Copy)]
 struct Odd(&'static str, &'static str, Step);
 
-static ODDS: [Odd; 27] = [
+static ODDS: [Odd; 31] = [
     Odd(
         "UPDATE node SET name = 'a/b' WHERE id = 3",
         "UPDATE node SET name = 'a' WHERE id = 3",
@@ -133,6 +142,26 @@ static ODDS: [Odd; 27] = [
         "UPDATE entry SET who = 'a/b' WHERE node = 1 AND place = 1",
         "UPDATE entry SET who = 'GROUP@' WHERE node = 1 AND place = 1",
         READ,
+    ),
+    Odd(
+        "UPDATE entry SET flag = flag + 16 WHERE node = 3",
+        "UPDATE entry SET flag = flag - 16 WHERE node = 3",
+        READ,
+    ),
+    Odd(
+        "UPDATE entry SET type = 2 WHERE node = 2 AND place = 1",
+        "UPDATE entry SET type = 0 WHERE node = 2 AND place = 1",
+        READ,
+    ),
+    Odd(
+        "UPDATE entry SET flag = flag + 16 WHERE node = 2",
+        "UPDATE entry SET flag = flag - 16 WHERE node = 2",
+        SETLIST,
+    ),
+    Odd(
+        "UPDATE entry SET mask = mask + 2048 WHERE node = 3 AND place = 1",
+        "UPDATE entry SET mask = mask - 2048 WHERE node = 3 AND place = 1",
+        SETLIST,
     ),
     Odd(
         "UPDATE doc SET bytes = 'hi!'",

@@ -12,7 +12,7 @@ use test_support::{Held, file_of};
 /// A place behind all calls and bytes.
 const NEVER: u64 = 1_000_000_000;
 
-/// How many places a test tries.
+/// How many places the first part has.
 const PART: u64 = 100;
 
 /// Where the room is at the start, whether little stays in memory, and which of the two files fails.
@@ -116,10 +116,14 @@ impl Scene {
     }
 }
 
-/// The places of a part, of so many.
+/// The places of a part, of so many: of the first part, or of the rest.
 pub fn part_of(calls: u64, part: u64) -> (u64, u64) {
-    let from = part.saturating_mul(PART).min(calls);
-    (from, from.saturating_add(PART).min(calls))
+    let middle = PART.min(calls);
+    if part == 0 {
+        (0, middle)
+    } else {
+        (middle, calls)
+    }
 }
 
 /// A number is between two others, or one of them.

@@ -32,8 +32,8 @@ fn went(alloc: Global, scene: &Scene, room: &str, calls: u64) -> Result<Went, Fa
     Ok(went)
 }
 
-/// A room taken over a disk that fails at each call in turn, until it is taken: how many opens failed, and how many
-/// times `adopt` did.
+/// A room taken over a disk that fails at each call in turn, until it
+/// is taken: how many opens failed, and how many times `adopt` did.
 fn count_failures(alloc: Global, case: Case) -> Result<(u64, u64), Fail> {
     let scene = Scene::new(alloc, case)?;
     let room = room_in(alloc, &scene.start)?;
@@ -56,8 +56,8 @@ fn fails(alloc: Global, case: Case, least: u64, most: u64) -> Result<(), Fail> {
     is_within(failed, least, most, "times adopt fails")
 }
 
-/// A room in the database file, and one in the log: each of the two files fails. What was read by the open is in
-/// memory.
+/// A room in the database file, and one in the log: each of the
+/// two files fails. What was read by the open is in memory.
 #[test]
 fn an_open_that_fails_changes_nothing(rt: HostRuntime) -> Result<(), Fail> {
     for starts_in_log in [false, true] {

@@ -3,6 +3,7 @@
 #![tactic(auto)]
 
 mod asking;
+mod differences;
 mod due;
 mod expanding;
 mod fault;
@@ -14,13 +15,12 @@ mod requests;
 mod rooms;
 mod scenes;
 mod shelves;
-mod told;
 mod ways;
 
+use crate::differences::Differences;
 use crate::playing::play_scenes;
 use crate::reading::{Unread, read_scenes};
 use crate::scenes::Scene;
-use crate::told::Told;
 use crate::ways::WAYS;
 use std::process::ExitCode;
 use std::{env, fs, io};
@@ -47,17 +47,17 @@ fn print_lines(rt: &HostRuntime, lines: &[String]) -> io::Result<()> {
 
 /// Plays the scenes of a file, and prints what was found: whether nothing was.
 fn play_read(rt: &HostRuntime, file: &str, scenes: &[Scene]) -> io::Result<bool> {
-    let mut told = Told::new(rt.alloc(), file);
-    if let Err(fault) = play_scenes(rt.alloc(), scenes, &mut told) {
+    let mut differences = Differences::new(rt.alloc(), file);
+    if let Err(fault) = play_scenes(rt.alloc(), scenes, &mut differences) {
         let why = fault.text();
         println!(rt; "{file}:1: {why}")?;
         return Ok(false);
     }
-    print_lines(rt, told.lines.as_slice())?;
+    print_lines(rt, differences.lines.as_slice())?;
     let examples = count_of(scenes);
     let count = scenes.len();
     println!(rt; "{file}: {examples} examples in {count} scenes")?;
-    Ok(told.lines.is_empty())
+    Ok(differences.lines.is_empty())
 }
 
 fn play_text(rt: &HostRuntime, file: &str, text: &str) -> io::Result<bool> {

@@ -1,8 +1,8 @@
 //! Playing the scenes of a file.
+use crate::differences::Differences;
 use crate::fault::Fault;
 use crate::rooms::users;
 use crate::scenes::{Scene, Step};
-use crate::told::Told;
 use crate::ways::WAYS;
 use room_records::Roster;
 use room_wire::Routes;
@@ -44,12 +44,16 @@ fn steps_before<'a>(
 }
 
 /// Plays a scene in each way that fits.
-fn play_scene(play: &Play<'_>, scene: &Scene, told: &mut Told<'_>) -> Result<(), Fault> {
+fn play_scene(
+    play: &Play<'_>,
+    scene: &Scene,
+    differences: &mut Differences<'_>,
+) -> Result<(), Fault> {
     for (word, way) in WAYS {
         if !scene.left_out.contains(&way) {
-            told.begin(word);
-            if let Err(fault) = way.play(play, told) {
-                told.tell(play.line, fault.text())?;
+            differences.begin(word);
+            if let Err(fault) = way.play(play, differences) {
+                differences.tell(play.line, fault.text())?;
             }
         }
     }
@@ -57,7 +61,11 @@ fn play_scene(play: &Play<'_>, scene: &Scene, told: &mut Told<'_>) -> Result<(),
 }
 
 /// Plays the scenes of a file. Differences are told.
-pub fn play_scenes(alloc: Global, scenes: &[Scene], told: &mut Told<'_>) -> Result<(), Fault> {
+pub fn play_scenes(
+    alloc: Global,
+    scenes: &[Scene],
+    differences: &mut Differences<'_>,
+) -> Result<(), Fault> {
     let Ok(routes) = Routes::new(alloc) else {
         return Err(Fault::Memory);
     };
@@ -72,7 +80,7 @@ pub fn play_scenes(alloc: Global, scenes: &[Scene], told: &mut Told<'_>) -> Resu
             before: before.as_slice(),
             steps: scene.steps.as_slice(),
         };
-        play_scene(&play, scene, told)?;
+        play_scene(&play, scene, differences)?;
     }
     Ok(())
 }

@@ -1,14 +1,15 @@
 //! What is done with a room on a shelf, in whichever way.
 use crate::asking::{Asked, ask_of};
+use crate::differences::Differences;
 use crate::fault::Fault;
 use crate::playing::Play;
 use crate::scenes::{Kind, Step};
-use crate::told::Told;
 use room_desk::Desk;
 use room_records::{Change, Shelf};
 use room_report::{access_report, list_report};
 use room_wire::{Answer, Event};
 use std::alloc::Global;
+use test_support::other_list;
 
 /// What an event is answered, and the shelf then.
 pub fn handled<S: Shelf>(alloc: Global, shelf: S, event: &Event) -> (Answer, S) {
@@ -45,17 +46,34 @@ fn reported<S: Shelf>(play: &Play<'_>, shelf: &mut S, kind: Kind) -> Result<Vec<
     }
 }
 
+/// Tells where the stored list of an object is another than its list from scratch.
+pub fn expect_whole_lists<S: Shelf>(
+    play: &Play<'_>,
+    shelf: &mut S,
+    line: usize,
+    differences: &mut Differences<'_>,
+) -> Result<(), Fault> {
+    match other_list(play.alloc, shelf) {
+        Ok(None) => Ok(()),
+        Ok(Some(id)) => {
+            let text = format!(in play.alloc; "another stored list than from scratch: {id}")?;
+            differences.tell(line, text.as_str())
+        }
+        Err(_) => Err(Fault::Because("lists that were not read")),
+    }
+}
+
 /// A step that is no message: a report is compared, and the next number is set.
 pub fn do_step<S: Shelf>(
     play: &Play<'_>,
     shelf: &mut S,
     step: &Step,
-    told: &mut Told<'_>,
+    differences: &mut Differences<'_>,
 ) -> Result<(), Fault> {
     match step {
         Step::Report { line, kind, due } => {
             let written = reported(play, shelf, *kind)?;
-            told.expect(*line, written.as_slice(), due.as_slice())
+            differences.expect(*line, written.as_slice(), due.as_slice())
         }
         Step::Next(number) => set_next(play.alloc, shelf, *number),
         Step::Reopen | Step::Ask(_) => Ok(()),

@@ -8,10 +8,10 @@ mod plain;
 mod serving;
 mod trips;
 
+use crate::differences::Differences;
 use crate::fault::Fault;
 use crate::playing::Play;
 use crate::rooms::{in_memory, in_tables};
-use crate::told::Told;
 
 /// A way in which scenes are played.
 #[derive(Clone, Copy, PartialEq, Eq)]
@@ -64,17 +64,17 @@ pub fn way_named(name: &str) -> Option<Way> {
 
 impl Way {
     /// Plays a scene. Differences are told.
-    pub fn play(self, play: &Play<'_>, told: &mut Told<'_>) -> Result<(), Fault> {
+    pub fn play(self, play: &Play<'_>, differences: &mut Differences<'_>) -> Result<(), Fault> {
         match self {
-            Way::Memory => events::play(play, in_memory(play.alloc)?, told),
-            Way::Tables => events::play(play, in_tables(play.alloc)?, told),
-            Way::Run => batches::play(play, told),
-            Way::Stream => messages::play(play, in_memory(play.alloc)?, false, told),
-            Way::Bytes => messages::play(play, in_tables(play.alloc)?, true, told),
-            Way::Plain => plain::play(play, told),
-            Way::Reopened => files::play(play, told),
-            Way::Tripped => trips::play(play, told),
-            Way::Lost => losses::play(play, told),
+            Way::Memory => events::play(play, in_memory(play.alloc)?, differences),
+            Way::Tables => events::play(play, in_tables(play.alloc)?, differences),
+            Way::Run => batches::play(play, differences),
+            Way::Stream => messages::play(play, in_memory(play.alloc)?, false, differences),
+            Way::Bytes => messages::play(play, in_tables(play.alloc)?, true, differences),
+            Way::Plain => plain::play(play, differences),
+            Way::Reopened => files::play(play, differences),
+            Way::Tripped => trips::play(play, differences),
+            Way::Lost => losses::play(play, differences),
         }
     }
 }

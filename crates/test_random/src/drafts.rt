@@ -37,6 +37,8 @@ pub enum What {
     Close,
     /// The slot and the number.
     Run(u32, u32),
+    /// The number of a request of slot 0, whose command changes lists or what has them.
+    RunOnLists(u32),
 }
 
 fn path(alloc: Global, dice: &mut Dice) -> Result<Path, Fail> {
@@ -107,13 +109,8 @@ fn entries(alloc: Global, dice: &mut Dice) -> Result<Vec<Entry>, Fail> {
 }
 
 fn set_list(alloc: Global, dice: &mut Dice) -> Result<Command, Fail> {
-    let bits = match dice.roll(8) {
-        0 => 0,
-        1 => 3,
-        _ => 1,
-    };
     Ok(Command::SetList {
-        aclflag: ListFlags::new(bits).ok_or("no list flags")?,
+        aclflag: list_flags(dice)?,
         entries: entries(alloc, dice)?,
         path: path(alloc, dice)?,
     })
@@ -173,6 +170,55 @@ fn command(alloc: Global, seed: u32) -> Result<Command, Fail> {
     }
 }
 
+/// AUTO_INHERIT mostly, also with PROTECTED, or no flag.
+fn list_flags(dice: &mut Dice) -> Result<ListFlags, Fail> {
+    let bits = match dice.roll(8) {
+        0 => 0,
+        1 | 2 => 3,
+        _ => 1,
+    };
+    Ok(ListFlags::new(bits).ok_or("no list flags")?)
+}
+
+/// Entries of which the first lets everyone do all, here and below.
+fn open_entries(alloc: Global, dice: &mut Dice) -> Result<Vec<Entry>, Fail> {
+    let flags = Flags::new(3).ok_or("no flags")?;
+    let mask = Mask::new(0x1F07FF).ok_or("no mask")?;
+    let open = Entry::new(true, flags, mask, Who::Everyone).ok_or("no entry")?;
+    let mut entries = entries(alloc, dice)?;
+    entries.insert(0, open)?;
+    Ok(entries)
+}
+
+/// SETLIST with such entries.
+fn open_list(alloc: Global, dice: &mut Dice, path: Path) -> Result<Command, Fail> {
+    Ok(Command::SetList {
+        aclflag: list_flags(dice)?,
+        entries: open_entries(alloc, dice)?,
+        path,
+    })
+}
+
+/// A command that changes lists or what has them. The first one opens the root to everyone, and all leave it so.
+fn command_on_lists(alloc: Global, seq: u32, seed: u32) -> Result<Command, Fail> {
+    let mut dice = Dice::new(seed);
+    if seq == 1 {
+        return open_list(alloc, &mut dice, path_of(alloc, "/")?);
+    }
+    let path = path(alloc, &mut dice)?;
+    match dice.roll(16) {
+        0 | 1 | 2 | 3 | 4 => Ok(Command::Mkdir { path }),
+        5 => command_at(alloc, &mut dice, 6, path),
+        6 => Ok(Command::Remove { path }),
+        7 => chown(alloc, &mut dice),
+        8 | 9 | 10 | 11 | 12 => open_list(alloc, &mut dice, path),
+        _ => Ok(Command::Rename {
+            to: self::path(alloc, &mut dice)?,
+            path,
+        }),
+    }
+}
+
 /// The name of a session's number.
 pub fn session_at(alloc: Global, session: u32) -> Result<Sid, Fail> {
     session_name(alloc, SESSIONS.get(session as usize).ok_or("no session")?)
@@ -194,6 +240,13 @@ pub fn event(alloc: Global, draft: &Draft) -> Result<Event, Fail> {
             slot,
             seq,
             command: command(alloc, draft.seed)?,
+        }),
+        What::RunOnLists(seq) => Ok(Event::Slot {
+            subject,
+            sid,
+            slot: 0,
+            seq,
+            command: command_on_lists(alloc, seq, draft.seed)?,
         }),
     }
 }

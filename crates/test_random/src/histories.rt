@@ -1,7 +1,8 @@
-//! Random histories: the same answers and the same rooms from the plain body and from the desk over each shelf.
+//! Random histories: the same answers and the same rooms from the plain body and from the desk over each shelf, whose
+//! stored lists are whole after each event.
 use crate::dice::Dice;
 use crate::drafts::{Draft, What, event, session_at};
-use crate::rooms::is_same_room;
+use crate::rooms::{is_same_room, is_whole};
 use room_desk::{Answer, Desk};
 use room_history::{answer_to, count_accepted, state_after};
 use room_model::PlainRoom;
@@ -76,6 +77,8 @@ struct Trio {
     tables: SqlShelf<MemStore>,
     replies: u32,
     refusals: u32,
+    /// How many requests were done that answer nothing else.
+    done: u32,
 }
 
 /// What a desk over a shelf answers.
@@ -95,6 +98,7 @@ impl Trio {
             tables: in_tables(alloc)?,
             replies: 0,
             refusals: 0,
+            done: 0,
         })
     }
 
@@ -104,9 +108,12 @@ impl Trio {
             Answer::Reply(_) => self.replies = self.replies.wrapping_add(1),
             Answer::Refused(_) => self.refusals = self.refusals.wrapping_add(1),
         }
+        if answer.body() == br#"{"code":0}"#.as_slice() {
+            self.done = self.done.wrapping_add(1);
+        }
     }
 
-    /// All three answer an event alike, and it joins the history.
+    /// All three answer an event alike, it joins the history, and the stored lists are whole.
     fn answer(self, event: Event) -> Result<Trio, Fail> {
         let mut trio = self;
         let plain = answer_to(trio.alloc, &trio.start, trio.past.as_slice(), &event)?;
@@ -117,9 +124,19 @@ impl Trio {
         trio.past.insert(0, event)?;
         trio.count(&plain);
         if plain.body() == from_memory.body() && plain.body() == from_tables.body() {
-            Ok(trio)
+            trio.with_whole_lists()
         } else {
             Err(Fail::new("another answer"))
+        }
+    }
+
+    /// Each stored list on both shelves is the list from scratch.
+    fn with_whole_lists(self) -> Result<Trio, Fail> {
+        let mut trio = self;
+        if is_whole(trio.alloc, &mut trio.memory)? && is_whole(trio.alloc, &mut trio.tables)? {
+            Ok(trio)
+        } else {
+            Err(Fail::new("another list than from scratch"))
         }
     }
 
@@ -156,6 +173,35 @@ fn random_histories(rt: HostRuntime) -> Result<(), Fail> {
         let trio = random_history(rt.alloc(), seed)?;
         // Neither replies nor refusals alone.
         assert!(rt; 40 < trio.replies && 20 < trio.refusals, "{seed}");
+        trio.compare_rooms()?;
+    }
+    Ok(())
+}
+
+/// A history of `ann` alone, of requests that make, list, move and remove.
+fn history_of_lists(alloc: Global, seed: u32) -> Result<Trio, Fail> {
+    let mut dice = Dice::new(seed);
+    let mut draft = Draft {
+        what: What::Open,
+        user: 0,
+        session: 0,
+        seed: 0,
+    };
+    let mut trio = Trio::new(alloc)?.answer(event(alloc, &draft)?)?;
+    for number in 1..EVENTS {
+        draft.what = What::RunOnLists(number);
+        draft.seed = dice.seed();
+        trio = trio.answer(event(alloc, &draft)?)?;
+    }
+    Ok(trio)
+}
+
+#[test]
+fn random_lists(rt: HostRuntime) -> Result<(), Fail> {
+    for seed in [366, 197] {
+        let trio = history_of_lists(rt.alloc(), seed)?;
+        // Neither successes nor refusals alone.
+        assert!(rt; 60 < trio.done && trio.done < 160, "{seed}");
         trio.compare_rooms()?;
     }
     Ok(())

@@ -1,9 +1,9 @@
-//! Whether the rows of a shelf are those of a plain room.
+//! Whether the rows of a shelf are those of a plain room, and their lists whole.
 use room_model::{PlainObject, PlainRoom};
 use room_records::{FileName, Node, Shelf};
 use std::alloc::Global;
 use std::test::Fail;
-use test_support::are_same_entries;
+use test_support::{are_same_entries, other_list};
 
 fn is_same_node(node: &Node, object: &PlainObject) -> bool {
     let standing = object.standing();
@@ -22,7 +22,7 @@ fn node_at<S: Shelf>(shelf: &mut S, names: &[FileName]) -> Result<Node, Fail> {
     Ok(node)
 }
 
-/// The row at these names, its own entries, its document and the number of its children are the object's.
+/// The row at these names, its whole list, its document and the number of its children are the object's.
 fn is_same_object<S: Shelf>(
     alloc: Global,
     shelf: &mut S,
@@ -31,13 +31,14 @@ fn is_same_object<S: Shelf>(
     object: &PlainObject,
 ) -> Result<bool, Fail> {
     let node = node_at(shelf, names)?;
-    let entries = shelf.entries(node.id)?;
+    let stored = shelf.entries(node.id)?;
+    let list = room.list_of(alloc, names)?;
     let bytes = shelf.doc(node.id)?;
     let count = shelf.child_count(node.id)?;
     let children = room.children(alloc, names)?;
     Ok(
         is_same_node(&node, object)
-            && are_same_entries(entries.as_slice(), object.own())
+            && are_same_entries(stored.as_slice(), list.as_slice())
             && bytes.as_slice() == object.bytes()
             && count == children.len() as u64,
     )
@@ -55,4 +56,9 @@ pub fn is_same_room<S: Shelf>(
         }
     }
     Ok(u64::from(shelf.next_id()?) == u64::from(room.made()) + 1)
+}
+
+/// Each stored list is the list from scratch.
+pub fn is_whole<S: Shelf>(alloc: Global, shelf: &mut S) -> Result<bool, Fail> {
+    Ok(other_list(alloc, shelf)?.is_none())
 }

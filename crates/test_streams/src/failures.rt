@@ -7,7 +7,7 @@ use room_wire::Why;
 use std::alloc::Global;
 use std::io::{Read, Write};
 use std::test::Fail;
-use test_support::{ByteReader, Full, Narrow, Pieces, in_memory, roster};
+use test_support::{BoundedWriter, ByteReader, Full, Pieces, in_memory, roster};
 
 const NO_BODY: &str = "POST /v1/check HTTP/1.1\r\n\r\n";
 
@@ -22,7 +22,7 @@ fn questions_without_a_room(rt: HostRuntime) -> Result<(), Fail> {
     let sent = format!(in alloc; "{QUESTION}{ROUTES}{NO_BODY}{QUESTION}")?;
     let want = format!(in alloc; "{ANSWER}{BAD_ROUTE}{BAD_ROUTE}{BAD_REQUEST}{ANSWER}")?;
     for step in [1, 7, 1000] {
-        let mut writer = Narrow::new(alloc, 10_000, step, Full::Fails);
+        let mut writer = BoundedWriter::new(alloc, 10_000, step, Full::Fails);
         let mut reader = sent.as_bytes();
         let end = served(alloc, Server::Questions, &mut reader, &mut writer)?;
         is_as(
@@ -33,7 +33,7 @@ fn questions_without_a_room(rt: HostRuntime) -> Result<(), Fail> {
             5,
             "whole reads",
         )?;
-        let mut writer = Narrow::new(alloc, 10_000, step, Full::TakesNone);
+        let mut writer = BoundedWriter::new(alloc, 10_000, step, Full::TakesNone);
         let mut reader = ByteReader::new(sent.as_bytes());
         let end = served(alloc, Server::Questions, &mut reader, &mut writer)?;
         is_as(
@@ -230,7 +230,7 @@ fn a_room_byte_by_byte(rt: HostRuntime) -> Result<(), Fail> {
         sent.push_str(message)?;
     }
     let want = answers_to(alloc, PLANNED.len())?;
-    let mut writer = Narrow::new(alloc, 10_000, 1, Full::Fails);
+    let mut writer = BoundedWriter::new(alloc, 10_000, 1, Full::Fails);
     let mut reader = ByteReader::new(sent.as_bytes());
     let end = served(alloc, Server::Room, &mut reader, &mut writer)?;
     is_as(
@@ -266,7 +266,7 @@ fn no_read_after_a_bad_message(rt: HostRuntime) -> Result<(), Fail> {
 
 /// What was written is the beginning of the answer that the writer took.
 fn is_cut(alloc: Global, server: Server, full: Full, room: usize) -> Result<(), Fail> {
-    let mut writer = Narrow::new(alloc, room, 1000, full);
+    let mut writer = BoundedWriter::new(alloc, room, 1000, full);
     let end = served(alloc, server, &mut QUESTION.as_bytes(), &mut writer)?;
     let front = ANSWER.get(..room).ok_or("a boundary")?;
     is_as(
@@ -300,8 +300,8 @@ const OPENED_AND_CREATED: &str = "HTTP/1.1 200 OK\r\ncontent-type: application/j
 content-length: 20\r\n\r\n{\"code\":0,\"slots\":1}\
 HTTP/1.1 200 OK\r\ncontent-type: application/json\r\ncontent-length: 19\r\n\r\n{\"code\":0,\"size\":2}";
 
-/// A stream that loses its answers, or is cut, and then the same requests on another one, which are answered as the
-/// first time.
+/// A stream that loses its answers, or is cut, and then the same
+/// requests on another one, which are answered as the first time.
 fn acts_once<R: Read, W: Write>(
     alloc: Global,
     reader: &mut R,
@@ -334,7 +334,7 @@ fn answers_are_lost(rt: HostRuntime) -> Result<(), Fail> {
     let alloc = rt.alloc();
     for room in 0..OPENED_AND_CREATED.len() {
         let front = OPENED_AND_CREATED.get(..room).ok_or("a boundary")?;
-        let mut writer = Narrow::new(alloc, room, 1000, Full::Fails);
+        let mut writer = BoundedWriter::new(alloc, room, 1000, Full::Fails);
         let mut reader = OPEN_AND_CREATE.as_bytes();
         acts_once(alloc, &mut reader, &mut writer, Why::WriteFailed, front)?;
         assert_eq!(rt; writer.taken.as_slice(), front.as_bytes());

@@ -4,7 +4,7 @@ use crate::words::words_of;
 use room_program::run_program;
 use std::io::{Read, Write};
 use std::test::Fail;
-use test_support::{Full, Narrow, Pieces};
+use test_support::{BoundedWriter, Full, Pieces};
 
 /// The status with which the program ends on these words.
 fn ended<R: Read, W: Write, E: Write>(
@@ -61,7 +61,7 @@ fn check_whose_input_fails(rt: HostRuntime) -> Result<(), Fail> {
 
 #[test]
 fn check_whose_output_fails(rt: HostRuntime) -> Result<(), Fail> {
-    let mut output = Narrow::new(rt.alloc(), 10, 10, Full::Fails);
+    let mut output = BoundedWriter::new(rt.alloc(), 10, 10, Full::Fails);
     let mut errors = Vec::new(rt.alloc());
     let input = &mut QUESTION.as_bytes();
     let status = ended(&rt, &["check"], input, &mut output, &mut errors)?;
@@ -73,8 +73,8 @@ fn check_whose_output_fails(rt: HostRuntime) -> Result<(), Fail> {
 
 #[test]
 fn check_whose_two_outputs_fail(rt: HostRuntime) -> Result<(), Fail> {
-    let mut output = Narrow::new(rt.alloc(), 0, 1, Full::TakesNone);
-    let mut errors = Narrow::new(rt.alloc(), 5, 1, Full::Fails);
+    let mut output = BoundedWriter::new(rt.alloc(), 0, 1, Full::TakesNone);
+    let mut errors = BoundedWriter::new(rt.alloc(), 5, 1, Full::Fails);
     let input = &mut QUESTION.as_bytes();
     let status = ended(&rt, &["check"], input, &mut output, &mut errors)?;
     assert_eq!(rt; status, 1);
@@ -120,7 +120,7 @@ fn other_words(rt: HostRuntime) -> Result<(), Fail> {
 #[test]
 fn help_that_cannot_be_written(rt: HostRuntime) -> Result<(), Fail> {
     let alloc = rt.alloc();
-    let mut output = Narrow::new(alloc, 10, 3, Full::Fails);
+    let mut output = BoundedWriter::new(alloc, 10, 3, Full::Fails);
     let mut errors = Vec::new(alloc);
     let input = &mut "".as_bytes();
     let status = ended(&rt, &["--help"], input, &mut output, &mut errors)?;

@@ -1,11 +1,11 @@
 //! Reports over writers and shelves that fail, and for rosters that no file of examples has.
-use room_acl::{Kind, ListFlags};
+use room_acl::{Kind, ListFlags, hand_down};
 use room_records::{Change, MemShelf, Node, Roster, Shelf, TripShelf};
 use room_report::{ReportFault, access_report, list_report};
 use std::alloc::Global;
 use std::io::Write;
 use std::test::Fail;
-use test_support::{Full, Narrow, file_name, in_memory, in_tables, named, roster};
+use test_support::{BoundedWriter, Full, file_name, in_memory, in_tables, named, roster};
 
 /// A folder `/plans` of `ann` and `eng`.
 fn plans(alloc: Global) -> Result<Node, Fail> {
@@ -20,10 +20,16 @@ fn plans(alloc: Global) -> Result<Node, Fail> {
     })
 }
 
-/// A fresh room with that folder.
+/// A fresh room with that folder, which follows the root.
 fn with_plans(alloc: Global) -> Result<MemShelf, Fail> {
     let mut shelf = in_memory(alloc)?;
-    let changes = vec![in alloc; Change::PutNext(3), Change::PutNode(plans(alloc)?)]?;
+    let root = shelf.entries(1)?;
+    let list = hand_down(alloc, root.as_slice(), Kind::Folder)?;
+    let changes = vec![in alloc;
+        Change::PutNext(3),
+        Change::PutNode(plans(alloc)?),
+        Change::PutEntries(2, list),
+    ]?;
     shelf.commit(changes.as_slice())?;
     Ok(shelf)
 }
@@ -76,7 +82,7 @@ fn takes(
     front: &str,
     wanted: Result<(), ReportFault>,
 ) -> Result<(), Fail> {
-    let mut writer = Narrow::new(alloc, front.len(), 7, full);
+    let mut writer = BoundedWriter::new(alloc, front.len(), 7, full);
     let end = written(alloc, report, shelf, &mut writer)?;
     if end != wanted || writer.taken.as_slice() != front.as_bytes() {
         return Err(Fail::new(format_args!("{report:?}, {full:?}, {} bytes: {end:?}", front.len())));
@@ -102,8 +108,8 @@ fn a_write_fails(rt: HostRuntime) -> Result<(), Fail> {
     Ok(())
 }
 
-/// The shelf's call of this number fails, and how many lines are written before. A room of two folders takes five
-/// calls.
+/// The shelf's call of this number fails, and how many lines
+/// are written before. A room of two folders takes five calls.
 const TRIPS: [(u64, usize); 6] = [(1, 0), (2, 0), (3, 3), (4, 3), (5, 6), (6, 6)];
 
 fn is_due(call: u64, end: Result<(), ReportFault>, tripped: bool) -> bool {

@@ -72,7 +72,7 @@ impl Read for Pieces<'_> {
     }
 }
 
-/// What a `Narrow` writer does once it is full.
+/// What a `BoundedWriter` writer does once it is full.
 #[derive(Clone, Copy, Debug, PartialEq, Eq)]
 pub enum Full {
     Fails,
@@ -81,16 +81,16 @@ pub enum Full {
 
 /// Takes at most `step` bytes a call and `room` bytes in all.
 #[derive(Drop)]
-pub struct Narrow {
+pub struct BoundedWriter {
     pub taken: Vec<u8>,
     room: usize,
     step: usize,
     full: Full,
 }
 
-impl Narrow {
-    pub fn new(alloc: Global, room: usize, step: usize, full: Full) -> Narrow {
-        Narrow {
+impl BoundedWriter {
+    pub fn new(alloc: Global, room: usize, step: usize, full: Full) -> BoundedWriter {
+        BoundedWriter {
             taken: Vec::new(alloc),
             room,
             step,
@@ -99,7 +99,7 @@ impl Narrow {
     }
 }
 
-impl Write for Narrow {
+impl Write for BoundedWriter {
     fn write(&mut self, buf: &[u8]) -> Result<usize> {
         if self.room == 0 && self.full == Full::Fails {
             return Err(Error::from(ErrorKind::Other));

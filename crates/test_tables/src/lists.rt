@@ -8,6 +8,9 @@ use std::alloc::Global;
 use std::test::Fail;
 use test_support::{are_same_entries, file_name, in_tables, named};
 
+/// The most entries that inheritance can give: 32 own ones, and those of 16 folders above.
+const LONGEST: usize = 544;
+
 const RIGHTS: [u32; 4] = [0x1, 0x2, 0x20, 0x1200A9];
 
 /// A user or a group of this number, or everyone.
@@ -76,7 +79,7 @@ fn room(alloc: Global) -> Result<SqlShelf<MemStore>, Fail> {
     Ok(shelf)
 }
 
-/// An object has so many entries of its own, numbered from a number on, in this order.
+/// The rows of an object hold so many entries, numbered from a number on, in this order.
 fn has(
     alloc: Global,
     shelf: &mut SqlShelf<MemStore>,
@@ -106,7 +109,7 @@ fn root_has(
 fn lists_are_read_back_in_order(rt: HostRuntime) -> Result<(), Fail> {
     let alloc = rt.alloc();
     let mut shelf = room(alloc)?;
-    for total in [0usize, 1, 2, 3, 4, 5, 6, 7, 8, 9, 31, 32] {
+    for total in [0usize, 1, 2, 3, 4, 5, 6, 7, 8, 9, 31, 32, 33, LONGEST] {
         put(alloc, &mut shelf, 1, total, total)?;
         root_has(alloc, &mut shelf, total, total)?;
         assert!(rt;
@@ -121,8 +124,8 @@ fn lists_are_read_back_in_order(rt: HostRuntime) -> Result<(), Fail> {
 fn lists_are_replaced_by_shorter_and_longer_ones(rt: HostRuntime) -> Result<(), Fail> {
     let alloc = rt.alloc();
     let mut shelf = room(alloc)?;
-    for first in [0usize, 1, 3, 4, 5, 32] {
-        for second in [0usize, 1, 3, 4, 5, 32] {
+    for first in [0usize, 1, 3, 4, 5, 32, LONGEST] {
+        for second in [0usize, 1, 3, 4, 5, 32, LONGEST] {
             put(alloc, &mut shelf, 1, 0, first)?;
             put(alloc, &mut shelf, 1, 100, second)?;
             root_has(alloc, &mut shelf, 100, second)?;

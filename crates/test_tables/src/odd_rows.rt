@@ -240,8 +240,8 @@ fn declared(alloc: Global) -> Result<Connection<MemStore>, Fail> {
     Ok(conn)
 }
 
-/// Whether the tables that `init` makes take the statement; where they do, the reads answer in the same way, and
-/// else nothing changes.
+/// Whether the tables that `init` makes take the statement; where they
+/// do, the reads answer in the same way, and else nothing changes.
 fn is_taken(alloc: Global, odd: &Odd) -> Result<bool, Fail> {
     let mut conn = declared(alloc)?;
     let before = contents(alloc, &mut conn)?;

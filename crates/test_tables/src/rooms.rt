@@ -109,8 +109,8 @@ const GONE: Shown = Shown {
     next: 7,
 };
 
-/// A document of a node that is not there breaks a rule, and nothing before it stays. The document and the entries go
-/// with their node.
+/// A document of a node that is not there breaks a rule, and nothing
+/// before it stays. The document and the entries go with their node.
 static STEPS: [Step; 4] = [
     Step("two changes", true, b"", AT_7),
     Step("a document of none", false, b"", AT_7),

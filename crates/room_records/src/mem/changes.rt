@@ -4,11 +4,11 @@ ghost use Rattle.std.specs.List.{AllByRecursion};
 ghost use Rattle.room_records.specs.Limits.{max_slots};
 ghost use Rattle.room_records.specs.Records.{Records};
 ghost use Rattle.room_records.specs.Rules.{RulesHold};
-ghost use Rattle.room_records.specs.NodeIndex.{HasRoomForNode};
+ghost use Rattle.room_records.specs.NodeIndex.{HasSpaceForNode};
 ghost use Rattle.room_records.specs.Sessions.{slot_cmp};
-ghost use Rattle.room_records.specs.Table.{HasRoom};
+ghost use Rattle.room_records.specs.Table.{HasSpace};
 ghost use Rattle.room_records.specs.Changes.{apply_change, apply_changes, RulesHoldAfterEach};
-ghost use Rattle.room_records.specs.Mem.{mem_records, HasRoomFor, KeepsRoom, AreSameChanges};
+ghost use Rattle.room_records.specs.Mem.{mem_records, HasSpaceFor, KeepsSpace, AreSameChanges};
 
 use crate::change::Change;
 use crate::mem::MemShelf;
@@ -22,34 +22,34 @@ impl MemShelf {
     pub(crate) fn prepare(&mut self, changes: &[Change]) -> Result<Vec<Change>, AllocError>
         ensures same { mem_records self.new ≡ mem_records self.old }
         ensures steps { IfOk result (λ steps. AreSameChanges steps.items changes.now) }
-        ensures room { IfOk result (λ steps. AllByRecursion (HasRoomFor self.new) steps.items) }
+        ensures room { IfOk result (λ steps. AllByRecursion (HasSpaceFor self.new) steps.items) }
     {
         let mut steps = Vec::new(self.alloc);
         for change in changes {
             let step = change.clone(self.alloc)?;
-            self.make_room(&step)?;
+            self.reserve(&step)?;
             steps.push(step)?;
         }
         Ok(steps)
     }
 
     /// Makes room for a change. It changes no record, also where memory is refused.
-    fn make_room(&mut self, change: &Change) -> Result<(), AllocError>
+    fn reserve(&mut self, change: &Change) -> Result<(), AllocError>
         ensures same { mem_records self.new ≡ mem_records self.old }
-        ensures kept { KeepsRoom self.old self.new }
-        ensures room { OnOk result (HasRoomFor self.new change.now) }
+        ensures kept { KeepsSpace self.old self.new }
+        ensures room { OnOk result (HasSpaceFor self.new change.now) }
     {
         match change {
-            Change::PutNode(node) => self.nodes.make_room(node),
-            Change::PutEntries(id, _) => self.entries.make_room(*id),
-            Change::PutDoc(id, _) => self.docs.make_room(*id),
+            Change::PutNode(node) => self.nodes.reserve(node),
+            Change::PutEntries(id, _) => self.entries.reserve(*id),
+            Change::PutDoc(id, _) => self.docs.reserve(*id),
             Change::PutSession(row) => {
                 let sid = row.sid.clone()?;
                 self.sessions.make_session_room(sid)
             }
             Change::PutSlot(row) => {
                 let sid = row.sid.clone()?;
-                self.sessions.make_slot_room(sid, row.slot)
+                self.sessions.reserve_slot(sid, row.slot)
             }
             Change::DropNode(_) | Change::DropSlots(_) | Change::PutNext(_) => Ok(()),
         }
@@ -57,8 +57,9 @@ impl MemShelf {
 
     /// Makes every change in order.
     pub(crate) fn apply_all(&mut self, steps: Vec<Change>)
-        requires { AllByRecursion (HasRoomFor self.old) steps.items }
-        ensures { RulesHoldAfterEach steps.items (mem_records self.old) → mem_records self.new ≡ apply_changes steps.items (mem_records self.old) }
+        requires { AllByRecursion (HasSpaceFor self.old) steps.items }
+        ensures { RulesHoldAfterEach steps.items (mem_records self.old)
+            → mem_records self.new ≡ apply_changes steps.items (mem_records self.old) }
     {
         for step in steps {
             self.apply(step);
@@ -67,9 +68,10 @@ impl MemShelf {
 
     /// Makes one change. Where the record rules hold after it, the records are as it says.
     fn apply(&mut self, change: Change)
-        requires { HasRoomFor self.old change }
-        ensures records { RulesHold (apply_change change (mem_records self.old)) → mem_records self.new ≡ apply_change change (mem_records self.old) }
-        ensures kept { KeepsRoom self.old self.new }
+        requires { HasSpaceFor self.old change }
+        ensures records { RulesHold (apply_change change (mem_records self.old))
+            → mem_records self.new ≡ apply_change change (mem_records self.old) }
+        ensures kept { KeepsSpace self.old self.new }
     {
         match change {
             Change::PutNode(node) => self.put_node(node),
@@ -88,9 +90,10 @@ impl MemShelf {
     }
 
     fn put_node(&mut self, node: Node)
-        requires { HasRoomForNode self.old.nodes.nodes.slots self.old.nodes.places.slots node }
-        ensures records { RulesHold (apply_change (Change.PutNode node) (mem_records self.old)) → mem_records self.new ≡ apply_change (Change.PutNode node) (mem_records self.old) }
-        ensures kept { KeepsRoom self.old self.new }
+        requires { HasSpaceForNode self.old.nodes.nodes.slots self.old.nodes.places.slots node }
+        ensures records { RulesHold (apply_change (Change.PutNode node) (mem_records self.old))
+            → mem_records self.new ≡ apply_change (Change.PutNode node) (mem_records self.old) }
+        ensures kept { KeepsSpace self.old self.new }
     {
         let _ = self.nodes.take(node.id);
         self.nodes.add(node);
@@ -98,7 +101,7 @@ impl MemShelf {
 
     fn drop_node(&mut self, id: u32)
         ensures records { mem_records self.new ≡ apply_change (Change.DropNode id) (mem_records self.old) }
-        ensures kept { KeepsRoom self.old self.new }
+        ensures kept { KeepsSpace self.old self.new }
     {
         let _ = self.nodes.take(id);
         let _ = self.entries.take(&id);
@@ -106,9 +109,10 @@ impl MemShelf {
     }
 
     fn put_slot(&mut self, row: SlotRow)
-        requires { row.slot < max_slots → HasRoom slot_cmp self.old.sessions.kept.slots (row.sid, row.slot) }
-        ensures records { RulesHold (apply_change (Change.PutSlot row) (mem_records self.old)) → mem_records self.new ≡ apply_change (Change.PutSlot row) (mem_records self.old) }
-        ensures kept { KeepsRoom self.old self.new }
+        requires { row.slot < max_slots → HasSpace slot_cmp self.old.sessions.kept.slots (row.sid, row.slot) }
+        ensures records { RulesHold (apply_change (Change.PutSlot row) (mem_records self.old))
+            → mem_records self.new ≡ apply_change (Change.PutSlot row) (mem_records self.old) }
+        ensures kept { KeepsSpace self.old self.new }
     {
         self.sessions.has_few_slots();
         self.sessions.put_slot(row);

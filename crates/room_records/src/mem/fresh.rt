@@ -28,8 +28,8 @@ impl MemShelf {
         let entries = fresh_entries(alloc)?;
         let root = fresh_root(owner, group);
         let mut shelf = MemShelf::empty(alloc);
-        shelf.nodes.make_room(&root)?;
-        shelf.entries.make_room(1)?;
+        shelf.nodes.reserve(&root)?;
+        shelf.entries.reserve(1)?;
         shelf.nodes.add(root);
         let _ = shelf.entries.put(&1, entries);
         Ok(shelf)

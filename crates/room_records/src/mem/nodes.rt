@@ -4,8 +4,9 @@ ghost use Rattle.std.specs.Prelude.{◌+◌};
 ghost use Rattle.room_records.specs.Records.{ObjectRecords};
 ghost use Rattle.room_records.specs.Rules.{ObjectRules};
 ghost use Rattle.room_records.specs.Shelf.{AreChildren, IsChildCount, IsChildNamed};
-ghost use Rattle.room_records.specs.Table.{HasRoom};
-ghost use Rattle.room_records.specs.NodeIndex.{PlaceKey, node_in, id_at, place_of, IsNumbered, ArePlaced, AreAtPlace, HasRoomForNode, IsFreeFor};
+ghost use Rattle.room_records.specs.Table.{HasSpace};
+ghost use Rattle.room_records.specs.NodeIndex.{PlaceKey, node_in, id_at, place_of, IsNumbered, ArePlaced, AreAtPlace};
+ghost use Rattle.room_records.specs.NodeIndex.{HasSpaceForNode, IsFreeFor};
 
 use crate::names::FileName;
 use crate::node::{Node, copy_name};
@@ -38,18 +39,18 @@ impl NodeIndex {
     }
 
     /// Makes room for this node. It changes no node, also where memory is refused.
-    pub(crate) fn make_room(&mut self, node: &Node) -> Result<(), AllocError>
+    pub(crate) fn reserve(&mut self, node: &Node) -> Result<(), AllocError>
         ensures same { (id : ℕ) → node_in self.new.nodes.slots id ≡ node_in self.old.nodes.slots id }
-        ensures kept { (other : Node) → HasRoomForNode self.old.nodes.slots self.old.places.slots other
-            → HasRoomForNode self.new.nodes.slots self.new.places.slots other }
-        ensures room { OnOk result (HasRoomForNode self.new.nodes.slots self.new.places.slots node.now) }
+        ensures kept { (other : Node) → HasSpaceForNode self.old.nodes.slots self.old.places.slots other
+            → HasSpaceForNode self.new.nodes.slots self.new.places.slots other }
+        ensures room { OnOk result (HasSpaceForNode self.new.nodes.slots self.new.places.slots node.now) }
     {
-        self.nodes.make_room(node.id)?;
+        self.nodes.reserve(node.id)?;
         let Some(parent) = node.parent else {
             return Ok(());
         };
         let name = copy_name(&node.name)?;
-        self.places.make_room((u64::from(parent), name))
+        self.places.reserve((u64::from(parent), name))
     }
 
     pub(crate) fn node(&self, id: u32) -> Result<Option<Node>, AllocError>
@@ -62,7 +63,8 @@ impl NodeIndex {
     }
 
     pub(crate) fn child(&self, parent: u32, name: &FileName) -> Result<Option<Node>, AllocError>
-        ensures { (t : ObjectRecords) → t.node ≡ node_in self.now.nodes.slots → IfOk result (IsChildNamed t parent name.now) }
+        ensures { (t : ObjectRecords) → t.node ≡ node_in self.now.nodes.slots
+            → IfOk result (IsChildNamed t parent name.now) }
     {
         let place = (u64::from(parent), Some(name.clone()?));
         match self.places.get(&place) {
@@ -73,7 +75,8 @@ impl NodeIndex {
 
     /// The nodes in a folder, by name. It reads the folder, and nothing else.
     pub(crate) fn children(&self, alloc: Global, parent: u32) -> Result<Vec<Node>, AllocError>
-        ensures { (t : ObjectRecords) → t.node ≡ node_in self.now.nodes.slots → ObjectRules t → IfOk result (λ found. AreChildren t parent found.items) }
+        ensures { (t : ObjectRecords) → t.node ≡ node_in self.now.nodes.slots
+            → ObjectRules t → IfOk result (λ found. AreChildren t parent found.items) }
     {
         let mut found = Vec::new(alloc);
         for (_, slot) in self.places.slots.range(places_in(parent)) {
@@ -88,7 +91,8 @@ impl NodeIndex {
 
     /// How many nodes are in a folder. It reads the folder, and nothing else.
     pub(crate) fn child_count(&self, parent: u32) -> u64
-        ensures { (t : ObjectRecords) → t.node ≡ node_in self.now.nodes.slots → ObjectRules t → IsChildCount t parent result }
+        ensures { (t : ObjectRecords) → t.node ≡ node_in self.now.nodes.slots
+            → ObjectRules t → IsChildCount t parent result }
     {
         let mut count = 0u64;
         for (_, slot) in self.places.slots.range(places_in(parent)) {
@@ -103,9 +107,10 @@ impl NodeIndex {
 
     /// Takes a node out, and gives back its place.
     pub(crate) fn take(&mut self, id: u32) -> Option<Place>
-        ensures nodes { (k : ℕ) → node_in self.new.nodes.slots k ≡ (if k == id then None else node_in self.old.nodes.slots k) }
-        ensures kept { (other : Node) → HasRoomForNode self.old.nodes.slots self.old.places.slots other
-            → HasRoomForNode self.new.nodes.slots self.new.places.slots other }
+        ensures nodes { (k : ℕ) → node_in self.new.nodes.slots k
+            ≡ (if k == id then None else node_in self.old.nodes.slots k) }
+        ensures kept { (other : Node) → HasSpaceForNode self.old.nodes.slots self.old.places.slots other
+            → HasSpaceForNode self.new.nodes.slots self.new.places.slots other }
     {
         let node = self.nodes.take(&id)?;
         let place = (u64::from(node.parent?), node.name);
@@ -116,11 +121,12 @@ impl NodeIndex {
     /// Adds a node that is not there, at its place if no other node is there.
     pub(crate) fn add(&mut self, node: Node)
         requires absent { node_in self.old.nodes.slots node.id ≡ None }
-        requires room { HasRoomForNode self.old.nodes.slots self.old.places.slots node }
+        requires room { HasSpaceForNode self.old.nodes.slots self.old.places.slots node }
         ensures nodes { IsFreeFor (node_in self.old.nodes.slots) node
-            → (k : ℕ) → node_in self.new.nodes.slots k ≡ (if k == node.id then Some node else node_in self.old.nodes.slots k) }
-        ensures kept { (other : Node) → HasRoomForNode self.old.nodes.slots self.old.places.slots other
-            → HasRoomForNode self.new.nodes.slots self.new.places.slots other }
+            → (k : ℕ) → node_in self.new.nodes.slots k
+            ≡ (if k == node.id then Some node else node_in self.old.nodes.slots k) }
+        ensures kept { (other : Node) → HasSpaceForNode self.old.nodes.slots self.old.places.slots other
+            → HasSpaceForNode self.new.nodes.slots self.new.places.slots other }
     {
         match node.parent {
             Some(parent) => self.add_child(node, parent),
@@ -133,12 +139,13 @@ impl NodeIndex {
 
     fn add_child(&mut self, node: Node, parent: u32)
         requires absent { node_in self.old.nodes.slots node.id ≡ None }
-        requires room { HasRoomForNode self.old.nodes.slots self.old.places.slots node }
+        requires room { HasSpaceForNode self.old.nodes.slots self.old.places.slots node }
         requires parent { node.parent ≡ Some parent }
         ensures nodes { IsFreeFor (node_in self.old.nodes.slots) node
-            → (k : ℕ) → node_in self.new.nodes.slots k ≡ (if k == node.id then Some node else node_in self.old.nodes.slots k) }
-        ensures kept { (other : Node) → HasRoomForNode self.old.nodes.slots self.old.places.slots other
-            → HasRoomForNode self.new.nodes.slots self.new.places.slots other }
+            → (k : ℕ) → node_in self.new.nodes.slots k
+            ≡ (if k == node.id then Some node else node_in self.old.nodes.slots k) }
+        ensures kept { (other : Node) → HasSpaceForNode self.old.nodes.slots self.old.places.slots other
+            → HasSpaceForNode self.new.nodes.slots self.new.places.slots other }
     {
         let mut node = node;
         let id = node.id;

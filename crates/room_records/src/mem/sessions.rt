@@ -1,8 +1,9 @@
 //! Sessions by name, and what their slots keep.
-ghost use Rattle.std.specs.Prelude.{◌≡◌, ◌==◌, ◌&&◌, ◌<◌, ℕ, List, None, Some, OnOk, IfOk, IsSome, nat_lt, if◌then◌else◌};
+ghost use Rattle.std.specs.Prelude.{◌≡◌, ◌==◌, ◌&&◌, ◌<◌, ℕ, List, None, Some, OnOk, IfOk, IsSome};
+ghost use Rattle.std.specs.Prelude.{nat_lt, if◌then◌else◌};
 ghost use Rattle.std.specs.Str.{bytes_eq};
 ghost use Rattle.room_records.specs.Limits.{max_slots};
-ghost use Rattle.room_records.specs.Table.{HasRoom};
+ghost use Rattle.room_records.specs.Table.{HasSpace};
 ghost use Rattle.room_records.specs.Names.{name_cmp};
 ghost use Rattle.room_records.specs.Sessions.{slot_cmp, session_in, kept_in, AreFewSlots, HaveSlotCounts};
 
@@ -72,23 +73,26 @@ impl Sessions {
     pub(crate) fn make_session_room(&mut self, sid: Sid) -> Result<(), AllocError>
         ensures sessions { (name : List ℕ) → session_in self.new.rows.slots name ≡ session_in self.old.rows.slots name }
         ensures slots { self.new.kept.slots ≡ self.old.kept.slots }
-        ensures kept { (name : List ℕ) → HasRoom name_cmp self.old.rows.slots name → HasRoom name_cmp self.new.rows.slots name }
-        ensures room { OnOk result (HasRoom name_cmp self.new.rows.slots sid) }
+        ensures kept { (name : List ℕ) → HasSpace name_cmp self.old.rows.slots name
+            → HasSpace name_cmp self.new.rows.slots name }
+        ensures room { OnOk result (HasSpace name_cmp self.new.rows.slots sid) }
     {
-        self.rows.make_room(sid)
+        self.rows.reserve(sid)
     }
 
     /// Makes room for a slot row. It changes no row, also where memory is refused.
-    pub(crate) fn make_slot_room(&mut self, sid: Sid, slot: u32) -> Result<(), AllocError>
+    pub(crate) fn reserve_slot(&mut self, sid: Sid, slot: u32) -> Result<(), AllocError>
         ensures sessions { self.new.rows.slots ≡ self.old.rows.slots }
-        ensures slots { (name : List ℕ) (number : ℕ) → kept_in self.new.kept.slots name number ≡ kept_in self.old.kept.slots name number }
-        ensures kept { (name : List ℕ) (number : ℕ) → HasRoom slot_cmp self.old.kept.slots (name, number) → HasRoom slot_cmp self.new.kept.slots (name, number) }
-        ensures room { OnOk result (slot < max_slots → HasRoom slot_cmp self.new.kept.slots (sid, slot)) }
+        ensures slots { (name : List ℕ) (number : ℕ)
+            → kept_in self.new.kept.slots name number ≡ kept_in self.old.kept.slots name number }
+        ensures kept { (name : List ℕ) (number : ℕ) → HasSpace slot_cmp self.old.kept.slots (name, number)
+            → HasSpace slot_cmp self.new.kept.slots (name, number) }
+        ensures room { OnOk result (slot < max_slots → HasSpace slot_cmp self.new.kept.slots (sid, slot)) }
     {
         if slot >= MAX_SLOTS {
             return Ok(());
         }
-        self.kept.make_room((sid, slot))
+        self.kept.reserve((sid, slot))
     }
 
     /// The session rows, which have 16 slots at most.
@@ -98,10 +102,12 @@ impl Sessions {
 
     /// Puts a session row where room is.
     pub(crate) fn put_session(&mut self, row: SessionRow)
-        requires { HasRoom name_cmp self.old.rows.slots row.sid }
-        ensures sessions { (sid : List ℕ) → session_in self.new.rows.slots sid ≡ (if bytes_eq sid row.sid then Some row else session_in self.old.rows.slots sid) }
+        requires { HasSpace name_cmp self.old.rows.slots row.sid }
+        ensures sessions { (sid : List ℕ) → session_in self.new.rows.slots sid
+            ≡ (if bytes_eq sid row.sid then Some row else session_in self.old.rows.slots sid) }
         ensures slots { self.new.kept.slots ≡ self.old.kept.slots }
-        ensures kept { (sid : List ℕ) → HasRoom name_cmp self.old.rows.slots sid → HasRoom name_cmp self.new.rows.slots sid }
+        ensures kept { (sid : List ℕ) → HasSpace name_cmp self.old.rows.slots sid
+            → HasSpace name_cmp self.new.rows.slots sid }
     {
         let SessionRow {
             sid,
@@ -120,11 +126,13 @@ impl Sessions {
 
     /// Puts a slot row where room is. A slot of 16 or more breaks the record rules, and is left out.
     pub(crate) fn put_slot(&mut self, row: SlotRow)
-        requires { row.slot < max_slots → HasRoom slot_cmp self.old.kept.slots (row.sid, row.slot) }
+        requires { row.slot < max_slots → HasSpace slot_cmp self.old.kept.slots (row.sid, row.slot) }
         ensures slots { row.slot < max_slots → (sid : List ℕ) (slot : ℕ)
-            → kept_in self.new.kept.slots sid slot ≡ (if bytes_eq sid row.sid && (slot == row.slot) then Some row.kept else kept_in self.old.kept.slots sid slot) }
+            → kept_in self.new.kept.slots sid slot ≡ (if bytes_eq sid row.sid && (slot == row.slot)
+            then Some row.kept else kept_in self.old.kept.slots sid slot) }
         ensures sessions { self.new.rows.slots ≡ self.old.rows.slots }
-        ensures kept { (sid : List ℕ) (slot : ℕ) → HasRoom slot_cmp self.old.kept.slots (sid, slot) → HasRoom slot_cmp self.new.kept.slots (sid, slot) }
+        ensures kept { (sid : List ℕ) (slot : ℕ) → HasSpace slot_cmp self.old.kept.slots (sid, slot)
+            → HasSpace slot_cmp self.new.kept.slots (sid, slot) }
     {
         let SlotRow { sid, slot, kept } = row;
         if slot >= MAX_SLOTS {
@@ -136,9 +144,11 @@ impl Sessions {
 
     /// Takes all slot rows of a session out, and leaves their room.
     pub(crate) fn drop_slots(&mut self, sid: Sid)
-        ensures slots { (name : List ℕ) (slot : ℕ) → kept_in self.new.kept.slots name slot ≡ (if bytes_eq name sid then None else kept_in self.old.kept.slots name slot) }
+        ensures slots { (name : List ℕ) (slot : ℕ) → kept_in self.new.kept.slots name slot
+            ≡ (if bytes_eq name sid then None else kept_in self.old.kept.slots name slot) }
         ensures sessions { self.new.rows.slots ≡ self.old.rows.slots }
-        ensures kept { (sid : List ℕ) (slot : ℕ) → HasRoom slot_cmp self.old.kept.slots (sid, slot) → HasRoom slot_cmp self.new.kept.slots (sid, slot) }
+        ensures kept { (sid : List ℕ) (slot : ℕ) → HasSpace slot_cmp self.old.kept.slots (sid, slot)
+            → HasSpace slot_cmp self.new.kept.slots (sid, slot) }
     {
         take_slots(&mut self.kept, sid);
     }
@@ -148,7 +158,7 @@ impl Sessions {
 fn take_slots(kept: &mut Table<(Sid, u32), Kept>, sid: Sid)
     ensures slots { (name : List ℕ) (slot : ℕ) → kept_in kept.new.slots name slot
         ≡ (if bytes_eq name sid && nat_lt slot max_slots then None else kept_in kept.old.slots name slot) }
-    ensures kept { (key : List ℕ × ℕ) → HasRoom slot_cmp kept.old.slots key → HasRoom slot_cmp kept.new.slots key }
+    ensures kept { (key : List ℕ × ℕ) → HasSpace slot_cmp kept.old.slots key → HasSpace slot_cmp kept.new.slots key }
 {
     let mut key = (sid, 0u32);
     for slot in 0..MAX_SLOTS {

@@ -3,7 +3,9 @@ use Rattle.std.specs.Prelude.{ℕ, Bool, true, false, List, [], ◌++◌, length
 use Rattle.http.specs.StatusCode.{code_digits, reason_phrase}
 use Rattle.room_wire.specs.Answers.Codes.{code_text}
 use Rattle.room_wire.specs.declared.answers.code.Code.{Code}
-use Rattle.room_wire.specs.declared.answers.code.Code.TheVariants.{BadSession, BadSlot, SeqMisordered, SeqFalseRetry, SessionTaken, Delay, BadHttp, BadRoute, UnknownUser, BadRequest}
+use Rattle.room_wire.specs.declared.answers.code.Code.TheVariants.{BadSession, BadSlot, SeqMisordered, SeqFalseRetry}
+use Rattle.room_wire.specs.declared.answers.code.Code.TheVariants.{SessionTaken, Delay, BadHttp, BadRoute, UnknownUser}
+use Rattle.room_wire.specs.declared.answers.code.Code.TheVariants.{BadRequest}
 use Rattle.room_wire.specs.declared.answers.answer.Answer.{Answer}
 use Rattle.room_wire.specs.declared.answers.answer.Answer.TheVariants as A
 

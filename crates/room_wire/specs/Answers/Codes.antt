@@ -1,7 +1,9 @@
 -- The texts of refusals.
 use Rattle.std.specs.Prelude.{ℕ, List, codes}
 use Rattle.room_wire.specs.declared.answers.code.Code.{Code}
-use Rattle.room_wire.specs.declared.answers.code.Code.TheVariants.{BadSession, BadSlot, SeqMisordered, SeqFalseRetry, SessionTaken, Delay, BadHttp, BadRoute, UnknownUser, BadRequest}
+use Rattle.room_wire.specs.declared.answers.code.Code.TheVariants.{BadSession, BadSlot, SeqMisordered, SeqFalseRetry}
+use Rattle.room_wire.specs.declared.answers.code.Code.TheVariants.{SessionTaken, Delay, BadHttp, BadRoute, UnknownUser}
+use Rattle.room_wire.specs.declared.answers.code.Code.TheVariants.{BadRequest}
 
 abbrev pub code_text : Code → List ℕ
 code_text BadSession = codes "{\"code\":20,\"error\":\"BADSESSION\"}"

@@ -1,6 +1,8 @@
--- What a message asks of a room: a question, an event, or one of the refusals BAD_ROUTE, UNKNOWN_USER and BAD_REQUEST, which
--- are looked for in this order (our own rules).
-use Rattle.std.specs.Prelude.{◌≡◌, ℕ, ◌^◌, Bool, ◌==◌, ◌||◌, ◌&&◌, not, nat_le, nat_lt, List, [], ◌∷◌, length, slice_index, Option, None, Some, Result, Ok, Err, if◌then◌else◌, option_map, option_and_then, codes}
+-- What a message asks of a room: a question, an event, or one of the refusals BAD_ROUTE, UNKNOWN_USER and BAD_REQUEST,
+-- which are looked for in this order (our own rules).
+use Rattle.std.specs.Prelude.{◌≡◌, ℕ, ◌^◌, Bool, ◌==◌, ◌||◌, ◌&&◌, not, nat_le, nat_lt, List, [], ◌∷◌, length}
+use Rattle.std.specs.Prelude.{slice_index, Option, None, Some, Result, Ok, Err, if◌then◌else◌, option_map}
+use Rattle.std.specs.Prelude.{option_and_then, codes}
 use Rattle.std.specs.List.{list_all}
 use Rattle.std.specs.Char.{is_ascii_digit}
 use Rattle.std.specs.Str.Parse.{digits_value}
@@ -38,7 +40,8 @@ ask_model (A.Event event) = Event (event_model event)
 
 -- the user of this name, with the groups of the roster
 abbrev pub user_called : List SubjectModel → List ℕ → Option SubjectModel
-user_called users name = option_map (λ (groups : List (List ℕ)). record { name = name; groups = groups }) (groups_of users name)
+user_called users name =
+    option_map (λ (groups : List (List ℕ)). record { name = name; groups = groups }) (groups_of users name)
 
 -- the user whom the values of the fields `room-user` name: there is one such field, and it names a user of the roster
 abbrev pub caller_by : List SubjectModel → List (List ℕ) → Option SubjectModel
@@ -51,11 +54,13 @@ sid_from text = if is_sid text then Some text else None
 
 -- decimal digits, and no zero before others
 abbrev pub is_number : List ℕ → Bool
-is_number text = nat_le 1 (length text) && (list_all is_ascii_digit text && (length text == 1 || not (slice_index text 0 == 48)))
+is_number text = nat_le 1 (length text)
+    && (list_all is_ascii_digit text && (length text == 1 || not (slice_index text 0 == 48)))
 
 -- the number of this text, below 2^32
 abbrev pub number_from : List ℕ → Option ℕ
-number_from text = if is_number text && nat_lt (digits_value 10 text) (2 ^ 32) then Some (digits_value 10 text) else None
+number_from text = if is_number text && nat_lt (digits_value 10 text) (2 ^ 32)
+    then Some (digits_value 10 text) else None
 
 abbrev pub slots_from : ℕ → Option ℕ
 slots_from n = if nat_le 1 n && nat_le n max_slots then Some n else None
@@ -103,12 +108,14 @@ abbrev pub session_ask : SessionAction → Option SubjectModel → TargetModel �
 session_ask action None target body = Err UnknownUser
 session_ask action (Some caller) target body = event_asked (event_by action caller target body)
 
-abbrev pub ask_by : Action → List SubjectModel → TargetModel → List (List ℕ × List ℕ) → (body : List ℕ) → Result AskModel WireFault
+abbrev pub ask_by : Action → List SubjectModel → TargetModel
+    → List (List ℕ × List ℕ) → (body : List ℕ) → Result AskModel WireFault
 ask_by T.Check users target fields body = question_asked (question_of_body body)
 ask_by (T.Session action) users target fields body =
     session_ask action (caller_by users (values_named (codes "room-user") fields)) target body
 
-abbrev pub ask_for : Option TargetModel → List SubjectModel → List (List ℕ × List ℕ) → (body : List ℕ) → Result AskModel WireFault
+abbrev pub ask_for : Option TargetModel → List SubjectModel
+    → List (List ℕ × List ℕ) → (body : List ℕ) → Result AskModel WireFault
 ask_for None users fields body = Err BadRoute
 ask_for (Some target) users fields body = ask_by target.action users target fields body
 

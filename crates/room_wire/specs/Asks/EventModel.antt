@@ -21,4 +21,5 @@ pub data EventModel : Type 0 where
 abbrev pub event_model : Event → EventModel
 event_model (E.Open subject sid slots) = Open subject sid slots
 event_model (E.Close subject sid) = Close subject sid
-event_model (E.Slot subject sid slot seq command) = Slot (record { caller = subject; sid = sid; slot = slot; seq = seq; command = command_model command })
+event_model (E.Slot subject sid slot seq command) =
+    Slot (record { caller = subject; sid = sid; slot = slot; seq = seq; command = command_model command })

@@ -1,5 +1,6 @@
 -- The routes, and what stands in a target.
-use Rattle.std.specs.Prelude.{ℕ, Bool, false, ◌||◌, ◌==◌, List, [], ◌∷◌, ◌++◌, Option, None, Some, is_some, if◌then◌else◌, option_map, nat_lt, codes, bytes_eq}
+use Rattle.std.specs.Prelude.{ℕ, Bool, false, ◌||◌, ◌==◌, List, [], ◌∷◌, ◌++◌, Option, None, Some, is_some}
+use Rattle.std.specs.Prelude.{if◌then◌else◌, option_map, nat_lt, codes, bytes_eq}
 use Rattle.std.specs.List.{list_any, list_all}
 use Rattle.matchit.specs.Params.{walk}
 use Rattle.matchit.specs.Router.{RouteOf}
@@ -14,21 +15,33 @@ use Rattle.room_wire.specs.declared.asks.routing.Target.{Target}
 
 -- the route of questions
 abbrev pub check_row : List ℕ × RouteOf Route
-check_row = (codes "/v1/check", record { pattern = codes "/v1/check"; text = codes "/v1/check"; names = []; value = R.Check })
+check_row =
+    (codes "/v1/check", record { pattern = codes "/v1/check"; text = codes "/v1/check"; names = []; value = R.Check })
 
 abbrev pub session_tokens : List ℕ
 session_tokens = codes "/v1/sessions/" ++ param_token ∷ []
 
 -- the route of a session, with its name
 abbrev pub session_row : List ℕ × RouteOf Route
-session_row = (session_tokens, record { pattern = session_tokens; text = codes "/v1/sessions/{sid}"; names = (14, 17) ∷ []; value = R.Session })
+session_row = (
+  session_tokens,
+  record { pattern = session_tokens; text = codes "/v1/sessions/{sid}"; names = (14, 17) ∷ []; value = R.Session },
+)
 
 abbrev pub slot_tokens : List ℕ
 slot_tokens = session_tokens ++ (codes "/slots/" ++ (param_token ∷ (codes "/" ++ param_token ∷ [])))
 
 -- the route of a request in a slot, with the session's name, the slot and the number
 abbrev pub slot_row : List ℕ × RouteOf Route
-slot_row = (slot_tokens, record { pattern = slot_tokens; text = codes "/v1/sessions/{sid}/slots/{slot}/{seq}"; names = (14, 17) ∷ (26, 30) ∷ (33, 36) ∷ []; value = R.Slot })
+slot_row = (
+  slot_tokens,
+  record {
+    pattern = slot_tokens;
+    text = codes "/v1/sessions/{sid}/slots/{slot}/{seq}";
+    names = (14, 17) ∷ (26, 30) ∷ (33, 36) ∷ [];
+    value = R.Slot;
+  },
+)
 
 -- the router that has the route of questions alone
 abbrev pub check_rows : RowsOf (RouteOf Route)
@@ -71,19 +84,26 @@ later_parts (pair ∷ pairs) = pairs
 
 abbrev pub target_of : Action → List (List ℕ × List ℕ) → TargetModel
 target_of action pairs =
-    record { action = action; sid = first_part pairs; slot = first_part (later_parts pairs); seq = first_part (later_parts (later_parts pairs)) }
+    record {
+      action = action;
+      sid = first_part pairs;
+      slot = first_part (later_parts pairs);
+      seq = first_part (later_parts (later_parts pairs));
+    }
 
 abbrev pub is_ascii : List ℕ → Bool
 is_ascii text = list_all (λ b. nat_lt b 128) text
 
--- what the parameters of a route took of a target, in their order; all that they may hold is ASCII, so nothing is read of another target
+-- what the parameters of a route took of a target, in their order; all
+-- that they may hold is ASCII, so nothing is read of another target
 abbrev pub pairs_in : (pattern text : List ℕ) → List (ℕ × ℕ) → (target : List ℕ) → List (List ℕ × List ℕ)
 pairs_in pattern text names target = if is_ascii target then walk pattern text target names 0 0 else []
 
 abbrev pub target_by : (method target : List ℕ) → Option (RouteOf Route) → Option TargetModel
 target_by method target None = None
 target_by method target (Some route) =
-    option_map (λ (action : Action). target_of action (pairs_in route.pattern route.text route.names target)) (action_of method route.value)
+    option_map (λ (action : Action). target_of action (pairs_in route.pattern route.text route.names target))
+    (action_of method route.value)
 
 -- what a method and a target ask of a router, if the target is a route and the method one of it
 abbrev pub target_at : RowsOf (RouteOf Route) → (method target : List ℕ) → Option TargetModel

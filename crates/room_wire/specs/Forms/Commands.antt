@@ -1,5 +1,6 @@
 -- Commands out of bodies: the member cmd names the command, and the other members are its parts.
-use Rattle.std.specs.Prelude.{◌≡◌, ℕ, ◌==◌, ◌&&◌, Bool, not, nat_le, nat_lt, List, [], length, drop, Option, None, Some, Result, Ok, Err, if◌then◌else◌, option_and_then, option_map, codes, bytes_eq}
+use Rattle.std.specs.Prelude.{◌≡◌, ℕ, ◌==◌, ◌&&◌, Bool, not, nat_le, nat_lt, List, [], length, drop, Option, None, Some}
+use Rattle.std.specs.Prelude.{Result, Ok, Err, if◌then◌else◌, option_and_then, option_map, codes, bytes_eq}
 use Rattle.std.specs.List.{list_all, slice_split}
 use Rattle.std.specs.Str.{is_utf8}
 use Rattle.serde_json.specs.Data.{Data}
@@ -36,7 +37,8 @@ names_in text = if bytes_eq text (codes "/") then [] else drop 1 (slice_split (�
 
 -- the path of this text, where it is a path's
 abbrev pub path_from : List ℕ → Option Path
-path_from text = if is_path (names_in text) && bytes_eq (path_text (names_in text)) text then Some (names_in text) else None
+path_from text = if is_path (names_in text) && bytes_eq (path_text (names_in text)) text
+    then Some (names_in text) else None
 
 abbrev pub path_at : List ℕ → Data → Option Path
 path_at name d = option_and_then path_from (text_at name d)
@@ -116,13 +118,17 @@ access_by (Some mask) (Some path) = Some (C.Access mask path)
 -- the command's members, exactly: cmd, and these
 abbrev pub verb_command : Verb → Data → Option CommandModel
 verb_command (V.OfPath verb) d = if has_count 2 d then option_map (of_path verb) (path_at (codes "path") d) else None
-verb_command (V.OfBytes verb) d = if has_count 3 d then bytes_by verb (bytes_at (codes "data") d) (path_at (codes "path") d) else None
+verb_command (V.OfBytes verb) d =
+    if has_count 3 d then bytes_by verb (bytes_at (codes "data") d) (path_at (codes "path") d) else None
 verb_command V.Rename d = if has_count 3 d then rename_by (path_at (codes "path") d) (path_at (codes "to") d) else None
 verb_command V.SetList d =
-    if has_count 4 d then set_list_by (list_flags_at (codes "aclflag") d) (entries_at (codes "entries") d) (path_at (codes "path") d) else None
+    if has_count 4 d then set_list_by (list_flags_at (codes "aclflag") d)
+    (entries_at (codes "entries") d) (path_at (codes "path") d) else None
 verb_command V.Chown d =
-    if has_count 4 d then chown_by (principal_at (codes "group") d) (principal_at (codes "owner") d) (path_at (codes "path") d) else None
-verb_command V.Access d = if has_count 3 d then access_by (mask_at (codes "mask") d) (path_at (codes "path") d) else None
+    if has_count 4 d then chown_by (principal_at (codes "group") d)
+    (principal_at (codes "owner") d) (path_at (codes "path") d) else None
+verb_command V.Access d =
+    if has_count 3 d then access_by (mask_at (codes "mask") d) (path_at (codes "path") d) else None
 
 abbrev pub command_by : Option Verb → Data → Option CommandModel
 command_by None d = None

@@ -1,7 +1,9 @@
 -- Readers of the members of JSON values: numbers, texts, principals, masks, flags, kinds and entries.
-use Rattle.std.specs.Prelude.{ℕ, ◌+◌, ◌^◌, Bool, true, false, ◌&&◌, ◌==◌, nat_lt, List, [], ◌∷◌, Option, None, Some, if◌then◌else◌, option_and_then, option_map, codes, bit_and, bytes_eq}
+use Rattle.std.specs.Prelude.{ℕ, ◌+◌, ◌^◌, Bool, true, false, ◌&&◌, ◌==◌, nat_lt, List, [], ◌∷◌, Option, None, Some}
+use Rattle.std.specs.Prelude.{if◌then◌else◌, option_and_then, option_map, codes, bit_and, bytes_eq}
 use Rattle.std.specs.Str.{is_utf8}
-use Rattle.serde_json.specs.Data.{Data, Items, Members, null, boolean, number, string, array, object, no_items, item, no_members, member}
+use Rattle.serde_json.specs.Data.{Data, Items, Members, null, boolean, number, string, array, object}
+use Rattle.serde_json.specs.Data.{no_items, item, no_members, member}
 use Rattle.serde_json.specs.Find.{get, as_number, as_u64, as_str, as_array}
 use Rattle.serde_json.specs.Read.{read}
 use Rattle.room_acl.specs.declared.subject.Kind.{Kind}
@@ -52,7 +54,8 @@ principal_at name d = option_and_then principal_from (text_at name d)
 
 -- the kind of an object
 abbrev pub kind_from : List ℕ → Option Kind
-kind_from text = if bytes_eq text (codes "file") then Some File else (if bytes_eq text (codes "folder") then Some Folder else None)
+kind_from text = if bytes_eq text (codes "file") then Some File
+    else (if bytes_eq text (codes "folder") then Some Folder else None)
 
 abbrev pub kind_at : List ℕ → Data → Option Kind
 kind_at name d = option_and_then kind_from (text_at name d)
@@ -75,7 +78,8 @@ entry_of (Some flags) (Some mask) (Some allow) (Some text) =
 -- four members, exactly
 abbrev pub entry_in : Data → Option EntryModel
 entry_in d =
-    if has_count 4 d then entry_of (flags_at (codes "flag") d) (mask_at (codes "mask") d) (allow_at (codes "type") d) (text_at (codes "who") d)
+    if has_count 4 d then entry_of (flags_at (codes "flag") d)
+    (mask_at (codes "mask") d) (allow_at (codes "type") d) (text_at (codes "who") d)
     else None
 
 abbrev pub cons : {A : Type 0} → Option A → Option (List A) → Option (List A)

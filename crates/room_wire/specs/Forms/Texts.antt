@@ -1,6 +1,7 @@
 -- The texts of commands and replies: compact JSON, with members in byte order of their names.
 use Rattle.std.specs.Prelude.{ℕ, Bool, true, false, List, [], ◌∷◌, Option, None, Some, codes}
-use Rattle.serde_json.specs.Data.{Data, Items, Members, number, string, array, object, no_items, item, no_members, member, unsigned}
+use Rattle.serde_json.specs.Data.{Data, Items, Members, number, string, array, object, no_items, item}
+use Rattle.serde_json.specs.Data.{no_members, member, unsigned}
 use Rattle.serde_json.specs.Written.{compact_text}
 use Rattle.base64.specs.Engines.{standard}
 use Rattle.base64.specs.GeneralPurpose.{encode_of}
@@ -9,8 +10,8 @@ use Rattle.room_acl.specs.declared.subject.Kind.TheVariants.{File, Folder}
 use Rattle.room_acl.specs.Entries.{EntryModel}
 pub use Rattle.room_acl.specs.Entries.{who_text}
 use Rattle.room_records.specs.Names.{Name, Path, path_text}
-use Rattle.room_commands.specs.declared.reply.Fault.{Fault}
-use Rattle.room_commands.specs.declared.reply.Fault.TheVariants as F
+use Rattle.room_commands.specs.declared.reply.RefusalCode.{RefusalCode}
+use Rattle.room_commands.specs.declared.reply.RefusalCode.TheVariants as F
 use Rattle.room_commands.specs.CommandModel.{CommandModel}
 use Rattle.room_commands.specs.CommandModel as C
 use Rattle.room_commands.specs.ReplyModel.{ReplyModel}
@@ -46,7 +47,8 @@ entry_type true = num 0
 entry_type false = num 1
 
 abbrev pub entry : EntryModel → Data
-entry e = obj ((codes "flag", num e.flags) ∷ (codes "mask", num e.mask) ∷ (codes "type", entry_type e.allow) ∷ (codes "who", string (who_text e.who)) ∷ [])
+entry e = obj ((codes "flag", num e.flags) ∷ (codes "mask", num e.mask)
+    ∷ (codes "type", entry_type e.allow) ∷ (codes "who", string (who_text e.who)) ∷ [])
 
 abbrev pub entries : List EntryModel → Items
 entries [] = no_items
@@ -76,45 +78,48 @@ command_data (C.Append b p) = obj (cmd (codes "APPEND") ∷ (codes "data", bytes
 command_data (C.Remove p) = obj (cmd (codes "REMOVE") ∷ at p ∷ [])
 command_data (C.Rename p to) = obj (cmd (codes "RENAME") ∷ at p ∷ (codes "to", path to) ∷ [])
 command_data (C.GetList p) = obj (cmd (codes "GETLIST") ∷ at p ∷ [])
-command_data (C.SetList flags es p) = obj ((codes "aclflag", num flags) ∷ cmd (codes "SETLIST") ∷ (codes "entries", array (entries es)) ∷ at p ∷ [])
-command_data (C.Chown group owner p) = obj (cmd (codes "CHOWN") ∷ (codes "group", string group) ∷ (codes "owner", string owner) ∷ at p ∷ [])
+command_data (C.SetList flags es p) =
+    obj ((codes "aclflag", num flags) ∷ cmd (codes "SETLIST") ∷ (codes "entries", array (entries es)) ∷ at p ∷ [])
+command_data (C.Chown group owner p) =
+    obj (cmd (codes "CHOWN") ∷ (codes "group", string group) ∷ (codes "owner", string owner) ∷ at p ∷ [])
 command_data (C.Access mask p) = obj (cmd (codes "ACCESS") ∷ (codes "mask", num mask) ∷ at p ∷ [])
 
 abbrev pub command_text : CommandModel → List ℕ
 command_text c = compact_text (command_data c)
 
-abbrev pub fault_number : Fault → ℕ
-fault_number F.NoEnt = 1
-fault_number F.NotDir = 2
-fault_number F.IsDir = 3
-fault_number F.Exist = 4
-fault_number F.Access = 5
-fault_number F.NotEmpty = 6
-fault_number F.Inval = 7
-fault_number F.AttrNotSupp = 8
-fault_number F.FBig = 9
-fault_number F.TooDeep = 10
-fault_number F.FolderFull = 11
-fault_number F.RoomFull = 12
+abbrev pub refusal_number : RefusalCode → ℕ
+refusal_number F.NoEnt = 1
+refusal_number F.NotDir = 2
+refusal_number F.IsDir = 3
+refusal_number F.Exist = 4
+refusal_number F.Access = 5
+refusal_number F.NotEmpty = 6
+refusal_number F.Inval = 7
+refusal_number F.AttrNotSupp = 8
+refusal_number F.FBig = 9
+refusal_number F.TooDeep = 10
+refusal_number F.FolderFull = 11
+refusal_number F.RoomFull = 12
 
-abbrev pub fault_name : Fault → List ℕ
-fault_name F.NoEnt = codes "NOENT"
-fault_name F.NotDir = codes "NOTDIR"
-fault_name F.IsDir = codes "ISDIR"
-fault_name F.Exist = codes "EXIST"
-fault_name F.Access = codes "ACCESS"
-fault_name F.NotEmpty = codes "NOTEMPTY"
-fault_name F.Inval = codes "INVAL"
-fault_name F.AttrNotSupp = codes "ATTRNOTSUPP"
-fault_name F.FBig = codes "FBIG"
-fault_name F.TooDeep = codes "TOO_DEEP"
-fault_name F.FolderFull = codes "FOLDER_FULL"
-fault_name F.RoomFull = codes "ROOM_FULL"
+abbrev pub refusal_name : RefusalCode → List ℕ
+refusal_name F.NoEnt = codes "NOENT"
+refusal_name F.NotDir = codes "NOTDIR"
+refusal_name F.IsDir = codes "ISDIR"
+refusal_name F.Exist = codes "EXIST"
+refusal_name F.Access = codes "ACCESS"
+refusal_name F.NotEmpty = codes "NOTEMPTY"
+refusal_name F.Inval = codes "INVAL"
+refusal_name F.AttrNotSupp = codes "ATTRNOTSUPP"
+refusal_name F.FBig = codes "FBIG"
+refusal_name F.TooDeep = codes "TOO_DEEP"
+refusal_name F.FolderFull = codes "FOLDER_FULL"
+refusal_name F.RoomFull = codes "ROOM_FULL"
 
-abbrev pub refusal_data : Fault → Option (Path × ℕ) → Data
-refusal_data f None = obj ((codes "code", num (fault_number f)) ∷ (codes "error", string (fault_name f)) ∷ [])
+abbrev pub refusal_data : RefusalCode → Option (Path × ℕ) → Data
+refusal_data f None = obj ((codes "code", num (refusal_number f)) ∷ (codes "error", string (refusal_name f)) ∷ [])
 refusal_data f (Some place) =
-    obj ((codes "bit", num place.1) ∷ (codes "code", num (fault_number f)) ∷ (codes "error", string (fault_name f)) ∷ at place.0 ∷ [])
+    obj ((codes "bit", num place.1) ∷ (codes "code", num (refusal_number f))
+    ∷ (codes "error", string (refusal_name f)) ∷ at place.0 ∷ [])
 
 abbrev pub ok : List ℕ × Data
 ok = (codes "code", num 0)

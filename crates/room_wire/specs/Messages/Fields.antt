@@ -1,5 +1,6 @@
 -- What the fields of a head say.
-use Rattle.std.specs.Prelude.{◌≡◌, ℕ, Bool, ◌&&◌, List, [], ◌∷◌, map, length, Option, Some, None, if◌then◌else◌, nat_le, codes, bytes_eq}
+use Rattle.std.specs.Prelude.{◌≡◌, ℕ, Bool, ◌&&◌, List, [], ◌∷◌, map, length, Option, Some, None}
+use Rattle.std.specs.Prelude.{if◌then◌else◌, nat_le, codes, bytes_eq}
 use Rattle.std.specs.List.{list_all}
 use Rattle.std.specs.Char.{is_ascii_digit, to_ascii_lowercase}
 use Rattle.std.specs.Str.Parse.{digits_value}
@@ -13,7 +14,8 @@ is_named name field = bytes_eq (map to_ascii_lowercase field.0) (map to_ascii_lo
 -- the values of the fields of this name, in their order
 abbrev pub values_named : List ℕ → List (List ℕ × List ℕ) → List (List ℕ)
 values_named name [] = []
-values_named name (field ∷ fields) = if is_named name field then field.1 ∷ values_named name fields else values_named name fields
+values_named name (field ∷ fields) =
+    if is_named name field then field.1 ∷ values_named name fields else values_named name fields
 
 -- 1 to 10 digits
 abbrev pub is_length_text : List ℕ → Bool
@@ -21,7 +23,8 @@ is_length_text text = nat_le 1 (length text) && (nat_le (length text) 10 && list
 
 -- the length that a field's value states, at most 131,072
 abbrev pub stated_length : List ℕ → Option ℕ
-stated_length text = if is_length_text text then (if nat_le (digits_value 10 text) 131072 then Some (digits_value 10 text) else None) else None
+stated_length text = if is_length_text text
+    then (if nat_le (digits_value 10 text) 131072 then Some (digits_value 10 text) else None) else None
 
 -- at most one field states the length
 abbrev pub length_by : List (List ℕ) → Option ℕ
@@ -35,7 +38,8 @@ unless_any (value ∷ values) n = None
 
 -- the length of the body, if the fields state one
 abbrev pub body_length : List (List ℕ × List ℕ) → Option ℕ
-body_length fields = unless_any (values_named (codes "transfer-encoding") fields) (length_by (values_named (codes "content-length") fields))
+body_length fields = unless_any (values_named (codes "transfer-encoding") fields)
+    (length_by (values_named (codes "content-length") fields))
 
 -- what was found of these values
 abbrev pub IsFound : Found → List (List ℕ) → Type 0

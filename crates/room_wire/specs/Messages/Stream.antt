@@ -29,7 +29,8 @@ Follows bytes (m ∷ ms) rest = (tail : List ℕ) × Reads bytes m tail × (is_l
 -- these messages stand at the front, the last of them alone is last, and then the rest
 abbrev pub Ended : List ℕ → List MessageModel → List ℕ → Type 0
 Ended bytes [] rest = ⊥
-Ended bytes (m ∷ ms) rest = (tail : List ℕ) × Reads bytes m tail × MatchBool (is_last m) ((ms ≡ []) × (tail ≡ rest)) (Ended tail ms rest)
+Ended bytes (m ∷ ms) rest = (tail : List ℕ) × Reads bytes m tail
+    × MatchBool (is_last m) ((ms ≡ []) × (tail ≡ rest)) (Ended tail ms rest)
 
 -- the split of a stream: up to a last message, or until no front of the rest is one
 abbrev pub Splits : List ℕ → List MessageModel → List ℕ → Type 0

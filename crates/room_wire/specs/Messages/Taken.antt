@@ -5,7 +5,8 @@ use Rattle.httparse.specs.Spans.{header_bytes}
 use Rattle.room_wire.specs.declared.messages.message.Message.{Message}
 use Rattle.room_wire.specs.declared.messages.message.Take.{Take}
 use Rattle.room_wire.specs.declared.messages.message.Take.TheVariants.{Whole, More, Bad}
-use Rattle.room_wire.specs.Messages.MessageModel.{MessageModel, Reads, NoMessage, NeverMessage, print_message, fields_of, body_after}
+use Rattle.room_wire.specs.Messages.MessageModel.{MessageModel, Reads, NoMessage, NeverMessage, print_message}
+use Rattle.room_wire.specs.Messages.MessageModel.{fields_of, body_after}
 
 -- the parts that were lent are those of the message
 pub record Shows (message : Message) (m : MessageModel) : Type 0 where
@@ -31,7 +32,8 @@ pub record LacksBody (bytes : List ℕ) : Type 0 where
   pub few_fields : length head.fields ≤ 32
   pub lacks : (size : ℕ) × (body_after head ≡ Some size) × (length rest < size)
 
--- `Whole`: the message at the front. `More`: there is none yet, the limits allow one, and what is lacking. `Bad`: none can come
+-- `Whole`: the message at the front. `More`: there is none yet,
+-- the limits allow one, and what is lacking. `Bad`: none can come
 abbrev pub Takes : List ℕ → Take → Type 0
 Takes bytes (Whole message) = (m : MessageModel) × Reads bytes m (drop message.size bytes) × Shows message m
 Takes bytes More = NoMessage bytes × (length bytes < 139264) × (LacksHead bytes ⊎ LacksBody bytes)

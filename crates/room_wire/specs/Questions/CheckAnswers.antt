@@ -34,7 +34,8 @@ allowed_data allowed bit = obj ((codes "allowed", num allowed) ∷ (codes "bit",
 -- the wanted bits that are allowed, and the lowest wanted bit that is not
 abbrev pub list_text : List EntryModel → SubjectModel → Standing → ℕ → List ℕ
 list_text entries subject standing mask =
-    compact_text (allowed_data (bit_and (allowed_mask entries subject standing) mask) (bit_of (decision entries subject standing mask)))
+    compact_text (allowed_data (bit_and (allowed_mask entries subject standing) mask)
+    (bit_of (decision entries subject standing mask)))
 
 abbrev pub fault_text : ListFault → List ℕ
 fault_text Inval = codes "{\"code\":7,\"error\":\"INVAL\"}"

@@ -28,10 +28,18 @@ pub data QuestionModel : Type 0 where
 
 abbrev pub question_model : Question → QuestionModel
 question_model (AskList entries group groups mask owner user) =
-    OfList (record { entries = entries.items; group = group; groups = groups.items; mask = mask; owner = owner; user = user })
+    OfList (record {
+      entries = entries.items;
+      group = group;
+      groups = groups.items;
+      mask = mask;
+      owner = owner;
+      user = user;
+    })
 question_model (AskChild kind entries) = OfChild (record { kind = kind; entries = entries.items })
 
-abbrev pub list_by : Option (List EntryModel) → Option (List ℕ) → Option (List (List ℕ)) → Option ℕ → Option (List ℕ) → Option (List ℕ) → Option ListQuestion
+abbrev pub list_by : Option (List EntryModel) → Option (List ℕ) → Option (List (List ℕ))
+    → Option ℕ → Option (List ℕ) → Option (List ℕ) → Option ListQuestion
 list_by None group groups mask owner user = None
 list_by (Some entries) None groups mask owner user = None
 list_by (Some entries) (Some group) None mask owner user = None
@@ -44,7 +52,8 @@ list_by (Some entries) (Some group) (Some groups) (Some mask) (Some owner) (Some
 -- six members, exactly
 abbrev pub list_question_in : Data → Option ListQuestion
 list_question_in d =
-    if has_count 6 d then list_by (entries_at (codes "entries") d) (principal_at (codes "group") d) (principals_at (codes "groups") d)
+    if has_count 6 d then list_by (entries_at (codes "entries") d)
+    (principal_at (codes "group") d) (principals_at (codes "groups") d)
     (mask_at (codes "mask") d) (principal_at (codes "owner") d) (principal_at (codes "user") d)
     else None
 
@@ -55,11 +64,13 @@ child_by (Some kind) (Some entries) = Some (record { kind = kind; entries = entr
 
 -- two members, exactly
 abbrev pub child_question_in : Data → Option ChildQuestion
-child_question_in d = if has_count 2 d then child_by (kind_at (codes "child") d) (entries_at (codes "entries") d) else None
+child_question_in d = if has_count 2 d
+    then child_by (kind_at (codes "child") d) (entries_at (codes "entries") d) else None
 
 -- the two shapes differ in how many members they have
 abbrev pub question_in : Data → Option QuestionModel
-question_in d = if has_count 2 d then option_map OfChild (child_question_in d) else option_map OfList (list_question_in d)
+question_in d = if has_count 2 d then option_map OfChild (child_question_in d)
+    else option_map OfList (list_question_in d)
 
 -- the question of a body
 abbrev pub question_of_body : List ℕ → Option QuestionModel

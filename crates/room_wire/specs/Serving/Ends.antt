@@ -11,26 +11,31 @@ use Rattle.room_wire.specs.declared.serving.stop.Why.TheVariants.{Closed, BadMes
 use Rattle.room_wire.specs.declared.serving.stop.ServeEnd.{ServeEnd}
 
 -- what was written, by the end: of these messages and this output, where the stream so far is the bytes read
-abbrev pub Wrote : (bytes rest : List ℕ) (ms : List MessageModel) (out : List ℕ) (after : Option (List ℕ)) (old new : Option (List ℕ)) → Why → Type 0
+abbrev pub Wrote : (bytes rest : List ℕ) (ms : List MessageModel) (out : List ℕ)
+    (after : Option (List ℕ)) (old new : Option (List ℕ)) → Why → Type 0
 -- all answers; the last message is last, or nothing is left
 Wrote bytes rest ms out after old new Closed =
     Appends old new out × (Ended bytes ms rest ⊎ (Follows bytes ms rest × (rest ≡ []) × IsAtEnd after))
 -- all answers and the answer 40; no message can follow
 Wrote bytes rest ms out after old new BadMessage =
-    Appends old new (out ++ bad_answer) × Follows bytes ms rest × NoMessage rest × (0 < length rest) × (IsAtEnd after ⊎ NeverMessage rest)
+    Appends old new (out ++ bad_answer) × Follows bytes ms rest × NoMessage rest
+    × (0 < length rest) × (IsAtEnd after ⊎ NeverMessage rest)
 -- all answers
 Wrote bytes rest ms out after old new ReadFailed = Appends old new out × Follows bytes ms rest × NoMessage rest
 -- a beginning of the answers so far or, where the answer 40 was due, of all of them and that
 Wrote bytes rest ms out after old new WriteFailed =
     ((Follows bytes ms rest ⊎ Ended bytes ms rest) × AppendsFront old new out)
-    ⊎ (Follows bytes ms rest × NoMessage rest × (0 < length rest) × (IsAtEnd after ⊎ NeverMessage rest) × AppendsFront old new (out ++ bad_answer))
+    ⊎ (Follows bytes ms rest × NoMessage rest × (0 < length rest)
+    × (IsAtEnd after ⊎ NeverMessage rest) × AppendsFront old new (out ++ bad_answer))
 -- nothing
 Wrote bytes rest ms out after old new Memory = (bytes ≡ []) × (ms ≡ []) × Appends old new []
 
 -- the bytes read, the messages at their front, their answers, and how many; and the service before and after
-abbrev pub Serves : {S : Type 0} → (S → MessageModel → AnswerModel → S → Type 0) → (before later : S) → (left after old new : Option (List ℕ)) → Why → ℕ → Type 0
+abbrev pub Serves : {S : Type 0} → (S → MessageModel → AnswerModel → S → Type 0)
+    → (before later : S) → (left after old new : Option (List ℕ)) → Why → ℕ → Type 0
 Serves may_answer before later left after old new why count =
-    (bytes rest : List ℕ) × (ms : List MessageModel) × (out : List ℕ) × Consumes left after bytes × Outputs may_answer before ms out later
+    (bytes rest : List ℕ) × (ms : List MessageModel) × (out : List ℕ)
+    × Consumes left after bytes × Outputs may_answer before ms out later
     × (count ≡ min (length ms) (2 ^ 64 - 1)) × Wrote bytes rest ms out after old new why
 
 abbrev pub Refused : Option (List ℕ) → Option (List ℕ) → Why → Type 0

@@ -7,24 +7,30 @@ use Rattle.room_wire.specs.Messages.Stream.{Follows, Ended, is_last}
 use Rattle.room_wire.specs.Messages.Taken.{Shows}
 use Rattle.room_wire.specs.Answers.Writers.{Sent, AppendsFront}
 use Rattle.room_wire.specs.declared.messages.message.Message.{Message}
-use Rattle.room_wire.specs.declared.serving.stop.Stop.{Stop}
-use Rattle.room_wire.specs.declared.serving.stop.Stop.TheVariants.{Dry, Broken, Last, Lost}
+use Rattle.room_wire.specs.declared.serving.stop.RoundsEnd.{RoundsEnd}
+use Rattle.room_wire.specs.declared.serving.stop.RoundsEnd.TheVariants.{NeedsMore, Broken, Last, NotWritten}
 
 -- the answers to these messages, one after another, and the service after them
-abbrev pub Outputs : {S : Type 0} → (S → MessageModel → AnswerModel → S → Type 0) → S → List MessageModel → List ℕ → S → Type 0
+abbrev pub Outputs : {S : Type 0} → (S → MessageModel → AnswerModel → S → Type 0)
+    → S → List MessageModel → List ℕ → S → Type 0
 Outputs may_answer before [] out after = (out ≡ []) × (after ≡ before)
 Outputs {S} may_answer before (m ∷ ms) out after =
-    (answer : AnswerModel) × (next : S) × (later : List ℕ) × may_answer before m answer next × Outputs may_answer next ms later after
+    (answer : AnswerModel) × (next : S) × (later : List ℕ)
+    × may_answer before m answer next × Outputs may_answer next ms later after
     × (out ≡ answer_bytes answer (is_last m) ++ later)
 
 -- an answer to the message was sent, or a beginning of it
-abbrev pub AnswersOne : {S : Type 0} → (S → MessageModel → AnswerModel → S → Type 0) → S → S → Message → Bool → (old new : Option (List ℕ)) → Bool → Type 0
+abbrev pub AnswersOne : {S : Type 0} → (S → MessageModel → AnswerModel → S → Type 0)
+    → S → S → Message → Bool → (old new : Option (List ℕ)) → Bool → Type 0
 AnswersOne may_answer before after message last old new ok =
-    (answer : AnswerModel) × ((m : MessageModel) → Shows message m → may_answer before m answer after) × Sent old new (answer_bytes answer last) ok
+    (answer : AnswerModel) × ((m : MessageModel) → Shows message m → may_answer before m answer after)
+    × Sent old new (answer_bytes answer last) ok
 
 -- what the rounds over the bytes at hand did: the messages, the rest, and what was written
-abbrev pub Rounds : List ℕ → List ℕ → (old new : Option (List ℕ)) → List MessageModel → List ℕ → Stop → Type 0
-Rounds bytes rest old new ms out Dry = Follows bytes ms rest × Appends old new out × NoMessage rest × (length rest < 139264)
-Rounds bytes rest old new ms out Broken = Follows bytes ms rest × Appends old new out × NeverMessage rest × (0 < length rest)
+abbrev pub Rounds : List ℕ → List ℕ → (old new : Option (List ℕ)) → List MessageModel → List ℕ → RoundsEnd → Type 0
+Rounds bytes rest old new ms out NeedsMore =
+    Follows bytes ms rest × Appends old new out × NoMessage rest × (length rest < 139264)
+Rounds bytes rest old new ms out Broken =
+    Follows bytes ms rest × Appends old new out × NeverMessage rest × (0 < length rest)
 Rounds bytes rest old new ms out Last = Ended bytes ms rest × Appends old new out
-Rounds bytes rest old new ms out Lost = (Follows bytes ms rest ⊎ Ended bytes ms rest) × AppendsFront old new out
+Rounds bytes rest old new ms out NotWritten = (Follows bytes ms rest ⊎ Ended bytes ms rest) × AppendsFront old new out

@@ -1,7 +1,8 @@
 //! From messages to questions and events.
 ghost use Rattle.std.specs.Prelude.{◌≡◌, map, take};
 ghost use Rattle.httparse.specs.Spans.{header_bytes};
-ghost use Rattle.room_wire.specs.Asks.AskOf.{ask_of, ask_for, DecodesAsk, ReadsAs, open_by, close_by, request_by, event_by, sid_from, number_from, slots_of_body, question_asked};
+ghost use Rattle.room_wire.specs.Asks.AskOf.{ask_of, ask_for, DecodesAsk, ReadsAs, open_by, close_by, request_by};
+ghost use Rattle.room_wire.specs.Asks.AskOf.{event_by, sid_from, number_from, slots_of_body, question_asked};
 ghost use Rattle.room_wire.specs.Forms.Commands.{command_of_body};
 ghost use Rattle.room_wire.specs.Asks.EventModel.{event_model};
 ghost use Rattle.room_wire.specs.Questions.QuestionModel.{question_of_body};
@@ -98,7 +99,8 @@ fn read_ask(
     roster: &Roster,
 ) -> Result<Ask, WireFault>
     ensures { DecodesAsk (ask_for (target_at room_rows message.now.method.now message.now.target.now) roster.now
-        (map (header_bytes message.now.window.now) (take message.now.count message.now.spans)) message.now.body.now) result }
+        (map (header_bytes message.now.window.now) (take message.now.count message.now.spans)) message.now.body.now)
+        result }
 {
     let Some(target) = routes.target_at(message.method, message.target) else {
         return Err(WireFault::BadRoute);

@@ -3,7 +3,8 @@ ghost use Rattle.std.specs.Prelude.{◌≡◌, IfOk, OnErr, option_map, nat_lt, 
 ghost use Rattle.std.specs.List.{AllByRecursion, list_all, list_any};
 ghost use Rattle.std.specs.Str.{IsUtf8};
 ghost use Rattle.matchit.specs.Params.{walk};
-ghost use Rattle.room_wire.specs.Asks.Routing.{check_rows, room_rows, is_mark, is_ascii, action_of, target_model, target_of, pairs_in, target_at};
+ghost use Rattle.room_wire.specs.Asks.Routing.{check_rows, room_rows, is_mark, is_ascii, action_of, target_model};
+ghost use Rattle.room_wire.specs.Asks.Routing.{target_of, pairs_in, target_at};
 
 use crate::fault::WireFault;
 use matchit::{InsertError, Params, Router};

@@ -1,7 +1,8 @@
 //! The parts of targets, and the body of an OPEN.
 ghost use Rattle.std.specs.Prelude.{◌≡◌, IfOk, option_and_then};
 ghost use Rattle.serde_json.specs.View.{view};
-ghost use Rattle.room_wire.specs.Asks.AskOf.{sid_from, is_number, number_from, slots_from, slots_in, slots_of_body, ReadsAs};
+ghost use Rattle.room_wire.specs.Asks.AskOf.{sid_from, is_number, number_from, slots_from, slots_in};
+ghost use Rattle.room_wire.specs.Asks.AskOf.{slots_of_body, ReadsAs};
 
 use crate::fault::WireFault;
 use crate::forms::reading::{has_count, json_in, number_at};

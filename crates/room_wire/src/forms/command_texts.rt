@@ -59,7 +59,8 @@ fn chown_command(
 ) -> Result<Value, AllocError>
     ensures lawful { IfOk result (λ _. IsPrincipal group.now × IsPrincipal owner.now × IsPath path.now) }
     ensures value { IfOk result (λ value. view value
-        ≡ obj (cmd (codes "CHOWN") ∷ (codes "group", string group.now) ∷ (codes "owner", string owner.now) ∷ at path.now ∷ [])) }
+        ≡ obj (cmd (codes "CHOWN") ∷ (codes "group", string group.now)
+        ∷ (codes "owner", string owner.now) ∷ at path.now ∷ [])) }
 {
     let text = path.text(alloc)?;
     json!(in alloc; {"cmd": "CHOWN", "group": group.text(), "owner": owner.text(), "path": text.as_str()})
@@ -82,7 +83,8 @@ fn set_list_command(
 ) -> Result<Value, AllocError>
     ensures lawful { IfOk result (λ _. IsListFlags aclflag × AllByRecursion IsEntry entries.now × IsPath path.now) }
     ensures value { IfOk result (λ value. view value
-        ≡ obj ((codes "aclflag", num aclflag) ∷ cmd (codes "SETLIST") ∷ (codes "entries", array (T.entries entries.now)) ∷ at path.now ∷ [])) }
+        ≡ obj ((codes "aclflag", num aclflag) ∷ cmd (codes "SETLIST")
+        ∷ (codes "entries", array (T.entries entries.now)) ∷ at path.now ∷ [])) }
 {
     let items = array_value(entry_values(alloc, entries)?);
     let text = path.text(alloc)?;

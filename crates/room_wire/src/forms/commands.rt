@@ -5,7 +5,10 @@ ghost use Rattle.base64.specs.Engines.{standard};
 ghost use Rattle.base64.specs.GeneralPurpose.{decoded_of};
 ghost use Rattle.room_commands.specs.CommandModel.{command_model};
 ghost use Rattle.room_commands.specs.Lawful.{AreBytes, IsLawful};
-ghost use Rattle.room_wire.specs.Forms.Commands.{path_from, path_at, bytes_at, list_flags_from, list_flags_at, verb_from, verb_at, of_path, of_bytes, bytes_by, rename_by, set_list_by, chown_by, access_by, verb_command, command_in, command_of_body, bytes_in, ReadsCommand};
+ghost use Rattle.room_wire.specs.Forms.Commands.{path_from, path_at, bytes_at, list_flags_from, list_flags_at};
+ghost use Rattle.room_wire.specs.Forms.Commands.{verb_from, verb_at, of_path, of_bytes, bytes_by, rename_by};
+ghost use Rattle.room_wire.specs.Forms.Commands.{set_list_by, chown_by, access_by, verb_command, command_in};
+ghost use Rattle.room_wire.specs.Forms.Commands.{command_of_body, bytes_in, ReadsCommand};
 ghost use Rattle.room_wire.specs.declared.forms.commands.Verb.TheVariants as V;
 
 use crate::fault::WireFault;

@@ -2,7 +2,10 @@
 ghost use Rattle.std.specs.Prelude.{◌≡◌, IfOk, option_map, option_and_then, codes};
 ghost use Rattle.serde_json.specs.View.{view, items_view};
 ghost use Rattle.serde_json.specs.Find.{get, as_array, as_str};
-ghost use Rattle.room_wire.specs.Forms.Reading.{json_of, has_count, number_at, text_at, mask_at, flags_at, allow_at, kind_from, kind_at, mask_from, flags_from, allow_from, principal_from, principal_in, principal_at, entry_in, entries_in, principals_in, entries_at, principals_at};
+ghost use Rattle.room_wire.specs.Forms.Reading.{json_of, has_count, number_at, text_at, mask_at, flags_at, allow_at};
+ghost use Rattle.room_wire.specs.Forms.Reading.{kind_from, kind_at, mask_from, flags_from, allow_from, principal_from};
+ghost use Rattle.room_wire.specs.Forms.Reading.{principal_in, principal_at, entry_in, entries_in, principals_in};
+ghost use Rattle.room_wire.specs.Forms.Reading.{entries_at, principals_at};
 
 use room_acl::{Entry, Flags, Kind, Mask, Principal, Who};
 use serde_json::Value;

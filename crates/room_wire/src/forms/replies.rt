@@ -3,13 +3,14 @@ ghost use Rattle.std.specs.Prelude.{◌≡◌, [], ◌∷◌, IfOk, codes};
 ghost use Rattle.serde_json.specs.Data.{array, string};
 ghost use Rattle.serde_json.specs.View.{view, items_view};
 ghost use Rattle.room_commands.specs.ReplyModel.{reply_model};
-ghost use Rattle.room_wire.specs.Forms.Texts.{num, obj, ok, at, fault_number, fault_name, refusal_data, reply_data, reply_text};
+ghost use Rattle.room_wire.specs.Forms.Texts.{num, obj, ok, at, refusal_number, refusal_name, refusal_data};
+ghost use Rattle.room_wire.specs.Forms.Texts.{reply_data, reply_text};
 ghost use Rattle.room_wire.specs.Forms.Texts as T;
 
 use crate::forms::writing::{array_value, entry_values};
 use base64::engine::general_purpose::STANDARD;
 use room_acl::{Entry, Kind, ListFlags, Mask, Principal};
-use room_commands::{Fault, Reply};
+use room_commands::{RefusalCode, Reply};
 use room_records::{FileName, Path};
 use serde_json::{Value, json};
 use std::alloc::{AllocError, Global};
@@ -24,42 +25,42 @@ fn kind_text(kind: Kind) -> &'static str
 }
 
 /// The number of a refusal in a slot.
-fn fault_number(fault: Fault) -> u64
-    ensures { result ≡ fault_number fault }
+fn refusal_number(code: RefusalCode) -> u64
+    ensures { result ≡ refusal_number code }
 {
-    match fault {
-        Fault::NoEnt => 1,
-        Fault::NotDir => 2,
-        Fault::IsDir => 3,
-        Fault::Exist => 4,
-        Fault::Access => 5,
-        Fault::NotEmpty => 6,
-        Fault::Inval => 7,
-        Fault::AttrNotSupp => 8,
-        Fault::FBig => 9,
-        Fault::TooDeep => 10,
-        Fault::FolderFull => 11,
-        Fault::RoomFull => 12,
+    match code {
+        RefusalCode::NoEnt => 1,
+        RefusalCode::NotDir => 2,
+        RefusalCode::IsDir => 3,
+        RefusalCode::Exist => 4,
+        RefusalCode::Access => 5,
+        RefusalCode::NotEmpty => 6,
+        RefusalCode::Inval => 7,
+        RefusalCode::AttrNotSupp => 8,
+        RefusalCode::FBig => 9,
+        RefusalCode::TooDeep => 10,
+        RefusalCode::FolderFull => 11,
+        RefusalCode::RoomFull => 12,
     }
 }
 
 /// The name of a refusal in a slot.
-fn fault_name(fault: Fault) -> &'static str
-    ensures { result.now ≡ fault_name fault }
+fn refusal_name(code: RefusalCode) -> &'static str
+    ensures { result.now ≡ refusal_name code }
 {
-    match fault {
-        Fault::NoEnt => "NOENT",
-        Fault::NotDir => "NOTDIR",
-        Fault::IsDir => "ISDIR",
-        Fault::Exist => "EXIST",
-        Fault::Access => "ACCESS",
-        Fault::NotEmpty => "NOTEMPTY",
-        Fault::Inval => "INVAL",
-        Fault::AttrNotSupp => "ATTRNOTSUPP",
-        Fault::FBig => "FBIG",
-        Fault::TooDeep => "TOO_DEEP",
-        Fault::FolderFull => "FOLDER_FULL",
-        Fault::RoomFull => "ROOM_FULL",
+    match code {
+        RefusalCode::NoEnt => "NOENT",
+        RefusalCode::NotDir => "NOTDIR",
+        RefusalCode::IsDir => "ISDIR",
+        RefusalCode::Exist => "EXIST",
+        RefusalCode::Access => "ACCESS",
+        RefusalCode::NotEmpty => "NOTEMPTY",
+        RefusalCode::Inval => "INVAL",
+        RefusalCode::AttrNotSupp => "ATTRNOTSUPP",
+        RefusalCode::FBig => "FBIG",
+        RefusalCode::TooDeep => "TOO_DEEP",
+        RefusalCode::FolderFull => "FOLDER_FULL",
+        RefusalCode::RoomFull => "ROOM_FULL",
     }
 }
 
@@ -125,23 +126,29 @@ fn allowed_value(alloc: Global, mask: Mask) -> Result<Value, AllocError>
     json!(in alloc; {"allowed": u64::from(mask.bits()), "code": 0u64})
 }
 
-fn refused_value(alloc: Global, fault: Fault) -> Result<Value, AllocError>
+fn refused_value(alloc: Global, code: RefusalCode) -> Result<Value, AllocError>
     ensures { IfOk result (λ value. view value
-        ≡ obj ((codes "code", num (fault_number fault)) ∷ (codes "error", string (fault_name fault)) ∷ [])) }
+        ≡ obj ((codes "code", num (refusal_number code)) ∷ (codes "error", string (refusal_name code)) ∷ [])) }
 {
-    json!(in alloc; {"code": fault_number(fault), "error": fault_name(fault)})
+    json!(in alloc; {"code": refusal_number(code), "error": refusal_name(code)})
 }
 
 /// A refusal that names a place: the path and the bit of an access that was denied.
-fn refused_at_value(alloc: Global, fault: Fault, path: &Path, bit: u32) -> Result<Value, AllocError>
+fn refused_at_value(
+    alloc: Global,
+    code: RefusalCode,
+    path: &Path,
+    bit: u32,
+) -> Result<Value, AllocError>
     ensures { IfOk result (λ value. view value
-        ≡ obj ((codes "bit", num bit) ∷ (codes "code", num (fault_number fault)) ∷ (codes "error", string (fault_name fault)) ∷ at path.now ∷ [])) }
+        ≡ obj ((codes "bit", num bit) ∷ (codes "code", num (refusal_number code))
+        ∷ (codes "error", string (refusal_name code)) ∷ at path.now ∷ [])) }
 {
     let text = path.text(alloc)?;
     json!(in alloc; {
         "bit": u64::from(bit),
-        "code": fault_number(fault),
-        "error": fault_name(fault),
+        "code": refusal_number(code),
+        "error": refusal_name(code),
         "path": text.as_str()
     })
 }

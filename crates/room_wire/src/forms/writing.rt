@@ -18,7 +18,8 @@ fn entry_value_of(
     kind: u64,
     who: &str,
 ) -> Result<Value, AllocError>
-    ensures { IfOk result (λ value. view value ≡ obj ((codes "flag", num flags) ∷ (codes "mask", num mask) ∷ (codes "type", num kind) ∷ (codes "who", string who.now) ∷ [])) }
+    ensures { IfOk result (λ value. view value ≡ obj ((codes "flag", num flags)
+        ∷ (codes "mask", num mask) ∷ (codes "type", num kind) ∷ (codes "who", string who.now) ∷ [])) }
 {
     json!(in alloc; {"flag": u64::from(flags), "mask": u64::from(mask), "type": kind, "who": who})
 }

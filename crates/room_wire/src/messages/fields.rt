@@ -28,7 +28,8 @@ pub(crate) fn all_digits(text: &[u8]) -> bool
 /// The number, where it is at most MAX_BODY.
 fn number_within(digits: &[u8]) -> Option<usize>
     requires { IsTrue (list_all is_ascii_digit digits.now) }
-    ensures { result ≡ (if nat_le (digits_value 10 digits.now) MAX_BODY then Some (digits_value 10 digits.now) else None) }
+    ensures { result ≡ (if nat_le (digits_value 10 digits.now) MAX_BODY
+        then Some (digits_value 10 digits.now) else None) }
 {
     let mut number: usize = 0;
     for b in digits {

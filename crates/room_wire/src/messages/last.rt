@@ -1,5 +1,6 @@
 //! Which message is last.
-ghost use Rattle.std.specs.Prelude.{◌≡◌, length, map, take, All, ◌||◌, ◌==◌, ◌≤◌, ◌<◌, reverse, position, IfSome, ◌+◌, ◌^◌};
+ghost use Rattle.std.specs.Prelude.{◌≡◌, length, map, take, All, ◌||◌, ◌==◌, ◌≤◌, ◌<◌, reverse};
+ghost use Rattle.std.specs.Prelude.{position, IfSome, ◌+◌, ◌^◌};
 ghost use Rattle.httparse.specs.Grammar.{skip_ows, trim_ows};
 ghost use Rattle.httparse.specs.Spans.{IsHeaderWithin, header_bytes};
 ghost use Rattle.room_wire.specs.Messages.Stream.{is_close, lists_close, closes};

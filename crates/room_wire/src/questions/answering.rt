@@ -2,7 +2,8 @@
 ghost use Rattle.std.specs.Prelude.{◌≡◌, IfOk};
 ghost use Rattle.serde_json.specs.View.{view};
 ghost use Rattle.serde_json.specs.Written.{compact_text};
-ghost use Rattle.room_wire.specs.Questions.CheckAnswers.{allowed_data, entries_data, answer_text, list_text, child_text, fault_text, bit_of};
+ghost use Rattle.room_wire.specs.Questions.CheckAnswers.{allowed_data, entries_data, answer_text, list_text};
+ghost use Rattle.room_wire.specs.Questions.CheckAnswers.{child_text, fault_text, bit_of};
 ghost use Rattle.room_wire.specs.Questions.QuestionModel.{question_model};
 
 use crate::forms::writing::{array_value, entry_values};

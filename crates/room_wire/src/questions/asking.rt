@@ -1,7 +1,9 @@
 //! Questions out of bodies.
 ghost use Rattle.std.specs.Prelude.{◌≡◌, IfOk, option_map};
 ghost use Rattle.serde_json.specs.View.{view};
-ghost use Rattle.room_wire.specs.Questions.QuestionModel.{QuestionModel, question_model, OfList, OfChild, list_by, list_question_in, child_by, child_question_in, question_in, question_of_body};
+ghost use Rattle.room_wire.specs.Questions.QuestionModel.{QuestionModel, question_model, OfList, OfChild, list_by};
+ghost use Rattle.room_wire.specs.Questions.QuestionModel.{list_question_in, child_by, child_question_in, question_in};
+ghost use Rattle.room_wire.specs.Questions.QuestionModel.{question_of_body};
 
 use crate::forms::reading::{
     entries_at, has_count, json_in, kind_at, mask_at, principal_at, principals_at,

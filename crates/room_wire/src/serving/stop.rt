@@ -2,15 +2,15 @@
 
 /// How the rounds over the bytes at hand ended.
 #[derive(Clone, Copy, Debug, PartialEq, Eq)]
-pub(crate) enum Stop {
+pub(crate) enum RoundsEnd {
     /// More bytes are wanted.
-    Dry,
+    NeedsMore,
     /// No message can come.
     Broken,
     /// A last message was answered.
     Last,
     /// The writer failed.
-    Lost,
+    NotWritten,
 }
 
 /// Why serving ended.

@@ -13,7 +13,7 @@ use crate::messages::taking::take_message;
 use crate::serving::buffers::Buffers;
 use crate::serving::input::Input;
 use crate::serving::service::Service;
-use crate::serving::stop::{ServeEnd, Stop, Why};
+use crate::serving::stop::{RoundsEnd, ServeEnd, Why};
 use std::io::{Read, Write};
 
 /// Answers one message.
@@ -40,7 +40,7 @@ fn answer_all<C, S: Service<C>, W: Write>(
     output: &mut Vec<u8>,
     writer: &mut W,
     start: u64,
-) -> (Stop, u64)
+) -> (RoundsEnd, u64)
     ensures { (ms : List MessageModel) × (out : List ℕ)
         × Rounds input.old input.new (W.contents writer.old) (W.contents writer.new) ms out result.0
         × Outputs (S.may_answer context.now) service.old ms out service.new
@@ -54,16 +54,16 @@ fn answer_all<C, S: Service<C>, W: Write>(
                 let sent = answer_one(service, context, &message, last, output, writer);
                 (message.size, last, sent)
             }
-            Take::More => return (Stop::Dry, count),
-            Take::Bad => return (Stop::Broken, count),
+            Take::More => return (RoundsEnd::NeedsMore, count),
+            Take::Bad => return (RoundsEnd::Broken, count),
         };
         input.take(size);
         count = count.saturating_add(1);
         if !sent {
-            return (Stop::Lost, count);
+            return (RoundsEnd::NotWritten, count);
         }
         if last {
-            return (Stop::Last, count);
+            return (RoundsEnd::Last, count);
         }
     }
 }
@@ -91,7 +91,8 @@ fn serve_with<C, S: Service<C>, R: Read, W: Write>(
     writer: &mut W,
 ) -> ServeEnd
     requires { input.old ≡ [] }
-    ensures { Serves (S.may_answer context.now) service.old service.new (R.remaining reader.old) (R.remaining reader.new)
+    ensures { Serves (S.may_answer context.now) service.old
+        service.new (R.remaining reader.old) (R.remaining reader.new)
         (W.contents writer.old) (W.contents writer.new) result.why result.count }
 {
     let mut count = 0;
@@ -117,15 +118,15 @@ fn serve_with<C, S: Service<C>, R: Read, W: Write>(
         let (stop, total) = answer_all(service, context, input, output, writer, count);
         count = total;
         match stop {
-            Stop::Dry => {}
-            Stop::Broken => return refuse(output, writer, count),
-            Stop::Last => {
+            RoundsEnd::NeedsMore => {}
+            RoundsEnd::Broken => return refuse(output, writer, count),
+            RoundsEnd::Last => {
                 return ServeEnd {
                     why: Why::Closed,
                     count,
                 };
             }
-            Stop::Lost => {
+            RoundsEnd::NotWritten => {
                 return ServeEnd {
                     why: Why::WriteFailed,
                     count,
@@ -150,7 +151,8 @@ pub fn serve_messages<C, S: Service<C>, R: Read, W: Write>(
     writer: &mut W,
 ) -> ServeEnd
     requires { buffers.input ≡ [] }
-    ensures { Serves (S.may_answer context.now) service.old service.new (R.remaining reader.old) (R.remaining reader.new)
+    ensures { Serves (S.may_answer context.now) service.old
+        service.new (R.remaining reader.old) (R.remaining reader.new)
         (W.contents writer.old) (W.contents writer.new) result.why result.count }
 {
     let mut input = buffers.input;

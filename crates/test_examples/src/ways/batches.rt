@@ -1,11 +1,11 @@
 //! The events between other things as one run.
 use crate::asking::{Asked, ask_of};
+use crate::differences::Differences;
 use crate::fault::Fault;
 use crate::playing::Play;
 use crate::rooms::in_memory;
 use crate::scenes::{Example, Step};
-use crate::shelves::{do_step, prepared};
-use crate::told::Told;
+use crate::shelves::{do_step, expect_whole_lists, prepared};
 use room_desk::{Answer, Desk};
 use room_records::MemShelf;
 use room_wire::Event;
@@ -38,12 +38,16 @@ fn run(
     (answers, desk.into_shelf())
 }
 
-fn compare(examples: &[&Example], answers: &[Answer], told: &mut Told<'_>) -> Result<(), Fault> {
+fn compare(
+    examples: &[&Example],
+    answers: &[Answer],
+    differences: &mut Differences<'_>,
+) -> Result<(), Fault> {
     if answers.len() != examples.len() {
         return Err(Fault::Because("not one answer for each event"));
     }
     for (example, answer) in examples.iter().zip(answers) {
-        told.expect(example.line, answer.body(), example.due.body.as_slice())?;
+        differences.expect(example.line, answer.body(), example.due.body.as_slice())?;
     }
     Ok(())
 }
@@ -53,11 +57,11 @@ fn flush(
     play: &Play<'_>,
     shelf: MemShelf,
     batch: &Batch<'_>,
-    told: &mut Told<'_>,
+    differences: &mut Differences<'_>,
 ) -> Result<MemShelf, Fault> {
     let (answers, shelf) = run(play.alloc, shelf, batch.events.as_slice());
     let answers = answers?;
-    compare(batch.examples.as_slice(), answers.as_slice(), told)?;
+    compare(batch.examples.as_slice(), answers.as_slice(), differences)?;
     Ok(shelf)
 }
 
@@ -66,7 +70,7 @@ fn add<'a>(
     play: &Play<'_>,
     batch: &mut Batch<'a>,
     example: &'a Example,
-    told: &mut Told<'_>,
+    differences: &mut Differences<'_>,
 ) -> Result<(), Fault> {
     match ask_of(play, example.sent.as_slice()) {
         Asked::Event(event) => {
@@ -75,23 +79,23 @@ fn add<'a>(
             Ok(())
         }
         Asked::Other(answer) => {
-            told.expect(example.line, answer.body(), example.due.body.as_slice())
+            differences.expect(example.line, answer.body(), example.due.body.as_slice())
         }
     }
 }
 
-pub fn play(play: &Play<'_>, told: &mut Told<'_>) -> Result<(), Fault> {
+pub fn play(play: &Play<'_>, differences: &mut Differences<'_>) -> Result<(), Fault> {
     let mut shelf = prepared(play, in_memory(play.alloc)?)?;
     let mut batch = Batch::new(play.alloc);
     for step in play.steps {
         if let Step::Ask(example) = step {
-            add(play, &mut batch, example, told)?;
+            add(play, &mut batch, example, differences)?;
         } else {
-            shelf = flush(play, shelf, &batch, told)?;
+            shelf = flush(play, shelf, &batch, differences)?;
             batch = Batch::new(play.alloc);
-            do_step(play, &mut shelf, step, told)?;
+            do_step(play, &mut shelf, step, differences)?;
         }
     }
-    let _ = flush(play, shelf, &batch, told)?;
-    Ok(())
+    shelf = flush(play, shelf, &batch, differences)?;
+    expect_whole_lists(play, &mut shelf, play.line, differences)
 }

@@ -2,12 +2,12 @@
 ghost use Rattle.std.specs.Prelude.{◌≡◌, IsTrue, IfOk, false};
 ghost use Rattle.sqlite_disk.specs.Memory.{memory_is_usable};
 
+use crate::differences::Differences;
 use crate::fault::Fault;
 use crate::playing::Play;
 use crate::rooms::made;
 use crate::scenes::Step;
-use crate::shelves::{answered, do_step, prepared};
-use crate::told::Told;
+use crate::shelves::{answered, do_step, expect_whole_lists, prepared};
 use room_sql::SqlShelf;
 use sqlite::{Connection, FileStore, Options};
 use sqlite_disk::{Files, Memory};
@@ -77,28 +77,28 @@ fn take(
     play: &Play<'_>,
     shelf: FileRoom,
     step: &Step,
-    told: &mut Told<'_>,
+    differences: &mut Differences<'_>,
 ) -> Result<FileRoom, Fault> {
     let mut shelf = shelf;
     match step {
         Step::Ask(example) => {
             let (answer, shelf) = answered(play, shelf, example.sent.as_slice());
-            told.expect(example.line, answer.body(), example.due.body.as_slice())?;
+            differences.expect(example.line, answer.body(), example.due.body.as_slice())?;
             reopened(play.alloc, shelf)
         }
         Step::Reopen => reopened(play.alloc, shelf),
         Step::Report { .. } | Step::Next(_) => {
-            do_step(play, &mut shelf, step, told)?;
+            do_step(play, &mut shelf, step, differences)?;
             Ok(shelf)
         }
     }
 }
 
-pub fn play(play: &Play<'_>, told: &mut Told<'_>) -> Result<(), Fault> {
+pub fn play(play: &Play<'_>, differences: &mut Differences<'_>) -> Result<(), Fault> {
     let shelf = prepared(play, in_files(play.alloc)?)?;
     let mut shelf = reopened(play.alloc, shelf)?;
     for step in play.steps {
-        shelf = take(play, shelf, step, told)?;
+        shelf = take(play, shelf, step, differences)?;
     }
-    Ok(())
+    expect_whole_lists(play, &mut shelf, play.line, differences)
 }

@@ -1,10 +1,10 @@
 //! Each answer lost behind each of its bytes, and the request sent again.
+use crate::differences::Differences;
 use crate::fault::Fault;
 use crate::playing::Play;
 use crate::rooms::in_memory;
 use crate::scenes::{Example, Step};
-use crate::shelves::{do_step, prepared};
-use crate::told::Told;
+use crate::shelves::{do_step, expect_whole_lists, prepared};
 use crate::ways::serving::{Line, expect_end, serve};
 use room_records::MemShelf;
 use room_wire::Why;
@@ -25,19 +25,19 @@ fn lose(
     shelf: MemShelf,
     example: &Example,
     room: usize,
-    told: &mut Told<'_>,
+    differences: &mut Differences<'_>,
 ) -> Result<MemShelf, Fault> {
     let mut line = Line::good(example.sent.as_slice());
     line.room = room;
     let (ended, shelf) = serve(play, shelf, line);
     let due = example.due.whole.as_slice();
     let (front, _) = due.split_at(room.min(due.len()));
-    told.expect(example.line, ended.written.as_slice(), front)?;
+    differences.expect(example.line, ended.written.as_slice(), front)?;
     if ended.end.why != Why::WriteFailed {
-        told.tell(example.line, "a lost answer that the server takes for sent")?;
+        differences.tell(example.line, "a lost answer that the server takes for sent")?;
     }
     if ended.end.count != count_of(example) {
-        told.tell(
+        differences.tell(
             example.line,
             "another count of messages where the answer is lost",
         )?;
@@ -55,13 +55,13 @@ fn lose_each(
     play: &Play<'_>,
     shelf: MemShelf,
     example: &Example,
-    told: &mut Told<'_>,
+    differences: &mut Differences<'_>,
 ) -> Result<MemShelf, Fault> {
     let size = example.due.whole.len();
     let mut shelf = shelf;
     for room in 0..size {
         if is_lost_behind(room, size) {
-            shelf = lose(play, shelf, example, room, told)?;
+            shelf = lose(play, shelf, example, room, differences)?;
         }
     }
     Ok(shelf)
@@ -71,25 +71,25 @@ fn ask(
     play: &Play<'_>,
     shelf: MemShelf,
     example: &Example,
-    told: &mut Told<'_>,
+    differences: &mut Differences<'_>,
 ) -> Result<MemShelf, Fault> {
-    let shelf = lose_each(play, shelf, example, told)?;
+    let shelf = lose_each(play, shelf, example, differences)?;
     let (ended, shelf) = serve(play, shelf, Line::good(example.sent.as_slice()));
     let due = example.due.whole.as_slice();
-    told.expect(example.line, ended.written.as_slice(), due)?;
-    expect_end(example, 1, ended.end, told)?;
+    differences.expect(example.line, ended.written.as_slice(), due)?;
+    expect_end(example, 1, ended.end, differences)?;
     Ok(shelf)
 }
 
-pub fn play(play: &Play<'_>, told: &mut Told<'_>) -> Result<(), Fault> {
+pub fn play(play: &Play<'_>, differences: &mut Differences<'_>) -> Result<(), Fault> {
     let mut shelf = prepared(play, in_memory(play.alloc)?)?;
     for step in play.steps {
         match step {
-            Step::Ask(example) => shelf = ask(play, shelf, example, told)?,
+            Step::Ask(example) => shelf = ask(play, shelf, example, differences)?,
             Step::Report { .. } | Step::Next(_) | Step::Reopen => {
-                do_step(play, &mut shelf, step, told)?;
+                do_step(play, &mut shelf, step, differences)?;
             }
         }
     }
-    Ok(())
+    expect_whole_lists(play, &mut shelf, play.line, differences)
 }

@@ -1,9 +1,9 @@
 //! The messages between other things as one stream of bytes.
+use crate::differences::Differences;
 use crate::fault::Fault;
 use crate::playing::Play;
 use crate::scenes::{Example, Step};
-use crate::shelves::{do_step, prepared};
-use crate::told::Told;
+use crate::shelves::{do_step, expect_whole_lists, prepared};
 use crate::ways::serving::{Ended, Line, expect_end, serve};
 use room_records::Shelf;
 use std::alloc::Global;
@@ -56,19 +56,23 @@ impl<'a> Stream<'a> {
 }
 
 /// Compares the answers one after another; behind a difference none is at its place.
-fn compare(examples: &[&Example], ended: &Ended, told: &mut Told<'_>) -> Result<(), Fault> {
+fn compare(
+    examples: &[&Example],
+    ended: &Ended,
+    differences: &mut Differences<'_>,
+) -> Result<(), Fault> {
     let mut rest = ended.written.as_slice();
     for example in examples {
         let due = example.due.whole.as_slice();
         match rest.strip_prefix(due) {
             Some(behind) => rest = behind,
-            None => return told.expect(example.line, rest, due),
+            None => return differences.expect(example.line, rest, due),
         }
     }
     match examples.last() {
         Some(last) => {
-            told.expect(last.line, rest, b"")?;
-            expect_end(last, examples.len(), ended.end, told)
+            differences.expect(last.line, rest, b"")?;
+            expect_end(last, examples.len(), ended.end, differences)
         }
         None => Ok(()),
     }
@@ -79,7 +83,7 @@ fn flush<S: Shelf + Drop>(
     play: &Play<'_>,
     shelf: S,
     stream: &Stream<'_>,
-    told: &mut Told<'_>,
+    differences: &mut Differences<'_>,
 ) -> Result<S, Fault> {
     if stream.examples.is_empty() {
         return Ok(shelf);
@@ -87,7 +91,7 @@ fn flush<S: Shelf + Drop>(
     let mut line = Line::good(stream.sent.as_slice());
     line.sizes = stream.sizes.as_slice();
     let (ended, shelf) = serve(play, shelf, line);
-    compare(stream.examples.as_slice(), &ended, told)?;
+    compare(stream.examples.as_slice(), &ended, differences)?;
     Ok(shelf)
 }
 
@@ -96,7 +100,7 @@ pub fn play<S: Shelf + Drop>(
     play: &Play<'_>,
     shelf: S,
     by_bytes: bool,
-    told: &mut Told<'_>,
+    differences: &mut Differences<'_>,
 ) -> Result<(), Fault> {
     let mut shelf = prepared(play, shelf)?;
     let mut stream = Stream::new(play.alloc);
@@ -110,11 +114,11 @@ pub fn play<S: Shelf + Drop>(
             Step::Report { .. } | Step::Next(_) => false,
         };
         if !goes_on {
-            shelf = flush(play, shelf, &stream, told)?;
+            shelf = flush(play, shelf, &stream, differences)?;
             stream = Stream::new(play.alloc);
-            do_step(play, &mut shelf, step, told)?;
+            do_step(play, &mut shelf, step, differences)?;
         }
     }
-    let _ = flush(play, shelf, &stream, told)?;
-    Ok(())
+    shelf = flush(play, shelf, &stream, differences)?;
+    expect_whole_lists(play, &mut shelf, play.line, differences)
 }

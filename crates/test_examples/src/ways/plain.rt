@@ -1,10 +1,10 @@
 //! The plain bodies of histories and rooms, from the events so far alone.
 use crate::asking::{Asked, ask_of};
+use crate::differences::Differences;
 use crate::fault::Fault;
 use crate::playing::Play;
 use crate::rooms::plain_room;
 use crate::scenes::Step;
-use crate::told::Told;
 use room_desk::Answer;
 use room_history::answer_to;
 use room_model::PlainRoom;
@@ -36,7 +36,7 @@ fn take(
     start: &PlainRoom,
     past: &mut Vec<Event>,
     step: &Step,
-    told: &mut Told<'_>,
+    differences: &mut Differences<'_>,
 ) -> Result<(), Fault> {
     let Step::Ask(example) = step else {
         return Ok(());
@@ -45,22 +45,22 @@ fn take(
     match ask_of(play, example.sent.as_slice()) {
         Asked::Event(event) => {
             let answer = answer(play.alloc, start, past.as_slice(), &event)?;
-            told.expect(example.line, answer.body(), due)?;
+            differences.expect(example.line, answer.body(), due)?;
             past.insert(0, event)?;
             Ok(())
         }
-        Asked::Other(answer) => told.expect(example.line, answer.body(), due),
+        Asked::Other(answer) => differences.expect(example.line, answer.body(), due),
     }
 }
 
-pub fn play(play: &Play<'_>, told: &mut Told<'_>) -> Result<(), Fault> {
+pub fn play(play: &Play<'_>, differences: &mut Differences<'_>) -> Result<(), Fault> {
     let start = plain_room(play.alloc)?;
     let mut past = Vec::new(play.alloc);
     for step in play.before {
         remember(play, step, &mut past)?;
     }
     for step in play.steps {
-        take(play, &start, &mut past, step, told)?;
+        take(play, &start, &mut past, step, differences)?;
     }
     Ok(())
 }

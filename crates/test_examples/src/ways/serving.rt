@@ -1,8 +1,8 @@
 //! A desk that serves a stream in memory.
+use crate::differences::Differences;
 use crate::fault::Fault;
 use crate::playing::Play;
 use crate::scenes::Example;
-use crate::told::Told;
 use room_desk::Desk;
 use room_records::{Roster, Shelf};
 use room_wire::{ServeEnd, Why};
@@ -31,12 +31,12 @@ impl Read for Pieces<'_> {
 
 /// Takes so many bytes, and then fails.
 #[derive(Drop)]
-struct Narrow {
+struct BoundedWriter {
     taken: Vec<u8>,
     room: usize,
 }
 
-impl Write for Narrow {
+impl Write for BoundedWriter {
     fn write(&mut self, buf: &[u8]) -> IoResult<usize> {
         if self.room == 0 {
             return Err(Error::from(ErrorKind::Other));
@@ -86,7 +86,7 @@ fn served<S: Shelf>(
     desk: &mut Desk<S>,
     roster: &Roster,
     reader: &mut Pieces<'_>,
-    writer: &mut Narrow,
+    writer: &mut BoundedWriter,
 ) -> ServeEnd {
     desk.serve(roster, reader, writer)
 }
@@ -96,7 +96,7 @@ pub fn serve<S: Shelf>(play: &Play<'_>, shelf: S, line: Line<'_>) -> (Ended, S) 
     let mut desk = Desk::new(play.alloc, shelf);
     let Line { sent, sizes, room } = line;
     let mut reader = Pieces { rest: sent, sizes };
-    let mut writer = Narrow {
+    let mut writer = BoundedWriter {
         taken: Vec::new(play.alloc),
         room,
     };
@@ -110,7 +110,7 @@ pub fn expect_end(
     last: &Example,
     messages: usize,
     end: ServeEnd,
-    told: &mut Told<'_>,
+    differences: &mut Differences<'_>,
 ) -> Result<(), Fault> {
     let (why, count) = if last.due.is_bad_message() {
         (Why::BadMessage, messages.saturating_sub(1))
@@ -118,10 +118,10 @@ pub fn expect_end(
         (Why::Closed, messages)
     };
     if end.why != why {
-        told.tell(last.line, "another end of the stream")?;
+        differences.tell(last.line, "another end of the stream")?;
     }
     if end.count != count as u64 {
-        told.tell(last.line, "another count of messages")?;
+        differences.tell(last.line, "another count of messages")?;
     }
     Ok(())
 }

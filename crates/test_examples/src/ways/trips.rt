@@ -1,11 +1,11 @@
 //! Each request with each call of the shelf failing in turn, until none does.
 use crate::asking::{Asked, ask_of};
+use crate::differences::Differences;
 use crate::fault::Fault;
 use crate::playing::Play;
 use crate::rooms::in_memory;
 use crate::scenes::{Example, Step};
-use crate::shelves::{answered, do_step, prepared};
-use crate::told::Told;
+use crate::shelves::{answered, do_step, expect_whole_lists, prepared};
 use room_desk::Answer;
 use room_records::{MemShelf, TripShelf};
 use room_wire::{Code, refusal_text};
@@ -25,12 +25,12 @@ fn expect_trips(
     play: &Play<'_>,
     example: &Example,
     trips: u64,
-    told: &mut Told<'_>,
+    differences: &mut Differences<'_>,
 ) -> Result<(), Fault> {
     match (ask_of(play, example.sent.as_slice()), trips) {
-        (Asked::Event(_), 0) => told.tell(example.line, "no call of the shelf"),
+        (Asked::Event(_), 0) => differences.tell(example.line, "no call of the shelf"),
         (Asked::Event(_), _) | (Asked::Other(_), 0) => Ok(()),
-        (Asked::Other(_), _) => told.tell(example.line, "a call of the shelf"),
+        (Asked::Other(_), _) => differences.tell(example.line, "a call of the shelf"),
     }
 }
 
@@ -38,33 +38,33 @@ fn ask(
     play: &Play<'_>,
     shelf: MemShelf,
     example: &Example,
-    told: &mut Told<'_>,
+    differences: &mut Differences<'_>,
 ) -> Result<MemShelf, Fault> {
     let mut shelf = shelf;
     for k in 1..MOST_CALLS {
         let (answer, tripped, left) = answered_at(play, shelf, k, example.sent.as_slice());
         shelf = left;
         if !tripped {
-            expect_trips(play, example, k.saturating_sub(1), told)?;
-            told.expect(example.line, answer.body(), example.due.body.as_slice())?;
+            expect_trips(play, example, k.saturating_sub(1), differences)?;
+            differences.expect(example.line, answer.body(), example.due.body.as_slice())?;
             return Ok(shelf);
         }
         let delay = refusal_text(Code::Delay).as_bytes();
-        told.expect(example.line, answer.body(), delay)?;
+        differences.expect(example.line, answer.body(), delay)?;
     }
-    told.tell(example.line, "no end of calls of the shelf")?;
+    differences.tell(example.line, "no end of calls of the shelf")?;
     Ok(shelf)
 }
 
-pub fn play(play: &Play<'_>, told: &mut Told<'_>) -> Result<(), Fault> {
+pub fn play(play: &Play<'_>, differences: &mut Differences<'_>) -> Result<(), Fault> {
     let mut shelf = prepared(play, in_memory(play.alloc)?)?;
     for step in play.steps {
         match step {
-            Step::Ask(example) => shelf = ask(play, shelf, example, told)?,
+            Step::Ask(example) => shelf = ask(play, shelf, example, differences)?,
             Step::Report { .. } | Step::Next(_) | Step::Reopen => {
-                do_step(play, &mut shelf, step, told)?;
+                do_step(play, &mut shelf, step, differences)?;
             }
         }
     }
-    Ok(())
+    expect_whole_lists(play, &mut shelf, play.line, differences)
 }

@@ -8,10 +8,14 @@ use Rattle.room_acl.proofs.access.allowed_bits.Goals as goal
 pub of_named-requires : goal.of_named-requires
 of_named-requires c =
     let allowed = allows_bit c.args.entries.now c.args.subject.now c.args.standing.now in
-    subst IsMask (sym (rights_but_refused allowed c.refused_bits-refused.result c.refused_bits-refused.ensures)) (IsMask-mask_of allowed)
+    subst IsMask (sym (rights_but_refused allowed c.refused-refused.result (λ bit. c.refused-refused.ensures
+    c.args.subject.now c.args.standing.now bit ∙ c.after_all.ensures.bits bit))) (IsMask-mask_of allowed)
 
 pub returns-clause-value : goal.returns-clause-value
-returns-clause-value c = c.of_named.ensures ∙ rights_but_refused (allows_bit c.args.entries.now c.args.subject.now c.args.standing.now) c.refused_bits-refused.result c.refused_bits-refused.ensures
+returns-clause-value c =
+    c.of_named.ensures ∙ rights_but_refused (allows_bit c.args.entries.now c.args.subject.now c.args.standing.now)
+    c.refused-refused.result
+    (λ bit. c.refused-refused.ensures c.args.subject.now c.args.standing.now bit ∙ c.after_all.ensures.bits bit)
 
 pub returns-clause-allowed : goal.returns-clause-allowed
 returns-clause-allowed c = rights_in_words _ _ _ _ (returns-clause-value c)

@@ -2,7 +2,8 @@ use Rattle.room_records.proofs.RoomsChildren.{listed_is_there, there_is_listed, 
 use Rattle.room_commands.proofs.laws.a_folder_names_what_is_in_it.Goals as goal
 
 pub returns-clause-names : goal.returns-clause-names
-returns-clause-names c = λ room folder name kind. (listed_is_there room folder name kind, there_is_listed room folder name kind)
+returns-clause-names c =
+    λ room folder name kind. (listed_is_there room folder name kind, there_is_listed room folder name kind)
 
 pub returns-clause-order : goal.returns-clause-order
 returns-clause-order c = children_rise

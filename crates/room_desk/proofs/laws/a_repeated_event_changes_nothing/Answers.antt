@@ -10,4 +10,5 @@ pub returns-clause-room : goal.returns-clause-room
 returns-clause-room c = λ start past event. state_after_idle start (event ∷ past) event (again_is_idle past event)
 
 pub returns-clause-rows : goal.returns-clause-rows
-returns-clause-rows c = λ start r past event stand. stand_after_idle start r (event ∷ past) event (again_is_idle past event) stand
+returns-clause-rows c = λ start r past event stand.
+    stand_after_idle start r (event ∷ past) event (again_is_idle past event) stand

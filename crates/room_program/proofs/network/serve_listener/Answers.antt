@@ -16,7 +16,8 @@ loop-served-init g c = let s = g.S.Shelf in record {
 
 pub loop-served-preserved : goal.loop-served-preserved
 loop-served-preserved g c = let s = g.S.Shelf in record {
-  accepted = one_accepted g.L.Listener.accepts c.loop-served.served (c.loop-served.served + 1) c.args.listener.now c.loop-served.listener c.next_stream.new.self
+  accepted = one_accepted g.L.Listener.accepts c.loop-served.served (c.loop-served.served + 1)
+      c.args.listener.now c.loop-served.listener c.next_stream.new.self
       (add-one c.loop-served.served) c.loop-served.invariant.accepted c.in_ok-stream.ensures.ok;
   frame = calls_then _ _ _ c.serve_stream.ensures.frame c.loop-served.invariant.frame;
   messages = answers_more s.view c.args.roster.now c.args.desk.now c.loop-served.desk c.serve_stream.new.desk
@@ -29,8 +30,14 @@ loop-served-preserved g c = let s = g.S.Shelf in record {
 
 pub returns-in_err-stream-clause-fewer : goal.returns-in_err-stream-clause-fewer
 returns-in_err-stream-clause-fewer g c =
-    at_err c.from_residual.result (AcceptsFewer g.L.Listener.accepts g.L.Listener.fails c.args.count c.args.listener.now c.next_stream.new.self)
-    (c.loop-served.served, c.loop-served-test.true, c.loop-served.listener, c.loop-served.invariant.accepted, c.in_err-stream.ensures.err)
+    at_err c.from_residual.result
+    (AcceptsFewer g.L.Listener.accepts g.L.Listener.fails c.args.count c.args.listener.now c.next_stream.new.self) (
+      c.loop-served.served,
+      c.loop-served-test.true,
+      c.loop-served.listener,
+      c.loop-served.invariant.accepted,
+      c.in_err-stream.ensures.err,
+    )
 
 pub returns-clause-accepted : goal.returns-clause-accepted
 returns-clause-accepted g c =

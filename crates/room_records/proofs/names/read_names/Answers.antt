@@ -4,7 +4,8 @@ use Rattle.room_records.specs.Names.{IsFileName}
 use Rattle.room_records.proofs.Options.{none_is_not_some}
 use Rattle.room_records.proofs.names.read_names.Goals as goal
 
-part_is_name : (parts : List (Bor (List ℕ))) (i : ℕ) (d : Bor (List ℕ)) → AllByRecursion IsFileName (map (λ p. p.now) parts) → i < length parts → IsFileName (get_or parts i d).now
+part_is_name : (parts : List (Bor (List ℕ))) (i : ℕ) (d : Bor (List ℕ))
+    → AllByRecursion IsFileName (map (λ p. p.now) parts) → i < length parts → IsFileName (get_or parts i d).now
 part_is_name [] i d all below = absurd (omega arith)
 part_is_name (part ∷ parts) zero d all below = all.0
 part_is_name (part ∷ parts) (suc i) d all below = part_is_name parts i d all.1 (omega arith)
@@ -12,5 +13,6 @@ part_is_name (part ∷ parts) (suc i) d all below = part_is_name parts i d all.1
 pub returns-in_default-clause-lawful : goal.returns-in_default-clause-lawful
 returns-in_default-clause-lawful c = (
   λ h. absurd cc,
-  λ lawful. absurd (none_is_not_some c.in_ok-name.field-0 c.in_default.is (c.in_ok-name.ensures.lawful.1 (part_is_name c.args.parts.now c.loop-part.part-index _ lawful.names (omega arith)))),
+  λ lawful. absurd (none_is_not_some c.in_ok-name.field-0 c.in_default.is (c.in_ok-name.ensures.lawful.1
+      (part_is_name c.args.parts.now c.loop-part.part-index _ lawful.names (omega arith)))),
 )

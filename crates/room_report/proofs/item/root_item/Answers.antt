@@ -10,7 +10,8 @@ returns-clause-value g c = λ intact laid_out t e room stand.
     let declared = c.node.ensures.frame.call.laid_out there laid_out in
     let same = c.node.ensures.frame.same there laid_out in
     root_is_item t room stand _ root
-    (sym (rw c.in-Some.is at (c.in_ok-root.ensures.value there laid_out) ∙ ap (λ (r : ObjectRecords). r.node 1) e)) refl refl refl refl refl
+    (sym (rw c.in-Some.is at (c.in_ok-root.ensures.value there laid_out) ∙ ap (λ (r : ObjectRecords). r.node 1) e))
+    refl refl refl refl refl
     (c.in_ok-list.ensures.value (c.in_ok-list.ensures.there intact) declared
     ∙ ap (λ (r : Records). r.objects.entries root.id) same ∙ ap (λ (r : ObjectRecords). r.entries root.id) e)
     c.new.ensures.items

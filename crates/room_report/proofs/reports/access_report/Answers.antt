@@ -10,11 +10,14 @@ use Rattle.room_report.proofs.reports.access_report.Goals as goal
 pub returns-clause-ok : goal.returns-clause-ok
 returns-clause-ok g c = λ intact laid_out room stand.
     sent_whole _ _ (text_below (Access c.in-Ok.users) room []) (access_text room c.args.roster.now) c.report_room.result
-    (ap (flat_map (lines_of (Access c.in-Ok.users) room)) (all_below_root room stand.lawful) ∙ ap (access_text room) c.in-Ok.ensures)
+    (ap (flat_map (lines_of (Access c.in-Ok.users) room)) (all_below_root room stand.lawful)
+    ∙ ap (access_text room) c.in-Ok.ensures)
     (c.report_room.ensures.value intact laid_out _ refl room stand)
 
 pub returns-clause-beginning : goal.returns-clause-beginning
 returns-clause-beginning g c = λ intact laid_out room stand.
-    sent_beginning _ _ (text_below (Access c.in-Ok.users) room []) (access_text room c.args.roster.now) c.report_room.result
-    (ap (flat_map (lines_of (Access c.in-Ok.users) room)) (all_below_root room stand.lawful) ∙ ap (access_text room) c.in-Ok.ensures)
+    sent_beginning _ _ (text_below (Access c.in-Ok.users) room [])
+    (access_text room c.args.roster.now) c.report_room.result
+    (ap (flat_map (lines_of (Access c.in-Ok.users) room)) (all_below_root room stand.lawful)
+    ∙ ap (access_text room) c.in-Ok.ensures)
     (c.report_room.ensures.value intact laid_out _ refl room stand)

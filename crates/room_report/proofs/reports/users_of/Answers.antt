@@ -11,5 +11,6 @@ loop-place-preserved c =
     let user : SubjectModel = record { name = c.in-Some.name.now; groups = c.in-Some.groups.now } in
     let there : Some user ≡ slice_get roster i = search rules in
     c.in_ok-push.ensures.items
-    ∙ (λ j. c.loop-place.invariant j ++ record { name = c.in_ok-name.ensures j; groups = c.in_ok-groups.ensures j } ∷ [])
+    ∙ (λ j. c.loop-place.invariant j
+    ++ record { name = c.in_ok-name.ensures j; groups = c.in_ok-groups.ensures j } ∷ [])
     ∙ sym (one_more roster i (i + 1) user refl there)

@@ -11,8 +11,10 @@ returns-in-Ok-eq0 g c =
 pub loop-at-preserved : goal.loop-at-preserved
 loop-at-preserved g c =
     let took = rw take_rest at c.in-Ok.ensures.bytes in
-    let bound = rw take_rest at c.in-Ok.ensures.bound in
-    (omega (arith, bound, length-drop c.loop-at.at c.args.bytes.now), front_more _ _ _ _ c.loop-at.at c.in-Ok.n c.loop-at.invariant.1 took)
+    let bound = rw take_rest at c.in-Ok.ensures.bound in (
+      omega (arith, bound, length-drop c.loop-at.at c.args.bytes.now),
+      front_more _ _ _ _ c.loop-at.at c.in-Ok.n c.loop-at.invariant.1 took,
+    )
 
 pub returns-in-Err : goal.returns-in-Err
 returns-in-Err g c = front_kept _ _ _ _ c.loop-at.at c.loop-at.invariant.1 c.in-Err.ensures.bytes

@@ -25,8 +25,10 @@ pub returns-then-is_leaf-clause-value : goal.returns-then-is_leaf-clause-value
 returns-then-is_leaf-clause-value g t c = λ intact laid_out r e room stand path is long.
     let report = c.args.report.now in
     let lines = item_lines report c.args.item.now in
-    let text = text_of_item r room stand path c.args.item.now is report [] (c.is_leaf.ensures.leaf c.if-is_leaf.true r room stand path is long) in
-    let P : List ℕ → Type 0 = λ bytes. Appends (g.W.Write.contents c.args.writer.now) (g.W.Write.contents c.write_item.new.writer) bytes in
+    let text = text_of_item r room stand path c.args.item.now is report
+    [] (c.is_leaf.ensures.leaf c.if-is_leaf.true r room stand path is long) in
+    let P : List ℕ → Type 0 =
+    λ bytes. Appends (g.W.Write.contents c.args.writer.now) (g.W.Write.contents c.write_item.new.writer) bytes in
     subst P (sym (append-nil lines) ∙ sym text) c.in_ok-write_item.ensures.written
 
 pub returns-in_err-nodes-clause-value : goal.returns-in_err-nodes-clause-value
@@ -34,8 +36,10 @@ returns-in_err-nodes-clause-value g t c = λ intact laid_out r e room stand path
     let report = c.args.report.now in
     let lines = item_lines report c.args.item.now in
     let text = begins r room stand path c.args.item.now is report in
-    let P : List ℕ → Type 0 = λ bytes. Appends (g.W.Write.contents c.args.writer.now) (g.W.Write.contents c.write_item.new.writer) bytes in
-    err_writes _ _ (text_below report room path) c.from_residual-in_err-nodes.result c.from_residual-in_err-nodes.ensures.0
+    let P : List ℕ → Type 0 =
+    λ bytes. Appends (g.W.Write.contents c.args.writer.now) (g.W.Write.contents c.write_item.new.writer) bytes in
+    err_writes _ _ (text_below report room path)
+    c.from_residual-in_err-nodes.result c.from_residual-in_err-nodes.ensures.0
     (front_is _ _ (lines ++ text.0) (text_below report room path) (sym text.1)
     (sent_front _ _ lines text.0 c.in_ok-write_item.ensures.written))
 
@@ -48,7 +52,8 @@ returns-in_err-below-clause-value g t c = λ intact laid_out r e room stand path
     let child : Node → List ℕ = λ node. text_below report room (path ++ name_of node ∷ []) in
     let before = c.item_below.ensures.frame.call.was_intact intact in
     let so = c.loop-node.invariant.written before laid_out r e room stand path is long in
-    err_writes _ _ (text_below report room path) c.from_residual-in_err-below.result c.from_residual-in_err-below.ensures.0
+    err_writes _ _ (text_below report room path)
+    c.from_residual-in_err-below.result c.from_residual-in_err-below.ensures.0
     (front_is _ _ (so_far child lines nodes i ++ flat_map child (drop i nodes)) (text_below report room path)
     (sym (cut child lines nodes i) ∙ sym (text_of_item r room stand path c.args.item.now is report nodes so.0))
     (sent_front _ _ (so_far child lines nodes i) (flat_map child (drop i nodes)) so.1))
@@ -64,7 +69,8 @@ returns-in_err-report_below-clause-value g t c = λ intact laid_out r e room sta
     let second = c.report_below.ensures.frame.call.was_intact intact in
     let there = c.in_ok-below.ensures.there second in
     let first = c.item_below.ensures.frame.call.was_available there in
-    let so = c.loop-node.invariant.written (c.item_below.ensures.frame.call.was_intact second) laid_out r e room stand path is long in
+    let so = c.loop-node.invariant.written (c.item_below.ensures.frame.call.was_intact second)
+    laid_out r e room stand path is long in
     let declared = c.loop-node.invariant.frame.call.laid_out first laid_out in
     let same = ap (λ (s : Records). s.objects) (c.loop-node.invariant.frame.same first laid_out) ∙ e in
     let declared' = c.item_below.ensures.frame.call.laid_out there declared in
@@ -74,11 +80,14 @@ returns-in_err-report_below-clause-value g t c = λ intact laid_out r e room sta
     let deep = c.is_leaf.ensures.deep c.if-is_leaf.false in
     let wrote = c.in_err-report_below.ensures.value intact declared' r same' room stand (path ++ name_of node ∷ []) item
     (omega (arith, long, deep, length_push path (name_of node))) in
-    err_writes _ _ (text_below report room path) c.from_residual-in_err-report_below.result c.from_residual-in_err-report_below.ensures.0
-    (front_is _ _ (so_far child lines nodes (i + 1) ++ flat_map child (drop (i + 1) nodes)) (text_below report room path)
+    err_writes _ _ (text_below report room path) c.from_residual-in_err-report_below.result
+    c.from_residual-in_err-report_below.ensures.0
+    (front_is _ _ (so_far child lines nodes (i + 1) ++ flat_map child (drop (i + 1) nodes))
+    (text_below report room path)
     (sym (cut child lines nodes (i + 1)) ∙ sym (text_of_item r room stand path c.args.item.now is report nodes so.0))
     (front_of_more _ _ (so_far child lines nodes (i + 1)) (flat_map child (drop (i + 1) nodes))
-    (front_is _ _ (so_far child lines nodes i ++ child node) (so_far child lines nodes (i + 1)) (sym (next child lines nodes i node c.loop-node-test.true c.node-item.is))
+    (front_is _ _ (so_far child lines nodes i ++ child node) (so_far child lines nodes (i + 1))
+    (sym (next child lines nodes i node c.loop-node-test.true c.node-item.is))
     (front_then _ _ _ (so_far child lines nodes i) (child node) so.1 wrote))))
 
 pub loop-node-preserved : goal.loop-node-preserved
@@ -97,7 +106,8 @@ loop-node-preserved g t c = record {
       let second = c.report_below.ensures.frame.call.was_intact intact in
       let there = c.in_ok-below.ensures.there second in
       let first = c.item_below.ensures.frame.call.was_available there in
-      let so = c.loop-node.invariant.written (c.item_below.ensures.frame.call.was_intact second) laid_out r e room stand path is long in
+      let so = c.loop-node.invariant.written (c.item_below.ensures.frame.call.was_intact second)
+      laid_out r e room stand path is long in
       let declared = c.loop-node.invariant.frame.call.laid_out first laid_out in
       let same = ap (λ (s : Records). s.objects) (c.loop-node.invariant.frame.same first laid_out) ∙ e in
       let declared' = c.item_below.ensures.frame.call.laid_out there declared in
@@ -105,10 +115,15 @@ loop-node-preserved g t c = record {
       let item = c.in_ok-below.ensures.value second declared r same room stand path is
       (child_at r c.args.item.now.id nodes i node so.0 c.loop-node-test.true c.node-item.is) in
       let deep = c.is_leaf.ensures.deep c.if-is_leaf.false in
-      let wrote = c.in_ok-report_below.ensures.value intact declared' r same' room stand (path ++ name_of node ∷ []) item
+      let wrote =
+      c.in_ok-report_below.ensures.value intact declared' r same' room stand (path ++ name_of node ∷ []) item
       (omega (arith, long, deep, length_push path (name_of node))) in
-      let P : List ℕ → Type 0 = λ bytes. Appends (g.W.Write.contents c.args.writer.now) (g.W.Write.contents c.report_below.new.writer) bytes in
-      (so.0, subst P (sym (next child lines nodes i node c.loop-node-test.true c.node-item.is)) (Appends-trans _ _ _ (so_far child lines nodes i) (child node) so.1 wrote));
+      let P : List ℕ → Type 0 = λ bytes.
+      Appends (g.W.Write.contents c.args.writer.now) (g.W.Write.contents c.report_below.new.writer) bytes in (
+        so.0,
+        subst P (sym (next child lines nodes i node c.loop-node-test.true c.node-item.is))
+            (Appends-trans _ _ _ (so_far child lines nodes i) (child node) so.1 wrote),
+      );
 }
 
 pub returns-clause-value : goal.returns-clause-value
@@ -119,5 +134,7 @@ returns-clause-value g t c = λ intact laid_out r e room stand path is long.
     let i = c.loop-node.node-index in
     let child : Node → List ℕ = λ n. text_below report room (path ++ name_of n ∷ []) in
     let so = c.loop-node.invariant.written intact laid_out r e room stand path is long in
-    let P : List ℕ → Type 0 = λ bytes. Appends (g.W.Write.contents c.args.writer.now) (g.W.Write.contents c.loop-node.writer) bytes in
-    subst P (done child lines nodes i c.loop-node-test.false ∙ sym (text_of_item r room stand path c.args.item.now is report nodes so.0)) so.1
+    let P : List ℕ → Type 0 =
+    λ bytes. Appends (g.W.Write.contents c.args.writer.now) (g.W.Write.contents c.loop-node.writer) bytes in
+    subst P (done child lines nodes i c.loop-node-test.false
+    ∙ sym (text_of_item r room stand path c.args.item.now is report nodes so.0)) so.1

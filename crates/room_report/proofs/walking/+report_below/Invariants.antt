@@ -5,7 +5,7 @@ use Rattle.room_records.specs.declared.node.Node.{Node}
 use Rattle.room_records.specs.Limits.{max_names}
 use Rattle.room_records.specs.Names.{Path}
 use Rattle.room_records.specs.Shelf.{ShelfRead, AreChildren, name_of}
-use Rattle.room_report.specs.Walk.{OfRoom, IsItem, item_lines, text_below}
+use Rattle.room_report.specs.Walk.{OfIntactRoom, IsItem, item_lines, text_below}
 use Rattle.room_report.proofs.walking.+report_below.Given as goal
 
 abbrev pub decreases-report_below : goal.decreases-report_below
@@ -16,8 +16,10 @@ abbrev pub invariant-loop-node : goal.invariant-loop-node
 invariant-loop-node g l = let s = g.S.Shelf in record {
   there : (s.view l.shelf).is_intact → (s.view l.shelf).is_available;
   frame : ShelfRead (s.view l.fn.shelf) (s.view l.shelf) None;
-  written : OfRoom (s.view l.fn.shelf) (s.view l.shelf) (λ t room. (path : Path) → IsItem t room path l.item → length path + l.depth ≡ max_names →
+  written : OfIntactRoom (s.view l.fn.shelf) (s.view l.shelf) (λ t room. (path : Path)
+      → IsItem t room path l.item → length path + l.depth ≡ max_names →
       AreChildren t l.item.id l.node-items
       × Appends (g.W.Write.contents l.fn.writer) (g.W.Write.contents l.writer)
-      (item_lines l.report l.item ++ flat_map (λ (node : Node). text_below l.report room (path ++ name_of node ∷ [])) (take l.node-index l.node-items)));
+      (item_lines l.report l.item ++ flat_map (λ (node : Node). text_below l.report room (path ++ name_of node ∷ []))
+      (take l.node-index l.node-items)));
 }

@@ -13,5 +13,6 @@ returns-in_err-send-clause-written g c =
 
 pub returns-clause-written : goal.returns-clause-written
 returns-clause-written g c =
-    let P : List ℕ → Type 0 = λ bytes. Appends (g.W.Write.contents c.args.writer.now) (g.W.Write.contents c.send.new.writer) bytes in
+    let P : List ℕ → Type 0 =
+    λ bytes. Appends (g.W.Write.contents c.args.writer.now) (g.W.Write.contents c.send.new.writer) bytes in
     subst P (c.as_slice.ensures.value ∙ c.in_ok-lines.ensures) c.in_ok-send.ensures

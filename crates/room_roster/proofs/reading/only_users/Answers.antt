@@ -7,25 +7,30 @@ use Rattle.room_roster.proofs.UserTables.{users_key, one_member, some_users, no_
 use Rattle.room_roster.proofs.reading.only_users.Goals as goal
 
 pub returns-then-len-ne1-clause-none : goal.returns-then-len-ne1-clause-none
-returns-then-len-ne1-clause-none c users e = c.if-len-ne1.true (c.len.ensures.len ∙ one_member c.args.document.now.entries users e)
+returns-then-len-ne1-clause-none c users e =
+    c.if-len-ne1.true (c.len.ensures.len ∙ one_member c.args.document.now.entries users e)
 
 pub returns-in-Some-clause-some : goal.returns-in-Some-clause-some
 returns-in-Some-clause-some c =
     let entries = c.args.document.now.entries in
     let at = table_get c.get.result users_key entries c.get.ensures.value in
-    let found : get_member users_key (members_view entries) ≡ Some (view c.in-Some.users.now) = sym at ∙ ap (option_map (λ (x : Bor Value). view x.now)) c.in-Some.is in
-    some_users entries c.in-Some.users.now c.as_table.result (sym c.len.ensures.len ∙ c.if-len-ne1.false) found c.as_table.ensures
+    let found : get_member users_key (members_view entries) ≡ Some (view c.in-Some.users.now) =
+    sym at ∙ ap (option_map (λ (x : Bor Value). view x.now)) c.in-Some.is in
+    some_users entries c.in-Some.users.now c.as_table.result
+    (sym c.len.ensures.len ∙ c.if-len-ne1.false) found c.as_table.ensures
 
 pub returns-in-Some-clause-none : goal.returns-in-Some-clause-none
 returns-in-Some-clause-none c =
     let entries = c.args.document.now.entries in
     let at = table_get c.get.result users_key entries c.get.ensures.value in
-    let found : get_member users_key (members_view entries) ≡ Some (view c.in-Some.users.now) = sym at ∙ ap (option_map (λ (x : Bor Value). view x.now)) c.in-Some.is in
+    let found : get_member users_key (members_view entries) ≡ Some (view c.in-Some.users.now) =
+    sym at ∙ ap (option_map (λ (x : Bor Value). view x.now)) c.in-Some.is in
     no_users entries c.in-Some.users.now c.as_table.result found c.as_table.ensures
 
 pub returns-in-None-clause-none : goal.returns-in-None-clause-none
 returns-in-None-clause-none c users e =
     let entries = c.args.document.now.entries in
     let at = table_get c.get.result users_key entries c.get.ensures.value in
-    let none : get_member users_key (members_view entries) ≡ None = sym at ∙ ap (option_map (λ (x : Bor Value). view x.now)) c.in-None.is in
+    let none : get_member users_key (members_view entries) ≡ None =
+    sym at ∙ ap (option_map (λ (x : Bor Value). view x.now)) c.in-None.is in
     cc (found_users (members_view entries) users e)

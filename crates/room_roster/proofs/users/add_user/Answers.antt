@@ -10,5 +10,6 @@ returns-else-branch-clause-bad c e groups is named =
     let same : list_of_names c.in_ok-groups.groups.items ≡ list_of_names groups = cc in
     let groups_are = list_of_names-injective c.in_ok-groups.groups.items groups same in
     let (name_is, principal) = c.in_ok-name.ensures.ok in
-    let refused : may_join c.args.roster.now c.in_ok-name.name c.in_ok-groups.groups.items ≡ false = sym c.in_ok-add.ensures.ok ∙ c.if-branch.false in
+    let refused : may_join c.args.roster.now c.in_ok-name.name c.in_ok-groups.groups.items ≡ false =
+    sym c.in_ok-add.ensures.ok ∙ c.if-branch.false in
     rw (← name_is, ← groups_are) refused

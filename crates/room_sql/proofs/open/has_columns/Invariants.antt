@@ -6,4 +6,5 @@ use Rattle.room_sql.proofs.open.has_columns.Given as goal
 -- the columns passed so far are there
 abbrev pub invariant-loop-column : goal.invariant-loop-column
 invariant-loop-column g l =
-    has_columns l.fn.conn.schema l.fn.table (map (λ c. c.now) l.fn.columns) ≡ has_columns l.fn.conn.schema l.fn.table (map (λ c. c.now) (drop l.column-index l.fn.columns))
+    has_columns l.fn.conn.schema l.fn.table (map (λ c. c.now) l.fn.columns)
+    ≡ has_columns l.fn.conn.schema l.fn.table (map (λ c. c.now) (drop l.column-index l.fn.columns))

@@ -1,37 +1,22 @@
-use Rattle.std.proofs.Common.{Vec}
 use Rattle.std.proofs.lemmas.Result.{IfOk-weaker}
-use Rattle.std.specs.declared.alloc.Global.{Global}
-use Rattle.sqlite.specs.declared.rows.Row.{Row}
 use Rattle.sqlite.specs.Held.{state}
 use Rattle.room_tables.specs.Texts.{find_session_text}
-use Rattle.room_tables.proofs.Meaning.{find_session_plain}
 use Rattle.room_tables.proofs.Selects.{find_session_selects}
 use Rattle.room_tables.proofs.Asks.{asks_session}
-use Rattle.room_tables.proofs.Queries.{query_keeps, query_now, query_open, query_alive}
+use Rattle.room_sql.proofs.Frames.{query_frame}
 use Rattle.room_sql.proofs.reads.session_rows.Goals as goal
 
 pub returns-clause-rows : goal.returns-clause-rows
 returns-clause-rows g c clean schema =
-    IfOk-weaker c.query_all.result _ _ (λ rows h. asks_session (state g.S.Store c.args.conn.now) (state g.S.Store c.query_all.new.self) c.args.sid.now rows.items schema h)
+    IfOk-weaker c.query_all.result _ _ (λ rows h. asks_session (state g.S.Store c.args.conn.now)
+    (state g.S.Store c.query_all.new.self) c.args.sid.now rows.items schema h)
     (rw (c.params-to_sql.ensures) at (c.query_all.ensures.ok clean))
 
-pub returns-clause-same : goal.returns-clause-same
-returns-clause-same g c clean schema is settled =
-    query_now (λ (v : Vec Row Global). v.items) find_session_text _ (state g.S.Store c.args.conn.now) (state g.S.Store c.query_all.new.self) c.query_all.result schema find_session_plain.0 (c.query_all.ensures.ok clean) (c.query_all.ensures.err clean) is settled
-
-pub returns-clause-alive : goal.returns-clause-alive
-returns-clause-alive g c clean =
-    query_alive (λ (v : Vec Row Global). v.items) find_session_text _ (state g.S.Store c.args.conn.now) (state g.S.Store c.query_all.new.self) c.query_all.result (c.query_all.ensures.ok clean)
-
-pub returns-clause-open : goal.returns-clause-open
-returns-clause-open g c clean is =
-    query_open (λ (v : Vec Row Global). v.items) find_session_text _ (state g.S.Store c.args.conn.now) (state g.S.Store c.query_all.new.self) c.query_all.result (c.query_all.ensures.ok clean) (c.query_all.ensures.err clean) is
-
-pub returns-clause-crash : goal.returns-clause-crash
-returns-clause-crash g c = query_keeps find_session_text _ (state g.S.Store c.args.conn.now) (state g.S.Store c.query_all.new.self) find_session_selects c.query_all.ensures.survives
-
-pub returns-clause-shown : goal.returns-clause-shown
-returns-clause-shown g c clean = rw (c.params-to_sql.ensures) at (c.query_all.ensures.ok clean)
-
-pub returns-clause-failed : goal.returns-clause-failed
-returns-clause-failed g c clean = rw (c.params-to_sql.ensures) at (c.query_all.ensures.err clean)
+pub returns-clause-answered : goal.returns-clause-answered
+returns-clause-answered g c = record {
+  frame = query_frame find_session_text _ (state g.S.Store c.args.conn.now) (state g.S.Store c.query_all.new.self)
+      c.query_all.result find_session_selects c.query_all.ensures.ok c.query_all.ensures.err c.query_all.ensures.mode
+      c.query_all.ensures.survives;
+  shown = λ clean. rw (c.params-to_sql.ensures) at (c.query_all.ensures.ok clean);
+  failed = λ clean. rw (c.params-to_sql.ensures) at (c.query_all.ensures.err clean);
+}

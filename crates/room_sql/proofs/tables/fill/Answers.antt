@@ -10,10 +10,17 @@ pub returns-clause-ok : goal.returns-clause-ok
 returns-clause-ok g c clean =
     let mid = state g.S.Store c.put_entries.new.tx.conn.now in
     let first = state g.S.Store c.put_node.new.tx.conn.now in
-    let late : HasCleanDisk mid = omega (arith, c.put_next.ensures.crash.clean) in
-    let early : HasCleanDisk first = omega (arith, c.put_entries.ensures.crash.clean) in
+    let late : HasCleanDisk mid = omega (arith, c.put_next.ensures.frame.crash.clean) in
+    let early : HasCleanDisk first = omega (arith, c.put_entries.ensures.frame.crash.clean) in
     IfOk-weaker c.put_next.result _ _ (λ _ all room.
     let one = c.in_ok-put_node.ensures.ok early room in
     let two = c.in_ok-put_entries.ensures.ok late one.room in
-    let three = all two.room in
-    (record { room = three.0.room; records = three.0.records ∙ ap (apply_change (PutNext 2)) two.records ∙ ap (λ r. apply_change (PutNext 2) (apply_change (PutEntries 1 c.args.entries.now) r)) one.records; version = λ _. three.1 }, three.1)) (c.put_next.ensures.ok clean)
+    let three = all two.room in (
+      record {
+        room = three.0.room;
+        records = three.0.records ∙ ap (apply_change (PutNext 2)) two.records
+            ∙ ap (λ r. apply_change (PutNext 2) (apply_change (PutEntries 1 c.args.entries.now) r)) one.records;
+        version = λ _. three.1;
+      },
+      three.1,
+    )) (c.put_next.ensures.ok clean)

@@ -1,9 +1,13 @@
-use Rattle.std.proofs.Common.{◌≡◌, take, true}
-use Rattle.sqlite.specs.State.{HasCleanDisk, KeepsCommit, Survives}
-use Rattle.sqlite.specs.Held.{state}
+use Rattle.std.proofs.Common.{take, drop, Result, Ok}
+use Rattle.std.specs.List.{AllByRecursion}
+use Rattle.sqlite.specs.State.{HasCleanDisk}
+use Rattle.sqlite.specs.Held.{Held, state}
+use Rattle.sqlite.specs.declared.error.Error.{Error}
 use Rattle.room_records.specs.Changes.{apply_changes}
 use Rattle.room_tables.specs.Layout.{IsRoomDatabase}
 use Rattle.room_tables.specs.Steps.{Steps}
+use Rattle.room_sql.specs.Causes.{RunInTurn, writes_of_all, IsShort}
+use Rattle.room_sql.specs.Frames.{InsideFrame}
 use Rattle.room_sql.proofs.writes.apply_all.Given as goal
 
 abbrev pub invariant-loop-change : goal.invariant-loop-change
@@ -11,9 +15,10 @@ invariant-loop-change g l =
     let old = state g.S.Store l.fn.tx.conn.now in
     let now = state g.S.Store l.tx.conn.now in
     record {
-      same_reference : l.tx.conn.ghost_name ≡ l.fn.tx.conn.ghost_name;
+      frame : InsideFrame g.S.Store {T = Unit {0}} l.fn.tx l.tx (Ok tt);
       done : HasCleanDisk now → IsRoomDatabase old.now → Steps old now (apply_changes (take l.change-index l.changes));
-      inside : HasCleanDisk now → l.tx.conn.now.in_transaction ≡ true;
-      kept : HasCleanDisk now → KeepsCommit old now;
-      crash : Survives old now (λ _. ⊥);
+      -- what the statements of the rest make of it, those of all make of the start
+      ran : HasCleanDisk now → AllByRecursion IsShort l.changes → (end : Held _) (out : Result (Unit {0}) Error)
+          → RunInTurn g.S.Store (writes_of_all (drop l.change-index l.changes)) l.tx.conn.now end out
+          → RunInTurn g.S.Store (writes_of_all l.changes) l.fn.tx.conn.now end out;
     }

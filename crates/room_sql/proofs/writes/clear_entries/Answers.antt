@@ -1,10 +1,13 @@
 use Rattle.sqlite.specs.Held.{state}
-use Rattle.room_tables.proofs.Changes.{was_inside}
 use Rattle.room_tables.proofs.Placed.{lists_none}
+use Rattle.room_sql.proofs.Turns.{ok_then}
 use Rattle.room_sql.proofs.writes.clear_entries.Goals as goal
 
 pub returns-clause-ok : goal.returns-clause-ok
-returns-clause-ok g c clean room =
-    let inside = was_inside _ _ c.in_ok-execute.field-0 _ _ c.execute.ensures.ended c.in_ok-execute.was in
-    lists_none (state g.S.Store c.args.tx.now.conn.now) (state g.S.Store c.execute.new.self.conn.now) c.args.id c.in_ok-execute.field-0 room
-    (rw (c.params-to_sql.ensures) at (c.in_ok-execute.ensures.runs clean inside))
+returns-clause-ok g c clean =
+    ok_then c.run.result _ _ (c.run.ensures.done clean) (λ ran room.
+    lists_none (state g.S.Store c.args.tx.now.conn.now) (state g.S.Store c.run.new.tx.conn.now) c.args.id ran.0 room
+    (rw (c.params-to_sql.ensures) at ran.1))
+
+pub returns-clause-ran : goal.returns-clause-ran
+returns-clause-ran g c clean inside = rw (c.params-to_sql.ensures) at (c.run.ensures.ran clean inside)

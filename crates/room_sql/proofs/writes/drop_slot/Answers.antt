@@ -1,10 +1,15 @@
 use Rattle.sqlite.specs.Held.{state}
-use Rattle.room_tables.proofs.Changes.{was_inside}
 use Rattle.room_tables.proofs.Slots.{steps_drop_slot}
+use Rattle.room_sql.proofs.Turns.{ok_then}
 use Rattle.room_sql.proofs.writes.drop_slot.Goals as goal
 
 pub returns-clause-ok : goal.returns-clause-ok
-returns-clause-ok g c clean room =
-    let inside = was_inside _ _ c.in_ok-execute.field-0 _ _ c.execute.ensures.ended c.in_ok-execute.was in
-    steps_drop_slot (state g.S.Store c.args.tx.now.conn.now) (state g.S.Store c.execute.new.self.conn.now) c.args.sid.now c.args.slot c.in_ok-execute.field-0 room
-    (rw (c.params-to_sql.ensures, c.params-to_sql-2.ensures, c.text-sid.ensures.value) at (c.in_ok-execute.ensures.runs clean inside))
+returns-clause-ok g c clean =
+    ok_then c.run.result _ _ (c.run.ensures.done clean) (λ ran room.
+    steps_drop_slot (state g.S.Store c.args.tx.now.conn.now)
+    (state g.S.Store c.run.new.tx.conn.now) c.args.sid.now c.args.slot ran.0 room
+    (rw (c.params-to_sql.ensures, c.params-to_sql-2.ensures, c.text-sid.ensures.value) at ran.1))
+
+pub returns-clause-ran : goal.returns-clause-ran
+returns-clause-ran g c clean inside = rw (c.params-to_sql.ensures, c.params-to_sql-2.ensures, c.text-sid.ensures.value)
+    at (c.run.ensures.ran clean inside)

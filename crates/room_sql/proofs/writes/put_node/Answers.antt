@@ -1,13 +1,55 @@
-use Rattle.std.proofs.Common.{refl}
+use Rattle.std.proofs.Common.{◌≡◌, ◌∙◌, ℕ, List, [], Option, unwrap_or, refl, sym, ap}
 use Rattle.sqlite.specs.Held.{state}
-use Rattle.room_tables.proofs.Changes.{was_inside}
+use Rattle.room_tables.specs.Texts.{put_node_text}
 use Rattle.room_tables.proofs.Effects.{steps_node_at, bound_parent}
+use Rattle.room_sql.proofs.Turns.{ok_then, turn_as, name_back}
 use Rattle.room_sql.proofs.writes.put_node.Goals as goal
 
 pub returns-clause-ok : goal.returns-clause-ok
-returns-clause-ok g c clean room =
-    let inside = was_inside _ _ c.in_ok-execute.field-0 _ _ c.execute.ensures.ended c.in_ok-execute.was in
-    steps_node_at (state g.S.Store c.args.tx.now.conn.now) (state g.S.Store c.execute.new.self.conn.now) c.args.node.now c.name_text-name.result.now _ _ c.in_ok-execute.field-0 room c.name_text-name.ensures
+returns-clause-ok g c clean =
+    ok_then c.run.result _ _ (c.run.ensures.done clean) (λ ran room.
+    steps_node_at (state g.S.Store c.args.tx.now.conn.now) (state g.S.Store c.run.new.tx.conn.now)
+    c.args.node.now c.name_text-name.result.now _ _ ran.0 room c.name_text-name.ensures
     refl
-    (rw (c.params-to_sql.ensures, c.params-to_sql-2.ensures, c.params-to_sql-3.ensures, c.params-to_sql-4.ensures, c.params-to_sql-5.ensures, c.params-to_sql-6.ensures, c.params-to_sql-7.ensures, c.node_number-id.ensures, c.parent_value-parent.ensures, bound_parent c.args.node.now.parent, c.kind_number-kind.ensures, c.owner_text-owner.ensures, c.group_text-group.ensures, c.list_flags-aclflag.ensures) refl)
-    (c.in_ok-execute.ensures.runs clean inside)
+    (rw (
+      c.params-to_sql.ensures,
+      c.params-to_sql-2.ensures,
+      c.params-to_sql-3.ensures,
+      c.params-to_sql-4.ensures,
+      c.params-to_sql-5.ensures,
+      c.params-to_sql-6.ensures,
+      c.params-to_sql-7.ensures,
+      c.node_number-id.ensures,
+      c.parent_value-parent.ensures,
+      bound_parent c.args.node.now.parent,
+      c.kind_number-kind.ensures,
+      c.owner_text-owner.ensures,
+      c.group_text-group.ensures,
+      c.list_flags-aclflag.ensures,
+    ) refl)
+    ran.1)
+
+pub returns-clause-ran : goal.returns-clause-ran
+returns-clause-ran g c clean inside =
+    let name : c.name_text-name.result.now ≡ unwrap_or c.args.node.now.name [] =
+    sym (name_back c.name_text-name.result.now)
+    ∙ ap (λ (o : Option (List ℕ)). unwrap_or o []) c.name_text-name.ensures in
+    turn_as g.S.Store put_node_text _ _ c.args.tx.now.conn.now c.run.new.tx.conn.now c.run.result
+    (rw (
+      c.params-to_sql.ensures,
+      c.params-to_sql-2.ensures,
+      c.params-to_sql-3.ensures,
+      c.params-to_sql-4.ensures,
+      c.params-to_sql-5.ensures,
+      c.params-to_sql-6.ensures,
+      c.params-to_sql-7.ensures,
+      c.node_number-id.ensures,
+      c.parent_value-parent.ensures,
+      bound_parent c.args.node.now.parent,
+      c.kind_number-kind.ensures,
+      c.owner_text-owner.ensures,
+      c.group_text-group.ensures,
+      c.list_flags-aclflag.ensures,
+      name,
+    ) refl)
+    (c.run.ensures.ran clean inside)

@@ -7,7 +7,8 @@ use Rattle.room_records.specs.Shelf.{AreChildren, name_of}
 use Rattle.room_records.proofs.Lists.{all_at, all_append}
 use Rattle.room_records.proofs.Shelves.{read_then}
 use Rattle.room_tree.specs.Depths.{StandsBelow}
-use Rattle.room_tree.proofs.Depths.{NoneBelowEach, itself_below, none_below_file, one_level_more, child_path, none_below_children}
+use Rattle.room_tree.proofs.Depths.{NoneBelowEach, itself_below, none_below_file, one_level_more}
+use Rattle.room_tree.proofs.Depths.{child_path, none_below_children}
 use Rattle.room_tree.proofs.depth.+reaches_down.Goals as goal
 
 pub returns-then-levels-eq0-clause-value : goal.returns-then-levels-eq0-clause-value
@@ -17,7 +18,8 @@ returns-then-levels-eq0-clause-value g m c = λ available laid_out t e room stan
 
 pub returns-in-File-clause-value : goal.returns-in-File-clause-value
 returns-in-File-clause-value g m c = λ available laid_out t e room stand path node at stands kind.
-    none_below_file t room stand path c.args.id node c.args.levels at stands (kind ∙ c.in-File.is) (omega (arith, c.if-levels-eq0.false))
+    none_below_file t room stand path c.args.id node c.args.levels at
+    stands (kind ∙ c.in-File.is) (omega (arith, c.if-levels-eq0.false))
 
 pub loop-node-init : goal.loop-node-init
 loop-node-init g m c = record {
@@ -26,7 +28,8 @@ loop-node-init g m c = record {
       let Rules : ObjectRecords → Type 0 = λ r. ObjectRules r in
       let Are : ObjectRecords → Type 0 = λ r. AreChildren r c.args.id c.in_ok-nodes.nodes.items in
       let Nodes : List Node → Type 0 = λ nodes. AreChildren t c.args.id nodes in
-      subst Nodes (sym c.deref-node-items.ensures.value) (subst Are e (c.in_ok-nodes.ensures.value available laid_out (subst Rules (sym e) stand.rules)));
+      subst Nodes (sym c.deref-node-items.ensures.value)
+      (subst Are e (c.in_ok-nodes.ensures.value available laid_out (subst Rules (sym e) stand.rules)));
   none = λ available laid_out t e room stand path node at stands kind. tt;
 }
 
@@ -39,10 +42,12 @@ returns-then-deep-clause-value g m c = λ available laid_out t e room stand path
     let same = ap (λ (r : Records). r.objects) (c.loop-node.invariant.frame.same before laid_out) ∙ e in
     let are = c.loop-node.invariant.children before laid_out t e room stand in
     let Child : Node → Type 0 = λ n. IsChild t c.args.id n in
-    let is_child : Child child = subst Child (sym c.node-item.is) (all_at Child items c.loop-node.node-index child are.each c.loop-node-test.true) in
+    let is_child : Child child = subst Child (sym c.node-item.is)
+    (all_at Child items c.loop-node.node-index child are.each c.loop-node-test.true) in
     let found = c.in_ok-deep.ensures.value available declared t same room stand (path ++ name_of child ∷ []) child
     (child_path t room stand path c.args.id child at is_child) is_child.stands refl in
-    one_level_more room path (name_of child) c.args.levels (omega (arith, c.if-levels-eq0.false)) (rw c.if-deep.true at found)
+    one_level_more room path (name_of child) c.args.levels
+    (omega (arith, c.if-levels-eq0.false)) (rw c.if-deep.true at found)
 
 pub loop-node-preserved : goal.loop-node-preserved
 loop-node-preserved g m c =
@@ -52,14 +57,16 @@ loop-node-preserved g m c =
     record {
       frame = read_then _ _ _ _ c.in_ok-deep.ensures.frame c.loop-node.invariant.frame;
       children = λ available laid_out t e room stand.
-          c.loop-node.invariant.children (c.reaches_down.ensures.frame.call.was_available available) laid_out t e room stand;
+          c.loop-node.invariant.children (c.reaches_down.ensures.frame.call.was_available available)
+          laid_out t e room stand;
       none = λ available laid_out t e room stand path node at stands kind.
           let before = c.reaches_down.ensures.frame.call.was_available available in
           let declared = c.loop-node.invariant.frame.call.laid_out before laid_out in
           let same = ap (λ (r : Records). r.objects) (c.loop-node.invariant.frame.same before laid_out) ∙ e in
           let are = c.loop-node.invariant.children before laid_out t e room stand in
           let Child : Node → Type 0 = λ n. IsChild t c.args.id n in
-          let is_child : Child child = subst Child (sym c.node-item.is) (all_at Child items i child are.each c.loop-node-test.true) in
+          let is_child : Child child =
+          subst Child (sym c.node-item.is) (all_at Child items i child are.each c.loop-node-test.true) in
           let found = c.in_ok-deep.ensures.value available declared t same room stand (path ++ name_of child ∷ []) child
           (child_path t room stand path c.args.id child at is_child) is_child.stands refl in
           let Free : Node → Type 0 = λ n. StandsBelow room (path ++ name_of n ∷ []) (c.args.levels - 1) → ⊥ in
@@ -67,7 +74,8 @@ loop-node-preserved g m c =
           let more : take (i + 1) items ≡ take i items ++ child ∷ [] =
           take_more items i child c.loop-node-test.true ∙ ap (λ n. take i items ++ n ∷ []) (sym c.node-item.is) in
           subst Each (sym more)
-          (all_append Free (take i items) (child ∷ []) (c.loop-node.invariant.none before laid_out t e room stand path node at stands kind) (rw c.if-deep.false at found, tt));
+          (all_append Free (take i items) (child ∷ []) (c.loop-node.invariant.none before laid_out
+          t e room stand path node at stands kind) (rw c.if-deep.false at found, tt));
     }
 
 pub returns-clause-value : goal.returns-clause-value

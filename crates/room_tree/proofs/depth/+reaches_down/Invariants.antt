@@ -3,7 +3,7 @@ use Rattle.room_records.specs.declared.node.Node.{Node}
 use Rattle.room_records.specs.Names.{Path}
 use Rattle.room_records.specs.Representation.{HasPath}
 use Rattle.room_records.specs.Shelf.{AreChildren, ShelfRead}
-use Rattle.room_tree.specs.Places.{OfRoom}
+use Rattle.room_tree.specs.LoadedObjects.{OfRoom}
 use Rattle.room_tree.proofs.Depths.{NoneBelowEach}
 use Rattle.room_tree.proofs.depth.+reaches_down.Given as goal
 
@@ -16,5 +16,6 @@ invariant-loop-node g l = let s = g.S.Shelf in record {
   frame : ShelfRead (s.view l.fn.shelf) (s.view l.shelf) None;
   children : OfRoom (s.view l.fn.shelf) (s.view l.shelf) (λ t room. AreChildren t l.fn.id l.node-items);
   none : OfRoom (s.view l.fn.shelf) (s.view l.shelf) (λ t room. (path : Path) (node : Node) → HasPath t path l.fn.id
-      → t.node l.fn.id ≡ Some node → node.kind ≡ l.fn.kind → NoneBelowEach room path (l.levels - 1) (take l.node-index l.node-items));
+      → t.node l.fn.id ≡ Some node → node.kind ≡ l.fn.kind
+      → NoneBelowEach room path (l.levels - 1) (take l.node-index l.node-items));
 }

@@ -1,7 +1,7 @@
 use Rattle.std.proofs.Common.{◌≡◌, ◌-◌, ap, ◌∙◌, subst, [], ◌∷◌, take, length}
 use Rattle.room_records.specs.Names.{Path}
 use Rattle.room_records.specs.Room.{parent_of}
-use Rattle.room_commands.specs.declared.reply.Fault.TheVariants.{Exist}
+use Rattle.room_commands.specs.declared.reply.RefusalCode.TheVariants.{Exist}
 use Rattle.room_commands.specs.Checks.{refuse_if, is_root, walk, check_absent, check_right}
 use Rattle.room_tree.proofs.Checking.{skip, off_root, none_passes, first_alone}
 use Rattle.room_tree.proofs.Stops.{handed_on, past_head, in_front, past_front, at_head}
@@ -15,8 +15,10 @@ returns-in_err-above-clause-value g c = λ available laid_out t e room stand.
     let Long : Path → Type 0 = λ p. length p ≡ 0 → ⊥ in
     let off = off_root path (subst Long c.names-count.ensures.value c.if-count-eq0.false) in
     handed_on _ _ _ c.from_residual.result c.from_residual.ensures.1
-    (past_head (refuse_if (is_root path) Exist) (walk room caller path ∷ check_absent room path ∷ right ∷ []) _ (ap (λ b. refuse_if b Exist) off)
-    (in_front (walk room caller path ∷ check_absent room path ∷ []) (right ∷ []) _ (c.in_err-above.ensures.value available laid_out t e room stand)))
+    (past_head (refuse_if (is_root path) Exist)
+    (walk room caller path ∷ check_absent room path ∷ right ∷ []) _ (ap (λ b. refuse_if b Exist) off)
+    (in_front (walk room caller path ∷ check_absent room path ∷ []) (right ∷ [])
+    _ (c.in_err-above.ensures.value available laid_out t e room stand)))
 
 pub returns-in_err-check_right-clause-value : goal.returns-in_err-check_right-clause-value
 returns-in_err-check_right-clause-value g c = λ available laid_out t e room stand.
@@ -26,9 +28,11 @@ returns-in_err-check_right-clause-value g c = λ available laid_out t e room sta
     let Long : Path → Type 0 = λ p. length p ≡ 0 → ⊥ in
     let off = off_root path (subst Long c.names-count.ensures.value c.if-count-eq0.false) in
     let above = c.in_ok-above.ensures.value available laid_out t e room stand in
-    let count : take (length c.names-count.result.now - 1) path ≡ parent_of path = ap (λ (p : Path). take (length p - 1) path) c.names-count.ensures.value in
+    let count : take (length c.names-count.result.now - 1) path ≡ parent_of path =
+    ap (λ (p : Path). take (length p - 1) path) c.names-count.ensures.value in
     handed_on _ _ _ c.from_residual-in_err-check_right.result c.from_residual-in_err-check_right.ensures.1
-    (past_head (refuse_if (is_root path) Exist) (walk room caller path ∷ check_absent room path ∷ right ∷ []) _ (ap (λ b. refuse_if b Exist) off)
+    (past_head (refuse_if (is_root path) Exist)
+    (walk room caller path ∷ check_absent room path ∷ right ∷ []) _ (ap (λ b. refuse_if b Exist) off)
     (past_front (walk room caller path ∷ check_absent room path ∷ []) (right ∷ []) _ above.0
     (at_head right [] _ (c.in_err-check_right.ensures.value t room (parent_of path) count above.1))))
 
@@ -40,8 +44,10 @@ returns-clause-value g c = λ available laid_out t e room stand.
     let Long : Path → Type 0 = λ p. length p ≡ 0 → ⊥ in
     let off = off_root path (subst Long c.names-count.ensures.value c.if-count-eq0.false) in
     let above = c.in_ok-above.ensures.value available laid_out t e room stand in
-    let count : take (length c.names-count.result.now - 1) path ≡ parent_of path = ap (λ (p : Path). take (length p - 1) path) c.names-count.ensures.value in (
-      skip (refuse_if (is_root path) Exist) (walk room caller path ∷ check_absent room path ∷ right ∷ []) (ap (λ b. refuse_if b Exist) off)
+    let count : take (length c.names-count.result.now - 1) path ≡ parent_of path =
+    ap (λ (p : Path). take (length p - 1) path) c.names-count.ensures.value in (
+      skip (refuse_if (is_root path) Exist)
+          (walk room caller path ∷ check_absent room path ∷ right ∷ []) (ap (λ b. refuse_if b Exist) off)
           ∙ none_passes (walk room caller path ∷ check_absent room path ∷ []) (right ∷ []) above.0 ∙ first_alone right
           ∙ (c.in_ok-check_right.ensures.value t room (parent_of path) count above.1).0,
       above.1,

@@ -2,7 +2,7 @@ use Rattle.std.proofs.Common.{ap, sym, ◌∙◌, [], ◌∷◌}
 use Rattle.std.specs.Prelude.{nat_le, nat_lt}
 use Rattle.room_records.specs.Limits.{max_children, max_objects}
 use Rattle.room_records.specs.Records.{Records, ObjectRecords}
-use Rattle.room_commands.specs.declared.reply.Fault.TheVariants.{FolderFull, RoomFull}
+use Rattle.room_commands.specs.declared.reply.RefusalCode.TheVariants.{FolderFull, RoomFull}
 use Rattle.room_commands.specs.Checks.{refuse_if, check_folder_full, check_room_full}
 use Rattle.room_tree.proofs.Checking.{skip, stop, first_alone}
 use Rattle.room_tree.proofs.Made.{before_next}
@@ -27,7 +27,8 @@ returns-in_err-check_number-clause-value g c = λ available laid_out t e room st
     (skip (check_folder_full room folder) (check_room_full room ∷ [])
     (ap (λ n. refuse_if (nat_le max_children n) FolderFull) (sym count) ∙ sym c.in_ok-check_children.ensures)
     ∙ first_alone (check_room_full room)
-    ∙ ap (λ b. refuse_if b RoomFull) (sym (before_next max_objects room.made)) ∙ ap (λ n. refuse_if (nat_lt max_objects n) RoomFull) (sym (next ∙ stand.next))
+    ∙ ap (λ b. refuse_if b RoomFull) (sym (before_next max_objects room.made))
+    ∙ ap (λ n. refuse_if (nat_lt max_objects n) RoomFull) (sym (next ∙ stand.next))
     ∙ sym c.in_err-check_number.ensures)
 
 pub returns-clause-value : goal.returns-clause-value
@@ -40,7 +41,8 @@ returns-clause-value g c = λ available laid_out t e room stand folder found.
       skip (check_folder_full room folder) (check_room_full room ∷ [])
           (ap (λ n. refuse_if (nat_le max_children n) FolderFull) (sym count) ∙ sym c.in_ok-check_children.ensures)
           ∙ first_alone (check_room_full room)
-          ∙ ap (λ b. refuse_if b RoomFull) (sym (before_next max_objects room.made)) ∙ ap (λ n. refuse_if (nat_lt max_objects n) RoomFull) (sym (next ∙ stand.next))
+          ∙ ap (λ b. refuse_if b RoomFull) (sym (before_next max_objects room.made))
+          ∙ ap (λ n. refuse_if (nat_lt max_objects n) RoomFull) (sym (next ∙ stand.next))
           ∙ sym c.in_ok-check_number.ensures,
       next,
     )

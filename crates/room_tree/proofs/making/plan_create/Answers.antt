@@ -1,8 +1,12 @@
-use Rattle.std.proofs.Common.{◌≡◌, ◌<◌, ◌^◌, arith, ap, sym, ◌∙◌, [], ◌∷◌, None, length}
+use Rattle.std.proofs.Common.{◌≡◌, ◌<◌, ◌^◌, arith, ap, sym, ◌∙◌, List, [], ◌∷◌, None, length}
+use Rattle.room_acl.specs.declared.subject.Kind.TheVariants.{File}
+use Rattle.room_acl.specs.Entries.{EntryModel}
+use Rattle.room_acl.specs.Inheritance.{handed_down}
 use Rattle.room_records.specs.Records.{Records}
 use Rattle.room_records.specs.Room.{parent_of}
-use Rattle.room_commands.specs.declared.reply.Fault.TheVariants.{Exist}
-use Rattle.room_commands.specs.Checks.{refuse_if, is_root, walk, check_absent, check_right, check_size, check_folder_full, check_room_full}
+use Rattle.room_commands.specs.declared.reply.RefusalCode.TheVariants.{Exist}
+use Rattle.room_commands.specs.Checks.{refuse_if, is_root, walk, check_absent, check_right, check_size}
+use Rattle.room_commands.specs.Checks.{check_folder_full, check_room_full}
 use Rattle.room_commands.specs.ReplyModel.{Size}
 use Rattle.room_tree.proofs.Checking.{none_passes, stop, small_by_check}
 use Rattle.room_tree.proofs.Made.{create_plans}
@@ -13,17 +17,22 @@ pub returns-in_err-above-clause-effect : goal.returns-in_err-above-clause-effect
 returns-in_err-above-clause-effect g c = λ available laid_out t e room stand.
     let path = c.args.path.now in
     handed_on _ _ _ c.from_residual.result c.from_residual.ensures.1
-    (in_front (refuse_if (is_root path) Exist ∷ walk room c.args.subject.now path ∷ check_absent room path ∷ check_right room c.args.subject.now (parent_of path) 0x2 ∷ [])
-    (check_size (length c.args.bytes.now) ∷ check_folder_full room (parent_of path) ∷ check_room_full room ∷ []) _ (c.in_err-above.ensures.value available laid_out t e room stand))
+    (in_front (refuse_if (is_root path) Exist ∷ walk room c.args.subject.now path
+    ∷ check_absent room path ∷ check_right room c.args.subject.now (parent_of path) 0x2 ∷ [])
+    (check_size (length c.args.bytes.now) ∷ check_folder_full room (parent_of path) ∷ check_room_full room ∷ [])
+    _ (c.in_err-above.ensures.value available laid_out t e room stand))
 
 pub returns-in_err-check_size-clause-effect : goal.returns-in_err-check_size-clause-effect
 returns-in_err-check_size-clause-effect g c = λ available laid_out t e room stand.
     let path = c.args.path.now in
     let reached = c.in_ok-above.ensures.value available laid_out t e room stand in
     handed_on _ _ _ c.from_residual-in_err-check_size.result c.from_residual-in_err-check_size.ensures.1
-    (none_passes (refuse_if (is_root path) Exist ∷ walk room c.args.subject.now path ∷ check_absent room path ∷ check_right room c.args.subject.now (parent_of path) 0x2 ∷ [])
-    (check_size (length c.args.bytes.now) ∷ check_folder_full room (parent_of path) ∷ check_room_full room ∷ []) reached.0
-    ∙ stop (check_size (length c.args.bytes.now)) (check_folder_full room (parent_of path) ∷ check_room_full room ∷ []) _ (sym c.in_err-check_size.ensures))
+    (none_passes (refuse_if (is_root path) Exist ∷ walk room c.args.subject.now path
+    ∷ check_absent room path ∷ check_right room c.args.subject.now (parent_of path) 0x2 ∷ [])
+    (check_size (length c.args.bytes.now) ∷ check_folder_full room (parent_of path) ∷ check_room_full room ∷ [])
+    reached.0
+    ∙ stop (check_size (length c.args.bytes.now))
+    (check_folder_full room (parent_of path) ∷ check_room_full room ∷ []) _ (sym c.in_err-check_size.ensures))
 
 pub returns-in_err-id-clause-effect : goal.returns-in_err-id-clause-effect
 returns-in_err-id-clause-effect g c = λ available laid_out t e room stand.
@@ -33,9 +42,12 @@ returns-in_err-id-clause-effect g c = λ available laid_out t e room stand.
     let declared = c.folder_for_new.ensures.frame.call.laid_out before laid_out in
     let same = ap (λ (r : Records). r.objects) (c.folder_for_new.ensures.frame.same before laid_out) ∙ e in
     handed_on _ _ _ c.from_residual-in_err-id.result c.from_residual-in_err-id.ensures.1
-    (past_front (refuse_if (is_root path) Exist ∷ walk room c.args.subject.now path ∷ check_absent room path ∷ check_right room c.args.subject.now (parent_of path) 0x2 ∷ [])
-    (check_size (length c.args.bytes.now) ∷ check_folder_full room (parent_of path) ∷ check_room_full room ∷ []) _ reached.0
-    (past_head (check_size (length c.args.bytes.now)) (check_folder_full room (parent_of path) ∷ check_room_full room ∷ []) _ (sym c.in_ok-check_size.ensures)
+    (past_front (refuse_if (is_root path) Exist ∷ walk room c.args.subject.now path
+    ∷ check_absent room path ∷ check_right room c.args.subject.now (parent_of path) 0x2 ∷ [])
+    (check_size (length c.args.bytes.now) ∷ check_folder_full room (parent_of path) ∷ check_room_full room ∷ [])
+    _ reached.0
+    (past_head (check_size (length c.args.bytes.now))
+    (check_folder_full room (parent_of path) ∷ check_room_full room ∷ []) _ (sym c.in_ok-check_size.ensures)
     (c.in_err-id.ensures.value available declared t same room stand (parent_of path) reached.1)))
 
 pub returns-clause-effect : goal.returns-clause-effect
@@ -48,5 +60,9 @@ returns-clause-effect g c = λ available laid_out t e room stand.
     let number = c.in_ok-id.ensures.value available declared t same room stand (parent_of path) reached.1 in
     let size : check_size (length c.args.bytes.now) ≡ None = sym c.in_ok-check_size.ensures in
     let fits : length c.args.bytes.now < 2 ^ 32 = omega (arith, small_by_check (length c.args.bytes.now) size) in
-    create_plans t room c.args.subject.now c.args.bytes.now path c.in_ok-above.above c.in_ok-id.id c.in_ok-node.node c.in_ok-copy.copy _ stand c.in_ok-above.ensures.lawful reached.0 size reached.1
-    number c.in_ok-node.ensures (c.in_ok-copy.ensures.items_if_clones_equal (λ x y is. is)) c.in_ok-changes.ensures (ap Size (c.as_size.ensures fits))
+    create_plans t room c.args.subject.now c.args.bytes.now path c.in_ok-above.above c.in_ok-id.id c.in_ok-node.node
+    c.in_ok-list.list c.in_ok-copy.copy _ stand c.in_ok-above.ensures.lawful reached.0 size reached.1
+    number c.in_ok-node.ensures
+    (c.in_ok-list.ensures ∙ ap (λ (list : List EntryModel). handed_down list File) c.deref.ensures.value)
+    (c.in_ok-copy.ensures.items_if_clones_equal (λ x y is. is))
+    c.in_ok-changes.ensures (ap Size (c.as_size.ensures fits))

@@ -1,8 +1,12 @@
-use Rattle.std.proofs.Common.{ap, ◌∙◌, [], ◌∷◌, refl}
+use Rattle.std.proofs.Common.{ap, ◌∙◌, List, [], ◌∷◌, refl}
+use Rattle.room_acl.specs.declared.subject.Kind.TheVariants.{Folder}
+use Rattle.room_acl.specs.Entries.{EntryModel}
+use Rattle.room_acl.specs.Inheritance.{handed_down}
 use Rattle.room_records.specs.Records.{Records}
 use Rattle.room_records.specs.Room.{parent_of}
-use Rattle.room_commands.specs.declared.reply.Fault.TheVariants.{Exist}
-use Rattle.room_commands.specs.Checks.{refuse_if, is_root, walk, check_absent, check_right, check_folder_full, check_room_full}
+use Rattle.room_commands.specs.declared.reply.RefusalCode.TheVariants.{Exist}
+use Rattle.room_commands.specs.Checks.{refuse_if, is_root, walk, check_absent, check_right}
+use Rattle.room_commands.specs.Checks.{check_folder_full, check_room_full}
 use Rattle.room_tree.proofs.Made.{mkdir_plans}
 use Rattle.room_tree.proofs.Stops.{handed_on, in_front, past_front}
 use Rattle.room_tree.proofs.making.plan_mkdir.Goals as goal
@@ -11,8 +15,10 @@ pub returns-in_err-above-clause-effect : goal.returns-in_err-above-clause-effect
 returns-in_err-above-clause-effect g c = λ available laid_out t e room stand.
     let path = c.args.path.now in
     handed_on _ _ _ c.from_residual.result c.from_residual.ensures.1
-    (in_front (refuse_if (is_root path) Exist ∷ walk room c.args.subject.now path ∷ check_absent room path ∷ check_right room c.args.subject.now (parent_of path) 0x4 ∷ [])
-    (check_folder_full room (parent_of path) ∷ check_room_full room ∷ []) _ (c.in_err-above.ensures.value available laid_out t e room stand))
+    (in_front (refuse_if (is_root path) Exist ∷ walk room c.args.subject.now path
+    ∷ check_absent room path ∷ check_right room c.args.subject.now (parent_of path) 0x4 ∷ [])
+    (check_folder_full room (parent_of path) ∷ check_room_full room ∷ [])
+    _ (c.in_err-above.ensures.value available laid_out t e room stand))
 
 pub returns-in_err-id-clause-effect : goal.returns-in_err-id-clause-effect
 returns-in_err-id-clause-effect g c = λ available laid_out t e room stand.
@@ -22,8 +28,10 @@ returns-in_err-id-clause-effect g c = λ available laid_out t e room stand.
     let declared = c.folder_for_new.ensures.frame.call.laid_out before laid_out in
     let same = ap (λ (r : Records). r.objects) (c.folder_for_new.ensures.frame.same before laid_out) ∙ e in
     handed_on _ _ _ c.from_residual-in_err-id.result c.from_residual-in_err-id.ensures.1
-    (past_front (refuse_if (is_root path) Exist ∷ walk room c.args.subject.now path ∷ check_absent room path ∷ check_right room c.args.subject.now (parent_of path) 0x4 ∷ [])
-    (check_folder_full room (parent_of path) ∷ check_room_full room ∷ []) _ reached.0 (c.in_err-id.ensures.value available declared t same room stand (parent_of path) reached.1))
+    (past_front (refuse_if (is_root path) Exist ∷ walk room c.args.subject.now path
+    ∷ check_absent room path ∷ check_right room c.args.subject.now (parent_of path) 0x4 ∷ [])
+    (check_folder_full room (parent_of path) ∷ check_room_full room ∷ []) _ reached.0
+    (c.in_err-id.ensures.value available declared t same room stand (parent_of path) reached.1))
 
 pub returns-clause-effect : goal.returns-clause-effect
 returns-clause-effect g c = λ available laid_out t e room stand.
@@ -33,5 +41,8 @@ returns-clause-effect g c = λ available laid_out t e room stand.
     let declared = c.folder_for_new.ensures.frame.call.laid_out before laid_out in
     let same = ap (λ (r : Records). r.objects) (c.folder_for_new.ensures.frame.same before laid_out) ∙ e in
     let number = c.in_ok-id.ensures.value available declared t same room stand (parent_of path) reached.1 in
-    mkdir_plans t room c.args.subject.now path c.in_ok-above.above c.in_ok-id.id c.in_ok-node.node _ stand c.in_ok-above.ensures.lawful reached.0 reached.1
-    number c.in_ok-node.ensures c.in_ok-changes.ensures refl
+    mkdir_plans t room c.args.subject.now path c.in_ok-above.above c.in_ok-id.id c.in_ok-node.node
+    c.in_ok-list.list _ stand c.in_ok-above.ensures.lawful reached.0 reached.1
+    number c.in_ok-node.ensures
+    (c.in_ok-list.ensures ∙ ap (λ (list : List EntryModel). handed_down list Folder) c.deref.ensures.value)
+    c.in_ok-changes.ensures refl

@@ -1,5 +1,5 @@
 use Rattle.std.proofs.Common.{sym, ◌∙◌, ◌++◌, ◌||◌}
-use Rattle.room_commands.specs.declared.reply.Fault.TheVariants.{Inval}
+use Rattle.room_commands.specs.declared.reply.RefusalCode.TheVariants.{Inval}
 use Rattle.room_commands.specs.Checks.{refuse_if, is_root, is_at_or_below}
 use Rattle.room_tree.specs.Renames.{end_checks, move_rights}
 use Rattle.room_tree.proofs.Checking.{skip, stop, none_passes}
@@ -13,7 +13,8 @@ returns-in_err-check_paths-clause-value g c = λ available laid_out t e room sta
     let caller = c.args.subject.now in
     let to = c.args.to.now in
     handed_on _ _ _ c.from_residual.result c.from_residual.ensures.1
-    (stop (refuse_if (is_root path || is_root to || is_at_or_below to path) Inval) (end_checks room caller path to ++ move_rights room caller path to) _
+    (stop (refuse_if (is_root path || is_root to || is_at_or_below to path) Inval)
+    (end_checks room caller path to ++ move_rights room caller path to) _
     (sym c.in_err-check_paths.ensures.value))
 
 pub returns-in_err-ends-clause-value : goal.returns-in_err-ends-clause-value
@@ -23,7 +24,8 @@ returns-in_err-ends-clause-value g c = λ available laid_out t e room stand.
     let to = c.args.to.now in
     let passed = sym c.in_ok-check_paths.ensures.value in
     handed_on _ _ _ c.from_residual-in_err-ends.result c.from_residual-in_err-ends.ensures.1
-    (past_head (refuse_if (is_root path || is_root to || is_at_or_below to path) Inval) (end_checks room caller path to ++ move_rights room caller path to) _ passed
+    (past_head (refuse_if (is_root path || is_root to || is_at_or_below to path) Inval)
+    (end_checks room caller path to ++ move_rights room caller path to) _ passed
     (in_front (end_checks room caller path to) (move_rights room caller path to) _
     (c.in_err-ends.ensures.value available laid_out t e room stand (paths_pass path to passed).below_root)))
 
@@ -35,8 +37,10 @@ returns-in_err-check_rights-clause-value g c = λ available laid_out t e room st
     let passed = sym c.in_ok-check_paths.ensures.value in
     let ended = c.in_ok-ends.ensures.value available laid_out t e room stand (paths_pass path to passed).below_root in
     handed_on _ _ _ c.from_residual-in_err-check_rights.result c.from_residual-in_err-check_rights.ensures.1
-    (past_head (refuse_if (is_root path || is_root to || is_at_or_below to path) Inval) (end_checks room caller path to ++ move_rights room caller path to) _ passed
-    (past_front (end_checks room caller path to) (move_rights room caller path to) _ ended.0 (c.in_err-check_rights.ensures.value t room ended.1)))
+    (past_head (refuse_if (is_root path || is_root to || is_at_or_below to path) Inval)
+    (end_checks room caller path to ++ move_rights room caller path to) _ passed
+    (past_front (end_checks room caller path to) (move_rights room caller path to)
+    _ ended.0 (c.in_err-check_rights.ensures.value t room ended.1)))
 
 pub returns-clause-value : goal.returns-clause-value
 returns-clause-value g c = λ available laid_out t e room stand.
@@ -45,7 +49,9 @@ returns-clause-value g c = λ available laid_out t e room stand.
     let to = c.args.to.now in
     let passed = sym c.in_ok-check_paths.ensures.value in
     let ended = c.in_ok-ends.ensures.value available laid_out t e room stand (paths_pass path to passed).below_root in (
-      skip (refuse_if (is_root path || is_root to || is_at_or_below to path) Inval) (end_checks room caller path to ++ move_rights room caller path to) passed
-          ∙ none_passes (end_checks room caller path to) (move_rights room caller path to) ended.0 ∙ (c.in_ok-check_rights.ensures.value t room ended.1).0,
+      skip (refuse_if (is_root path || is_root to || is_at_or_below to path) Inval)
+          (end_checks room caller path to ++ move_rights room caller path to) passed
+          ∙ none_passes (end_checks room caller path to) (move_rights room caller path to) ended.0
+          ∙ (c.in_ok-check_rights.ensures.value t room ended.1).0,
       ended.1,
     )

@@ -18,7 +18,8 @@ returns-then-ne c =
     sym (false_from_ne_true (is_at_or_below names top) (λ below.
     other_names c.text.result.now c.text-in-loop-index.result.now c.ne.result c.ne.ensures c.if-ne.true
     (c.text.ensures.value ∙ c.index-names-index.is ∙ ap (λ (p : Path). get_or p i n) (rest_below top names below)
-    ∙ get_or_append_left top (drop (length top) names) n i c.loop-index-test.true ∙ get_or_default top i n m c.loop-index-test.true
+    ∙ get_or_append_left top (drop (length top) names) n i c.loop-index-test.true
+    ∙ get_or_default top i n m c.loop-index-test.true
     ∙ sym c.index-top-index.is ∙ sym c.text-in-loop-index.ensures.value)))
 
 pub loop-index-preserved : goal.loop-index-preserved
@@ -40,6 +41,8 @@ returns c =
     let top = c.args.top.now in
     let last : length top ≡ c.loop-index.index = omega (arith, c.loop-index-test.false, c.loop-index.auto.index-end) in
     let front : take (length top) names ≡ top =
-    ap (λ (k : ℕ). take k names) last ∙ c.loop-index.invariant ∙ take_all c.loop-index.index top c.loop-index-test.false in
-    let whole : names ≡ top ++ drop (length top) names = sym (take-append-drop (length top) names) ∙ ap (λ (p : Path). p ++ drop (length top) names) front in
+    ap (λ (k : ℕ). take k names) last ∙ c.loop-index.invariant
+    ∙ take_all c.loop-index.index top c.loop-index-test.false in
+    let whole : names ≡ top ++ drop (length top) names =
+    sym (take-append-drop (length top) names) ∙ ap (λ (p : Path). p ++ drop (length top) names) front in
     sym (ap (λ (p : Path). is_at_or_below p top) whole ∙ at_behind top (drop (length top) names))

@@ -24,7 +24,8 @@ returns-in_err-into-clause-value g c = λ available laid_out t e room stand off.
     let same = ap (λ (r : Records). r.objects) (c.reach_with_folder.ensures.frame.same before laid_out) ∙ e in
     let found = c.in_ok-found.ensures.value before laid_out t e room stand off in
     handed_on _ _ _ c.from_residual-in_err-into.result c.from_residual-in_err-into.ensures.1
-    (past_front (walk room caller path ∷ check_exists room path ∷ []) (walk room caller to ∷ check_absent room to ∷ []) _ found.0
+    (past_front (walk room caller path ∷ check_exists room path ∷ [])
+    (walk room caller to ∷ check_absent room to ∷ []) _ found.0
     (c.in_err-into.ensures.value available declared t same room stand))
 
 pub returns-clause-value : goal.returns-clause-value
@@ -37,6 +38,7 @@ returns-clause-value g c = λ available laid_out t e room stand off.
     let same = ap (λ (r : Records). r.objects) (c.reach_with_folder.ensures.frame.same before laid_out) ∙ e in
     let found = c.in_ok-found.ensures.value before laid_out t e room stand off in
     let free = c.in_ok-into.ensures.value available declared t same room stand in (
-      none_passes (walk room caller path ∷ check_exists room path ∷ []) (walk room caller to ∷ check_absent room to ∷ []) found.0 ∙ free.0,
-      record { place = found.1.0; from = found.1.1; into = free.1 },
+      none_passes (walk room caller path ∷ check_exists room path ∷ [])
+          (walk room caller to ∷ check_absent room to ∷ []) found.0 ∙ free.0,
+      record { loaded = found.1.0; from = found.1.1; into = free.1 },
     )

@@ -1,11 +1,13 @@
-use Rattle.std.proofs.Common.{ap, ◌∙◌, ◌∷◌, ◌++◌, ◌||◌}
+use Rattle.std.proofs.Common.{refl, ap, ◌∙◌, subst, List, ◌∷◌, ◌++◌, ◌||◌}
+use Rattle.room_acl.specs.Entries.{EntryModel}
 use Rattle.room_records.specs.Records.{Records}
-use Rattle.room_commands.specs.declared.reply.Fault.TheVariants.{Inval}
+use Rattle.room_commands.specs.declared.reply.RefusalCode.TheVariants.{Inval}
 use Rattle.room_commands.specs.Checks.{refuse_if, is_root, is_at_or_below}
+use Rattle.room_tree.specs.LoadedObjects.{node_of}
 use Rattle.room_tree.specs.Renames.{end_checks, move_rights, move_limits}
-use Rattle.room_commands.specs.ReplyModel.{reply_model}
 use Rattle.room_tree.proofs.Checking.{none_passes}
 use Rattle.room_tree.proofs.Renamed.{rename_plans}
+use Rattle.room_tree.proofs.Renewed.{IsChangeOf}
 use Rattle.room_tree.proofs.Stops.{handed_on, in_front, past_front}
 use Rattle.room_tree.proofs.moving.plan_rename.Goals as goal
 
@@ -14,7 +16,8 @@ returns-in_err-moving-clause-effect g c = λ available laid_out t e room stand.
     let path = c.args.path.now in
     let caller = c.args.subject.now in
     let to = c.args.to.now in
-    let first = refuse_if (is_root path || is_root to || is_at_or_below to path) Inval ∷ (end_checks room caller path to ++ move_rights room caller path to) in
+    let first = refuse_if (is_root path || is_root to || is_at_or_below to path) Inval
+    ∷ (end_checks room caller path to ++ move_rights room caller path to) in
     handed_on _ _ _ c.from_residual.result c.from_residual.ensures.1
     (in_front first (move_limits room path to) _ (c.in_err-moving.ensures.value available laid_out t e room stand))
 
@@ -23,26 +26,39 @@ returns-in_err-check_limits-clause-effect g c = λ available laid_out t e room s
     let path = c.args.path.now in
     let caller = c.args.subject.now in
     let to = c.args.to.now in
-    let first = refuse_if (is_root path || is_root to || is_at_or_below to path) Inval ∷ (end_checks room caller path to ++ move_rights room caller path to) in
+    let first = refuse_if (is_root path || is_root to || is_at_or_below to path) Inval
+    ∷ (end_checks room caller path to ++ move_rights room caller path to) in
     let before = c.check_limits.ensures.frame.call.was_available available in
     let declared = c.allowed_move.ensures.frame.call.laid_out before laid_out in
     let same = ap (λ (r : Records). r.objects) (c.allowed_move.ensures.frame.same before laid_out) ∙ e in
     let allowed = c.in_ok-moving.ensures.value before laid_out t e room stand in
     handed_on _ _ _ c.from_residual-in_err-check_limits.result c.from_residual-in_err-check_limits.ensures.1
-    (past_front first (move_limits room path to) _ allowed.0 (c.in_err-check_limits.ensures.value available declared t same room stand path allowed.1))
+    (past_front first (move_limits room path to) _ allowed.0
+    (c.in_err-check_limits.ensures.value available declared t same room stand path allowed.1))
 
 pub returns-clause-effect : goal.returns-clause-effect
 returns-clause-effect g c = λ available laid_out t e room stand.
     let path = c.args.path.now in
     let caller = c.args.subject.now in
     let to = c.args.to.now in
-    let first = refuse_if (is_root path || is_root to || is_at_or_below to path) Inval ∷ (end_checks room caller path to ++ move_rights room caller path to) in
-    let before = c.check_limits.ensures.frame.call.was_available available in
+    let first = refuse_if (is_root path || is_root to || is_at_or_below to path) Inval
+    ∷ (end_checks room caller path to ++ move_rights room caller path to) in
+    let counting = c.with_list.ensures.frame.call.was_available available in
+    let before = c.check_limits.ensures.frame.call.was_available counting in
     let declared = c.allowed_move.ensures.frame.call.laid_out before laid_out in
     let same = ap (λ (r : Records). r.objects) (c.allowed_move.ensures.frame.same before laid_out) ∙ e in
+    let declared_at_last = c.check_limits.ensures.frame.call.laid_out counting declared in
+    let same_at_last = ap (λ (r : Records). r.objects) (c.check_limits.ensures.frame.same counting declared) ∙ same in
     let allowed = c.in_ok-moving.ensures.value before laid_out t e room stand in
-    let limits = (c.in_ok-check_limits.ensures.value available declared t same room stand path allowed.1).0 in
+    let limits = (c.in_ok-check_limits.ensures.value counting declared t same room stand path allowed.1).0 in
     let lawful = c.in_ok-moving.ensures.lawful in
-    rename_plans t room caller path to c.in_ok-moving.moving c.in_ok-node.node c.in_ok-outcome.outcome stand lawful.0 lawful.1
-    (none_passes first (move_limits room path to) allowed.0 ∙ limits) allowed.1 c.in_ok-node.ensures
-    c.in_ok-outcome.ensures.changes (ap reply_model c.in_ok-outcome.ensures.reply)
+    let move = c.in_ok-moving.moving in
+    let Changes : List EntryModel → Type 0 =
+    λ stored. IsChangeOf stored c.in_ok-list.list.items c.if_changed-list.result in
+    let Moved : List EntryModel → Type 0 = λ list. IsChangeOf move.loaded.list.items list c.if_changed-list.result in
+    let changes = subst Moved c.in_ok-list.ensures (subst Changes c.deref.ensures.value c.if_changed-list.ensures) in
+    rename_plans t room caller path to move c.in_ok-node.node _ stand lawful.0 lawful.1
+    (none_passes first (move_limits room path to) allowed.0 ∙ limits)
+    allowed.1 c.in_ok-node.ensures c.if_changed-list.result changes
+    (λ at stands kind. c.in_ok-changes.ensures.value available declared_at_last
+    t same_at_last room stand path (node_of move.loaded) at stands kind) refl

@@ -24,7 +24,8 @@ returns-in-Mkdir-clause-effect g c = λ available laid_out t e room stand.
 pub returns-in-Create-clause-effect : goal.returns-in-Create-clause-effect
 returns-in-Create-clause-effect g c = λ available laid_out t e room stand.
     let P : Command → Type 0 = λ asked. Plans t room c.args.subject.now (command_model asked) c.plan_create.result in
-    subst P (sym c.in-Create.is) (let Q : List ℕ → Type 0 = λ b. Plans t room c.args.subject.now (C.Create b c.in-Create.path) c.plan_create.result in
+    subst P (sym c.in-Create.is) (let Q : List ℕ
+    → Type 0 = λ b. Plans t room c.args.subject.now (C.Create b c.in-Create.path) c.plan_create.result in
     subst Q c.as_slice.ensures.value (c.plan_create.ensures.effect available laid_out t e room stand))
 
 pub returns-in-Read-clause-effect : goal.returns-in-Read-clause-effect
@@ -35,13 +36,15 @@ returns-in-Read-clause-effect g c = λ available laid_out t e room stand.
 pub returns-in-Write-clause-effect : goal.returns-in-Write-clause-effect
 returns-in-Write-clause-effect g c = λ available laid_out t e room stand.
     let P : Command → Type 0 = λ asked. Plans t room c.args.subject.now (command_model asked) c.plan_write.result in
-    subst P (sym c.in-Write.is) (let Q : List ℕ → Type 0 = λ b. Plans t room c.args.subject.now (C.Write b c.in-Write.path) c.plan_write.result in
+    subst P (sym c.in-Write.is) (let Q : List ℕ
+    → Type 0 = λ b. Plans t room c.args.subject.now (C.Write b c.in-Write.path) c.plan_write.result in
     subst Q c.as_slice-in-Write.ensures.value (c.plan_write.ensures.effect available laid_out t e room stand))
 
 pub returns-in-Append-clause-effect : goal.returns-in-Append-clause-effect
 returns-in-Append-clause-effect g c = λ available laid_out t e room stand.
     let P : Command → Type 0 = λ asked. Plans t room c.args.subject.now (command_model asked) c.plan_append.result in
-    subst P (sym c.in-Append.is) (let Q : List ℕ → Type 0 = λ b. Plans t room c.args.subject.now (C.Append b c.in-Append.path) c.plan_append.result in
+    subst P (sym c.in-Append.is) (let Q : List ℕ
+    → Type 0 = λ b. Plans t room c.args.subject.now (C.Append b c.in-Append.path) c.plan_append.result in
     subst Q c.as_slice-in-Append.ensures.value (c.plan_append.ensures.effect available laid_out t e room stand))
 
 pub returns-in-GetList-clause-effect : goal.returns-in-GetList-clause-effect
@@ -67,8 +70,10 @@ returns-in-Remove-clause-effect g c = λ available laid_out t e room stand.
 pub returns-in-SetList-clause-effect : goal.returns-in-SetList-clause-effect
 returns-in-SetList-clause-effect g c = λ available laid_out t e room stand.
     let P : Command → Type 0 = λ asked. Plans t room c.args.subject.now (command_model asked) c.plan_setlist.result in
-    let Q : List EntryModel → Type 0 = λ es. Plans t room c.args.subject.now (C.SetList c.in-SetList.aclflag es c.in-SetList.path) c.plan_setlist.result in
-    subst P (sym c.in-SetList.is) (subst Q c.as_slice-in-SetList.ensures.value (c.plan_setlist.ensures.effect available laid_out t e room stand))
+    let Q : List EntryModel → Type 0 = λ es.
+    Plans t room c.args.subject.now (C.SetList c.in-SetList.aclflag es c.in-SetList.path) c.plan_setlist.result in
+    subst P (sym c.in-SetList.is)
+    (subst Q c.as_slice-in-SetList.ensures.value (c.plan_setlist.ensures.effect available laid_out t e room stand))
 
 pub returns-in-Rename-clause-effect : goal.returns-in-Rename-clause-effect
 returns-in-Rename-clause-effect g c = λ available laid_out t e room stand.
@@ -91,25 +96,33 @@ pub returns-in-Access-clause-reads : goal.returns-in-Access-clause-reads
 returns-in-Access-clause-reads g c = λ _. c.plan_access.ensures.none
 
 pub returns-in-Mkdir-clause-reads : goal.returns-in-Mkdir-clause-reads
-returns-in-Mkdir-clause-reads g c = λ reads. absurd (subst (λ asked. OnlyReads (command_model asked)) c.in-Mkdir.is reads)
+returns-in-Mkdir-clause-reads g c =
+    λ reads. absurd (subst (λ asked. OnlyReads (command_model asked)) c.in-Mkdir.is reads)
 
 pub returns-in-Create-clause-reads : goal.returns-in-Create-clause-reads
-returns-in-Create-clause-reads g c = λ reads. absurd (subst (λ asked. OnlyReads (command_model asked)) c.in-Create.is reads)
+returns-in-Create-clause-reads g c =
+    λ reads. absurd (subst (λ asked. OnlyReads (command_model asked)) c.in-Create.is reads)
 
 pub returns-in-Write-clause-reads : goal.returns-in-Write-clause-reads
-returns-in-Write-clause-reads g c = λ reads. absurd (subst (λ asked. OnlyReads (command_model asked)) c.in-Write.is reads)
+returns-in-Write-clause-reads g c =
+    λ reads. absurd (subst (λ asked. OnlyReads (command_model asked)) c.in-Write.is reads)
 
 pub returns-in-Append-clause-reads : goal.returns-in-Append-clause-reads
-returns-in-Append-clause-reads g c = λ reads. absurd (subst (λ asked. OnlyReads (command_model asked)) c.in-Append.is reads)
+returns-in-Append-clause-reads g c =
+    λ reads. absurd (subst (λ asked. OnlyReads (command_model asked)) c.in-Append.is reads)
 
 pub returns-in-Chown-clause-reads : goal.returns-in-Chown-clause-reads
-returns-in-Chown-clause-reads g c = λ reads. absurd (subst (λ asked. OnlyReads (command_model asked)) c.in-Chown.is reads)
+returns-in-Chown-clause-reads g c =
+    λ reads. absurd (subst (λ asked. OnlyReads (command_model asked)) c.in-Chown.is reads)
 
 pub returns-in-Remove-clause-reads : goal.returns-in-Remove-clause-reads
-returns-in-Remove-clause-reads g c = λ reads. absurd (subst (λ asked. OnlyReads (command_model asked)) c.in-Remove.is reads)
+returns-in-Remove-clause-reads g c =
+    λ reads. absurd (subst (λ asked. OnlyReads (command_model asked)) c.in-Remove.is reads)
 
 pub returns-in-SetList-clause-reads : goal.returns-in-SetList-clause-reads
-returns-in-SetList-clause-reads g c = λ reads. absurd (subst (λ asked. OnlyReads (command_model asked)) c.in-SetList.is reads)
+returns-in-SetList-clause-reads g c =
+    λ reads. absurd (subst (λ asked. OnlyReads (command_model asked)) c.in-SetList.is reads)
 
 pub returns-in-Rename-clause-reads : goal.returns-in-Rename-clause-reads
-returns-in-Rename-clause-reads g c = λ reads. absurd (subst (λ asked. OnlyReads (command_model asked)) c.in-Rename.is reads)
+returns-in-Rename-clause-reads g c =
+    λ reads. absurd (subst (λ asked. OnlyReads (command_model asked)) c.in-Rename.is reads)

@@ -1,30 +1,33 @@
 use Rattle.std.proofs.Common.{◌∙◌, [], ◌∷◌}
 use Rattle.room_commands.specs.Checks.{check_exists, walk}
-use Rattle.room_tree.specs.Places.{use_checks}
+use Rattle.room_tree.specs.LoadedObjects.{use_checks}
 use Rattle.room_tree.proofs.Checking.{none_passes}
 use Rattle.room_tree.proofs.Stops.{handed_on, in_front, past_front}
 use Rattle.room_tree.proofs.reaching.reach_to_use.Goals as goal
 
-pub returns-in_err-place-clause-value : goal.returns-in_err-place-clause-value
-returns-in_err-place-clause-value g c = λ available laid_out t e room stand.
+pub returns-in_err-loaded-clause-value : goal.returns-in_err-loaded-clause-value
+returns-in_err-loaded-clause-value g c = λ available laid_out t e room stand.
     let path = c.args.path.now in
     handed_on _ _ _ c.from_residual.result c.from_residual.ensures.1
-    (in_front (walk room c.args.subject.now path ∷ check_exists room path ∷ []) (use_checks room c.args.subject.now path c.args.only c.args.wanted) _
-    (c.in_err-place.ensures.value available laid_out t e room stand))
+    (in_front (walk room c.args.subject.now path ∷ check_exists room path ∷ [])
+    (use_checks room c.args.subject.now path c.args.only c.args.wanted) _
+    (c.in_err-loaded.ensures.value available laid_out t e room stand))
 
 pub returns-in_err-check_use-clause-value : goal.returns-in_err-check_use-clause-value
 returns-in_err-check_use-clause-value g c = λ available laid_out t e room stand.
     let path = c.args.path.now in
-    let before = c.in_ok-place.ensures.value available laid_out t e room stand in
+    let before = c.in_ok-loaded.ensures.value available laid_out t e room stand in
     handed_on _ _ _ c.from_residual-in_err-check_use.result c.from_residual-in_err-check_use.ensures.1
-    (past_front (walk room c.args.subject.now path ∷ check_exists room path ∷ []) (use_checks room c.args.subject.now path c.args.only c.args.wanted) _ before.0
+    (past_front (walk room c.args.subject.now path ∷ check_exists room path ∷ [])
+    (use_checks room c.args.subject.now path c.args.only c.args.wanted) _ before.0
     (c.in_err-check_use.ensures.value t room before.1))
 
 pub returns-clause-value : goal.returns-clause-value
 returns-clause-value g c = λ available laid_out t e room stand.
     let path = c.args.path.now in
-    let before = c.in_ok-place.ensures.value available laid_out t e room stand in (
-      none_passes (walk room c.args.subject.now path ∷ check_exists room path ∷ []) (use_checks room c.args.subject.now path c.args.only c.args.wanted) before.0
+    let before = c.in_ok-loaded.ensures.value available laid_out t e room stand in (
+      none_passes (walk room c.args.subject.now path ∷ check_exists room path ∷ [])
+          (use_checks room c.args.subject.now path c.args.only c.args.wanted) before.0
           ∙ (c.in_ok-check_use.ensures.value t room before.1).0,
       before.1,
     )

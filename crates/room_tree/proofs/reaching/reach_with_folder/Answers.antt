@@ -8,7 +8,8 @@ use Rattle.room_tree.proofs.reaching.reach_with_folder.Goals as goal
 pub returns-in_err-walk_path-clause-value : goal.returns-in_err-walk_path-clause-value
 returns-in_err-walk_path-clause-value g c = λ available laid_out t e room stand off.
     handed_on _ _ _ c.from_residual.result c.from_residual.ensures.1
-    (at_head (walk room c.args.subject.now c.args.path.now) (check_exists room c.args.path.now ∷ []) _ (c.in_err-walk_path.ensures.value available laid_out t e room stand))
+    (at_head (walk room c.args.subject.now c.args.path.now) (check_exists room c.args.path.now ∷ [])
+    _ (c.in_err-walk_path.ensures.value available laid_out t e room stand))
 
 pub returns-in-Absent-clause-value : goal.returns-in-Absent-clause-value
 returns-in-Absent-clause-value g c = λ available laid_out t e room stand off.
@@ -20,8 +21,10 @@ pub returns-in-Some-clause-value : goal.returns-in-Some-clause-value
 returns-in-Some-clause-value g c = λ available laid_out t e room stand off.
     let path = c.args.path.now in
     let ended = rw c.in-Found.is at (c.in_ok-walk_path.ensures.value available laid_out t e room stand) in
-    let above = rw c.in-Some.is at ended.1.1 in
-    (passes_to t room path c.in-Found.place ended.1.0 (walk room c.args.subject.now path) ended.0, (ended.1.0, above.1))
+    let above = rw c.in-Some.is at ended.1.1 in (
+      passes_to t room path c.in-Found.loaded ended.1.0 (walk room c.args.subject.now path) ended.0,
+      (ended.1.0, above.1),
+    )
 
 pub returns-in-None-clause-value : goal.returns-in-None-clause-value
 returns-in-None-clause-value g c = λ available laid_out t e room stand off.

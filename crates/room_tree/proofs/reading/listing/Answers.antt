@@ -5,12 +5,14 @@ use Rattle.std.proofs.lemmas.List.Elements.{filter_map-append}
 use Rattle.room_acl.specs.declared.subject.Kind.{Kind}
 use Rattle.room_records.specs.declared.node.Node.{Node}
 use Rattle.room_records.specs.Names.{Name}
-use Rattle.room_tree.specs.Places.{listed}
+use Rattle.room_tree.specs.LoadedObjects.{listed}
 use Rattle.room_tree.proofs.reading.listing.Goals as goal
 use Rattle.room_tree.proofs.reading.listing.Goals.{in-Some-name+in_ok-push, in_default}
 
-one_more : (before after : List (Name × Kind)) (nodes : List Node) (node : Node) (name : Option Name) → node.name ≡ name → before ≡ filter_map listed nodes
-    → after ≡ before ++ cons_option (option_map (λ (n : Name). (n, node.kind)) name) [] → after ≡ filter_map listed (nodes ++ node ∷ [])
+one_more : (before after : List (Name × Kind)) (nodes : List Node) (node : Node) (name : Option Name)
+    → node.name ≡ name → before ≡ filter_map listed nodes
+    → after ≡ before ++ cons_option (option_map (λ (n : Name). (n, node.kind)) name) []
+    → after ≡ filter_map listed (nodes ++ node ∷ [])
 one_more before after nodes node name is so pushed =
     pushed ∙ ap (λ (xs : List (Name × Kind)). xs ++ cons_option (option_map (λ (n : Name). (n, node.kind)) name) []) so
     ∙ ap (λ found. filter_map listed nodes ++ cons_option (option_map (λ (n : Name). (n, node.kind)) found) []) (sym is)
@@ -18,6 +20,9 @@ one_more before after nodes node name is so pushed =
 
 pub loop-node-preserved : goal.loop-node-preserved
 loop-node-preserved c = elim c.match-name.branch [
-  | in-Some-name+in_ok-push w ↦ one_more c.loop-node.names.items c.match-name.names.items c.loop-node.yielded c.in-Some.node (Some w.in-Some-name.name) w.in-Some-name.is c.loop-node.invariant (rw w.names-is w.in_ok-push.ensures.items)
-  | in_default w ↦ one_more c.loop-node.names.items c.match-name.names.items c.loop-node.yielded c.in-Some.node None w.in_default.is c.loop-node.invariant (rw w.names-is (sym (append-nil c.loop-node.names.items)))
+  | in-Some-name+in_ok-push w ↦
+      one_more c.loop-node.names.items c.match-name.names.items c.loop-node.yielded c.in-Some.node
+      (Some w.in-Some-name.name) w.in-Some-name.is c.loop-node.invariant (rw w.names-is w.in_ok-push.ensures.items)
+  | in_default w ↦ one_more c.loop-node.names.items c.match-name.names.items c.loop-node.yielded c.in-Some.node
+      None w.in_default.is c.loop-node.invariant (rw w.names-is (sym (append-nil c.loop-node.names.items)))
 ]

@@ -1,6 +1,6 @@
 use Rattle.std.proofs.Common.{◌≡◌}
 use Rattle.std.specs.List.{filter_map}
-use Rattle.room_tree.specs.Places.{listed}
+use Rattle.room_tree.specs.LoadedObjects.{listed}
 use Rattle.room_tree.proofs.reading.listing.Given as goal
 
 abbrev pub invariant-loop-node : goal.invariant-loop-node

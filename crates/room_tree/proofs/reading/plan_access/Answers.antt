@@ -8,14 +8,18 @@ use Rattle.room_commands.specs.ReplyModel.{Allowed}
 use Rattle.room_tree.proofs.Stops.{handed_on}
 use Rattle.room_tree.proofs.reading.plan_access.Goals as goal
 
-pub returns-in_err-place-clause-effect : goal.returns-in_err-place-clause-effect
-returns-in_err-place-clause-effect g c = λ available laid_out t e room stand.
-    handed_on _ _ _ c.from_residual.result c.from_residual.ensures.1 (c.in_err-place.ensures.value available laid_out t e room stand)
+pub returns-in_err-loaded-clause-effect : goal.returns-in_err-loaded-clause-effect
+returns-in_err-loaded-clause-effect g c = λ available laid_out t e room stand.
+    handed_on _ _ _ c.from_residual.result c.from_residual.ensures.1
+    (c.in_err-loaded.ensures.value available laid_out t e room stand)
 
 pub returns-clause-effect : goal.returns-clause-effect
 returns-clause-effect g c = λ available laid_out t e room stand.
-    let reached = c.in_ok-place.ensures.value available laid_out t e room stand in
-    let place = c.in_ok-place.place in
-    let allowed = c.common_bits.ensures ∙ ap (bit_and c.args.mask) (c.allowed_bits-allowed.ensures.value ∙ ap (λ list. allowed_mask list c.args.subject.now place.standing) c.deref.ensures.value) in
-    reading_plans t room c.args.subject.now (C.Access c.args.mask c.args.path.now) c.reading.result stand (λ path. refl) refl reached.0
-    (c.reading.ensures.reply ∙ ap Allowed allowed ∙ access_reply t room c.args.path.now place reached.1 c.args.subject.now c.args.mask) c.reading.ensures.none
+    let reached = c.in_ok-loaded.ensures.value available laid_out t e room stand in
+    let loaded = c.in_ok-loaded.loaded in
+    let allowed = c.common_bits.ensures ∙ ap (bit_and c.args.mask) (c.allowed_bits-allowed.ensures.value
+    ∙ ap (λ list. allowed_mask list c.args.subject.now loaded.standing) c.deref.ensures.value) in
+    reading_plans t room c.args.subject.now (C.Access c.args.mask c.args.path.now)
+    c.reading.result stand (λ path. refl) refl reached.0
+    (c.reading.ensures.reply ∙ ap Allowed allowed
+    ∙ access_reply t room c.args.path.now loaded reached.1 c.args.subject.now c.args.mask) c.reading.ensures.none

@@ -5,12 +5,15 @@ use Rattle.room_tree.proofs.Replies.{entries_reply}
 use Rattle.room_tree.proofs.Stops.{handed_on}
 use Rattle.room_tree.proofs.reading.plan_getlist.Goals as goal
 
-pub returns-in_err-place-clause-effect : goal.returns-in_err-place-clause-effect
-returns-in_err-place-clause-effect g c = λ available laid_out t e room stand.
-    handed_on _ _ _ c.from_residual.result c.from_residual.ensures.1 (c.in_err-place.ensures.value available laid_out t e room stand)
+pub returns-in_err-loaded-clause-effect : goal.returns-in_err-loaded-clause-effect
+returns-in_err-loaded-clause-effect g c = λ available laid_out t e room stand.
+    handed_on _ _ _ c.from_residual.result c.from_residual.ensures.1
+    (c.in_err-loaded.ensures.value available laid_out t e room stand)
 
 pub returns-clause-effect : goal.returns-clause-effect
 returns-clause-effect g c = λ available laid_out t e room stand.
-    let reached = c.in_ok-place.ensures.value available laid_out t e room stand in
-    reading_plans t room c.args.subject.now (C.GetList c.args.path.now) c.reading.result stand (λ path. refl) refl reached.0
-    (c.reading.ensures.reply ∙ entries_reply t room c.args.path.now c.in_ok-place.place reached.1) c.reading.ensures.none
+    let reached = c.in_ok-loaded.ensures.value available laid_out t e room stand in
+    reading_plans t room c.args.subject.now (C.GetList c.args.path.now)
+    c.reading.result stand (λ path. refl) refl reached.0
+    (c.reading.ensures.reply ∙ entries_reply t room c.args.path.now c.in_ok-loaded.loaded reached.1)
+    c.reading.ensures.none

@@ -6,16 +6,18 @@ use Rattle.room_commands.specs.ReplyModel.{Names}
 use Rattle.room_tree.proofs.Stops.{handed_on}
 use Rattle.room_tree.proofs.reading.plan_list.Goals as goal
 
-pub returns-in_err-place-clause-effect : goal.returns-in_err-place-clause-effect
-returns-in_err-place-clause-effect g c = λ available laid_out t e room stand.
-    handed_on _ _ _ c.from_residual.result c.from_residual.ensures.1 (c.in_err-place.ensures.value available laid_out t e room stand)
+pub returns-in_err-loaded-clause-effect : goal.returns-in_err-loaded-clause-effect
+returns-in_err-loaded-clause-effect g c = λ available laid_out t e room stand.
+    handed_on _ _ _ c.from_residual.result c.from_residual.ensures.1
+    (c.in_err-loaded.ensures.value available laid_out t e room stand)
 
 pub returns-clause-effect : goal.returns-clause-effect
 returns-clause-effect g c = λ available laid_out t e room stand.
     let before = c.names_in.ensures.frame.call.was_available available in
-    let reached = c.in_ok-place.ensures.value before laid_out t e room stand in
+    let reached = c.in_ok-loaded.ensures.value before laid_out t e room stand in
     let declared = c.reach_to_use.ensures.frame.call.laid_out before laid_out in
     let same = ap (λ (r : Records). r.objects) (c.reach_to_use.ensures.frame.same before laid_out) ∙ e in
     let names = c.in_ok-names.ensures.value available declared t same room stand c.args.path.now reached.1 in
-    reading_plans t room c.args.subject.now (C.ListNames c.args.path.now) c.reading.result stand (λ path. refl) refl reached.0
+    reading_plans t room c.args.subject.now (C.ListNames c.args.path.now)
+    c.reading.result stand (λ path. refl) refl reached.0
     (c.reading.ensures.reply ∙ ap Names names) c.reading.ensures.none

@@ -6,16 +6,19 @@ use Rattle.room_tree.proofs.Replies.{stat_reply}
 use Rattle.room_tree.proofs.Stops.{handed_on}
 use Rattle.room_tree.proofs.reading.plan_stat.Goals as goal
 
-pub returns-in_err-place-clause-effect : goal.returns-in_err-place-clause-effect
-returns-in_err-place-clause-effect g c = λ available laid_out t e room stand.
-    handed_on _ _ _ c.from_residual.result c.from_residual.ensures.1 (c.in_err-place.ensures.value available laid_out t e room stand)
+pub returns-in_err-loaded-clause-effect : goal.returns-in_err-loaded-clause-effect
+returns-in_err-loaded-clause-effect g c = λ available laid_out t e room stand.
+    handed_on _ _ _ c.from_residual.result c.from_residual.ensures.1
+    (c.in_err-loaded.ensures.value available laid_out t e room stand)
 
 pub returns-clause-effect : goal.returns-clause-effect
 returns-clause-effect g c = λ available laid_out t e room stand.
     let before = c.size_of.ensures.frame.call.was_available available in
-    let reached = c.in_ok-place.ensures.value before laid_out t e room stand in
+    let reached = c.in_ok-loaded.ensures.value before laid_out t e room stand in
     let declared = c.reach_to_use.ensures.frame.call.laid_out before laid_out in
     let same = ap (λ (r : Records). r.objects) (c.reach_to_use.ensures.frame.same before laid_out) ∙ e in
     let size = c.in_ok-size.ensures.value available declared t same room stand c.args.path.now reached.1 in
-    reading_plans t room c.args.subject.now (C.Stat c.args.path.now) c.reading.result stand (λ path. refl) refl reached.0
-    (c.reading.ensures.reply ∙ stat_reply t room c.args.path.now c.in_ok-place.place reached.1 c.into_node-node.result c.in_ok-size.size c.into_node-node.ensures size) c.reading.ensures.none
+    reading_plans t room c.args.subject.now (C.Stat c.args.path.now)
+    c.reading.result stand (λ path. refl) refl reached.0
+    (c.reading.ensures.reply ∙ stat_reply t room c.args.path.now c.in_ok-loaded.loaded reached.1
+    c.into_node-node.result c.in_ok-size.size c.into_node-node.ensures size) c.reading.ensures.none

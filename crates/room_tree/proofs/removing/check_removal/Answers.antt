@@ -4,16 +4,18 @@ use Rattle.std.proofs.lemmas.List.{take_all}
 use Rattle.room_records.specs.Names.{Path}
 use Rattle.room_records.specs.Room.{parent_of}
 use Rattle.room_commands.specs.ReplyModel.{Refusal}
-use Rattle.room_commands.specs.declared.reply.Fault.TheVariants.{Access}
+use Rattle.room_commands.specs.declared.reply.RefusalCode.TheVariants.{Access}
 use Rattle.room_commands.specs.Checks.{removal_refusal, check_right}
 use Rattle.room_tree.proofs.removing.check_removal.Goals as goal
 
 -- one of the rights is enough
-by_own : (path : Path) (own by_folder : Option Refusal) → true ≡ not (is_some own) → removal_refusal path own by_folder ≡ None
+by_own : (path : Path) (own by_folder : Option Refusal)
+    → true ≡ not (is_some own) → removal_refusal path own by_folder ≡ None
 by_own path None by_folder allowed = refl
 by_own path (Some r) by_folder allowed = cc
 
-by_above : (path : Path) (own by_folder : Option Refusal) → true ≡ not (is_some by_folder) → removal_refusal path own by_folder ≡ None
+by_above : (path : Path) (own by_folder : Option Refusal)
+    → true ≡ not (is_some by_folder) → removal_refusal path own by_folder ≡ None
 by_above path None by_folder allowed = refl
 by_above path (Some r) None allowed = refl
 by_above path (Some r) (Some s) allowed = cc
@@ -27,18 +29,28 @@ by_none path (Some r) (Some s) own_off above_off = refl
 
 pub returns-then-allows-clause-value : goal.returns-then-allows-clause-value
 returns-then-allows-clause-value c = λ t room here folder.
-    let path = c.args.path.now in
-    (by_own path (check_right room c.args.subject.now path 0x10000) (check_right room c.args.subject.now (parent_of path) 0x40) (sym c.if-allows.true ∙ c.allows.ensures t room path here), tt)
+    let path = c.args.path.now in (
+      by_own path (check_right room c.args.subject.now path 0x10000) (check_right room c.args.subject.now
+          (parent_of path) 0x40) (sym c.if-allows.true ∙ c.allows.ensures t room path here),
+      tt,
+    )
 
 pub returns-then-allows-2-clause-value : goal.returns-then-allows-2-clause-value
 returns-then-allows-2-clause-value c = λ t room here folder.
-    let path = c.args.path.now in
-    (by_above path (check_right room c.args.subject.now path 0x10000) (check_right room c.args.subject.now (parent_of path) 0x40) (sym c.if-allows-2.true ∙ c.allows-2.ensures t room (parent_of path) folder), tt)
+    let path = c.args.path.now in (
+      by_above path (check_right room c.args.subject.now path 0x10000) (check_right room c.args.subject.now
+          (parent_of path) 0x40) (sym c.if-allows-2.true ∙ c.allows-2.ensures t room (parent_of path) folder),
+      tt,
+    )
 
 pub returns-clause-value : goal.returns-clause-value
 returns-clause-value c = λ t room here folder.
     let path = c.args.path.now in
-    let whole : take (length c.names.result.now) path ≡ path = ap (λ (p : Path). take (length p) path) c.names.ensures.value ∙ take_all (length path) path (omega arith) in
-    by_none path (check_right room c.args.subject.now path 0x10000) (check_right room c.args.subject.now (parent_of path) 0x40)
-    (sym c.if-allows.false ∙ c.allows.ensures t room path here) (sym c.if-allows-2.false ∙ c.allows-2.ensures t room (parent_of path) folder)
+    let whole : take (length c.names.result.now) path ≡ path =
+    ap (λ (p : Path). take (length p) path) c.names.ensures.value ∙ take_all (length path) path (omega arith) in
+    by_none path (check_right room c.args.subject.now path 0x10000)
+    (check_right room c.args.subject.now (parent_of path) 0x40)
+    (sym c.if-allows.false ∙ c.allows.ensures t room path here)
+    (sym c.if-allows-2.false ∙ c.allows-2.ensures t room (parent_of path) folder)
     ∙ ap (λ (p : Path). Some (record { code = Access; place = Some (p, 0x10000) })) (sym (c.in_ok-at.ensures ∙ whole))
+    ∙ ap (λ bits. Some (record { code = Access; place = Some (c.in_ok-at.at, bits) })) (sym c.bits.ensures.value)

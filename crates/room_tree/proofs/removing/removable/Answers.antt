@@ -1,6 +1,6 @@
 use Rattle.std.proofs.Common.{◌≡◌, ap, ◌∙◌, subst, [], ◌∷◌, length}
 use Rattle.room_records.specs.Names.{Path}
-use Rattle.room_commands.specs.declared.reply.Fault.TheVariants.{Inval}
+use Rattle.room_commands.specs.declared.reply.RefusalCode.TheVariants.{Inval}
 use Rattle.room_commands.specs.Checks.{refuse_if, is_root, walk, check_exists, check_removal}
 use Rattle.room_tree.proofs.Checking.{skip, off_root, none_passes, first_alone}
 use Rattle.room_tree.proofs.Stops.{handed_on, at_head, past_head, in_front, past_front}
@@ -13,8 +13,10 @@ returns-in_err-found-clause-value g c = λ available laid_out t e room stand.
     let Long : Path → Type 0 = λ p. length p ≡ 0 → ⊥ in
     let off = off_root path (subst Long c.names.ensures.value c.if-names-eq0.false) in
     handed_on _ _ _ c.from_residual.result c.from_residual.ensures.1
-    (past_head (refuse_if (is_root path) Inval) (walk room caller path ∷ check_exists room path ∷ check_removal room caller path ∷ []) _ (ap (λ b. refuse_if b Inval) off)
-    (in_front (walk room caller path ∷ check_exists room path ∷ []) (check_removal room caller path ∷ []) _ (c.in_err-found.ensures.value available laid_out t e room stand off)))
+    (past_head (refuse_if (is_root path) Inval) (walk room caller path ∷ check_exists room path
+    ∷ check_removal room caller path ∷ []) _ (ap (λ b. refuse_if b Inval) off)
+    (in_front (walk room caller path ∷ check_exists room path ∷ []) (check_removal room caller path ∷ [])
+    _ (c.in_err-found.ensures.value available laid_out t e room stand off)))
 
 pub returns-in_err-check_removal-clause-value : goal.returns-in_err-check_removal-clause-value
 returns-in_err-check_removal-clause-value g c = λ available laid_out t e room stand.
@@ -24,7 +26,8 @@ returns-in_err-check_removal-clause-value g c = λ available laid_out t e room s
     let off = off_root path (subst Long c.names.ensures.value c.if-names-eq0.false) in
     let found = c.in_ok-found.ensures.value available laid_out t e room stand off in
     handed_on _ _ _ c.from_residual-in_err-check_removal.result c.from_residual-in_err-check_removal.ensures.1
-    (past_head (refuse_if (is_root path) Inval) (walk room caller path ∷ check_exists room path ∷ check_removal room caller path ∷ []) _ (ap (λ b. refuse_if b Inval) off)
+    (past_head (refuse_if (is_root path) Inval) (walk room caller path ∷ check_exists room path
+    ∷ check_removal room caller path ∷ []) _ (ap (λ b. refuse_if b Inval) off)
     (past_front (walk room caller path ∷ check_exists room path ∷ []) (check_removal room caller path ∷ []) _ found.0
     (at_head (check_removal room caller path) [] _ (c.in_err-check_removal.ensures.value t room found.1.0 found.1.1))))
 
@@ -35,8 +38,10 @@ returns-clause-value g c = λ available laid_out t e room stand.
     let Long : Path → Type 0 = λ p. length p ≡ 0 → ⊥ in
     let off = off_root path (subst Long c.names.ensures.value c.if-names-eq0.false) in
     let found = c.in_ok-found.ensures.value available laid_out t e room stand off in (
-      skip (refuse_if (is_root path) Inval) (walk room caller path ∷ check_exists room path ∷ check_removal room caller path ∷ []) (ap (λ b. refuse_if b Inval) off)
-          ∙ none_passes (walk room caller path ∷ check_exists room path ∷ []) (check_removal room caller path ∷ []) found.0 ∙ first_alone (check_removal room caller path)
+      skip (refuse_if (is_root path) Inval) (walk room caller path ∷ check_exists room path
+          ∷ check_removal room caller path ∷ []) (ap (λ b. refuse_if b Inval) off)
+          ∙ none_passes (walk room caller path ∷ check_exists room path ∷ [])
+          (check_removal room caller path ∷ []) found.0 ∙ first_alone (check_removal room caller path)
           ∙ (c.in_ok-check_removal.ensures.value t room found.1.0 found.1.1).0,
       found.1.0,
     )

@@ -1,8 +1,9 @@
 use Rattle.std.proofs.Common.{◌≡◌, ◌++◌, drop}
 use Rattle.std.specs.List.{filter_map}
-use Rattle.room_tree.specs.Places.{kept_entry}
+use Rattle.room_tree.specs.LoadedObjects.{kept_entry}
 use Rattle.room_tree.proofs.setlist.own_entries.Given as goal
 
 -- what was kept so far, and what the rest leaves, is what the whole list leaves
 abbrev pub invariant-loop-entry : goal.invariant-loop-entry
-invariant-loop-entry l = l.own.items ++ filter_map (kept_entry l.follows) (drop l.entry-index l.sent) ≡ filter_map (kept_entry l.follows) l.sent
+invariant-loop-entry l = l.own.items ++ filter_map (kept_entry l.follows) (drop l.entry-index l.sent)
+    ≡ filter_map (kept_entry l.follows) l.sent

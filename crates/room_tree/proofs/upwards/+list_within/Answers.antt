@@ -1,6 +1,6 @@
 use Rattle.std.proofs.Common.{◌≡◌, ℕ, ◌≤◌, ◌-◌, ap, sym, ◌∙◌, subst, arith, cond, [], ◌++◌, length, Some, List}
 use Rattle.room_acl.specs.Entries.{EntryModel}
-use Rattle.room_acl.specs.Inheritance.{handed_down}
+use Rattle.room_acl.specs.Inheritance.{handed_down, own_part}
 use Rattle.room_records.specs.Records.{ObjectRecords, Records}
 use Rattle.room_records.specs.Representation.{HasPath}
 use Rattle.room_records.specs.Room.{follows}
@@ -11,13 +11,15 @@ use Rattle.room_tree.proofs.upwards.+list_within.Goals as goal
 pub returns-in_default-clause-value : goal.returns-in_default-clause-value
 returns-in_default-clause-value g m c = λ available laid_out t e room stand path at stands short.
     let node = c.args.node.now in
-    c.in_ok-own.ensures.value available laid_out ∙ ap (λ (r : ObjectRecords). r.entries node.id) e
+    c.in_ok-own.ensures ∙ ap own_part (c.as_slice.ensures.value
+    ∙ c.in_ok-stored.ensures.value available laid_out ∙ ap (λ (r : ObjectRecords). r.entries node.id) e)
     ∙ list_ends t room stand path node.id node at stands (sym c.folder_followed.ensures ∙ c.in_default.is)
 
 pub returns-then-levels-eq0-clause-value : goal.returns-then-levels-eq0-clause-value
 returns-then-levels-eq0-clause-value g m c = λ available laid_out t e room stand path at stands short.
     let node = c.args.node.now in
-    let up = goes_on t room stand path node.id node at stands c.in-Some.folder (sym c.folder_followed.ensures ∙ c.in-Some.is) in
+    let up = goes_on t room stand path node.id node at stands
+    c.in-Some.folder (sym c.folder_followed.ensures ∙ c.in-Some.is) in
     absurd (omega (arith, up.one_more, short, c.if-levels-eq0.true))
 
 pub returns-in_default-2-clause-value : goal.returns-in_default-2-clause-value
@@ -26,9 +28,11 @@ returns-in_default-2-clause-value g m c = λ available laid_out t e room stand p
     let before = c.node.ensures.frame.call.was_available available in
     let declared = c.entries.ensures.frame.call.laid_out before laid_out in
     let same = ap (λ (r : Records). r.objects) (c.entries.ensures.frame.same before laid_out) ∙ e in
-    let up = goes_on t room stand path node.id node at stands c.in-Some.folder (sym c.folder_followed.ensures ∙ c.in-Some.is) in
+    let up = goes_on t room stand path node.id node at stands
+    c.in-Some.folder (sym c.folder_followed.ensures ∙ c.in-Some.is) in
     absurd (node_there t room stand up.folder c.in-Some.folder up.at
-    (sym (ap (λ (r : ObjectRecords). r.node c.in-Some.folder) same) ∙ sym (c.in_ok-above.ensures.value available declared) ∙ c.in_default-2.is))
+    (sym (ap (λ (r : ObjectRecords). r.node c.in-Some.folder) same)
+    ∙ sym (c.in_ok-above.ensures.value available declared) ∙ c.in_default-2.is))
 
 pub returns-clause-value : goal.returns-clause-value
 returns-clause-value g m c = λ available laid_out t e room stand path at stands short.
@@ -43,14 +47,19 @@ returns-clause-value g m c = λ available laid_out t e room stand path at stands
     let then_same = ap (λ (r : Records). r.objects) (c.node.ensures.frame.same read declared) ∙ same in
     let up = goes_on t room stand path node.id node at stands folder (sym c.folder_followed.ensures ∙ c.in-Some.is) in
     let there : t.node folder ≡ Some above =
-    sym (ap (λ (r : ObjectRecords). r.node folder) same) ∙ sym (c.in_ok-above.ensures.value read declared) ∙ c.in-Some-2.is in
+    sym (ap (λ (r : ObjectRecords). r.node folder) same)
+    ∙ sym (c.in_ok-above.ensures.value read declared) ∙ c.in-Some-2.is in
     let number : above.id ≡ folder = (stand.rules.numbered folder above there).0 in
     let At : ℕ → Type 0 = λ id. HasPath t up.folder id in
     let fits : length up.folder ≤ c.args.levels - 1 = omega (arith, up.one_more, short) in
-    let given = c.in_ok-given.ensures.value available then_declared t then_same room stand up.folder (subst At (sym number) up.at)
+    let given = c.in_ok-given.ensures.value available then_declared t
+    then_same room stand up.folder (subst At (sym number) up.at)
     (own_number t stand.rules folder above there) fits in
     c.in_ok-list.ensures
-    ∙ ap (λ (own : List EntryModel). own ++ cond (follows node.aclflag) (handed_down c.as_slice.result.now node.kind) [])
-    (c.in_ok-own.ensures.value before laid_out ∙ ap (λ (r : ObjectRecords). r.entries node.id) e)
-    ∙ ap (λ (list : List EntryModel). t.entries node.id ++ cond (follows node.aclflag) (handed_down list node.kind) []) (c.as_slice.ensures.value ∙ given)
+    ∙ ap (λ (own : List EntryModel).
+    own ++ cond (follows node.aclflag) (handed_down c.as_slice-2.result.now node.kind) [])
+    (c.in_ok-own.ensures ∙ ap own_part (c.as_slice.ensures.value
+    ∙ c.in_ok-stored.ensures.value before laid_out ∙ ap (λ (r : ObjectRecords). r.entries node.id) e))
+    ∙ ap (λ (list : List EntryModel). own_part (t.entries node.id)
+    ++ cond (follows node.aclflag) (handed_down list node.kind) []) (c.as_slice-2.ensures.value ∙ given)
     ∙ up.list

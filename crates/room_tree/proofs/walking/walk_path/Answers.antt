@@ -3,8 +3,9 @@ use Rattle.std.proofs.lemmas.List.{get_or_default, take_all}
 use Rattle.room_records.specs.Names.{Path}
 use Rattle.room_records.specs.Records.{Records}
 use Rattle.room_records.proofs.Shelves.{read_then}
-use Rattle.room_tree.specs.Places.{IsPlace, IsAbove}
-use Rattle.room_tree.proofs.Walks.{walk_stopped, walk_goes_on, walk_ends, walk_is_cut, last_is_absent, next_is_there, last_folder, walk_done}
+use Rattle.room_tree.specs.LoadedObjects.{IsLoaded, IsAbove}
+use Rattle.room_tree.proofs.Walks.{walk_stopped, walk_goes_on, walk_ends, walk_is_cut, last_is_absent}
+use Rattle.room_tree.proofs.Walks.{next_is_there, last_folder, walk_done}
 use Rattle.room_tree.proofs.Stops.{handed_on, refused_as}
 use Rattle.room_tree.proofs.walking.walk_path.Goals as goal
 
@@ -28,7 +29,8 @@ returns-in_err-check_way-clause-value g c = λ available laid_out t e room stand
     let Below : Path → Type 0 = λ p. i < length p in
     let below = subst Below c.names-names.ensures.value c.loop-index-test.true in
     handed_on _ _ _ c.from_residual-in_err-check_way.result c.from_residual-in_err-check_way.ensures.1
-    (walk_stopped room c.args.subject.now path i (get_or path i []) below (get_or_default path i [] (get_or path i []) below) _ so.0
+    (walk_stopped room c.args.subject.now path i (get_or path i [])
+    below (get_or_default path i [] (get_or path i []) below) _ so.0
     (c.in_err-check_way.ensures.value t room (take i path) refl so.1))
 
 pub returns-then-index-names-clause-value : goal.returns-then-index-names-clause-value
@@ -36,7 +38,7 @@ returns-then-index-names-clause-value g c = λ available laid_out t e room stand
     let path = c.args.path.now in
     let i = c.loop-index.index in
     let name = c.index-names-index.result in
-    let before = c.child_place.ensures.frame.call.was_available available in
+    let before = c.load_child.ensures.frame.call.was_available available in
     let declared = c.loop-index.invariant.frame.call.laid_out before laid_out in
     let same = c.loop-index.invariant.frame.same before laid_out in
     let so = c.loop-index.invariant.walked before laid_out t e room stand in
@@ -45,9 +47,11 @@ returns-then-index-names-clause-value g c = λ available laid_out t e room stand
     let At : Path → Type 0 = λ p. name ≡ get_or p i name in
     let below = subst Below c.names-names.ensures.value c.loop-index-test.true in
     refused_as c.of-then-index-names.result _ c.of-then-index-names.ensures
-    (walk_is_cut room c.args.subject.now path i name below (subst At c.names-names.ensures.value c.index-names-index.is) so.0
+    (walk_is_cut room c.args.subject.now path i name below
+    (subst At c.names-names.ensures.value c.index-names-index.is) so.0
     (c.in_ok-check_way.ensures.value t room (take i path) refl so.1).0
-    (rw c.in_default-2.is at (c.in_ok-next.ensures.value available declared t (ap (λ (r : Records). r.objects) same ∙ e) room stand (take i path) so.1))
+    (rw c.in_default-2.is at (c.in_ok-next.ensures.value available declared t
+    (ap (λ (r : Records). r.objects) same ∙ e) room stand (take i path) so.1))
     (subst More c.names-names.ensures.value c.if-index-names.true))
 
 pub loop-index-preserved : goal.loop-index-preserved
@@ -63,14 +67,16 @@ loop-index-preserved g c =
       frame = read_then _ _ _ _ c.in_ok-next.ensures.frame c.loop-index.invariant.frame;
       names = c.loop-index.invariant.names;
       walked = λ available laid_out t e room stand.
-          let before = c.child_place.ensures.frame.call.was_available available in
+          let before = c.load_child.ensures.frame.call.was_available available in
           let declared = c.loop-index.invariant.frame.call.laid_out before laid_out in
           let same = c.loop-index.invariant.frame.same before laid_out in
           let so = c.loop-index.invariant.walked before laid_out t e room stand in
-          let At : ℕ → Type 0 = λ n. IsPlace t room (take n path) c.loop-index.here in (
-            walk_goes_on room c.args.subject.now path i name below is so.0 (c.in_ok-check_way.ensures.value t room (take i path) refl so.1).0,
-            next_is_there room c.args.subject.now path i name below is (λ p. IsPlace t room p c.in-Some-2.next)
-                (rw c.in-Some-2.is at (c.in_ok-next.ensures.value available declared t (ap (λ (r : Records). r.objects) same ∙ e) room stand (take i path) so.1)),
+          let At : ℕ → Type 0 = λ n. IsLoaded t room (take n path) c.loop-index.here in (
+            walk_goes_on room c.args.subject.now path i name below is so.0
+                (c.in_ok-check_way.ensures.value t room (take i path) refl so.1).0,
+            next_is_there room c.args.subject.now path i name below is (λ p. IsLoaded t room p c.in-Some-2.next)
+                (rw c.in-Some-2.is at (c.in_ok-next.ensures.value available declared t
+                (ap (λ (r : Records). r.objects) same ∙ e) room stand (take i path) so.1)),
             (omega arith, subst At (omega arith) so.1),
           );
     }
@@ -84,27 +90,34 @@ returns-clause-value g c = λ available laid_out t e room stand.
     let Within : Path → Type 0 = λ p. c.loop-index.index ≤ length p in
     let within = subst Within c.names-names.ensures.value c.loop-index.auto.index-end in
     let last : c.loop-index.index ≡ length path = omega (arith, all, within) in
-    let Here : Path → Type 0 = λ p. IsPlace t room p c.loop-index.here in
-    let Count : ℕ → Type 0 = λ n. IsAbove t room path n c.loop-index.above in
-    (walk_done room c.args.subject.now path c.loop-index.index so.0 all, (subst Here (take_all c.loop-index.index path all) so.1, subst Count last so.2))
+    let Here : Path → Type 0 = λ p. IsLoaded t room p c.loop-index.here in
+    let Count : ℕ → Type 0 = λ n. IsAbove t room path n c.loop-index.above in (
+      walk_done room c.args.subject.now path c.loop-index.index so.0 all,
+      (subst Here (take_all c.loop-index.index path all) so.1, subst Count last so.2),
+    )
 
 pub returns-in_default-2-clause-value : goal.returns-in_default-2-clause-value
 returns-in_default-2-clause-value g c = λ available laid_out t e room stand.
     let path = c.args.path.now in
     let i = c.loop-index.index in
     let name = c.index-names-index.result in
-    let before = c.child_place.ensures.frame.call.was_available available in
+    let before = c.load_child.ensures.frame.call.was_available available in
     let declared = c.loop-index.invariant.frame.call.laid_out before laid_out in
     let same = c.loop-index.invariant.frame.same before laid_out in
     let so = c.loop-index.invariant.walked before laid_out t e room stand in
     let Below : Path → Type 0 = λ p. i < length p in
     let Last : Path → Type 0 = λ p. length p ≤ i + 1 in
     let At : Path → Type 0 = λ p. name ≡ get_or p i name in
-    let Here : Path → Type 0 = λ p. IsPlace t room p c.loop-index.here in
+    let Here : Path → Type 0 = λ p. IsLoaded t room p c.loop-index.here in
     let below = subst Below c.names-names.ensures.value c.loop-index-test.true in
     let is = subst At c.names-names.ensures.value c.index-names-index.is in
     let last = subst Last c.names-names.ensures.value c.if-index-names.false in
-    let nothing = rw c.in_default-2.is at (c.in_ok-next.ensures.value available declared t (ap (λ (r : Records). r.objects) same ∙ e) room stand (take i path) so.1) in (
-      walk_ends room c.args.subject.now path i name below is so.0 (c.in_ok-check_way.ensures.value t room (take i path) refl so.1).0 last,
-      (last_is_absent room c.args.subject.now path i name below is nothing last, subst Here (last_folder room c.args.subject.now path i name below is last) so.1),
+    let nothing = rw c.in_default-2.is at (c.in_ok-next.ensures.value available declared
+    t (ap (λ (r : Records). r.objects) same ∙ e) room stand (take i path) so.1) in (
+      walk_ends room c.args.subject.now path i name below is so.0
+          (c.in_ok-check_way.ensures.value t room (take i path) refl so.1).0 last,
+      (
+        last_is_absent room c.args.subject.now path i name below is nothing last,
+        subst Here (last_folder room c.args.subject.now path i name below is last) so.1,
+      ),
     )

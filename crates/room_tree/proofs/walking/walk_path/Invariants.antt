@@ -1,7 +1,7 @@
 use Rattle.std.proofs.Common.{◌≡◌, take, drop, None}
 use Rattle.room_records.specs.Shelf.{ShelfRead}
 use Rattle.room_commands.specs.Checks.{walk}
-use Rattle.room_tree.specs.Places.{OfRoom, IsPlace, IsAbove}
+use Rattle.room_tree.specs.LoadedObjects.{OfRoom, IsLoaded, IsAbove}
 use Rattle.room_tree.proofs.Walks.{walk_from}
 use Rattle.room_tree.proofs.walking.walk_path.Given as goal
 
@@ -12,5 +12,5 @@ invariant-loop-index g l = let s = g.S.Shelf in record {
   names : l.names ≡ l.path;
   walked : OfRoom (s.view l.fn.shelf) (s.view l.shelf) (λ t room.
       (walk room l.subject l.path ≡ walk_from room l.subject (take l.index l.path) (drop l.index l.path))
-      × IsPlace t room (take l.index l.path) l.here × IsAbove t room l.path l.index l.above);
+      × IsLoaded t room (take l.index l.path) l.here × IsAbove t room l.path l.index l.above);
 }

@@ -1,5 +1,6 @@
 -- Numbers in targets, and names of users.
-use Rattle.std.proofs.Common.{◌≡◌, ℕ, ◌^◌, ◌<◌, ◌==◌, ◌&&◌, ◌||◌, Bool, true, false, List, [], ◌∷◌, length, cond, refl, sym, ap, ◌∙◌, arith, rules, Some, None, Result, Ok, Err}
+use Rattle.std.proofs.Common.{◌≡◌, ℕ, ◌^◌, ◌<◌, ◌==◌, ◌&&◌, ◌||◌, Bool, true, false, List, [], ◌∷◌, length, cond, refl}
+use Rattle.std.proofs.Common.{sym, ap, ◌∙◌, arith, rules, Some, None, Result, Ok, Err}
 use Rattle.std.specs.Prelude.{nat_lt, nat_le, not, slice_index}
 use Rattle.std.proofs.lemmas.Result.{OkIff-at_ok, OkIff-at_err}
 use Rattle.std.specs.Char.{is_ascii_digit}
@@ -24,24 +25,31 @@ own = numerals_by_value AreDigits (search rules)
 -- a number's text is of digits
 digits : (text : List ℕ) → is_number text ≡ true → AreDigits text
 digits text h =
-    let outer = and_parts (nat_le 1 (length text)) (list_all is_ascii_digit text && (length text == 1 || not (slice_index text 0 == 48))) h in
+    let outer = and_parts (nat_le 1 (length text))
+    (list_all is_ascii_digit text && (length text == 1 || not (slice_index text 0 == 48))) h in
     (and_parts (list_all is_ascii_digit text) (length text == 1 || not (slice_index text 0 == 48)) outer.1).0
 
-pub number_read : (E : Type 0) (text : List ℕ) (r : Result ℕ E) (n : ℕ) → is_number text ≡ true → ParsesUnsigned 32 10 text r → r ≡ Ok n → number_from text ≡ Some n
+pub number_read : (E : Type 0) (text : List ℕ) (r : Result ℕ E) (n : ℕ) → is_number text ≡ true
+    → ParsesUnsigned 32 10 text r → r ≡ Ok n → number_from text ≡ Some n
 number_read E text r n h p e =
-    let read = OkIff-at_ok r ((0 < length text) × (digits_value 10 text < 2 ^ 32)) (digits_value 10 text) n (parse_digits own 32 text r p (digits text h)) e in
+    let read = OkIff-at_ok r ((0 < length text) × (digits_value 10 text < 2 ^ 32))
+    (digits_value 10 text) n (parse_digits own 32 text r p (digits text h)) e in
     let below : digits_value 10 text < 2 ^ 32 = read.0.1 in
     let small : nat_lt (digits_value 10 text) (2 ^ 32) ≡ true = grind (arith, nat_tests) in
     (λ i. cond (h i && small i) (Some (digits_value 10 text)) None) ∙ ap Some (sym read.1)
 
-no_number : (text : List ℕ) (b : Bool) → is_number text ≡ true → nat_lt (digits_value 10 text) (2 ^ 32) ≡ b → ¬ (digits_value 10 text < 2 ^ 32) → number_from text ≡ None
+no_number : (text : List ℕ) (b : Bool) → is_number text ≡ true → nat_lt (digits_value 10 text) (2 ^ 32) ≡ b
+    → ¬ (digits_value 10 text < 2 ^ 32) → number_from text ≡ None
 no_number text true h f above = absurd (above (grind (arith, nat_tests)))
 no_number text false h f above = λ i. cond (h i && f i) (Some (digits_value 10 text)) None
 
-pub number_none : (E : Type 0) (text : List ℕ) (r : Result ℕ E) (fault : E) → is_number text ≡ true → ParsesUnsigned 32 10 text r → r ≡ Err fault → number_from text ≡ None
+pub number_none : (E : Type 0) (text : List ℕ) (r : Result ℕ E) (fault : E)
+    → is_number text ≡ true → ParsesUnsigned 32 10 text r → r ≡ Err fault → number_from text ≡ None
 number_none E text r fault h p e =
-    let read = OkIff-at_err r ((0 < length text) × (digits_value 10 text < 2 ^ 32)) (digits_value 10 text) fault (parse_digits own 32 text r p (digits text h)) e in
-    let first = and_parts (nat_le 1 (length text)) (list_all is_ascii_digit text && (length text == 1 || not (slice_index text 0 == 48))) h in
+    let read = OkIff-at_err r ((0 < length text) × (digits_value 10 text < 2 ^ 32))
+    (digits_value 10 text) fault (parse_digits own 32 text r p (digits text h)) e in
+    let first = and_parts (nat_le 1 (length text))
+    (list_all is_ascii_digit text && (length text == 1 || not (slice_index text 0 == 48))) h in
     let test : nat_le 1 (length text) ≡ true = first.0 in
     let some : 0 < length text = grind (arith, nat_tests) in
     no_number text (nat_lt (digits_value 10 text) (2 ^ 32)) h refl (λ below. read (some, below))

@@ -1,5 +1,6 @@
 -- The text of a lawful command is that of a body that asks it.
-use Rattle.std.proofs.Common.{◌≡◌, ◌≤◌, ◌<◌, ◌^◌, ℕ, Bool, true, false, List, [], ◌∷◌, refl, sym, ap, ◌∙◌, arith, Some, codes}
+use Rattle.std.proofs.Common.{◌≡◌, ◌≤◌, ◌<◌, ◌^◌, ℕ, Bool, true, false, List, [], ◌∷◌, refl, sym, ap}
+use Rattle.std.proofs.Common.{◌∙◌, arith, Some, codes}
 use Rattle.std.specs.Prelude.{IsUtf8, nat_lt, option_map, option_and_then}
 use Rattle.std.specs.List.{list_all, flat_map, AllByRecursion}
 use Rattle.std.proofs.lemmas.Bool.{and_parts, and_from}
@@ -23,15 +24,19 @@ use Rattle.room_records.specs.Names.{Path, IsFileName, IsPath, path_text}
 use Rattle.room_commands.specs.CommandModel.{CommandModel}
 use Rattle.room_commands.specs.CommandModel as C
 use Rattle.room_commands.specs.Lawful.{IsWho, IsEntry, IsLawful}
-use Rattle.room_wire.specs.Forms.Texts.{who_text, entry_type, entry, entries, at, cmd, num, obj, path, bytes, members, command_data, command_text}
-use Rattle.room_wire.specs.Forms.Commands.{of_path, bytes_by, rename_by, set_list_by, chown_by, access_by, command_in, command_of_body}
+use Rattle.room_wire.specs.Forms.Texts.{who_text, entry_type, entry, entries, at, cmd, num, obj, path, bytes}
+use Rattle.room_wire.specs.Forms.Texts.{members, command_data, command_text}
+use Rattle.room_wire.specs.Forms.Commands.{of_path, bytes_by, rename_by, set_list_by, chown_by, access_by}
+use Rattle.room_wire.specs.Forms.Commands.{command_in, command_of_body}
 use Rattle.room_wire.specs.declared.forms.commands.PathVerb.TheVariants as P
 use Rattle.room_wire.specs.declared.forms.commands.BytesVerb.TheVariants as B
 use Rattle.room_wire.proofs.Lemmas.Forms.Bodies.{json_some}
 use Rattle.room_wire.proofs.Lemmas.Forms.CommandBytes.{bytes_back}
-use Rattle.room_wire.proofs.Lemmas.Forms.CommandParts.{path_back, list_flags_back, flags_small, mask_small, mask_back, principal_back, entries_back}
+use Rattle.room_wire.proofs.Lemmas.Forms.CommandParts.{path_back, list_flags_back, flags_small, mask_small, mask_back}
+use Rattle.room_wire.proofs.Lemmas.Forms.CommandParts.{principal_back, entries_back}
 use Rattle.room_wire.proofs.Lemmas.Forms.CommandTexts.{text_reads, number_back, put_all, object_back, item_back}
-use Rattle.room_wire.proofs.Lemmas.Forms.CommandUtf8.{HasUtf8, ItemsHaveUtf8, MembersHaveUtf8, one_then, text_is_utf8, digits_are_utf8}
+use Rattle.room_wire.proofs.Lemmas.Forms.CommandUtf8.{HasUtf8, ItemsHaveUtf8, MembersHaveUtf8, one_then, text_is_utf8}
+use Rattle.room_wire.proofs.Lemmas.Forms.CommandUtf8.{digits_are_utf8}
 
 -- ---- the value is read as the command
 
@@ -46,8 +51,10 @@ command_back (C.Append b p) h = (λ i. bytes_by B.Append (bytes_back b h.0 i) (p
 command_back (C.Remove p) h = ap (option_map (of_path P.Remove)) (path_back p h)
 command_back (C.Rename p to) h = (λ i. rename_by (path_back p h.0 i) (path_back to h.1 i))
 command_back (C.GetList p) h = ap (option_map (of_path P.GetList)) (path_back p h)
-command_back (C.SetList flags es p) h = (λ i. set_list_by (list_flags_back flags h.0 i) (entries_back es h.1 i) (path_back p h.2 i))
-command_back (C.Chown group owner p) h = (λ i. chown_by (principal_back group h.0 i) (principal_back owner h.1 i) (path_back p h.2 i))
+command_back (C.SetList flags es p) h =
+    (λ i. set_list_by (list_flags_back flags h.0 i) (entries_back es h.1 i) (path_back p h.2 i))
+command_back (C.Chown group owner p) h =
+    (λ i. chown_by (principal_back group h.0 i) (principal_back owner h.1 i) (path_back p h.2 i))
 command_back (C.Access mask p) h = (λ i. access_by (mask_back mask h.0 i) (path_back p h.1 i))
 
 -- ---- the text is read as the value
@@ -72,17 +79,24 @@ type_depth false = refl
 
 entry_read : (e : EntryModel) → IsEntry e → of_json (outline (entry e)) ≡ Some (entry e)
 entry_read e h =
-    object_back ((codes "flag", num e.flags) ∷ (codes "mask", num e.mask) ∷ (codes "type", entry_type e.allow) ∷ (codes "who", string (who_text e.who)) ∷ [])
+    object_back ((codes "flag", num e.flags) ∷ (codes "mask", num e.mask)
+    ∷ (codes "type", entry_type e.allow) ∷ (codes "who", string (who_text e.who)) ∷ [])
     (number_back e.flags (flags_fit e h), (number_back e.mask (mask_fits e h), (type_read e.allow, (refl, tt)))) refl
 
-entries_read : (es : List EntryModel) → AllByRecursion IsEntry es → of_items (items_outline (entries es)) ≡ Some (entries es)
+entries_read : (es : List EntryModel) → AllByRecursion IsEntry es
+    → of_items (items_outline (entries es)) ≡ Some (entries es)
 entries_read [] h = refl
-entries_read (e ∷ es) h = item_back (outline (entry e)) (items_outline (entries es)) (entry e) (entries es) (entry_read e h.0) (entries_read es h.1)
+entries_read (e ∷ es) h = item_back (outline (entry e)) (items_outline (entries es))
+    (entry e) (entries es) (entry_read e h.0) (entries_read es h.1)
 
-entries_have_numbers : (es : List EntryModel) → AllByRecursion IsEntry es → ItemsHaveNumbers (items_outline (entries es))
+entries_have_numbers : (es : List EntryModel) → AllByRecursion IsEntry es
+    → ItemsHaveNumbers (items_outline (entries es))
 entries_have_numbers [] h = tt
 entries_have_numbers (e ∷ es) h = (
-  (IsNumber-decimal e.flags (flags_fit e h.0), (IsNumber-decimal e.mask (mask_fits e h.0), (type_has_number e.allow, (tt, tt)))),
+  (
+    IsNumber-decimal e.flags (flags_fit e h.0),
+    (IsNumber-decimal e.mask (mask_fits e h.0), (type_has_number e.allow, (tt, tt))),
+  ),
   entries_have_numbers es h.1,
 )
 
@@ -91,22 +105,29 @@ entries_depth [] = omega arith
 entries_depth (e ∷ es) = let zero = type_depth e.allow in let rest = entries_depth es in omega (arith, zero, rest)
 
 -- of a value whose members are texts
-two_texts : (a b x y : List ℕ) → put_all ((a, string x) ∷ (b, string y) ∷ []) no_members ≡ members ((a, string x) ∷ (b, string y) ∷ [])
+two_texts : (a b x y : List ℕ)
+    → put_all ((a, string x) ∷ (b, string y) ∷ []) no_members ≡ members ((a, string x) ∷ (b, string y) ∷ [])
     → read (compact_text (obj ((a, string x) ∷ (b, string y) ∷ []))) ≡ Some (obj ((a, string x) ∷ (b, string y) ∷ []))
 two_texts a b x y order =
-    text_reads (obj ((a, string x) ∷ (b, string y) ∷ [])) (tt, (tt, tt)) (omega arith) (object_back ((a, string x) ∷ (b, string y) ∷ []) (refl, (refl, tt)) order)
+    text_reads (obj ((a, string x) ∷ (b, string y) ∷ [])) (tt, (tt, tt)) (omega arith)
+    (object_back ((a, string x) ∷ (b, string y) ∷ []) (refl, (refl, tt)) order)
 
-three_texts : (a b c x y z : List ℕ) → put_all ((a, string x) ∷ (b, string y) ∷ (c, string z) ∷ []) no_members ≡ members ((a, string x) ∷ (b, string y) ∷ (c, string z) ∷ [])
-    → read (compact_text (obj ((a, string x) ∷ (b, string y) ∷ (c, string z) ∷ []))) ≡ Some (obj ((a, string x) ∷ (b, string y) ∷ (c, string z) ∷ []))
+three_texts : (a b c x y z : List ℕ) → put_all ((a, string x) ∷ (b, string y) ∷ (c, string z) ∷ []) no_members
+    ≡ members ((a, string x) ∷ (b, string y) ∷ (c, string z) ∷ [])
+    → read (compact_text (obj ((a, string x) ∷ (b, string y) ∷ (c, string z) ∷ [])))
+    ≡ Some (obj ((a, string x) ∷ (b, string y) ∷ (c, string z) ∷ []))
 three_texts a b c x y z order =
     text_reads (obj ((a, string x) ∷ (b, string y) ∷ (c, string z) ∷ [])) (tt, (tt, (tt, tt))) (omega arith)
     (object_back ((a, string x) ∷ (b, string y) ∷ (c, string z) ∷ []) (refl, (refl, (refl, tt))) order)
 
-path_reads : (name : List ℕ) (p : Path) → read (compact_text (obj (cmd name ∷ at p ∷ []))) ≡ Some (obj (cmd name ∷ at p ∷ []))
+path_reads : (name : List ℕ) (p : Path)
+    → read (compact_text (obj (cmd name ∷ at p ∷ []))) ≡ Some (obj (cmd name ∷ at p ∷ []))
 path_reads name p = two_texts (codes "cmd") (codes "path") name (path_text p) refl
 
-bytes_reads : (name b : List ℕ) (p : Path) → read (compact_text (obj (cmd name ∷ (codes "data", bytes b) ∷ at p ∷ []))) ≡ Some (obj (cmd name ∷ (codes "data", bytes b) ∷ at p ∷ []))
-bytes_reads name b p = three_texts (codes "cmd") (codes "data") (codes "path") name (encode_of standard b) (path_text p) refl
+bytes_reads : (name b : List ℕ) (p : Path) → read (compact_text (obj (cmd name ∷ (codes "data", bytes b) ∷ at p ∷ [])))
+    ≡ Some (obj (cmd name ∷ (codes "data", bytes b) ∷ at p ∷ []))
+bytes_reads name b p =
+    three_texts (codes "cmd") (codes "data") (codes "path") name (encode_of standard b) (path_text p) refl
 
 command_reads : (c : CommandModel) → IsLawful c → read (command_text c) ≡ Some (command_data c)
 command_reads (C.Stat p) h = path_reads (codes "STAT") p
@@ -117,28 +138,35 @@ command_reads (C.Read p) h = path_reads (codes "READ") p
 command_reads (C.Write b p) h = bytes_reads (codes "WRITE") b p
 command_reads (C.Append b p) h = bytes_reads (codes "APPEND") b p
 command_reads (C.Remove p) h = path_reads (codes "REMOVE") p
-command_reads (C.Rename p to) h = three_texts (codes "cmd") (codes "path") (codes "to") (codes "RENAME") (path_text p) (path_text to) refl
+command_reads (C.Rename p to) h =
+    three_texts (codes "cmd") (codes "path") (codes "to") (codes "RENAME") (path_text p) (path_text to) refl
 command_reads (C.GetList p) h = path_reads (codes "GETLIST") p
 command_reads (C.SetList flags es p) h =
     let small : flags < 2 ^ 64 = let low = h.0 in omega (arith, low) in
     let deep = entries_depth es in
-    let read_all : of_json (outline (array (entries es))) ≡ Some (array (entries es)) = ap (option_map array) (entries_read es h.1) in
-    text_reads (command_data (C.SetList flags es p)) (IsNumber-decimal flags small, (tt, (entries_have_numbers es h.1, (tt, tt)))) (omega (arith, deep))
-    (object_back ((codes "aclflag", num flags) ∷ cmd (codes "SETLIST") ∷ (codes "entries", array (entries es)) ∷ at p ∷ [])
+    let read_all : of_json (outline (array (entries es))) ≡ Some (array (entries es)) =
+    ap (option_map array) (entries_read es h.1) in
+    text_reads (command_data (C.SetList flags es p))
+    (IsNumber-decimal flags small, (tt, (entries_have_numbers es h.1, (tt, tt)))) (omega (arith, deep))
+    (object_back ((codes "aclflag", num flags) ∷ cmd (codes "SETLIST")
+    ∷ (codes "entries", array (entries es)) ∷ at p ∷ [])
     (number_back flags small, (refl, (read_all, (refl, tt)))) refl)
 command_reads (C.Chown group owner p) h =
     text_reads (command_data (C.Chown group owner p)) (tt, (tt, (tt, (tt, tt)))) (omega arith)
-    (object_back (cmd (codes "CHOWN") ∷ (codes "group", string group) ∷ (codes "owner", string owner) ∷ at p ∷ []) (refl, (refl, (refl, (refl, tt)))) refl)
+    (object_back (cmd (codes "CHOWN") ∷ (codes "group", string group) ∷ (codes "owner", string owner) ∷ at p ∷ [])
+    (refl, (refl, (refl, (refl, tt)))) refl)
 command_reads (C.Access mask p) h =
     let small : mask < 2 ^ 64 = let low = mask_small mask h.0 in omega (arith, low) in
     text_reads (command_data (C.Access mask p)) (tt, (IsNumber-decimal mask small, (tt, tt))) (omega arith)
-    (object_back (cmd (codes "ACCESS") ∷ (codes "mask", num mask) ∷ at p ∷ []) (refl, (number_back mask small, (refl, tt))) refl)
+    (object_back (cmd (codes "ACCESS") ∷ (codes "mask", num mask) ∷ at p ∷ [])
+    (refl, (number_back mask small, (refl, tt))) refl)
 
 -- ---- the text is UTF-8
 
 names_utf8 : (path : Path) → AllByRecursion IsFileName path → IsUtf8 (flat_map (λ n. 47 ∷ n) path)
 names_utf8 [] h = IsUtf8-nil
-names_utf8 (name ∷ path) h = IsUtf8-append (47 ∷ name) _ (one_then 47 name (IsUtf8-are_ascii _ refl) h.0.text) (names_utf8 path h.1)
+names_utf8 (name ∷ path) h =
+    IsUtf8-append (47 ∷ name) _ (one_then 47 name (IsUtf8-are_ascii _ refl) h.0.text) (names_utf8 path h.1)
 
 path_utf8 : (path : Path) → IsPath path → IsUtf8 (path_text path)
 path_utf8 [] h = IsUtf8-are_ascii _ refl
@@ -152,7 +180,8 @@ byte_ascii b h = grind (arith, nat_tests)
 
 all_ascii : (text : List ℕ) → list_all is_principal_byte text ≡ true → are_ascii text ≡ true
 all_ascii [] h = refl
-all_ascii (b ∷ text) h = let p = and_parts (is_principal_byte b) _ h in and_from _ _ (byte_ascii b p.0) (all_ascii text p.1)
+all_ascii (b ∷ text) h = let p = and_parts (is_principal_byte b) _ h in
+    and_from _ _ (byte_ascii b p.0) (all_ascii text p.1)
 
 principal_utf8 : (text : List ℕ) → IsPrincipal text → IsUtf8 text
 principal_utf8 text h = IsUtf8-are_ascii text (all_ascii text h.2)
@@ -191,7 +220,8 @@ entries_utf8 (e ∷ es) h = (
 )
 
 -- a name of a command, before other members
-cmd_utf8 : (name : List ℕ) (rest : List (List ℕ × Data)) → are_ascii name ≡ true → MembersHaveUtf8 (members rest) → MembersHaveUtf8 (members (cmd name ∷ rest))
+cmd_utf8 : (name : List ℕ) (rest : List (List ℕ × Data)) → are_ascii name ≡ true
+    → MembersHaveUtf8 (members rest) → MembersHaveUtf8 (members (cmd name ∷ rest))
 cmd_utf8 name rest ascii h = (IsUtf8-are_ascii (codes "cmd") refl, IsUtf8-are_ascii name ascii, h)
 
 data_utf8 : (b : List ℕ) (p : Path) → IsPath p → MembersHaveUtf8 (members ((codes "data", bytes b) ∷ at p ∷ []))
@@ -214,20 +244,26 @@ command_utf8 (C.SetList flags es p) h =
     let small : flags < 2 ^ 64 = let low = h.0 in omega (arith, low) in (
       IsUtf8-are_ascii (codes "aclflag") refl,
       digits_are_utf8 flags small,
-      cmd_utf8 (codes "SETLIST") ((codes "entries", array (entries es)) ∷ at p ∷ []) refl (IsUtf8-are_ascii (codes "entries") refl, entries_utf8 es h.1, at_utf8 p h.2),
+      cmd_utf8 (codes "SETLIST") ((codes "entries", array (entries es)) ∷ at p ∷ []) refl
+          (IsUtf8-are_ascii (codes "entries") refl, entries_utf8 es h.1, at_utf8 p h.2),
     )
 command_utf8 (C.Chown group owner p) h =
-    cmd_utf8 (codes "CHOWN") ((codes "group", string group) ∷ (codes "owner", string owner) ∷ at p ∷ []) refl
-    (IsUtf8-are_ascii (codes "group") refl, principal_utf8 group h.0, (IsUtf8-are_ascii (codes "owner") refl, principal_utf8 owner h.1, at_utf8 p h.2))
+    cmd_utf8 (codes "CHOWN") ((codes "group", string group) ∷ (codes "owner", string owner) ∷ at p ∷ []) refl (
+      IsUtf8-are_ascii (codes "group") refl,
+      principal_utf8 group h.0,
+      (IsUtf8-are_ascii (codes "owner") refl, principal_utf8 owner h.1, at_utf8 p h.2),
+    )
 command_utf8 (C.Access mask p) h =
     let small : mask < 2 ^ 64 = let low = mask_small mask h.0 in omega (arith, low) in
-    cmd_utf8 (codes "ACCESS") ((codes "mask", num mask) ∷ at p ∷ []) refl (IsUtf8-are_ascii (codes "mask") refl, digits_are_utf8 mask small, at_utf8 p h.1)
+    cmd_utf8 (codes "ACCESS") ((codes "mask", num mask) ∷ at p ∷ []) refl
+    (IsUtf8-are_ascii (codes "mask") refl, digits_are_utf8 mask small, at_utf8 p h.1)
 
 -- ---- both together
 
 pub text_back : (c : CommandModel) → IsLawful c → command_of_body (command_text c) ≡ Some c
 text_back c h =
-    let body = json_some (command_text c) (command_data c) (text_is_utf8 (command_data c) (command_utf8 c h)) (command_reads c h) in
+    let body = json_some (command_text c) (command_data c)
+    (text_is_utf8 (command_data c) (command_utf8 c h)) (command_reads c h) in
     ap (option_and_then command_in) (sym body) ∙ command_back c h
 
 pub one_command : (c k : CommandModel) → IsLawful c → IsLawful k → command_text c ≡ command_text k → c ≡ k

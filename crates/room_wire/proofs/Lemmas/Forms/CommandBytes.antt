@@ -9,13 +9,16 @@ use Rattle.base64.specs.GeneralPurpose.{decode_of, decoded_of, encode_of, IsByte
 use Rattle.base64.proofs.EngineFacts.{decode_of-encode_of}
 use Rattle.room_commands.specs.Lawful.{AreBytes}
 
-pub decoded_some : (given text bytes : List ℕ) → given ≡ text → decode_of standard given ≡ Ok bytes → Some bytes ≡ decoded_of standard text
+pub decoded_some : (given text bytes : List ℕ) → given ≡ text
+    → decode_of standard given ≡ Ok bytes → Some bytes ≡ decoded_of standard text
 unfolding decoded_of
 decoded_some given text bytes same e = sym (ap (λ t. result_ok (decode_of standard t)) (sym same) ∙ ap result_ok e)
 
-pub decoded_none : (given text : List ℕ) (fault : DecodeAllocError) (inner : DecodeError) → given ≡ text → IsDecodeFailure standard given fault → fault ≡ Failed inner → None ≡ decoded_of standard text
+pub decoded_none : (given text : List ℕ) (fault : DecodeAllocError) (inner : DecodeError) → given ≡ text
+    → IsDecodeFailure standard given fault → fault ≡ Failed inner → None ≡ decoded_of standard text
 unfolding decoded_of
-decoded_none given text (Failed d) inner same e is = sym (ap (λ t. result_ok (decode_of standard t)) (sym same) ∙ ap result_ok e)
+decoded_none given text (Failed d) inner same e is =
+    sym (ap (λ t. result_ok (decode_of standard t)) (sym same) ∙ ap result_ok e)
 decoded_none given text OutOfMemory inner same e is = absurd cc
 
 are_bytes : (bytes : List ℕ) → AreBytes bytes → IsBytes bytes
@@ -28,4 +31,5 @@ consistent : IsConsistent standard
 consistent = refl
 
 pub bytes_back : (bytes : List ℕ) → AreBytes bytes → decoded_of standard (encode_of standard bytes) ≡ Some bytes
-bytes_back bytes h = sym (decoded_some _ _ bytes refl (decode_of-encode_of standard bytes consistent (are_bytes bytes h)))
+bytes_back bytes h =
+    sym (decoded_some _ _ bytes refl (decode_of-encode_of standard bytes consistent (are_bytes bytes h)))

@@ -1,5 +1,6 @@
 -- What is written for a lawful part of a command is read as that part.
-use Rattle.std.proofs.Common.{◌≡◌, ◌<◌, ◌^◌, ℕ, Bool, true, false, List, [], ◌∷◌, length, cond, refl, sym, ap, ◌∙◌, arith, None, Some, codes}
+use Rattle.std.proofs.Common.{◌≡◌, ◌<◌, ◌^◌, ℕ, Bool, true, false, List, [], ◌∷◌, length, cond, refl, sym, ap}
+use Rattle.std.proofs.Common.{◌∙◌, arith, None, Some, codes}
 use Rattle.std.specs.Prelude.{IsTrue, not, bytes_eq, bit_and, option_map, option_and_then}
 use Rattle.std.specs.List.{list_all, AllByRecursion}
 use Rattle.std.proofs.lemmas.Bool.{and_from, le-leb, lt-ltb, eq-eqb, false_from_ne_true, true≢false}
@@ -14,7 +15,8 @@ use Rattle.room_acl.specs.Principals.{IsPrincipal, is_principal_byte}
 use Rattle.room_records.specs.Names.{Path, IsPath, path_text}
 use Rattle.room_commands.specs.Lawful.{IsWho, IsEntry}
 use Rattle.room_wire.specs.Forms.Texts.{who_text, entry_type, entry, entries}
-use Rattle.room_wire.specs.Forms.Reading.{flags_from, mask_from, allow_from, principal_from, named_who, who_from, entry_of, entry_in, cons, entries_in}
+use Rattle.room_wire.specs.Forms.Reading.{flags_from, mask_from, allow_from, principal_from, named_who, who_from}
+use Rattle.room_wire.specs.Forms.Reading.{entry_of, entry_in, cons, entries_in}
 use Rattle.room_wire.specs.Forms.Commands.{path_from, list_flags_from}
 use Rattle.room_wire.proofs.Lemmas.Forms.CommandPaths.{path_of_text}
 
@@ -31,30 +33,39 @@ pub mask_small : (n : ℕ) → IsMask n → n < 2 ^ 32
 mask_small n h = let same : bit_and n 0x1F07FF ≡ n = h in let most = and_le_r n 0x1F07FF in omega (arith, same, most)
 
 flags_back : (n : ℕ) → IsFlags n → flags_from n ≡ Some n
-flags_back n h = ap (λ b. cond b (Some n) None) (and_from _ _ (lt-ltb n 256 (flags_small n h)) (eq-eqb (bit_and n 0xCF) n h))
+flags_back n h =
+    ap (λ b. cond b (Some n) None) (and_from _ _ (lt-ltb n 256 (flags_small n h)) (eq-eqb (bit_and n 0xCF) n h))
 
 pub mask_back : (n : ℕ) → IsMask n → mask_from n ≡ Some n
-mask_back n h = ap (λ b. cond b (Some n) None) (and_from _ _ (lt-ltb n (2 ^ 32) (mask_small n h)) (eq-eqb (bit_and n 0x1F07FF) n h))
+mask_back n h =
+    ap (λ b. cond b (Some n) None) (and_from _ _ (lt-ltb n (2 ^ 32) (mask_small n h)) (eq-eqb (bit_and n 0x1F07FF) n h))
 
 pub principal_back : (text : List ℕ) → IsPrincipal text → principal_from text ≡ Some text
 principal_back text h =
-    ap (λ b. cond b (Some text) None) (and_from _ _ (le-leb 1 (length text) h.0) (and_from _ _ (le-leb (length text) 32 h.1) h.2))
+    ap (λ b. cond b (Some text) None)
+    (and_from _ _ (le-leb 1 (length text) h.0) (and_from _ _ (le-leb (length text) 32 h.1) h.2))
 
 -- a principal has none of the three special names
-no_special : (name special : List ℕ) → list_all is_principal_byte special ≡ false → IsPrincipal name → bytes_eq name special ≡ false
+no_special : (name special : List ℕ) → list_all is_principal_byte special ≡ false
+    → IsPrincipal name → bytes_eq name special ≡ false
 no_special name special bad h =
-    false_from_ne_true _ (λ e. true≢false (sym h.2 ∙ ap (list_all is_principal_byte) ((bytes_eq-Decides name special).0 e) ∙ bad))
+    false_from_ne_true _ (λ e.
+    true≢false (sym h.2 ∙ ap (list_all is_principal_byte) ((bytes_eq-Decides name special).0 e) ∙ bad))
 
-named_back : (flags : ℕ) (name : List ℕ) → IsPrincipal name → who_from flags name ≡ named_who (identifier_group flags) (Some name)
+named_back : (flags : ℕ) (name : List ℕ) → IsPrincipal name
+    → who_from flags name ≡ named_who (identifier_group flags) (Some name)
 named_back flags name h =
-    (λ i. cond (no_special name (codes "OWNER@") refl h i) (Some Owner) (cond (no_special name (codes "GROUP@") refl h i) (Some Group)
-    (cond (no_special name (codes "EVERYONE@") refl h i) (Some Everyone) (named_who (identifier_group flags) (principal_back name h i)))))
+    (λ i. cond (no_special name (codes "OWNER@") refl h i) (Some Owner)
+    (cond (no_special name (codes "GROUP@") refl h i) (Some Group)
+    (cond (no_special name (codes "EVERYONE@") refl h i) (Some Everyone)
+    (named_who (identifier_group flags) (principal_back name h i)))))
 
 not_true : (b : Bool) → IsTrue (not b) → b ≡ false
 not_true true h = absurd cc
 not_true false h = refl
 
-who_back : (flags : ℕ) (who : Who) → IsWho who → IsTrue (names_its_kind flags who) → who_from flags (who_text who) ≡ Some who
+who_back : (flags : ℕ) (who : Who) → IsWho who
+    → IsTrue (names_its_kind flags who) → who_from flags (who_text who) ≡ Some who
 who_back flags Owner h kind = refl
 who_back flags Group h kind = refl
 who_back flags Everyone h kind = refl
@@ -67,8 +78,10 @@ allow_back false = refl
 
 entry_back : (e : EntryModel) → IsEntry e → entry_in (entry e) ≡ Some e
 entry_back e h =
-    (λ i. entry_of (flags_back e.flags h.flags i) (mask_back e.mask h.mask i) (allow_back e.allow i) (Some (who_text e.who)))
-    ∙ ap (option_map (λ who. record { allow = e.allow; flags = e.flags; mask = e.mask; who = who })) (who_back e.flags e.who h.who h.kind)
+    (λ i. entry_of (flags_back e.flags h.flags i) (mask_back e.mask h.mask i)
+    (allow_back e.allow i) (Some (who_text e.who)))
+    ∙ ap (option_map (λ who. record { allow = e.allow; flags = e.flags; mask = e.mask; who = who }))
+    (who_back e.flags e.who h.who h.kind)
 
 pub entries_back : (es : List EntryModel) → AllByRecursion IsEntry es → entries_in (entries es) ≡ Some es
 entries_back [] h = refl

@@ -1,5 +1,6 @@
 -- The path of a text: the one lawful path with that text, where there is one.
-use Rattle.std.proofs.Common.{◌≡◌, ℕ, true, ◌&&◌, List, [], ◌∷◌, length, drop, cond, refl, sym, ap, subst, ◌∙◌, arith, Option, None, Some, Result, Ok, Err}
+use Rattle.std.proofs.Common.{◌≡◌, ℕ, true, ◌&&◌, List, [], ◌∷◌, length, drop, cond, refl, sym, ap, subst, ◌∙◌}
+use Rattle.std.proofs.Common.{arith, Option, None, Some, Result, Ok, Err}
 use Rattle.std.specs.Prelude.{nat_le, bytes_eq, IfSome, IfOk}
 use Rattle.std.specs.List.{list_all, AllByRecursion}
 use Rattle.std.specs.Str.{is_utf8}
@@ -14,7 +15,8 @@ use Rattle.room_wire.specs.Forms.Commands.{is_file_name, is_path, names_in, path
 
 name_test : (name : Name) → IsFileName name → is_file_name name ≡ true
 name_test name h =
-    and_from _ _ (is_utf8-from_IsUtf8 name h.text) (and_from _ _ (le-leb _ _ h.some) (and_from _ _ (le-leb _ _ h.short) (and_from _ _ h.bytes h.no_dots)))
+    and_from _ _ (is_utf8-from_IsUtf8 name h.text)
+    (and_from _ _ (le-leb _ _ h.some) (and_from _ _ (le-leb _ _ h.short) (and_from _ _ h.bytes h.no_dots)))
 
 name_fact : (name : Name) → is_file_name name ≡ true → IsFileName name
 name_fact name h =
@@ -22,7 +24,13 @@ name_fact name h =
     let b = and_parts (nat_le 1 (length name)) _ a.1 in
     let c = and_parts (nat_le (length name) max_name_bytes) _ b.1 in
     let d = and_parts (list_all is_name_byte name) _ c.1 in
-    record { text = IsUtf8-from_is_utf8 name a.0; some = leb-true _ _ b.0; short = leb-true _ _ c.0; bytes = d.0; no_dots = d.1 }
+    record {
+      text = IsUtf8-from_is_utf8 name a.0;
+      some = leb-true _ _ b.0;
+      short = leb-true _ _ c.0;
+      bytes = d.0;
+      no_dots = d.1;
+    }
 
 names_test : (path : Path) → AllByRecursion IsFileName path → list_all is_file_name path ≡ true
 names_test [] h = refl
@@ -36,13 +44,15 @@ path_test : (path : Path) → IsPath path → is_path path ≡ true
 path_test path h = and_from _ _ (le-leb _ _ h.short) (names_test path h.names)
 
 path_fact : (path : Path) → is_path path ≡ true → IsPath path
-path_fact path h = let p = and_parts (nat_le (length path) max_names) _ h in record { short = leb-true _ _ p.0; names = names_fact path p.1 }
+path_fact path h = let p = and_parts (nat_le (length path) max_names) _ h in
+    record { short = leb-true _ _ p.0; names = names_fact path p.1 }
 
 -- the names that stand in a path's text are the path's
 names_of_text : (path : Path) → IsPath path → names_in (path_text path) ≡ path
 names_of_text [] lawful = refl
 names_of_text ([] ∷ path) lawful = let some = lawful.names.0.some in absurd (omega arith)
-names_of_text ((b ∷ name) ∷ path) lawful = ap (drop 1) (path_of_parts (path_text ((b ∷ name) ∷ path)) (b ∷ name) path lawful refl)
+names_of_text ((b ∷ name) ∷ path) lawful =
+    ap (drop 1) (path_of_parts (path_text ((b ∷ name) ∷ path)) (b ∷ name) path lawful refl)
 
 pub path_of_text : (text : List ℕ) (path : Path) → IsPath path → path_text path ≡ text → path_from text ≡ Some path
 path_of_text text path lawful is =
@@ -53,9 +63,12 @@ path_of_text text path lawful is =
 
 pub text_of_path : (text : List ℕ) (path : Path) → path_from text ≡ Some path → IsPath path × (path_text path ≡ text)
 text_of_path text path e =
-    let parts = cond_some (is_path (names_in text) && bytes_eq (path_text (names_in text)) text) (names_in text) path e in
-    let tests = and_parts (is_path (names_in text)) (bytes_eq (path_text (names_in text)) text) parts.0 in
-    (subst IsPath parts.1 (path_fact _ tests.0), subst (λ p. path_text p ≡ text) parts.1 ((bytes_eq-Decides _ _).0 tests.1))
+    let parts =
+    cond_some (is_path (names_in text) && bytes_eq (path_text (names_in text)) text) (names_in text) path e in
+    let tests = and_parts (is_path (names_in text)) (bytes_eq (path_text (names_in text)) text) parts.0 in (
+      subst IsPath parts.1 (path_fact _ tests.0),
+      subst (λ p. path_text p ≡ text) parts.1 ((bytes_eq-Decides _ _).0 tests.1),
+    )
 
 found_path : (text : List ℕ) (found : Option Path) → IfSome found (λ path. IsPath path × (path_text path ≡ text))
     → ((path : Path) → IsPath path → path_text path ≡ text → found ≡ Some path) → found ≡ path_from text
@@ -67,7 +80,9 @@ found_path text None some every = by (path_from text) refl
     by (Some path) e = let is = text_of_path text path e in every path is.0 is.1 ∙ sym e
 
 -- what a reader answers that keeps both promises
-pub read_path : {E : Type 0} (text : List ℕ) (read : Result (Option Path) E) → IfOk read (λ found. IfSome found (λ path. IsPath path × (path_text path ≡ text)))
-    → IfOk read (λ found. (path : Path) → IsPath path → path_text path ≡ text → found ≡ Some path) → IfOk read (λ found. found ≡ path_from text)
+pub read_path : {E : Type 0} (text : List ℕ) (read : Result (Option Path) E)
+    → IfOk read (λ found. IfSome found (λ path. IsPath path × (path_text path ≡ text)))
+    → IfOk read (λ found. (path : Path) → IsPath path → path_text path ≡ text → found ≡ Some path)
+    → IfOk read (λ found. found ≡ path_from text)
 read_path text (Ok found) some every = found_path text found some every
 read_path text (Err e) some every = tt

@@ -5,7 +5,8 @@ use Rattle.std.proofs.lemmas.Str.{IsUtf8-append, IsUtf8-nil, IsUtf8-from_ascii}
 use Rattle.std.proofs.lemmas.Fmt.{IsAscii-decimal}
 use Rattle.json.specs.Print.{quoted}
 use Rattle.json.proofs.Printed.Utf8.{IsUtf8-are_ascii, IsUtf8-quoted, IsUtf8-boolean}
-use Rattle.serde_json.specs.Data.{Data, null, boolean, number, string, array, object, Items, no_items, item, Members, no_members, member}
+use Rattle.serde_json.specs.Data.{Data, null, boolean, number, string, array, object, Items, no_items, item}
+use Rattle.serde_json.specs.Data.{Members, no_members, member}
 use Rattle.serde_json.specs.Written.{number_text, comma_if, compact_text, items_text, members_text}
 
 abbrev mutual
@@ -43,13 +44,15 @@ mutual
 
   items_are_utf8 : (later : Bool) (ds : Items) → ItemsHaveUtf8 ds → IsUtf8 (items_text later ds)
   items_are_utf8 later no_items h = IsUtf8-are_ascii (93 ∷ []) refl
-  items_are_utf8 later (item d ds) h = IsUtf8-append (comma_if later) _ (comma later) (IsUtf8-append (compact_text d) _ (text_is_utf8 d h.0) (items_are_utf8 true ds h.1))
+  items_are_utf8 later (item d ds) h = IsUtf8-append (comma_if later) _ (comma later)
+      (IsUtf8-append (compact_text d) _ (text_is_utf8 d h.0) (items_are_utf8 true ds h.1))
 
   members_are_utf8 : (later : Bool) (ms : Members) → MembersHaveUtf8 ms → IsUtf8 (members_text later ms)
   members_are_utf8 later no_members h = IsUtf8-are_ascii (125 ∷ []) refl
   members_are_utf8 later (member k d ms) h =
       IsUtf8-append (comma_if later) _ (comma later) (IsUtf8-append (quoted k) _ (IsUtf8-quoted k h.0)
-      (one_then 58 _ (IsUtf8-are_ascii _ refl) (IsUtf8-append (compact_text d) _ (text_is_utf8 d h.1) (members_are_utf8 true ms h.2))))
+      (one_then 58 _ (IsUtf8-are_ascii _ refl)
+      (IsUtf8-append (compact_text d) _ (text_is_utf8 d h.1) (members_are_utf8 true ms h.2))))
 
 pub digits_are_utf8 : (n : ℕ) → n < 2 ^ 64 → IsUtf8 (decimal n)
 digits_are_utf8 n small = IsUtf8-from_ascii _ (IsAscii-decimal n small)

@@ -6,7 +6,7 @@ use Rattle.serde_json.specs.Written.{has_float, items_have_float}
 use Rattle.room_acl.specs.declared.subject.Kind.{Kind}
 use Rattle.room_acl.specs.declared.subject.Kind.TheVariants.{File, Folder}
 use Rattle.room_records.specs.Names.{Name, Path}
-use Rattle.room_commands.specs.declared.reply.Fault.{Fault}
+use Rattle.room_commands.specs.declared.reply.RefusalCode.{RefusalCode}
 use Rattle.room_commands.specs.CommandModel.{CommandModel}
 use Rattle.room_commands.specs.CommandModel as C
 use Rattle.room_commands.specs.ReplyModel.{ReplyModel}
@@ -41,7 +41,7 @@ command_has_no_float (C.SetList flags es p) = ap (λ b. b || false) (entries_hav
 command_has_no_float (C.Chown group owner p) = refl
 command_has_no_float (C.Access mask p) = refl
 
-refusal_has_no_float : (f : Fault) (place : Option (Path × ℕ)) → has_float (refusal_data f place) ≡ false
+refusal_has_no_float : (f : RefusalCode) (place : Option (Path × ℕ)) → has_float (refusal_data f place) ≡ false
 refusal_has_no_float f None = refl
 refusal_has_no_float f (Some place) = refl
 

@@ -1,17 +1,20 @@
 -- What is lacking of a message.
-use Rattle.std.proofs.Common.{◌≡◌, ◌≤◌, ◌<◌, ℕ, ◌+◌, List, [], ◌∷◌, ◌++◌, length, take, drop, refl, ◌∙◌, subst, arith, Some, inl, ap, true}
+use Rattle.std.proofs.Common.{◌≡◌, ◌≤◌, ◌<◌, ℕ, ◌+◌, List, [], ◌∷◌, ◌++◌, length, take, drop, refl, ◌∙◌}
+use Rattle.std.proofs.Common.{subst, arith, Some, inl, ap, true}
 use Rattle.std.proofs.lemmas.List.{take_all, length-drop, length-append}
 use Rattle.std.proofs.lemmas.List.Elements.{All-nil, All-push}
 use Rattle.std.proofs.lemmas.Str.{IsUtf8-from_ascii}
 use Rattle.std.proofs.lemmas.Str.Ascii.{IsAscii-cons, IsAscii-nil}
-use Rattle.httparse.specs.Grammar.{RequestHead, IsRequestHead, is_token_byte, is_uri_byte, lf, print_request, HasNoRequest, MayBecomeRequest}
+use Rattle.httparse.specs.Grammar.{RequestHead, IsRequestHead, is_token_byte, is_uri_byte, lf, print_request}
+use Rattle.httparse.specs.Grammar.{HasNoRequest, MayBecomeRequest}
 use Rattle.httparse.proofs.OpenLemmas.{letter_is_token}
 use Rattle.room_wire.specs.Messages.MessageModel.{body_after}
 use Rattle.room_wire.specs.Messages.Taken.{LacksHead, LacksBody}
 use Rattle.room_wire.proofs.Lemmas.Messages.Fronts.{Parsed, after_head, head_size}
 
 -- a short input whose front is no whole head, and may become one
-pub lacks_head : (input window : List ℕ) → window ≡ take 8192 input → length input < 8192 → HasNoRequest window → MayBecomeRequest window → LacksHead input
+pub lacks_head : (input window : List ℕ) → window ≡ take 8192 input → length input < 8192
+    → HasNoRequest window → MayBecomeRequest window → LacksHead input
 lacks_head input window e short none may =
     let whole : window ≡ input = e ∙ take_all 8192 input (omega arith) in
     let None : List ℕ → Type 0 = λ bytes. HasNoRequest bytes in
@@ -35,11 +38,16 @@ none_of_nothing : HasNoRequest []
 none_of_nothing h rest x = absurd (omega (arith, head_size h x.0, ap length x.1, length-append (print_request h) rest))
 
 pub lacks_all : (bytes : List ℕ) → length bytes ≡ 0 → LacksHead bytes
-lacks_all [] e = record { short = omega arith; not_whole = none_of_nothing; unfinished = inl (print_request some_head ++ [], some_head, (is_head, refl)) }
+lacks_all [] e = record {
+  short = omega arith;
+  not_whole = none_of_nothing;
+  unfinished = inl (print_request some_head ++ [], some_head, (is_head, refl));
+}
 lacks_all (b ∷ bytes) e = absurd (omega arith)
 
 -- a head that was read, whose body is longer than what follows
-pub lacks_body : (input window : List ℕ) (len n : ℕ) (h : RequestHead) → Parsed input window len h → body_after h ≡ Some n → len ≤ length input → length input < len + n
+pub lacks_body : (input window : List ℕ) (len n : ℕ) (h : RequestHead) → Parsed input window len h
+    → body_after h ≡ Some n → len ≤ length input → length input < len + n
     → len ≤ 8192 → length h.fields ≤ 32 → LacksBody input
 lacks_body input window len n h p states inside short fits few = record {
   head = h;

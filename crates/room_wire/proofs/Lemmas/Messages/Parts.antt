@@ -1,5 +1,6 @@
 -- The parts between commas.
-use Rattle.std.proofs.Common.{◌≡◌, ◌<◌, ℕ, ◌+◌, Bool, true, false, ◌||◌, ◌==◌, List, [], ◌∷◌, ◌++◌, length, take, drop, get_or, refl, sym, ap, ◌∙◌, arith, None, Some, cond, nat_lt, subst, ◌≤◌}
+use Rattle.std.proofs.Common.{◌≡◌, ◌<◌, ℕ, ◌+◌, Bool, true, false, ◌||◌, ◌==◌, List, [], ◌∷◌, ◌++◌, length, take, drop}
+use Rattle.std.proofs.Common.{get_or, refl, sym, ap, ◌∙◌, arith, None, Some, cond, nat_lt, subst, ◌≤◌}
 use Rattle.std.proofs.lemmas.List.{take-append-drop, drop_more, length-take-le, get_or-take}
 use Rattle.std.proofs.lemmas.List.Quantifiers.{position-Some}
 use Rattle.std.proofs.lemmas.List.Elements.{All-from_get_or}
@@ -17,18 +18,22 @@ parts_at xs i e =
     let found = position-Some p xs i 0 e in
     let size = length-take-le i xs (omega (arith, found.0)) in
     let before : All (λ x. p x ≡ false) (take i xs) =
-    All-from_get_or (λ x. p x ≡ false) (take i xs) 0 (λ k h. let inside : k < i = omega arith in subst (λ y. p y ≡ false) (sym (get_or-take i xs k 0 inside)) (found.2 k inside)) in
-    let whole : xs ≡ take i xs ++ get_or xs i 0 ∷ drop (i + 1) xs = sym (take-append-drop i xs) ∙ ap (λ t. take i xs ++ t) (drop_more xs i 0 found.0) in
+    All-from_get_or (λ x. p x ≡ false) (take i xs) 0 (λ k h. let inside : k < i = omega arith in
+    subst (λ y. p y ≡ false) (sym (get_or-take i xs k 0 inside)) (found.2 k inside)) in
+    let whole : xs ≡ take i xs ++ get_or xs i 0 ∷ drop (i + 1) xs =
+    sym (take-append-drop i xs) ∙ ap (λ t. take i xs ++ t) (drop_more xs i 0 found.0) in
     ap (slice_split p) whole ∙ slice_split_at p (take i xs) (get_or xs i 0) (drop (i + 1) xs) before found.1
 
-pub close_at : (xs : List ℕ) (i : ℕ) → position (λ b. b == 44) xs ≡ Some i → lists_close xs ≡ (is_close (take i xs) || lists_close (drop (i + 1) xs))
+pub close_at : (xs : List ℕ) (i : ℕ) → position (λ b. b == 44) xs ≡ Some i
+    → lists_close xs ≡ (is_close (take i xs) || lists_close (drop (i + 1) xs))
 close_at xs i e = ap (list_any is_close) (parts_at xs i e)
 
 none_split : (p : ℕ → Bool) (xs : List ℕ) → length xs ≤ position_or_len p xs → slice_split p xs ≡ xs ∷ []
 none_split p [] h = refl
 none_split p (x ∷ xs) h = go (p x) refl (λ k. none_split p xs k)
   where
-    go : (b : Bool) → p x ≡ b → (length xs ≤ position_or_len p xs → slice_split p xs ≡ xs ∷ []) → slice_split p (x ∷ xs) ≡ (x ∷ xs) ∷ []
+    go : (b : Bool) → p x ≡ b → (length xs ≤ position_or_len p xs → slice_split p xs ≡ xs ∷ [])
+        → slice_split p (x ∷ xs) ≡ (x ∷ xs) ∷ []
     go true e next = let k = rw e at h in absurd (omega arith)
     go false e next = let k = rw e at h in rw e (ap (onto_first x) (next (omega arith)))
 

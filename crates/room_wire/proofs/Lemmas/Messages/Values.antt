@@ -1,5 +1,6 @@
 -- The values of the fields of one name, field by field.
-use Rattle.std.proofs.Common.{◌≡◌, ◌<◌, ℕ, ◌-◌, ◌+◌, Bool, true, false, ◌||◌, ◌&&◌, append-nil, List, [], ◌∷◌, ◌++◌, length, take, map, get_or, cond, refl, sym, ap, ◌∙◌, arith}
+use Rattle.std.proofs.Common.{◌≡◌, ◌<◌, ℕ, ◌-◌, ◌+◌, Bool, true, false, ◌||◌, ◌&&◌, append-nil, List, [], ◌∷◌, ◌++◌}
+use Rattle.std.proofs.Common.{length, take, map, get_or, cond, refl, sym, ap, ◌∙◌, arith}
 use Rattle.std.proofs.lemmas.List.{take_more}
 use Rattle.std.proofs.lemmas.List.Folds.{list_all_at, list_any-append}
 use Rattle.std.proofs.lemmas.Bool.Decides.{nat_tests}
@@ -11,10 +12,13 @@ use Rattle.room_wire.specs.Messages.Fields.{values_named, is_named, IsFound}
 use Rattle.room_wire.specs.declared.messages.fields.Found.{Found}
 use Rattle.room_wire.specs.declared.messages.fields.Found.TheVariants.{Absent, One, Many}
 
-values_push : (name : List ℕ) (fields : List (List ℕ × List ℕ)) (field : List ℕ × List ℕ) → values_named name (fields ++ field ∷ []) ≡ values_named name fields ++ cond (is_named name field) (field.1 ∷ []) []
+values_push : (name : List ℕ) (fields : List (List ℕ × List ℕ)) (field : List ℕ × List ℕ) →
+    values_named name (fields ++ field ∷ []) ≡ values_named name fields ++ cond (is_named name field) (field.1 ∷ []) []
 values_push name [] field = refl
 values_push name (other ∷ fields) field =
-    elim (is_named name other) as (λ b. cond b (other.1 ∷ values_named name (fields ++ field ∷ [])) (values_named name (fields ++ field ∷ [])) ≡ cond b (other.1 ∷ values_named name fields) (values_named name fields) ++ cond (is_named name field) (field.1 ∷ []) []) [
+    elim (is_named name other) as (λ b. cond b (other.1 ∷ values_named name (fields ++ field ∷ []))
+    (values_named name (fields ++ field ∷ [])) ≡ cond b (other.1 ∷ values_named name fields)
+    (values_named name fields) ++ cond (is_named name field) (field.1 ∷ []) []) [
       | true ↦ ap (λ t. other.1 ∷ t) (values_push name fields field)
       | false ↦ values_push name fields field
     ]
@@ -26,13 +30,15 @@ map_push f (y ∷ ys) x = ap (λ t. f y ∷ t) (map_push f ys x)
 -- one more field
 pub values_more : (name buf : List ℕ) (headers : List HeaderSpan) (i : ℕ) (d : HeaderSpan) → i < length headers
     → values_named name (map (header_bytes buf) (take (i + 1) headers))
-    ≡ values_named name (map (header_bytes buf) (take i headers)) ++ cond (is_named name (header_bytes buf (get_or headers i d))) ((header_bytes buf (get_or headers i d)).1 ∷ []) []
+    ≡ values_named name (map (header_bytes buf) (take i headers)) ++ cond
+    (is_named name (header_bytes buf (get_or headers i d))) ((header_bytes buf (get_or headers i d)).1 ∷ []) []
 values_more name buf headers i d inside =
     ap (λ t. values_named name (map (header_bytes buf) t)) (take_more headers i d inside)
     ∙ ap (values_named name) (map_push (header_bytes buf) (take i headers) (get_or headers i d))
     ∙ values_push name (map (header_bytes buf) (take i headers)) (header_bytes buf (get_or headers i d))
 
-pub found_other : (found : Found) (values : List (List ℕ)) (value : List ℕ) → (found ≡ Absent → ⊥) → IsFound found values → IsFound Many (values ++ value ∷ [])
+pub found_other : (found : Found) (values : List (List ℕ)) (value : List ℕ)
+    → (found ≡ Absent → ⊥) → IsFound found values → IsFound Many (values ++ value ∷ [])
 found_other Absent values value some e = absurd (some refl)
 found_other (One v) values value some e = (v.now, value, [], ap (λ t. t ++ value ∷ []) e)
 found_other Many values value some e = (e.0, e.1, e.2 ++ value ∷ [], ap (λ t. t ++ value ∷ []) e.3)
@@ -40,7 +46,8 @@ found_other Many values value some e = (e.0, e.1, e.2 ++ value ∷ [], ap (λ t.
 pub digit_is : (c : ℕ) → is_ascii_digit c ≡ true → c - 48 ≡ digit_value c
 digit_is c e = grind (arith, nat_tests)
 
-pub digit_at : (ds : List ℕ) (i : ℕ) → i < length ds → list_all is_ascii_digit ds ≡ true → get_or ds i 0 - 48 ≡ digit_value (get_or ds i 0)
+pub digit_at : (ds : List ℕ) (i : ℕ) → i < length ds → list_all is_ascii_digit ds ≡ true
+    → get_or ds i 0 - 48 ≡ digit_value (get_or ds i 0)
 digit_at ds i inside all = digit_is (get_or ds i 0) (passes (is_ascii_digit (get_or ds i 0)) refl)
   where
     passes : (b : Bool) → is_ascii_digit (get_or ds i 0) ≡ b → is_ascii_digit (get_or ds i 0) ≡ true
@@ -60,8 +67,10 @@ or_false true = refl
 or_false false = refl
 
 -- a test over the values, one field more
-pub any_more : (p : List ℕ → Bool) (seen : List (List ℕ)) (value : List ℕ) (named passes before : Bool) → before ≡ list_any p seen → p value ≡ passes
+pub any_more : (p : List ℕ → Bool) (seen : List (List ℕ)) (value : List ℕ) (named passes before : Bool)
+    → before ≡ list_any p seen → p value ≡ passes
     → (before || (named && passes)) ≡ list_any p (seen ++ cond named (value ∷ []) [])
 any_more p seen value true passes before e f =
-    (λ i. e i || sym f i) ∙ ap (λ b. list_any p seen || b) (sym (or_false (p value))) ∙ sym (list_any-append p seen (value ∷ []))
+    (λ i. e i || sym f i) ∙ ap (λ b. list_any p seen || b) (sym (or_false (p value)))
+    ∙ sym (list_any-append p seen (value ∷ []))
 any_more p seen value false passes before e f = or_false before ∙ e ∙ ap (list_any p) (sym (append-nil seen))

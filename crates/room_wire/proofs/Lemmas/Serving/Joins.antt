@@ -1,5 +1,6 @@
 -- Bytes that came, and the rounds over them.
-use Rattle.std.proofs.Common.{◌≡◌, ◌<◌, ℕ, ◌+◌, List, [], ◌++◌, length, ap, subst, ◌∙◌, Option, ◌⊎◌, inl, inr, append-nil}
+use Rattle.std.proofs.Common.{◌≡◌, ◌<◌, ℕ, ◌+◌, List, [], ◌++◌, length, ap, subst, ◌∙◌, Option, ◌⊎◌}
+use Rattle.std.proofs.Common.{inl, inr, append-nil}
 use Rattle.std.proofs.lemmas.List.{length-append}
 use Rattle.std.proofs.KnownBytes.{Appends-trans}
 use Rattle.std.specs.Io.KnownBytes.{Appends, IsAtEnd}
@@ -14,13 +15,18 @@ use Rattle.room_wire.proofs.Lemmas.Messages.Fronts.{none_empty}
 use Rattle.room_wire.proofs.Lemmas.Messages.Streams.{follows_then, follows_ended, follows_more, split_one, begun_front}
 
 -- the bytes at hand and more, and the messages after those so far
-pub more_follows : (ms ks : List MessageModel) (bytes was more now rest : List ℕ) → Follows bytes ms was → now ≡ was ++ more → Follows now ks rest → Follows (bytes ++ more) (ms ++ ks) rest
-more_follows ms ks bytes was more now rest x e y = follows_then ms ks (bytes ++ more) (was ++ more) rest (follows_more ms bytes was more x) (subst (λ t. Follows t ks rest) e y)
+pub more_follows : (ms ks : List MessageModel) (bytes was more now rest : List ℕ) → Follows bytes ms was
+    → now ≡ was ++ more → Follows now ks rest → Follows (bytes ++ more) (ms ++ ks) rest
+more_follows ms ks bytes was more now rest x e y = follows_then ms ks (bytes ++ more)
+    (was ++ more) rest (follows_more ms bytes was more x) (subst (λ t. Follows t ks rest) e y)
 
-pub more_ended : (ms ks : List MessageModel) (bytes was more now rest : List ℕ) → Follows bytes ms was → now ≡ was ++ more → Ended now ks rest → Ended (bytes ++ more) (ms ++ ks) rest
-more_ended ms ks bytes was more now rest x e y = follows_ended ms ks (bytes ++ more) (was ++ more) rest (follows_more ms bytes was more x) (subst (λ t. Ended t ks rest) e y)
+pub more_ended : (ms ks : List MessageModel) (bytes was more now rest : List ℕ) → Follows bytes ms was
+    → now ≡ was ++ more → Ended now ks rest → Ended (bytes ++ more) (ms ++ ks) rest
+more_ended ms ks bytes was more now rest x e y = follows_ended ms ks (bytes ++ more)
+    (was ++ more) rest (follows_more ms bytes was more x) (subst (λ t. Ended t ks rest) e y)
 
-pub more_begun : (ms ks : List MessageModel) (bytes was more now rest : List ℕ) → Follows bytes ms was → now ≡ was ++ more → Follows now ks rest ⊎ Ended now ks rest
+pub more_begun : (ms ks : List MessageModel) (bytes was more now rest : List ℕ)
+    → Follows bytes ms was → now ≡ was ++ more → Follows now ks rest ⊎ Ended now ks rest
     → Follows (bytes ++ more) (ms ++ ks) rest ⊎ Ended (bytes ++ more) (ms ++ ks) rest
 more_begun ms ks bytes was more now rest x e (inl y) = inl (more_follows ms ks bytes was more now rest x e y)
 more_begun ms ks bytes was more now rest x e (inr y) = inr (more_ended ms ks bytes was more now rest x e y)
@@ -32,16 +38,20 @@ pub never_none : (bytes : List ℕ) → NeverMessage bytes → NoMessage bytes
 never_none bytes never m rest x = never [] m rest (record { lawful = x.lawful; whole = append-nil bytes ∙ x.whole })
 
 -- the answer 40 was due
-pub refused_ends : (bytes rest : List ℕ) (ms : List MessageModel) (out : List ℕ) (after a b c : Option (List ℕ)) (why : Why) → Appends a b out → Follows bytes ms rest → NoMessage rest
+pub refused_ends : (bytes rest : List ℕ) (ms : List MessageModel) (out : List ℕ)
+    (after a b c : Option (List ℕ)) (why : Why) → Appends a b out → Follows bytes ms rest → NoMessage rest
     → 0 < length rest → IsAtEnd after ⊎ NeverMessage rest → Refused b c why → Wrote bytes rest ms out after a c why
-refused_ends bytes rest ms out after a b c BadMessage x y z some end h = (Appends-trans a b c out bad_answer x h, y, z, some, end)
-refused_ends bytes rest ms out after a b c WriteFailed x y z some end h = inr (y, z, some, end, breaks a b c out bad_answer x h)
+refused_ends bytes rest ms out after a b c BadMessage x y z some end h =
+    (Appends-trans a b c out bad_answer x h, y, z, some, end)
+refused_ends bytes rest ms out after a b c WriteFailed x y z some end h =
+    inr (y, z, some, end, breaks a b c out bad_answer x h)
 refused_ends bytes rest ms out after a b c Closed x y z some end h = absurd h
 refused_ends bytes rest ms out after a b c ReadFailed x y z some end h = absurd h
 refused_ends bytes rest ms out after a b c Memory x y z some end h = absurd h
 
 -- what was answered is a front of the split, and all of it unless a write failed
-pub answered_front : (bytes rest : List ℕ) (ms ks : List MessageModel) (out q : List ℕ) (after old new : Option (List ℕ)) (why : Why)
+pub answered_front : (bytes rest : List ℕ) (ms ks : List MessageModel)
+    (out q : List ℕ) (after old new : Option (List ℕ)) (why : Why)
     → Wrote bytes rest ms out after old new why → Splits bytes ks q → Answers ms ks why
 answered_front bytes rest ms ks out q after old new Closed w s = (split_one bytes ms ks rest q (closed w.1) s).0
   where

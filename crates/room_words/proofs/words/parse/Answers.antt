@@ -16,9 +16,11 @@ free p = refl
 pub returns-clause-found : goal.returns-clause-found
 returns-clause-found c =
     let e = c.in_ok-command_table.ensures in
-    IfOk-weaker c.try_get_matches_from.result _ _ (λ m h. (h (ap is_simple e ∙ simple c.args.kind)).1 ∙ ap (λ (a : App). subcommand_of a (texts_of c.args.words.now)) e) c.try_get_matches_from.ensures.matches
+    IfOk-weaker c.try_get_matches_from.result _ _ (λ m h. (h (ap is_simple e ∙ simple c.args.kind)).1
+    ∙ ap (λ (a : App). subcommand_of a (texts_of c.args.words.now)) e) c.try_get_matches_from.ensures.matches
 
 pub returns-clause-fails : goal.returns-clause-fails
 returns-clause-fails c =
     let e = c.in_ok-command_table.ensures in
-    subst (λ (a : App). FailsBy (fault_of a (texts_of c.args.words.now)) c.try_get_matches_from.result) e (c.try_get_matches_from.ensures.kinds (ap is_simple_and_free e ∙ free c.args.kind))
+    subst (λ (a : App). FailsBy (fault_of a (texts_of c.args.words.now)) c.try_get_matches_from.result)
+    e (c.try_get_matches_from.ensures.kinds (ap is_simple_and_free e ∙ free c.args.kind))

@@ -16,4 +16,5 @@ returns-clause-value c =
     c.of_named.ensures ∙ sym (cleared_flags f small) ∙ ap without_inherited c.self.view_is
 
 pub returns-clause-group : goal.returns-clause-group
-returns-clause-group c = ap identifier_group c.of_named.ensures ∙ cleared_group c.self.inside.bits ∙ ap identifier_group c.self.view_is
+returns-clause-group c =
+    ap identifier_group c.of_named.ensures ∙ cleared_group c.self.inside.bits ∙ ap identifier_group c.self.view_is

@@ -34,26 +34,40 @@ loop-event-preserved g c = record {
   count = omega (arith, c.loop-event.invariant.count, c.in-Ok.ensures.len);
   frame = calls_then _ _ _ c.handle.ensures.answered.frame c.loop-event.invariant.frame;
   alive = λ k before last is other.
-      let told : map answer_model c.push.new.self.items ≡ map answer_model c.loop-event.answers.items ++ answer_model c.handle.result ∷ [] =
-      ap (map answer_model) c.in-Ok.ensures.items ∙ map-append answer_model c.loop-event.answers.items (c.handle.result ∷ []) in
-      let same = same_from_push (map answer_model c.loop-event.answers.items) before (answer_model c.handle.result) last (sym told ∙ is) in
+      let told : map answer_model c.push.new.self.items
+      ≡ map answer_model c.loop-event.answers.items ++ answer_model c.handle.result ∷ [] =
+      ap (map answer_model) c.in-Ok.ensures.items
+      ∙ map-append answer_model c.loop-event.answers.items (c.handle.result ∷ []) in
+      let same = same_from_push (map answer_model c.loop-event.answers.items)
+      before (answer_model c.handle.result) last (sym told ∙ is) in
       c.handle.ensures.answered.alive k (event_model c.event-item.result) refl (λ delay. other (sym same.1 ∙ delay));
   run = λ k start past stands.
       let so_far = c.loop-event.invariant.run (c.handle.ensures.answered.frame.was_intact k) start past stands in
-      let step = c.handle.ensures.answered.step k start so_far.0 so_far.2 in
-      (step.0, in_turn_at (Step start) past so_far.0 step.0 c.args.events.now c.loop-event.event-index c.event-item.result c.loop-event.answers.items c.push.new.self.items c.handle.result c.loop-event-test.true c.event-item.is c.in-Ok.ensures.items so_far.1 step.1, step.2);
+      let step = c.handle.ensures.answered.step k start so_far.0 so_far.2 in (
+        step.0,
+        in_turn_at (Step start) past so_far.0 step.0 c.args.events.now c.loop-event.event-index
+            c.event-item.result c.loop-event.answers.items c.push.new.self.items c.handle.result
+            c.loop-event-test.true c.event-item.is c.in-Ok.ensures.items so_far.1 step.1,
+        step.2,
+      );
   each =
       let S = g.S.Shelf in
       in_turn_at (EventAnswered S.view) c.args.self.now c.loop-event.self c.handle.new.self
-      c.args.events.now c.loop-event.event-index c.event-item.result c.loop-event.answers.items c.push.new.self.items c.handle.result
-      c.loop-event-test.true c.event-item.is c.in-Ok.ensures.items c.loop-event.invariant.each c.handle.ensures.answered;
+      c.args.events.now c.loop-event.event-index c.event-item.result
+      c.loop-event.answers.items c.push.new.self.items c.handle.result
+      c.loop-event-test.true c.event-item.is c.in-Ok.ensures.items
+      c.loop-event.invariant.each c.handle.ensures.answered;
 }
 
 pub returns-clause-run : goal.returns-clause-run
 returns-clause-run g c = λ k start past stands.
     let so_far = c.loop-event.invariant.run k start past stands in
-    let All : List Event → Type 0 = λ events. Run start past (map event_model events) (map answer_model c.loop-event.answers.items) so_far.0 in
-    (so_far.0, subst All (take_all c.loop-event.event-index c.args.events.now c.loop-event-test.false) so_far.1, so_far.2)
+    let All : List Event → Type 0 =
+    λ events. Run start past (map event_model events) (map answer_model c.loop-event.answers.items) so_far.0 in (
+      so_far.0,
+      subst All (take_all c.loop-event.event-index c.args.events.now c.loop-event-test.false) so_far.1,
+      so_far.2,
+    )
 
 pub returns-clause-each : goal.returns-clause-each
 returns-clause-each g c =

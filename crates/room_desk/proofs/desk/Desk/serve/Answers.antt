@@ -6,5 +6,9 @@ pub returns-in_default-clause-frame : goal.returns-in_default-clause-frame
 returns-in_default-clause-frame g c = no_call (g.S.Shelf.view c.args.self.now)
 
 pub returns-in_default-clause-run : goal.returns-in_default-clause-run
-returns-in_default-clause-run g c = λ intact start past stands.
-    (past, memory_end c.args.roster.now start past (g.R.Read.remaining c.args.reader.now) (g.W.Write.contents c.args.writer.now), stands)
+returns-in_default-clause-run g c = λ intact start past stands. (
+  past,
+  memory_end c.args.roster.now start past (g.R.Read.remaining c.args.reader.now)
+      (g.W.Write.contents c.args.writer.now),
+  stands,
+)

@@ -5,4 +5,5 @@ use Rattle.room_desk.proofs.desk.Desk.serve_question.Goals as goal
 
 pub returns : goal.returns
 returns g c =
-    question_stays (question_model c.args.question.now) (g.S.Shelf.view c.args.self.now) (answer_model c.answer_question.result) c.answer_question.ensures
+    question_stays (question_model c.args.question.now) (g.S.Shelf.view c.args.self.now)
+    (answer_model c.answer_question.result) c.answer_question.ensures

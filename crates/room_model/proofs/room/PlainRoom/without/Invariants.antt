@@ -6,4 +6,5 @@ use Rattle.room_records.specs.Room.{Object}
 use Rattle.room_model.proofs.room.PlainRoom.without.Given as goal
 
 abbrev pub invariant-loop-entry : goal.invariant-loop-entry
-invariant-loop-entry l = (l.entry-items ≡ l.self.objects) × (l.objects.items ≡ filter (λ (e : Path × Object). not (path_eq l.path e.0)) (take l.entry-index l.entry-items))
+invariant-loop-entry l = (l.entry-items ≡ l.self.objects)
+    × (l.objects.items ≡ filter (λ (e : Path × Object). not (path_eq l.path e.0)) (take l.entry-index l.entry-items))

@@ -5,14 +5,15 @@ use Rattle.std.specs.Vec.Iter.{into_iter_items}
 use Rattle.room_records.specs.declared.change.Change.{Change}
 use Rattle.room_records.specs.Records.{Records}
 use Rattle.room_records.specs.Changes.{apply_changes, RulesHoldAfterEach}
-use Rattle.room_records.specs.Mem.{mem_records, HasRoomFor}
-use Rattle.room_records.proofs.MemRecords.{rooms_kept}
+use Rattle.room_records.specs.Mem.{mem_records, HasSpaceFor}
+use Rattle.room_records.proofs.MemRecords.{spaces_kept}
 use Rattle.room_records.proofs.mem.MemShelf.apply_all.Goals as goal
 
 pub apply-requires : goal.apply-requires
 apply-requires c =
-    let P : List Change → Type 0 = λ changes. AllByRecursion (HasRoomFor c.loop-step.self) changes in
-    let rooms : AllByRecursion (HasRoomFor c.loop-step.self) (c.in-Some.step ∷ into_iter_items c.next.new.self) = subst P c.in-Some.ensures.steps.0 c.loop-step.invariant.rooms in
+    let P : List Change → Type 0 = λ changes. AllByRecursion (HasSpaceFor c.loop-step.self) changes in
+    let rooms : AllByRecursion (HasSpaceFor c.loop-step.self) (c.in-Some.step ∷ into_iter_items c.next.new.self) =
+    subst P c.in-Some.ensures.steps.0 c.loop-step.invariant.rooms in
     rooms.0
 
 pub loop-step-preserved : goal.loop-step-preserved
@@ -21,21 +22,25 @@ loop-step-preserved c =
     let new = c.apply.new.self in
     let left = into_iter_items c.next.new.self in
     let cut : into_iter_items c.loop-step.step-iterator ≡ c.in-Some.step ∷ left = c.in-Some.ensures.steps.0 in
-    let P : List Change → Type 0 = λ changes. AllByRecursion (HasRoomFor now) changes in
-    let rooms : AllByRecursion (HasRoomFor now) (c.in-Some.step ∷ left) = subst P cut c.loop-step.invariant.rooms in
+    let P : List Change → Type 0 = λ changes. AllByRecursion (HasSpaceFor now) changes in
+    let rooms : AllByRecursion (HasSpaceFor now) (c.in-Some.step ∷ left) = subst P cut c.loop-step.invariant.rooms in
     let all = apply_changes c.args.steps.items (mem_records c.args.self.now) in
-    let Q : List Change → Type 0 = λ changes. RulesHoldAfterEach changes (mem_records now) × (apply_changes changes (mem_records now) ≡ all) in
+    let Q : List Change → Type 0 = λ changes. RulesHoldAfterEach changes (mem_records now)
+    × (apply_changes changes (mem_records now) ≡ all) in
     let R : Records → Type 0 = λ r. RulesHoldAfterEach left r × (apply_changes left r ≡ all) in
     record {
       count = omega (arith, ap length cut, c.loop-step.invariant.count, c.in-Some.ensures.steps.1);
-      rooms = rooms_kept now new c.apply.ensures.kept left rooms.1;
+      rooms = spaces_kept now new c.apply.ensures.kept left rooms.1;
       rest = λ hold.
-          let here : RulesHoldAfterEach (c.in-Some.step ∷ left) (mem_records now) × (apply_changes (c.in-Some.step ∷ left) (mem_records now) ≡ all) =
+          let here : RulesHoldAfterEach (c.in-Some.step ∷ left) (mem_records now)
+          × (apply_changes (c.in-Some.step ∷ left) (mem_records now) ≡ all) =
           subst Q cut (c.loop-step.invariant.rest hold) in
           subst R (sym (c.apply.ensures.records here.0.0)) (here.0.1, here.1);
     }
 
 pub returns : goal.returns
 returns c = λ hold.
-    let none : into_iter_items c.loop-step.step-iterator ≡ [] = nil_from_length (into_iter_items c.loop-step.step-iterator) (c.loop-step.invariant.count ∙ c.in-None.ensures.steps.0) in
-    sym (ap (λ changes. apply_changes changes (mem_records c.loop-step.self)) none) ∙ (c.loop-step.invariant.rest hold).1
+    let none : into_iter_items c.loop-step.step-iterator ≡ [] = nil_from_length
+    (into_iter_items c.loop-step.step-iterator) (c.loop-step.invariant.count ∙ c.in-None.ensures.steps.0) in
+    sym (ap (λ changes. apply_changes changes (mem_records c.loop-step.self)) none)
+    ∙ (c.loop-step.invariant.rest hold).1

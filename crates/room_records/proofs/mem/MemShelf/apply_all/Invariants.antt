@@ -2,14 +2,15 @@ use Rattle.std.proofs.Common.{◌≡◌, length}
 use Rattle.std.specs.List.{AllByRecursion}
 use Rattle.std.specs.Vec.Iter.{into_iter_items, into_iter_len}
 use Rattle.room_records.specs.Changes.{apply_changes, RulesHoldAfterEach}
-use Rattle.room_records.specs.Mem.{mem_records, HasRoomFor}
+use Rattle.room_records.specs.Mem.{mem_records, HasSpaceFor}
 use Rattle.room_records.proofs.mem.MemShelf.apply_all.Given as goal
 
 abbrev pub invariant-loop-step : goal.invariant-loop-step
 invariant-loop-step l = record {
   count : length (into_iter_items l.step-iterator) ≡ into_iter_len l.step-iterator;
-  rooms : AllByRecursion (HasRoomFor l.self) (into_iter_items l.step-iterator);
+  rooms : AllByRecursion (HasSpaceFor l.self) (into_iter_items l.step-iterator);
   rest : RulesHoldAfterEach l.fn.steps.items (mem_records l.initial.self)
       → RulesHoldAfterEach (into_iter_items l.step-iterator) (mem_records l.self)
-      × (apply_changes (into_iter_items l.step-iterator) (mem_records l.self) ≡ apply_changes l.fn.steps.items (mem_records l.initial.self));
+      × (apply_changes (into_iter_items l.step-iterator) (mem_records l.self)
+      ≡ apply_changes l.fn.steps.items (mem_records l.initial.self));
 }

@@ -10,7 +10,8 @@ pub returns : goal.returns
 returns c = λ i. record {
   objects = record {
     node = λ id. c.new.ensures id i;
-    entries = λ id. ap (λ es. unwrap_or (option_map (λ e. e.items) (value_in (lookup (is_at (nat_cmp id)) es))) []) c.new-2.ensures i;
+    entries = λ id. ap (λ es. unwrap_or (option_map (λ e. e.items) (value_in (lookup (is_at (nat_cmp id)) es))) [])
+        c.new-2.ensures i;
     document = λ id. ap (λ es. option_map (λ d. d.items) (value_in (lookup (is_at (nat_cmp id)) es))) c.new-3.ensures i;
     next = 2;
   };

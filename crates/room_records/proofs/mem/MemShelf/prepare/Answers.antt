@@ -2,9 +2,9 @@ use Rattle.std.proofs.Common.{◌≡◌, ◌∷◌, ◌++◌, ◌+◌, [], List,
 use Rattle.std.specs.List.{AllByRecursion}
 use Rattle.std.proofs.lemmas.List.{take_more}
 use Rattle.room_records.specs.declared.change.Change.{Change}
-use Rattle.room_records.specs.Mem.{HasRoomFor, AreSameChanges}
+use Rattle.room_records.specs.Mem.{HasSpaceFor, AreSameChanges}
 use Rattle.room_records.proofs.Lists.{all_append}
-use Rattle.room_records.proofs.MemRecords.{rooms_kept, same_push}
+use Rattle.room_records.proofs.MemRecords.{spaces_kept, same_push}
 use Rattle.room_records.proofs.mem.MemShelf.prepare.Goals as goal
 
 pub loop-change-preserved : goal.loop-change-preserved
@@ -13,14 +13,18 @@ loop-change-preserved c =
     let change = c.change-item.result in
     let step = c.in_ok-step.step in
     let items : c.push.new.self.items ≡ now.steps.items ++ step ∷ [] = search rules in
-    let front : take (now.change-index + 1) c.args.changes.now ≡ take now.change-index c.args.changes.now ++ change ∷ [] =
-    take_more c.args.changes.now now.change-index change c.loop-change-test.true ∙ ap (λ x. take now.change-index c.args.changes.now ++ x ∷ []) (sym c.change-item.is) in
+    let front : take (now.change-index + 1) c.args.changes.now
+    ≡ take now.change-index c.args.changes.now ++ change ∷ [] =
+    take_more c.args.changes.now now.change-index change c.loop-change-test.true
+    ∙ ap (λ x. take now.change-index c.args.changes.now ++ x ∷ []) (sym c.change-item.is) in
     let P : List Change → Type 0 = λ steps. AreSameChanges steps (take (now.change-index + 1) c.args.changes.now) in
     let Q : List Change → Type 0 = λ changes. AreSameChanges (now.steps.items ++ step ∷ []) changes in
-    let R : List Change → Type 0 = λ steps. AllByRecursion (HasRoomFor c.make_room.new.self) steps in
+    let R : List Change → Type 0 = λ steps. AllByRecursion (HasSpaceFor c.reserve.new.self) steps in
     record {
-      same = c.make_room.ensures.same ∙ now.invariant.same;
-      steps = subst P (sym items) (subst Q (sym front) (same_push now.steps.items (take now.change-index c.args.changes.now) step change now.invariant.steps c.in_ok-step.ensures));
-      room = subst R (sym items) (all_append (HasRoomFor c.make_room.new.self) now.steps.items (step ∷ [])
-          (rooms_kept now.self c.make_room.new.self c.make_room.ensures.kept now.steps.items now.invariant.room) (c.in_ok-make_room.ensures.room, tt));
+      same = c.reserve.ensures.same ∙ now.invariant.same;
+      steps = subst P (sym items) (subst Q (sym front) (same_push now.steps.items
+          (take now.change-index c.args.changes.now) step change now.invariant.steps c.in_ok-step.ensures));
+      room = subst R (sym items) (all_append (HasSpaceFor c.reserve.new.self) now.steps.items (step ∷ [])
+          (spaces_kept now.self c.reserve.new.self c.reserve.ensures.kept now.steps.items now.invariant.room)
+          (c.in_ok-reserve.ensures.room, tt));
     }

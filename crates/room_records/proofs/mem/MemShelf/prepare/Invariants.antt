@@ -1,11 +1,11 @@
 use Rattle.std.proofs.Common.{◌≡◌, take}
 use Rattle.std.specs.List.{AllByRecursion}
-use Rattle.room_records.specs.Mem.{mem_records, HasRoomFor, AreSameChanges}
+use Rattle.room_records.specs.Mem.{mem_records, HasSpaceFor, AreSameChanges}
 use Rattle.room_records.proofs.mem.MemShelf.prepare.Given as goal
 
 abbrev pub invariant-loop-change : goal.invariant-loop-change
 invariant-loop-change l = record {
   same : mem_records l.self ≡ mem_records l.initial.self;
   steps : AreSameChanges l.steps.items (take l.change-index l.changes);
-  room : AllByRecursion (HasRoomFor l.self) l.steps.items;
+  room : AllByRecursion (HasSpaceFor l.self) l.steps.items;
 }

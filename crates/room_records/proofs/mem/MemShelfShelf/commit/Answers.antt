@@ -8,7 +8,8 @@ use Rattle.room_records.proofs.MemRecords.{same_rules, same_after}
 use Rattle.room_records.proofs.mem.MemShelfShelf.commit.Goals as goal
 
 -- the records after the copies are those after the changes
-after_copies : (old prepared new : MemShelf) (steps changes : List Change) → mem_records prepared ≡ mem_records old → AreSameChanges steps changes
+after_copies : (old prepared new : MemShelf) (steps changes : List Change)
+    → mem_records prepared ≡ mem_records old → AreSameChanges steps changes
     → (RulesHoldAfterEach steps (mem_records prepared) → mem_records new ≡ apply_changes steps (mem_records prepared))
     → RulesHoldAfterEach changes (mem_records old) → mem_records new ≡ apply_changes changes (mem_records old)
 after_copies old prepared new steps changes same copies applied hold =
@@ -18,12 +19,15 @@ after_copies old prepared new steps changes same copies applied hold =
 
 pub returns-clause-ok : goal.returns-clause-ok
 returns-clause-ok c = λ _ _ hold.
-    after_copies c.args.self.now c.prepare.new.self c.apply_all.new.self c.in_ok-steps.steps.items c.args.changes.now c.prepare.ensures.same c.in_ok-steps.ensures.steps c.apply_all.ensures hold
+    after_copies c.args.self.now c.prepare.new.self c.apply_all.new.self c.in_ok-steps.steps.items
+    c.args.changes.now c.prepare.ensures.same c.in_ok-steps.ensures.steps c.apply_all.ensures hold
 
 pub returns-clause-settled : goal.returns-clause-settled
 returns-clause-settled c = λ _ _ hold left is.
-    is ∙ after_copies c.args.self.now c.prepare.new.self c.apply_all.new.self c.in_ok-steps.steps.items c.args.changes.now c.prepare.ensures.same c.in_ok-steps.ensures.steps c.apply_all.ensures hold
+    is ∙ after_copies c.args.self.now c.prepare.new.self c.apply_all.new.self c.in_ok-steps.steps.items
+    c.args.changes.now c.prepare.ensures.same c.in_ok-steps.ensures.steps c.apply_all.ensures hold
 
 pub returns-clause-crash : goal.returns-clause-crash
 returns-clause-crash c = λ _ hold left is.
-    inr (is ∙ after_copies c.args.self.now c.prepare.new.self c.apply_all.new.self c.in_ok-steps.steps.items c.args.changes.now c.prepare.ensures.same c.in_ok-steps.ensures.steps c.apply_all.ensures hold)
+    inr (is ∙ after_copies c.args.self.now c.prepare.new.self c.apply_all.new.self c.in_ok-steps.steps.items
+    c.args.changes.now c.prepare.ensures.same c.in_ok-steps.ensures.steps c.apply_all.ensures hold)

@@ -19,7 +19,8 @@ loop-slot-preserved c =
     record {
       name = now.invariant.name;
       slots = one_more (held slot_cmp c.take.new.self.slots) (held slot_cmp now.kept.slots) c.args.sid now.slot None
-          (λ k. c.take.ensures.held k ∙ ap (λ sid. cond (eq_by_cmp slot_cmp (sid, now.slot) k) None (held slot_cmp now.kept.slots k)) now.invariant.name)
+          (λ k. c.take.ensures.held k ∙ ap (λ sid.
+          cond (eq_by_cmp slot_cmp (sid, now.slot) k) None (held slot_cmp now.kept.slots k)) now.invariant.name)
           (held slot_cmp c.args.kept.now.slots) refl now.invariant.slots;
       rooms = λ key room. c.take.ensures.kept key (now.invariant.rooms key room);
     }

@@ -1,7 +1,7 @@
 use Rattle.std.proofs.Common.{◌≡◌, ℕ, List, cond, None}
 use Rattle.std.specs.Prelude.{◌&&◌, nat_lt}
 use Rattle.std.specs.Str.{bytes_eq}
-use Rattle.room_records.specs.Table.{HasRoom}
+use Rattle.room_records.specs.Table.{HasSpace}
 use Rattle.room_records.specs.Sessions.{slot_cmp, kept_in}
 use Rattle.room_records.proofs.mem.sessions.take_slots.Given as goal
 
@@ -10,5 +10,5 @@ invariant-loop-slot l = record {
   name : l.key.0 ≡ l.initial.key.0;
   slots : (name : List ℕ) (slot : ℕ) → kept_in l.kept.slots name slot
       ≡ cond (bytes_eq name l.initial.key.0 && nat_lt slot l.slot) None (kept_in l.initial.kept.slots name slot);
-  rooms : (key : List ℕ × ℕ) → HasRoom slot_cmp l.initial.kept.slots key → HasRoom slot_cmp l.kept.slots key;
+  rooms : (key : List ℕ × ℕ) → HasSpace slot_cmp l.initial.kept.slots key → HasSpace slot_cmp l.kept.slots key;
 }

@@ -6,5 +6,6 @@ use Rattle.room_sql.proofs.sql_shelf.SqlShelfShelf.commit.Goals as goal
 -- while the store is open, a crash leaves the last commit and nothing else: a law of `Store`
 pub returns-in-Ok-clause-settled : goal.returns-in-Ok-clause-settled
 returns-in-Ok-clause-settled g c clean laid_out rules left may =
-    may.1.2 ∙ ap records_of (g.met.S.Store.settled c.commit.new.conn.store may.1.0 (c.in-Ok.ensures.ok clean).0 may.1.1 ∙ ap (λ (d : Database). d.trees) (c.in-Ok.ensures.settled clean))
+    may.1.2 ∙ ap records_of (g.met.S.Store.settled c.commit.new.conn.store may.1.0 (c.in-Ok.ensures.ok clean).0 may.1.1
+    ∙ ap (λ (d : Database). d.trees) (c.in-Ok.ensures.frame.settled clean))
     ∙ ((c.in-Ok.ensures.ok clean).1 laid_out.room).1 laid_out.room

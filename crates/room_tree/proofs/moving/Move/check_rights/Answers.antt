@@ -14,22 +14,27 @@ returns-in_err-check_removal-clause-value c = λ t room move.
     let path = c.args.path.now in
     let to = c.args.to.now in
     handed_on _ _ _ c.from_residual.result c.from_residual.ensures.1
-    (at_head (check_removal room c.args.subject.now path) (check_right room c.args.subject.now (parent_of to) (right_to_add room path) ∷ []) _
-    (c.in_err-check_removal.ensures.value t room move.place move.from))
+    (at_head (check_removal room c.args.subject.now path)
+    (check_right room c.args.subject.now (parent_of to) (right_to_add room path) ∷ []) _
+    (c.in_err-check_removal.ensures.value t room move.loaded move.from))
 
 pub returns-clause-value : goal.returns-clause-value
 returns-clause-value c = λ t room move.
     let path = c.args.path.now in
     let caller = c.args.subject.now in
     let to = c.args.to.now in
-    let removal = (c.in_ok-check_removal.ensures.value t room move.place move.from).0 in
-    let there = move.place.is_there in
+    let removal = (c.in_ok-check_removal.ensures.value t room move.loaded move.from).0 in
+    let there = move.loaded.is_there in
     let asks : c.right_to_add.result ≡ right_to_add room path =
-    c.right_to_add.ensures.value move.place.object (sym there.shows.kind)
+    c.right_to_add.ensures.value move.loaded.object (sym there.shows.kind)
     ∙ ap (λ (o : Option Object). cond (is_kind Folder o) add_subdirectory add_file) (sym there.object_stands) in
     let front : take c.saturating_sub-count.result to ≡ parent_of to =
-    ap (λ (n : ℕ). take n to) c.saturating_sub-count.ensures ∙ ap (λ (p : Path). take (length p - 1) to) c.names.ensures.value in
-    let whole = skip (check_removal room caller path) (check_right room caller (parent_of to) (right_to_add room path) ∷ []) removal
+    ap (λ (n : ℕ). take n to) c.saturating_sub-count.ensures
+    ∙ ap (λ (p : Path). take (length p - 1) to) c.names.ensures.value in
+    let whole = skip (check_removal room caller path)
+    (check_right room caller (parent_of to) (right_to_add room path) ∷ []) removal
     ∙ first_alone (check_right room caller (parent_of to) (right_to_add room path)) in
-    passes_by (check_right room caller (parent_of to) c.right_to_add.result) (first_refusal (move_rights room caller path to)) _ c.check_right.result
-    (whole ∙ sym (ap (check_right room caller (parent_of to)) asks)) (c.check_right.ensures.value t room (parent_of to) front move.into)
+    passes_by (check_right room caller (parent_of to) c.right_to_add.result)
+    (first_refusal (move_rights room caller path to)) _ c.check_right.result
+    (whole ∙ sym (ap (check_right room caller (parent_of to)) asks))
+    (c.check_right.ensures.value t room (parent_of to) front move.into)

@@ -6,4 +6,5 @@ use Rattle.room_wire.proofs.asks.decoding.decode.Goals as goal
 -- what was lent of the message is the message's
 pub returns : goal.returns
 returns c = λ m s.
-    subst (λ ask. DecodesAsk ask c.read_ask.result) (λ i. ask_for (target_at room_rows (s.method i) (s.target i)) c.args.roster.now (s.fields i) (s.body i)) c.read_ask.ensures
+    subst (λ ask. DecodesAsk ask c.read_ask.result) (λ i. ask_for (target_at room_rows (s.method i) (s.target i))
+    c.args.roster.now (s.fields i) (s.body i)) c.read_ask.ensures

@@ -6,4 +6,5 @@ use Rattle.room_wire.proofs.forms.reading.entries_in.Given as goal
 
 abbrev pub invariant-loop-value : goal.invariant-loop-value
 invariant-loop-value l =
-    entries_in (items_view l.values) ≡ option_map (λ (rest : List EntryModel). l.entries.items ++ rest) (entries_in (items_view (drop l.value-index l.values)))
+    entries_in (items_view l.values) ≡ option_map (λ (rest : List EntryModel). l.entries.items ++ rest)
+    (entries_in (items_view (drop l.value-index l.values)))

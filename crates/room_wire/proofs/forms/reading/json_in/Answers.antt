@@ -7,4 +7,5 @@ returns-in-Ok c = json_some _ _ c.in-Ok.ensures.ok.0 c.in-Ok.ensures.ok.1
 
 pub returns-else-is_memory : goal.returns-else-is_memory
 returns-else-is_memory c =
-    json_none _ (c.in-Err.ensures.err (λ m. let no : false ≡ true = sym c.if-is_memory.false ∙ c.is_memory.ensures.1 m in cc))
+    json_none _
+    (c.in-Err.ensures.err (λ m. let no : false ≡ true = sym c.if-is_memory.false ∙ c.is_memory.ensures.1 m in cc))

@@ -5,4 +5,5 @@ use Rattle.room_wire.proofs.forms.reading.principals_in.Given as goal
 
 abbrev pub invariant-loop-value : goal.invariant-loop-value
 invariant-loop-value l =
-    principals_in (items_view l.values) ≡ option_map (λ (rest : List (List ℕ)). l.names.items ++ rest) (principals_in (items_view (drop l.value-index l.values)))
+    principals_in (items_view l.values) ≡ option_map (λ (rest : List (List ℕ)). l.names.items ++ rest)
+    (principals_in (items_view (drop l.value-index l.values)))

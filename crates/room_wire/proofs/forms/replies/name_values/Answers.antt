@@ -7,5 +7,6 @@ use Rattle.room_wire.proofs.forms.replies.name_values.Goals as goal
 
 pub returns : goal.returns
 returns c =
-    ap items_of (c.loop-name.invariant ∙ ap (map named_child) (take_all c.loop-name.name-index c.args.names.now (omega (arith, c.loop-name-test.false))))
+    ap items_of (c.loop-name.invariant ∙ ap (map named_child)
+    (take_all c.loop-name.name-index c.args.names.now (omega (arith, c.loop-name-test.false))))
     ∙ named_are c.args.names.now

@@ -8,5 +8,6 @@ use Rattle.room_wire.proofs.forms.replies.reply_text.Goals as goal
 pub returns : goal.returns
 returns c =
     IfOk-weaker c.to_vec.result _ _
-    (λ text written. written (ap has_float c.in_ok-value.ensures ∙ reply_has_no_float (reply_model c.args.reply.now)) ∙ ap compact_text c.in_ok-value.ensures)
+    (λ text written. written (ap has_float c.in_ok-value.ensures ∙ reply_has_no_float (reply_model c.args.reply.now))
+    ∙ ap compact_text c.in_ok-value.ensures)
     c.to_vec.ensures.text

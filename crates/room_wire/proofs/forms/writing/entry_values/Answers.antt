@@ -16,4 +16,5 @@ returns-clause-value c =
 pub returns-clause-lawful : goal.returns-clause-lawful
 returns-clause-lawful c =
     let All : List EntryModel → Type 0 = λ es. AllByRecursion IsEntry es in
-    subst All (take_all c.loop-entry.entry-index c.args.entries.now (omega (arith, c.loop-entry-test.false))) c.loop-entry.invariant.lawful
+    subst All (take_all c.loop-entry.entry-index c.args.entries.now (omega (arith, c.loop-entry-test.false)))
+    c.loop-entry.invariant.lawful

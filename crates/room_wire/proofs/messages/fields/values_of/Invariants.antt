@@ -4,4 +4,5 @@ use Rattle.room_wire.specs.Messages.Fields.{values_named, IsFound}
 use Rattle.room_wire.proofs.messages.fields.values_of.Given as goal
 
 abbrev pub invariant-loop-header : goal.invariant-loop-header
-invariant-loop-header l = IsFound l.found (values_named l.name (map (header_bytes l.buf) (take l.header-index l.headers)))
+invariant-loop-header l =
+    IsFound l.found (values_named l.name (map (header_bytes l.buf) (take l.header-index l.headers)))

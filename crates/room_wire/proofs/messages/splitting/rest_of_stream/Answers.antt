@@ -17,11 +17,15 @@ returns-then-last c =
     rw take_rest (so.0 ++ m ∷ [], inl (ends _ _ _ so.0 m so.1 c.in-Whole.ensures.1 (sym last ∙ c.if-last.true)))
 
 pub messages-smaller : goal.messages-smaller
-messages-smaller c = let shorter = reads_shorter _ _ c.in-Whole.ensures.0 c.in-Whole.ensures.1 in rw take_rest (omega (arith, shorter))
+messages-smaller c = let shorter = reads_shorter _ _ c.in-Whole.ensures.0 c.in-Whole.ensures.1 in
+    rw take_rest (omega (arith, shorter))
 
 pub messages-preserved : goal.messages-preserved
 messages-preserved c =
     let so = c.messages.invariant in
     let m = c.in-Whole.ensures.0 in
     let last = shown_last _ m _ c.in-Whole.ensures.2 c.is_last.ensures in
-    rw take_rest (so.0 ++ m ∷ [], follows_then so.0 (m ∷ []) _ _ _ so.1 (follows_one _ _ m c.in-Whole.ensures.1 (sym last ∙ c.if-last.false)))
+    rw take_rest (
+      so.0 ++ m ∷ [],
+      follows_then so.0 (m ∷ []) _ _ _ so.1 (follows_one _ _ m c.in-Whole.ensures.1 (sym last ∙ c.if-last.false)),
+    )

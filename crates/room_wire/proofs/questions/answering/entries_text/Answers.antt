@@ -6,5 +6,6 @@ use Rattle.room_wire.proofs.questions.answering.entries_text.Goals as goal
 
 pub returns : goal.returns
 returns c =
-    IfOk-weaker c.to_vec.result _ _ (λ text written. written (ap has_float c.in_ok-value.ensures ∙ no_float c.args.entries.now) ∙ ap compact_text c.in_ok-value.ensures)
+    IfOk-weaker c.to_vec.result _ _ (λ text written. written
+    (ap has_float c.in_ok-value.ensures ∙ no_float c.args.entries.now) ∙ ap compact_text c.in_ok-value.ensures)
     c.to_vec.ensures.text

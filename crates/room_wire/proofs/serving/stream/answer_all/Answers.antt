@@ -1,6 +1,7 @@
 use Rattle.std.proofs.Common.{◌++◌, ◌∷◌, [], true, false, refl, sym, ◌∙◌, arith}
 use Rattle.std.proofs.KnownBytes.{Appends-nil, Appends-trans}
-use Rattle.room_wire.proofs.Lemmas.Serving.Rounds.{shown_last, shown_answer, reads_at, begun, ends, breaks, outputs_then, one_more}
+use Rattle.room_wire.proofs.Lemmas.Serving.Rounds.{shown_last, shown_answer, reads_at, begun, ends, breaks}
+use Rattle.room_wire.proofs.Lemmas.Serving.Rounds.{outputs_then, one_more}
 use Rattle.room_wire.proofs.Lemmas.Messages.Fronts.{reads_shorter}
 use Rattle.room_wire.proofs.Lemmas.Messages.Streams.{follows_then, follows_one}
 use Rattle.room_wire.proofs.serving.stream.answer_all.Goals as goal
@@ -16,11 +17,13 @@ returns-then-not-sent g c =
     let shows = c.in-Whole.ensures.2 in
     let reads = reads_at _ c.rounds.input c.take.new.self m _ c.bytes.ensures c.take.ensures c.in-Whole.ensures.1 in
     let last = shown_last _ m _ shows c.is_last-last.ensures in
-    let x = shown_answer may c.rounds.service c.answer_one-sent.new.service _ m _ _ false _ _ shows last c.if-not-sent.true c.answer_one-sent.ensures in (
+    let x = shown_answer may c.rounds.service c.answer_one-sent.new.service _ m _
+    _ false _ _ shows last c.if-not-sent.true c.answer_one-sent.ensures in (
       so.0 ++ m ∷ [],
       so.1 ++ x.text,
       (begun _ _ _ so.0 m _ (sym last) so.2 reads, breaks _ _ _ so.1 x.text so.4 x.sent),
-      outputs_then may c.args.service.now c.rounds.service c.answer_one-sent.new.service so.0 (m ∷ []) so.1 x.text so.3 x.output,
+      outputs_then may c.args.service.now c.rounds.service
+          c.answer_one-sent.new.service so.0 (m ∷ []) so.1 x.text so.3 x.output,
       omega (arith, one_more so.0 m, so.5, c.saturating_add-count.ensures),
     )
 
@@ -32,11 +35,13 @@ returns-then-last g c =
     let shows = c.in-Whole.ensures.2 in
     let reads = reads_at _ c.rounds.input c.take.new.self m _ c.bytes.ensures c.take.ensures c.in-Whole.ensures.1 in
     let last = shown_last _ m _ shows c.is_last-last.ensures in
-    let x = shown_answer may c.rounds.service c.answer_one-sent.new.service _ m _ _ true _ _ shows last c.if-not-sent.false c.answer_one-sent.ensures in (
+    let x = shown_answer may c.rounds.service c.answer_one-sent.new.service _ m _
+    _ true _ _ shows last c.if-not-sent.false c.answer_one-sent.ensures in (
       so.0 ++ m ∷ [],
       so.1 ++ x.text,
       (ends _ _ _ so.0 m so.2 reads (sym last ∙ c.if-last.true), Appends-trans _ _ _ so.1 x.text so.4 x.sent),
-      outputs_then may c.args.service.now c.rounds.service c.answer_one-sent.new.service so.0 (m ∷ []) so.1 x.text so.3 x.output,
+      outputs_then may c.args.service.now c.rounds.service
+          c.answer_one-sent.new.service so.0 (m ∷ []) so.1 x.text so.3 x.output,
       omega (arith, one_more so.0 m, so.5, c.saturating_add-count.ensures),
     )
 
@@ -54,11 +59,13 @@ rounds-preserved g c =
     let shows = c.in-Whole.ensures.2 in
     let reads = reads_at _ c.rounds.input c.take.new.self m _ c.bytes.ensures c.take.ensures c.in-Whole.ensures.1 in
     let last = shown_last _ m _ shows c.is_last-last.ensures in
-    let x = shown_answer may c.rounds.service c.answer_one-sent.new.service _ m _ _ true _ _ shows last c.if-not-sent.false c.answer_one-sent.ensures in (
+    let x = shown_answer may c.rounds.service c.answer_one-sent.new.service _ m _
+    _ true _ _ shows last c.if-not-sent.false c.answer_one-sent.ensures in (
       so.0 ++ m ∷ [],
       so.1 ++ x.text,
       follows_then so.0 (m ∷ []) _ _ _ so.2 (follows_one _ _ m reads (sym last ∙ c.if-last.false)),
-      outputs_then may c.args.service.now c.rounds.service c.answer_one-sent.new.service so.0 (m ∷ []) so.1 x.text so.3 x.output,
+      outputs_then may c.args.service.now c.rounds.service
+          c.answer_one-sent.new.service so.0 (m ∷ []) so.1 x.text so.3 x.output,
       Appends-trans _ _ _ so.1 x.text so.4 x.sent,
       omega (arith, one_more so.0 m, so.5, c.saturating_add-count.ensures),
     )

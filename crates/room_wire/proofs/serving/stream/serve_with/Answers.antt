@@ -3,19 +3,39 @@ use Rattle.std.proofs.KnownBytes.{Appends-nil, Appends-trans, Consumes-nil, Cons
 use Rattle.room_wire.specs.Messages.MessageModel.{NoMessage}
 use Rattle.room_wire.specs.Messages.Stream.{Follows}
 use Rattle.room_wire.proofs.Lemmas.Messages.Fronts.{none_empty}
-use Rattle.room_wire.proofs.Lemmas.Serving.Joins.{more_follows, more_ended, more_begun, more_count, refused_ends, never_none}
+use Rattle.room_wire.proofs.Lemmas.Serving.Joins.{more_follows, more_ended, more_begun, more_count}
+use Rattle.room_wire.proofs.Lemmas.Serving.Joins.{refused_ends, never_none}
 use Rattle.room_wire.proofs.Lemmas.Serving.Rounds.{breaks, outputs_then}
 use Rattle.room_wire.proofs.Lemmas.Messages.Seams.{some_when, empty_when}
 use Rattle.room_wire.proofs.Lemmas.Messages.Streams.{follows_more}
 use Rattle.room_wire.proofs.serving.stream.serve_with.Goals as goal
 
 pub reads-init : goal.reads-init
-reads-init g c = ([], [], [], sym c.requires, (refl, refl), none_empty _ (ap length c.requires), (let e = ap length c.requires in omega arith), Consumes-nil _, Appends-nil _, omega arith)
+reads-init g c = (
+  [],
+  [],
+  [],
+  sym c.requires,
+  (refl, refl),
+  none_empty _ (ap length c.requires),
+  (let e = ap length c.requires in omega arith),
+  Consumes-nil _,
+  Appends-nil _,
+  omega arith,
+)
 
 pub returns-in-Err : goal.returns-in-Err
 returns-in-Err g c =
-    let so = c.reads.invariant in
-    (so.0, c.reads.input, so.1, so.2, Consumes-kept _ _ _ so.0 so.7 c.in-Err.ensures.err.1, so.4, so.9, (so.8, so.3, so.5))
+    let so = c.reads.invariant in (
+      so.0,
+      c.reads.input,
+      so.1,
+      so.2,
+      Consumes-kept _ _ _ so.0 so.7 c.in-Err.ensures.err.1,
+      so.4,
+      so.9,
+      (so.8, so.3, so.5),
+    )
 
 pub returns-in-Ok-eq0 : goal.returns-in-Ok-eq0
 returns-in-Ok-eq0 g c =
@@ -30,7 +50,10 @@ returns-in-Ok-eq0 g c =
       Consumes-trans _ _ _ so.0 came.0 so.7 came.1,
       so.4,
       c.refuse.ensures.0 ∙ so.9,
-      refused_ends _ _ so.1 so.2 _ _ _ _ _ so.8 (subst (Follows (so.0 ++ came.0) so.1) (sym came.2) (follows_more so.1 so.0 c.reads.input came.0 so.3)) none (subst (λ t. 0 < length t) c.bytes.ensures (some_when _ c.if-is_empty.ensures)) (inl end.1) c.refuse.ensures.1,
+      refused_ends _ _ so.1 so.2 _ _ _ _ _ so.8
+          (subst (Follows (so.0 ++ came.0) so.1) (sym came.2) (follows_more so.1 so.0 c.reads.input came.0 so.3))
+          none (subst (λ t. 0 < length t) c.bytes.ensures (some_when _ c.if-is_empty.ensures))
+          (inl end.1) c.refuse.ensures.1,
     )
 
 pub returns-then-is_empty : goal.returns-then-is_empty
@@ -45,7 +68,14 @@ returns-then-is_empty g c =
       Consumes-trans _ _ _ so.0 came.0 so.7 came.1,
       so.4,
       so.9,
-      (so.8, inr (subst (Follows (so.0 ++ came.0) so.1) (sym came.2) (follows_more so.1 so.0 c.reads.input came.0 so.3), sym c.bytes.ensures ∙ empty_when _ c.if-is_empty.ensures, end.1)),
+      (
+        so.8,
+        inr (
+          subst (Follows (so.0 ++ came.0) so.1) (sym came.2) (follows_more so.1 so.0 c.reads.input came.0 so.3),
+          sym c.bytes.ensures ∙ empty_when _ c.if-is_empty.ensures,
+          end.1,
+        ),
+      ),
     )
 
 pub returns-in-Broken : goal.returns-in-Broken
@@ -61,9 +91,11 @@ returns-in-Broken g c =
       so.1 ++ ks,
       so.2 ++ out,
       Consumes-trans _ _ _ so.0 came.0 so.7 came.1,
-      outputs_then may c.args.service.now c.reads.service c.answer_all-stop.new.service so.1 ks so.2 out so.4 c.answer_all-stop.ensures.3,
+      outputs_then may c.args.service.now c.reads.service c.answer_all-stop.new.service
+          so.1 ks so.2 out so.4 c.answer_all-stop.ensures.3,
       c.refuse-in-Broken.ensures.0 ∙ (omega (arith, more_count so.1 ks, so.9, c.answer_all-stop.ensures.4)),
-      refused_ends _ _ (so.1 ++ ks) (so.2 ++ out) _ _ _ _ _ (Appends-trans _ _ _ so.2 out so.8 did.1) (more_follows so.1 ks so.0 c.reads.input came.0 _ _ so.3 came.2 did.0)
+      refused_ends _ _ (so.1 ++ ks) (so.2 ++ out) _ _ _ _ _ (Appends-trans _ _ _ so.2 out so.8 did.1)
+          (more_follows so.1 ks so.0 c.reads.input came.0 _ _ so.3 came.2 did.0)
           (never_none _ did.2) did.3 (inr did.2) c.refuse-in-Broken.ensures.1,
     )
 
@@ -80,25 +112,30 @@ returns-in-Last g c =
       so.1 ++ ks,
       so.2 ++ out,
       Consumes-trans _ _ _ so.0 came.0 so.7 came.1,
-      outputs_then may c.args.service.now c.reads.service c.answer_all-stop.new.service so.1 ks so.2 out so.4 c.answer_all-stop.ensures.3,
+      outputs_then may c.args.service.now c.reads.service c.answer_all-stop.new.service
+          so.1 ks so.2 out so.4 c.answer_all-stop.ensures.3,
       omega (arith, more_count so.1 ks, so.9, c.answer_all-stop.ensures.4),
-      (Appends-trans _ _ _ so.2 out so.8 did.1, inl (more_ended so.1 ks so.0 c.reads.input came.0 _ _ so.3 came.2 did.0)),
+      (
+        Appends-trans _ _ _ so.2 out so.8 did.1,
+        inl (more_ended so.1 ks so.0 c.reads.input came.0 _ _ so.3 came.2 did.0),
+      ),
     )
 
-pub returns-in-Lost : goal.returns-in-Lost
-returns-in-Lost g c =
+pub returns-in-NotWritten : goal.returns-in-NotWritten
+returns-in-NotWritten g c =
     let so = c.reads.invariant in
     let came = c.in-Ok.ensures.ok in
     let may = g.S.Service.may_answer c.args.context.now in
     let ks = c.answer_all-stop.ensures.0 in
     let out = c.answer_all-stop.ensures.1 in
-    let did = rw c.in-Lost.is at c.answer_all-stop.ensures.2 in (
+    let did = rw c.in-NotWritten.is at c.answer_all-stop.ensures.2 in (
       so.0 ++ came.0,
       c.answer_all-stop.new.input,
       so.1 ++ ks,
       so.2 ++ out,
       Consumes-trans _ _ _ so.0 came.0 so.7 came.1,
-      outputs_then may c.args.service.now c.reads.service c.answer_all-stop.new.service so.1 ks so.2 out so.4 c.answer_all-stop.ensures.3,
+      outputs_then may c.args.service.now c.reads.service c.answer_all-stop.new.service
+          so.1 ks so.2 out so.4 c.answer_all-stop.ensures.3,
       omega (arith, more_count so.1 ks, so.9, c.answer_all-stop.ensures.4),
       inl (more_begun so.1 ks so.0 c.reads.input came.0 _ _ so.3 came.2 did.0, breaks _ _ _ so.2 out so.8 did.1),
     )
@@ -110,12 +147,13 @@ reads-preserved g c =
     let may = g.S.Service.may_answer c.args.context.now in
     let ks = c.answer_all-stop.ensures.0 in
     let out = c.answer_all-stop.ensures.1 in
-    let did = rw c.in-Dry.is at c.answer_all-stop.ensures.2 in (
+    let did = rw c.in-NeedsMore.is at c.answer_all-stop.ensures.2 in (
       so.0 ++ came.0,
       so.1 ++ ks,
       so.2 ++ out,
       more_follows so.1 ks so.0 c.reads.input came.0 _ _ so.3 came.2 did.0,
-      outputs_then may c.args.service.now c.reads.service c.answer_all-stop.new.service so.1 ks so.2 out so.4 c.answer_all-stop.ensures.3,
+      outputs_then may c.args.service.now c.reads.service c.answer_all-stop.new.service
+          so.1 ks so.2 out so.4 c.answer_all-stop.ensures.3,
       did.2,
       did.3,
       Consumes-trans _ _ _ so.0 came.0 so.7 came.1,

@@ -8,7 +8,8 @@ use Rattle.room_wire.proofs.serving.stream.serve_with.Given as goal
 abbrev pub invariant-reads : goal.invariant-reads
 invariant-reads g l =
     (bytes : List ℕ) × (ms : List MessageModel) × (out : List ℕ) × Follows bytes ms l.input
-    × Outputs (g.S.Service.may_answer l.context) l.fn.service ms out l.service × NoMessage l.input × (length l.input < 139264)
+    × Outputs (g.S.Service.may_answer l.context) l.fn.service ms out l.service
+    × NoMessage l.input × (length l.input < 139264)
     × Consumes (g.R.Read.remaining l.fn.reader) (g.R.Read.remaining l.reader) bytes
     × Appends (g.W.Write.contents l.fn.writer) (g.W.Write.contents l.writer) out
     × (l.count ≡ min (length ms) (2 ^ 64 - 1))

@@ -10,7 +10,9 @@ use Rattle.room_records.proofs.mem.nodes.NodeIndex.add.Goals as goal
 pub invariant_of-self : goal.invariant_of-self
 invariant_of-self c =
     let old = c.args.self.now in
-    let put = updated nat_cmp nat_cmp_total exact_unsigned (node_in c.put.new.self.slots) (node_in old.nodes.slots) c.args.node.id (Some c.args.node) c.put.ensures.held in
+    let put = updated nat_cmp nat_cmp_total exact_unsigned (node_in c.put.new.self.slots)
+    (node_in old.nodes.slots) c.args.node.id (Some c.args.node) c.put.ensures.held in
     let index = index_with (node_in old.nodes.slots) (node_in c.put.new.self.slots) (id_at old.places.slots)
-    (record { numbered = old.numbered; placed = old.placed; at_place = old.at_place }) c.args.node c.requires.absent put (ap (option_map (λ parent. (parent, c.args.node.name))) c.in-None.is) in
+    (record { numbered = old.numbered; placed = old.placed; at_place = old.at_place }) c.args.node
+    c.requires.absent put (ap (option_map (λ parent. (parent, c.args.node.name))) c.in-None.is) in
     record { numbered = index.numbered; placed = index.placed; at_place = index.at_place }

@@ -10,7 +10,8 @@ use Rattle.room_records.proofs.NodePlaces.{index_with_child, taken_is_not_free}
 use Rattle.room_records.proofs.mem.nodes.NodeIndex.add_child.Goals as goal
 
 -- the place that the code makes is that of the node
-own_place : (node : Node) (parent made : ℕ) (name : Option (List ℕ)) → node.parent ≡ Some parent → made ≡ parent → name ≡ node.name → place_of node ≡ Some (made, name)
+own_place : (node : Node) (parent made : ℕ) (name : Option (List ℕ)) → node.parent ≡ Some parent
+    → made ≡ parent → name ≡ node.name → place_of node ≡ Some (made, name)
 own_place node parent made name h e n = ap (option_map (λ p. (p, node.name))) h ∙ (λ i. Some (sym e i, sym n i))
 
 copied_some : {X : Type 0} (o : Option (Bor X)) → is_some o ≡ true → (x : X) × (option_copied o ≡ Some x)
@@ -26,23 +27,30 @@ returns-then-is_some-clause-nodes c = λ free.
     let old = c.args.self.now in
     let node = c.args.node in
     let found = copied_some c.get.result (sym c.is_some.ensures ∙ c.if-is_some.true) in
-    absurd (taken_is_not_free (node_in old.nodes.slots) (id_at old.places.slots) (record { numbered = old.numbered; placed = old.placed; at_place = old.at_place })
-    node (c.from.result, c.take.result) found.0 c.requires.absent (own_place node c.args.parent c.from.result c.take.result c.requires.parent c.from.ensures c.take.ensures.value)
+    absurd (taken_is_not_free (node_in old.nodes.slots) (id_at old.places.slots)
+    (record { numbered = old.numbered; placed = old.placed; at_place = old.at_place })
+    node (c.from.result, c.take.result) found.0 c.requires.absent
+    (own_place node c.args.parent c.from.result c.take.result c.requires.parent c.from.ensures c.take.ensures.value)
     (sym c.get.ensures ∙ found.1) free)
 
 pub put-requires : goal.put-requires
-put-requires c = c.requires.room.place (c.from.result, c.take.result) (own_place c.args.node c.args.parent c.from.result c.take.result c.requires.parent c.from.ensures c.take.ensures.value)
+put-requires c = c.requires.room.place (c.from.result, c.take.result) (own_place c.args.node
+    c.args.parent c.from.result c.take.result c.requires.parent c.from.ensures c.take.ensures.value)
 
 pub invariant_of-self : goal.invariant_of-self
 invariant_of-self c =
     let old = c.args.self.now in
     let node = c.args.node in
     let place : PlaceKey = (c.from.result, c.take.result) in
-    let put = updated nat_cmp nat_cmp_total exact_unsigned (node_in c.put-2.new.self.slots) (node_in old.nodes.slots) node.id (Some node)
-    (λ k. c.put-2.ensures.held k ∙ ap (λ name. cond (eq_by_cmp nat_cmp node.id k) (Some (record node { name = name })) (node_in old.nodes.slots k)) c.take.ensures.value) in
-    let used = updated place_cmp place_total exact_places (id_at c.put.new.self.slots) (id_at old.places.slots) place (Some node.id) c.put.ensures.held in
+    let put = updated nat_cmp nat_cmp_total exact_unsigned
+    (node_in c.put-2.new.self.slots) (node_in old.nodes.slots) node.id (Some node)
+    (λ k. c.put-2.ensures.held k ∙ ap (λ name. cond (eq_by_cmp nat_cmp node.id k)
+    (Some (record node { name = name })) (node_in old.nodes.slots k)) c.take.ensures.value) in
+    let used = updated place_cmp place_total exact_places (id_at c.put.new.self.slots)
+    (id_at old.places.slots) place (Some node.id) c.put.ensures.held in
     let index = index_with_child (node_in old.nodes.slots) (node_in c.put-2.new.self.slots) (id_at old.places.slots)
-    (record { numbered = old.numbered; placed = old.placed; at_place = old.at_place }) node c.requires.absent put place (id_at c.put.new.self.slots)
+    (record { numbered = old.numbered; placed = old.placed; at_place = old.at_place })
+    node c.requires.absent put place (id_at c.put.new.self.slots)
     (own_place node c.args.parent c.from.result c.take.result c.requires.parent c.from.ensures c.take.ensures.value)
     (sym c.get.ensures ∙ copied_none c.get.result (sym c.is_some.ensures ∙ c.if-is_some.false)) used in
     record { numbered = index.numbered; placed = index.placed; at_place = index.at_place }

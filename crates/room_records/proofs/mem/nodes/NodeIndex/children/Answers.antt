@@ -13,9 +13,11 @@ returns c = λ t same rules_hold.
     let nodes = node_in self.nodes.slots in
     let all = shown nodes (places_between c.args.parent self.places.slots.entries) in
     let P : (ℕ → Option Node) → Type 0 = λ f. IsIndex f (id_at self.places.slots) in
-    let index = subst P (sym same) (record { numbered = self.numbered; placed = self.placed; at_place = self.at_place }) in
+    let index =
+    subst P (sym same) (record { numbered = self.numbered; placed = self.placed; at_place = self.at_place }) in
     let are = children_are t self.places.slots index c.range-slot-items.ensures.ordered rules_hold c.args.parent in
     let end : c.loop-slot.slot-iterator ≡ [] = c.in-None.ensures.steps.0 in
-    let items : all ≡ c.loop-slot.found.items = sym c.loop-slot.invariant ∙ ap (λ es. c.loop-slot.found.items ++ shown nodes es) end ∙ append-nil c.loop-slot.found.items in
+    let items : all ≡ c.loop-slot.found.items = sym c.loop-slot.invariant
+    ∙ ap (λ es. c.loop-slot.found.items ++ shown nodes es) end ∙ append-nil c.loop-slot.found.items in
     let Q : List Node → Type 0 = λ found. AreChildren t c.args.parent found in
     subst Q (ap (λ f. shown f (places_between c.args.parent self.places.slots.entries)) same ∙ items) are

@@ -5,4 +5,5 @@ use Rattle.room_records.proofs.mem.nodes.NodeIndex.children.Given as goal
 
 abbrev pub invariant-loop-slot : goal.invariant-loop-slot
 invariant-loop-slot l =
-    l.found.items ++ shown (node_in l.self.nodes.slots) l.slot-iterator ≡ shown (node_in l.self.nodes.slots) (places_between l.parent l.self.places.slots.entries)
+    l.found.items ++ shown (node_in l.self.nodes.slots) l.slot-iterator
+    ≡ shown (node_in l.self.nodes.slots) (places_between l.parent l.self.places.slots.entries)

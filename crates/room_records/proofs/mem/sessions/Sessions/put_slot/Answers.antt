@@ -7,13 +7,15 @@ use Rattle.room_records.proofs.mem.sessions.Sessions.put_slot.Goals as goal
 pub invariant_of-self : goal.invariant_of-self
 invariant_of-self c = record {
   counted = c.args.self.now.counted;
-  few = still_few (held slot_cmp c.put.new.self.slots) (held slot_cmp c.args.self.now.kept.slots) c.args.row.sid c.args.row.slot (Some c.args.row.kept) c.put.ensures.held
+  few = still_few (held slot_cmp c.put.new.self.slots) (held slot_cmp c.args.self.now.kept.slots)
+      c.args.row.sid c.args.row.slot (Some c.args.row.kept) c.put.ensures.held
       c.args.self.now.few (omega arith);
 }
 
 pub returns-clause-slots : goal.returns-clause-slots
 returns-clause-slots c = λ low.
-    put_slot_row (held slot_cmp c.put.new.self.slots) (held slot_cmp c.args.self.now.kept.slots) c.args.row.sid c.args.row.slot (Some c.args.row.kept) c.put.ensures.held
+    put_slot_row (held slot_cmp c.put.new.self.slots) (held slot_cmp c.args.self.now.kept.slots)
+    c.args.row.sid c.args.row.slot (Some c.args.row.kept) c.put.ensures.held
 
 pub returns-clause-kept : goal.returns-clause-kept
 returns-clause-kept c = λ sid slot room. c.put.ensures.kept (sid, slot) room

@@ -1,0 +1,7 @@
+use Rattle.std.proofs.Common.{◌≡◌, ◌++◌, drop}
+use Rattle.room_acl.specs.Inheritance.{own_part}
+use Rattle.room_acl.proofs.inheritance.own_part.Given as goal
+
+-- what was kept so far, and what is kept of the rest
+abbrev pub invariant-loop-entry : goal.invariant-loop-entry
+invariant-loop-entry l = l.own.items ++ own_part (drop l.entry-index l.entries) ≡ own_part l.entries

@@ -1,0 +1,91 @@
+-- Worked examples, computed by the definitions: sessions, repeats and numbers.
+use Rattle.std.proofs.Common.{◌≡◌, ℕ, refl, List, [], ◌∷◌, length}
+use Rattle.std.specs.Prelude.{codes}
+use Rattle.serde_json.proofs.OnLiterals.{serde_json_on_literals}
+use Rattle.std.specs.Fmt.{digits}
+use Rattle.room_acl.specs.SubjectModel.{SubjectModel}
+use Rattle.room_commands.specs.CommandModel as C
+use Rattle.room_commands.specs.CommandModel.{CommandModel}
+use Rattle.room_records.specs.Room.{Room, fresh_room}
+use Rattle.room_wire.specs.declared.answers.code.Code.TheVariants.{BadSession, BadSlot, SeqMisordered, SeqFalseRetry}
+use Rattle.room_wire.specs.declared.answers.code.Code.TheVariants.{SessionTaken}
+use Rattle.room_wire.specs.Asks.EventModel.{EventModel, Open, Close, Slot}
+use Rattle.room_desk.specs.AnswerModel.{Reply, Refused}
+use Rattle.room_desk.specs.History.{History, answer_to, accepted}
+
+abbrev ann : SubjectModel
+ann = record { name = codes "ann"; groups = codes "eng" ∷ [] }
+
+abbrev bob : SubjectModel
+bob = record { name = codes "bob"; groups = codes "eng" ∷ codes "staff" ∷ [] }
+
+abbrev start : Room
+start = fresh_room (codes "ann") (codes "eng")
+
+-- one letter stands for the 32 digits of a session name
+abbrev s : List ℕ
+s = codes "a"
+
+abbrev by_ann : ℕ → ℕ → CommandModel → EventModel
+by_ann slot seq command = Slot (record { caller = ann; sid = s; slot = slot; seq = seq; command = command })
+
+abbrev stat_root : CommandModel
+stat_root = C.Stat []
+
+abbrev opened : History
+opened = Open ann s 3 ∷ []
+
+abbrev tried : History
+tried = by_ann 2 0 stat_root ∷ opened
+
+zero_is_misordered : answer_to start opened (by_ann 2 0 stat_root) ≡ Refused SeqMisordered
+zero_is_misordered = refl
+
+two_is_misordered : answer_to start tried (by_ann 2 2 stat_root) ≡ Refused SeqMisordered
+two_is_misordered = refl
+
+no_such_slot : answer_to start opened (by_ann 3 1 stat_root) ≡ Refused BadSlot
+no_such_slot = refl
+
+no_session : answer_to start [] (by_ann 0 1 stat_root) ≡ Refused BadSession
+no_session = refl
+
+taken_by_another : answer_to start opened (Open bob s 3) ≡ Refused SessionTaken
+taken_by_another = refl
+
+other_count : answer_to start opened (Open ann s 2) ≡ Refused SessionTaken
+other_count = refl
+
+closed_for_good : answer_to start (Close ann s ∷ opened) (Open ann s 3) ≡ Refused BadSession
+closed_for_good = refl
+
+not_closed_by_another : answer_to start (Close bob s ∷ opened) (by_ann 3 1 stat_root) ≡ Refused BadSlot
+not_closed_by_another = refl
+
+abbrev once : History
+once = by_ann 2 1 stat_root ∷ opened
+
+another_command : answer_to start (by_ann 2 1 stat_root ∷ opened) (by_ann 2 1 (C.ListNames [])) ≡ Refused SeqFalseRetry
+unfolding serde_json_on_literals digits
+another_command = refl
+
+counted_once : length (accepted (by_ann 2 1 stat_root ∷ by_ann 2 1 stat_root ∷ opened) s 2) ≡ 1
+counted_once = refl
+
+listed : answer_to start opened (by_ann 1 1 (C.ListNames [])) ≡ Reply (codes "{\"code\":0,\"names\":[]}")
+unfolding serde_json_on_literals digits
+listed = refl
+
+opened_reply : answer_to start [] (Open ann s 3) ≡ Reply (codes "{\"code\":0,\"slots\":3}")
+unfolding serde_json_on_literals digits
+opened_reply = refl
+
+stat_reply : answer_to start opened (by_ann 2 1 stat_root)
+    ≡ Reply (codes "{\"aclflag\":0,\"code\":0,\"group\":\"eng\",\"kind\":\"folder\",\"owner\":\"ann\",\"size\":0}")
+unfolding serde_json_on_literals digits
+stat_reply = refl
+
+repeated : answer_to start once (by_ann 2 1 stat_root)
+    ≡ Reply (codes "{\"aclflag\":0,\"code\":0,\"group\":\"eng\",\"kind\":\"folder\",\"owner\":\"ann\",\"size\":0}")
+unfolding serde_json_on_literals digits
+repeated = refl

@@ -1,0 +1,74 @@
+-- What an event is answered by the rows. The history says the same: `proofs/Answers`.
+use Rattle.std.specs.Prelude.{◌≡◌, ◌<◌, ℕ, List, Bool, ◌==◌, ◌&&◌, Option, None, Some, if◌then◌else◌}
+use Rattle.std.specs.Str.{bytes_eq}
+use Rattle.room_acl.specs.SubjectModel.{SubjectModel}
+use Rattle.room_slots.specs.KeptModel.{KeptModel}
+use Rattle.room_slots.specs.declared.verdict.Verdict.{Verdict}
+use Rattle.room_slots.specs.declared.verdict.Verdict.TheVariants.{New, Repeat, FalseRetry, Misordered}
+use Rattle.room_records.specs.declared.session.SessionRow.{SessionRow}
+use Rattle.room_records.specs.declared.session.SlotRow.{SlotRow}
+use Rattle.room_records.specs.declared.change.Change.TheVariants.{PutSlot}
+use Rattle.room_records.specs.Records.{Records}
+use Rattle.room_records.specs.Rules.{SlotRules}
+use Rattle.room_records.specs.Changes.{apply_change}
+use Rattle.room_records.specs.Room.{Room}
+use Rattle.room_records.specs.Representation.{RepresentsRoom}
+use Rattle.room_commands.specs.Effect.{effect}
+use Rattle.room_commands.specs.ReplyModel.{Opened}
+use Rattle.room_wire.specs.declared.answers.code.Code.TheVariants.{BadSession, SeqMisordered, SeqFalseRetry}
+use Rattle.room_wire.specs.declared.answers.code.Code.TheVariants.{SessionTaken}
+use Rattle.room_wire.specs.Asks.EventModel.{Request}
+use Rattle.room_wire.specs.Forms.Texts.{command_text, reply_text}
+use Rattle.room_desk.specs.AnswerModel.{AnswerModel, Reply, Refused}
+
+-- an OPEN of a name that was opened before
+abbrev pub answer_open_again : SubjectModel → ℕ → SessionRow → AnswerModel
+answer_open_again caller slots row =
+    if bytes_eq row.owner caller.name
+    then (if row.is_open then (if slots == row.slots then Reply (reply_text (Opened slots)) else Refused SessionTaken)
+    else Refused BadSession)
+    else Refused SessionTaken
+
+-- the session is open and the caller's
+abbrev pub is_usable : SubjectModel → SessionRow → Bool
+is_usable caller row = bytes_eq row.owner caller.name && row.is_open
+
+-- a session row is there, and the slot is below its number of slots
+pub record HasSlot (r : Records) (sid : List ℕ) (slot : ℕ) : Type 0 where
+  pub row : SessionRow
+  pub stands : r.session sid ≡ Some row
+  pub below : slot < row.slots
+
+-- the row that a request leaves in its slot
+abbrev pub ran_row : Room → Request → SlotRow
+ran_row room q = record {
+  sid = q.sid;
+  slot = q.slot;
+  kept = record {
+    seq = q.seq;
+    request = command_text q.command;
+    reply = reply_text (effect room q.caller q.command).reply;
+  };
+}
+
+-- a command was run: its reply, and the records after its changes and its slot row
+pub record Ran (r : Records) (room : Room) (q : Request) (answered : AnswerModel) (new : Records) : Type 0 where
+  pub changed : Records
+  pub session : changed.session ≡ r.session
+  pub kept : changed.slot ≡ r.slot
+  pub objects : RepresentsRoom changed.objects (effect room q.caller q.command).room
+  pub rules : SlotRules (apply_change (PutSlot (ran_row room q)) changed)
+  pub leaves : new ≡ apply_change (PutSlot (ran_row room q)) changed
+  pub says : answered ≡ Reply (reply_text (effect room q.caller q.command).reply)
+
+-- the records after a command was run
+abbrev pub RanTo : Records → Room → Request → Records → Type 0
+RanTo r room q new = Ran r room q (Reply (reply_text (effect room q.caller q.command).reply)) new
+
+-- what a request is answered that is not new to its slot
+abbrev pub answer_kept : Verdict → Option KeptModel → AnswerModel
+answer_kept Repeat (Some kept) = Reply kept.reply
+answer_kept Repeat None = Refused SeqMisordered
+answer_kept FalseRetry kept = Refused SeqFalseRetry
+answer_kept Misordered kept = Refused SeqMisordered
+answer_kept New kept = Refused SeqMisordered

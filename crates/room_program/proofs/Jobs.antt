@@ -1,0 +1,69 @@
+-- What the function of a job promises, said of the job and its texts.
+use Rattle.std.proofs.Common.{◌≡◌, ℕ, List, Option, Result, String, refl, sym, subst}
+use Rattle.std.specs.Prelude.{string_bytes}
+use Rattle.std.specs.declared.alloc.Global.{Global}
+use Rattle.room_words.specs.declared.job.Job.{Job}
+use Rattle.room_words.specs.declared.job.Job.TheVariants.{Init, Replay, Serve, Report}
+use Rattle.room_words.specs.declared.job.ReportKind.{ReportKind}
+use Rattle.room_program.specs.Ends.{InitEnds}
+use Rattle.room_program.specs.Replays.{Replays}
+use Rattle.room_program.specs.Rooms.{Reports, ServesRoom}
+use Rattle.room_program.specs.Runs.{Ends, Means, RunsJob, streams}
+
+-- what is said of two texts is said of the texts that they equal
+of_two : (P : List ℕ → List ℕ → Type 0) (a b x y : List ℕ) → a ≡ x → b ≡ y → P a b → P x y
+of_two P a b x y e f p = subst (P x) f (subst (λ t. P t b) e p)
+
+of_three : (P : List ℕ → List ℕ → List ℕ → Type 0) (a b c x y z : List ℕ)
+    → a ≡ x → b ≡ y → c ≡ z → P a b c → P x y z
+of_three P a b c x y z e f h p = of_two (P x) b c y z f h (subst (λ t. P t b c) e p)
+
+module _ {M C Shelf : Type 0} (m : Means M C Shelf) (before later : M) where
+  pub ran_init : (job : Job) (db owner group : String Global) (d o g : List ℕ)
+      (input output errors told : Option (List ℕ)) (status : ℕ) → job ≡ Init db owner group
+      → d ≡ string_bytes db → o ≡ string_bytes owner → g ≡ string_bytes group
+      → Ends (InitEnds m.does (m.made o g) m.taken d o g before later) errors told status
+      → RunsJob m before later job (streams input output errors) (streams input output told) status
+  ran_init job db owner group d o g input output errors told status is is_db is_owner is_group ends =
+      let May : List ℕ → List ℕ → List ℕ → Type 0 = λ d o g.
+      Ends (InitEnds m.does (m.made o g) m.taken d o g before later) errors told status in
+      let Ran : Job → Type 0 = λ job.
+      RunsJob m before later job (streams input output errors) (streams input output told) status in
+      subst Ran (sym is) (refl, refl, of_three May d o g _ _ _ is_db is_owner is_group ends)
+
+  pub ran_report : (job : Job) (db roster : String Global) (kind : ReportKind) (d r : List ℕ)
+      (input output written errors told : Option (List ℕ)) (status : ℕ) → job ≡ Report db roster kind
+      → d ≡ string_bytes db → r ≡ string_bytes roster
+      → Ends (Reports m.does m.adopts m.view d r kind before later output written) errors told status
+      → RunsJob m before later job (streams input output errors) (streams input written told) status
+  ran_report job db roster kind d r input output written errors told status is is_db is_roster ends =
+      let May : List ℕ → List ℕ → Type 0 = λ d r.
+      Ends (Reports m.does m.adopts m.view d r kind before later output written) errors told status in
+      let Ran : Job → Type 0 = λ job.
+      RunsJob m before later job (streams input output errors) (streams input written told) status in
+      subst Ran (sym is) (refl, of_two May d r _ _ is_db is_roster ends)
+
+  pub ran_replay : (job : Job) (roster owner group : String Global) (r o g : List ℕ)
+      (input left output written errors told : Option (List ℕ)) (status : ℕ) → job ≡ Replay roster owner group
+      → r ≡ string_bytes roster → o ≡ string_bytes owner → g ≡ string_bytes group
+      → Ends (Replays m.does r o g before later input left output written) errors told status
+      → RunsJob m before later job (streams input output errors) (streams left written told) status
+  ran_replay job roster owner group r o g input left output written errors told status is is_roster is_owner is_group
+      ends =
+      let May : List ℕ → List ℕ → List ℕ → Type 0 = λ r o g.
+      Ends (Replays m.does r o g before later input left output written) errors told status in
+      let Ran : Job → Type 0 = λ job.
+      RunsJob m before later job (streams input output errors) (streams left written told) status in
+      subst Ran (sym is) (of_three May r o g _ _ _ is_roster is_owner is_group ends)
+
+  pub ran_serve : (job : Job) (db roster : String Global) (port count : ℕ) (d r : List ℕ)
+      (input output errors told : Option (List ℕ)) (status : ℕ) → job ≡ Serve db roster port count
+      → d ≡ string_bytes db → r ≡ string_bytes roster
+      → Ends (ServesRoom m.does m.accepts m.fails m.adopts m.view d r port count before later) errors told status
+      → RunsJob m before later job (streams input output errors) (streams input output told) status
+  ran_serve job db roster port count d r input output errors told status is is_db is_roster ends =
+      let May : List ℕ → List ℕ → Type 0 = λ d r.
+      Ends (ServesRoom m.does m.accepts m.fails m.adopts m.view d r port count before later) errors told status in
+      let Ran : Job → Type 0 = λ job.
+      RunsJob m before later job (streams input output errors) (streams input output told) status in
+      subst Ran (sym is) (refl, refl, of_two May d r _ _ is_db is_roster ends)

@@ -1,0 +1,12 @@
+use Rattle.std.proofs.Common.{inr}
+use Rattle.room_program.proofs.serving.serve.Goals as goal
+
+pub returns : goal.returns
+returns g c =
+    let done = rw c.new-desk.ensures at c.listen-done.ensures in
+    inr (
+      c.in-Ok.roster,
+      c.roster_at.new.machine,
+      c.in-Ok.ensures,
+      inr (c.in-Ok-take_room.shelf, c.listen-done.new.desk, c.take_room.new.machine, c.in-Ok-take_room.ensures, done),
+    )

@@ -1,0 +1,101 @@
+-- What is taken from files.
+use Rattle.std.specs.Prelude.{◌≡◌, ◌⊎◌, ℕ, List, Bool, true, false, Option, Some, None, Result, Ok, Err, IsTrue}
+use Rattle.sqlite_trees.specs.declared.store.Store.{Ghosts}
+use Rattle.sqlite.specs.State.{HasCleanDisk, Survives}
+use Rattle.sqlite.specs.Held.{Held, state}
+use Rattle.room_acl.specs.SubjectModel.{SubjectModel}
+use Rattle.room_tables.specs.Tables.{schema_0, has_a_table, has_room}
+use Rattle.room_tables.specs.Layout.{IsRoomDatabase}
+use Rattle.room_tables.specs.Fresh.{IsFreshRoom, MayBeMade}
+use Rattle.room_roster.specs.Rosters.{IsRosterText}
+use Rattle.room_program.specs.declared.fault.Fault.{Fault}
+use Rattle.room_program.specs.declared.fault.Fault.TheVariants.{CannotReadRoster, BadRoster, RoomExists, NotARoom}
+use Rattle.room_program.specs.declared.fault.Fault.TheVariants.{StoreFailed, Memory}
+use Rattle.room_program.specs.Machines.{Call}
+use Rattle.room_program.specs.Machines.Call.{reads, looks, opens}
+
+-- the roster of a text: its users are those that the text gives
+abbrev pub GivesRoster : List ℕ → Result (List SubjectModel) Fault → Type 0
+GivesRoster text (Ok users) = IsRosterText text users
+GivesRoster text (Err BadRoster) = (users : List SubjectModel) → ¬ IsRosterText text users
+GivesRoster text (Err Memory) = Unit {0}
+GivesRoster text (Err other) = ⊥
+
+-- the roster of a file's text; that the file can't be read is told only where its read failed
+abbrev pub ReadsRoster : Option (List ℕ) → Result (List SubjectModel) Fault → Type 0
+ReadsRoster (Some text) taken = GivesRoster text taken
+ReadsRoster None (Err CannotReadRoster) = Unit {0}
+ReadsRoster None (Err Memory) = Unit {0}
+ReadsRoster None other = ⊥
+
+abbrev pub TakesRoster : {M C : Type 0} → (does : M → Call C → M → Type 0)
+    → List ℕ → M → M → Result (List SubjectModel) Fault → Type 0
+TakesRoster does path old new taken = (text : Option (List ℕ)) × does old (reads path text) new × ReadsRoster text taken
+
+-- the store at a path, or why it can't be opened
+abbrev pub OpensStore : {M C : Type 0} → (does : M → Call C → M → Type 0) → List ℕ → M → M → Result C Fault → Type 0
+OpensStore does path old new (Ok opened) = does old (opens path (Some opened)) new
+OpensStore {M} {C} does path old new (Err StoreFailed) = (opened : Option C) × does old (opens path opened) new
+OpensStore {M} {C} does path old new (Err Memory) = (opened : Option C) × does old (opens path opened) new
+OpensStore does path old new (Err other) = ⊥
+
+-- the shelf over a store that was opened
+abbrev pub Adopts : {C Shelf : Type 0} → (adopts : C → Shelf → Type 0) → C → Result Shelf Fault → Type 0
+Adopts adopts opened (Ok shelf) = adopts opened shelf
+Adopts adopts opened (Err NotARoom) = Unit {0}
+Adopts adopts opened (Err StoreFailed) = Unit {0}
+Adopts adopts opened (Err Memory) = Unit {0}
+Adopts adopts opened (Err other) = ⊥
+
+-- the shelf over the store at a path: the one that was opened and adopted
+abbrev pub OpensRoom : {M C Shelf : Type 0} → (does : M → Call C → M → Type 0)
+    → (adopts : C → Shelf → Type 0) → List ℕ → M → M → Result Shelf Fault → Type 0
+OpensRoom {M} {C} does adopts path old new taken =
+    ((fault : Fault) × (taken ≡ Err fault) × OpensStore does path old new (Err fault))
+    ⊎ ((opened : C) × OpensStore does path old new (Ok opened) × Adopts adopts opened taken)
+
+-- nothing is opened where a file is not there or empty, which is no room, or where that can't be told
+abbrev pub IsUnopened : {Shelf : Type 0} → (begun : Option Bool) → Result Shelf Fault → Type 0
+IsUnopened (Some false) (Err NotARoom) = Unit {0}
+IsUnopened None (Err StoreFailed) = Unit {0}
+IsUnopened None (Err Memory) = Unit {0}
+IsUnopened begun other = ⊥
+
+-- the shelf of the store at a path, where a file with bytes is there
+abbrev pub TakesRoom : {M C Shelf : Type 0} → (does : M → Call C → M → Type 0)
+    → (adopts : C → Shelf → Type 0) → List ℕ → M → M → Result Shelf Fault → Type 0
+TakesRoom {M} does adopts path old new taken =
+    ((begun : Option Bool) × does old (looks path begun) new × IsUnopened begun taken)
+    ⊎ ((seen : M) × does old (looks path (Some true)) seen × OpensRoom does adopts path seen new taken)
+
+-- a store that was opened is a room of version 1, and taken as it was
+abbrev pub Adopted : {S : Type 0} → Ghosts S → (opened taken : Held S) → Type 0
+Adopted g opened taken = IsTrue (has_room opened.schema)
+    × (HasCleanDisk (state g taken) → IsTrue (state g taken).is_open × ((state g taken).now ≡ (state g opened).now))
+    × Survives (state g opened) (state g taken) (λ _. ⊥)
+
+-- a store that was opened had no table of a room, and a fresh room was made in it, as `SqlShelf::init` has it
+abbrev pub Made : {S : Type 0} → Ghosts S → (owner group : List ℕ) → (opened : Held S) → Type 0
+Made {S} g owner group opened = (has_a_table opened.schema ≡ false) × (made : Held S)
+    × (HasCleanDisk (state g made) → IsTrue (state g made).is_open
+    × (opened.schema ≡ schema_0 → IsRoomDatabase (state g made).now × IsFreshRoom owner group (state g made).now.trees))
+    × Survives (state g opened) (state g made) (MayBeMade owner group (state g opened).now)
+
+-- a store that was opened had a table of a room
+abbrev pub IsTaken : {S : Type 0} → (opened : Held S) → Type 0
+IsTaken opened = IsTrue (has_a_table opened.schema)
+
+-- a fresh room was made in a store, or why not
+abbrev pub Makes : {C : Type 0} → (made taken : C → Type 0) → C → Result (Unit {0}) Fault → Type 0
+Makes made taken opened (Ok done) = made opened
+Makes made taken opened (Err RoomExists) = taken opened
+Makes made taken opened (Err StoreFailed) = Unit {0}
+Makes made taken opened (Err Memory) = Unit {0}
+Makes made taken opened (Err other) = ⊥
+
+-- and in the store at a path
+abbrev pub MakesAt : {M C : Type 0} → (does : M → Call C → M → Type 0)
+    → (made taken : C → Type 0) → List ℕ → M → M → Result (Unit {0}) Fault → Type 0
+MakesAt {M} {C} does made taken path old new done =
+    ((fault : Fault) × (done ≡ Err fault) × OpensStore does path old new (Err fault))
+    ⊎ ((opened : C) × OpensStore does path old new (Ok opened) × Makes made taken opened done)

@@ -1,0 +1,30 @@
+-- What a run asks of the machine that it runs on, beside its three streams.
+use Rattle.std.specs.Prelude.{ℕ, List, Bool, true, false, Option, Some, None, Result, Ok, Err}
+
+-- a call, with what it was answered; `C` are connections to stores
+pub data Call (C : Type 0) : Type 0 where
+  -- the text of the file at a path, where it can be read
+  reads : (path : List ℕ) → (text : Option (List ℕ)) → Call C
+  -- whether a file with bytes is at a path, where that can be told
+  looks : (path : List ℕ) → (begun : Option Bool) → Call C
+  -- the store at a path, where it can be opened
+  opens : (path : List ℕ) → (opened : Option C) → Call C
+  -- whether connections to a port of 127.0.0.1 are listened for
+  listens : (port : ℕ) → (done : Bool) → Call C
+  -- whether they are listened for on a free port, with one made to it
+  connects : (done : Bool) → Call C
+
+-- what a call was answered, where it did not fail
+abbrev pub answer : {A E : Type 0} → Result A E → Option A
+answer (Ok a) = Some a
+answer (Err e) = None
+
+-- whether it did not fail
+abbrev pub is_done : {A E : Type 0} → Result A E → Bool
+is_done (Ok a) = true
+is_done (Err e) = false
+
+-- the text that a read was answered, as bytes
+abbrev pub text_answer : {T E : Type 0} → (bytes : T → List ℕ) → Result T E → Option (List ℕ)
+text_answer bytes (Ok text) = Some (bytes text)
+text_answer bytes (Err e) = None

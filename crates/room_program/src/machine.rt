@@ -1,0 +1,40 @@
+//! What a run asks of the machine that it runs on, beside its three streams.
+ghost use Rattle.std.specs.Prelude.{string_bytes};
+ghost use Rattle.room_program.specs.Machines.{Call, answer, is_done, text_answer};
+ghost use Rattle.room_program.specs.Machines.Call.{reads, looks, opens, listens, connects};
+
+use sqlite::Error;
+use std::io;
+use std::net::TcpStream;
+
+/// The machine's files and sockets, as a run sees them; `C` are connections to stores. A run takes
+/// it as a value, so that its contract says which calls it made, in their order, and what they were
+/// answered. Connections that are listened for come as by `Listener`.
+pub trait Machine<C> {
+    /// A call was made: the machine before it, the call with its answer, and the machine after it.
+    ghost does: { Self → Call C → Self → Type 0 };
+
+    /// Reads the file at this path as UTF-8 text.
+    fn read_text(&mut self, path: &str) -> io::Result<String>
+        ensures read { does self.old (reads path.now (text_answer string_bytes result)) self.new };
+
+    /// Whether a file with bytes in it is at this path.
+    fn is_begun(&mut self, path: &str) -> io::Result<bool>
+        ensures looked { does self.old (looks path.now (answer result)) self.new };
+
+    /// Opens the store at this path, or makes it.
+    fn open(&mut self, path: &str) -> Result<C, Error>
+        ensures opened { does self.old (opens path.now (answer result)) self.new };
+
+    /// Closes a store, so that the log beside its file is copied into it. Where that fails, both files
+    /// together hold what was written.
+    fn close(connection: C);
+
+    /// Listens on this port of 127.0.0.1.
+    fn listen(&mut self, port: u16) -> io::Result<()>
+        ensures bound { does self.old (listens port (is_done result)) self.new };
+
+    /// Listens on a free port of 127.0.0.1, and makes a connection to it.
+    fn connect(&mut self) -> io::Result<TcpStream>
+        ensures joined { does self.old (connects (is_done result)) self.new };
+}

@@ -1,0 +1,16 @@
+use Rattle.std.proofs.Common.{Option, IsSome, subst}
+use Rattle.room_slots.specs.KeptModel.{KeptModel}
+use Rattle.room_records.proofs.mem.sessions.Sessions.reserve_slot.Goals as goal
+
+pub invariant_of-self : goal.invariant_of-self
+invariant_of-self c = record {
+  few = λ sid slot some. let P : Option KeptModel → Type 0 = λ o. IsSome o in
+      c.args.self.now.few sid slot (subst P (c.reserve.ensures.same (sid, slot)) some);
+  counted = c.args.self.now.counted;
+}
+
+pub returns-clause-slots : goal.returns-clause-slots
+returns-clause-slots c = λ name number. c.reserve.ensures.same (name, number)
+
+pub returns-clause-kept : goal.returns-clause-kept
+returns-clause-kept c = λ name number room. c.reserve.ensures.kept (name, number) room

@@ -1,0 +1,80 @@
+-- The frames of calls.
+use Rattle.std.proofs.Common.{◌≡◌, ◌∙◌, true, false, Vec, Result, Ok, Err, IfOk, IfErr, IsErr, OnOk, ap, arith}
+use Rattle.std.specs.declared.alloc.Global.{Global}
+use Rattle.std.specs.Prelude.{List, ℕ}
+use Rattle.sqlite_value.specs.Order.{Row}
+use Rattle.sqlite_trees.specs.declared.store.Store.{Ghosts}
+use Rattle.sqlite_resolve.specs.Compile.{first}
+use Rattle.sqlite.specs.State.{State, HasCleanDisk, Survives, Shown, FailsToQuery, CommitsShowing}
+use Rattle.sqlite.specs.State.{ExecutesInside}
+use Rattle.sqlite.specs.Held.{state}
+use Rattle.sqlite.specs.declared.error.Error.{Error}
+use Rattle.sqlite.specs.declared.rows.Row.{Row as Answer}
+use Rattle.sqlite.specs.declared.transaction.Transaction.{Transaction}
+use Rattle.sqlite.proofs.StateLemmas.{survives_then}
+use Rattle.sqlite.proofs.InsideLemmas.{keeps_then}
+use Rattle.room_tables.proofs.Changes.{keeps_all}
+use Rattle.room_tables.proofs.Queries.{is_query_text, query_keeps, query_left, query_answered, query_open}
+use Rattle.room_sql.specs.Frames.{QueryFrame, InsideFrame}
+
+-- a text that only asks has the frame of a query
+pub query_frame : (text : List ℕ) (args : Row) (old new : State) (r : Result (Vec Answer Global) Error)
+    → is_query_text (first text) ≡ true
+    → (HasCleanDisk new → IfOk r (λ rows. Shown text args old new rows.items))
+    → (HasCleanDisk new → IfErr r (FailsToQuery text args old new))
+    → (old.in_transaction ≡ false → new.in_transaction ≡ false)
+    → Survives old new (CommitsShowing text args old) → QueryFrame old new r
+query_frame text args old new r selects ok err mode survives =
+    let items = λ (v : Vec Answer Global). v.items in
+    record {
+      clean = λ clean. omega (arith, survives.clean);
+      was_open = λ clean is. query_open items text args old new r (ok clean) (err clean) is;
+      mode = mode;
+      answered = λ clean. query_answered items text args old new r selects (ok clean);
+      same = λ clean is settled. query_left items text args old new r selects (ok clean) (err clean) is settled;
+      crash = query_keeps text args old new selects survives;
+    }
+
+module _ {S : Type 0} (store : Ghosts S) where
+  -- one statement that failed
+  pub statement_failed : {T : Type 0} (text : List ℕ) (args : Row) (a b : Transaction S) (e : Error) (X : Type 0)
+      → b.conn.ghost_name ≡ a.conn.ghost_name
+      → (a.conn.now.in_transaction ≡ false → X × (b.conn.now ≡ a.conn.now))
+      → (HasCleanDisk (state store b.conn.now) → a.conn.now.in_transaction ≡ true
+      → ExecutesInside 0 text args (state store a.conn.now) (state store b.conn.now) (Err e))
+      → Survives (state store a.conn.now) (state store b.conn.now) (λ _. ⊥) → InsideFrame store {T = T} a b (Err e)
+  statement_failed text args a b e X same ended runs survives = record {
+    same_reference = same;
+    inside = λ clean. tt;
+    kept = λ clean. keeps_all text args (state store a.conn.now) (state store b.conn.now) (Err e) X
+        (λ out. let it = ended out in (it.0, ap (state store) it.1)) (runs clean);
+    crash = survives;
+  }
+
+  -- one call after another that answered Ok
+  pub inside_then : {T U : Type 0} (a b d : Transaction S) (x : T) (r : Result U Error)
+      → InsideFrame store a b (Ok x) → InsideFrame store b d r → InsideFrame store a d r
+  inside_then a b d x r early late = record {
+    same_reference = late.same_reference ∙ early.same_reference;
+    inside = late.inside;
+    kept = λ clean.
+        let before : HasCleanDisk (state store b.conn.now) = omega (arith, late.crash.clean) in
+        keeps_then (state store a.conn.now) (state store b.conn.now) (state store d.conn.now)
+        (early.kept before) (late.kept clean);
+    crash = survives_then (state store a.conn.now) (state store b.conn.now) (state store d.conn.now) _ _ (λ _. ⊥)
+        (λ _ db none. none) (λ _ db none. none) early.crash late.crash;
+  }
+
+  -- an error that was passed on
+  pub inside_passed : {T U : Type 0} (a b : Transaction S) (e : Error) (r : Result U Error)
+      → IsErr r → InsideFrame store {T = T} a b (Err e) → InsideFrame store a b r
+  inside_passed a b e r err frame = record {
+    same_reference = frame.same_reference;
+    inside = λ clean. on_no r _ err;
+    kept = frame.kept;
+    crash = frame.crash;
+  }
+    where
+      on_no : {V : Type 0} (r : Result V Error) (P : Type 0) → IsErr r → OnOk r P
+      on_no (Ok x) P err = absurd cc
+      on_no (Err e) P err = tt

@@ -1,0 +1,43 @@
+-- Lists in a room with a subtree moved.
+use Rattle.std.proofs.Common.{◌≡◌, ap, sym, ◌∙◌, false, List, [], ◌∷◌, ◌++◌, reverse, append-nil, None, Some}
+use Rattle.room_acl.specs.Inheritance.{with_inherited}
+use Rattle.room_records.specs.Names.{Name, Path}
+use Rattle.room_records.specs.Room.{Object, Room, IsRoom, object_at, list_of}
+use Rattle.room_records.proofs.RoomsLists.{list_of_child}
+use Rattle.room_commands.specs.Checks.{is_at_or_below}
+use Rattle.room_commands.specs.Effect.{renamed}
+use Rattle.room_commands.proofs.RoomsRenamed.{at_new_place, away, off_to}
+use Rattle.room_tree.specs.Renewals.{list_below}
+use Rattle.room_tree.proofs.ListsRenewed.{lists_renewed, lists_away_from_both, front_off}
+
+module _ (room : Room) (lawful : IsRoom room) (path to : Path) (o : Object)
+    (apart : is_at_or_below to path ≡ false) (there : object_at room path ≡ Some o)
+    (free : object_at room to ≡ None) where
+  abbrev after : Room
+  after = renamed room path to
+
+  -- what is not moved keeps its list
+  pub list_of_stayed : (q : Path) (other : Object) → object_at room q ≡ Some other
+      → is_at_or_below q path ≡ false → list_of after q ≡ list_of room q
+  list_of_stayed q other stands off =
+      lists_away_from_both room after path to (away room lawful path to o apart there free)
+      q off (off_to room lawful path to o apart there free q other stands)
+
+  moved_there : object_at after to ≡ Some o
+  moved_there = ap (object_at after) (sym (append-nil to))
+      ∙ at_new_place room lawful path to o apart there free [] ∙ ap (object_at room) (append-nil path) ∙ there
+
+  -- the object has what its new folder hands down
+  pub list_of_moved : (folder : Path) (name : Name) (above : Object)
+      → to ≡ folder ++ name ∷ [] → object_at room folder ≡ Some above
+      → list_of after to ≡ with_inherited o.own o.aclflag o.kind (list_of room folder)
+  list_of_moved folder name above is stands =
+      ap (list_of after) is ∙ list_of_child after folder name o (ap (object_at after) (sym is) ∙ moved_there)
+      ∙ ap (with_inherited o.own o.aclflag o.kind)
+      (list_of_stayed folder above stands (front_off to path folder (name ∷ []) is apart))
+
+  -- and what is below it the lists that follow
+  pub lists_of_moved : (rest : Path)
+      → list_of after (to ++ rest) ≡ list_below room path (list_of after to) (reverse rest)
+  lists_of_moved rest =
+      lists_renewed room after path to (λ below some. at_new_place room lawful path to o apart there free below) rest

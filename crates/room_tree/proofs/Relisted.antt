@@ -1,0 +1,207 @@
+-- SETLIST: what is planned is the effect.
+use Rattle.std.proofs.Common.{◌≡◌, ℕ, ◌⊎◌, refl, ap, sym, ◌∙◌, subst, Bool, true, false, cond, inl, inr, List, [], ◌∷◌}
+use Rattle.std.proofs.Common.{◌++◌, map, drop, length, reverse, append-nil, Option, None, Some, IfSome, unwrap_or}
+use Rattle.std.specs.Prelude.{Vec}
+use Rattle.std.specs.declared.alloc.Global.{Global}
+use Rattle.std.proofs.lemmas.List.{reverse-append, append_cancel_left}
+use Rattle.room_acl.specs.declared.subject.Kind.{Kind}
+use Rattle.room_acl.specs.Bits.{follows}
+use Rattle.room_acl.specs.Entries.{EntryModel}
+use Rattle.room_acl.specs.Inheritance.{handed_down, with_inherited}
+use Rattle.room_acl.specs.SubjectModel.{SubjectModel}
+use Rattle.room_records.specs.declared.node.Node.{Node}
+use Rattle.room_records.specs.declared.change.Change.TheVariants.{PutNode}
+use Rattle.room_records.specs.Names.{Name, Path}
+use Rattle.room_records.specs.Records.{ObjectRecords}
+use Rattle.room_records.specs.Rules.{ObjectRules, IsRoot}
+use Rattle.room_records.specs.Changes.{apply_to_objects, apply_all_to_objects, ObjectRulesHoldAfterEach}
+use Rattle.room_records.specs.Room.{Object, Room, object_at, list_of}
+use Rattle.room_records.specs.Representation.{RepresentsRoom, HasPath, NamesUpwards}
+use Rattle.room_records.proofs.RoomsLists.{list_of_child, list_of_root}
+use Rattle.room_records.proofs.RoomsMap.{some_is, Ends}
+use Rattle.room_records.proofs.RulesKept.{if_same, if_other, SamePlace, SameShape, shape_put, rules_put}
+use Rattle.room_commands.specs.CommandModel as C
+use Rattle.room_commands.specs.Checks.{first_refusal, checks, is_at_or_below}
+use Rattle.room_commands.specs.Effect.{with_object}
+use Rattle.room_commands.specs.ReplyModel.{Done, reply_model}
+use Rattle.room_commands.specs.SetList.{own_entries_of_setlist}
+use Rattle.room_commands.proofs.EffectIsRoom.{setlist_is_room}
+use Rattle.room_commands.proofs.Renaming.{at_behind}
+use Rattle.room_commands.proofs.RoomsObject.{elsewhere_unchanged}
+use Rattle.room_commands.proofs.RoomsRenamed.{rest_below, not_both}
+use Rattle.room_tree.specs.declared.loaded.LoadedObject.{LoadedObject}
+use Rattle.room_tree.specs.declared.planning.Outcome.{Outcome}
+use Rattle.room_tree.specs.LoadedObjects.{IsLoaded, node_of}
+use Rattle.room_tree.specs.Plans.{PlansEffect}
+use Rattle.room_tree.specs.Renewals.{list_below, PutsList, entries_of}
+use Rattle.room_tree.proofs.Changed.{replaced_plans}
+use Rattle.room_tree.proofs.Checking.{there}
+use Rattle.room_tree.proofs.ListsRenewed.{lists_renewed, lists_away, list_above_stays}
+use Rattle.room_tree.proofs.OwnPart.{root_or_below}
+use Rattle.room_tree.proofs.Renewed.{Puts, put, Relists, IsChangeOf, list_then, list_then_is, changes_list, puts_relist}
+use Rattle.room_tree.proofs.Renewed.{stored_at, nodes_stay, documents_stay, next_stays, relisted_at, relisted_off}
+use Rattle.room_tree.proofs.Renewed.{relisted_of_objects, relisted_rules, relisted_few}
+use Rattle.room_tree.proofs.RowsReplaced.{Replaces, changed_at}
+use Rattle.room_tree.proofs.StoredLists.{stored_list}
+
+nothing_handed_down : (own : List EntryModel) (aclflag : ℕ) (kind : Kind) → with_inherited own aclflag kind [] ≡ own
+nothing_handed_down own aclflag kind = by_test (follows aclflag)
+  where
+    by_test : (b : Bool) → own ++ cond b (handed_down [] kind) [] ≡ own
+    by_test true = append-nil own
+    by_test false = append-nil own
+
+-- the same nodes at the same places
+shape_with : (t first later : ObjectRecords) → later.node ≡ first.node → SameShape t first → SameShape t later
+shape_with t first later same shape = record {
+  back = λ id now stands. shape.back id now (ap (λ (f : ℕ → Option Node). f id) (sym same) ∙ stands);
+  forth = λ id before stands.
+      let now = shape.forth id before stands in
+      (now.0, ap (λ (f : ℕ → Option Node). f id) same ∙ now.1, now.2);
+}
+
+module _ (t : ObjectRecords) (room : Room) (stand : RepresentsRoom t room)
+    (path : Path) (loaded : LoadedObject) (found : IsLoaded t room path loaded) where
+  none_above : path ≡ [] → loaded.parent ≡ None
+  none_above root =
+      let At : Path → Type 0 = λ p. HasPath t p loaded.id in
+      let one : loaded.id ≡ 1 = subst At root found.is_there.at in
+      let Root : Option Node → Type 0 = λ o. IfSome o IsRoot in
+      let is_root : IsRoot (node_of loaded) =
+      subst Root (ap t.node (sym one) ∙ found.is_there.node_stands) stand.rules.root in
+      is_root.no_parent
+
+  folder_above : (folder : Path) (name : Name) → path ≡ folder ++ name ∷ []
+      → entries_of t loaded.parent ≡ list_of room folder
+  folder_above folder name is =
+      let Up : List Name → Type 0 = λ names. NamesUpwards t names loaded.id in
+      let up = subst Up (ap reverse is ∙ reverse-append folder (name ∷ [])) found.is_there.at in
+      let same : node_of loaded ≡ up.0 = some_is (node_of loaded) up.0 (sym found.is_there.node_stands ∙ up.2) in
+      let parent : loaded.parent ≡ Some up.1 = ap (λ (n : Node). n.parent) same ∙ up.4 in
+      ap (entries_of t) parent ∙ stored_list t room stand folder up.1 up.5
+
+  module _ (caller : SubjectModel) (flag : ℕ) (sent : List EntryModel) where
+    abbrev kept : List EntryModel
+    kept = own_entries_of_setlist path flag sent
+
+    abbrev change : Object → Object
+    change o = record o { aclflag = flag; own = kept }
+
+    abbrev after : Room
+    after = with_object room path change
+
+    abbrev now : Node
+    now = record (node_of loaded) { aclflag = flag }
+
+    same_place : SamePlace now (node_of loaded)
+    same_place = record { id = refl; parent = refl; name = refl; kind = refl }
+
+    at_path : object_at after path ≡ Some (change found.object)
+    at_path = changed_at room path change found.object (there t room path loaded found)
+
+    -- the list that the object has afterwards
+    list_after : list_of after path ≡ with_inherited kept flag loaded.kind (entries_of t loaded.parent)
+    list_after = by_end (root_or_below path)
+        ∙ ap (λ kind. with_inherited kept flag kind (entries_of t loaded.parent)) (sym found.is_there.shows.kind)
+      where
+        by_end : (path ≡ []) ⊎ Ends path
+            → list_of after path ≡ with_inherited kept flag found.object.kind (entries_of t loaded.parent)
+        by_end (inl root) =
+            ap (list_of after) root ∙ list_of_root after (change found.object)
+            (ap (object_at after) (sym root) ∙ at_path)
+            ∙ sym (nothing_handed_down kept flag found.object.kind)
+            ∙ ap (λ above. with_inherited kept flag found.object.kind (entries_of t above)) (sym (none_above root))
+        by_end (inr end) =
+            ap (list_of after) end.is ∙ list_of_child after end.folder end.name
+            (change found.object) (ap (object_at after) (sym end.is) ∙ at_path)
+            ∙ ap (with_inherited kept flag found.object.kind)
+            (list_above_stays room after path end.folder end.name end.is (elsewhere_unchanged room path change)
+            ∙ sym (folder_above end.folder end.name end.is))
+
+    away_from : (q : Path) → is_at_or_below q path ≡ false → object_at after q ≡ object_at room q
+    away_from q off = elsewhere_unchanged room path change q (λ same.
+        not_both (is_at_or_below q path)
+        (ap (λ p. is_at_or_below p path) (same ∙ sym (append-nil path)) ∙ at_behind path []) off)
+
+    module _ (passed : first_refusal (checks room caller (C.SetList flag sent path)) ≡ None)
+        (list : List EntryModel) (is : list_of after path ≡ list)
+        (puts : Puts) (r : Relists t room path list puts) where
+      abbrev first : ObjectRecords
+      first = apply_to_objects (PutNode now) t
+
+      abbrev later : ObjectRecords
+      later = apply_all_to_objects (PutNode now ∷ map put puts) t
+
+      node_after : (id : ℕ) → later.node id ≡ first.node id
+      node_after id = ap (λ (f : ℕ → Option Node). f id) (nodes_stay puts first)
+
+      lists_below : (q : Path) (id : ℕ) → HasPath t q id → later.entries id ≡ list_of after q
+      lists_below q id at = by_test (is_at_or_below q path) refl
+        where
+          by_test : (b : Bool) → is_at_or_below q path ≡ b → later.entries id ≡ list_of after q
+          by_test true below =
+              let At : Path → Type 0 = λ p. HasPath t p id in
+              let rest : Path = drop (length path) q in
+              let split : q ≡ path ++ rest = rest_below path q below in
+              relisted_at t room stand path list puts r now rest id (subst At split at)
+              ∙ ap (λ l. list_below room path l (reverse rest)) (sym is)
+              ∙ sym (lists_renewed room after path path (λ below some. elsewhere_unchanged room path change (path
+              ++ below) (λ same. some (append_cancel_left path below [] (same ∙ sym (append-nil path))))) rest)
+              ∙ ap (list_of after) (sym split)
+          by_test false off =
+              relisted_off t room stand path list puts r now q id at off
+              ∙ stored_list t room stand q id at ∙ sym (lists_away room after path away_from q off)
+
+      rules_after : ObjectRulesHoldAfterEach (PutNode now ∷ map put puts) t × ObjectRules later
+      rules_after = relisted_rules t room stand path list puts r now
+          (rules_put t stand.rules (node_of loaded) now found.is_there.node_stands same_place)
+
+      replaces : Replaces t later room after path found.object (change found.object) (node_of loaded) now
+      replaces =
+          let shows = found.is_there.shows in
+          record {
+            is_there = found.is_there;
+            shape = shape_with t first later (nodes_stay puts first)
+                (shape_put t stand.rules (node_of loaded) now found.is_there.node_stands same_place);
+            rules = rules_after.1;
+            stands = node_after loaded.id ∙ if_same loaded.id loaded.id (Some now) (t.node loaded.id) refl;
+            shows = record {
+              kind = shows.kind;
+              owner = shows.owner;
+              group = shows.group;
+              aclflag = refl;
+              entries = lists_below path loaded.id found.is_there.at;
+              bytes = ap (λ (f : ℕ → Option (List ℕ)). unwrap_or (f loaded.id) [])
+                  (documents_stay puts first) ∙ shows.bytes;
+            };
+            nodes_away = λ id other. node_after id ∙ if_other id loaded.id (Some now) (t.node id) other;
+            lists_away = λ q id at other. lists_below q id at;
+            documents_away = λ id other. ap (λ (f : ℕ → Option (List ℕ)). f id) (documents_stay puts first);
+            next = next_stays puts first;
+            made = refl;
+            lawful = setlist_is_room room caller flag sent path stand.lawful passed;
+            at_path = at_path;
+            away = elsewhere_unchanged room path change;
+          }
+
+      planned_with : (outcome : Outcome) → reply_model outcome.reply ≡ Done
+          → outcome.changes.items ≡ PutNode now ∷ map put puts
+          → PlansEffect t room caller (C.SetList flag sent path) outcome
+      planned_with outcome replied planned =
+          replaced_plans t room caller (C.SetList flag sent path) outcome (PutNode now ∷ map put puts)
+          path found.object (change found.object) (node_of loaded) now stand
+          replaces passed replied planned (relisted_of_objects t room stand path list puts r now)
+          rules_after.0 (relisted_few t room stand path list puts r now) (λ q. refl)
+
+    -- the row, its list where that changes, and those below lead to the room with other list flags and own entries
+    pub setlist_plans : first_refusal (checks room caller (C.SetList flag sent path)) ≡ None
+        → (list : List EntryModel) → list ≡ with_inherited kept flag loaded.kind (entries_of t loaded.parent)
+        → (new : Option (Vec EntryModel Global)) → IsChangeOf loaded.list.items list new
+        → (outcome : Outcome) → PutsList t room path now new outcome.changes.items
+        → reply_model outcome.reply ≡ Done → PlansEffect t room caller (C.SetList flag sent path) outcome
+    setlist_plans passed list is new changes outcome planned replied =
+        let stored = stored_at t room path loaded found in
+        let what = puts_relist t room stand path loaded.id found.is_there.at now refl new
+        (changes_list t loaded.id loaded.list.items list stored new changes) outcome.changes.items planned in
+        planned_with passed (list_then t loaded.id new) (list_after ∙ sym is ∙ sym
+        (list_then_is t loaded.id loaded.list.items list stored new changes)) what.0 what.2 outcome replied what.1

@@ -1,0 +1,59 @@
+//! From messages to questions.
+ghost use Rattle.std.specs.Prelude.{◌≡◌};
+ghost use Rattle.room_wire.specs.Asks.CheckAsk.{check_ask, check_for, asked, Decodes};
+ghost use Rattle.room_wire.specs.Asks.Routing.{target_at, check_rows};
+ghost use Rattle.room_wire.specs.Messages.MessageModel.{MessageModel};
+ghost use Rattle.room_wire.specs.Messages.Taken.{Shows};
+ghost use Rattle.room_wire.specs.Questions.QuestionModel.{question_of_body};
+
+use crate::asks::routing::{Action, CheckRoute};
+use crate::fault::WireFault;
+use crate::messages::message::Message;
+use crate::questions::asking::question_of_body;
+use crate::questions::question::Question;
+use std::alloc::Global;
+
+/// The question of a body.
+pub(crate) fn read_question(alloc: Global, body: &[u8]) -> Result<Question, WireFault>
+    ensures { Decodes (asked (question_of_body body.now)) result }
+{
+    match question_of_body(alloc, body) {
+        Ok(Some(question)) => Ok(question),
+        Ok(None) => Err(WireFault::BadRequest),
+        Err(_) => Err(WireFault::Memory),
+    }
+}
+
+/// The question that a message asks, by the parts that were lent of it.
+fn read_check(
+    alloc: Global,
+    message: &Message<'_>,
+    route: &CheckRoute,
+) -> Result<Question, WireFault>
+    ensures { Decodes
+        (check_for (target_at check_rows message.now.method.now message.now.target.now) message.now.body.now) result }
+{
+    match route.target_at(message.method, message.target) {
+        Some(target) => match target.action {
+            Action::Check => read_question(alloc, message.body),
+            Action::Session(_) => Err(WireFault::BadRoute),
+        },
+        None => Err(WireFault::BadRoute),
+    }
+}
+
+/// The question that a message asks. The route is tested before the body.
+///
+/// # Errors
+///
+/// `BadRoute` where it is no POST to `/v1/check`, `BadRequest` where the body is no question,
+/// and `Memory` where memory was refused.
+pub fn decode_check(
+    alloc: Global,
+    message: &Message<'_>,
+    route: &CheckRoute,
+) -> Result<Question, WireFault>
+    ensures { (m : MessageModel) → Shows message.now m → Decodes (check_ask m) result }
+{
+    read_check(alloc, message, route)
+}
