@@ -83,7 +83,7 @@ unfolding binary
 has_not_null place n row h = not_either _ _
     (truth_of (is_null (column row place) || is_null (Int (pos n))) (value_cmp (column row place) (Int (pos n))) h).0
 
--- and are equal to SQL
+-- SQL's = finds two columns equal that have a number
 pub has_equal : (place n : ℕ) (a b : Row) → has place n a ≡ true → has place n b ≡ true
     → Rattle.sqlite_schema.specs.Rules.equal Rattle.sqlite_value.specs.declared.keys.Collation.TheVariants.Binary
     (column a place) (column b place) ≡ true
