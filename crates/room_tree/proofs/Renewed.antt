@@ -18,7 +18,7 @@ use Rattle.room_records.specs.Names.{Path}
 use Rattle.room_records.specs.Records.{ObjectRecords}
 use Rattle.room_records.specs.Rules.{ObjectRules}
 use Rattle.room_records.specs.Changes.{apply_to_objects, apply_all_to_objects, IsOfObjects, ObjectRulesHoldAfterEach}
-use Rattle.room_records.specs.Room.{Room}
+use Rattle.room_records.specs.Room.{Room, list_of}
 use Rattle.room_records.specs.Representation.{RepresentsRoom, HasPath}
 use Rattle.room_records.proofs.Paths.{reads_one}
 use Rattle.room_records.proofs.RulesKept.{same_or_other, if_same, if_other, rules_put_entries}
@@ -376,7 +376,7 @@ module _ (t : ObjectRecords) (room : Room) (stand : RepresentsRoom t room) (path
         omega (arith, more, none);
   }
 
--- the rows hold the list that was read
+-- the rows hold the list of a found object
 pub stored_at : (t : ObjectRecords) (room : Room) (path : Path) (loaded : LoadedObject)
-    → IsLoaded t room path loaded → t.entries loaded.id ≡ loaded.list.items
-stored_at t room path loaded found = found.is_there.shows.entries ∙ sym found.list
+    → IsLoaded t room path loaded → t.entries loaded.id ≡ list_of room path
+stored_at t room path loaded found = found.is_there.shows.entries
