@@ -190,6 +190,12 @@ list_then t id (Some list) = list.items
 abbrev pub IsChangeOf : List EntryModel → List EntryModel → Option (Vec EntryModel Global) → Type 0
 IsChangeOf stored list new = MatchOption new (list ≡ stored) (λ changed. (changed.items ≡ list) × (list ≢ stored))
 
+pub is_change : (stored list : List EntryModel) (new : Option (Vec EntryModel Global))
+    → MatchOption new (stored ≡ list) (λ changed. (changed.items ≡ list) × (changed.items ≢ stored))
+    → IsChangeOf stored list new
+is_change stored list None same = sym same
+is_change stored list (Some changed) changes = (changes.0, (λ same. changes.1 (changes.0 ∙ same)))
+
 pub list_then_is : (t : ObjectRecords) (id : ℕ) (stored list : List EntryModel)
     → t.entries id ≡ stored → (new : Option (Vec EntryModel Global)) → IsChangeOf stored list new
     → list_then t id new ≡ list
