@@ -1,12 +1,19 @@
-use Rattle.std.proofs.Common.{◌≡◌, ◌≢◌, ap, ◌∙◌, subst, List, IfOk, MatchOption}
+use Rattle.std.proofs.Common.{◌≡◌, ◌≢◌, ℕ, ap, sym, ◌∙◌, subst, true, eqb, List, Option, None, Some, IfOk, MatchOption}
+use Rattle.std.specs.Option.{option_eq}
+use Rattle.std.proofs.lemmas.Bool.{eqb-true}
 use Rattle.room_acl.specs.Entries.{EntryModel}
 use Rattle.room_records.specs.Records.{Records}
 use Rattle.room_tree.proofs.ListsByRows.{stays_in_folder, under_alike}
 use Rattle.room_tree.proofs.renewing.moved_list.Goals as goal
 
-pub returns-then-node-clause-value : goal.returns-then-node-clause-value
-returns-then-node-clause-value g c = λ available laid_out t e room stand path at stands.
-    stays_in_folder t room stand path c.args.node.now at stands c.args.into c.if-node.true
+is_in : (parent : Option ℕ) (folder : ℕ) → option_eq eqb parent (Some folder) ≡ true → parent ≡ Some folder
+is_in None folder same = cc
+is_in (Some other) folder same = ap Some (eqb-true other folder same)
+
+pub returns-then-eq-clause-value : goal.returns-then-eq-clause-value
+returns-then-eq-clause-value g c = λ available laid_out t e room stand path at stands.
+    stays_in_folder t room stand path c.args.node.now at stands c.args.into
+    (is_in c.args.node.now.parent c.args.into (sym c.eq.ensures ∙ c.if-eq.true))
 
 pub returns-clause-value : goal.returns-clause-value
 returns-clause-value g c = λ available laid_out t e room stand path at stands.

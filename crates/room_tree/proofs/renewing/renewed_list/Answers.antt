@@ -1,14 +1,11 @@
-use Rattle.std.proofs.Common.{◌≡◌, ◌≢◌, ap, sym, ◌∙◌, cond, inl, inr, List, [], ◌++◌, append-nil, Option}
-use Rattle.std.proofs.Common.{None, Some, MatchOption, false}
+use Rattle.std.proofs.Common.{◌≡◌, ◌≢◌, ap, sym, ◌∙◌, List, Option}
+use Rattle.std.proofs.Common.{None, Some, MatchOption}
 use Rattle.std.specs.Prelude.{Vec}
 use Rattle.std.specs.declared.alloc.Global.{Global}
 use Rattle.room_acl.specs.Entries.{EntryModel}
-use Rattle.room_acl.specs.Inheritance.{handed_down, own_part, with_inherited}
-use Rattle.room_records.specs.declared.node.Node.{Node}
-use Rattle.room_records.specs.Names.{Path}
+use Rattle.room_acl.specs.Inheritance.{own_part, with_inherited}
 use Rattle.room_records.specs.Records.{ObjectRecords}
-use Rattle.room_records.specs.Representation.{HasPath, RepresentsRoom}
-use Rattle.room_records.specs.Room.{Object, Room, object_at, list_of, list_under, follows}
+use Rattle.room_records.specs.Room.{object_at, list_under, follows}
 use Rattle.room_records.proofs.Paths.{object_at_node}
 use Rattle.room_tree.proofs.ListsByRows.{list_by_rows, unfollowed}
 use Rattle.room_tree.proofs.renewing.renewed_list.Goals as goal
