@@ -38,7 +38,8 @@ returns-in_err-check_right-clause-value g c = λ available laid_out t e room sta
     (past_head (refuse_if (is_root path) Exist)
     (walk room caller path ∷ check_absent room path ∷ right ∷ []) _ (ap (λ b. refuse_if b Exist) off)
     (past_front (walk room caller path ∷ check_absent room path ∷ []) (right ∷ []) _ above.0
-    (at_head right [] _ (c.in_err-check_right.ensures.value available declared t same room stand (parent_of path) count above.1))))
+    (at_head right [] _
+    (c.in_err-check_right.ensures.value available declared t same room stand (parent_of path) count above.1))))
 
 pub returns-clause-value : goal.returns-clause-value
 returns-clause-value g c = λ available laid_out t e room stand.

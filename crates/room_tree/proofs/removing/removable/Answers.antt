@@ -33,7 +33,8 @@ returns-in_err-check_removal-clause-value g c = λ available laid_out t e room s
     (past_head (refuse_if (is_root path) Inval) (walk room caller path ∷ check_exists room path
     ∷ check_removal room caller path ∷ []) _ (ap (λ b. refuse_if b Inval) off)
     (past_front (walk room caller path ∷ check_exists room path ∷ []) (check_removal room caller path ∷ []) _ found.0
-    (at_head (check_removal room caller path) [] _ (c.in_err-check_removal.ensures.value available declared t same room stand found.1.0 found.1.1))))
+    (at_head (check_removal room caller path) [] _
+    (c.in_err-check_removal.ensures.value available declared t same room stand found.1.0 found.1.1))))
 
 pub returns-clause-value : goal.returns-clause-value
 returns-clause-value g c = λ available laid_out t e room stand.
