@@ -18,8 +18,8 @@ use Rattle.room_records.specs.declared.change.Change.TheVariants.{PutSlot, DropS
 use Rattle.room_tables.specs.Layout.{parent_value}
 use Rattle.room_tables.specs.Steps.{kind_number, flag_of, shown_as}
 use Rattle.room_tables.specs.Texts.{put_node_text, drop_node_text, drop_entries_text, add_entry_text, add_two_text}
-use Rattle.room_tables.specs.Texts.{add_three_text, add_four_text, put_doc_text, put_session_text, drop_slot_text}
-use Rattle.room_tables.specs.Texts.{add_slot_text, drop_slots_text, put_next_text}
+use Rattle.room_tables.specs.Texts.{add_three_text, add_four_text, put_doc_text, put_session_text, put_slot_text}
+use Rattle.room_tables.specs.Texts.{drop_slots_text, put_next_text}
 
 -- a statement: its text and its parameters
 pub record Statement : Type 0 where
@@ -59,11 +59,8 @@ abbrev pub session_write : SessionRow → Statement
 session_write row = statement put_session_text
     (Text row.sid ∷ Text row.owner ∷ Int (pos row.slots) ∷ Int (pos (flag_of row.is_open)) ∷ [])
 
-abbrev pub slot_drop : List ℕ → ℕ → Statement
-slot_drop sid slot = statement drop_slot_text (Text sid ∷ Int (pos slot) ∷ [])
-
 abbrev pub slot_write : SlotRow → Statement
-slot_write row = statement add_slot_text
+slot_write row = statement put_slot_text
     (Text row.sid ∷ Int (pos row.slot) ∷ Int (pos row.kept.seq) ∷ Blob row.kept.request ∷ Blob row.kept.reply ∷ [])
 
 abbrev pub writes_of : Change → List Statement
@@ -72,7 +69,7 @@ writes_of (DropNode id) = statement drop_node_text (Int (pos id) ∷ []) ∷ []
 writes_of (PutEntries id entries) = entries_drop id ∷ entry_writes id 0 entries.items
 writes_of (PutDoc id bytes) = statement put_doc_text (Int (pos id) ∷ Blob bytes.items ∷ []) ∷ []
 writes_of (PutSession row) = session_write row ∷ []
-writes_of (PutSlot row) = slot_drop row.sid row.slot ∷ slot_write row ∷ []
+writes_of (PutSlot row) = slot_write row ∷ []
 writes_of (DropSlots sid) = statement drop_slots_text (Text sid ∷ []) ∷ []
 writes_of (PutNext next) = statement put_next_text (Int (pos next) ∷ []) ∷ []
 

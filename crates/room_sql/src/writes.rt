@@ -12,9 +12,9 @@ ghost use Rattle.room_records.specs.declared.change.Change.TheVariants.{PutNode,
 ghost use Rattle.room_records.specs.declared.change.Change.TheVariants.{PutSession, PutSlot, DropSlots, PutNext};
 ghost use Rattle.room_tables.specs.Rows.{version_rows, IsVersion1};
 ghost use Rattle.room_tables.specs.Layout.{IsRoomDatabase};
-ghost use Rattle.room_tables.specs.Steps.{Steps, Lists, MayBecome, HasNoSlot, without_slot};
+ghost use Rattle.room_tables.specs.Steps.{Steps, Lists, MayBecome};
 ghost use Rattle.room_sql.specs.Causes.{statement, RunInTurn, writes_of, writes_of_all, entry_writes, entries_drop};
-ghost use Rattle.room_sql.specs.Causes.{slot_drop, slot_write, IsShort, CommitFails};
+ghost use Rattle.room_sql.specs.Causes.{IsShort, CommitFails};
 ghost use Rattle.room_sql.specs.Frames.{InsideFrame, CommitFrame};
 
 use crate::values::{
@@ -23,7 +23,6 @@ use crate::values::{
 };
 use room_acl::Entry;
 use room_records::{Change, Node, SessionRow, Sid, SlotRow};
-use room_slots::Kept;
 use sqlite::types::{ToSql, ValueRef};
 use sqlite::{Alter, Connection, Error, ErrorCode, Transaction, params};
 
@@ -369,51 +368,6 @@ fn put_session<S: Alter>(tx: &mut Transaction<'_, S>, row: &SessionRow) -> Resul
     )
 }
 
-/// Takes away what one slot keeps.
-fn drop_slot<S: Alter>(tx: &mut Transaction<'_, S>, sid: &Sid, slot: u32) -> Result<(), Error>
-    ensures frame { InsideFrame S.Store tx.old tx.new result }
-    ensures ok { HasCleanDisk (state S.Store tx.new.conn.now)
-        → OnOk result (IsRoomDatabase (state S.Store tx.old.conn.now).now →
-        Steps (state S.Store tx.old.conn.now) (state S.Store tx.new.conn.now) (without_slot sid.now slot)
-        × HasNoSlot sid.now slot (state S.Store tx.new.conn.now).now.trees) }
-    ensures ran { HasCleanDisk (state S.Store tx.new.conn.now) → tx.old.conn.now.in_transaction ≡ true
-        → RunInTurn S.Store (slot_drop sid.now slot ∷ []) tx.old.conn.now tx.new.conn.now result }
-{
-    let sid = sid.text();
-    run(
-        tx,
-        "DELETE FROM slot WHERE sid = ?1 AND slot = ?2",
-        params![sid, slot],
-    )
-}
-
-/// Puts what a slot keeps, which kept nothing.
-fn add_slot<S: Alter>(
-    tx: &mut Transaction<'_, S>,
-    sid: &Sid,
-    slot: u32,
-    kept: &Kept,
-) -> Result<(), Error>
-    ensures frame { InsideFrame S.Store tx.old tx.new result }
-    ensures ok { HasCleanDisk (state S.Store tx.new.conn.now) → OnOk result (IsRoomDatabase
-        (state S.Store tx.old.conn.now).now → HasNoSlot sid.now slot (state S.Store tx.old.conn.now).now.trees →
-        Steps (state S.Store tx.old.conn.now) (state S.Store tx.new.conn.now)
-        (apply_change (PutSlot (record { sid = sid.now; slot = slot; kept = kept.now })))) }
-    ensures ran { HasCleanDisk (state S.Store tx.new.conn.now) → tx.old.conn.now.in_transaction ≡ true
-        → RunInTurn S.Store (slot_write (record { sid = sid.now; slot = slot; kept = kept.now }) ∷ [])
-        tx.old.conn.now tx.new.conn.now result }
-{
-    let sid = sid.text();
-    let seq = kept_number(kept);
-    let request = kept_request(kept);
-    let reply = kept_reply(kept);
-    run(
-        tx,
-        "INSERT INTO slot (sid, slot, seq, request, reply) VALUES (?1, ?2, ?3, ?4, ?5)",
-        params![sid, slot, seq, request, reply],
-    )
-}
-
 /// Adds or replaces what a slot keeps.
 fn put_slot<S: Alter>(tx: &mut Transaction<'_, S>, row: &SlotRow) -> Result<(), Error>
     ensures frame { InsideFrame S.Store tx.old tx.new result }
@@ -423,8 +377,17 @@ fn put_slot<S: Alter>(tx: &mut Transaction<'_, S>, row: &SlotRow) -> Result<(), 
     ensures ran { HasCleanDisk (state S.Store tx.new.conn.now) → tx.old.conn.now.in_transaction ≡ true
         → RunInTurn S.Store (writes_of (PutSlot row.now)) tx.old.conn.now tx.new.conn.now result }
 {
-    drop_slot(tx, &row.sid, row.slot)?;
-    add_slot(tx, &row.sid, row.slot, &row.kept)
+    let sid = row.sid.text();
+    let slot = row.slot;
+    let seq = kept_number(&row.kept);
+    let request = kept_request(&row.kept);
+    let reply = kept_reply(&row.kept);
+    run(
+        tx,
+        "INSERT INTO slot (sid, slot, seq, request, reply) VALUES (?1, ?2, ?3, ?4, ?5) ON CONFLICT (sid, slot) \
+         DO UPDATE SET seq = excluded.seq, request = excluded.request, reply = excluded.reply",
+        params![sid, slot, seq, request, reply],
+    )
 }
 
 /// Takes away what all slots of a session keep.

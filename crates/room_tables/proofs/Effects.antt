@@ -38,7 +38,7 @@ same_records a b nodes entries documents next sessions slots = λ i. record {
   slot = λ sid slot. slots sid slot i;
 }
 
-through : {X Y : Type 0} (f : X → Y) (b : Bool) (x y : X) → f (cond b x y) ≡ cond b (f x) (f y)
+pub through : {X Y : Type 0} (f : X → Y) (b : Bool) (x y : X) → f (cond b x y) ≡ cond b (f x) (f y)
 through f true x y = refl
 through f false x y = refl
 

@@ -58,7 +58,7 @@ put_passed_over p new (r ∷ rows) fails free =
     go Greater more h = rw fails
 
 -- where no other row passes, the row that went in is the only one that does
-pub put_alone : (p : Row → Bool) (new : Row) (rows : List Row) → p new ≡ true
+put_alone : (p : Row → Bool) (new : Row) (rows : List Row) → p new ≡ true
     → filter p rows ≡ [] → is_taken rows new ≡ false → filter p (put_row new rows) ≡ new ∷ []
 put_alone p new rows passes none free =
     let here : filter p (new ∷ rows) ≡ new ∷ [] = rw passes (ap (λ l. new ∷ l) none) in

@@ -10,8 +10,8 @@ use Rattle.sqlite_schema.specs.Names.{same_name}
 use Rattle.room_tables.specs.Tables.{room_schema, has_room}
 use Rattle.room_tables.specs.Texts.{count_children_text, count_children_query, add_entry_terms, add_entry_text}
 use Rattle.room_tables.specs.Texts.{add_two_terms, add_two_text, add_three_terms, add_three_text, add_four_terms}
-use Rattle.room_tables.specs.Texts.{add_four_text, add_slot_terms, add_slot_text, drop_entries_query, drop_entries_text}
-use Rattle.room_tables.specs.Texts.{drop_node_query, drop_node_text, drop_slot_query, drop_slot_text, drop_slots_query}
+use Rattle.room_tables.specs.Texts.{add_four_text, drop_entries_query, drop_entries_text}
+use Rattle.room_tables.specs.Texts.{drop_node_query, drop_node_text, drop_slots_query}
 use Rattle.room_tables.specs.Texts.{drop_slots_text, find_child_query, find_child_text, find_doc_query, find_doc_text}
 use Rattle.room_tables.specs.Texts.{find_next_query, find_next_text, find_node_query, find_node_text}
 use Rattle.room_tables.specs.Texts.{find_session_query, find_session_text, find_slot_query, find_slot_text}
@@ -19,6 +19,7 @@ use Rattle.room_tables.specs.Texts.{find_version_query, find_version_text, list_
 use Rattle.room_tables.specs.Texts.{list_entries_query, list_entries_text, put_doc_clause, put_doc_terms, put_doc_text}
 use Rattle.room_tables.specs.Texts.{put_next_clause, put_next_terms, put_next_text, put_node_clause, put_node_terms}
 use Rattle.room_tables.specs.Texts.{put_node_text, put_session_clause, put_session_terms, put_session_text}
+use Rattle.room_tables.specs.Texts.{put_slot_clause, put_slot_terms, put_slot_text}
 
 pub find_next_is : command_of (understood room_schema find_next_text)
     ≡ Select (record { lets = []; body = find_next_query }) (codes "next" ∷ [])
@@ -140,15 +141,6 @@ pub drop_slots_plain : IsPlain (understood room_schema drop_slots_text)
 unfolding understood everything
 drop_slots_plain = (refl, refl)
 
-pub drop_slot_is : command_of (understood room_schema drop_slot_text)
-    ≡ Delete 5 (record { lets = []; body = drop_slot_query })
-unfolding understood everything
-drop_slot_is = refl
-
-pub drop_slot_plain : IsPlain (understood room_schema drop_slot_text)
-unfolding understood everything
-drop_slot_plain = (refl, refl)
-
 pub add_entry_is : command_of (understood room_schema add_entry_text) ≡ Insert 2 (Values add_entry_terms 7)
 unfolding understood everything
 add_entry_is = refl
@@ -180,14 +172,6 @@ add_four_is = refl
 pub add_four_plain : IsPlain (understood room_schema add_four_text)
 unfolding understood everything
 add_four_plain = (refl, refl)
-
-pub add_slot_is : command_of (understood room_schema add_slot_text) ≡ Insert 5 (Values add_slot_terms 6)
-unfolding understood everything
-add_slot_is = refl
-
-pub add_slot_plain : IsPlain (understood room_schema add_slot_text)
-unfolding understood everything
-add_slot_plain = (refl, refl)
 
 pub put_next_is : command_of (understood room_schema put_next_text)
     ≡ InsertOr 0 Abort (Values put_next_terms 4) (put_next_clause ∷ [])
@@ -224,6 +208,15 @@ put_session_is = refl
 pub put_session_plain : IsPlain (understood room_schema put_session_text)
 unfolding understood everything
 put_session_plain = (refl, refl)
+
+pub put_slot_is : command_of (understood room_schema put_slot_text)
+    ≡ InsertOr 5 Abort (Values put_slot_terms 6) (put_slot_clause ∷ [])
+unfolding understood everything
+put_slot_is = refl
+
+pub put_slot_plain : IsPlain (understood room_schema put_slot_text)
+unfolding understood everything
+put_slot_plain = (refl, refl)
 
 pub count_children_is : command_of (understood room_schema count_children_text)
     ≡ Select (record { lets = []; body = count_children_query }) (codes "count(*)" ∷ [])

@@ -1,9 +1,13 @@
--- The four upserts.
+-- The five upserts.
 use Rattle.std.proofs.Common.{◌≡◌, ℕ, ℤ, pos, Bool, true, false, ◌&&◌, ◌||◌, List, [], ◌∷◌, Option, None}
-use Rattle.std.proofs.Common.{Some, Ok, refl, sym, ap, ap₂, subst}
+use Rattle.std.proofs.Common.{Some, Ok, Equal, refl, sym, ap, ap₂, subst}
 use Rattle.sqlite_value.specs.declared.value.Value.TheVariants.{Null, Int, Text, Blob}
-use Rattle.sqlite_value.specs.Order.{Row, column}
+use Rattle.sqlite_value.specs.declared.value.Value.{Value}
+use Rattle.sqlite_value.specs.Order.{Row, column, value_cmp}
+use Rattle.sqlite_keyed.proofs.RuleLemmas.{first_of_both, second_of_both}
 use Rattle.sqlite_value.specs.Keys.{first_key}
+use Rattle.std.proofs.lemmas.Cmp.{tied_itself}
+use Rattle.sqlite_value.proofs.OrderLemmas.{value_cmp_total}
 use Rattle.sqlite_trees.specs.Tree.{rowid}
 use Rattle.sqlite_tied.specs.Compute.{everything}
 use Rattle.sqlite_rules.specs.Action.{works}
@@ -15,15 +19,15 @@ use Rattle.sqlite_rules.specs.Cast.{cast, cast_row}
 use Rattle.sqlite_schema.specs.declared.schema.Keys.TheVariants.{Enforced}
 use Rattle.sqlite.specs.Kind.TheVariants.{Integer}
 use Rattle.sqlite.specs.State.{State, Executes}
-use Rattle.room_tables.specs.Tables.{room_schema, room_table, node_table, doc_table, session_table}
+use Rattle.room_tables.specs.Tables.{room_schema, room_table, node_table, doc_table, session_table, slot_table}
 use Rattle.room_tables.specs.Texts.{put_node_text, put_node_terms, put_node_query, put_doc_text, put_doc_terms}
 use Rattle.room_tables.specs.Texts.{put_doc_query, put_next_text, put_next_terms, put_next_query, put_session_text}
-use Rattle.room_tables.specs.Texts.{put_session_terms, put_session_query}
-use Rattle.room_tables.specs.Rows.{has, has_text}
+use Rattle.room_tables.specs.Texts.{put_session_terms, put_session_query, put_slot_text, put_slot_terms, put_slot_query}
+use Rattle.room_tables.specs.Rows.{has, has_text, is_slot}
 use Rattle.room_tables.specs.Layout.{IsKeyed, parent_value}
 use Rattle.room_tables.proofs.Meaning.{put_node_is, put_node_plain, put_doc_is, put_doc_plain, put_next_is}
-use Rattle.room_tables.proofs.Meaning.{put_next_plain, put_session_is, put_session_plain}
-use Rattle.room_tables.proofs.Values.{has_int, has_text_value}
+use Rattle.room_tables.proofs.Meaning.{put_next_plain, put_session_is, put_session_plain, put_slot_is, put_slot_plain}
+use Rattle.room_tables.proofs.Values.{has_int, has_text_value, has_value, cast_tied}
 use Rattle.room_tables.proofs.Changes.{cast_null, cast_int}
 use Rattle.room_tables.proofs.Upserts.{PutInto, IsUpsert, put}
 
@@ -277,3 +281,80 @@ puts_session old new sid owner slots open_flag count schema keyed h =
     (session_upsert (next_rowid (old.now.trees 6)) sid owner slots open_flag)
     refl schema keyed put_session_is put_session_plain refl
     (rw (cast_null, cast_int (pos slots), cast_int (pos open_flag)) refl) h
+
+-- ---- slot
+
+abbrev pub slot_values : List ℕ → ℕ → ℕ → List ℕ → List ℕ → Row
+slot_values sid slot seq request reply = Text sid ∷ Int (pos slot) ∷ Int (pos seq) ∷ Blob request ∷ Blob reply ∷ []
+
+-- the row of this slot, under some rowid, with a value that ties with the slot's number
+pub record IsSlot (sid : List ℕ) (slot seq : ℕ) (request reply : List ℕ) (r : Row) : Type 0 where
+  pub rowid : ℤ
+  pub number : Value
+  pub tied : value_cmp number (Int (pos slot)) ≡ Equal
+  pub is : r ≡ Int rowid ∷ Text sid ∷ number ∷ Int (pos seq) ∷ Blob request ∷ Blob reply ∷ []
+
+slot_quiet : (row : Row) → works room_schema Enforced 0 8 [] (row ∷ []) ≡ []
+unfolding everything
+slot_quiet row = refl
+
+slot_quiet_change : (olds : List Row) (row : Row) → works room_schema Enforced 0 8 olds (row ∷ []) ≡ []
+unfolding everything
+slot_quiet_change olds row = refl
+
+with_two_truths : (a b : Bool) → ((a && (b && true)) || false) ≡ true → (a && b) ≡ true
+with_two_truths true b h = with_truth b h
+with_two_truths false b h = h
+
+slot_conflict : (rowid : ℤ) (sid : List ℕ) (slot seq : ℕ) (request reply : List ℕ) (r : Row)
+    → conflicts (Some (1 ∷ 2 ∷ [])) room_schema.indexes slot_table (Int rowid ∷ slot_values sid slot seq request reply) r
+    ≡ true → is_slot sid slot r ≡ true
+unfolding first_key
+slot_conflict rowid sid slot seq request reply r h = with_two_truths (has_text 1 sid r) (has 2 slot r) h
+
+cast_slot : (rowid : ℤ) (sid : List ℕ) (slot seq : ℕ) (request reply : List ℕ)
+    → cast_row slot_table (Int rowid ∷ slot_values sid slot seq request reply)
+    ≡ Int rowid ∷ slot_values sid slot seq request reply
+cast_slot rowid sid slot seq request reply = rw (cast_int rowid, cast_int (pos slot), cast_int (pos seq))
+
+slot_upsert : (rowid : ℤ) (sid : List ℕ) (slot seq : ℕ) (request reply : List ℕ)
+    → IsUpsert slot_table (1 ∷ 2 ∷ []) 5 put_slot_query.project (slot_values sid slot seq request reply)
+    (Int rowid ∷ slot_values sid slot seq request reply)
+    (IsSlot sid slot seq request reply) (λ r. is_slot sid slot r ≡ true)
+slot_upsert id sid slot seq request reply = record {
+  uncounted = refl;
+  quiet_put = slot_quiet;
+  quiet_change = slot_quiet_change;
+  here = λ db. refl;
+  id = id;
+  has_id = refl;
+  cast = cast_slot id sid slot seq request reply;
+  fits = record { rowid = id; number = Int (pos slot); tied = tied_itself value_cmp_total (Int (pos slot)); is = refl };
+  met = slot_conflict id sid slot seq request reply;
+  there_at = λ v. refl;
+  raw = λ there. rowid there ∷ column there 1 ∷ column there 2 ∷ Int (pos seq) ∷ Blob request ∷ Blob reply ∷ [];
+  reads = λ there. refl;
+  renewed = λ there. rowid there ∷ cast Rattle.sqlite.specs.Kind.TheVariants.Text (column there 1)
+      ∷ cast Integer (column there 2) ∷ Int (pos seq) ∷ Blob request ∷ Blob reply ∷ [];
+  casts = λ there i is. rw (is, cast_int i, cast_int (pos seq));
+  same_id = λ there. refl;
+  refits = λ there i is met. record {
+    rowid = i;
+    number = cast Integer (column there 2);
+    tied = cast_tied (column there 2) (pos slot) (has_value 2 slot there (second_of_both _ _ met));
+    is = ap₂ (λ v t. v ∷ t ∷ cast Integer (column there 2) ∷ Int (pos seq) ∷ Blob request ∷ Blob reply ∷ [])
+        is (ap (cast Rattle.sqlite.specs.Kind.TheVariants.Text) (has_text_value 1 sid there (first_of_both _ _ met)));
+  };
+}
+
+pub puts_slot : (old new : State) (sid : List ℕ) (slot seq : ℕ) (request reply : List ℕ) (count : ℕ)
+    → old.now.schema ≡ room_schema → IsKeyed (old.now.trees 8)
+    → Executes put_slot_text (slot_values sid slot seq request reply) old new (Ok count)
+    → PutInto old.now new.now 8 (IsSlot sid slot seq request reply) (λ r. is_slot sid slot r ≡ true)
+puts_slot old new sid slot seq request reply count schema keyed h =
+    put old new 5 slot_table (1 ∷ 2 ∷ []) 5 put_slot_query.project put_slot_terms 6 count
+    put_slot_text (slot_values sid slot seq request reply) (Null ∷ slot_values sid slot seq request reply)
+    (Int (next_rowid (old.now.trees 8)) ∷ slot_values sid slot seq request reply) _ _
+    (slot_upsert (next_rowid (old.now.trees 8)) sid slot seq request reply)
+    refl schema keyed put_slot_is put_slot_plain refl
+    (rw (cast_null, cast_int (pos slot), cast_int (pos seq)) refl) h

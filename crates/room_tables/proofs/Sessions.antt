@@ -35,9 +35,9 @@ use Rattle.room_tables.proofs.Upserts.{Put}
 use Rattle.room_tables.proofs.Puts.{IsSession, stored_session, puts_session}
 use Rattle.room_tables.proofs.Filters.{put_passed_over, others_left_on, keyed_after, still_room}
 use Rattle.room_tables.proofs.Filters.{still_numbered, version_stays}
-use Rattle.room_tables.proofs.Effects.{same_records}
+use Rattle.room_tables.proofs.Effects.{same_records, through}
 
-not_false : (b : Bool) → not b ≡ true → b ≡ false
+pub not_false : (b : Bool) → not b ≡ true → b ≡ false
 not_false true h = sym h
 not_false false h = refl
 
@@ -58,11 +58,11 @@ is_not Less h = absurd (true≢false h)
 is_not Equal h = refl
 is_not Greater h = absurd (true≢false h)
 
-same_ids : (a b : ℤ) → differ (Int a) (Int b) ≡ false → value_cmp (Int a) (Int b) ≡ Equal
+pub same_ids : (a b : ℤ) → differ (Int a) (Int b) ≡ false → value_cmp (Int a) (Int b) ≡ Equal
 unfolding binary
 same_ids a b h = is_not _ (sym (truth_back _) ∙ h)
 
-both_true : (a b : Bool) → a ≡ true → b ≡ true → (a && b) ≡ true
+pub both_true : (a b : Bool) → a ≡ true → b ≡ true → (a && b) ≡ true
 both_true a b p q = rw p q
 
 pub session_once : (db : Database) (sid : List ℕ) (x y : Row) → db.schema ≡ room_schema
@@ -117,10 +117,6 @@ session_back row rowid =
     flag_back : (b : Bool) → (flag_of b == 1) ≡ b
     flag_back true = refl
     flag_back false = refl
-
-through : {X Y : Type 0} (f : X → Y) (b : Bool) (x y : X) → f (cond b x y) ≡ cond b (f x) (f y)
-through f true x y = refl
-through f false x y = refl
 
 pub steps_session : (old new : State) (row : SessionRow) (count : ℕ) → IsRoomDatabase old.now
     → ExecutesInside 0 put_session_text

@@ -1,31 +1,44 @@
--- What slots keep, after rows were taken out and put in.
+-- What slots keep, after rows were taken out or one was put.
 use Rattle.std.proofs.Common.{◌≡◌, ℕ, pos, Bool, true, false, not, ◌&&◌, ◌==◌, cond, List, [], ◌∷◌, map, filter}
 use Rattle.std.proofs.Common.{Option, None, Some, option_map, Ok, inl, inr, refl, sym, ap, ap₂, subst, ◌∙◌, true≢false}
-use Rattle.std.proofs.Common.{arith, bytes_eq}
+use Rattle.std.proofs.Common.{arith, bytes_eq, Equal, is_eq}
 use Rattle.std.proofs.lemmas.Bool.{cases_Bool}
 use Rattle.std.proofs.lemmas.Bool.Decides.{nat_tests}
 use Rattle.std.proofs.lemmas.Slice.Eq.{bytes_eq-Decides}
 use Rattle.sqlite_value.specs.declared.value.Value.TheVariants.{Int, Text}
-use Rattle.sqlite_value.specs.Order.{Row}
-use Rattle.sqlite_trees.specs.Tree.{Trees}
+use Rattle.sqlite_value.specs.Keys.{plain, first_key}
+use Rattle.sqlite_value.specs.Order.{Row, column, value_cmp}
+use Rattle.sqlite_trees.specs.Tree.{Trees, rowid, without_rowid, has_rowid}
+use Rattle.sqlite_schema.specs.Rules.{passes, clashes, agree, differ, guards}
+use Rattle.sqlite_schema.specs.declared.schema.Constraint.TheVariants.{Unique}
+use Rattle.sqlite_rules.specs.Lists.{Has}
+use Rattle.sqlite_rules.proofs.ListLemmas.{all_has, some_from, test_has}
+use Rattle.sqlite_rules.proofs.TableLemmas.{int_is, has_put}
+use Rattle.sqlite.specs.Effect.{Database, IsDatabase}
 use Rattle.sqlite_keyed.proofs.RuleLemmas.{first_of_both, second_of_both}
 use Rattle.sqlite.specs.State.{State, ExecutesInside}
 use Rattle.room_slots.specs.KeptModel.{KeptModel}
 use Rattle.room_records.specs.declared.session.SlotRow.{SlotRow}
 use Rattle.room_records.specs.declared.change.Change.TheVariants.{PutSlot, DropSlots}
-use Rattle.room_records.specs.Records.{Records}
 use Rattle.room_records.specs.Changes.{apply_change}
-use Rattle.room_tables.specs.Texts.{drop_slots_text, drop_slot_text, add_slot_text}
-use Rattle.room_tables.specs.Rows.{has_text, is_slot, only, shown_slot, kept_of, slots_in, nodes_in, entries_in}
+use Rattle.room_tables.specs.Tables.{room_schema, slot_table, slot_index}
+use Rattle.room_tables.specs.Texts.{drop_slots_text, put_slot_text}
+use Rattle.room_tables.specs.Rows.{has, has_text, is_slot, only, shown_slot, kept_of, slots_in, nodes_in, entries_in}
 use Rattle.room_tables.specs.Rows.{documents_in, next_in, sessions_in}
 use Rattle.room_tables.specs.Layout.{IsKeyed, IsRoomDatabase}
-use Rattle.room_tables.specs.Steps.{Steps, HasNoSlot, without_slot}
-use Rattle.room_tables.proofs.Values.{has_one, has_text_one, int_has, text_has}
+use Rattle.room_tables.specs.Steps.{Steps}
+use Rattle.room_tables.proofs.Each.{rows_pass}
+use Rattle.room_tables.proofs.Values.{has_is, has_one, has_equal, has_text_one, has_text_value, text_has}
+use Rattle.room_tables.proofs.Removed.{one_row}
+use Rattle.room_tables.proofs.Queries.{and_true}
 use Rattle.room_tables.proofs.Changes.{without, executes_inside}
-use Rattle.room_tables.proofs.Takes.{drops_slots, drops_slot, adds_slot, slot_values}
-use Rattle.room_tables.proofs.Filters.{put_alone, put_passed_over, none_left, others_left, keyed_filter, keyed_put}
-use Rattle.room_tables.proofs.Filters.{still_room, still_numbered, version_stays}
-use Rattle.room_tables.proofs.Effects.{same_records}
+use Rattle.room_tables.proofs.Upserts.{Put}
+use Rattle.room_tables.proofs.Puts.{slot_values, puts_slot}
+use Rattle.room_tables.proofs.Takes.{drops_slots}
+use Rattle.room_tables.proofs.Filters.{put_passed_over, none_left, others_left, others_left_on, keyed_filter}
+use Rattle.room_tables.proofs.Filters.{keyed_after, still_room, still_numbered, version_stays}
+use Rattle.room_tables.proofs.Effects.{same_records, through}
+use Rattle.room_tables.proofs.Sessions.{not_false, same_ids, both_true}
 
 -- where one of two tests of a slot fails, the rows of the two are apart
 slots_apart : (sid q : List ℕ) (slot n : ℕ) (r : Row) → (bytes_eq q sid && (n == slot)) ≡ false
@@ -35,12 +48,9 @@ slots_apart sid q slot n r differs h = elim (cases_Bool (is_slot sid slot r)) [
       let name : q ≡ sid = has_text_one 1 q sid r (first_of_both _ _ h) (first_of_both _ _ also) in
       let number : n ≡ slot = has_one 2 n slot r (second_of_both _ _ h) (second_of_both _ _ also) in
       let test : (n == slot) ≡ true = Rattle.std.proofs.Common.eq-eqb n slot number in
-      absurd (true≢false (sym (both (bytes_eq q sid) (n == slot) ((bytes_eq-Decides q sid).1 name) test) ∙ differs))
+      absurd (true≢false (sym (both_true (bytes_eq q sid) (n == slot) ((bytes_eq-Decides q sid).1 name) test) ∙ differs))
   | inr other ↦ other
 ]
-  where
-    both : (a b : Bool) → a ≡ true → b ≡ true → (a && b) ≡ true
-    both a b p q = rw p q
 
 names_same : (sid q : List ℕ) (slot n : ℕ) → (bytes_eq q sid && (n == slot)) ≡ true → (q ≡ sid) × (n ≡ slot)
 names_same sid q slot n h = (
@@ -48,46 +58,8 @@ names_same sid q slot n h = (
   (let t : (n == slot) ≡ true = second_of_both (bytes_eq q sid) (n == slot) h in grind (arith, nat_tests)),
 )
 
--- ---- the row of one slot goes
-
 abbrev kept_in : List Row → Option KeptModel
 kept_in rows = option_map kept_of (only (map shown_slot rows))
-
-one_gone : (db next : Trees) (sid q : List ℕ) (slot n : ℕ) → next 8 ≡ without (is_slot sid slot) (db 8)
-    → slots_in (next 8) q n ≡ cond (bytes_eq q sid && (n == slot)) None (slots_in (db 8) q n)
-one_gone db next sid q slot n is = elim (cases_Bool (bytes_eq q sid && (n == slot))) [
-  | inl same ↦
-      let names = names_same sid q slot n same in
-      rw same (ap kept_in (ap (filter (is_slot q n)) is ∙ none_left (is_slot sid slot) (is_slot q n) (db 8)
-      (λ r h. subst (λ s. is_slot s slot r ≡ true) names.0 (subst (λ m. is_slot q m r ≡ true) names.1 h))))
-  | inr differs ↦ rw differs (ap kept_in (ap (filter (is_slot q n)) is
-      ∙ others_left (is_slot sid slot) (is_slot q n) (db 8) (λ r h. slots_apart sid q slot n r differs h)))
-]
-
-pub steps_drop_slot : (old new : State) (sid : List ℕ) (slot count : ℕ) → IsRoomDatabase old.now
-    → ExecutesInside 0 drop_slot_text (Text sid ∷ Int (pos slot) ∷ []) old new (Ok count)
-    → Steps old new (without_slot sid slot) × HasNoSlot sid slot new.now.trees
-steps_drop_slot old new sid slot count room h =
-    let it = drops_slot old new sid slot count room.schema room.keyed.slot
-    (executes_inside drop_slot_text _ old new count h).0 in
-    let o = it.others in
-    let keyed = subst IsKeyed (sym it.rows_are)
-    (keyed_filter (λ r. not (is_slot sid slot r)) (old.now.trees 8) room.keyed.slot) in (
-      record {
-        room = still_room 8 old.now new.now room it.schema o keyed
-            (still_numbered 8 old.now new.now room (omega arith) o);
-        version = version_stays _ _ (o.room (omega arith));
-        records = same_records _ _
-            (λ q. ap (λ rows. nodes_in rows q) (o.node (omega arith)))
-            (λ q. ap (λ rows. entries_in rows q) (o.entry (omega arith)))
-            (λ q. ap (λ rows. documents_in rows q) (o.doc (omega arith)))
-            (ap next_in (o.room (omega arith)))
-            (λ q. ap (λ rows. sessions_in rows q) (o.session (omega arith)))
-            (λ q n. one_gone old.now.trees new.now.trees sid q slot n it.rows_are);
-      },
-      ap (filter (is_slot sid slot)) it.rows_are
-          ∙ none_left (is_slot sid slot) (is_slot sid slot) (old.now.trees 8) (λ r h. h),
-    )
 
 -- ---- the rows of a session go
 
@@ -130,26 +102,85 @@ steps_drop_slots old new sid count room h =
           (λ q n. all_gone old.now.trees new.now.trees sid q n it.rows_are);
     }
 
--- ---- a row is put in
+-- ---- a row is put: its session's name and its number stand once together, by the rule UNIQUE
 
-pub steps_add_slot : (old new : State) (row : SlotRow) (count : ℕ)
-    → IsRoomDatabase old.now → HasNoSlot row.sid row.slot old.now.trees
-    → ExecutesInside 0 add_slot_text (slot_values row.sid row.slot row.kept.seq row.kept.request row.kept.reply)
+-- the rule of the one index of slot
+unique_slot : (db : Database) (row : Row) → passes Unique room_schema db.trees slot_table row ≡ true
+    → clashes plain (1 ∷ 2 ∷ []) (db.trees 8) row ≡ false
+unique_slot db row h =
+    not_false _ (test_has (λ i. not (guards i slot_table && clashes i.order i.columns (db.trees 8) row))
+    room_schema.indexes slot_index h (inr (inr (inr (inl refl)))))
+
+agree_on : (sid : List ℕ) (slot : ℕ) (x y : Row) → is_slot sid slot x ≡ true
+    → is_slot sid slot y ≡ true → agree plain (1 ∷ 2 ∷ []) x (1 ∷ 2 ∷ []) y ≡ true
+unfolding first_key
+agree_on sid slot x y p q = rw (has_text_value 1 sid y (first_of_both _ _ q)) (both_true _ _ (first_of_both _ _ p)
+    (and_true _ ∙ has_equal 2 slot x y (second_of_both _ _ p) (second_of_both _ _ q)))
+
+slot_once : (db : Database) (sid : List ℕ) (slot : ℕ) (x y : Row) → db.schema ≡ room_schema
+    → IsDatabase db → IsKeyed (db.trees 8) → Has (db.trees 8) x → Has (db.trees 8) y
+    → is_slot sid slot x ≡ true → is_slot sid slot y ≡ true → value_cmp (rowid x) (rowid y) ≡ Equal
+slot_once db sid slot x y schema sound keyed in_x in_y p q =
+    let clash = unique_slot db y (all_has _ (db.trees 8) y (rows_pass Unique db schema sound).slot in_y) in
+    elim (cases_Bool (differ (rowid x) (rowid y))) [
+      | inl apart ↦ absurd (true≢false (sym (some_from (λ other. agree plain (1 ∷ 2 ∷ []) other (1 ∷ 2 ∷ []) y
+          && differ (rowid other) (rowid y)) (db.trees 8) x in_x (both_true _ _ (agree_on sid slot x y p q) apart))
+          ∙ clash))
+      | inr same ↦
+          let i = int_is (rowid x) (all_has _ (db.trees 8) x keyed.ints in_x) in
+          let j = int_is (rowid y) (all_has _ (db.trees 8) y keyed.ints in_y) in
+          ap₂ value_cmp i j ∙ same_ids _ _ (ap₂ differ (sym i) (sym j) ∙ same)
+    ]
+
+filter_slot : (sid q : List ℕ) (slot n : ℕ) (old new : Database) (Fits : Row → Type 0)
+    (it : Put 8 old.trees new.trees Fits (λ r. is_slot sid slot r ≡ true))
+    → is_slot sid slot it.row ≡ true → new.schema ≡ room_schema → IsDatabase new → IsKeyed (old.trees 8)
+    → filter (is_slot q n) (new.trees 8)
+    ≡ cond (bytes_eq q sid && (n == slot)) (it.row ∷ []) (filter (is_slot q n) (old.trees 8))
+filter_slot sid q slot n old new Fits it mine schema sound keyed =
+    elim (cases_Bool (bytes_eq q sid && (n == slot))) [
+      | inl same ↦
+          let names = names_same sid q slot n same in
+          let table = keyed_after 8 _ _ _ _ it keyed in
+          rw same (ap₂ (λ s m. filter (is_slot s m) (new.trees 8)) names.0 names.1
+          ∙ one_row (is_slot sid slot) (new.trees 8) it.row table.table
+          (subst (λ l. Has l it.row) (sym it.rows) (has_put it.row _)) mine
+          (λ x y a b p h. slot_once new sid slot x y schema sound table a b p h))
+      | inr differs ↦ rw differs (ap (filter (is_slot q n)) it.rows
+          ∙ put_passed_over (is_slot q n) it.row (without_rowid it.id (old.trees 8)) (fails it.row differs mine) it.free
+          ∙ others_left_on (has_rowid it.id) (is_slot q n) (old.trees 8) (λ r k h. not_gone r k h differs))
+    ]
+  where
+    fails : (r : Row) → (bytes_eq q sid && (n == slot)) ≡ false
+        → is_slot sid slot r ≡ true → is_slot q n r ≡ false
+    fails r differs is = elim (cases_Bool (is_slot q n r)) [
+      | inl also ↦ absurd (true≢false (sym is ∙ slots_apart sid q slot n r differs also))
+      | inr other ↦ other
+    ]
+
+    not_gone : (r : Row) → Has (old.trees 8) r → is_slot q n r ≡ true
+        → (bytes_eq q sid && (n == slot)) ≡ false → has_rowid it.id r ≡ false
+    not_gone r k h differs = elim (cases_Bool (has_rowid it.id r)) [
+      | inl gone ↦ absurd (true≢false (sym (it.gone r k gone) ∙ slots_apart sid q slot n r differs h))
+      | inr left ↦ left
+    ]
+
+pub steps_put_slot : (old new : State) (row : SlotRow) (count : ℕ) → IsRoomDatabase old.now
+    → ExecutesInside 0 put_slot_text (slot_values row.sid row.slot row.kept.seq row.kept.request row.kept.reply)
     old new (Ok count) → Steps old new (apply_change (PutSlot row))
-steps_add_slot old new row count room none h =
-    let it = adds_slot old new row.sid row.slot row.kept.seq row.kept.request row.kept.reply
-    count room.schema (executes_inside add_slot_text _ old new count h).0 in
+steps_put_slot old new row count room h =
+    let done = puts_slot old new row.sid row.slot row.kept.seq row.kept.request row.kept.reply
+    count room.schema room.keyed.slot (executes_inside put_slot_text _ old new count h).0 in
+    let it = done.put in
     let o = it.others in
-    let more = it.rows in
-    let free = more.1 in
-    let is = more.2 in
-    let rows = old.now.trees 8 in
-    let stored : Row = Int more.0 ∷ slot_values row.sid row.slot row.kept.seq row.kept.request row.kept.reply in
-    let mine : is_slot row.sid row.slot stored ≡ true =
-    both _ _ (text_has 1 row.sid stored refl) (int_has 2 row.slot stored refl) in
+    let name : has_text 1 row.sid it.row ≡ true = text_has 1 row.sid it.row (ap (λ (r : Row). column r 1) it.fits.is) in
+    let number : has 2 row.slot it.row ≡ true =
+    has_is 2 row.slot it.row ∙ ap (λ (r : Row). is_eq (value_cmp (column r 2) (Int (pos row.slot)))) it.fits.is
+    ∙ ap is_eq it.fits.tied in
+    let mine : is_slot row.sid row.slot it.row ≡ true = both_true _ _ name number in
     record {
-      room = still_room 8 old.now new.now room it.schema o (subst IsKeyed (sym is)
-          (keyed_put stored rows refl room.keyed.slot)) (still_numbered 8 old.now new.now room (omega arith) o);
+      room = still_room 8 old.now new.now room done.schema o (keyed_after 8 _ _ _ _ it room.keyed.slot)
+          (still_numbered 8 old.now new.now room (omega arith) o);
       version = version_stays _ _ (o.room (omega arith));
       records = same_records _ _
           (λ q. ap (λ rows. nodes_in rows q) (o.node (omega arith)))
@@ -157,34 +188,10 @@ steps_add_slot old new row count room none h =
           (λ q. ap (λ rows. documents_in rows q) (o.doc (omega arith)))
           (ap next_in (o.room (omega arith)))
           (λ q. ap (λ rows. sessions_in rows q) (o.session (omega arith)))
-          (λ q n. elim (cases_Bool (bytes_eq q row.sid && (n == row.slot))) [
-            | inl same ↦
-                let names = names_same row.sid q row.slot n same in
-                rw same (ap₂ (λ s m. kept_in (filter (is_slot s m) (new.now.trees 8))) names.0 names.1
-                ∙ ap kept_in (ap (filter (is_slot row.sid row.slot)) is
-                ∙ put_alone (is_slot row.sid row.slot) stored rows mine none free))
-            | inr differs ↦ rw differs (ap kept_in (ap (filter (is_slot q n)) is
-                ∙ put_passed_over (is_slot q n) stored rows (fails q n stored differs mine) free))
-          ]);
+          (λ q n. ap kept_in (filter_slot row.sid q row.slot n old.now new.now _ it mine
+          done.schema done.sound room.keyed.slot)
+          ∙ through kept_in (bytes_eq q row.sid && (n == row.slot)) (it.row ∷ [])
+          (filter (is_slot q n) (old.now.trees 8))
+          ∙ ap (λ kept. cond (bytes_eq q row.sid && (n == row.slot)) (Some kept) (slots_in (old.now.trees 8) q n))
+          (ap (λ r. kept_of (shown_slot r)) it.fits.is));
     }
-  where
-    both : (a b : Bool) → a ≡ true → b ≡ true → (a && b) ≡ true
-    both a b p q = rw p q
-
-    fails : (q : List ℕ) (n : ℕ) (r : Row) → (bytes_eq q row.sid && (n == row.slot)) ≡ false
-        → is_slot row.sid row.slot r ≡ true → is_slot q n r ≡ false
-    fails q n r differs mine = elim (cases_Bool (is_slot q n r)) [
-      | inl also ↦
-          absurd (true≢false (sym mine ∙ slots_apart row.sid q row.slot n r differs also))
-      | inr other ↦ other
-    ]
-
--- a slot that is emptied and then put is put
-pub slot_renewed : (row : SlotRow) (r : Records)
-    → apply_change (PutSlot row) (without_slot row.sid row.slot r) ≡ apply_change (PutSlot row) r
-slot_renewed row r = same_records _ _ (λ q. refl) (λ q. refl) (λ q. refl) refl (λ q. refl)
-    (λ q n. twice (bytes_eq q row.sid && (n == row.slot)) (Some row.kept) None (r.slot q n))
-  where
-    twice : {X : Type 0} (b : Bool) (x y z : X) → cond b x (cond b y z) ≡ cond b x z
-    twice true x y z = refl
-    twice false x y z = refl

@@ -1,8 +1,8 @@
 -- The deletes that set nothing off, and the inserts.
-use Rattle.std.proofs.Common.{◌≡◌, ◌==◌, ℕ, suc, Bool, true, false, length, pos, ◌&&◌, List, [], ◌∷◌, ◌++◌}
-use Rattle.std.proofs.Common.{map, drop, Ok, refl, ap, ap₂}
+use Rattle.std.proofs.Common.{◌≡◌, ◌==◌, ℕ, suc, Bool, true, false, length, pos, List, [], ◌∷◌, ◌++◌}
+use Rattle.std.proofs.Common.{map, drop, Ok, refl, ap₂}
 use Rattle.std.specs.List.{flat_map, filter_map}
-use Rattle.sqlite_value.specs.declared.value.Value.TheVariants.{Null, Int, Text, Blob}
+use Rattle.sqlite_value.specs.declared.value.Value.TheVariants.{Null, Int, Text}
 use Rattle.sqlite_value.specs.Order.{Row}
 use Rattle.sqlite_tied.specs.Compute.{everything}
 use Rattle.sqlite_rules.specs.Action.{Work, work_by, deed_for, works}
@@ -12,17 +12,15 @@ use Rattle.sqlite_schema.specs.declared.schema.Keys.TheVariants.{Enforced}
 use Rattle.sqlite.specs.State.{State, Executes}
 use Rattle.room_tables.specs.Tables.{room_schema, entry_table, slot_table}
 use Rattle.room_tables.specs.Texts.{drop_entries_text, drop_entries_query, drop_slots_text, drop_slots_query}
-use Rattle.room_tables.specs.Texts.{drop_slot_text, drop_slot_query, add_entry_text, add_entry_terms, add_two_text}
+use Rattle.room_tables.specs.Texts.{add_entry_text, add_entry_terms, add_two_text}
 use Rattle.room_tables.specs.Texts.{add_two_terms, add_three_text, add_three_terms, add_four_text, add_four_terms}
-use Rattle.room_tables.specs.Texts.{add_slot_text, add_slot_terms}
-use Rattle.room_tables.specs.Rows.{has, has_text, is_slot}
+use Rattle.room_tables.specs.Rows.{has, has_text}
 use Rattle.room_acl.specs.Entries.{EntryModel}
 use Rattle.room_tables.specs.Steps.{type_of, shown_as}
 use Rattle.room_tables.specs.Layout.{IsKeyed}
 use Rattle.room_tables.proofs.Meaning.{drop_entries_is, drop_entries_plain, drop_slots_is, drop_slots_plain}
-use Rattle.room_tables.proofs.Meaning.{drop_slot_is, drop_slot_plain, add_entry_is, add_entry_plain, add_two_is}
+use Rattle.room_tables.proofs.Meaning.{add_entry_is, add_entry_plain, add_two_is}
 use Rattle.room_tables.proofs.Meaning.{add_two_plain, add_three_is, add_three_plain, add_four_is, add_four_plain}
-use Rattle.room_tables.proofs.Meaning.{add_slot_is, add_slot_plain}
 use Rattle.room_tables.proofs.Queries.{and_true}
 use Rattle.room_tables.proofs.Changes.{Added, Leaves, without, cleared, unnumbered}
 use Rattle.room_tables.proofs.Changes.{inserted_all, cast_null, cast_int}
@@ -48,14 +46,6 @@ entries_set_off false = refl
 entry_quiet : (news : List Row) → works room_schema Enforced 0 3 [] news ≡ []
 entry_quiet news = entries_set_off (length news == 0)
 
-slots_set_off : (deletes : Bool) → set_off 8 [] deletes ≡ []
-unfolding everything
-slots_set_off true = refl
-slots_set_off false = refl
-
-slot_quiet : (news : List Row) → works room_schema Enforced 0 8 [] news ≡ []
-slot_quiet news = slots_set_off (length news == 0)
-
 pub drops_entries : (old new : State) (id count : ℕ) → old.now.schema ≡ room_schema
     → IsKeyed (old.now.trees 3) → Executes drop_entries_text (Int (pos id) ∷ []) old new (Ok count)
     → Leaves old.now new.now 3 (without (has 1 id) (old.now.trees 3))
@@ -69,14 +59,6 @@ pub drops_slots : (old new : State) (sid : List ℕ) (count : ℕ) → old.now.s
 drops_slots old new sid count schema keyed h =
     cleared old new 5 slot_table drop_slots_text (Text sid ∷ []) drop_slots_query.filter count (has_text 1 sid)
     refl schema keyed drop_slots_is drop_slots_plain refl slots_quiet (λ r. and_true (has_text 1 sid r)) h
-
-pub drops_slot : (old new : State) (sid : List ℕ) (slot count : ℕ) → old.now.schema ≡ room_schema
-    → IsKeyed (old.now.trees 8) → Executes drop_slot_text (Text sid ∷ Int (pos slot) ∷ []) old new (Ok count)
-    → Leaves old.now new.now 8 (without (is_slot sid slot) (old.now.trees 8))
-drops_slot old new sid slot count schema keyed h =
-    cleared old new 5 slot_table drop_slot_text (Text sid ∷ Int (pos slot) ∷ []) drop_slot_query.filter
-    count (is_slot sid slot) refl schema keyed drop_slot_is drop_slot_plain refl slots_quiet
-    (λ r. ap (λ b. has_text 1 sid r && b) (and_true (has 2 slot r))) h
 
 -- entries at places from a number on, as they are stored
 abbrev pub stored : ℕ → ℕ → List EntryModel → List Row
@@ -134,14 +116,3 @@ adds_four node at a b c d old new count schema h =
     (stored node at (a ∷ b ∷ c ∷ d ∷ [])) add_four_terms 7 count
     refl schema refl add_four_is add_four_plain entry_quiet
     (cast_stored node at (a ∷ b ∷ c ∷ d ∷ [])) h
-
-abbrev pub slot_values : List ℕ → ℕ → ℕ → List ℕ → List ℕ → Row
-slot_values sid slot seq request reply = Text sid ∷ Int (pos slot) ∷ Int (pos seq) ∷ Blob request ∷ Blob reply ∷ []
-
-pub adds_slot : (old new : State) (sid : List ℕ) (slot seq : ℕ) (request reply : List ℕ) (count : ℕ)
-    → old.now.schema ≡ room_schema → Executes add_slot_text (slot_values sid slot seq request reply) old new (Ok count)
-    → Added old.now new.now 8 (slot_values sid slot seq request reply ∷ [])
-adds_slot old new sid slot seq request reply count schema h =
-    inserted_all old new 5 slot_table add_slot_text (slot_values sid slot seq request reply) (slot_values sid
-    slot seq request reply ∷ []) add_slot_terms 6 count refl schema refl add_slot_is add_slot_plain slot_quiet
-    (rw (cast_null, cast_int (pos slot), cast_int (pos seq)) refl) h

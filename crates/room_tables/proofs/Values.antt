@@ -1,5 +1,5 @@
 -- A column that has a number has no other.
-use Rattle.std.proofs.Common.{◌≡◌, ℕ, List, ℤ, pos, Bool, true, false, ◌||◌, cond, Some, refl, sym, ap, subst, ◌∙◌}
+use Rattle.std.proofs.Common.{◌≡◌, ℕ, List, ℤ, pos, Bool, true, false, ◌||◌, ◌&&◌, cond, Some, refl, sym, ap, subst, ◌∙◌}
 use Rattle.std.proofs.Common.{Ordering, Less, Equal, Greater, is_eq, true≢false}
 use Rattle.std.proofs.lemmas.Map.Lookups.{exact_signed, exact_bytes}
 use Rattle.std.proofs.lemmas.Cmp.{alike_right, tied_back, tied_itself}
@@ -8,9 +8,12 @@ use Rattle.sqlite_value.specs.declared.value.Value.TheVariants.{Null, Int, Real,
 use Rattle.sqlite_value.specs.Order.{Row, column, value_cmp}
 use Rattle.sqlite_value.proofs.OrderLemmas.{value_cmp-Int, value_cmp-Text, value_cmp-Null, value_cmp-apart}
 use Rattle.sqlite_value.proofs.OrderLemmas.{value_cmp_total}
-use Rattle.sqlite_sql.specs.Ops.{binary, is_null, is_true, from_truth}
+use Rattle.sqlite_sql.specs.declared.ops.UnaryOp.TheVariants.{ToInt}
+use Rattle.sqlite_sql.specs.Ops.{unary, binary, is_null, is_true, from_truth}
+use Rattle.sqlite_schema.specs.declared.schema.Kind.TheVariants.{Integer}
 use Rattle.sqlite_trees.specs.View.{is_int}
 use Rattle.sqlite_rules.specs.Edit.{id_in}
+use Rattle.sqlite_rules.specs.Cast.{cast, as_integer}
 use Rattle.sqlite_rules.proofs.TableLemmas.{int_is}
 use Rattle.room_tables.specs.Rows.{has, has_text}
 
@@ -79,6 +82,31 @@ pub has_not_null : (place n : ℕ) (row : Row) → has place n row ≡ true → 
 unfolding binary
 has_not_null place n row h = not_either _ _
     (truth_of (is_null (column row place) || is_null (Int (pos n))) (value_cmp (column row place) (Int (pos n))) h).0
+
+-- SQL's = finds two columns equal that have a number
+pub has_equal : (place n : ℕ) (a b : Row) → has place n a ≡ true → has place n b ≡ true
+    → Rattle.sqlite_schema.specs.Rules.equal Rattle.sqlite_value.specs.declared.keys.Collation.TheVariants.Binary
+    (column a place) (column b place) ≡ true
+unfolding binary
+has_equal place n a b p q =
+    rw (has_not_null place n a p, has_not_null place n b q, has_tied place n a b p q) refl
+
+as_integer_tied : (v w : Value) → value_cmp v w ≡ Equal → value_cmp (as_integer v) w ≡ Equal
+as_integer_tied v w tie = go (is_eq (value_cmp (unary ToInt v) v)) refl _
+  where
+    go : (b : Bool) → is_eq (value_cmp (unary ToInt v) v) ≡ b → (c : Bool)
+        → value_cmp (cond (b && c) (unary ToInt v) v) w ≡ Equal
+    go true e true = sym (alike_right value_cmp_total v w (unary ToInt v) tie) ∙ eq_is _ e
+    go true e false = tie
+    go false e c = tie
+
+-- what ties with a number does so when it is cast to an integer
+pub cast_tied : (v : Value) (n : ℤ) → value_cmp v (Int n) ≡ Equal → value_cmp (cast Integer v) (Int n) ≡ Equal
+cast_tied Null n h = absurd (let bad = sym (value_cmp-Null (Int n)) ∙ h in cc)
+cast_tied (Int m) n h = as_integer_tied (Int m) (Int n) h
+cast_tied (Real x) n h = as_integer_tied (Real x) (Int n) h
+cast_tied (Text t) n h = absurd (let bad = sym (value_cmp-apart (Text t) (Int n) (λ e. let f = e in cc)) ∙ h in cc)
+cast_tied (Blob b) n h = absurd (let bad = sym (value_cmp-apart (Blob b) (Int n) (λ e. let f = e in cc)) ∙ h in cc)
 
 -- ---- texts
 

@@ -1,7 +1,6 @@
 -- Steps of a transaction on the records.
-use Rattle.std.specs.Prelude.{◌≡◌, ◌≢◌, ◌==◌, ◌&&◌, ℕ, suc, pos, Bool, filter, List, [], ◌∷◌, None, if◌then◌else◌}
+use Rattle.std.specs.Prelude.{◌≡◌, ◌≢◌, ℕ, suc, pos, Bool, List, [], ◌∷◌, if◌then◌else◌}
 use Rattle.std.specs.List.{AllByRecursion}
-use Rattle.std.specs.Str.{bytes_eq}
 use Rattle.sqlite_value.specs.declared.value.Value.TheVariants.{Int, Text}
 use Rattle.sqlite_value.specs.Order.{Row}
 use Rattle.sqlite_trees.specs.Tree.{Trees}
@@ -13,7 +12,7 @@ use Rattle.room_acl.specs.Entries.{EntryModel, who_text}
 use Rattle.room_records.specs.declared.change.Change.{Change}
 use Rattle.room_records.specs.Records.{Records}
 use Rattle.room_records.specs.Changes.{apply_changes}
-use Rattle.room_tables.specs.Rows.{records_of, version_rows, IsVersion1, entry_rows, who_of, is_slot}
+use Rattle.room_tables.specs.Rows.{records_of, version_rows, IsVersion1, entry_rows, who_of}
 use Rattle.room_tables.specs.Layout.{IsRoomDatabase}
 
 -- ---- values as they are stored
@@ -66,11 +65,3 @@ pub record Lists (before : Trees) (id : ℕ) (entries : List EntryModel) (db : D
   pub sessions : (sid : List ℕ) → (records_of db.trees).session sid ≡ (records_of before).session sid
   pub slots : (sid : List ℕ) (slot : ℕ) → (records_of db.trees).slot sid slot ≡ (records_of before).slot sid slot
   pub version : version_rows db.trees ≡ version_rows before
-
--- no row is kept of this slot
-abbrev pub HasNoSlot : List ℕ → ℕ → Trees → Type 0
-HasNoSlot sid slot db = filter (is_slot sid slot) (db 8) ≡ []
-
--- the records without what this slot keeps
-abbrev pub without_slot : List ℕ → ℕ → Records → Records
-without_slot sid slot r = record r { slot = λ s n. if bytes_eq s sid && (n == slot) then None else r.slot s n }

@@ -111,12 +111,6 @@ drop_slots_text = codes "DELETE FROM slot WHERE sid = ?1"
 abbrev pub drop_slots_query : Query
 drop_slots_query = over_table 8 (equals (col 1 1) (col 0 0) ∷ []) (col 1 0 ∷ []) []
 
-abbrev pub drop_slot_text : List ℕ
-drop_slot_text = codes "DELETE FROM slot WHERE sid = ?1 AND slot = ?2"
-
-abbrev pub drop_slot_query : Query
-drop_slot_query = over_table 8 (equals (col 1 1) (col 0 0) ∷ equals (col 1 2) (col 0 1) ∷ []) (col 1 0 ∷ []) []
-
 abbrev pub add_entry_text : List ℕ
 add_entry_text = codes "INSERT INTO entry (node, place, type, flag, mask, who) VALUES (?1, ?2, ?3, ?4, ?5, ?6)"
 
@@ -148,12 +142,6 @@ add_four_text = codes
 
 abbrev pub add_four_terms : List Term
 add_four_terms = entry_terms 1 ++ entry_terms 6 ++ entry_terms 11 ++ entry_terms 16
-
-abbrev pub add_slot_text : List ℕ
-add_slot_text = codes "INSERT INTO slot (sid, slot, seq, request, reply) VALUES (?1, ?2, ?3, ?4, ?5)"
-
-abbrev pub add_slot_terms : List Term
-add_slot_terms = lit Null ∷ col 0 0 ∷ col 0 1 ∷ col 0 2 ∷ col 0 3 ∷ col 0 4 ∷ []
 
 abbrev pub put_next_text : List ℕ
 put_next_text = codes
@@ -213,6 +201,21 @@ put_session_query = over_table 6 (equals (col 1 0) (col 0 4) ∷ [])
 
 abbrev pub put_session_clause : Upsert
 put_session_clause = record { target = Some (1 ∷ []); update = Some (record { lets = []; body = put_session_query }) }
+
+abbrev pub put_slot_text : List ℕ
+put_slot_text = codes
+    "INSERT INTO slot (sid, slot, seq, request, reply) VALUES (?1, ?2, ?3, ?4, ?5) ON CONFLICT (sid, slot) DO UPDATE SET seq = excluded.seq, request = excluded.request, reply = excluded.reply"
+
+abbrev pub put_slot_terms : List Term
+put_slot_terms = lit Null ∷ col 0 0 ∷ col 0 1 ∷ col 0 2 ∷ col 0 3 ∷ col 0 4 ∷ []
+
+-- the update reads the parameters, then the rowid that is there in column 5, and the new row from column 6 on
+abbrev pub put_slot_query : Query
+put_slot_query = over_table 8 (equals (col 1 0) (col 0 5) ∷ [])
+    (col 1 0 ∷ col 1 0 ∷ col 1 1 ∷ col 1 2 ∷ col 0 9 ∷ col 0 10 ∷ col 0 11 ∷ []) []
+
+abbrev pub put_slot_clause : Upsert
+put_slot_clause = record { target = Some (1 ∷ 2 ∷ []); update = Some (record { lets = []; body = put_slot_query }) }
 
 abbrev pub count_children_text : List ℕ
 count_children_text = codes "SELECT count(*) FROM node WHERE parent = ?1"

@@ -236,19 +236,30 @@ fn is_for_the_owner(list: &[Entry]) -> bool {
     }
 }
 
+/// Two folders whose files follow the root, and one that is protected.
+fn three_folders<S: Shelf + Drop>(play: &mut Play<S>) -> Result<(), Fail> {
+    for folder in ["/a", "/b", "/shut"] {
+        fill(play, folder)?;
+    }
+    play.set_list("/shut", 2, handed_down(ALL, Who::Owner)?)
+}
+
+/// A new list of the root goes to all that follow it in one commit; sent once more, it goes nowhere.
+fn set_root_twice<S: Shelf + Drop>(play: &mut Play<S>) -> Result<(), Fail> {
+    let entries = vec![in play.alloc; handed_down(ALL, Who::Everyone)?]?;
+    let command = play.setting("/", 0, entries)?;
+    must(play.count_puts(&command)? == 2 * FILES + 3, "/")?;
+    must(play.count_puts(&command)? == 0, "/")
+}
+
 /// A new list of the root reaches some hundred followers in one commit, and no object of a protected folder.
 fn many_followers<S: Shelf + Drop>(alloc: Global, shelf: S) -> Result<(), Fail> {
     let mut play = Play::new(alloc, shelf)?;
-    for folder in ["/a", "/b", "/shut"] {
-        fill(&mut play, folder)?;
-    }
-    play.set_list("/shut", 2, handed_down(ALL, Who::Owner)?)?;
-    let command = play.setting("/", 0, vec![in alloc; handed_down(ALL, Who::Everyone)?]?)?;
-    must(play.count_puts(&command)? == 2 * FILES + 3, "/")?;
+    three_folders(&mut play)?;
+    set_root_twice(&mut play)?;
     play.expect_lists(&[("/a/f0", 1), ("/b/f99", 1), ("/shut/f0", 1)])?;
     let (_, list) = play.list_by_command("/shut/f0")?;
-    must(is_for_the_owner(list.as_slice()), "/shut/f0")?;
-    must(play.count_puts(&command)? == 0, "/")
+    must(is_for_the_owner(list.as_slice()), "/shut/f0")
 }
 
 #[test]

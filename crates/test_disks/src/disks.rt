@@ -6,7 +6,7 @@ use sqlite::{Connection, FileStore, Options};
 use sqlite_disk::{Crash, Disk, Files, Fuse, Memory, Rot};
 use std::alloc::Global;
 use std::test::Fail;
-use test_support::{Held, file_of};
+use test_stores::{Held, file_of};
 
 /// A disk over a file in memory.
 pub trait Kept: Disk {

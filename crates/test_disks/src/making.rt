@@ -8,7 +8,7 @@ use sqlite::{Alter, Connection, Options};
 use sqlite_disk::{Disk, Files, Fuse, Memory};
 use std::alloc::Global;
 use std::test::Fail;
-use test_support::{Held, adopt, init, made};
+use test_stores::{Held, adopt, init, made};
 
 /// More calls than are made.
 const NEVER: u64 = 1_000_000;

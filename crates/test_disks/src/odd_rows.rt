@@ -7,7 +7,7 @@ use room_records::Shelf;
 use sqlite::{Connection, MemStore};
 use std::alloc::Global;
 use std::test::Fail;
-use test_support::taken;
+use test_stores::taken;
 
 /// A fresh room in tables with its keys, and with no types and no rules.
 const KEYED: &str = "CREATE TABLE room (one INTEGER PRIMARY KEY, version, next);

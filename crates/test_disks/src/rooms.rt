@@ -9,7 +9,7 @@ use sqlite_disk::Memory;
 use std::alloc::Global;
 use std::fmt::Write;
 use std::test::Fail;
-use test_support::{Held, in_tables, made, push_rows, taken};
+use test_stores::{Held, in_tables, made, push_rows, taken};
 
 /// What shows a room whole.
 const ALL: [&str; 7] = [

@@ -7,7 +7,7 @@ use sqlite::{Alter, Connection, FileStore, Options};
 use sqlite_disk::{Disk, Files};
 use std::alloc::Global;
 use std::test::Fail;
-use test_support::adopt;
+use test_stores::adopt;
 
 /// The files after a run, and how far it came.
 #[derive(Drop)]

@@ -7,7 +7,7 @@ use sqlite::Options;
 use sqlite_disk::{Files, Memory};
 use std::alloc::Global;
 use std::test::Fail;
-use test_support::{Held, file_of};
+use test_stores::{Held, file_of};
 
 /// A place behind all calls and bytes.
 const NEVER: u64 = 1_000_000_000;

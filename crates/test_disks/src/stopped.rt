@@ -94,12 +94,12 @@ fn a_log_that_has_the_room_fails(rt: HostRuntime) -> Result<(), Fail> {
 /// The first of two parts of the calls.
 #[test]
 fn a_busy_log_fails(rt: HostRuntime) -> Result<(), Fail> {
-    stops(rt.alloc(), BUSY_LOG, (201, 300), 0, false)
+    stops(rt.alloc(), BUSY_LOG, (101, 200), 0, false)
 }
 
 #[test]
 fn a_busy_log_fails_late(rt: HostRuntime) -> Result<(), Fail> {
-    stops(rt.alloc(), BUSY_LOG, (201, 300), 1, true)
+    stops(rt.alloc(), BUSY_LOG, (101, 200), 1, true)
 }
 
 #[test]

@@ -6,7 +6,7 @@ use crate::scenes::{Case, Scene, is_within};
 use sqlite_disk::{Fuse, Memory};
 use std::alloc::Global;
 use std::test::Fail;
-use test_support::Held;
+use test_stores::Held;
 
 /// All that is in the room of these files.
 fn room_in(alloc: Global, held: &Held) -> Result<String, Fail> {

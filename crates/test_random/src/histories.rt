@@ -12,7 +12,8 @@ use room_wire::Event;
 use sqlite::MemStore;
 use std::alloc::Global;
 use std::test::Fail;
-use test_support::{in_memory, in_tables, named};
+use test_stores::in_tables;
+use test_support::{in_memory, named};
 
 /// How many events a history has.
 const EVENTS: u32 = 200;

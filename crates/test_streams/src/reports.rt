@@ -5,7 +5,8 @@ use room_report::{ReportFault, access_report, list_report};
 use std::alloc::Global;
 use std::io::Write;
 use std::test::Fail;
-use test_support::{BoundedWriter, Full, file_name, in_memory, in_tables, named, roster};
+use test_stores::in_tables;
+use test_support::{BoundedWriter, Full, file_name, in_memory, named, roster};
 
 /// A folder `/plans` of `ann` and `eng`.
 fn plans(alloc: Global) -> Result<Node, Fail> {

@@ -5,7 +5,7 @@ use sqlite::{Alter, Connection, MemStore};
 use std::alloc::Global;
 use std::fmt::Write;
 use std::test::Fail;
-use test_support::{adopt, init, push_rows};
+use test_stores::{adopt, init, push_rows};
 
 /// What shows a database whole, whichever of the six tables it has.
 const ALL: [&str; 7] = [

@@ -5,7 +5,7 @@ use sqlite::{Alter, Connection, FileStore, Options};
 use sqlite_disk::{Files, Memory};
 use std::alloc::Global;
 use std::test::Fail;
-use test_support::{Held, file_of, made};
+use test_stores::{Held, file_of, made};
 
 type FileConn = Connection<FileStore<Memory>>;
 

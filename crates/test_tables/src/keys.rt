@@ -7,7 +7,8 @@ use room_sql::SqlShelf;
 use sqlite::MemStore;
 use std::alloc::Global;
 use std::test::Fail;
-use test_support::{SID, file_name, in_tables, named, session_name, taken};
+use test_stores::{in_tables, taken};
+use test_support::{SID, file_name, named, session_name};
 
 type Room = SqlShelf<MemStore>;
 

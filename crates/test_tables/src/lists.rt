@@ -6,7 +6,8 @@ use room_sql::SqlShelf;
 use sqlite::MemStore;
 use std::alloc::Global;
 use std::test::Fail;
-use test_support::{are_same_entries, file_name, in_tables, named};
+use test_stores::in_tables;
+use test_support::{are_same_entries, file_name, named};
 
 /// The most entries that inheritance can give: 32 own ones, and those of 16 folders above.
 const LONGEST: usize = 544;

@@ -4,7 +4,7 @@ use room_sql::OpenFault;
 use sqlite::{Connection, MemStore};
 use std::alloc::Global;
 use std::test::Fail;
-use test_support::made;
+use test_stores::made;
 
 const NAMES: [&str; 6] = ["room", "node", "entry", "doc", "session", "slot"];
 

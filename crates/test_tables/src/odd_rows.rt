@@ -6,7 +6,8 @@ use room_sql::SqlShelf;
 use sqlite::{Alter, Connection, MemStore};
 use std::alloc::Global;
 use std::test::Fail;
-use test_support::{SID, file_name, in_tables, session_name, taken};
+use test_stores::{in_tables, taken};
+use test_support::{SID, file_name, session_name};
 
 /// Tables with a room's columns, and no types, keys or rules.
 const LOOSE: &str = "CREATE TABLE room (one, version, next);

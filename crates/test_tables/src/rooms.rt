@@ -5,7 +5,7 @@ use room_sql::{OpenFault, SqlShelf};
 use sqlite::{Connection, MemStore};
 use std::alloc::Global;
 use std::test::Fail;
-use test_support::{in_tables, made, taken};
+use test_stores::{in_tables, made, taken};
 
 type Room = SqlShelf<MemStore>;
 
