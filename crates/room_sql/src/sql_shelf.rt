@@ -8,7 +8,7 @@ use crate::rows::{
     one_session,
 };
 use crate::{reads, writes};
-use room_acl::Entry;
+use room_acl::{Decision, Entry, Mask, Standing, Subject, decide};
 use room_records::{Change, FileName, Node, SessionRow, Shelf, ShelfFault, Sid};
 use room_slots::Kept;
 use sqlite::{Alter, Connection, Error, ErrorCode};
@@ -74,6 +74,7 @@ impl<S: Alter> Shelf for SqlShelf<S> {
     ghost use Rattle.std.specs.Prelude.{◌≡◌, ◌⊎◌, [], ◌∷◌, pos, unwrap_or, OnOk};
     ghost use Rattle.std.specs.List.{AllByRecursion};
     ghost use Rattle.sqlite_value.specs.declared.value.Value.TheVariants.{Int, Text};
+    ghost use Rattle.room_acl.specs.Access.{decision};
     ghost use Rattle.room_records.specs.Records.{Records};
     ghost use Rattle.room_records.specs.Rules.{ObjectRules};
     ghost use Rattle.room_records.specs.Changes.{apply_changes, RulesHoldAfterEach};
@@ -183,6 +184,26 @@ impl<S: Alter> Shelf for SqlShelf<S> {
             Ok(found) => Ok(found),
             Err(error) => Err(fault(&mut self.failures, error)),
         }
+    }
+
+    // It still reads the object's whole list, and decides over that. A decision needs the rows up to the one that
+    // leaves nothing open.
+    fn decide_at(
+        &mut self,
+        id: u32,
+        subject: &Subject,
+        standing: &Standing,
+        wanted: Mask,
+    ) -> Result<Decision, ShelfFault>
+        ensures value { Tells (sql_view S.Store self.old) (sql_view S.Store self.new) result (λ records found.
+            found ≡ decision (records.objects.entries id) subject.now standing.now wanted) }
+        ensures there { (sql_view S.Store self.new).is_intact → OnOk result (sql_view S.Store self.new).is_available }
+        ensures frame { ShelfRead (sql_view S.Store self.old) (sql_view S.Store self.new) (fault_in result) }
+        ensures cause { ReadCause S.Store self.old self.new result list_entries_text
+            (Int (pos id) ∷ []) (AllByRecursion IsLawfulEntryRow) }
+    {
+        let entries = self.entries(id)?;
+        Ok(decide(entries.as_slice(), subject, standing, wanted))
     }
 
     fn doc(&mut self, id: u32) -> Result<Vec<u8>, ShelfFault>
