@@ -1,5 +1,5 @@
 -- What the function of a job promises, said of the job and its texts.
-use Rattle.std.proofs.Common.{◌≡◌, ℕ, List, Option, Result, String, refl, sym, subst}
+use Rattle.std.proofs.Common.{◌≡◌, ℕ, List, Option, String, refl, sym, subst}
 use Rattle.std.specs.Prelude.{string_bytes}
 use Rattle.std.specs.declared.alloc.Global.{Global}
 use Rattle.room_words.specs.declared.job.Job.{Job}
