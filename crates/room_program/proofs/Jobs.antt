@@ -59,11 +59,13 @@ module _ {M C Shelf : Type 0} (m : Means M C Shelf) (before later : M) where
   pub ran_serve : (job : Job) (db roster : String Global) (port count : ℕ) (d r : List ℕ)
       (input output errors told : Option (List ℕ)) (status : ℕ) → job ≡ Serve db roster port count
       → d ≡ string_bytes db → r ≡ string_bytes roster
-      → Ends (ServesRoom m.does m.accepts m.fails m.adopts m.store m.view d r port count before later) errors told status
+      → Ends (ServesRoom m.does m.accepts m.fails m.adopts m.store m.view d r port count before later)
+      errors told status
       → RunsJob m before later job (streams input output errors) (streams input output told) status
   ran_serve job db roster port count d r input output errors told status is is_db is_roster ends =
       let May : List ℕ → List ℕ → Type 0 = λ d r.
-      Ends (ServesRoom m.does m.accepts m.fails m.adopts m.store m.view d r port count before later) errors told status in
+      Ends (ServesRoom m.does m.accepts m.fails m.adopts m.store m.view d r port count before later)
+      errors told status in
       let Ran : Job → Type 0 = λ job.
       RunsJob m before later job (streams input output errors) (streams input output told) status in
       subst Ran (sym is) (refl, refl, of_two May d r _ _ is_db is_roster ends)

@@ -88,7 +88,8 @@ IsTaken opened = IsTrue (has_a_table opened.schema)
 -- a fresh room was made in a store, and so it is closed; or why not, and then no store is closed
 abbrev pub Makes : {M C : Type 0} → (does : M → Call C → M → Type 0) → (made : C → C → Type 0)
     → (taken : C → Type 0) → C → M → M → Result (Unit {0}) Fault → Type 0
-Makes {M} {C} does made taken opened old new (Ok done) = (closed : C) × made opened closed × does old (closes closed) new
+Makes {M} {C} does made taken opened old new (Ok done) =
+    (closed : C) × made opened closed × does old (closes closed) new
 Makes does made taken opened old new (Err RoomExists) = taken opened × (new ≡ old)
 Makes does made taken opened old new (Err StoreFailed) = new ≡ old
 Makes does made taken opened old new (Err Memory) = new ≡ old

@@ -68,7 +68,8 @@ pub record Means (M C Shelf : Type 0) : Type 1 where
 
 abbrev pub means : {M C Shelf : Type 0} → (does : M → Call C → M → Type 0)
     → (accepts fails : M → M → Type 0) → (adopts : C → Shelf → Type 0)
-    → (store : Shelf → C) → (made : (owner group : List ℕ) → C → C → Type 0) → (taken : C → Type 0) → (view : Shelf → View) → Means M C Shelf
+    → (store : Shelf → C) → (made : (owner group : List ℕ) → C → C → Type 0)
+    → (taken : C → Type 0) → (view : Shelf → View) → Means M C Shelf
 means d a f p s m t v =
     record { does = d; accepts = a; fails = f; adopts = p; store = s; made = m; taken = t; view = v }
 
