@@ -239,6 +239,7 @@ impl<S: Shelf> Shelf for TripShelf<S> {
         ensures trips { TripCall S.view self.old self.new result }
     {
         if self.trips() {
+            // No change is made.
             return Err(ShelfFault::Store);
         }
         self.inner.commit(changes)
