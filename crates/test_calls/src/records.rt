@@ -239,7 +239,7 @@ struct Asked {
     standing: Standing,
 }
 
-fn asked(alloc: Global) -> Result<Asked, Fail> {
+fn to_ask(alloc: Global) -> Result<Asked, Fail> {
     Ok(Asked {
         name: file_name(alloc, "a")?,
         sid: session_name(alloc, SID)?,
@@ -266,7 +266,7 @@ fn read_back<S: Shelf>(shelf: &mut S, asked: &Asked) -> Result<Counts, ShelfFaul
 }
 
 fn reads_as(alloc: Global, shelf: &mut MemShelf, wanted: Counts) -> Result<(), Fail> {
-    let found = read_back(shelf, &asked(alloc)?)?;
+    let found = read_back(shelf, &to_ask(alloc)?)?;
     if found != wanted {
         return Err(Fail::new(format_args!("{found:?} and not {wanted:?}")));
     }
@@ -326,7 +326,7 @@ fn rows_are_read_back(rt: HostRuntime) -> Result<(), Fail> {
 fn tripped(alloc: Global, shelf: &mut TripShelf<MemShelf>) -> Result<(bool, bool), Fail> {
     let changes = one_of_each(alloc)?;
     let is_refused = shelf.commit(changes.as_slice()).is_err();
-    Ok((is_refused, read_back(shelf, &asked(alloc)?).is_err()))
+    Ok((is_refused, read_back(shelf, &to_ask(alloc)?).is_err()))
 }
 
 /// Of eleven calls, a commit and ten reads, the k-th trips, and the rows are those of the commit where it did not.
