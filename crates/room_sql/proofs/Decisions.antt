@@ -5,6 +5,7 @@ use Rattle.std.proofs.Common.{append-nil, true≢false, arith}
 use Rattle.std.specs.List.{list_any}
 use Rattle.std.proofs.lemmas.Bool.{cases_Bool}
 use Rattle.std.proofs.lemmas.List.{map-append, append_assoc}
+use Rattle.std.proofs.lemmas.Nat.Bits.{bit_at-zero}
 use Rattle.sqlite_value.specs.declared.value.Value.TheVariants.{Int}
 use Rattle.sqlite_value.specs.Order.{Row}
 use Rattle.sqlite_trees.specs.declared.store.Store.{Ghosts}
@@ -133,7 +134,7 @@ module _ (caller : SubjectModel) (standing : Standing) (wanted : ℕ) where
       ]
 
       zero_bit : (bit : ℕ) → has_bit 0 bit ≡ false
-      zero_bit bit = rw Rattle.room_acl.proofs.BitTests.has_bit-zero refl
+      zero_bit bit = rw bit_at-zero refl
 
   module _ {S : Type 0} (g : Ghosts S) (h : Held S) (old : State) (id : ℕ) (p : PendingModel) (given : List Row)
       (room : IsRoomDatabase old.now) (live : IsLive old) (same : IsUnchanged old (state g h))
@@ -178,7 +179,7 @@ module _ (caller : SubjectModel) (standing : Standing) (wanted : ℕ) where
     row = row;
     read = begins_from read_entries_text (Int (pos id) ∷ []) old (state g h) (given ++ row ∷ []) same
         (given_begin g read_entries_text (Int (pos id) ∷ []) h (given ++ row ∷ []) has_given);
-    open = still_open given p was some;
+    undecided = still_open given p was some;
     unlawful = unlawful;
   }
 

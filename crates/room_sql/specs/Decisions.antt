@@ -29,7 +29,7 @@ pub record StopsAtRow (id : ℕ) (caller : SubjectModel) (standing : Standing)
   pub earlier : List Row
   pub row : Row
   pub read : HasReadEntries id s (earlier ++ row ∷ [])
-  pub open : ¬ AllDecided (map entry_of earlier) caller standing wanted
+  pub undecided : ¬ AllDecided (map entry_of earlier) caller standing wanted
   pub unlawful : ¬ IsLawfulEntryRow row
 
 -- a list of so many entries is not read to its end
