@@ -1,6 +1,6 @@
 -- A decision over the rows that were read so far, and the frame of a query whose rows are read one at a time.
 use Rattle.std.proofs.Common.{◌≡◌, ◌≢◌, ◌≤◌, ◌⊎◌, ◌-◌, ◌^◌, ℕ, pos, Bool, true, false, not, ◌&&◌, ◌||◌, List, [], ◌∷◌}
-use Rattle.std.proofs.Common.{◌++◌, map, length, Result, Ok, Err, OnOk, IsTrue, inl, inr, refl, sym, ap, subst, ◌∙◌}
+use Rattle.std.proofs.Common.{◌++◌, map, length, Result, Ok, Err, IsErr, OnOk, IsTrue, inl, inr, refl, sym, ap, subst, ◌∙◌}
 use Rattle.std.proofs.Common.{append-nil, true≢false, arith}
 use Rattle.std.specs.List.{list_any}
 use Rattle.std.proofs.lemmas.Bool.{cases_Bool}
@@ -15,6 +15,7 @@ use Rattle.sqlite.specs.Held.{Held, state}
 use Rattle.sqlite.specs.Given.{HasGiven}
 use Rattle.sqlite.specs.declared.error.Error.{Error}
 use Rattle.sqlite.proofs.Callers.{given_begin}
+use Rattle.sqlite.proofs.StateLemmas.{survives_then}
 use Rattle.room_acl.specs.declared.access.Decision.{Decision}
 use Rattle.room_acl.specs.declared.subject.Standing.{Standing}
 use Rattle.room_acl.specs.Bits.{has_bit}
@@ -52,18 +53,26 @@ frame_same old new r survives mode same = record {
   crash = survives;
 }
 
+on_no : {T : Type 0} (r : Result T Error) (P : Type 0) → IsErr r → OnOk r P
+on_no (Ok x) P err = absurd cc
+on_no (Err e) P err = tt
+
 -- or it failed
-pub frame_failed : {T : Type 0} (old new : State) (e : Error) → Survives old new (λ _. ⊥)
+pub frame_failed : {T : Type 0} (old new : State) (r : Result T Error) → IsErr r → Survives old new (λ _. ⊥)
     → (old.in_transaction ≡ false → new.in_transaction ≡ false)
-    → (HasCleanDisk new → IsUnchanged old new ⊎ IsRolledBack old new) → QueryFrame {T = T} old new (Err e)
-frame_failed old new e survives mode left = record {
+    → (HasCleanDisk new → IsUnchanged old new ⊎ IsRolledBack old new) → QueryFrame old new r
+frame_failed old new r err survives mode left = record {
   clean = λ clean. omega (arith, survives.clean);
   was_open = λ clean is. left_open old new (left clean) is;
   mode = mode;
-  answered = λ clean. tt;
+  answered = λ clean. on_no r _ err;
   same = λ clean is settled. left_now old new settled (left clean) is;
   crash = survives;
 }
+
+-- one call after another
+pub survives_on : (a b c : State) → Survives a b (λ _. ⊥) → Survives b c (λ _. ⊥) → Survives a c (λ _. ⊥)
+survives_on a b c one two = survives_then a b c _ _ (λ _. ⊥) (λ _ db none. none) (λ _ db none. none) one two
 
 -- ---- the decision under way
 

@@ -18,4 +18,4 @@ invariant-rows g l =
     × (l.fn.conn.in_transaction ≡ false → l.rows.conn.now.in_transaction ≡ false)
     × (HasCleanDisk now → (given : List Row)
     × HasGiven g.S.Store read_entries_text (Int (pos l.id) ∷ []) l.rows.conn.now given
-    × IsAfter l.subject l.standing l.wanted given l.pending × (length given ≡ l.index))
+    × IsAfter l.subject l.standing l.fn.wanted given l.pending × (length given ≡ l.counter))
