@@ -1,6 +1,7 @@
 -- A decision over the rows that were read so far, and the frame of a query whose rows are read one at a time.
 use Rattle.std.proofs.Common.{◌≡◌, ◌≢◌, ◌≤◌, ◌⊎◌, ◌-◌, ◌^◌, ℕ, pos, Bool, true, false, not, ◌&&◌, ◌||◌, List, [], ◌∷◌}
-use Rattle.std.proofs.Common.{◌++◌, map, length, Result, Ok, Err, IsErr, OnOk, IsTrue, inl, inr, refl, sym, ap, subst, ◌∙◌}
+use Rattle.std.proofs.Common.{◌++◌, map, length, Result, Ok, Err, IsErr, OnOk, IsTrue, inl, inr, refl, sym, ap, subst}
+use Rattle.std.proofs.Common.{◌∙◌}
 use Rattle.std.proofs.Common.{append-nil, true≢false, arith}
 use Rattle.std.specs.List.{list_any}
 use Rattle.std.proofs.lemmas.Bool.{cases_Bool}
@@ -106,7 +107,8 @@ module _ (caller : SubjectModel) (standing : Standing) (wanted : ℕ) where
         ≡ (has_bit wanted bit && not (list_any (decides caller standing bit) (map entry_of rows)))
 
   pub at_start : (p : PendingModel)
-      → ((entries : List EntryModel) → decision_with entries caller standing p ≡ decision entries caller standing wanted)
+      → ((entries : List EntryModel) → decision_with entries caller standing p
+      ≡ decision entries caller standing wanted)
       → p.left ≡ wanted → IsAfter [] p
   at_start p answers left = record {
     answers = answers;

@@ -41,8 +41,8 @@ ReadCause store old new result text args CanBeRead =
     ((error : Error) × IsFault error × FailsToQuery text args (state store old.conn) (state store new.conn) error)
     ⊎ ((rows : List Row) × Shown text args (state store old.conn) (state store new.conn) rows × ¬ CanBeRead rows)
 
--- A decision that answers `Store` has a cause: the connection answered its query with a fault other than want of memory,
--- or a row that was read is no value of its type, or more rows were read than are counted. Rows behind are no cause
+-- A decision that answers `Store` has a cause: the connection answered its query with a fault other than want of
+-- memory, or a row that was read is no value of its type, or too many rows were read. Rows behind these are no cause
 abbrev pub DecisionCause : {S T : Type 0} (store : Ghosts S) → SqlShelf S store
     → SqlShelf S store → Result T ShelfFault → ℕ → SubjectModel → Standing → ℕ → Type 0
 DecisionCause store old new result id caller standing wanted =

@@ -1,4 +1,5 @@
-use Rattle.std.proofs.Common.{◌≡◌, Ok, Err, OnOk, IfErr, rules, arith, refl, sym, ap, subst, ◌∙◌, pos, [], ◌∷◌, ◌++◌, ◌+◌}
+use Rattle.std.proofs.Common.{◌≡◌, Ok, Err, OnOk, IfErr, rules, arith, refl, sym, ap, subst, ◌∙◌, pos, [], ◌∷◌, ◌++◌}
+use Rattle.std.proofs.Common.{◌+◌}
 use Rattle.std.proofs.Common.{inl, inr, length-append}
 use Rattle.sqlite_value.specs.declared.value.Value.TheVariants.{Int}
 use Rattle.sqlite.specs.State.{HasCleanDisk, IsUnchanged, Survives, FailsToQuery}
@@ -48,7 +49,7 @@ rows-init g c =
     let old = c.args.conn.now in
     let new = c.in_ok-rows.rows.conn.now in
     let begun : HasCleanDisk (state g.S.Store new) → HasGiven g.S.Store read_entries_text (Int (pos c.args.id) ∷ [])
-        new [] × IsUnchanged (state g.S.Store old) (state g.S.Store new) =
+    new [] × IsUnchanged (state g.S.Store old) (state g.S.Store new) =
     λ clean. query_begins g.S.Store read_entries_text (Int (pos c.args.id) ∷ []) old new
     read_entries_selects (rw c.params-to_sql.ensures at (made.begun clean)) in (
       refl,
@@ -121,7 +122,7 @@ returns-in_err-row-clause-frame g c =
     let e = c.in_err-row.field-0.0 in
     let end : now ≡ c.conn-in_err-row-1.given.0 = search rules in
     let failed : HasCleanDisk (state g.S.Store now)
-        → FailsToQuery read_entries_text (Int (pos c.args.id) ∷ []) old (state g.S.Store now) e = λ late.
+    → FailsToQuery read_entries_text (Int (pos c.args.id) ∷ []) old (state g.S.Store now) e = λ late.
     let early : HasCleanDisk mid = omega (arith, moved.survives.clean) in
     let was = c.rows.invariant.4 early in
     fails_on read_entries_text _ old mid (state g.S.Store now) (λ _. ⊥) e read_entries_selects
@@ -227,8 +228,11 @@ returns-in_err-entry-clause-cause g c clean =
     (λ e. IsFault e → CannotDecide c.args.id c.args.subject.now c.args.standing.now c.args.wanted old
     (state g.S.Store now) e)
     c.from_residual-in_err-entry.ensures.0 c.from_residual-in_err-entry.ensures.1
-    (λ fault. inr (same, inl (at_row c.args.subject.now c.args.standing.now c.args.wanted g.S.Store now old c.args.id
-    c.rows.pending was.0 row same given was.2 some (c.in_err-entry.ensures.refused fault)))))
+    (λ fault. inr (
+      same,
+      inl (at_row c.args.subject.now c.args.standing.now c.args.wanted g.S.Store now old c.args.id
+          c.rows.pending was.0 row same given was.2 some (c.in_err-entry.ensures.refused fault)),
+    )))
 
 -- ---- so many rows
 
@@ -238,7 +242,8 @@ returns-clause-frame g c =
     let now = c.rows.rows.conn.now in
     let end : now ≡ c.conn-2-1.given.0 = search rules in
     subst (λ h. QueryFrame old (state g.S.Store h) (Err (SqliteFailure TooBig))) end
-    (frame_same old (state g.S.Store now) (Err (SqliteFailure TooBig)) c.rows.invariant.1 c.rows.invariant.3 c.rows.invariant.2)
+    (frame_same old (state g.S.Store now) (Err (SqliteFailure TooBig)) c.rows.invariant.1 c.rows.invariant.3
+    c.rows.invariant.2)
 
 pub returns-clause-cause : goal.returns-clause-cause
 returns-clause-cause g c clean fault =
@@ -249,5 +254,8 @@ returns-clause-cause g c clean fault =
     let was = c.rows.invariant.4 late in
     let same = c.rows.invariant.2 late in
     subst (λ h. CannotDecide c.args.id c.args.subject.now c.args.standing.now c.args.wanted old (state g.S.Store h)
-    (SqliteFailure TooBig)) end (inr (same, inr (too_many g.S.Store now old c.args.id was.0 same was.1
-    (omega (arith, was.3, c.rows-test.false)))))
+    (SqliteFailure TooBig)) end (inr (
+      same,
+      inr (too_many g.S.Store now old c.args.id was.0 same was.1
+          (omega (arith, was.3, c.rows-test.false))),
+    ))
