@@ -1,8 +1,8 @@
 -- A decision over the rows that were read so far, and the frame of a query whose rows are read one at a time.
 use Rattle.std.proofs.Common.{◌≡◌, ◌≢◌, ◌≤◌, ◌⊎◌, ◌-◌, ◌^◌, ℕ, pos, Bool, true, false, not, ◌&&◌, ◌||◌, List, [], ◌∷◌}
-use Rattle.std.proofs.Common.{◌++◌, map, length, Result, Ok, Err, IsErr, OnOk, IsTrue, inl, inr, refl, sym, ap, subst}
+use Rattle.std.proofs.Common.{◌++◌, map, length, Result, Ok, Err, IsErr, OnOk, inl, inr, refl, sym, ap, subst}
 use Rattle.std.proofs.Common.{◌∙◌}
-use Rattle.std.proofs.Common.{append-nil, true≢false, arith}
+use Rattle.std.proofs.Common.{append-nil, arith}
 use Rattle.std.specs.List.{list_any}
 use Rattle.std.proofs.lemmas.Bool.{cases_Bool}
 use Rattle.std.proofs.lemmas.List.{map-append, append_assoc}
@@ -11,13 +11,12 @@ use Rattle.sqlite_value.specs.declared.value.Value.TheVariants.{Int}
 use Rattle.sqlite_value.specs.Order.{Row}
 use Rattle.sqlite_trees.specs.declared.store.Store.{Ghosts}
 use Rattle.sqlite.specs.Effect.{Database, IsDatabase}
-use Rattle.sqlite.specs.State.{State, HasCleanDisk, IsLive, IsUnchanged, IsRolledBack, Survives, Shown, FailsToQuery}
+use Rattle.sqlite.specs.State.{State, HasCleanDisk, IsLive, IsUnchanged, IsRolledBack, Survives, Shown}
 use Rattle.sqlite.specs.Held.{Held, state}
 use Rattle.sqlite.specs.Given.{HasGiven}
 use Rattle.sqlite.specs.declared.error.Error.{Error}
 use Rattle.sqlite.proofs.Callers.{given_begin}
 use Rattle.sqlite.proofs.StateLemmas.{survives_then}
-use Rattle.room_acl.specs.declared.access.Decision.{Decision}
 use Rattle.room_acl.specs.declared.subject.Standing.{Standing}
 use Rattle.room_acl.specs.Bits.{has_bit}
 use Rattle.room_acl.specs.SubjectModel.{SubjectModel}
@@ -32,7 +31,7 @@ use Rattle.room_tables.proofs.Onward.{begins_from}
 use Rattle.room_tables.proofs.Queries.{left_open, left_now}
 use Rattle.room_tables.proofs.Reading.{read_begins, read_ends}
 use Rattle.room_sql.specs.Columns.{IsLawfulEntryRow}
-use Rattle.room_sql.specs.Decisions.{AllDecided, StopsAtRow, ReadsTooMany, CannotDecide}
+use Rattle.room_sql.specs.Decisions.{AllDecided, StopsAtRow, ReadsTooMany}
 use Rattle.room_sql.specs.Frames.{QueryFrame}
 
 -- ---- frames

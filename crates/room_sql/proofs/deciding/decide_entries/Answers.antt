@@ -1,8 +1,8 @@
-use Rattle.std.proofs.Common.{◌≡◌, Ok, Err, OnOk, IfErr, rules, arith, refl, sym, ap, subst, ◌∙◌, pos, [], ◌∷◌, ◌++◌}
+use Rattle.std.proofs.Common.{◌≡◌, Ok, Err, IfErr, rules, arith, refl, sym, ap, subst, ◌∙◌, pos, [], ◌∷◌, ◌++◌}
 use Rattle.std.proofs.Common.{◌+◌}
 use Rattle.std.proofs.Common.{inl, inr, length-append}
 use Rattle.sqlite_value.specs.declared.value.Value.TheVariants.{Int}
-use Rattle.sqlite.specs.State.{HasCleanDisk, IsUnchanged, Survives, FailsToQuery}
+use Rattle.sqlite.specs.State.{HasCleanDisk, IsUnchanged, FailsToQuery}
 use Rattle.sqlite.specs.declared.error.Error.TheVariants.{SqliteFailure}
 use Rattle.sqlite.specs.declared.error.ErrorCode.TheVariants.{TooBig}
 use Rattle.sqlite.specs.Given.{HasGiven}
