@@ -19,7 +19,7 @@ abbrev pub AllDecided : List EntryModel → SubjectModel → Standing → ℕ �
 AllDecided entries caller standing wanted = (bit : ℕ) → IsTrue (has_bit wanted bit)
     → IsTrue (list_any (decides caller standing bit) entries)
 
--- these rows of the object's entries were read, and no others
+-- these rows begin what the query answers of the object
 abbrev pub HasReadEntries : ℕ → State → List Row → Type 0
 HasReadEntries id s rows = Begins read_entries_text (Int (pos id) ∷ []) s rows
 
