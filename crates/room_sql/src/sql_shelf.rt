@@ -7,8 +7,8 @@ use crate::rows::{
     all_entries, all_nodes, first_node, one_count, one_doc, one_kept, one_node, one_number,
     one_session,
 };
-use crate::{reads, writes};
-use room_acl::{Decision, Entry, Mask, Standing, Subject, decide};
+use crate::{deciding, reads, writes};
+use room_acl::{Decision, Entry, Mask, Standing, Subject};
 use room_records::{Change, FileName, Node, SessionRow, Shelf, ShelfFault, Sid};
 use room_slots::Kept;
 use sqlite::{Alter, Connection, Error, ErrorCode};
@@ -85,7 +85,7 @@ impl<S: Alter> Shelf for SqlShelf<S> {
     ghost use Rattle.room_tables.specs.Texts.{find_next_text};
     ghost use Rattle.room_sql.specs.Columns.{HasBytes, IsNodeRow, IsLawfulEntryRow, IsSessionRow, IsKeptRow};
     ghost use Rattle.room_sql.specs.Columns.{IsOneNumber, IsOneCount};
-    ghost use Rattle.room_sql.specs.SqlView.{sql_view, ReadCause, CommitCause};
+    ghost use Rattle.room_sql.specs.SqlView.{sql_view, ReadCause, DecisionCause, CommitCause};
 
     ghost view = { sql_view S.Store };
 
@@ -186,8 +186,6 @@ impl<S: Alter> Shelf for SqlShelf<S> {
         }
     }
 
-    // It still reads the object's whole list, and decides over that. A decision needs the rows up to the one that
-    // leaves nothing open.
     fn decide_at(
         &mut self,
         id: u32,
@@ -199,11 +197,13 @@ impl<S: Alter> Shelf for SqlShelf<S> {
             found ≡ decision (records.objects.entries id) subject.now standing.now wanted) }
         ensures there { (sql_view S.Store self.new).is_intact → OnOk result (sql_view S.Store self.new).is_available }
         ensures frame { ShelfRead (sql_view S.Store self.old) (sql_view S.Store self.new) (fault_in result) }
-        ensures cause { ReadCause S.Store self.old self.new result list_entries_text
-            (Int (pos id) ∷ []) (AllByRecursion IsLawfulEntryRow) }
+        ensures cause { DecisionCause S.Store self.old self.new result id subject.now standing.now wanted }
     {
-        let entries = self.entries(id)?;
-        Ok(decide(entries.as_slice(), subject, standing, wanted))
+        let _outside = self.conn.is_autocommit();
+        match deciding::decide_entries(self.alloc, &mut self.conn, id, subject, standing, wanted) {
+            Ok(found) => Ok(found),
+            Err(error) => Err(fault(&mut self.failures, error)),
+        }
     }
 
     fn doc(&mut self, id: u32) -> Result<Vec<u8>, ShelfFault>
