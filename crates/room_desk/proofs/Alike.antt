@@ -1,21 +1,20 @@
 -- Histories that are alike, as one with an event that changes nothing and one without: the same rows stand for both, and
 -- for both with any further event.
-use Rattle.std.proofs.Common.{◌≡◌, ℕ, suc, ◌%◌, ◌^◌, refl, ap, sym, ◌∙◌, subst, Bool, true, false, not, cond, ◌||◌}
-use Rattle.std.proofs.Common.{List, [], ◌∷◌, length, Option, None, Some, is_some, option_map}
+use Rattle.std.proofs.Common.{◌≡◌, ℕ, suc, ◌%◌, ◌^◌, refl, ap, sym, ◌∙◌, Bool, true, false, not, cond, ◌||◌}
+use Rattle.std.proofs.Common.{List, ◌∷◌, length, Option, None, Some, is_some, option_map}
 use Rattle.std.specs.Prelude.{◌&&◌, ◌==◌, nat_lt}
 use Rattle.std.specs.List.{list_any}
 use Rattle.std.specs.Str.{bytes_eq}
 use Rattle.room_acl.specs.SubjectModel.{SubjectModel}
 use Rattle.room_slots.specs.Slots.{next_number}
-use Rattle.room_slots.specs.KeptModel.{KeptModel}
 use Rattle.room_records.specs.declared.session.SessionRow.{SessionRow}
 use Rattle.room_records.specs.Records.{Records}
 use Rattle.room_records.specs.Room.{Room}
 use Rattle.room_commands.specs.Effect.{effect}
 use Rattle.room_wire.specs.Asks.EventModel.{EventModel, Request, Open, Close, Slot}
 use Rattle.room_wire.specs.Forms.Texts.{command_text, reply_text}
-use Rattle.room_desk.specs.History.{History, Session, session_of, with_event, opened_by, closes, is_open, is_open_for}
-use Rattle.room_desk.specs.History.{slots_of, Accepted, accepts, is_for, accepted, is_accepted, state_after, changes_rows}
+use Rattle.room_desk.specs.History.{History, Session, session_of, with_event, opened_by, closes, is_open_for}
+use Rattle.room_desk.specs.History.{slots_of, accepts, is_for, accepted, is_accepted, state_after, changes_rows}
 use Rattle.room_desk.specs.Representation.{RepresentsHistory, session_row_of, kept_after}
 use Rattle.room_desk.proofs.Idle.{open_in_row, state_after_idle, rows_after_idle, accepted_after_idle}
 
@@ -101,8 +100,12 @@ later_in_row sid event a b same = as_row a ∙ ap later_row same ∙ sym (as_row
         ≡ later_row (option_map (session_row_of sid) o)
     as_row None = refl
     as_row (Some session) =
-        (λ i. Some (record { sid = sid; owner = session.owner; slots = session.slots;
-        is_open = not_either (closes sid session.owner event) (list_any (closes sid session.owner) session.since) i }))
+        (λ i. Some (record {
+          sid = sid;
+          owner = session.owner;
+          slots = session.slots;
+          is_open = not_either (closes sid session.owner event) (list_any (closes sid session.owner) session.since) i;
+        }))
 
 module _ (start : Room) (a b : History) (alike : Alike start a b) where
   pub stand_alike : (r : Records) → RepresentsHistory start r a → RepresentsHistory start r b

@@ -1,11 +1,9 @@
 -- What a stop may leave after several events, and an event that is sent again after it.
-use Rattle.std.proofs.Common.{◌≡◌, ◌≢◌, ℕ, suc, refl, ap, sym, ◌∙◌, subst, arith, ◌⊎◌, inl, inr, Ok}
+use Rattle.std.proofs.Common.{◌≡◌, ◌≢◌, suc, refl, ap, sym, ◌∙◌, subst, arith, ◌⊎◌, inl, inr, Ok}
 use Rattle.std.proofs.Common.{Bool, true, false, not, cond, List, [], ◌∷◌, length, Option, None, Some, nat_lt}
 use Rattle.std.specs.Prelude.{◌%◌, ◌^◌, ◌==◌, if◌then◌else◌}
 use Rattle.std.specs.Str.{bytes_eq}
-use Rattle.std.specs.List.{Contains}
 use Rattle.std.proofs.lemmas.Bool.{true≢false}
-use Rattle.room_acl.specs.SubjectModel.{SubjectModel}
 use Rattle.room_records.specs.Records.{Records}
 use Rattle.room_records.specs.Room.{Room}
 use Rattle.room_records.specs.Shelf.{View}
@@ -13,14 +11,14 @@ use Rattle.room_commands.specs.ReplyModel.{Done, Opened}
 use Rattle.room_wire.specs.declared.answers.code.Code.TheVariants.{Delay, BadSession, BadSlot, SeqMisordered}
 use Rattle.room_wire.specs.declared.answers.code.Code.TheVariants.{SeqFalseRetry, SessionTaken}
 use Rattle.room_wire.specs.Asks.AskOf.{Event}
-use Rattle.room_wire.specs.Asks.EventModel.{EventModel, Request, Open, Close, Slot}
+use Rattle.room_wire.specs.Asks.EventModel.{EventModel, Open, Close, Slot}
 use Rattle.room_wire.specs.Forms.Texts.{command_text, reply_text}
 use Rattle.room_desk.specs.AnswerModel.{AnswerModel, Reply, Refused}
 use Rattle.room_desk.specs.Crashes.{LeavesNew}
 use Rattle.room_desk.specs.History.{History, Session, session_of, is_open, is_open_for, slots_of, Accepted, accepted}
 use Rattle.room_desk.specs.History.{is_accepted, replay, original_reply, answer_open, answer_close, answer_unaccepted}
 use Rattle.room_desk.specs.History.{answer_to, changes_rows}
-use Rattle.room_desk.specs.Representation.{RepresentsHistory, StandsFor, StandsWith, InTurn, Run, Step}
+use Rattle.room_desk.specs.Representation.{StandsFor, StandsWith, InTurn, Run, Step}
 use Rattle.room_desk.specs.Serving.{Answered, EventAnswered}
 use Rattle.room_desk.specs.Stops.{is_delay, in_doubt, StandsInDoubt}
 use Rattle.room_desk.proofs.Idle.{stand_after_idle}
@@ -95,8 +93,14 @@ idle_below start past doubted event r idle (inl stand) = inl (stand_after_idle s
 idle_below start past doubted event r idle (inr (other, at, stand)) =
     let alike = alike_swapped start (event ∷ past) past (alike_after_idle start past event idle) in
     let longer = alike_then start past (event ∷ past) alike other in
-    inr (other, at, (sym (changes_alike start past (event ∷ past) alike other) ∙ stand.0,
-    stand_alike start (other ∷ past) (other ∷ event ∷ past) longer r stand.1))
+    inr (
+      other,
+      at,
+      (
+        sym (changes_alike start past (event ∷ past) alike other) ∙ stand.0,
+        stand_alike start (other ∷ past) (other ∷ event ∷ past) longer r stand.1,
+      ),
+    )
 
 -- an event that was answered, and what is in doubt after it
 module _ (before after : View) (event : EventModel) (answered : AnswerModel)
@@ -185,3 +189,92 @@ module _ {S : Type 0} (view : S → View) where
           let later = go_on past (event ∷ doubted) (subst Stands same stand)
           (after_delay (view before) (view mid) event answered run.1 there start past stands doubted leaves) in
           (later.0, (past, inr (is, refl), later.1), later.2, subst (Doubt later.0) (sym (ap is_delay is)) later.3)
+
+  -- the same from an answer on that settled: nothing is asked of what a crash might have left before it
+  pub left_since_reply : (before mid after : S) (event : EventModel) (answered : AnswerModel)
+      (events : List EventModel) (answers : List AnswerModel) (start : Room) (past : History)
+      → EventAnswered view before event answered mid
+      → InTurn (EventAnswered view) mid events answers after → (view after).is_intact
+      → StandsFor start past (view before) → changes_rows past event ≡ true → answered ≢ Refused Delay
+      → Left after events answers start (event ∷ past) []
+  left_since_reply before mid after event answered events answers start past call run intact stands changes other =
+      left_in_doubt mid after events answers start (event ∷ past) [] run intact
+      (by_step step.1 step.2)
+      (λ left may. inl (call.settled there start past stands changes other left may).1)
+    where
+      there : (view mid).is_intact
+      there = intact_before mid after events answers run intact
+
+      step : (next : History) × Step start past event answered next × StandsFor start next (view mid)
+      step = call.step there start past stands
+
+      by_step : Step start past event answered step.0 → StandsFor start step.0 (view mid)
+          → StandsFor start (event ∷ past) (view mid)
+      by_step (inl (is, longer)) stand =
+          let Stands : History → Type 0 = λ h. StandsFor start h (view mid) in subst Stands longer stand
+      by_step (inr (delay, same)) stand = absurd (other delay)
+
+  -- an event that is sent again, where the rows stand for the history with it or without
+  pub sent_again : (found after : S) (event : EventModel) (answered : AnswerModel) (start : Room) (past : History)
+      → EventAnswered view found event answered after → (view after).is_intact
+      → StandsFor start past (view found) ⊎ StandsFor start (event ∷ past) (view found)
+      → ((answered ≡ answer_to start past event) × StandsFor start (event ∷ past) (view after))
+      ⊎ ((answered ≡ Refused Delay)
+      × (StandsFor start past (view after) ⊎ StandsFor start (event ∷ past) (view after)))
+  sent_again found after event answered start past call intact (inl without) =
+      by_step step.0 step.1 step.2
+    where
+      step : (next : History) × Step start past event answered next × StandsFor start next (view after)
+      step = call.step intact start past without
+
+      by_step : (next : History) → Step start past event answered next → StandsFor start next (view after)
+          → ((answered ≡ answer_to start past event) × StandsFor start (event ∷ past) (view after))
+          ⊎ ((answered ≡ Refused Delay)
+          × (StandsFor start past (view after) ⊎ StandsFor start (event ∷ past) (view after)))
+      by_step next (inl (is, longer)) stand =
+          let Stands : History → Type 0 = λ h. StandsFor start h (view after) in inl (is, subst Stands longer stand)
+      by_step next (inr (is, same)) stand =
+          let Stands : History → Type 0 = λ h. StandsFor start h (view after) in inr (is, inl (subst Stands same stand))
+  sent_again found after event answered start past call intact (inr with_it) =
+      by_step step.0 step.1 step.2
+    where
+      step : (next : History) × Step start (event ∷ past) event answered next × StandsFor start next (view after)
+      step = call.step intact start (event ∷ past) with_it
+
+      -- rows that stand for the history with the event twice stand for it with the event once
+      once : StandsFor start (event ∷ event ∷ past) (view after) → StandsFor start (event ∷ past) (view after)
+      once twice = λ there. (
+        (twice there).0,
+        stand_alike start (event ∷ event ∷ past) (event ∷ past)
+            (alike_after_idle start (event ∷ past) event (again_is_idle past event)) (view after).records (twice there).1,
+      )
+
+      by_step : (next : History) → Step start (event ∷ past) event answered next → StandsFor start next (view after)
+          → ((answered ≡ answer_to start past event) × StandsFor start (event ∷ past) (view after))
+          ⊎ ((answered ≡ Refused Delay)
+          × (StandsFor start past (view after) ⊎ StandsFor start (event ∷ past) (view after)))
+      by_step next (inl (is, longer)) stand =
+          let Stands : History → Type 0 = λ h. StandsFor start h (view after) in
+          inl (is ∙ same_answer_again start past event, once (subst Stands longer stand))
+      by_step next (inr (is, same)) stand =
+          let Stands : History → Type 0 = λ h. StandsFor start h (view after) in inr (is, inr (subst Stands same stand))
+
+-- a run goes to one history
+pub one_history : (start : Room) (past a b : History) (events : List EventModel) (answers : List AnswerModel)
+    → Run start past events answers a → Run start past events answers b → a ≡ b
+one_history start past a b [] [] one other = one ∙ sym other
+one_history start past a b [] (answered ∷ answers) one other = absurd one
+one_history start past a b (event ∷ events) [] one other = absurd one
+one_history start past a b (event ∷ events) (answered ∷ answers) one other =
+    let From : History → Type 0 = λ h. Run start h events answers b in
+    one_history start one.0 a b events answers one.2
+    (subst From (sym (one_step one.0 other.0 one.1 other.1)) other.2)
+  where
+    no_both : answered ≡ answer_to start past event → answered ≡ Refused Delay → ⊥
+    no_both is delay = true≢false (sym (ap is_delay delay) ∙ ap is_delay is ∙ never_delay start past event)
+
+    one_step : (m n : History) → Step start past event answered m → Step start past event answered n → m ≡ n
+    one_step m n (inl (is, longer)) (inl (same, other_longer)) = longer ∙ sym other_longer
+    one_step m n (inl (is, longer)) (inr (delay, stays)) = absurd (no_both is delay)
+    one_step m n (inr (delay, stays)) (inl (is, longer)) = absurd (no_both is delay)
+    one_step m n (inr (delay, stays)) (inr (same, other_stays)) = stays ∙ sym other_stays

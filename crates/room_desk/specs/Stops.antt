@@ -5,7 +5,7 @@ use Rattle.room_records.specs.Records.{Records}
 use Rattle.room_records.specs.Room.{Room}
 use Rattle.room_wire.specs.declared.answers.code.Code.TheVariants.{Delay}
 use Rattle.room_wire.specs.Asks.EventModel.{EventModel}
-use Rattle.room_desk.specs.AnswerModel.{AnswerModel, Reply, Refused}
+use Rattle.room_desk.specs.AnswerModel.{AnswerModel, Refused}
 use Rattle.room_desk.specs.History.{History, changes_rows}
 use Rattle.room_desk.specs.Representation.{RepresentsHistory, StandsWith}
 
