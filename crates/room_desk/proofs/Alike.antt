@@ -1,5 +1,5 @@
--- Histories that are alike, as one with an event that changes nothing and one without: the same rows stand for both, and
--- for both with any further event.
+-- Histories that are alike, as one with an event that changes nothing and one without: the same rows stand for both,
+-- and for both with any further event.
 use Rattle.std.proofs.Common.{◌≡◌, ℕ, suc, ◌%◌, ◌^◌, refl, ap, sym, ◌∙◌, Bool, true, false, not, cond, ◌||◌}
 use Rattle.std.proofs.Common.{List, ◌∷◌, length, Option, None, Some, is_some, option_map}
 use Rattle.std.specs.Prelude.{◌&&◌, ◌==◌, nat_lt}

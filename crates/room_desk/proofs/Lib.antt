@@ -12,6 +12,7 @@ pub mod SlotTests
 pub mod Idle
 pub mod Alike
 pub mod Stops
+pub mod StreamStops
 pub mod Numbers
 pub mod Repeats
 pub mod KeptRows

@@ -106,7 +106,7 @@ idle_below start past doubted event r idle (inr (other, at, stand)) =
 module _ (before after : View) (event : EventModel) (answered : AnswerModel)
     (call : Answered (Ok (Event event)) before answered after) (intact : after.is_intact)
     (start : Room) (past : History) (stands : StandsFor start past before) where
-  after_answer : (doubted : List EventModel) (changes : Bool) → changes_rows past event ≡ changes
+  pub after_answer : (doubted : List EventModel) (changes : Bool) → changes_rows past event ≡ changes
       → is_delay answered ≡ false → LeavesNew before (StandsInDoubt start past doubted)
       → LeavesNew after (StandsInDoubt start (event ∷ past) (cond changes [] doubted))
   after_answer doubted true changes other leaves = λ left may.
@@ -118,7 +118,7 @@ module _ (before after : View) (event : EventModel) (answered : AnswerModel)
       was left (inl old) = idle_below start past doubted event left idle (leaves left old)
       was left (inr made) = absurd (true≢false (sym made.0 ∙ idle))
 
-  after_delay : (doubted : List EventModel) → LeavesNew before (StandsInDoubt start past doubted)
+  pub after_delay : (doubted : List EventModel) → LeavesNew before (StandsInDoubt start past doubted)
       → LeavesNew after (StandsInDoubt start past (event ∷ doubted))
   after_delay doubted leaves = λ left may. was left (call.crash intact start past stands left may)
     where
@@ -243,11 +243,11 @@ module _ {S : Type 0} (view : S → View) where
 
       -- rows that stand for the history with the event twice stand for it with the event once
       once : StandsFor start (event ∷ event ∷ past) (view after) → StandsFor start (event ∷ past) (view after)
-      once twice = λ there. (
-        (twice there).0,
-        stand_alike start (event ∷ event ∷ past) (event ∷ past)
-            (alike_after_idle start (event ∷ past) event (again_is_idle past event)) (view after).records (twice there).1,
-      )
+      once twice = λ there.
+          let alike = alike_after_idle start (event ∷ past) event (again_is_idle past event) in (
+            (twice there).0,
+            stand_alike start (event ∷ event ∷ past) (event ∷ past) alike (view after).records (twice there).1,
+          )
 
       by_step : (next : History) → Step start (event ∷ past) event answered next → StandsFor start next (view after)
           → ((answered ≡ answer_to start past event) × StandsFor start (event ∷ past) (view after))
