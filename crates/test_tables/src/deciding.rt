@@ -1,13 +1,14 @@
 //! How far a decision reads an object's list: row by row in order of place, up to the one that leaves nothing open. A
 //! row that is no entry shows itself to a decision that comes to it, and to no other.
-use room_acl::{Decision, Mask, Standing};
-use room_records::{Shelf, ShelfFault};
+use crate::lists::LONGEST;
+use room_acl::{Decision, Entry, Flags, Mask, Standing, Who};
+use room_records::{Change, Shelf, ShelfFault};
 use room_sql::SqlShelf;
 use sqlite::MemStore;
 use std::alloc::Global;
 use std::test::Fail;
 use test_stores::{in_tables, taken};
-use test_support::{named, subject};
+use test_support::{in_memory, named, subject};
 
 /// A file whose list lets bob read, then denies everyone to read and write, and last lets bob write and append. The
 /// rows were written from the last place to the first.
@@ -105,5 +106,48 @@ fn rows_behind_the_deciding_one_are_not_read(rt: HostRuntime) -> Result<(), Fail
         }
     }
     assert_eq!(rt; told, 1);
+    Ok(())
+}
+
+/// A list of the most entries, of which the one at this place lets bob write, and the others cat.
+fn long_list(alloc: Global, place: usize) -> Result<Vec<Entry>, Fail> {
+    let flags = Flags::new(0).ok_or("no flags")?;
+    let mask = Mask::new(2).ok_or("no mask")?;
+    let mut entries = Vec::new(alloc);
+    for at in 0..LONGEST {
+        let who = Who::User(named(alloc, if at == place { "bob" } else { "cat" })?);
+        entries.push(Entry::new(true, flags, mask, who).ok_or("no entry")?)?;
+    }
+    Ok(entries)
+}
+
+/// Whether the root's list lets this user write.
+fn may_write<S: Shelf>(alloc: Global, shelf: &mut S, user: &str) -> Result<bool, Fail> {
+    let standing = Standing {
+        owner: named(alloc, "ann")?,
+        group: named(alloc, "eng")?,
+    };
+    let wanted = Mask::new(2).ok_or("no mask")?;
+    Ok(shelf.decide_at(1, &subject(alloc, user)?, &standing, wanted)? == Decision::Allowed)
+}
+
+/// Where the root has the list that lets bob write at this place, bob may, and eve may not.
+fn is_decided<S: Shelf>(alloc: Global, shelf: &mut S, place: usize) -> Result<bool, Fail> {
+    let changes = vec![in alloc; Change::PutEntries(1, long_list(alloc, place)?)]?;
+    shelf.commit(changes.as_slice())?;
+    Ok(may_write(alloc, shelf, "bob")? && !may_write(alloc, shelf, "eve")?)
+}
+
+/// The first entry, one in the middle, and the last.
+static PLACES: [usize; 3] = [0, 272, 543];
+
+#[test]
+fn any_entry_of_the_longest_list_decides(rt: HostRuntime) -> Result<(), Fail> {
+    let mut tables = in_tables(rt.alloc())?;
+    let mut memory = in_memory(rt.alloc())?;
+    for place in &PLACES {
+        assert!(rt; is_decided(rt.alloc(), &mut tables, *place)?);
+        assert!(rt; is_decided(rt.alloc(), &mut memory, *place)?);
+    }
     Ok(())
 }
