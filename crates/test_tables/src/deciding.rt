@@ -78,7 +78,7 @@ fn decisions(alloc: Global, shelf: &mut SqlShelf<MemStore>) -> Result<String, Fa
 }
 
 /// The file in tables, with the row spoilt.
-fn spoilt(alloc: Global, sql: &str) -> Result<SqlShelf<MemStore>, Fail> {
+fn with_spoilt(alloc: Global, sql: &str) -> Result<SqlShelf<MemStore>, Fail> {
     let mut conn = in_tables(alloc)?.into_connection();
     conn.execute_batch(FILE)?;
     conn.execute(sql, &[])?;
@@ -88,7 +88,7 @@ fn spoilt(alloc: Global, sql: &str) -> Result<SqlShelf<MemStore>, Fail> {
 /// What is decided, and whether the whole list is told, once the row is spoilt.
 fn tries(alloc: Global, case: &Spoilt) -> Result<bool, Fail> {
     let Spoilt(sql, wanted) = *case;
-    let mut shelf = spoilt(alloc, sql)?;
+    let mut shelf = with_spoilt(alloc, sql)?;
     let got = decisions(alloc, &mut shelf)?;
     if got.as_str() != wanted {
         return Err(Fail::new(format_args!("{sql}: {got} and not {wanted}")));
