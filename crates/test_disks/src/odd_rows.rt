@@ -34,6 +34,7 @@ const LIST: Step = Step(
     r#"{"code":0,"names":[["a","file"]]}"#,
 );
 
+/// It reads the root's list whole, and not only up to the entry that decides.
 const MKDIR: Step = Step(
     Ask::Run(4, r#"{"cmd":"MKDIR","path":"/e"}"#),
     r#"{"code":0}"#,
@@ -141,7 +142,7 @@ static ODDS: [Odd; 31] = [
     Odd(
         "UPDATE entry SET who = 'a/b' WHERE node = 1 AND place = 1",
         "UPDATE entry SET who = 'GROUP@' WHERE node = 1 AND place = 1",
-        READ,
+        MKDIR,
     ),
     Odd(
         "UPDATE entry SET flag = flag + 16 WHERE node = 3",
@@ -151,7 +152,7 @@ static ODDS: [Odd; 31] = [
     Odd(
         "UPDATE entry SET type = 2 WHERE node = 2 AND place = 1",
         "UPDATE entry SET type = 0 WHERE node = 2 AND place = 1",
-        READ,
+        SETLIST,
     ),
     Odd(
         "UPDATE entry SET flag = flag + 16 WHERE node = 2",
