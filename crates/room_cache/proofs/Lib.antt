@@ -1,3 +1,4 @@
 pub mod Listed
 pub mod Counts
 pub mod Remembered
+pub mod Steps

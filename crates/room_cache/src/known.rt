@@ -1,6 +1,5 @@
 //! What is remembered of the rows: a few numbers.
-ghost use Rattle.std.specs.Prelude.{◌≡◌, IfSome, Some};
-ghost use Rattle.room_records.specs.declared.node.Node.{Node as NodeModel};
+ghost use Rattle.std.specs.Prelude.{◌≡◌, true, IfSome, Some};
 ghost use Rattle.room_records.specs.declared.change.Change.TheVariants.{PutNode, DropNode, PutNext};
 ghost use Rattle.room_records.specs.Records.{ObjectRecords, Records};
 ghost use Rattle.room_records.specs.Rules.{ObjectRules, RulesHold};
@@ -114,26 +113,43 @@ impl Known {
         }
     }
 
-    /// After an object was put. At the free number it is new, and an object that was seen in this folder stays in it.
-    fn after_put(&self, id: u32, parent: Option<u32>) -> Known
-        ensures { (t : ObjectRecords) (node : NodeModel) → node.id ≡ id → node.parent ≡ parent
-            → ObjectRules t → ObjectRules (apply_to_objects (PutNode node) t)
-            → Remembers t self.now → Remembers (apply_to_objects (PutNode node) t) result }
+    /// Whether this object was seen in this folder.
+    fn has_seen(&self, id: u32, parent: Option<u32>) -> bool
+        ensures { result ≡ true → self.now.seen ≡ Some (id, parent) }
     {
-        let is_new = self.free == Some(id);
-        let stays = self.seen == Some((id, parent));
-        let counted = if is_new {
-            raised(self.counted, parent)
-        } else if stays {
-            self.counted
-        } else {
-            None
-        };
+        match self.seen {
+            Some((seen, folder)) => seen == id && folder == parent,
+            None => false,
+        }
+    }
+
+    /// After an object was put. At the free number it is new, and an object that was seen in this folder stays in it.
+    fn after_put(&self, node: &Node) -> Known
+        ensures { (t : ObjectRecords) → ObjectRules t → ObjectRules (apply_to_objects (PutNode node.now) t)
+            → Remembers t self.now → Remembers (apply_to_objects (PutNode node.now) t) result }
+    {
+        let seen = Some((node.id, node.parent));
+        if self.free == Some(node.id) {
+            return Known {
+                counted: raised(self.counted, node.parent),
+                next: self.next,
+                free: None,
+                seen,
+            };
+        }
+        if self.has_seen(node.id, node.parent) {
+            return Known {
+                counted: self.counted,
+                next: self.next,
+                free: self.free,
+                seen,
+            };
+        }
         Known {
-            counted,
+            counted: None,
             next: self.next,
-            free: if is_new { None } else { self.free },
-            seen: Some((id, parent)),
+            free: self.free,
+            seen,
         }
     }
 
@@ -173,7 +189,7 @@ impl Known {
             → Remembers t self.now → Remembers (apply_to_objects change.now t) result }
     {
         match change {
-            Change::PutNode(node) => self.after_put(node.id, node.parent),
+            Change::PutNode(node) => self.after_put(node),
             Change::DropNode(id) => self.after_drop(*id),
             Change::PutNext(next) => self.after_next(*next),
             Change::PutEntries(_, _)
