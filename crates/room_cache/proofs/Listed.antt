@@ -1,5 +1,5 @@
 -- Nodes in the order of their names: one less, and one more.
-use Rattle.std.proofs.Common.{◌≡◌, ℕ, zero, suc, ◌+◌, refl, ap, sym, ◌∙◌, subst, arith, inl, inr, ◌⊎◌, List, [], ◌∷◌, length}
+use Rattle.std.proofs.Common.{◌≡◌, zero, suc, ◌+◌, refl, ap, sym, ◌∙◌, subst, arith, inl, inr, ◌⊎◌, List, [], ◌∷◌, length}
 use Rattle.std.specs.List.{AllByRecursion, Contains}
 use Rattle.std.specs.Ordering.{ordering_reverse}
 use Rattle.std.specs.declared.cmp.Ordering.{Ordering}
@@ -147,7 +147,10 @@ added node (m ∷ ns) rising apart =
         | inl here ↦ inr (inl here)
         | inr there ↦ elim (rest.either n there) [ inl is ↦ inl is | inr later ↦ inr (inr later) ]
       ];
-      rising = (rest.behind m
-          (nat_list_cmp_total.antisymm (name_of m) (name_of node) ∙ ap ordering_reverse is) rising.0, rest.rising);
+      rising = (
+        rest.behind m
+            (nat_list_cmp_total.antisymm (name_of m) (name_of node) ∙ ap ordering_reverse is) rising.0,
+        rest.rising,
+      );
       behind = λ a less all. (all.0, rest.behind a less all.1);
     }

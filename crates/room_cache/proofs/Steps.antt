@@ -23,9 +23,13 @@ pub leads_step : (all rest : List Change) (change : Change) (start known next : 
     → Remembers t known → Remembers (apply_to_objects change t) next)
     → LeadsOn all rest start next
 leads_step all rest change start known next before after r rules each right =
-    let b = before r rules each right in
-    (apply_change change b.0, b.2.0, b.2.1,
-      after (b.0).objects b.1.objects b.2.0.objects b.3, b.4)
+    let b = before r rules each right in (
+      apply_change change b.0,
+      b.2.0,
+      b.2.1,
+      after (b.0).objects b.1.objects b.2.0.objects b.3,
+      b.4,
+    )
 
 pub leads_to : (all : List Change) (start known : Known) → LeadsOn all [] start known
     → (r : Records) → RulesHold r → RulesHoldAfterEach all r → Remembers r.objects start
