@@ -1,5 +1,6 @@
 -- Nodes in the order of their names: one less, and one more.
-use Rattle.std.proofs.Common.{◌≡◌, zero, suc, ◌+◌, refl, ap, sym, ◌∙◌, subst, arith, inl, inr, ◌⊎◌, List, [], ◌∷◌, length}
+use Rattle.std.proofs.Common.{◌≡◌, zero, suc, ◌+◌, refl, ap, sym, ◌∙◌, subst, arith, inl, inr, ◌⊎◌}
+use Rattle.std.proofs.Common.{List, [], ◌∷◌, length}
 use Rattle.std.specs.List.{AllByRecursion, Contains}
 use Rattle.std.specs.Ordering.{ordering_reverse}
 use Rattle.std.specs.declared.cmp.Ordering.{Ordering}

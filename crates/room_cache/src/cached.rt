@@ -101,7 +101,8 @@ impl<S: Shelf> Shelf for CachedShelf<S> {
     fn node(&mut self, id: u32) -> Result<Option<Node>, ShelfFault>
         ensures value { Tells (cached_view S.view self.old) (cached_view S.view self.new)
             result (λ records found. found ≡ records.objects.node id) }
-        ensures there { (cached_view S.view self.new).is_intact → OnOk result (cached_view S.view self.new).is_available }
+        ensures there { (cached_view S.view self.new).is_intact
+            → OnOk result (cached_view S.view self.new).is_available }
         ensures frame { ShelfRead (cached_view S.view self.old) (cached_view S.view self.new) (fault_in result) }
     {
         match self.inner.node(id) {
@@ -119,7 +120,8 @@ impl<S: Shelf> Shelf for CachedShelf<S> {
     fn child(&mut self, parent: u32, name: &FileName) -> Result<Option<Node>, ShelfFault>
         ensures value { Tells (cached_view S.view self.old) (cached_view S.view self.new)
             result (λ records. IsChildNamed records.objects parent name.now) }
-        ensures there { (cached_view S.view self.new).is_intact → OnOk result (cached_view S.view self.new).is_available }
+        ensures there { (cached_view S.view self.new).is_intact
+            → OnOk result (cached_view S.view self.new).is_available }
         ensures frame { ShelfRead (cached_view S.view self.old) (cached_view S.view self.new) (fault_in result) }
     {
         match self.inner.child(parent, name) {
@@ -137,7 +139,8 @@ impl<S: Shelf> Shelf for CachedShelf<S> {
     fn children(&mut self, parent: u32) -> Result<Vec<Node>, ShelfFault>
         ensures value { Tells (cached_view S.view self.old) (cached_view S.view self.new) result (λ records found.
             ObjectRules records.objects → AreChildren records.objects parent found.items) }
-        ensures there { (cached_view S.view self.new).is_intact → OnOk result (cached_view S.view self.new).is_available }
+        ensures there { (cached_view S.view self.new).is_intact
+            → OnOk result (cached_view S.view self.new).is_available }
         ensures frame { ShelfRead (cached_view S.view self.old) (cached_view S.view self.new) (fault_in result) }
     {
         match self.inner.children(parent) {
@@ -152,7 +155,8 @@ impl<S: Shelf> Shelf for CachedShelf<S> {
     fn child_count(&mut self, parent: u32) -> Result<u64, ShelfFault>
         ensures value { Tells (cached_view S.view self.old) (cached_view S.view self.new) result (λ records count.
             ObjectRules records.objects → IsChildCount records.objects parent count) }
-        ensures there { (cached_view S.view self.new).is_intact → OnOk result (cached_view S.view self.new).is_available }
+        ensures there { (cached_view S.view self.new).is_intact
+            → OnOk result (cached_view S.view self.new).is_available }
         ensures frame { ShelfRead (cached_view S.view self.old) (cached_view S.view self.new) (fault_in result) }
     {
         if let Some(count) = self.known.count_of(parent) {
@@ -173,7 +177,8 @@ impl<S: Shelf> Shelf for CachedShelf<S> {
     fn entries(&mut self, id: u32) -> Result<Vec<Entry>, ShelfFault>
         ensures value { Tells (cached_view S.view self.old) (cached_view S.view self.new)
             result (λ records found. found.items ≡ records.objects.entries id) }
-        ensures there { (cached_view S.view self.new).is_intact → OnOk result (cached_view S.view self.new).is_available }
+        ensures there { (cached_view S.view self.new).is_intact
+            → OnOk result (cached_view S.view self.new).is_available }
         ensures frame { ShelfRead (cached_view S.view self.old) (cached_view S.view self.new) (fault_in result) }
     {
         match self.inner.entries(id) {
@@ -194,7 +199,8 @@ impl<S: Shelf> Shelf for CachedShelf<S> {
     ) -> Result<Decision, ShelfFault>
         ensures value { Tells (cached_view S.view self.old) (cached_view S.view self.new) result (λ records found.
             found ≡ decision (records.objects.entries id) subject.now standing.now wanted) }
-        ensures there { (cached_view S.view self.new).is_intact → OnOk result (cached_view S.view self.new).is_available }
+        ensures there { (cached_view S.view self.new).is_intact
+            → OnOk result (cached_view S.view self.new).is_available }
         ensures frame { ShelfRead (cached_view S.view self.old) (cached_view S.view self.new) (fault_in result) }
     {
         match self.inner.decide_at(id, subject, standing, wanted) {
@@ -209,7 +215,8 @@ impl<S: Shelf> Shelf for CachedShelf<S> {
     fn doc(&mut self, id: u32) -> Result<Vec<u8>, ShelfFault>
         ensures value { Tells (cached_view S.view self.old) (cached_view S.view self.new) result (λ records found.
             found.items ≡ unwrap_or (records.objects.document id) []) }
-        ensures there { (cached_view S.view self.new).is_intact → OnOk result (cached_view S.view self.new).is_available }
+        ensures there { (cached_view S.view self.new).is_intact
+            → OnOk result (cached_view S.view self.new).is_available }
         ensures frame { ShelfRead (cached_view S.view self.old) (cached_view S.view self.new) (fault_in result) }
     {
         match self.inner.doc(id) {
@@ -224,7 +231,8 @@ impl<S: Shelf> Shelf for CachedShelf<S> {
     fn session(&mut self, sid: &Sid) -> Result<Option<SessionRow>, ShelfFault>
         ensures value { Tells (cached_view S.view self.old) (cached_view S.view self.new)
             result (λ records found. found ≡ records.session sid.now) }
-        ensures there { (cached_view S.view self.new).is_intact → OnOk result (cached_view S.view self.new).is_available }
+        ensures there { (cached_view S.view self.new).is_intact
+            → OnOk result (cached_view S.view self.new).is_available }
         ensures frame { ShelfRead (cached_view S.view self.old) (cached_view S.view self.new) (fault_in result) }
     {
         match self.inner.session(sid) {
@@ -239,7 +247,8 @@ impl<S: Shelf> Shelf for CachedShelf<S> {
     fn slot(&mut self, sid: &Sid, slot: u32) -> Result<Option<Kept>, ShelfFault>
         ensures value { Tells (cached_view S.view self.old) (cached_view S.view self.new)
             result (λ records found. found ≡ records.slot sid.now slot) }
-        ensures there { (cached_view S.view self.new).is_intact → OnOk result (cached_view S.view self.new).is_available }
+        ensures there { (cached_view S.view self.new).is_intact
+            → OnOk result (cached_view S.view self.new).is_available }
         ensures frame { ShelfRead (cached_view S.view self.old) (cached_view S.view self.new) (fault_in result) }
     {
         match self.inner.slot(sid, slot) {
@@ -254,7 +263,8 @@ impl<S: Shelf> Shelf for CachedShelf<S> {
     fn next_id(&mut self) -> Result<u32, ShelfFault>
         ensures value { Tells (cached_view S.view self.old) (cached_view S.view self.new)
             result (λ records next. next ≡ records.objects.next) }
-        ensures there { (cached_view S.view self.new).is_intact → OnOk result (cached_view S.view self.new).is_available }
+        ensures there { (cached_view S.view self.new).is_intact
+            → OnOk result (cached_view S.view self.new).is_available }
         ensures frame { ShelfRead (cached_view S.view self.old) (cached_view S.view self.new) (fault_in result) }
     {
         if let Some(next) = self.known.next {
@@ -274,7 +284,8 @@ impl<S: Shelf> Shelf for CachedShelf<S> {
 
     // Nothing is said of the rules here, so nothing is remembered over it.
     fn commit(&mut self, changes: &[Change]) -> Result<(), ShelfFault>
-        ensures there { (cached_view S.view self.new).is_intact → OnOk result (cached_view S.view self.new).is_available }
+        ensures there { (cached_view S.view self.new).is_intact
+            → OnOk result (cached_view S.view self.new).is_available }
         ensures frame { ShelfCall (cached_view S.view self.old) (cached_view S.view self.new) (fault_in result) }
         ensures ok { (cached_view S.view self.new).is_intact → (cached_view S.view self.old).is_laid_out
             → RulesHoldAfterEach changes.now (cached_view S.view self.old).records →
