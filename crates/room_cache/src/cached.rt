@@ -16,6 +16,7 @@ use std::marker::Model;
 /// A shelf around a shelf, which remembers how many children a folder has and the number of the next object, and is
 /// not asked for them again. What is remembered is forgotten with each fault: memory answers only while the store is
 /// known to be there.
+#[derive(Drop)]
 pub struct CachedShelf<S: Shelf> {
     inner: S,
     known: Known,
