@@ -2,7 +2,7 @@
 # Only `make test` is a verdict.
 RT ?= rt
 
-.PHONY: demo build test wrong growth wire tables crash bench
+.PHONY: demo build test wrong growth wire tables crash hostile bench
 
 # Answers the questions of examples/, and walks through a served room with curl: with build/fileroom where `make build`
 # made it, and else with the toolchain's quick build, which proves nothing.
@@ -40,6 +40,11 @@ tables: build
 # Kills the server in the middle of writes, 240 times (`make test` 100 times): each request acts once.
 crash: build
 	tests/crash/run
+
+# Random streams against a plain model, forty clients and kills, and peers that neither send nor read. `make test` plays
+# 2,000 streams; here 50,000.
+hostile: build
+	STREAMS=50000 KILLS=60 PIECES=40 tests/hostile/run
 
 # Times `check`, a room in memory, a served room, its tables, SETLIST over many followers, `replay` and the reports, and
 # counts the instructions of a request. Needs sqlite3, strace and valgrind.

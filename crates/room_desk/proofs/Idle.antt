@@ -17,7 +17,7 @@ use Rattle.room_desk.specs.History.{History, Session, session_of, with_event, op
 use Rattle.room_desk.specs.History.{slots_of, accepted, is_accepted, state_after, answer_open, answer_close}
 use Rattle.room_desk.specs.History.{answer_unaccepted, answer_to, original_reply, changes_rows}
 use Rattle.room_desk.specs.Representation.{RepresentsHistory, session_row_of, is_open_session, slot_row_of, kept_after}
-use Rattle.room_desk.proofs.Refusals.{stand_after_refusal, state_stays}
+use Rattle.room_desk.proofs.Refusals.{row_after_request, accepted_after, state_stays}
 
 pub itself : (text : List ℕ) → bytes_eq text text ≡ true
 itself text = (bytes_decides text text).1 refl
@@ -109,27 +109,38 @@ stand_later start r past event state rows slots stand = record {
   slots = λ sid slot. stand.slots sid slot ∙ sym (slot_by_row start past event sid slot (rows sid) (slots sid slot));
 }
 
--- the rows stay as they are where the event changes none
-pub stand_after_idle : (start : Room) (r : Records) (past : History) (event : EventModel)
-    → changes_rows past event ≡ false → RepresentsHistory start r past → RepresentsHistory start r (event ∷ past)
-stand_after_idle start r past (Open caller name slots) idle stand =
-    stand_later start r past (Open caller name slots) refl
-    (λ sid. row_after_open caller name slots sid (session_of past sid)
+-- where the event changes none, the row of each session stays
+pub rows_after_idle : (past : History) (event : EventModel) → changes_rows past event ≡ false → (sid : List ℕ)
+    → option_map (session_row_of sid) (session_of (event ∷ past) sid)
+    ≡ option_map (session_row_of sid) (session_of past sid)
+rows_after_idle past (Open caller name slots) idle sid =
+    row_after_open caller name slots sid (session_of past sid)
     (λ here unused. true≢false (sym
-    (ap (λ o. not (is_some o)) (ap (session_of past) (sym ((bytes_decides sid name).0 here)) ∙ unused)) ∙ idle)))
-    (λ sid slot. refl) stand
-stand_after_idle start r past (Close caller name) idle stand =
-    stand_later start r past (Close caller name) refl
-    (λ sid. row_after_close caller name sid (session_of past sid)
-    (λ here. ap (λ s. is_open_for s caller (session_of past s)) ((bytes_decides sid name).0 here) ∙ idle))
-    (λ sid slot. refl) stand
-stand_after_idle start r past (Slot q) idle stand = stand_after_refusal start r past q idle stand
+    (ap (λ o. not (is_some o)) (ap (session_of past) (sym ((bytes_decides sid name).0 here)) ∙ unused)) ∙ idle))
+rows_after_idle past (Close caller name) idle sid =
+    row_after_close caller name sid (session_of past sid)
+    (λ here. ap (λ s. is_open_for s caller (session_of past s)) ((bytes_decides sid name).0 here) ∙ idle)
+rows_after_idle past (Slot q) idle sid = row_after_request sid q (session_of past sid)
+
+-- and so do the accepted requests of each slot
+pub accepted_after_idle : (past : History) (event : EventModel) → changes_rows past event ≡ false
+    → (sid : List ℕ) (slot : ℕ) → accepted (event ∷ past) sid slot ≡ accepted past sid slot
+accepted_after_idle past (Open caller name slots) idle sid slot = refl
+accepted_after_idle past (Close caller name) idle sid slot = refl
+accepted_after_idle past (Slot q) idle sid slot = accepted_after past q idle sid slot
 
 pub state_after_idle : (start : Room) (past : History) (event : EventModel)
     → changes_rows past event ≡ false → state_after start (event ∷ past) ≡ state_after start past
 state_after_idle start past (Open caller name slots) idle = refl
 state_after_idle start past (Close caller name) idle = refl
 state_after_idle start past (Slot q) idle = state_stays start past q idle
+
+-- the rows stay as they are where the event changes none
+pub stand_after_idle : (start : Room) (r : Records) (past : History) (event : EventModel)
+    → changes_rows past event ≡ false → RepresentsHistory start r past → RepresentsHistory start r (event ∷ past)
+stand_after_idle start r past event idle stand =
+    stand_later start r past event (state_after_idle start past event idle)
+    (rows_after_idle past event idle) (accepted_after_idle past event idle) stand
 
 -- the answer to a request, by the three tests
 abbrev pub slot_answer : Room → History → Request → Bool → Bool → Bool → AnswerModel

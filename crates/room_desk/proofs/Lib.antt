@@ -10,6 +10,9 @@ pub mod Closing
 pub mod Running
 pub mod SlotTests
 pub mod Idle
+pub mod Alike
+pub mod Stops
+pub mod StreamStops
 pub mod Numbers
 pub mod Repeats
 pub mod KeptRows

@@ -4,4 +4,5 @@ pub mod History
 pub mod Representation
 pub mod RowAnswers
 pub mod Serving
+pub mod Stops
 pub mod Verdicts

@@ -20,7 +20,7 @@ use std::marker::Model;
 /// Answers events over a shelf.
 pub struct Desk<S: Shelf> {
     pub(crate) alloc: Global,
-    shelf: S,
+    pub(crate) shelf: S,
 }
 
 impl<S: Shelf> Model for Desk<S> {

@@ -24,9 +24,9 @@ IsNamesFault owner group Memory = Unit {0}
 IsNamesFault owner group other = ⊥
 
 -- `init`: `bad name` comes only where a name is no principal, and then no store is opened; else a room is made in the
--- store at the path
-abbrev pub InitEnds : {M C : Type 0} → (does : M → Call C → M → Type 0) → (made taken : C → Type 0)
-    → (db owner group : List ℕ) → (old new : M) → Result (Unit {0}) Fault → Type 0
+-- store at the path, and the store is closed with this room in it
+abbrev pub InitEnds : {M C : Type 0} → (does : M → Call C → M → Type 0) → (made : C → C → Type 0)
+    → (taken : C → Type 0) → (db owner group : List ℕ) → (old new : M) → Result (Unit {0}) Fault → Type 0
 InitEnds does made taken db owner group old new done =
     ((fault : Fault) × (done ≡ Err fault) × IsNamesFault owner group fault × (new ≡ old))
     ⊎ (AreNames owner group × MakesAt does made taken db old new done)

@@ -12,7 +12,7 @@ use Rattle.room_program.specs.declared.fault.Fault.{Fault}
 use Rattle.room_program.specs.declared.fault.Fault.TheVariants.{CannotReadRoster, BadRoster, RoomExists, NotARoom}
 use Rattle.room_program.specs.declared.fault.Fault.TheVariants.{StoreFailed, Memory}
 use Rattle.room_program.specs.Machines.{Call}
-use Rattle.room_program.specs.Machines.Call.{reads, looks, opens}
+use Rattle.room_program.specs.Machines.Call.{reads, looks, opens, closes}
 
 -- the roster of a text: its users are those that the text gives
 abbrev pub GivesRoster : List ℕ → Result (List SubjectModel) Fault → Type 0
@@ -68,15 +68,15 @@ TakesRoom {M} does adopts path old new taken =
     ((begun : Option Bool) × does old (looks path begun) new × IsUnopened begun taken)
     ⊎ ((seen : M) × does old (looks path (Some true)) seen × OpensRoom does adopts path seen new taken)
 
--- a store that was opened is a room of version 1, and taken as it was
+-- a store that was opened has the tables and columns of a room, and is taken as it was
 abbrev pub Adopted : {S : Type 0} → Ghosts S → (opened taken : Held S) → Type 0
 Adopted g opened taken = IsTrue (has_room opened.schema)
     × (HasCleanDisk (state g taken) → IsTrue (state g taken).is_open × ((state g taken).now ≡ (state g opened).now))
     × Survives (state g opened) (state g taken) (λ _. ⊥)
 
 -- a store that was opened had no table of a room, and a fresh room was made in it, as `SqlShelf::init` has it
-abbrev pub Made : {S : Type 0} → Ghosts S → (owner group : List ℕ) → (opened : Held S) → Type 0
-Made {S} g owner group opened = (has_a_table opened.schema ≡ false) × (made : Held S)
+abbrev pub Made : {S : Type 0} → Ghosts S → (owner group : List ℕ) → (opened made : Held S) → Type 0
+Made g owner group opened made = (has_a_table opened.schema ≡ false)
     × (HasCleanDisk (state g made) → IsTrue (state g made).is_open
     × (opened.schema ≡ schema_0 → IsRoomDatabase (state g made).now × IsFreshRoom owner group (state g made).now.trees))
     × Survives (state g opened) (state g made) (MayBeMade owner group (state g opened).now)
@@ -85,17 +85,20 @@ Made {S} g owner group opened = (has_a_table opened.schema ≡ false) × (made :
 abbrev pub IsTaken : {S : Type 0} → (opened : Held S) → Type 0
 IsTaken opened = IsTrue (has_a_table opened.schema)
 
--- a fresh room was made in a store, or why not
-abbrev pub Makes : {C : Type 0} → (made taken : C → Type 0) → C → Result (Unit {0}) Fault → Type 0
-Makes made taken opened (Ok done) = made opened
-Makes made taken opened (Err RoomExists) = taken opened
-Makes made taken opened (Err StoreFailed) = Unit {0}
-Makes made taken opened (Err Memory) = Unit {0}
-Makes made taken opened (Err other) = ⊥
+-- a fresh room was made in a store, and so it is closed; or why not, and then no store is closed
+abbrev pub Makes : {M C : Type 0} → (does : M → Call C → M → Type 0) → (made : C → C → Type 0)
+    → (taken : C → Type 0) → C → M → M → Result (Unit {0}) Fault → Type 0
+Makes {M} {C} does made taken opened old new (Ok done) =
+    (closed : C) × made opened closed × does old (closes closed) new
+Makes does made taken opened old new (Err RoomExists) = taken opened × (new ≡ old)
+Makes does made taken opened old new (Err StoreFailed) = new ≡ old
+Makes does made taken opened old new (Err Memory) = new ≡ old
+Makes does made taken opened old new (Err other) = ⊥
 
 -- and in the store at a path
 abbrev pub MakesAt : {M C : Type 0} → (does : M → Call C → M → Type 0)
-    → (made taken : C → Type 0) → List ℕ → M → M → Result (Unit {0}) Fault → Type 0
+    → (made : C → C → Type 0) → (taken : C → Type 0) → List ℕ → M → M → Result (Unit {0}) Fault → Type 0
 MakesAt {M} {C} does made taken path old new done =
     ((fault : Fault) × (done ≡ Err fault) × OpensStore does path old new (Err fault))
-    ⊎ ((opened : C) × OpensStore does path old new (Ok opened) × Makes made taken opened done)
+    ⊎ ((opened : C) × (begun : M) × OpensStore does path old begun (Ok opened)
+    × Makes does made taken opened begun new done)

@@ -9,6 +9,10 @@ pub data Call (C : Type 0) : Type 0 where
   looks : (path : List ℕ) → (begun : Option Bool) → Call C
   -- the store at a path, where it can be opened
   opens : (path : List ℕ) → (opened : Option C) → Call C
+  -- a store is closed: as it is when it is handed in
+  closes : (closed : C) → Call C
+  -- a store is let go without a close
+  leaves : (left : C) → Call C
   -- whether connections to a port of 127.0.0.1 are listened for
   listens : (port : ℕ) → (done : Bool) → Call C
   -- whether they are listened for on a free port, with one made to it

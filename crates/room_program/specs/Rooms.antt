@@ -20,7 +20,7 @@ use Rattle.room_program.specs.Calls.{Accepted, AcceptsFewer}
 use Rattle.room_program.specs.Ends.{ReportEnds, ServeEnds}
 use Rattle.room_program.specs.Files.{TakesRoster, TakesRoom}
 use Rattle.room_program.specs.Machines.{Call}
-use Rattle.room_program.specs.Machines.Call.{listens}
+use Rattle.room_program.specs.Machines.Call.{listens, closes, leaves}
 use Rattle.room_program.specs.Streams.{AnswersSome, GoesOn}
 
 -- the report of a kind
@@ -60,17 +60,18 @@ abbrev pub FailsRoom : {M C Shelf : Type 0} → (does : M → Call C → M → T
 FailsRoom does adopts path old new done =
     (fault : Fault) × (done ≡ Err fault) × TakesRoom does adopts path old new (Err fault)
 
--- `report`: the roster is taken, then the room, and then its report is written; before that nothing is written
+-- `report`: the roster is taken, then the room, and then its report is written; before that nothing is written. The
+-- store that is let go is the one over which it was written
 abbrev pub Reports : {M C Shelf : Type 0} → (does : M → Call C → M → Type 0)
-    → (adopts : C → Shelf → Type 0) → (view : Shelf → View)
+    → (adopts : C → Shelf → Type 0) → (store : Shelf → C) → (view : Shelf → View)
     → (db roster : List ℕ) → ReportKind → (before later : M)
     → (old new : Option (List ℕ)) → Result (Unit {0}) Fault → Type 0
-Reports {M} {C} {Shelf} does adopts view db roster kind before later old new done =
+Reports {M} {C} {Shelf} does adopts store view db roster kind before later old new done =
     (FailsRoster does roster before later done × (new ≡ old))
     ⊎ ((users : List SubjectModel) × (read : M) × TakesRoster does roster before read (Ok users)
     × ((FailsRoom does adopts db read later done × (new ≡ old))
-    ⊎ ((taken left : Shelf) × TakesRoom does adopts db read later (Ok taken)
-    × WritesReport view kind users taken left old new done)))
+    ⊎ ((taken left : Shelf) × (seen : M) × TakesRoom does adopts db read seen (Ok taken)
+    × WritesReport view kind users taken left old new done × does seen (leaves (store left)) later)))
 
 -- how the program tells the end of serving connections
 abbrev pub done_of : {E : Type 0} → Result (Unit {0}) E → Result (Unit {0}) Fault
@@ -99,14 +100,16 @@ Listens {M} does accepts fails view users port count taken later before after do
     ⊎ ((bound : M) × does taken (listens port true) bound
     × ServesAll accepts fails view users count bound later before after done)
 
--- `serve`: the roster is taken, then the room, and then connections are served
+-- `serve`: the roster is taken, then the room, and then connections are served. The store that is closed is the one
+-- that they left
 abbrev pub ServesRoom : {M C Shelf : Type 0} → (does : M → Call C → M → Type 0)
     → (accepts fails : M → M → Type 0) → (adopts : C → Shelf → Type 0)
-    → (view : Shelf → View) → (db roster : List ℕ) → (port count : ℕ)
+    → (store : Shelf → C) → (view : Shelf → View) → (db roster : List ℕ) → (port count : ℕ)
     → (before later : M) → Result (Unit {0}) Fault → Type 0
-ServesRoom {M} {C} {Shelf} does accepts fails adopts view db roster port count before later done =
+ServesRoom {M} {C} {Shelf} does accepts fails adopts store view db roster port count before later done =
     FailsRoster does roster before later done
     ⊎ ((users : List SubjectModel) × (read : M) × TakesRoster does roster before read (Ok users)
     × (FailsRoom does adopts db read later done
-    ⊎ ((shelf left : Shelf) × (taken : M) × TakesRoom does adopts db read taken (Ok shelf)
-    × Listens does accepts fails view users port count taken later shelf left done)))
+    ⊎ ((shelf left : Shelf) × (taken over : M) × TakesRoom does adopts db read taken (Ok shelf)
+    × Listens does accepts fails view users port count taken over shelf left done
+    × does over (closes (store left)) later)))

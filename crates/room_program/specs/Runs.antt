@@ -58,16 +58,20 @@ pub record Means (M C Shelf : Type 0) : Type 1 where
   pub fails : M → M → Type 0
   -- a shelf is the store that was opened, as it is adopted
   pub adopts : C → Shelf → Type 0
-  -- a fresh room of an owner and a group was made in a store
-  pub made : (owner group : List ℕ) → C → Type 0
+  -- the store that a shelf keeps its rows in
+  pub store : Shelf → C
+  -- a fresh room of an owner and a group was made in a store that was opened, which is another one then
+  pub made : (owner group : List ℕ) → C → C → Type 0
   -- a table of a room is in a store
   pub taken : C → Type 0
   pub view : Shelf → View
 
 abbrev pub means : {M C Shelf : Type 0} → (does : M → Call C → M → Type 0)
     → (accepts fails : M → M → Type 0) → (adopts : C → Shelf → Type 0)
-    → (made : (owner group : List ℕ) → C → Type 0) → (taken : C → Type 0) → (view : Shelf → View) → Means M C Shelf
-means d a f p m t v = record { does = d; accepts = a; fails = f; adopts = p; made = m; taken = t; view = v }
+    → (store : Shelf → C) → (made : (owner group : List ℕ) → C → C → Type 0)
+    → (taken : C → Type 0) → (view : Shelf → View) → Means M C Shelf
+means d a f p s m t v =
+    record { does = d; accepts = a; fails = f; adopts = p; store = s; made = m; taken = t; view = v }
 
 -- the line `selftest ok` goes to the output after a connection was served, or a fault is told
 abbrev pub Tries : {M C : Type 0} → (does : M → Call C → M → Type 0)
@@ -87,7 +91,7 @@ RunsJob m before later (Init db owner group) old new status =
     old.errors new.errors status
 -- nothing is read, and the output is the report's
 RunsJob m before later (Report db roster kind) old new status =
-    (new.input ≡ old.input) × Ends (Reports m.does m.adopts m.view (string_bytes db)
+    (new.input ≡ old.input) × Ends (Reports m.does m.adopts m.store m.view (string_bytes db)
     (string_bytes roster) kind before later old.output new.output) old.errors new.errors status
 -- messages from the input are answered to the output
 RunsJob m before later (Replay roster owner group) old new status =
@@ -96,7 +100,7 @@ RunsJob m before later (Replay roster owner group) old new status =
 -- neither stream is touched
 RunsJob m before later (Serve db roster port count) old new status =
     (new.input ≡ old.input) × (new.output ≡ old.output)
-    × Ends (ServesRoom m.does m.accepts m.fails m.adopts m.view (string_bytes db)
+    × Ends (ServesRoom m.does m.accepts m.fails m.adopts m.store m.view (string_bytes db)
     (string_bytes roster) port count before later) old.errors new.errors status
 RunsJob m before later Selftest old new status =
     (new.input ≡ old.input) × Tries m.does m.accepts before later old new status

@@ -47,8 +47,12 @@ impl<'a> Machine<FileConnection> for Host<'a> {
         Connection::open(self.rt, path)
     }
 
-    fn close(connection: FileConnection) {
+    fn close(&mut self, connection: FileConnection) {
         let _ = connection.close();
+    }
+
+    fn leave(&mut self, connection: FileConnection) {
+        let _gone = connection;
     }
 
     fn listen(&mut self, port: u16) -> io::Result<()> {

@@ -1,7 +1,7 @@
 //! What a run asks of the machine that it runs on, beside its three streams.
 ghost use Rattle.std.specs.Prelude.{string_bytes};
 ghost use Rattle.room_program.specs.Machines.{Call, answer, is_done, text_answer};
-ghost use Rattle.room_program.specs.Machines.Call.{reads, looks, opens, listens, connects};
+ghost use Rattle.room_program.specs.Machines.Call.{reads, looks, opens, closes, leaves, listens, connects};
 
 use sqlite::Error;
 use std::io;
@@ -28,7 +28,12 @@ pub trait Machine<C> {
 
     /// Closes a store, so that the log beside its file is copied into it. Where that fails, both files
     /// together hold what was written.
-    fn close(connection: C);
+    fn close(&mut self, connection: C)
+        ensures closed { does self.old (closes connection) self.new };
+
+    /// Lets a store go, and copies nothing: the log stays beside its file as it is.
+    fn leave(&mut self, connection: C)
+        ensures left { does self.old (leaves connection) self.new };
 
     /// Listens on this port of 127.0.0.1.
     fn listen(&mut self, port: u16) -> io::Result<()>

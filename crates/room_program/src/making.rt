@@ -15,15 +15,17 @@ use std::alloc::Global;
 /// Makes a fresh room of this owner and group, and closes it.
 fn make_room<S: Alter + Drop, M: Machine<Connection<S>>>(
     alloc: Global,
+    machine: &mut M,
     connection: Connection<S>,
     standing: &Standing,
 ) -> Result<(), Fault>
     requires { connection.in_transaction ≡ false }
-    ensures { Makes (Made S.Store standing.now.owner standing.now.group) IsTaken connection result }
+    ensures { Makes M.does (Made S.Store standing.now.owner standing.now.group)
+        IsTaken connection machine.old machine.new result }
 {
     match SqlShelf::init(alloc, connection, &standing.owner, &standing.group) {
         Ok(shelf) => {
-            M::close(shelf.into_connection());
+            machine.close(shelf.into_connection());
             Ok(())
         }
         Err((OpenFault::RoomExists, _)) => Err(Fault::RoomExists),
@@ -43,7 +45,7 @@ fn make_at<S: Alter + Drop, M: Machine<Connection<S>>>(
         IsTaken db.now machine.old machine.new result }
 {
     match open(machine, db) {
-        Ok(connection) => make_room::<S, M>(alloc, connection, standing),
+        Ok(connection) => make_room(alloc, machine, connection, standing),
         Err(fault) => Err(fault),
     }
 }

@@ -21,6 +21,15 @@ const LAST_READS: u32 = 32;
 /// How long each of them is waited for, in milliseconds.
 const LAST_WAIT: u64 = 250;
 
+/// How long a read or a write of a connection waits for its peer, in seconds.
+const LONGEST_WAIT: u64 = 60;
+
+/// Bounds each wait for the peer. False where the system refuses that.
+fn limit_waits(stream: &TcpStream) -> bool {
+    let most = Some(Duration::from_secs(LONGEST_WAIT));
+    stream.set_read_timeout(most).is_ok() && stream.set_write_timeout(most).is_ok()
+}
+
 /// Ends the writing, and takes what the peer still sends, up to a bound. A connection that is closed
 /// over unread bytes may lose answers on their way.
 fn finish(stream: &TcpStream) {
@@ -40,7 +49,9 @@ fn finish(stream: &TcpStream) {
     }
 }
 
-/// Serves one connection. However it ends, the room's history has gone on while the store is there.
+/// Serves one connection, and none whose waits have no bound. However it ends, the room's history has gone on while the
+/// store is there. Where the peer neither sends nor takes anything for a minute, it ends as after a failed read or write:
+/// what was read of the next message so far changes nothing.
 fn serve_stream<S: Shelf>(stream: &TcpStream, desk: &mut Desk<S>, roster: &Roster)
     ensures frame { DeskCall (S.view desk.old) (S.view desk.new) }
     ensures messages { AnswersSome S.view roster.now desk.old desk.new }
@@ -48,6 +59,9 @@ fn serve_stream<S: Shelf>(stream: &TcpStream, desk: &mut Desk<S>, roster: &Roste
         → StandsFor start past (S.view desk.old) →
         (next : History) × GoesOn roster.now start past next × StandsFor start next (S.view desk.new) }
 {
+    if !limit_waits(stream) {
+        return;
+    }
     // An answer goes out at once, not with the next one.
     let _ = stream.set_nodelay(true);
     let end = desk.serve(roster, &mut &*stream, &mut &*stream);

@@ -81,7 +81,7 @@ pub(crate) fn report<S: Alter + Drop, M: Machine<Connection<S>>, W: Write>(
     kind: ReportKind,
     writer: &mut W,
 ) -> Result<(), Fault>
-    ensures { Reports M.does (λ opened shelf. Adopted S.Store opened shelf.conn)
+    ensures { Reports M.does (λ opened shelf. Adopted S.Store opened shelf.conn) (λ shelf. shelf.conn)
         ⟦<SqlShelf<S> as Shelf>⟧.view db.now roster.now kind
         machine.old machine.new (W.contents writer.old) (W.contents writer.new) result }
 {
@@ -93,5 +93,7 @@ pub(crate) fn report<S: Alter + Drop, M: Machine<Connection<S>>, W: Write>(
         Ok(shelf) => shelf,
         Err(fault) => return Err(fault),
     };
-    write_report(alloc, &mut shelf, &roster, kind, writer)
+    let done = write_report(alloc, &mut shelf, &roster, kind, writer);
+    machine.leave(shelf.into_connection());
+    done
 }

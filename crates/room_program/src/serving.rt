@@ -65,7 +65,7 @@ pub(crate) fn serve<S: Alter + Drop, M: Machine<Connection<S>> + Listener>(
     count: u32,
 ) -> Result<(), Fault>
     ensures { ServesRoom M.does M.accepts M.fails
-        (λ opened shelf. Adopted S.Store opened shelf.conn) ⟦<SqlShelf<S> as Shelf>⟧.view
+        (λ opened shelf. Adopted S.Store opened shelf.conn) (λ shelf. shelf.conn) ⟦<SqlShelf<S> as Shelf>⟧.view
         db.now roster.now port count machine.old machine.new result }
 {
     let roster = match roster_at(alloc, machine, roster) {
@@ -78,6 +78,6 @@ pub(crate) fn serve<S: Alter + Drop, M: Machine<Connection<S>> + Listener>(
     };
     let mut desk = Desk::new(alloc, shelf);
     let done = listen(machine, &mut desk, &roster, port, count);
-    M::close(desk.into_shelf().into_connection());
+    machine.close(desk.into_shelf().into_connection());
     done
 }

@@ -13,7 +13,7 @@ use crate::session::SessionRow;
 use crate::shelf::{Shelf, ShelfFault};
 use crate::table::Table;
 use nodes::NodeIndex;
-use room_acl::{Entry, copy_entries};
+use room_acl::{Decision, Entry, Mask, Standing, Subject, copy_entries, decide};
 use room_slots::Kept;
 use sessions::Sessions;
 use std::alloc::Global;
@@ -65,6 +65,19 @@ impl Shelf for MemShelf {
         match self.entries.get(&id) {
             Some(entries) => Ok(copy_entries(self.alloc, entries)?),
             None => Ok(Vec::new(self.alloc)),
+        }
+    }
+
+    fn decide_at(
+        &mut self,
+        id: u32,
+        subject: &Subject,
+        standing: &Standing,
+        wanted: Mask,
+    ) -> Result<Decision, ShelfFault> {
+        match self.entries.get(&id) {
+            Some(entries) => Ok(decide(entries, subject, standing, wanted)),
+            None => Ok(decide(&[], subject, standing, wanted)),
         }
     }
 

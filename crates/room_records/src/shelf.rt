@@ -1,5 +1,6 @@
 //! The shelf that keeps the rows.
 ghost use Rattle.std.specs.Prelude.{◌≡◌, ◌⊎◌, [], unwrap_or, OnOk};
+ghost use Rattle.room_acl.specs.Access.{decision};
 ghost use Rattle.room_records.specs.Records.{Records};
 ghost use Rattle.room_records.specs.Rules.{ObjectRules};
 ghost use Rattle.room_records.specs.Changes.{apply_changes, RulesHoldAfterEach};
@@ -10,7 +11,7 @@ use crate::change::Change;
 use crate::names::{FileName, Sid};
 use crate::node::Node;
 use crate::session::SessionRow;
-use room_acl::Entry;
+use room_acl::{Decision, Entry, Mask, Standing, Subject};
 use room_slots::Kept;
 use std::alloc::AllocError;
 
@@ -78,6 +79,20 @@ pub trait Shelf {
     fn entries(&mut self, id: u32) -> Result<Vec<Entry>, ShelfFault>
         ensures value { Tells (view self.old) (view self.new) result
             (λ records found. found.items ≡ records.objects.entries id) }
+        ensures there { (view self.new).is_intact → OnOk result (view self.new).is_available }
+        ensures frame { ShelfRead (view self.old) (view self.new) (fault_in result) };
+
+    /// What the object's entries, in order of place, decide of these rights. No entry stands where the object is not
+    /// there.
+    fn decide_at(
+        &mut self,
+        id: u32,
+        subject: &Subject,
+        standing: &Standing,
+        wanted: Mask,
+    ) -> Result<Decision, ShelfFault>
+        ensures value { Tells (view self.old) (view self.new) result (λ records found.
+            found ≡ decision (records.objects.entries id) subject.now standing.now wanted) }
         ensures there { (view self.new).is_intact → OnOk result (view self.new).is_available }
         ensures frame { ShelfRead (view self.old) (view self.new) (fault_in result) };
 

@@ -6,7 +6,7 @@ use crate::names::{FileName, Sid};
 use crate::node::Node;
 use crate::session::SessionRow;
 use crate::shelf::{Shelf, ShelfFault};
-use room_acl::Entry;
+use room_acl::{Decision, Entry, Mask, Standing, Subject};
 use room_slots::Kept;
 
 /// A shelf whose k-th call answers `Store` without asking the shelf inside.
@@ -72,6 +72,7 @@ impl<S: Shelf> TripShelf<S> {
 
 impl<S: Shelf> Shelf for TripShelf<S> {
     ghost use Rattle.std.specs.Prelude.{◌≡◌, ◌⊎◌, [], unwrap_or, OnOk};
+    ghost use Rattle.room_acl.specs.Access.{decision};
     ghost use Rattle.room_records.specs.Records.{Records};
     ghost use Rattle.room_records.specs.Rules.{ObjectRules};
     ghost use Rattle.room_records.specs.Changes.{apply_changes, RulesHoldAfterEach};
@@ -148,6 +149,25 @@ impl<S: Shelf> Shelf for TripShelf<S> {
         self.inner.entries(id)
     }
 
+    fn decide_at(
+        &mut self,
+        id: u32,
+        subject: &Subject,
+        standing: &Standing,
+        wanted: Mask,
+    ) -> Result<Decision, ShelfFault>
+        ensures value { Tells (trip_view S.view self.old) (trip_view S.view self.new) result (λ records found.
+            found ≡ decision (records.objects.entries id) subject.now standing.now wanted) }
+        ensures there { (trip_view S.view self.new).is_intact → OnOk result (trip_view S.view self.new).is_available }
+        ensures frame { ShelfRead (trip_view S.view self.old) (trip_view S.view self.new) (fault_in result) }
+        ensures trips { TripCall S.view self.old self.new result }
+    {
+        if self.trips() {
+            return Err(ShelfFault::Store);
+        }
+        self.inner.decide_at(id, subject, standing, wanted)
+    }
+
     fn doc(&mut self, id: u32) -> Result<Vec<u8>, ShelfFault>
         ensures value { Tells (trip_view S.view self.old) (trip_view S.view self.new) result (λ records found.
             found.items ≡ unwrap_or (records.objects.document id) []) }
@@ -219,6 +239,7 @@ impl<S: Shelf> Shelf for TripShelf<S> {
         ensures trips { TripCall S.view self.old self.new result }
     {
         if self.trips() {
+            // No change is made.
             return Err(ShelfFault::Store);
         }
         self.inner.commit(changes)

@@ -7,6 +7,8 @@ use Rattle.sqlite_trees.specs.declared.store.Store.{Ghosts}
 use Rattle.sqlite.specs.State.{HasCleanDisk, Shown, FailsToQuery}
 use Rattle.sqlite.specs.Held.{state}
 use Rattle.sqlite.specs.declared.error.Error.{Error}
+use Rattle.room_acl.specs.declared.subject.Standing.{Standing}
+use Rattle.room_acl.specs.SubjectModel.{SubjectModel}
 use Rattle.room_records.specs.declared.change.Change.{Change}
 use Rattle.room_records.specs.Shelf.{View}
 use Rattle.room_records.specs.declared.shelf.ShelfFault.{ShelfFault}
@@ -15,6 +17,7 @@ use Rattle.room_tables.specs.Layout.{IsRoomOfVersion1}
 use Rattle.room_tables.specs.Rows.{records_of}
 use Rattle.room_sql.specs.declared.sql_shelf.SqlShelf.{SqlShelf}
 use Rattle.room_sql.specs.Columns.{IsFault}
+use Rattle.room_sql.specs.Decisions.{CannotDecide}
 use Rattle.room_sql.specs.Causes.{IsShort, CommitFails}
 
 -- the records are the rows of the six tables, and the store is intact while its disk has returned what was written
@@ -37,6 +40,15 @@ ReadCause store old new result text args CanBeRead =
     HasCleanDisk (state store new.conn) → result ≡ Err Store →
     ((error : Error) × IsFault error × FailsToQuery text args (state store old.conn) (state store new.conn) error)
     ⊎ ((rows : List Row) × Shown text args (state store old.conn) (state store new.conn) rows × ¬ CanBeRead rows)
+
+-- A decision that answers `Store` has a cause: the connection answered its query with a fault other than want of
+-- memory, or a row that was read is no value of its type, or too many rows were read. Rows behind these are no cause
+abbrev pub DecisionCause : {S T : Type 0} (store : Ghosts S) → SqlShelf S store
+    → SqlShelf S store → Result T ShelfFault → ℕ → SubjectModel → Standing → ℕ → Type 0
+DecisionCause store old new result id caller standing wanted =
+    HasCleanDisk (state store new.conn) → result ≡ Err Store →
+    (error : Error) × IsFault error
+    × CannotDecide id caller standing wanted (state store old.conn) (state store new.conn) error
 
 -- A commit that answers `Store` has a cause: one of its statements, or the end of its transaction, was answered with a
 -- fault other than want of memory

@@ -1,6 +1,7 @@
 //! A room in the six tables of a database.
 #![tactic(auto)]
 
+mod deciding;
 mod open;
 mod reads;
 mod rows;

@@ -139,8 +139,9 @@ fn is_room<S: Alter>(conn: &mut Connection<S>) -> Result<bool, Error>
 
 impl<S: Alter> SqlShelf<S> {
     /// Makes the tables and a fresh room of this owner and group, in one transaction. A refusal hands the connection
-    /// back: `RoomExists` where a table has the name of one of the six (`ROOM` is the name `room`), `Memory` where
-    /// memory was refused, `Store` where a call of `sqlite` answered another fault. The form of the tables is our own.
+    /// back: `RoomExists` where a table has the name of one of the six (`ROOM` is the name `room`), else `Memory` where
+    /// memory was refused, and `Store` where a call of `sqlite` answered another fault; that these two come nowhere
+    /// else no clause says. The form of the tables is our own.
     ///
     /// The room, and what a crash leaves of it, are promised of a database without any table,
     /// index or view. It works in others too, beside what is there; of them it is promised that

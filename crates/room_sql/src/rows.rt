@@ -205,7 +205,7 @@ fn who_from(alloc: Global, flags: Flags, text: &str) -> Result<Who, Error>
 }
 
 /// The entry of a row that shows place, type, flags, mask and whom it names.
-fn entry_of(alloc: Global, row: &Row) -> Result<Entry, Error>
+pub(crate) fn entry_of(alloc: Global, row: &Row) -> Result<Entry, Error>
     ensures value { IfOk result (λ entry. entry ≡ entry_of row.now) }
     ensures typed { IfOk result (λ _. HasEntryColumns row.now) }
     ensures refused { IfErr result (λ e. IsFault e → ¬ IsLawfulEntryRow row.now) }

@@ -7,8 +7,8 @@ use crate::rows::{
     all_entries, all_nodes, first_node, one_count, one_doc, one_kept, one_node, one_number,
     one_session,
 };
-use crate::{reads, writes};
-use room_acl::Entry;
+use crate::{deciding, reads, writes};
+use room_acl::{Decision, Entry, Mask, Standing, Subject};
 use room_records::{Change, FileName, Node, SessionRow, Shelf, ShelfFault, Sid};
 use room_slots::Kept;
 use sqlite::{Alter, Connection, Error, ErrorCode};
@@ -74,6 +74,7 @@ impl<S: Alter> Shelf for SqlShelf<S> {
     ghost use Rattle.std.specs.Prelude.{◌≡◌, ◌⊎◌, [], ◌∷◌, pos, unwrap_or, OnOk};
     ghost use Rattle.std.specs.List.{AllByRecursion};
     ghost use Rattle.sqlite_value.specs.declared.value.Value.TheVariants.{Int, Text};
+    ghost use Rattle.room_acl.specs.Access.{decision};
     ghost use Rattle.room_records.specs.Records.{Records};
     ghost use Rattle.room_records.specs.Rules.{ObjectRules};
     ghost use Rattle.room_records.specs.Changes.{apply_changes, RulesHoldAfterEach};
@@ -84,7 +85,7 @@ impl<S: Alter> Shelf for SqlShelf<S> {
     ghost use Rattle.room_tables.specs.Texts.{find_next_text};
     ghost use Rattle.room_sql.specs.Columns.{HasBytes, IsNodeRow, IsLawfulEntryRow, IsSessionRow, IsKeptRow};
     ghost use Rattle.room_sql.specs.Columns.{IsOneNumber, IsOneCount};
-    ghost use Rattle.room_sql.specs.SqlView.{sql_view, ReadCause, CommitCause};
+    ghost use Rattle.room_sql.specs.SqlView.{sql_view, ReadCause, DecisionCause, CommitCause};
 
     ghost view = { sql_view S.Store };
 
@@ -180,6 +181,26 @@ impl<S: Alter> Shelf for SqlShelf<S> {
             Err(error) => return Err(fault(&mut self.failures, error)),
         };
         match all_entries(self.alloc, rows.as_slice()) {
+            Ok(found) => Ok(found),
+            Err(error) => Err(fault(&mut self.failures, error)),
+        }
+    }
+
+    fn decide_at(
+        &mut self,
+        id: u32,
+        subject: &Subject,
+        standing: &Standing,
+        wanted: Mask,
+    ) -> Result<Decision, ShelfFault>
+        ensures value { Tells (sql_view S.Store self.old) (sql_view S.Store self.new) result (λ records found.
+            found ≡ decision (records.objects.entries id) subject.now standing.now wanted) }
+        ensures there { (sql_view S.Store self.new).is_intact → OnOk result (sql_view S.Store self.new).is_available }
+        ensures frame { ShelfRead (sql_view S.Store self.old) (sql_view S.Store self.new) (fault_in result) }
+        ensures cause { DecisionCause S.Store self.old self.new result id subject.now standing.now wanted }
+    {
+        let _outside = self.conn.is_autocommit();
+        match deciding::decide_entries(self.alloc, &mut self.conn, id, subject, standing, wanted) {
             Ok(found) => Ok(found),
             Err(error) => Err(fault(&mut self.failures, error)),
         }

@@ -19,3 +19,5 @@ pub mod Asks
 pub mod Selects
 pub mod Children
 pub mod Creates
+pub mod Reading
+pub mod Onward

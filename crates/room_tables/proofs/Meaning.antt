@@ -20,6 +20,7 @@ use Rattle.room_tables.specs.Texts.{list_entries_query, list_entries_text, put_d
 use Rattle.room_tables.specs.Texts.{put_next_clause, put_next_terms, put_next_text, put_node_clause, put_node_terms}
 use Rattle.room_tables.specs.Texts.{put_node_text, put_session_clause, put_session_terms, put_session_text}
 use Rattle.room_tables.specs.Texts.{put_slot_clause, put_slot_terms, put_slot_text}
+use Rattle.room_tables.specs.Texts.{read_entries_query, read_entries_text}
 
 pub find_next_is : command_of (understood room_schema find_next_text)
     ≡ Select (record { lets = []; body = find_next_query }) (codes "next" ∷ [])
@@ -84,6 +85,17 @@ pub list_entries_plain : IsPlain (understood room_schema list_entries_text)
     × (reads_listing room_schema list_entries_text ≡ false)
 unfolding understood everything
 list_entries_plain = ((refl, refl), refl)
+
+pub read_entries_is : command_of (understood room_schema read_entries_text)
+    ≡ Select (record { lets = []; body = read_entries_query })
+    (codes "place" ∷ codes "type" ∷ codes "flag" ∷ codes "mask" ∷ codes "who" ∷ [])
+unfolding understood everything
+read_entries_is = refl
+
+pub read_entries_plain : IsPlain (understood room_schema read_entries_text)
+    × (reads_listing room_schema read_entries_text ≡ false)
+unfolding understood everything
+read_entries_plain = ((refl, refl), refl)
 
 pub find_doc_is : command_of (understood room_schema find_doc_text)
     ≡ Select (record { lets = []; body = find_doc_query }) (codes "bytes" ∷ [])

@@ -209,7 +209,7 @@ unfolding compiled
 unreturned_by schema text (Err e) is h = rw is tt
 unreturned_by schema text (Ok p) is h = rw is (unreturned_parsed schema p h _ refl)
 
-unreturned : (schema : Schema) (text : List ℕ)
+pub unreturned : (schema : Schema) (text : List ℕ)
     → is_query_text (first text) ≡ true → IsUnreturned (understood schema text)
 unfolding understood
 unreturned schema text h = go (reads_listing schema text) (compiled listing_schema text)

@@ -4,7 +4,7 @@ use Rattle.sqlite_tied.specs.Compute.{everything}
 use Rattle.sqlite_resolve.specs.Compile.{first}
 use Rattle.room_tables.specs.Texts.{find_version_text, find_node_text, find_child_text, list_children_text}
 use Rattle.room_tables.specs.Texts.{count_children_text, list_entries_text, find_doc_text, find_session_text}
-use Rattle.room_tables.specs.Texts.{find_slot_text, find_next_text}
+use Rattle.room_tables.specs.Texts.{find_slot_text, find_next_text, read_entries_text}
 use Rattle.room_tables.proofs.Queries.{is_query_text}
 
 pub find_node_selects : is_query_text (first find_node_text) ≡ true
@@ -26,6 +26,10 @@ count_children_selects = refl
 pub list_entries_selects : is_query_text (first list_entries_text) ≡ true
 unfolding everything
 list_entries_selects = refl
+
+pub read_entries_selects : is_query_text (first read_entries_text) ≡ true
+unfolding everything
+read_entries_selects = refl
 
 pub find_doc_selects : is_query_text (first find_doc_text) ≡ true
 unfolding everything

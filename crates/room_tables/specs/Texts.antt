@@ -74,6 +74,14 @@ abbrev pub list_entries_query : Query
 list_entries_query = over_table 3 (equals (col 1 1) (col 0 0) ∷ []) (col 1 2 ∷ col 1 3 ∷ col 1 4 ∷ col 1 5
     ∷ col 1 6 ∷ []) (by (col 1 2) ∷ by (col 1 3) ∷ by (col 1 4) ∷ by (col 1 5) ∷ by (col 1 6) ∷ [])
 
+-- ORDER BY names the place alone, so that the index of the primary key gives the order and no row is read for sorting
+abbrev pub read_entries_text : List ℕ
+read_entries_text = codes "SELECT place, type, flag, mask, who FROM entry WHERE node = ?1 ORDER BY place"
+
+abbrev pub read_entries_query : Query
+read_entries_query = over_table 3 (equals (col 1 1) (col 0 0) ∷ [])
+    (col 1 2 ∷ col 1 3 ∷ col 1 4 ∷ col 1 5 ∷ col 1 6 ∷ []) (by (col 1 2) ∷ [])
+
 abbrev pub find_doc_text : List ℕ
 find_doc_text = codes "SELECT bytes FROM doc WHERE node = ?1"
 

@@ -68,13 +68,15 @@ module _ (t : ObjectRecords) (room : Room) (path : Path)
       ∙ ap (λ (k : Kind). refuse_if (is_kind Folder (Some (record found.object { kind = k }))) IsDir) (sym kind_there)
 
   pub right_check : (caller : SubjectModel) (wanted : ℕ)
-      → check_right room caller path wanted ≡ denied_at path (decision loaded.list.items caller loaded.standing wanted)
+      → check_right room caller path wanted
+      ≡ denied_at path (decision (t.entries loaded.id) caller loaded.standing wanted)
   right_check caller wanted =
       ap (right_on room caller path wanted) there
-      ∙ ap (λ list. denied_at path (decision list caller (standing_of found.object) wanted)) (sym found.list)
-      ∙ ap (λ owner. denied_at path (decision loaded.list.items caller
+      ∙ ap (λ list. denied_at path (decision list caller (standing_of found.object) wanted))
+      (sym found.is_there.shows.entries)
+      ∙ ap (λ owner. denied_at path (decision (t.entries loaded.id) caller
       (record { owner = owner; group = found.object.group }) wanted)) (sym found.is_there.shows.owner)
-      ∙ ap (λ group. denied_at path (decision loaded.list.items caller
+      ∙ ap (λ group. denied_at path (decision (t.entries loaded.id) caller
       (record { owner = loaded.standing.owner; group = group }) wanted)) (sym found.is_there.shows.group)
 
   -- a folder on the way

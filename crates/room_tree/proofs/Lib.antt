@@ -22,6 +22,7 @@ pub mod ListsMoved
 pub mod Depths
 pub mod Renamed
 pub mod ListsUpwards
+pub mod ListsByRows
 pub mod RenewingLists
 pub mod RenewingParts
 pub mod RenewingChildren

@@ -156,15 +156,14 @@ module _ (t : ObjectRecords) (room : Room) (caller : SubjectModel) (path : Path)
 
   -- and the new object has what its folder hands down
   list_of_new : o.kind ≡ kind → o.aclflag ≡ 1 → o.own ≡ []
-      → handed_down above.list.items kind ≡ list_of (with_new room path o) path
+      → handed_down (list_of room (parent_of path)) kind ≡ list_of (with_new room path o) path
   list_of_new kind_is aclflag own =
       let after = with_new room path o in
       let given = list_of after end.folder in
       let list : List EntryModel → ℕ → Kind → List EntryModel =
       λ entries flag k. entries ++ cond (follows flag) (handed_down given k) [] in
-      let folder_list : above.list.items ≡ given =
-      found.list ∙ lists_stay (parent_of path) found.object found.is_there.object_stands
-      ∙ ap (list_of after) in_folder in
+      let folder_list : list_of room (parent_of path) ≡ given =
+      lists_stay (parent_of path) found.object found.is_there.object_stands ∙ ap (list_of after) in_folder in
       let follows_it : handed_down given kind ≡ list [] 1 kind = refl in
       let At : Path → Type 0 = λ p. object_at after p ≡ Some o in
       ap (λ (entries : List EntryModel). handed_down entries kind) folder_list ∙ follows_it
@@ -176,7 +175,7 @@ module _ (t : ObjectRecords) (room : Room) (caller : SubjectModel) (path : Path)
   pub adds : (later : ObjectRecords)
       → later.node ≡ (apply_to_objects (PutNode node) (apply_to_objects (PutNext (id + 1)) t)).node
       → ((k : ℕ) → k ≢ node.id → later.entries k ≡ t.entries k)
-      → later.entries node.id ≡ handed_down above.list.items kind
+      → later.entries node.id ≡ handed_down (list_of room (parent_of path)) kind
       → ((k : ℕ) → k ≢ node.id → later.document k ≡ t.document k) → later.next ≡ id + 1 → ObjectRules later
       → o.kind ≡ kind → o.owner ≡ caller.name → o.group ≡ object_group room path
       → o.aclflag ≡ 1 → o.own ≡ [] → unwrap_or (later.document node.id) [] ≡ o.bytes
@@ -239,7 +238,7 @@ pub mkdir_plans : (t : ObjectRecords) (room : Room) (caller : SubjectModel) (pat
     ∷ check_absent room path ∷ check_right room caller (parent_of path) 0x4 ∷ []) ≡ None
     → IsLoaded t room (parent_of path) above
     → (first_refusal (check_folder_full room (parent_of path) ∷ check_room_full room ∷ []) ≡ None) × (id ≡ t.next)
-    → IsNewNode caller path above Folder id node → list.items ≡ handed_down above.list.items Folder
+    → IsNewNode caller path above Folder id node → list.items ≡ handed_down (list_of room (parent_of path)) Folder
     → outcome.changes.items ≡ PutNext (id + 1) ∷ PutNode node ∷ puts_new id list
     → reply_model outcome.reply ≡ Done
     → PlansEffect t room caller (C.Mkdir path) outcome
@@ -295,7 +294,8 @@ pub create_plans : (t : ObjectRecords) (room : Room) (caller : SubjectModel) (by
     → check_size (length bytes) ≡ None
     → IsLoaded t room (parent_of path) above
     → (first_refusal (check_folder_full room (parent_of path) ∷ check_room_full room ∷ []) ≡ None) × (id ≡ t.next)
-    → IsNewNode caller path above File id node → list.items ≡ handed_down above.list.items File → copy.items ≡ bytes
+    → IsNewNode caller path above File id node → list.items ≡ handed_down (list_of room (parent_of path)) File
+    → copy.items ≡ bytes
     → outcome.changes.items ≡ PutNext (id + 1) ∷ PutNode node ∷ puts_new id list ++ PutDoc id copy ∷ []
     → reply_model outcome.reply ≡ Size (length bytes) → PlansEffect t room caller (C.Create bytes path) outcome
 create_plans t room caller bytes path above id node list copy outcome stand

@@ -196,12 +196,12 @@ module _ (t : ObjectRecords) (room : Room) (stand : RepresentsRoom t room)
     -- the row, its list where that changes, and those below lead to the room with other list flags and own entries
     pub setlist_plans : first_refusal (checks room caller (C.SetList flag sent path)) ≡ None
         → (list : List EntryModel) → list ≡ with_inherited kept flag loaded.kind (entries_of t loaded.parent)
-        → (new : Option (Vec EntryModel Global)) → IsChangeOf loaded.list.items list new
+        → (new : Option (Vec EntryModel Global)) → IsChangeOf (list_of room path) list new
         → (outcome : Outcome) → PutsList t room path now new outcome.changes.items
         → reply_model outcome.reply ≡ Done → PlansEffect t room caller (C.SetList flag sent path) outcome
     setlist_plans passed list is new changes outcome planned replied =
         let stored = stored_at t room path loaded found in
         let what = puts_relist t room stand path loaded.id found.is_there.at now refl new
-        (changes_list t loaded.id loaded.list.items list stored new changes) outcome.changes.items planned in
+        (changes_list t loaded.id (list_of room path) list stored new changes) outcome.changes.items planned in
         planned_with passed (list_then t loaded.id new) (list_after ∙ sym is ∙ sym
-        (list_then_is t loaded.id loaded.list.items list stored new changes)) what.0 what.2 outcome replied what.1
+        (list_then_is t loaded.id (list_of room path) list stored new changes)) what.0 what.2 outcome replied what.1

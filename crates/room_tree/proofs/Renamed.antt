@@ -5,7 +5,7 @@ use Rattle.std.specs.Prelude.{Vec}
 use Rattle.std.specs.declared.alloc.Global.{Global}
 use Rattle.std.proofs.lemmas.Bool.{or_parts}
 use Rattle.room_acl.specs.Entries.{EntryModel}
-use Rattle.room_acl.specs.Inheritance.{own_part, with_inherited}
+use Rattle.room_acl.specs.Inheritance.{with_inherited}
 use Rattle.room_acl.specs.SubjectModel.{SubjectModel}
 use Rattle.room_records.specs.declared.change.Change.TheVariants.{PutNode}
 use Rattle.room_records.specs.declared.node.Node.{Node}
@@ -13,7 +13,7 @@ use Rattle.room_records.specs.Names.{Name, Path, IsPath, name_eq, path_eq}
 use Rattle.room_records.specs.Records.{ObjectRecords}
 use Rattle.room_records.specs.Rules.{ObjectRules}
 use Rattle.room_records.specs.Changes.{apply_to_objects, apply_all_to_objects, ObjectRulesHoldAfterEach}
-use Rattle.room_records.specs.Room.{Object, Room, IsRoom, object_at, list_of, parent_of}
+use Rattle.room_records.specs.Room.{Object, Room, IsRoom, object_at, list_of, list_under, parent_of}
 use Rattle.room_records.specs.Representation.{RepresentsRoom, HasPath}
 use Rattle.room_records.proofs.Paths.{reads_one, object_at_node}
 use Rattle.room_records.proofs.RoomsMap.{some_is, path_itself, other_path, parent_of_end}
@@ -36,7 +36,6 @@ use Rattle.room_commands.proofs.RoomsRenamed.{rest_below}
 use Rattle.room_tree.proofs.ListsMoved.{list_of_stayed, list_of_moved, lists_of_moved}
 use Rattle.room_tree.proofs.Made.{ends_of}
 use Rattle.room_tree.proofs.Outcomes.{success_plans}
-use Rattle.room_tree.proofs.OwnPart.{own_part_of_list}
 use Rattle.room_tree.proofs.Renewed.{Puts, put, Relists, IsChangeOf, list_then, list_then_is, changes_list, puts_relist}
 use Rattle.room_tree.proofs.Renewed.{stored_at, nodes_stay, documents_stay, next_stays, relisted_at, relisted_off}
 use Rattle.room_tree.proofs.Renewed.{relisted_of_objects, relisted_rules, relisted_few}
@@ -97,11 +96,6 @@ not_in_root : (path : Path) → is_root path ≡ false → is_at_or_below [] pat
 not_in_root [] off = cc
 not_in_root (name ∷ path) off = refl
 
--- a list that is moved: the own entries of the old one, and what the new folder hands down
-abbrev pub moved_list : Move → List EntryModel
-moved_list move =
-    with_inherited (own_part move.loaded.list.items) move.loaded.aclflag move.loaded.kind move.into.list.items
-
 module _ (t : ObjectRecords) (room : Room) (stand : RepresentsRoom t room)
     (path up : Path) (last : Name) (o : Object) (node now : Node) (above : ℕ)
     (m : MovesNode t room path up last o node now above) (list : List EntryModel)
@@ -160,7 +154,8 @@ pub rename_plans : (t : ObjectRecords) (room : Room) (caller : SubjectModel)
     → IsMove t room path to move
     → ((folder : Path) (name : Name) → to ≡ folder ++ name ∷ []
     → now ≡ record (node_of move.loaded) { parent = Some move.into.id; name = Some name })
-    → (new : Option (Vec EntryModel Global)) → IsChangeOf move.loaded.list.items (moved_list move) new
+    → (new : Option (Vec EntryModel Global))
+    → IsChangeOf (t.entries move.loaded.id) (list_under (object_at room path) (t.entries move.into.id)) new
     → (HasPath t path now.id → t.node now.id ≡ Some (node_of move.loaded)
     → (node_of move.loaded).kind ≡ now.kind → PutsList t room path now new outcome.changes.items)
     → reply_model outcome.reply ≡ Done → PlansEffect t room caller (C.Rename path to) outcome
@@ -212,27 +207,22 @@ rename_plans t room caller path to move now outcome stand is_path is_to passed f
         let node = node_of move.loaded in
         let loaded = move.loaded in
         let there = found.loaded.is_there in
-        let stored = stored_at t room path loaded found.loaded in
+        let given = list_under (object_at room path) (t.entries move.into.id) in
         let Here : ℕ → Type 0 = λ k. HasPath t path k in
         let puts = planned (subst Here (sym m.id) there.at) (ap t.node m.id ∙ there.node_stands) (sym m.kind) in
-        let changed = changes_list t loaded.id loaded.list.items (moved_list move) stored new changes in
+        let changed = changes_list t loaded.id (t.entries loaded.id) given refl new changes in
         let what = puts_relist t room stand path loaded.id there.at now m.id new changed outcome.changes.items puts in
         let list = list_then t loaded.id new in
         let in_folder : parent_of to ≡ up = ap parent_of is ∙ parent_of_end up name in
-        let own : own_part loaded.list.items ≡ o.own =
-        ap own_part found.loaded.list ∙ own_part_of_list room stand.lawful path o there.object_stands in
-        let handed : move.into.list.items ≡ list_of room up = found.into.list ∙ ap (list_of room) in_folder in
-        let as_moved : list_of (renamed room path target) target ≡ moved_list move =
+        let handed : t.entries move.into.id ≡ list_of room up =
+        stored_at t room (parent_of to) move.into found.into ∙ ap (list_of room) in_folder in
+        let as_moved : list_of (renamed room path target) target ≡ given =
         list_of_moved room stand.lawful path target o m.apart there.object_stands m.free up name found.into.object refl
         (ap (object_at room) (sym in_folder) ∙ found.into.is_there.object_stands)
-        ∙ ap (λ es. with_inherited es o.aclflag o.kind (list_of room up)) (sym own)
-        ∙ ap (λ flag. with_inherited (own_part loaded.list.items) flag o.kind (list_of room up))
-        (sym there.shows.aclflag)
-        ∙ ap (λ kind. with_inherited (own_part loaded.list.items) loaded.aclflag kind (list_of room up))
-        (sym there.shows.kind)
-        ∙ ap (with_inherited (own_part loaded.list.items) loaded.aclflag loaded.kind) (sym handed) in
+        ∙ ap (with_inherited o.own o.aclflag o.kind) (sym handed)
+        ∙ ap (λ found. list_under found (t.entries move.into.id)) (sym there.object_stands) in
         let list_is : list_of (renamed room path target) target ≡ list =
-        as_moved ∙ sym (list_then_is t loaded.id loaded.list.items (moved_list move) stored new changes) in
+        as_moved ∙ sym (list_then_is t loaded.id (t.entries loaded.id) given refl new changes) in
         let later = apply_all_to_objects (PutNode now ∷ map put what.0) t in
         let w = moves_lists t room stand path up name o node now move.into.id m list list_is what.0 what.2 in
         let Stands : Path → Type 0 = λ p. RepresentsRoom later (renamed room path p) in

@@ -18,7 +18,7 @@ use Rattle.room_records.specs.Names.{Path}
 use Rattle.room_records.specs.Records.{ObjectRecords}
 use Rattle.room_records.specs.Rules.{ObjectRules}
 use Rattle.room_records.specs.Changes.{apply_to_objects, apply_all_to_objects, IsOfObjects, ObjectRulesHoldAfterEach}
-use Rattle.room_records.specs.Room.{Room}
+use Rattle.room_records.specs.Room.{Room, list_of}
 use Rattle.room_records.specs.Representation.{RepresentsRoom, HasPath}
 use Rattle.room_records.proofs.Paths.{reads_one}
 use Rattle.room_records.proofs.RulesKept.{same_or_other, if_same, if_other, rules_put_entries}
@@ -189,6 +189,12 @@ list_then t id (Some list) = list.items
 -- whether a list is another one than the stored one, and which
 abbrev pub IsChangeOf : List EntryModel → List EntryModel → Option (Vec EntryModel Global) → Type 0
 IsChangeOf stored list new = MatchOption new (list ≡ stored) (λ changed. (changed.items ≡ list) × (list ≢ stored))
+
+pub is_change : (stored list : List EntryModel) (new : Option (Vec EntryModel Global))
+    → MatchOption new (stored ≡ list) (λ changed. (changed.items ≡ list) × (changed.items ≢ stored))
+    → IsChangeOf stored list new
+is_change stored list None same = sym same
+is_change stored list (Some changed) changes = (changes.0, (λ same. changes.1 (changes.0 ∙ same)))
 
 pub list_then_is : (t : ObjectRecords) (id : ℕ) (stored list : List EntryModel)
     → t.entries id ≡ stored → (new : Option (Vec EntryModel Global)) → IsChangeOf stored list new
@@ -376,7 +382,7 @@ module _ (t : ObjectRecords) (room : Room) (stand : RepresentsRoom t room) (path
         omega (arith, more, none);
   }
 
--- the rows hold the list that was read
+-- the rows hold the list of a found object
 pub stored_at : (t : ObjectRecords) (room : Room) (path : Path) (loaded : LoadedObject)
-    → IsLoaded t room path loaded → t.entries loaded.id ≡ loaded.list.items
-stored_at t room path loaded found = found.is_there.shows.entries ∙ sym found.list
+    → IsLoaded t room path loaded → t.entries loaded.id ≡ list_of room path
+stored_at t room path loaded found = found.is_there.shows.entries

@@ -5,6 +5,7 @@ use Rattle.std.specs.List.{AllByRecursion, filter_map, cons_option}
 use Rattle.std.specs.Option.{option_map}
 use Rattle.std.proofs.lemmas.Nat.{and_assoc, and_comm}
 use Rattle.room_acl.specs.Bits.{IsMask}
+use Rattle.room_acl.specs.Entries.{EntryModel}
 use Rattle.room_acl.specs.SubjectModel.{SubjectModel}
 use Rattle.room_acl.specs.Access.{allowed_mask}
 use Rattle.room_records.specs.declared.node.Node.{Node}
@@ -51,22 +52,22 @@ module _ (t : ObjectRecords) (room : Room) (path : Path)
       })) in
       ap (λ n. stat_of n size) is ∙ shown ∙ ap (λ o. Stat (attributes_of room path o)) (sym object_is)
 
-  pub entries_reply : Entries loaded.aclflag loaded.list.items
+  pub entries_reply : (list : List EntryModel) → list ≡ list_of room path → Entries loaded.aclflag list
       ≡ Entries (object_or_default room path).aclflag (list_of room path)
-  entries_reply =
+  entries_reply list is =
       let flags : loaded.aclflag ≡ (object_or_default room path).aclflag =
       found.is_there.shows.aclflag ∙ ap (λ (o : Object). o.aclflag) (sym object_is) in
-      (λ i. Entries (flags i) (found.list i))
+      (λ i. Entries (flags i) (is i))
 
-  pub access_reply : (caller : SubjectModel) (mask : ℕ)
-      → Allowed (bit_and mask (allowed_mask loaded.list.items caller loaded.standing))
+  pub access_reply : (list : List EntryModel) → list ≡ list_of room path → (caller : SubjectModel) (mask : ℕ)
+      → Allowed (bit_and mask (allowed_mask list caller loaded.standing))
       ≡ Allowed (bit_and mask (allowed_mask (list_of room path) caller (standing_of (object_or_default room path))))
-  access_reply caller mask =
+  access_reply list is caller mask =
       let shows = found.is_there.shows in
-      let shown : Allowed (bit_and mask (allowed_mask loaded.list.items caller loaded.standing))
+      let shown : Allowed (bit_and mask (allowed_mask list caller loaded.standing))
       ≡ Allowed (bit_and mask (allowed_mask (list_of room path) caller (standing_of found.object))) =
       (λ i. Allowed (bit_and mask
-      (allowed_mask (found.list i) caller (record { owner = shows.owner i; group = shows.group i })))) in
+      (allowed_mask (is i) caller (record { owner = shows.owner i; group = shows.group i })))) in
       shown ∙ ap (λ o. Allowed (bit_and mask (allowed_mask (list_of room path) caller (standing_of o)))) (sym object_is)
 
 pub common_is_mask : (a b : ℕ) → IsMask a → IsMask (bit_and a b)

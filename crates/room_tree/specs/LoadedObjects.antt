@@ -10,7 +10,7 @@ use Rattle.std.specs.Option.{option_map}
 use Rattle.room_records.specs.Names.{Name, Path}
 use Rattle.room_records.specs.Records.{ObjectRecords}
 use Rattle.room_records.specs.Shelf.{View}
-use Rattle.room_records.specs.Room.{Object, Room, object_at, list_of, parent_of}
+use Rattle.room_records.specs.Room.{Object, Room, object_at, parent_of}
 use Rattle.room_records.specs.Representation.{RepresentsRoom, NodeIsObject}
 use Rattle.room_tree.specs.declared.loaded.LoadedObject.{LoadedObject}
 use Rattle.room_acl.specs.declared.subject.Kind.{Kind}
@@ -38,11 +38,10 @@ node_of loaded = record {
   aclflag = loaded.aclflag;
 }
 
--- the row of the object at a path, and its whole list
+-- the row of the object at a path
 pub record IsLoaded (t : ObjectRecords) (room : Room) (path : Path) (loaded : LoadedObject) : Type 0 where
   pub object : Object
   pub is_there : NodeIsObject t room loaded.id (node_of loaded) path object
-  pub list : loaded.list.items ≡ list_of room path
 
 -- the folder above the first names of a path
 abbrev pub IsAbove : ObjectRecords → Room → Path → ℕ → Option LoadedObject → Type 0

@@ -1,7 +1,7 @@
 -- Lists below an object that are renewed after its own. All of it is our own rule.
 use Rattle.std.specs.Prelude.{◌≡◌, ◌≢◌, ℕ, ◌≤◌, ◌⊎◌, Bool, true, false, not, ◌==◌, List, [], ◌∷◌, ◌++◌}
 use Rattle.std.specs.Prelude.{reverse, IsTrue, length, if◌then◌else◌}
-use Rattle.std.specs.List.{AllByRecursion, Contains, count_by, list_any}
+use Rattle.std.specs.List.{AllByRecursion, count_by, list_any}
 use Rattle.std.specs.Prelude.{Vec, Option, None, Some}
 use Rattle.std.specs.declared.alloc.Global.{Global}
 use Rattle.room_acl.specs.Entries.{EntryModel}

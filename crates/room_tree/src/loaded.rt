@@ -1,21 +1,22 @@
 //! Objects that were found on a shelf.
-ghost use Rattle.std.specs.Prelude.{◌≡◌, ◌≢◌, ◌++◌, [], take, Some, not, is_some, IfOk, if◌then◌else◌};
-ghost use Rattle.room_acl.specs.Access.{decision};
+ghost use Rattle.std.specs.Prelude.{◌≡◌, take, not, is_some, IfOk};
 ghost use Rattle.room_records.specs.Names.{Path as PathModel};
 ghost use Rattle.room_records.specs.Records.{ObjectRecords};
-ghost use Rattle.room_records.specs.Room.{Room};
+ghost use Rattle.room_records.specs.Room.{Room, list_of};
+ghost use Rattle.room_records.specs.Shelf.{ShelfRead, fault_in};
 ghost use Rattle.room_commands.specs.Checks.{check_right, check_folder, check_file, prefix_refusal, first_refusal};
-ghost use Rattle.room_records.specs.declared.shelf.ShelfFault.TheVariants.{Store};
-ghost use Rattle.room_tree.specs.LoadedObjects.{IsLoaded, node_of, kind_checks, use_checks};
+ghost use Rattle.room_commands.specs.Checks.{denied_at};
+ghost use Rattle.room_tree.specs.LoadedObjects.{OfRoom, IsLoaded, node_of, kind_checks, use_checks};
 ghost use Rattle.room_tree.specs.Stops.{Passes, refusal_in, stop_fault};
 
 use crate::refusal::{Refusal, Stop};
-use room_acl::{Decision, Entry, Kind, ListFlags, Mask, Standing, Subject, decide};
+use room_acl::{Decision, Entry, Kind, ListFlags, Mask, Standing, Subject};
 use room_commands::RefusalCode;
-use room_records::{FileName, Node, Path};
+use room_records::{FileName, Node, Path, Shelf, ShelfFault};
 use std::alloc::{AllocError, Global};
 
-/// An object's row and its whole list.
+/// An object's row. Its list stays on the shelf, which is asked for a decision, or for the whole list where that is
+/// wanted.
 #[derive(Debug, Drop)]
 pub(crate) struct LoadedObject {
     pub id: u32,
@@ -24,13 +25,11 @@ pub(crate) struct LoadedObject {
     pub kind: Kind,
     pub standing: Standing,
     pub aclflag: ListFlags,
-    pub list: Vec<Entry>,
 }
 
 impl LoadedObject {
-    pub(crate) fn of(node: Node, list: Vec<Entry>) -> LoadedObject
-        ensures node { node_of result ≡ node }
-        ensures list { result.list.items ≡ list.items }
+    pub(crate) fn of(node: Node) -> LoadedObject
+        ensures { node_of result ≡ node }
     {
         LoadedObject {
             id: node.id,
@@ -42,7 +41,6 @@ impl LoadedObject {
                 group: node.group,
             },
             aclflag: node.aclflag,
-            list,
         }
     }
 
@@ -75,40 +73,65 @@ impl LoadedObject {
         }
     }
 
-    /// What the list of the object says of these bits.
-    fn decision(&self, subject: &Subject, wanted: Mask) -> Decision
-        ensures { result ≡ decision self.now.list.items subject.now self.now.standing wanted }
+    /// The whole list of the object.
+    pub(crate) fn whole_list<S: Shelf>(&self, shelf: &mut S) -> Result<Vec<Entry>, ShelfFault>
+        ensures value { OfRoom (S.view shelf.old) (S.view shelf.new) (λ t room. (at : PathModel)
+            → IsLoaded t room at self.now → IfOk result (λ list. list.items ≡ list_of room at)) }
+        ensures frame { ShelfRead (S.view shelf.old) (S.view shelf.new) (fault_in result) }
     {
-        decide(&self.list, subject, &self.standing, wanted)
+        shelf.entries(self.id)
+    }
+
+    /// What the list of the object decides of these bits.
+    fn decision<S: Shelf>(
+        &self,
+        shelf: &mut S,
+        subject: &Subject,
+        wanted: Mask,
+    ) -> Result<Decision, ShelfFault>
+        ensures value { OfRoom (S.view shelf.old) (S.view shelf.new) (λ t room. (at : PathModel)
+            → IsLoaded t room at self.now →
+            IfOk result (λ decision. check_right room subject.now at wanted ≡ denied_at at decision)) }
+        ensures frame { ShelfRead (S.view shelf.old) (S.view shelf.new) (fault_in result) }
+    {
+        shelf.decide_at(self.id, subject, &self.standing, wanted)
     }
 
     /// Whether the list of the object allows these bits to the caller.
-    pub(crate) fn allows(&self, subject: &Subject, wanted: Mask) -> bool
-        ensures { (t : ObjectRecords) (room : Room) (at : PathModel) → IsLoaded t room at self.now →
-            result ≡ not (is_some (check_right room subject.now at wanted)) }
+    pub(crate) fn allows<S: Shelf>(
+        &self,
+        shelf: &mut S,
+        subject: &Subject,
+        wanted: Mask,
+    ) -> Result<bool, ShelfFault>
+        ensures value { OfRoom (S.view shelf.old) (S.view shelf.new) (λ t room. (at : PathModel)
+            → IsLoaded t room at self.now →
+            IfOk result (λ allowed. allowed ≡ not (is_some (check_right room subject.now at wanted)))) }
+        ensures frame { ShelfRead (S.view shelf.old) (S.view shelf.new) (fault_in result) }
     {
-        match self.decision(subject, wanted) {
-            Decision::Allowed => true,
-            Decision::Denied { .. } => false,
+        match self.decision(shelf, subject, wanted)? {
+            Decision::Allowed => Ok(true),
+            Decision::Denied { .. } => Ok(false),
         }
     }
 
     /// Whether the list of the object allows these bits to the caller.
     /// The object stands at the first `count` names of `path`.
-    pub(crate) fn check_right(
+    pub(crate) fn check_right<S: Shelf>(
         &self,
         alloc: Global,
+        shelf: &mut S,
         subject: &Subject,
         wanted: Mask,
         path: &Path,
         count: usize,
     ) -> Result<(), Stop>
-        ensures value { (t : ObjectRecords) (room : Room) (at : PathModel)
+        ensures value { OfRoom (S.view shelf.old) (S.view shelf.new) (λ t room. (at : PathModel)
             → take count path.now ≡ at → IsLoaded t room at self.now →
-            Passes (check_right room subject.now at wanted) (λ _. Unit {0}) result }
-        ensures quiet { stop_fault result ≢ Some Store }
+            Passes (check_right room subject.now at wanted) (λ _. Unit {0}) result) }
+        ensures frame { ShelfRead (S.view shelf.old) (S.view shelf.new) (stop_fault result) }
     {
-        match self.decision(subject, wanted) {
+        match self.decision(shelf, subject, wanted)? {
             Decision::Allowed => Ok(()),
             Decision::Denied { bit } => {
                 let at = path.front(alloc, count)?;
@@ -141,20 +164,21 @@ impl LoadedObject {
     }
 
     /// Whether the caller may go through the object, as a folder on the way.
-    pub(crate) fn check_way(
+    pub(crate) fn check_way<S: Shelf>(
         &self,
         alloc: Global,
+        shelf: &mut S,
         subject: &Subject,
         path: &Path,
         count: usize,
     ) -> Result<(), Stop>
-        ensures value { (t : ObjectRecords) (room : Room) (at : PathModel)
+        ensures value { OfRoom (S.view shelf.old) (S.view shelf.new) (λ t room. (at : PathModel)
             → take count path.now ≡ at → IsLoaded t room at self.now →
-            Passes (prefix_refusal room subject.now at) (λ _. Unit {0}) result }
-        ensures quiet { stop_fault result ≢ Some Store }
+            Passes (prefix_refusal room subject.now at) (λ _. Unit {0}) result) }
+        ensures frame { ShelfRead (S.view shelf.old) (S.view shelf.new) (stop_fault result) }
     {
         self.check_folder()?;
-        self.check_right(alloc, subject, Mask::EXECUTE, path, count)
+        self.check_right(alloc, shelf, subject, Mask::EXECUTE, path, count)
     }
 
     fn check_kind(&self, only: Option<Kind>) -> Result<(), Refusal>
@@ -171,19 +195,21 @@ impl LoadedObject {
     }
 
     /// Whether the object at this path is of the kind that is asked for, and allows these bits to the caller.
-    pub(crate) fn check_use(
+    pub(crate) fn check_use<S: Shelf>(
         &self,
         alloc: Global,
+        shelf: &mut S,
         subject: &Subject,
         path: &Path,
         only: Option<Kind>,
         wanted: Mask,
     ) -> Result<(), Stop>
-        ensures value { (t : ObjectRecords) (room : Room) → IsLoaded t room path.now self.now →
-            Passes (first_refusal (use_checks room subject.now path.now only wanted)) (λ _. Unit {0}) result }
-        ensures quiet { stop_fault result ≢ Some Store }
+        ensures value { OfRoom (S.view shelf.old) (S.view shelf.new) (λ t room. IsLoaded t room path.now self.now →
+            Passes (first_refusal (use_checks room subject.now path.now only wanted)) (λ _. Unit {0}) result) }
+        ensures frame { ShelfRead (S.view shelf.old) (S.view shelf.new) (stop_fault result) }
     {
         self.check_kind(only)?;
-        self.check_right(alloc, subject, wanted, path, path.names().len())
+        let count = path.names().len();
+        self.check_right(alloc, shelf, subject, wanted, path, count)
     }
 }

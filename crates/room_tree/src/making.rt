@@ -1,10 +1,11 @@
 //! Commands that make an object.
 ghost use Rattle.std.specs.Prelude.{◌≡◌, ℕ, List, ◌+◌, ◌-◌, ◌≤◌, ◌<◌, ◌^◌, [], ◌∷◌, ◌++◌, Some, IfOk, OnOk};
 ghost use Rattle.std.specs.Prelude.{nat_lt, nat_le};
+ghost use Rattle.room_acl.specs.Inheritance.{handed_down};
 ghost use Rattle.room_records.specs.Limits.{max_children, max_objects};
 ghost use Rattle.room_records.specs.Names.{IsPath, Path as PathModel};
-ghost use Rattle.room_records.specs.Room.{parent_of};
-ghost use Rattle.room_records.specs.Shelf.{ShelfRead};
+ghost use Rattle.room_records.specs.Room.{list_of, parent_of};
+ghost use Rattle.room_records.specs.Shelf.{ShelfRead, fault_in};
 ghost use Rattle.room_commands.specs.Checks.{first_refusal, refuse_if, is_root, walk, check_absent, check_right};
 ghost use Rattle.room_commands.specs.Checks.{check_folder_full, check_room_full};
 ghost use Rattle.room_commands.specs.CommandModel as C;
@@ -20,7 +21,7 @@ use crate::reaching::{as_size, count_children, folder_of_free};
 use crate::refusal::{Refusal, Stop};
 use room_acl::{Entry, Kind, ListFlags, Mask, Subject, hand_down};
 use room_commands::{RefusalCode, Reply};
-use room_records::{Change, FileName, MAX_CHILDREN, MAX_OBJECTS, Node, Path, Shelf};
+use room_records::{Change, FileName, MAX_CHILDREN, MAX_OBJECTS, Node, Path, Shelf, ShelfFault};
 use std::alloc::{AllocError, Global};
 
 /// The folder of a path where nothing is, if it allows these bits to the caller.
@@ -43,7 +44,7 @@ fn folder_for_new<S: Shelf>(
         return Err(Stop::of(RefusalCode::Exist));
     }
     let above = folder_of_free(alloc, shelf, subject, path)?;
-    above.check_right(alloc, subject, wanted, path, count - 1)?;
+    above.check_right(alloc, shelf, subject, wanted, path, count - 1)?;
     Ok(above)
 }
 
@@ -122,6 +123,23 @@ fn new_node(
     })
 }
 
+/// What the folder hands down to a new object of this kind.
+fn list_for_new<S: Shelf>(
+    alloc: Global,
+    shelf: &mut S,
+    above: &LoadedObject,
+    kind: Kind,
+) -> Result<Vec<Entry>, ShelfFault>
+    ensures value { OfRoom (S.view shelf.old) (S.view shelf.new) (λ t room. (folder : PathModel)
+        → IsLoaded t room folder above.now →
+        IfOk result (λ list. list.items ≡ handed_down (list_of room folder) kind)) }
+    ensures frame { ShelfRead (S.view shelf.old) (S.view shelf.new) (fault_in result) }
+{
+    let given = above.whole_list(shelf)?;
+    let list = hand_down(alloc, given.as_slice(), kind)?;
+    Ok(list)
+}
+
 /// Adds the entries of a new object, if it has any.
 fn add_list(changes: &mut Vec<Change>, id: u32, list: Vec<Entry>) -> Result<(), AllocError>
     ensures { OnOk result (changes.new.items ≡ changes.old.items ++ puts_new id list) }
@@ -181,7 +199,7 @@ pub(crate) fn plan_mkdir<S: Shelf>(
     let above = folder_for_new(alloc, shelf, subject, path, Mask::ADD_SUBDIRECTORY)?;
     let id = number_for_new(shelf, &above)?;
     let node = new_node(subject, path, &above, Kind::Folder, id)?;
-    let list = hand_down(alloc, &above.list, Kind::Folder)?;
+    let list = list_for_new(alloc, shelf, &above, Kind::Folder)?;
     let changes = new_object(alloc, id, node, list)?;
     Ok(Outcome {
         changes,
@@ -205,7 +223,7 @@ pub(crate) fn plan_create<S: Shelf>(
     check_size(bytes.len() as u64)?;
     let id = number_for_new(shelf, &above)?;
     let node = new_node(subject, path, &above, Kind::File, id)?;
-    let list = hand_down(alloc, &above.list, Kind::File)?;
+    let list = list_for_new(alloc, shelf, &above, Kind::File)?;
     let copy = bytes.to_vec(alloc)?;
     let changes = new_document(alloc, id, node, list, copy)?;
     Ok(Outcome {

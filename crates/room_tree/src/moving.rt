@@ -1,15 +1,12 @@
 //! RENAME.
-ghost use Rattle.std.specs.Prelude.{◌≡◌, ◌≢◌, ℕ, false, List, [], ◌∷◌, ◌++◌, ◌||◌, Some, IfOk, if◌then◌else◌};
+ghost use Rattle.std.specs.Prelude.{◌≡◌, ℕ, false, List, [], ◌∷◌, ◌++◌, ◌||◌, Some, IfOk, if◌then◌else◌};
 ghost use Rattle.room_acl.specs.Bits.{add_file, add_subdirectory};
-ghost use Rattle.room_acl.specs.Inheritance.{own_part, with_inherited};
 ghost use Rattle.room_records.specs.Names.{IsPath, Path as PathModel};
-ghost use Rattle.room_records.specs.Records.{ObjectRecords};
-ghost use Rattle.room_records.specs.Room.{Object, Room};
+ghost use Rattle.room_records.specs.Room.{Object};
 ghost use Rattle.room_records.specs.Shelf.{ShelfRead};
-ghost use Rattle.room_records.specs.declared.shelf.ShelfFault.TheVariants.{Store};
 ghost use Rattle.room_commands.specs.Checks.{first_refusal, refuse_if, is_root, is_kind, is_at_or_below};
 ghost use Rattle.room_commands.specs.CommandModel as C;
-ghost use Rattle.room_tree.specs.LoadedObjects.{OfRoom, node_of};
+ghost use Rattle.room_tree.specs.LoadedObjects.{OfRoom};
 ghost use Rattle.room_tree.specs.Plans.{Plans};
 ghost use Rattle.room_tree.specs.Renames.{IsMove, end_checks, move_rights, move_limits};
 ghost use Rattle.room_tree.specs.Stops.{Passes, refusal_in, stop_fault};
@@ -21,8 +18,8 @@ use crate::planning::Outcome;
 use crate::reaching::{count_children, folder_of_free, reach_with_folder};
 use crate::refusal::{Refusal, Stop};
 use crate::removing::check_removal;
-use crate::renewing::{if_changed, with_list};
-use room_acl::{Entry, Kind, Mask, Subject, own_part, with_inherited};
+use crate::renewing::{moved_list, with_list};
+use room_acl::{Kind, Mask, Subject};
 use room_commands::{RefusalCode, Reply};
 use room_records::{FileName, Node, Path, Shelf};
 use std::alloc::{AllocError, Global};
@@ -96,21 +93,24 @@ fn right_to_add(kind: Kind) -> Mask
 
 impl Move {
     /// Whether the caller may take the object from its folder and add it to the other one.
-    fn check_rights(
+    fn check_rights<S: Shelf>(
         &self,
         alloc: Global,
+        shelf: &mut S,
         subject: &Subject,
         path: &Path,
         to: &Path,
     ) -> Result<(), Stop>
-        ensures value { (t : ObjectRecords) (room : Room) → IsMove t room path.now to.now self.now →
-            Passes (first_refusal (move_rights room subject.now path.now to.now)) (λ _. Unit {0}) result }
-        ensures quiet { stop_fault result ≢ Some Store }
+        ensures value { OfRoom (S.view shelf.old) (S.view shelf.new) (λ t room.
+            IsMove t room path.now to.now self.now →
+            Passes (first_refusal (move_rights room subject.now path.now to.now)) (λ _. Unit {0}) result) }
+        ensures frame { ShelfRead (S.view shelf.old) (S.view shelf.new) (stop_fault result) }
     {
-        check_removal(alloc, subject, path, &self.loaded, &self.from)?;
+        check_removal(alloc, shelf, subject, path, &self.loaded, &self.from)?;
         let count = to.names().len().saturating_sub(1);
+        let wanted = right_to_add(self.loaded.kind);
         self.into
-            .check_right(alloc, subject, right_to_add(self.loaded.kind), to, count)
+            .check_right(alloc, shelf, subject, wanted, to, count)
     }
 
     /// Whether the subtree would reach too far down, or another folder would have too many children.
@@ -148,38 +148,25 @@ fn allowed_move<S: Shelf>(
 {
     check_paths(path, to)?;
     let ends = ends_of_move(alloc, shelf, subject, path, to)?;
-    ends.check_rights(alloc, subject, path, to)?;
+    ends.check_rights(alloc, shelf, subject, path, to)?;
     Ok(ends)
 }
 
-/// The row of a found object in another folder, under the last name of `to`.
-fn moved_node(loaded: LoadedObject, into: u32, to: &Path) -> Result<Node, AllocError>
+/// The row of an object in another folder, under the last name of `to`.
+fn moved_node(node: Node, into: u32, to: &Path) -> Result<Node, AllocError>
     ensures { (folder : PathModel) (name : List ℕ) → to.now ≡ folder ++ name ∷ [] →
-        IfOk result (λ node. node ≡ record (node_of loaded) { parent = Some into; name = Some name }) }
+        IfOk result (λ moved. moved ≡ record node { parent = Some into; name = Some name }) }
 {
     let name = last_name(to)?;
     Ok(Node {
-        id: loaded.id,
+        id: node.id,
         parent: Some(into),
         name,
-        kind: loaded.kind,
-        owner: loaded.standing.owner,
-        group: loaded.standing.group,
-        aclflag: loaded.aclflag,
+        kind: node.kind,
+        owner: node.owner,
+        group: node.group,
+        aclflag: node.aclflag,
     })
-}
-
-/// The list of a found object in another folder.
-fn moved_list(
-    alloc: Global,
-    loaded: &LoadedObject,
-    into: &LoadedObject,
-) -> Result<Vec<Entry>, AllocError>
-    ensures { IfOk result (λ list. list.items
-        ≡ with_inherited (own_part loaded.now.list.items) loaded.now.aclflag loaded.now.kind into.now.list.items) }
-{
-    let own = own_part(alloc, &loaded.list)?;
-    with_inherited(alloc, own, loaded.aclflag, loaded.kind, &into.list)
 }
 
 /// RENAME: an object and what is below it go to another path. The row of the object changes, its list to what the new
@@ -197,10 +184,10 @@ pub(crate) fn plan_rename<S: Shelf>(
 {
     let moving = allowed_move(alloc, shelf, subject, path, to)?;
     moving.check_limits(shelf, to)?;
-    let list = moved_list(alloc, &moving.loaded, &moving.into)?;
-    let list = if_changed(&moving.loaded.list, list);
-    let node = moved_node(moving.loaded, moving.into.id, to)?;
-    let changes = with_list(alloc, shelf, node, list)?;
+    let node = moving.loaded.into_node();
+    let list = moved_list(alloc, shelf, &node, moving.into.id)?;
+    let moved = moved_node(node, moving.into.id, to)?;
+    let changes = with_list(alloc, shelf, moved, list)?;
     Ok(Outcome {
         changes,
         reply: Reply::Done,

@@ -90,7 +90,7 @@ pub(crate) fn reach_to_use<S: Shelf>(
     ensures frame { ShelfRead (S.view shelf.old) (S.view shelf.new) (stop_fault result) }
 {
     let loaded = reach(alloc, shelf, subject, path)?;
-    loaded.check_use(alloc, subject, path, only, wanted)?;
+    loaded.check_use(alloc, shelf, subject, path, only, wanted)?;
     Ok(loaded)
 }
 

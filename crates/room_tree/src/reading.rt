@@ -135,11 +135,12 @@ pub(crate) fn plan_getlist<S: Shelf>(
     ensures frame { ShelfRead (S.view shelf.old) (S.view shelf.new) (stop_fault result) }
 {
     let loaded = reach_to_use(alloc, shelf, subject, path, None, Mask::READ_ACL)?;
+    let list = loaded.whole_list(shelf)?;
     Ok(Outcome::reading(
         alloc,
         Reply::Entries {
             aclflag: loaded.aclflag,
-            entries: loaded.list,
+            entries: list,
         },
     ))
 }
@@ -158,7 +159,8 @@ pub(crate) fn plan_access<S: Shelf>(
     ensures frame { ShelfRead (S.view shelf.old) (S.view shelf.new) (stop_fault result) }
 {
     let loaded = reach(alloc, shelf, subject, path)?;
-    let allowed = allowed_bits(&loaded.list, subject, &loaded.standing);
+    let list = loaded.whole_list(shelf)?;
+    let allowed = allowed_bits(list.as_slice(), subject, &loaded.standing);
     Ok(Outcome::reading(alloc, Reply::Allowed(common_bits(mask, allowed))))
 }
 

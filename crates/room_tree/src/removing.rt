@@ -1,10 +1,8 @@
 //! Commands that remove an object.
-ghost use Rattle.std.specs.Prelude.{◌≡◌, ◌≢◌, [], ◌∷◌, Some, nat_lt};
+ghost use Rattle.std.specs.Prelude.{◌≡◌, [], ◌∷◌, nat_lt};
 ghost use Rattle.room_records.specs.Names.{IsPath};
-ghost use Rattle.room_records.specs.Records.{ObjectRecords};
-ghost use Rattle.room_records.specs.Room.{Room, parent_of};
+ghost use Rattle.room_records.specs.Room.{parent_of};
 ghost use Rattle.room_records.specs.Shelf.{ShelfRead};
-ghost use Rattle.room_records.specs.declared.shelf.ShelfFault.TheVariants.{Store};
 ghost use Rattle.room_commands.specs.Checks.{first_refusal, refuse_if, is_root, walk, check_exists, check_removal};
 ghost use Rattle.room_commands.specs.CommandModel as C;
 ghost use Rattle.room_tree.specs.LoadedObjects.{OfRoom, IsLoaded};
@@ -23,22 +21,25 @@ use std::alloc::Global;
 
 /// Whether the caller may remove the object: DELETE on it or DELETE_CHILD on its folder is enough. A refusal names
 /// the object and DELETE.
-pub(crate) fn check_removal(
+pub(crate) fn check_removal<S: Shelf>(
     alloc: Global,
+    shelf: &mut S,
     subject: &Subject,
     path: &Path,
     loaded: &LoadedObject,
     above: &LoadedObject,
 ) -> Result<(), Stop>
-    ensures value { (t : ObjectRecords) (room : Room) → IsLoaded t room path.now loaded.now
+    ensures value { OfRoom (S.view shelf.old) (S.view shelf.new) (λ t room. IsLoaded t room path.now loaded.now
         → IsLoaded t room (parent_of path.now) above.now →
-        Passes (check_removal room subject.now path.now) (λ _. Unit {0}) result }
-    ensures quiet { stop_fault result ≢ Some Store }
+        Passes (check_removal room subject.now path.now) (λ _. Unit {0}) result) }
+    ensures frame { ShelfRead (S.view shelf.old) (S.view shelf.new) (stop_fault result) }
 {
-    if loaded.allows(subject, Mask::DELETE) {
+    let own = loaded.allows(shelf, subject, Mask::DELETE)?;
+    if own {
         return Ok(());
     }
-    if above.allows(subject, Mask::DELETE_CHILD) {
+    let by_folder = above.allows(shelf, subject, Mask::DELETE_CHILD)?;
+    if by_folder {
         return Ok(());
     }
     let at = path.front(alloc, path.names().len())?;
@@ -67,7 +68,7 @@ fn removable<S: Shelf>(
     }
     let found = reach_with_folder(alloc, shelf, subject, path)?;
     let (loaded, folder) = found;
-    check_removal(alloc, subject, path, &loaded, &folder)?;
+    check_removal(alloc, shelf, subject, path, &loaded, &folder)?;
     Ok(loaded)
 }
 

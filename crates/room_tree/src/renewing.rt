@@ -85,6 +85,28 @@ fn renewed_list<S: Shelf>(
     Ok(if_changed(stored.as_slice(), list))
 }
 
+/// The list of an object that goes to the folder of this number, where it changes. Where it does not follow, or is in
+/// that folder, its list stays, and none is read.
+pub(crate) fn moved_list<S: Shelf>(
+    alloc: Global,
+    shelf: &mut S,
+    node: &Node,
+    into: u32,
+) -> Result<Option<Vec<Entry>>, ShelfFault>
+    ensures value { OfRoom (S.view shelf.old) (S.view shelf.new) (λ t room. (path : PathModel) →
+        HasPath t path node.now.id → t.node node.now.id ≡ Some node.now → IfOk result (λ changed. MatchOption changed
+        (t.entries node.now.id ≡ list_under (object_at room path) (t.entries into))
+        (λ list. (list.items ≡ list_under (object_at room path) (t.entries into))
+        × (list.items ≢ t.entries node.now.id)))) }
+    ensures frame { ShelfRead (S.view shelf.old) (S.view shelf.new) (fault_in result) }
+{
+    if node.parent == Some(into) {
+        return Ok(None);
+    }
+    let above = list_above(alloc, shelf, Some(into), node.aclflag)?;
+    renewed_list(alloc, shelf, node, above.as_slice())
+}
+
 /// Adds a change behind the others.
 fn add_change(changes: &mut Vec<Change>, change: Change) -> Result<(), AllocError>
     ensures { OnOk result (changes.new.items ≡ changes.old.items ++ change ∷ []) }

@@ -85,7 +85,8 @@ pub(crate) fn plan_setlist<S: Shelf>(
     let own = own_entries(alloc, follows_at(path, aclflag), entries)?;
     check_lawful(own.as_slice(), loaded.kind)?;
     let list = list_in_folder(alloc, shelf, loaded.parent, own, aclflag, loaded.kind)?;
-    let list = if_changed(&loaded.list, list);
+    let stored = loaded.whole_list(shelf)?;
+    let list = if_changed(stored.as_slice(), list);
     let node = loaded.with_flags(aclflag);
     let changes = with_list(alloc, shelf, node, list)?;
     Ok(Outcome {

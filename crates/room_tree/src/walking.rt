@@ -9,7 +9,7 @@ ghost use Rattle.room_tree.specs.Stops.{Passes, stop_fault};
 
 use crate::loaded::LoadedObject;
 use crate::refusal::Stop;
-use room_acl::{Entry, Kind, Mask, Subject};
+use room_acl::{Kind, Mask, Subject};
 use room_commands::RefusalCode;
 use room_records::{FileName, Node, Path, Shelf, ShelfFault};
 use std::alloc::{AllocError, Global};
@@ -32,11 +32,10 @@ fn load_root<S: Shelf>(shelf: &mut S) -> Result<Option<LoadedObject>, ShelfFault
     let Some(root) = shelf.node(1)? else {
         return Ok(None);
     };
-    let list = shelf.entries(1)?;
-    Ok(Some(LoadedObject::of(root, list)))
+    Ok(Some(LoadedObject::of(root)))
 }
 
-/// The child of this name, with its list.
+/// The child of this name.
 fn load_child<S: Shelf>(
     shelf: &mut S,
     here: &LoadedObject,
@@ -51,8 +50,7 @@ fn load_child<S: Shelf>(
     let Some(node) = shelf.child(here.id, name)? else {
         return Ok(None);
     };
-    let list = shelf.entries(node.id)?;
-    Ok(Some(LoadedObject::of(node, list)))
+    Ok(Some(LoadedObject::of(node)))
 }
 
 /// Walks a path from the root down, with EXECUTE on each folder on the way. It is refused where a folder on the way is
@@ -73,7 +71,7 @@ pub(crate) fn walk_path<S: Shelf>(
     let names = path.names();
     let mut above: Option<LoadedObject> = None;
     for index in 0..names.len() {
-        here.check_way(alloc, subject, path, index)?;
+        here.check_way(alloc, shelf, subject, path, index)?;
         let Some(next) = load_child(shelf, &here, &names[index])? else {
             if index + 1 < names.len() {
                 return Err(Stop::of(RefusalCode::NoEnt));

@@ -1,5 +1,5 @@
 //! Each public call once, the limits, and generic code over two shelves.
-use room_acl::{Entry, Flags, Kind, ListFlags, Mask, Principal, Who};
+use room_acl::{Decision, Entry, Flags, Kind, ListFlags, Mask, Principal, Standing, Subject, Who};
 use room_records::{
     Change, FileName, MemShelf, Node, Path, Roster, SessionRow, Shelf, ShelfFault, Sid, SlotCount,
     SlotRow, TripShelf,
@@ -7,7 +7,7 @@ use room_records::{
 use room_slots::Kept;
 use std::alloc::{AllocError, Global};
 use std::test::Fail;
-use test_support::{SID, file_name, in_memory, named, path_of, session_name};
+use test_support::{SID, file_name, in_memory, named, path_of, session_name, subject};
 
 fn repeated(alloc: Global, part: &str, times: usize) -> Result<String, AllocError> {
     let mut text = String::new(alloc);
@@ -215,6 +215,14 @@ fn size_of<S: Shelf>(shelf: &mut S, name: &FileName) -> Result<usize, ShelfFault
     Ok(shelf.doc(id)?.len())
 }
 
+/// The lowest right of all that the entries of number 2 refuse, 0 where they refuse none.
+fn refused_at<S: Shelf>(shelf: &mut S, asked: &Asked) -> Result<u32, ShelfFault> {
+    match shelf.decide_at(2, &asked.subject, &asked.standing, Mask::ALL)? {
+        Decision::Allowed => Ok(0),
+        Decision::Denied { bit } => Ok(bit),
+    }
+}
+
 /// Reads a session and a slot, and tells the next number.
 fn next_after<S: Shelf>(shelf: &mut S, sid: &Sid) -> Result<u32, ShelfFault> {
     let _ = shelf.session(sid)?;
@@ -222,21 +230,43 @@ fn next_after<S: Shelf>(shelf: &mut S, sid: &Sid) -> Result<u32, ShelfFault> {
     shelf.next_id()
 }
 
-/// The root's children, listed and counted, the entries of number 2, the size of `/a`, and the next number.
-type Counts = (usize, u64, usize, usize, u32);
+/// What is asked for: a child, a session, and what an object of `ann` in `eng` allows a caller.
+#[derive(Drop)]
+struct Asked {
+    name: FileName,
+    sid: Sid,
+    subject: Subject,
+    standing: Standing,
+}
+
+fn to_ask(alloc: Global) -> Result<Asked, Fail> {
+    Ok(Asked {
+        name: file_name(alloc, "a")?,
+        sid: session_name(alloc, SID)?,
+        subject: subject(alloc, "bob")?,
+        standing: Standing {
+            owner: named(alloc, "ann")?,
+            group: named(alloc, "eng")?,
+        },
+    })
+}
+
+/// The root's children, listed and counted, the entries of number 2 and the lowest right that they refuse, the size of
+/// `/a`, and the next number.
+type Counts = (usize, u64, usize, u32, usize, u32);
 
 /// Reads everything back, over any shelf.
-fn read_back<S: Shelf>(shelf: &mut S, name: &FileName, sid: &Sid) -> Result<Counts, ShelfFault> {
+fn read_back<S: Shelf>(shelf: &mut S, asked: &Asked) -> Result<Counts, ShelfFault> {
     let (listed, counted) = count_children(shelf)?;
     let entries = shelf.entries(2)?.len();
-    let size = size_of(shelf, name)?;
-    Ok((listed, counted, entries, size, next_after(shelf, sid)?))
+    let refused = refused_at(shelf, asked)?;
+    let size = size_of(shelf, &asked.name)?;
+    let next = next_after(shelf, &asked.sid)?;
+    Ok((listed, counted, entries, refused, size, next))
 }
 
 fn reads_as(alloc: Global, shelf: &mut MemShelf, wanted: Counts) -> Result<(), Fail> {
-    let name = file_name(alloc, "a")?;
-    let sid = session_name(alloc, SID)?;
-    let found = read_back(shelf, &name, &sid)?;
+    let found = read_back(shelf, &to_ask(alloc)?)?;
     if found != wanted {
         return Err(Fail::new(format_args!("{found:?} and not {wanted:?}")));
     }
@@ -280,14 +310,14 @@ fn kept_number(alloc: Global, shelf: &mut MemShelf) -> Result<u32, Fail> {
 #[test]
 fn rows_are_read_back(rt: HostRuntime) -> Result<(), Fail> {
     let mut shelf = in_memory(rt.alloc())?;
-    reads_as(rt.alloc(), &mut shelf, (0, 0, 0, 0, 2))?;
+    reads_as(rt.alloc(), &mut shelf, (0, 0, 0, 1, 0, 2))?;
     commit_one_of_each(rt.alloc(), &mut shelf)?;
-    reads_as(rt.alloc(), &mut shelf, (2, 2, 1, 2, 4))?;
+    reads_as(rt.alloc(), &mut shelf, (2, 2, 1, 2, 2, 4))?;
     assert_eq!(rt; first_child(&mut shelf)?, 3);
     assert!(rt; is_open(rt.alloc(), &mut shelf)?);
     assert_eq!(rt; kept_number(rt.alloc(), &mut shelf)?, 1);
     drop_slots_and_the_file(rt.alloc(), &mut shelf)?;
-    reads_as(rt.alloc(), &mut shelf, (1, 1, 1, 0, 4))?;
+    reads_as(rt.alloc(), &mut shelf, (1, 1, 1, 2, 0, 4))?;
     assert_eq!(rt; kept_number(rt.alloc(), &mut shelf)?, 0);
     Ok(())
 }
@@ -296,9 +326,7 @@ fn rows_are_read_back(rt: HostRuntime) -> Result<(), Fail> {
 fn tripped(alloc: Global, shelf: &mut TripShelf<MemShelf>) -> Result<(bool, bool), Fail> {
     let changes = one_of_each(alloc)?;
     let is_refused = shelf.commit(changes.as_slice()).is_err();
-    let name = file_name(alloc, "a")?;
-    let sid = session_name(alloc, SID)?;
-    Ok((is_refused, read_back(shelf, &name, &sid).is_err()))
+    Ok((is_refused, read_back(shelf, &to_ask(alloc)?).is_err()))
 }
 
 /// Of eleven calls, a commit and ten reads, the k-th trips, and the rows are those of the commit where it did not.
@@ -308,7 +336,7 @@ fn trips_at(alloc: Global, k: u64) -> Result<(), Fail> {
     let has_tripped = shelf.has_tripped();
     let mut inner = shelf.into_inner();
     let (is_refused, is_unread) = answers?;
-    if is_refused != (k == 1) || is_unread != (1 < k && k < 11) || has_tripped != (k < 11) {
+    if is_refused != (k == 1) || is_unread != (1 < k && k < 12) || has_tripped != (k < 12) {
         return Err(Fail::new(format_args!("call {k}")));
     }
     let count = inner.child_count(1)?;
@@ -320,7 +348,7 @@ fn trips_at(alloc: Global, k: u64) -> Result<(), Fail> {
 
 #[test]
 fn each_call_trips_in_turn(rt: HostRuntime) -> Result<(), Fail> {
-    for k in 1..12u64 {
+    for k in 1..13u64 {
         trips_at(rt.alloc(), k)?;
     }
     Ok(())
@@ -329,10 +357,10 @@ fn each_call_trips_in_turn(rt: HostRuntime) -> Result<(), Fail> {
 /// A commit, which is made again where it was refused: then nothing had changed.
 fn commit_and_again(alloc: Global, shelf: &mut MemShelf, changes: &[Change]) -> Result<(), Fail> {
     if shelf.commit(changes).is_err() {
-        reads_as(alloc, shelf, (0, 0, 0, 0, 2))?;
+        reads_as(alloc, shelf, (0, 0, 0, 1, 0, 2))?;
         shelf.commit(changes)?;
     }
-    reads_as(alloc, shelf, (2, 2, 1, 2, 4))
+    reads_as(alloc, shelf, (2, 2, 1, 2, 2, 4))
 }
 
 // `rt try --test --fail-alloc N` refuses growth N. Where it is one of the commit's own, nothing

@@ -34,6 +34,7 @@ const LIST: Step = Step(
     r#"{"code":0,"names":[["a","file"]]}"#,
 );
 
+/// It reads the root's list whole, and not only up to the entry that decides.
 const MKDIR: Step = Step(
     Ask::Run(4, r#"{"cmd":"MKDIR","path":"/e"}"#),
     r#"{"code":0}"#,
@@ -141,7 +142,7 @@ static ODDS: [Odd; 31] = [
     Odd(
         "UPDATE entry SET who = 'a/b' WHERE node = 1 AND place = 1",
         "UPDATE entry SET who = 'GROUP@' WHERE node = 1 AND place = 1",
-        READ,
+        MKDIR,
     ),
     Odd(
         "UPDATE entry SET flag = flag + 16 WHERE node = 3",
@@ -151,7 +152,7 @@ static ODDS: [Odd; 31] = [
     Odd(
         "UPDATE entry SET type = 2 WHERE node = 2 AND place = 1",
         "UPDATE entry SET type = 0 WHERE node = 2 AND place = 1",
-        READ,
+        SETLIST,
     ),
     Odd(
         "UPDATE entry SET flag = flag + 16 WHERE node = 2",
@@ -303,6 +304,22 @@ fn waits_and_goes_on(alloc: Global, odd: &Odd) -> Result<(), Fail> {
 fn a_request_that_meets_an_odd_row_waits(rt: HostRuntime) -> Result<(), Fail> {
     for odd in &ODDS {
         waits_and_goes_on(rt.alloc(), odd)?;
+    }
+    Ok(())
+}
+
+/// Rows behind the one that decides, of the root and of the folder on the way: READ reads neither.
+static BEHIND: [&str; 2] = [
+    "UPDATE entry SET who = 'a/b' WHERE node = 1 AND place = 1",
+    "UPDATE entry SET type = 2 WHERE node = 2 AND place = 1",
+];
+
+#[test]
+fn an_odd_row_behind_the_deciding_one_is_not_met(rt: HostRuntime) -> Result<(), Fail> {
+    for sql in &BEHIND {
+        let mut conn = played(rt.alloc())?;
+        conn.execute(sql, &[])?;
+        let _ = asked_twice(rt.alloc(), conn, &Odd(sql, sql, READ), true)?;
     }
     Ok(())
 }

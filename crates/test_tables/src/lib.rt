@@ -7,6 +7,8 @@ mod adopting;
 #[cfg(test)]
 mod databases;
 #[cfg(test)]
+mod deciding;
+#[cfg(test)]
 mod files;
 #[cfg(test)]
 mod keys;

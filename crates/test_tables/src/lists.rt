@@ -10,7 +10,7 @@ use test_stores::in_tables;
 use test_support::{are_same_entries, file_name, named};
 
 /// The most entries that inheritance can give: 32 own ones, and those of 16 folders above.
-const LONGEST: usize = 544;
+pub const LONGEST: usize = 544;
 
 const RIGHTS: [u32; 4] = [0x1, 0x2, 0x20, 0x1200A9];
 

@@ -32,8 +32,9 @@ pub record LacksBody (bytes : List ℕ) : Type 0 where
   pub few_fields : length head.fields ≤ 32
   pub lacks : (size : ℕ) × (body_after head ≡ Some size) × (length rest < size)
 
--- `Whole`: the message at the front. `More`: there is none yet,
--- the limits allow one, and what is lacking. `Bad`: none can come
+-- `Whole`: the message at the front. `More`: there is none yet, fewer bytes have come than the longest message has, and
+-- what is lacking. The fields of a head that is not whole are not counted, so more of them than a message may have can
+-- stand there already. `Bad`: none can come
 abbrev pub Takes : List ℕ → Take → Type 0
 Takes bytes (Whole message) = (m : MessageModel) × Reads bytes m (drop message.size bytes) × Shows message m
 Takes bytes More = NoMessage bytes × (length bytes < 139264) × (LacksHead bytes ⊎ LacksBody bytes)

@@ -29,7 +29,8 @@ pub struct Message<'a> {
 pub enum Take<'a> {
     /// A message.
     Whole(Message<'a>),
-    /// No message yet, and the limits allow one: fewer than 139,264 bytes have come.
+    /// No message yet: its head or its body is not whole, and fewer than 139,264 bytes have come.
+    /// Of a head that is not whole the fields are not counted.
     More,
     /// No message, and none whatever bytes follow.
     Bad,

@@ -1,4 +1,4 @@
-use Rattle.room_program.proofs.Streams.{ran}
+use Rattle.room_program.proofs.Streams.{ran, stays}
 use Rattle.room_program.proofs.network.serve_stream.Goals as goal
 
 pub returns-then-eq-clause-messages : goal.returns-then-eq-clause-messages
@@ -16,3 +16,7 @@ pub returns-else-eq-2-clause-run : goal.returns-else-eq-2-clause-run
 returns-else-eq-2-clause-run g c = λ h start past stand.
     let on = c.serve-end.ensures.run h start past stand in
     (on.0, ran _ start past on.1.2 on.1.3 on.0 on.1.5, on.2)
+
+pub returns-then-not-limit_waits-clause-run : goal.returns-then-not-limit_waits-clause-run
+returns-then-not-limit_waits-clause-run g c =
+    λ h start past stand. (past, stays c.args.roster.now start past, stand)

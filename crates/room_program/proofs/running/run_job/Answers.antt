@@ -10,6 +10,7 @@ pub returns-in-Init : goal.returns-in-Init
 returns-in-Init g c =
     let m = means g.M.Machine.does g.M.Listener.accepts g.M.Listener.fails
     (λ (opened : Held g.row.S.Denot) (shelf : SqlShelf g.row.S.Denot g.S.Store). Adopted g.S.Store opened shelf.conn)
+    (λ (shelf : SqlShelf g.row.S.Denot g.S.Store). shelf.conn)
     (Made g.S.Store) (IsTaken {S = g.row.S.Denot}) (sql_view g.S.Store) in
     ran_init m c.args.machine.now c.run_init.new.machine c.args.job.now
     c.in-Init.db c.in-Init.owner c.in-Init.group _ _ _
@@ -21,6 +22,7 @@ pub returns-in-Report : goal.returns-in-Report
 returns-in-Report g c =
     let m = means g.M.Machine.does g.M.Listener.accepts g.M.Listener.fails
     (λ (opened : Held g.row.S.Denot) (shelf : SqlShelf g.row.S.Denot g.S.Store). Adopted g.S.Store opened shelf.conn)
+    (λ (shelf : SqlShelf g.row.S.Denot g.S.Store). shelf.conn)
     (Made g.S.Store) (IsTaken {S = g.row.S.Denot}) (sql_view g.S.Store) in
     ran_report m c.args.machine.now c.run_report.new.machine c.args.job.now
     c.in-Report.db c.in-Report.roster c.in-Report.kind _ _ (g.R.Read.remaining c.args.input.now)
@@ -32,6 +34,7 @@ pub returns-in-Replay : goal.returns-in-Replay
 returns-in-Replay g c =
     let m = means g.M.Machine.does g.M.Listener.accepts g.M.Listener.fails
     (λ (opened : Held g.row.S.Denot) (shelf : SqlShelf g.row.S.Denot g.S.Store). Adopted g.S.Store opened shelf.conn)
+    (λ (shelf : SqlShelf g.row.S.Denot g.S.Store). shelf.conn)
     (Made g.S.Store) (IsTaken {S = g.row.S.Denot}) (sql_view g.S.Store) in
     ran_replay m c.args.machine.now c.run_replay.new.machine c.args.job.now
     c.in-Replay.roster c.in-Replay.owner c.in-Replay.group _ _ _
@@ -45,6 +48,7 @@ pub returns-in-Serve : goal.returns-in-Serve
 returns-in-Serve g c =
     let m = means g.M.Machine.does g.M.Listener.accepts g.M.Listener.fails
     (λ (opened : Held g.row.S.Denot) (shelf : SqlShelf g.row.S.Denot g.S.Store). Adopted g.S.Store opened shelf.conn)
+    (λ (shelf : SqlShelf g.row.S.Denot g.S.Store). shelf.conn)
     (Made g.S.Store) (IsTaken {S = g.row.S.Denot}) (sql_view g.S.Store) in
     ran_serve m c.args.machine.now c.run_serve.new.machine c.args.job.now
     c.in-Serve.db c.in-Serve.roster c.in-Serve.port c.in-Serve.count _ _

@@ -1,7 +1,4 @@
 use Rattle.std.proofs.Common.{◌≡◌, ◌<◌, ◌^◌, arith, ap, sym, ◌∙◌, List, [], ◌∷◌, None, length}
-use Rattle.room_acl.specs.declared.subject.Kind.TheVariants.{File}
-use Rattle.room_acl.specs.Entries.{EntryModel}
-use Rattle.room_acl.specs.Inheritance.{handed_down}
 use Rattle.room_records.specs.Records.{Records}
 use Rattle.room_records.specs.Room.{parent_of}
 use Rattle.room_commands.specs.declared.reply.RefusalCode.TheVariants.{Exist}
@@ -53,16 +50,19 @@ returns-in_err-id-clause-effect g c = λ available laid_out t e room stand.
 pub returns-clause-effect : goal.returns-clause-effect
 returns-clause-effect g c = λ available laid_out t e room stand.
     let path = c.args.path.now in
-    let before = c.number_for_new.ensures.frame.call.was_available available in
+    let numbered = c.list_for_new.ensures.frame.call.was_available available in
+    let before = c.number_for_new.ensures.frame.call.was_available numbered in
     let reached = c.in_ok-above.ensures.value before laid_out t e room stand in
     let declared = c.folder_for_new.ensures.frame.call.laid_out before laid_out in
     let same = ap (λ (r : Records). r.objects) (c.folder_for_new.ensures.frame.same before laid_out) ∙ e in
-    let number = c.in_ok-id.ensures.value available declared t same room stand (parent_of path) reached.1 in
+    let number = c.in_ok-id.ensures.value numbered declared t same room stand (parent_of path) reached.1 in
+    let listing = c.number_for_new.ensures.frame.call.laid_out numbered declared in
+    let same_then = ap (λ (r : Records). r.objects) (c.number_for_new.ensures.frame.same numbered declared) ∙ same in
+    let given = c.in_ok-list.ensures.value available listing t same_then room stand (parent_of path) reached.1 in
     let size : check_size (length c.args.bytes.now) ≡ None = sym c.in_ok-check_size.ensures in
     let fits : length c.args.bytes.now < 2 ^ 32 = omega (arith, small_by_check (length c.args.bytes.now) size) in
     create_plans t room c.args.subject.now c.args.bytes.now path c.in_ok-above.above c.in_ok-id.id c.in_ok-node.node
     c.in_ok-list.list c.in_ok-copy.copy _ stand c.in_ok-above.ensures.lawful reached.0 size reached.1
-    number c.in_ok-node.ensures
-    (c.in_ok-list.ensures ∙ ap (λ (list : List EntryModel). handed_down list File) c.deref.ensures.value)
+    number c.in_ok-node.ensures given
     (c.in_ok-copy.ensures.items_if_clones_equal (λ x y is. is))
     c.in_ok-changes.ensures (ap Size (c.as_size.ensures fits))

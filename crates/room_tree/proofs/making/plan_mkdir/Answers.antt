@@ -1,7 +1,4 @@
 use Rattle.std.proofs.Common.{ap, ◌∙◌, List, [], ◌∷◌, refl}
-use Rattle.room_acl.specs.declared.subject.Kind.TheVariants.{Folder}
-use Rattle.room_acl.specs.Entries.{EntryModel}
-use Rattle.room_acl.specs.Inheritance.{handed_down}
 use Rattle.room_records.specs.Records.{Records}
 use Rattle.room_records.specs.Room.{parent_of}
 use Rattle.room_commands.specs.declared.reply.RefusalCode.TheVariants.{Exist}
@@ -36,13 +33,16 @@ returns-in_err-id-clause-effect g c = λ available laid_out t e room stand.
 pub returns-clause-effect : goal.returns-clause-effect
 returns-clause-effect g c = λ available laid_out t e room stand.
     let path = c.args.path.now in
-    let before = c.number_for_new.ensures.frame.call.was_available available in
+    let numbered = c.list_for_new.ensures.frame.call.was_available available in
+    let before = c.number_for_new.ensures.frame.call.was_available numbered in
     let reached = c.in_ok-above.ensures.value before laid_out t e room stand in
     let declared = c.folder_for_new.ensures.frame.call.laid_out before laid_out in
     let same = ap (λ (r : Records). r.objects) (c.folder_for_new.ensures.frame.same before laid_out) ∙ e in
-    let number = c.in_ok-id.ensures.value available declared t same room stand (parent_of path) reached.1 in
+    let number = c.in_ok-id.ensures.value numbered declared t same room stand (parent_of path) reached.1 in
+    let listing = c.number_for_new.ensures.frame.call.laid_out numbered declared in
+    let same_then = ap (λ (r : Records). r.objects) (c.number_for_new.ensures.frame.same numbered declared) ∙ same in
+    let given = c.in_ok-list.ensures.value available listing t same_then room stand (parent_of path) reached.1 in
     mkdir_plans t room c.args.subject.now path c.in_ok-above.above c.in_ok-id.id c.in_ok-node.node
     c.in_ok-list.list _ stand c.in_ok-above.ensures.lawful reached.0 reached.1
-    number c.in_ok-node.ensures
-    (c.in_ok-list.ensures ∙ ap (λ (list : List EntryModel). handed_down list Folder) c.deref.ensures.value)
+    number c.in_ok-node.ensures given
     c.in_ok-changes.ensures refl

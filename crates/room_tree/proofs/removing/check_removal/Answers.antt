@@ -2,6 +2,7 @@ use Rattle.std.proofs.Common.{◌≡◌, refl, ap, sym, ◌∙◌, arith, take, 
 use Rattle.std.specs.Prelude.{not, is_some}
 use Rattle.std.proofs.lemmas.List.{take_all}
 use Rattle.room_records.specs.Names.{Path}
+use Rattle.room_records.specs.Records.{Records}
 use Rattle.room_records.specs.Room.{parent_of}
 use Rattle.room_commands.specs.ReplyModel.{Refusal}
 use Rattle.room_commands.specs.declared.reply.RefusalCode.TheVariants.{Access}
@@ -27,30 +28,39 @@ by_none path None by_folder own_off above_off = cc
 by_none path (Some r) None own_off above_off = cc
 by_none path (Some r) (Some s) own_off above_off = refl
 
-pub returns-then-allows-clause-value : goal.returns-then-allows-clause-value
-returns-then-allows-clause-value c = λ t room here folder.
+pub returns-then-own-clause-value : goal.returns-then-own-clause-value
+returns-then-own-clause-value g c = λ available laid_out t e room stand here folder.
     let path = c.args.path.now in (
       by_own path (check_right room c.args.subject.now path 0x10000) (check_right room c.args.subject.now
-          (parent_of path) 0x40) (sym c.if-allows.true ∙ c.allows.ensures t room path here),
+          (parent_of path) 0x40)
+          (sym c.if-own.true ∙ c.in_ok-own.ensures.value available laid_out t e room stand path here),
       tt,
     )
 
-pub returns-then-allows-2-clause-value : goal.returns-then-allows-2-clause-value
-returns-then-allows-2-clause-value c = λ t room here folder.
-    let path = c.args.path.now in (
+pub returns-then-by_folder-clause-value : goal.returns-then-by_folder-clause-value
+returns-then-by_folder-clause-value g c = λ available laid_out t e room stand here folder.
+    let path = c.args.path.now in
+    let before = c.allows-2.ensures.frame.call.was_available available in
+    let declared = c.allows.ensures.frame.call.laid_out before laid_out in
+    let same = ap (λ (r : Records). r.objects) (c.allows.ensures.frame.same before laid_out) ∙ e in (
       by_above path (check_right room c.args.subject.now path 0x10000) (check_right room c.args.subject.now
-          (parent_of path) 0x40) (sym c.if-allows-2.true ∙ c.allows-2.ensures t room (parent_of path) folder),
+          (parent_of path) 0x40) (sym c.if-by_folder.true
+          ∙ c.in_ok-by_folder.ensures.value available declared t same room stand (parent_of path) folder),
       tt,
     )
 
 pub returns-clause-value : goal.returns-clause-value
-returns-clause-value c = λ t room here folder.
+returns-clause-value g c = λ available laid_out t e room stand here folder.
     let path = c.args.path.now in
+    let before = c.allows-2.ensures.frame.call.was_available available in
+    let declared = c.allows.ensures.frame.call.laid_out before laid_out in
+    let same = ap (λ (r : Records). r.objects) (c.allows.ensures.frame.same before laid_out) ∙ e in
     let whole : take (length c.names.result.now) path ≡ path =
     ap (λ (p : Path). take (length p) path) c.names.ensures.value ∙ take_all (length path) path (omega arith) in
     by_none path (check_right room c.args.subject.now path 0x10000)
     (check_right room c.args.subject.now (parent_of path) 0x40)
-    (sym c.if-allows.false ∙ c.allows.ensures t room path here)
-    (sym c.if-allows-2.false ∙ c.allows-2.ensures t room (parent_of path) folder)
+    (sym c.if-own.false ∙ c.in_ok-own.ensures.value before laid_out t e room stand path here)
+    (sym c.if-by_folder.false
+    ∙ c.in_ok-by_folder.ensures.value available declared t same room stand (parent_of path) folder)
     ∙ ap (λ (p : Path). Some (record { code = Access; place = Some (p, 0x10000) })) (sym (c.in_ok-at.ensures ∙ whole))
     ∙ ap (λ bits. Some (record { code = Access; place = Some (c.in_ok-at.at, bits) })) (sym c.bits.ensures.value)

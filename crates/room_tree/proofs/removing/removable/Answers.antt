@@ -1,5 +1,6 @@
 use Rattle.std.proofs.Common.{◌≡◌, ap, ◌∙◌, subst, [], ◌∷◌, length}
 use Rattle.room_records.specs.Names.{Path}
+use Rattle.room_records.specs.Records.{Records}
 use Rattle.room_commands.specs.declared.reply.RefusalCode.TheVariants.{Inval}
 use Rattle.room_commands.specs.Checks.{refuse_if, is_root, walk, check_exists, check_removal}
 use Rattle.room_tree.proofs.Checking.{skip, off_root, none_passes, first_alone}
@@ -24,12 +25,16 @@ returns-in_err-check_removal-clause-value g c = λ available laid_out t e room s
     let caller = c.args.subject.now in
     let Long : Path → Type 0 = λ p. length p ≡ 0 → ⊥ in
     let off = off_root path (subst Long c.names.ensures.value c.if-names-eq0.false) in
-    let found = c.in_ok-found.ensures.value available laid_out t e room stand off in
+    let before = c.check_removal.ensures.frame.call.was_available available in
+    let found = c.in_ok-found.ensures.value before laid_out t e room stand off in
+    let declared = c.reach_with_folder.ensures.frame.call.laid_out before laid_out in
+    let same = ap (λ (r : Records). r.objects) (c.reach_with_folder.ensures.frame.same before laid_out) ∙ e in
     handed_on _ _ _ c.from_residual-in_err-check_removal.result c.from_residual-in_err-check_removal.ensures.1
     (past_head (refuse_if (is_root path) Inval) (walk room caller path ∷ check_exists room path
     ∷ check_removal room caller path ∷ []) _ (ap (λ b. refuse_if b Inval) off)
     (past_front (walk room caller path ∷ check_exists room path ∷ []) (check_removal room caller path ∷ []) _ found.0
-    (at_head (check_removal room caller path) [] _ (c.in_err-check_removal.ensures.value t room found.1.0 found.1.1))))
+    (at_head (check_removal room caller path) [] _
+    (c.in_err-check_removal.ensures.value available declared t same room stand found.1.0 found.1.1))))
 
 pub returns-clause-value : goal.returns-clause-value
 returns-clause-value g c = λ available laid_out t e room stand.
@@ -37,11 +42,14 @@ returns-clause-value g c = λ available laid_out t e room stand.
     let caller = c.args.subject.now in
     let Long : Path → Type 0 = λ p. length p ≡ 0 → ⊥ in
     let off = off_root path (subst Long c.names.ensures.value c.if-names-eq0.false) in
-    let found = c.in_ok-found.ensures.value available laid_out t e room stand off in (
+    let before = c.check_removal.ensures.frame.call.was_available available in
+    let found = c.in_ok-found.ensures.value before laid_out t e room stand off in
+    let declared = c.reach_with_folder.ensures.frame.call.laid_out before laid_out in
+    let same = ap (λ (r : Records). r.objects) (c.reach_with_folder.ensures.frame.same before laid_out) ∙ e in (
       skip (refuse_if (is_root path) Inval) (walk room caller path ∷ check_exists room path
           ∷ check_removal room caller path ∷ []) (ap (λ b. refuse_if b Inval) off)
           ∙ none_passes (walk room caller path ∷ check_exists room path ∷ [])
           (check_removal room caller path ∷ []) found.0 ∙ first_alone (check_removal room caller path)
-          ∙ (c.in_ok-check_removal.ensures.value t room found.1.0 found.1.1).0,
+          ∙ (c.in_ok-check_removal.ensures.value available declared t same room stand found.1.0 found.1.1).0,
       found.1.0,
     )

@@ -1,49 +1,14 @@
-use Rattle.std.proofs.Common.{◌≡◌, ◌≢◌, ap, sym, ◌∙◌, cond, inl, inr, List, [], ◌++◌, append-nil, Option}
-use Rattle.std.proofs.Common.{None, Some, MatchOption, false}
+use Rattle.std.proofs.Common.{◌≡◌, ◌≢◌, ap, sym, ◌∙◌, List, Option}
+use Rattle.std.proofs.Common.{None, Some, MatchOption}
 use Rattle.std.specs.Prelude.{Vec}
 use Rattle.std.specs.declared.alloc.Global.{Global}
 use Rattle.room_acl.specs.Entries.{EntryModel}
-use Rattle.room_acl.specs.Inheritance.{handed_down, own_part, with_inherited}
-use Rattle.room_records.specs.declared.node.Node.{Node}
-use Rattle.room_records.specs.Names.{Path}
+use Rattle.room_acl.specs.Inheritance.{own_part, with_inherited}
 use Rattle.room_records.specs.Records.{ObjectRecords}
-use Rattle.room_records.specs.Representation.{HasPath, RepresentsRoom}
-use Rattle.room_records.specs.Room.{Object, Room, object_at, list_of, list_under, follows}
+use Rattle.room_records.specs.Room.{object_at, list_under, follows}
 use Rattle.room_records.proofs.Paths.{object_at_node}
-use Rattle.room_records.proofs.RoomsLists.{list_of_child, list_of_root}
-use Rattle.room_tree.proofs.OwnPart.{own_part_of_list, root_or_below}
+use Rattle.room_tree.proofs.ListsByRows.{list_by_rows, unfollowed}
 use Rattle.room_tree.proofs.renewing.renewed_list.Goals as goal
-
--- the list by the rows of an object, under that of its folder
-list_by_rows : (t : ObjectRecords) (room : Room) → RepresentsRoom t room → (path : Path) (node : Node)
-    → HasPath t path node.id → t.node node.id ≡ Some node → (above : List EntryModel)
-    → with_inherited (own_part (t.entries node.id)) node.aclflag node.kind above
-    ≡ list_under (object_at room path) above
-list_by_rows t room stand path node at stands above =
-    let found = object_at_node t room stand path node.id node at stands in
-    ap (λ (own : List EntryModel). with_inherited own node.aclflag node.kind above)
-    (ap own_part found.2.entries ∙ own_part_of_list room stand.lawful path found.0 found.1)
-    ∙ ap (λ flag. with_inherited found.0.own flag node.kind above) found.2.aclflag
-    ∙ ap (λ kind. with_inherited found.0.own found.0.aclflag kind above) found.2.kind
-    ∙ ap (λ o. list_under o above) (sym found.1)
-
--- an object that does not follow has its own entries alone, whatever its folder's list is
-unfollowed : (room : Room) (path : Path) (o : Object) → object_at room path ≡ Some o
-    → follows o.aclflag ≡ false → (above : List EntryModel)
-    → list_of room path ≡ list_under (object_at room path) above
-unfollowed room path o there off above = elim (root_or_below path) [
-  | inl root ↦ ap (list_of room) root ∙ list_of_root room o (ap (object_at room) (sym root) ∙ there) ∙ sym plain
-  | inr end ↦
-      ap (list_of room) end.is
-      ∙ list_of_child room end.folder end.name o (ap (object_at room) (sym end.is) ∙ there)
-      ∙ ap (λ b. o.own ++ cond b (handed_down (list_of room end.folder) o.kind) []) off
-      ∙ append-nil o.own
-      ∙ sym plain
-]
-  where
-    plain : list_under (object_at room path) above ≡ o.own
-    plain = ap (λ found. list_under found above) there
-        ∙ ap (λ b. o.own ++ cond b (handed_down above o.kind) []) off ∙ append-nil o.own
 
 changed_as : (result : Option (Vec EntryModel Global)) (list stored was now : List EntryModel)
     → list ≡ now → stored ≡ was

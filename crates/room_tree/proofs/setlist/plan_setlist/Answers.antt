@@ -60,13 +60,18 @@ returns-clause-effect g c = λ available laid_out t e room stand.
     let flag = c.args.aclflag in
     let loaded = c.in_ok-loaded.loaded in
     let listing = c.with_list.ensures.frame.call.was_available available in
-    let reaching = c.list_in_folder.ensures.frame.call.was_available listing in
+    let storing = c.whole_list.ensures.frame.call.was_available listing in
+    let reaching = c.list_in_folder.ensures.frame.call.was_available storing in
     let reached = c.in_ok-loaded.ensures.value reaching laid_out t e room stand in
     let laid_out_then = c.reach_to_use.ensures.frame.call.laid_out reaching laid_out in
     let same = ap (λ (r : Records). r.objects) (c.reach_to_use.ensures.frame.same reaching laid_out) ∙ e in
-    let laid_out_at_last = c.list_in_folder.ensures.frame.call.laid_out listing laid_out_then in
+    let laid_out_listed = c.list_in_folder.ensures.frame.call.laid_out storing laid_out_then in
+    let same_listed =
+    ap (λ (r : Records). r.objects) (c.list_in_folder.ensures.frame.same storing laid_out_then) ∙ same in
+    let stored = c.in_ok-stored.ensures.value listing laid_out_listed t same_listed room stand path reached.1 in
+    let laid_out_at_last = c.whole_list.ensures.frame.call.laid_out listing laid_out_listed in
     let same_at_last =
-    ap (λ (r : Records). r.objects) (c.list_in_folder.ensures.frame.same listing laid_out_then) ∙ same in
+    ap (λ (r : Records). r.objects) (c.whole_list.ensures.frame.same listing laid_out_listed) ∙ same_listed in
     let own : c.in_ok-own.own.items ≡ own_entries_of_setlist path flag sent =
     c.in_ok-own.ensures ∙ ap (λ b. filter_map (kept_entry b) sent) c.follows_at.ensures ∙ kept_is path flag sent in
     let kind : loaded.kind ≡ kind_of (object_at room path) =
@@ -79,7 +84,7 @@ returns-clause-effect g c = λ available laid_out t e room stand.
     ∙ ap (λ es. check_lawful (own_entries_fault es loaded.kind)) (sym own)
     ∙ ap (λ es. check_lawful (own_entries_fault es loaded.kind)) (sym c.as_slice.ensures.value) in
     let passed = whole ∙ sym c.in_ok-check_lawful.ensures in
-    let list = c.in_ok-list.ensures.value listing laid_out_then t same room stand
+    let list = c.in_ok-list.ensures.value storing laid_out_then t same room stand
     ∙ ap (λ es. with_inherited es flag loaded.kind (entries_of t loaded.parent)) own in
     let node = node_of loaded in
     let now = record node { aclflag = flag } in
@@ -94,6 +99,6 @@ returns-clause-effect g c = λ available laid_out t e room stand.
     (subst Here (sym is) shows.at) (subst Stands (sym is) shows.node_stands) (subst Kind (sym is) refl)) in
     let Changes : List EntryModel → Type 0 =
     λ stored. IsChangeOf stored c.in_ok-list.list.items c.if_changed-list.result in
-    let changes = subst Changes c.deref.ensures.value c.if_changed-list.ensures in
+    let changes = subst Changes (c.as_slice-2.ensures.value ∙ stored) c.if_changed-list.ensures in
     setlist_plans t room stand path loaded reached.1 caller flag sent passed
     c.in_ok-list.list.items list c.if_changed-list.result changes _ planned refl

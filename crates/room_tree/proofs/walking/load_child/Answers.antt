@@ -1,5 +1,5 @@
-use Rattle.std.proofs.Common.{ap, ◌∙◌, subst, None, Some}
-use Rattle.room_records.specs.Records.{ObjectRecords, Records}
+use Rattle.std.proofs.Common.{subst, None, Some}
+use Rattle.room_records.specs.Records.{ObjectRecords}
 use Rattle.room_records.specs.Shelf.{IsChildNamed}
 use Rattle.room_records.proofs.Paths.{no_child}
 use Rattle.room_tree.proofs.LoadedObjects.{child_is_loaded}
@@ -13,12 +13,7 @@ returns-in_default-clause-value g c = λ available laid_out t e room stand path 
 
 pub returns-clause-value : goal.returns-clause-value
 returns-clause-value g c = λ available laid_out t e room stand path folder.
-    let before = c.entries.ensures.frame.call.was_available available in
-    let declared = c.child.ensures.frame.call.laid_out before laid_out in
-    let same = ap (λ (r : Records). r.objects) (c.child.ensures.frame.same before laid_out) ∙ e in
     let Named : ObjectRecords → Type 0 = λ r. IsChildNamed r c.args.here.now.id c.args.name.now (Some c.in-Some.node) in
-    let child = subst Named e (rw c.in-Some.is at (c.in_ok-node.ensures.value before laid_out)) in
+    let child = subst Named e (rw c.in-Some.is at (c.in_ok-node.ensures.value available laid_out)) in
     child_is_loaded t room stand path c.args.name.now c.args.here.now
-    c.of.result c.in-Some.node folder child c.of.ensures.node
-    (c.of.ensures.list ∙ c.in_ok-list.ensures.value available declared
-    ∙ ap (λ (r : ObjectRecords). r.entries c.in-Some.node.id) same)
+    c.of.result c.in-Some.node folder child c.of.ensures

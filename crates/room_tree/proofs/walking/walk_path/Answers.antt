@@ -25,22 +25,28 @@ pub returns-in_err-check_way-clause-value : goal.returns-in_err-check_way-clause
 returns-in_err-check_way-clause-value g c = λ available laid_out t e room stand.
     let path = c.args.path.now in
     let i = c.loop-index.index in
-    let so = c.loop-index.invariant.walked available laid_out t e room stand in
+    let before = c.check_way.ensures.frame.call.was_available available in
+    let declared = c.loop-index.invariant.frame.call.laid_out before laid_out in
+    let same = ap (λ (r : Records). r.objects) (c.loop-index.invariant.frame.same before laid_out) ∙ e in
+    let so = c.loop-index.invariant.walked before laid_out t e room stand in
     let Below : Path → Type 0 = λ p. i < length p in
     let below = subst Below c.names-names.ensures.value c.loop-index-test.true in
     handed_on _ _ _ c.from_residual-in_err-check_way.result c.from_residual-in_err-check_way.ensures.1
     (walk_stopped room c.args.subject.now path i (get_or path i [])
     below (get_or_default path i [] (get_or path i []) below) _ so.0
-    (c.in_err-check_way.ensures.value t room (take i path) refl so.1))
+    (c.in_err-check_way.ensures.value available declared t same room stand (take i path) refl so.1))
 
 pub returns-then-index-names-clause-value : goal.returns-then-index-names-clause-value
 returns-then-index-names-clause-value g c = λ available laid_out t e room stand.
     let path = c.args.path.now in
     let i = c.loop-index.index in
     let name = c.index-names-index.result in
-    let before = c.load_child.ensures.frame.call.was_available available in
+    let checked = c.load_child.ensures.frame.call.was_available available in
+    let before = c.check_way.ensures.frame.call.was_available checked in
     let declared = c.loop-index.invariant.frame.call.laid_out before laid_out in
-    let same = c.loop-index.invariant.frame.same before laid_out in
+    let same = ap (λ (r : Records). r.objects) (c.loop-index.invariant.frame.same before laid_out) ∙ e in
+    let allowed = c.check_way.ensures.frame.call.laid_out checked declared in
+    let stays = ap (λ (r : Records). r.objects) (c.check_way.ensures.frame.same checked declared) ∙ same in
     let so = c.loop-index.invariant.walked before laid_out t e room stand in
     let Below : Path → Type 0 = λ p. i < length p in
     let More : Path → Type 0 = λ p. i + 1 < length p in
@@ -49,9 +55,9 @@ returns-then-index-names-clause-value g c = λ available laid_out t e room stand
     refused_as c.of-then-index-names.result _ c.of-then-index-names.ensures
     (walk_is_cut room c.args.subject.now path i name below
     (subst At c.names-names.ensures.value c.index-names-index.is) so.0
-    (c.in_ok-check_way.ensures.value t room (take i path) refl so.1).0
-    (rw c.in_default-2.is at (c.in_ok-next.ensures.value available declared t
-    (ap (λ (r : Records). r.objects) same ∙ e) room stand (take i path) so.1))
+    (c.in_ok-check_way.ensures.value checked declared t same room stand (take i path) refl so.1).0
+    (rw c.in_default-2.is at (c.in_ok-next.ensures.value available allowed
+    t stays room stand (take i path) so.1))
     (subst More c.names-names.ensures.value c.if-index-names.true))
 
 pub loop-index-preserved : goal.loop-index-preserved
@@ -64,19 +70,23 @@ loop-index-preserved g c =
     let below = subst Below c.names-names.ensures.value c.loop-index-test.true in
     let is = subst At c.names-names.ensures.value c.index-names-index.is in
     record {
-      frame = read_then _ _ _ _ c.in_ok-next.ensures.frame c.loop-index.invariant.frame;
+      frame = read_then _ _ _ _ c.in_ok-next.ensures.frame
+          (read_then _ _ _ _ c.in_ok-check_way.ensures.frame c.loop-index.invariant.frame);
       names = c.loop-index.invariant.names;
       walked = λ available laid_out t e room stand.
-          let before = c.load_child.ensures.frame.call.was_available available in
+          let checked = c.load_child.ensures.frame.call.was_available available in
+          let before = c.check_way.ensures.frame.call.was_available checked in
           let declared = c.loop-index.invariant.frame.call.laid_out before laid_out in
-          let same = c.loop-index.invariant.frame.same before laid_out in
+          let same = ap (λ (r : Records). r.objects) (c.loop-index.invariant.frame.same before laid_out) ∙ e in
+          let allowed = c.check_way.ensures.frame.call.laid_out checked declared in
+          let stays = ap (λ (r : Records). r.objects) (c.check_way.ensures.frame.same checked declared) ∙ same in
           let so = c.loop-index.invariant.walked before laid_out t e room stand in
           let At : ℕ → Type 0 = λ n. IsLoaded t room (take n path) c.loop-index.here in (
             walk_goes_on room c.args.subject.now path i name below is so.0
-                (c.in_ok-check_way.ensures.value t room (take i path) refl so.1).0,
+                (c.in_ok-check_way.ensures.value checked declared t same room stand (take i path) refl so.1).0,
             next_is_there room c.args.subject.now path i name below is (λ p. IsLoaded t room p c.in-Some-2.next)
-                (rw c.in-Some-2.is at (c.in_ok-next.ensures.value available declared t
-                (ap (λ (r : Records). r.objects) same ∙ e) room stand (take i path) so.1)),
+                (rw c.in-Some-2.is at (c.in_ok-next.ensures.value available allowed
+                t stays room stand (take i path) so.1)),
             (omega arith, subst At (omega arith) so.1),
           );
     }
@@ -101,9 +111,12 @@ returns-in_default-2-clause-value g c = λ available laid_out t e room stand.
     let path = c.args.path.now in
     let i = c.loop-index.index in
     let name = c.index-names-index.result in
-    let before = c.load_child.ensures.frame.call.was_available available in
+    let checked = c.load_child.ensures.frame.call.was_available available in
+    let before = c.check_way.ensures.frame.call.was_available checked in
     let declared = c.loop-index.invariant.frame.call.laid_out before laid_out in
-    let same = c.loop-index.invariant.frame.same before laid_out in
+    let same = ap (λ (r : Records). r.objects) (c.loop-index.invariant.frame.same before laid_out) ∙ e in
+    let allowed = c.check_way.ensures.frame.call.laid_out checked declared in
+    let stays = ap (λ (r : Records). r.objects) (c.check_way.ensures.frame.same checked declared) ∙ same in
     let so = c.loop-index.invariant.walked before laid_out t e room stand in
     let Below : Path → Type 0 = λ p. i < length p in
     let Last : Path → Type 0 = λ p. length p ≤ i + 1 in
@@ -112,10 +125,10 @@ returns-in_default-2-clause-value g c = λ available laid_out t e room stand.
     let below = subst Below c.names-names.ensures.value c.loop-index-test.true in
     let is = subst At c.names-names.ensures.value c.index-names-index.is in
     let last = subst Last c.names-names.ensures.value c.if-index-names.false in
-    let nothing = rw c.in_default-2.is at (c.in_ok-next.ensures.value available declared
-    t (ap (λ (r : Records). r.objects) same ∙ e) room stand (take i path) so.1) in (
+    let nothing = rw c.in_default-2.is at (c.in_ok-next.ensures.value available allowed
+    t stays room stand (take i path) so.1) in (
       walk_ends room c.args.subject.now path i name below is so.0
-          (c.in_ok-check_way.ensures.value t room (take i path) refl so.1).0 last,
+          (c.in_ok-check_way.ensures.value checked declared t same room stand (take i path) refl so.1).0 last,
       (
         last_is_absent room c.args.subject.now path i name below is nothing last,
         subst Here (last_folder room c.args.subject.now path i name below is last) so.1,

@@ -2,17 +2,16 @@ use Rattle.std.proofs.Common.{ap, sym, ◌∙◌, Option}
 use Rattle.std.specs.Prelude.{not, is_some}
 use Rattle.room_commands.specs.ReplyModel.{Refusal}
 use Rattle.room_commands.specs.Checks.{denied_at}
-use Rattle.room_tree.proofs.Checking.{right_check}
 use Rattle.room_tree.proofs.loaded.LoadedObject.allows.Goals as goal
 
-pub returns-in-Allowed : goal.returns-in-Allowed
-returns-in-Allowed c = λ t room at found.
+pub returns-in-Allowed-clause-value : goal.returns-in-Allowed-clause-value
+returns-in-Allowed-clause-value g c = λ available laid_out t e room stand at found.
     ap (λ (o : Option Refusal). not (is_some o))
-    (sym (right_check t room at c.args.self.now found c.args.subject.now c.args.wanted
-    ∙ ap (denied_at at) (sym c.decision.ensures ∙ c.in-Allowed.is)))
+    (sym (c.in_ok-decision.ensures.value available laid_out t e room stand at found
+    ∙ ap (denied_at at) c.in-Allowed.is))
 
-pub returns-in-Denied : goal.returns-in-Denied
-returns-in-Denied c = λ t room at found.
+pub returns-in-Denied-clause-value : goal.returns-in-Denied-clause-value
+returns-in-Denied-clause-value g c = λ available laid_out t e room stand at found.
     ap (λ (o : Option Refusal). not (is_some o))
-    (sym (right_check t room at c.args.self.now found c.args.subject.now c.args.wanted
-    ∙ ap (denied_at at) (sym c.decision.ensures ∙ c.in-Denied.is)))
+    (sym (c.in_ok-decision.ensures.value available laid_out t e room stand at found
+    ∙ ap (denied_at at) c.in-Denied.is))

@@ -2,6 +2,7 @@ use Rattle.std.proofs.Common.{◌≡◌, ℕ, ◌-◌, ap, sym, ◌∙◌, cond,
 use Rattle.room_acl.specs.Bits.{add_file, add_subdirectory}
 use Rattle.room_acl.specs.declared.subject.Kind.TheVariants.{Folder}
 use Rattle.room_records.specs.Names.{Path}
+use Rattle.room_records.specs.Records.{Records}
 use Rattle.room_records.specs.Room.{Object, parent_of}
 use Rattle.room_commands.specs.Checks.{first_refusal, check_removal, check_right, right_to_add, is_kind}
 use Rattle.room_tree.specs.Renames.{move_rights}
@@ -10,23 +11,26 @@ use Rattle.room_tree.proofs.Stops.{handed_on, at_head, passes_by}
 use Rattle.room_tree.proofs.moving.Move.check_rights.Goals as goal
 
 pub returns-in_err-check_removal-clause-value : goal.returns-in_err-check_removal-clause-value
-returns-in_err-check_removal-clause-value c = λ t room move.
+returns-in_err-check_removal-clause-value g c = λ available laid_out t e room stand move.
     let path = c.args.path.now in
     let to = c.args.to.now in
     handed_on _ _ _ c.from_residual.result c.from_residual.ensures.1
     (at_head (check_removal room c.args.subject.now path)
     (check_right room c.args.subject.now (parent_of to) (right_to_add room path) ∷ []) _
-    (c.in_err-check_removal.ensures.value t room move.loaded move.from))
+    (c.in_err-check_removal.ensures.value available laid_out t e room stand move.loaded move.from))
 
 pub returns-clause-value : goal.returns-clause-value
-returns-clause-value c = λ t room move.
+returns-clause-value g c = λ available laid_out t e room stand move.
     let path = c.args.path.now in
+    let before = c.check_right.ensures.frame.call.was_available available in
+    let declared = c.check_removal.ensures.frame.call.laid_out before laid_out in
+    let same = ap (λ (r : Records). r.objects) (c.check_removal.ensures.frame.same before laid_out) ∙ e in
     let caller = c.args.subject.now in
     let to = c.args.to.now in
-    let removal = (c.in_ok-check_removal.ensures.value t room move.loaded move.from).0 in
+    let removal = (c.in_ok-check_removal.ensures.value before laid_out t e room stand move.loaded move.from).0 in
     let there = move.loaded.is_there in
-    let asks : c.right_to_add.result ≡ right_to_add room path =
-    c.right_to_add.ensures.value move.loaded.object (sym there.shows.kind)
+    let asks : c.right_to_add-wanted.result ≡ right_to_add room path =
+    c.right_to_add-wanted.ensures.value move.loaded.object (sym there.shows.kind)
     ∙ ap (λ (o : Option Object). cond (is_kind Folder o) add_subdirectory add_file) (sym there.object_stands) in
     let front : take c.saturating_sub-count.result to ≡ parent_of to =
     ap (λ (n : ℕ). take n to) c.saturating_sub-count.ensures
@@ -34,7 +38,7 @@ returns-clause-value c = λ t room move.
     let whole = skip (check_removal room caller path)
     (check_right room caller (parent_of to) (right_to_add room path) ∷ []) removal
     ∙ first_alone (check_right room caller (parent_of to) (right_to_add room path)) in
-    passes_by (check_right room caller (parent_of to) c.right_to_add.result)
+    passes_by (check_right room caller (parent_of to) c.right_to_add-wanted.result)
     (first_refusal (move_rights room caller path to)) _ c.check_right.result
     (whole ∙ sym (ap (check_right room caller (parent_of to)) asks))
-    (c.check_right.ensures.value t room (parent_of to) front move.into)
+    (c.check_right.ensures.value available declared t same room stand (parent_of to) front move.into)

@@ -1,0 +1,21 @@
+use Rattle.std.proofs.Common.{◌≡◌, false, pos, List, [], ◌∷◌, length}
+use Rattle.sqlite_value.specs.declared.value.Value.TheVariants.{Int}
+use Rattle.sqlite_value.specs.Order.{Row}
+use Rattle.sqlite.specs.State.{HasCleanDisk, IsUnchanged, Survives}
+use Rattle.sqlite.specs.Held.{state}
+use Rattle.sqlite.specs.Given.{HasGiven}
+use Rattle.room_tables.specs.Texts.{read_entries_text}
+use Rattle.room_sql.proofs.Decisions.{IsAfter}
+use Rattle.room_sql.proofs.deciding.decide_entries.Given as goal
+
+-- the connection is as it was, and the decision is what the rows so far leave of it
+abbrev pub invariant-rows : goal.invariant-rows
+invariant-rows g l =
+    let old = state g.S.Store l.fn.conn in
+    let now = state g.S.Store l.rows.conn.now in
+    (l.rows.conn.ghost_name ≡ l.initial.rows.conn.ghost_name) × Survives old now (λ _. ⊥)
+    × (HasCleanDisk now → IsUnchanged old now)
+    × (l.fn.conn.in_transaction ≡ false → l.rows.conn.now.in_transaction ≡ false)
+    × (HasCleanDisk now → (given : List Row)
+    × HasGiven g.S.Store read_entries_text (Int (pos l.id) ∷ []) l.rows.conn.now given
+    × IsAfter l.subject l.standing l.fn.wanted given l.pending × (length given ≡ l.counter))
