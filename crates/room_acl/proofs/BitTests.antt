@@ -29,6 +29,9 @@ has_bit-or a b i =
       | inr p ↦ elim (bit_cases b i) [ inl q ↦ rw (bit_at_or, p, q) refl | inr q ↦ rw (bit_at_or, p, q) refl ]
     ]
 
+pub has_bit-none : (i : ℕ) → has_bit 0 i ≡ false
+has_bit-none i = rw bit_at-zero refl
+
 -- what is left of a when b's bits are taken out
 pub has_bit-without : (a b i : ℕ) → has_bit (bit_xor a (bit_and a b)) i ≡ (has_bit a i && not (has_bit b i))
 has_bit-without a b i =

@@ -2,7 +2,7 @@
 use Rattle.std.proofs.Common.{◌≡◌, ℕ, refl, true, false, List, [], ◌∷◌, Some}
 use Rattle.std.specs.Prelude.{codes, replicate}
 use Rattle.room_acl.specs.declared.who.Who.{Who}
-use Rattle.room_acl.specs.declared.who.Who.TheVariants.{Everyone, User, Members}
+use Rattle.room_acl.specs.declared.who.Who.TheVariants.{Owner, Everyone, User, Members}
 use Rattle.room_acl.specs.declared.subject.Standing.{Standing}
 use Rattle.room_acl.specs.declared.subject.Kind.TheVariants.{File, Folder}
 use Rattle.room_acl.specs.declared.access.Decision.TheVariants.{Allowed, Denied}
@@ -77,6 +77,35 @@ user_of_that_name = refl
 
 user_is_no_group : decision (allow_entry 64 1 (Members eng) ∷ []) (alone eng) of_nobody 1 ≡ Denied 1
 user_is_no_group = refl
+
+-- OWNER@ is denied both of the owner's rights: the owner has them all the same, and nobody else
+abbrev owners_denied : List EntryModel
+owners_denied = deny_entry 0 393216 Owner ∷ []
+
+abbrev of_user : Standing
+of_user = record { owner = codes "u"; group = codes "g" }
+
+owner_is_refused_another_right : decision owners_denied (alone (codes "u")) of_user 393217 ≡ Denied 1
+owner_is_refused_another_right = refl
+
+owner_has_both_rights : decision owners_denied (alone (codes "u")) of_user 393216 ≡ Allowed
+owner_has_both_rights = refl
+
+owner_has_no_other : allowed_mask owners_denied (alone (codes "u")) of_user ≡ 393216
+owner_has_no_other = refl
+
+others_have_neither : decision owners_denied (alone (codes "v")) of_user 393217 ≡ Denied 1
+others_have_neither = refl
+
+others_have_nothing : allowed_mask owners_denied (alone (codes "v")) of_user ≡ 0
+others_have_nothing = refl
+
+-- who is in the owning group is no owner, and neither is a user who has the group's name
+owning_group_has_neither : allowed_mask [] (record { name = codes "v"; groups = codes "g" ∷ [] }) of_user ≡ 0
+owning_group_has_neither = refl
+
+users_named_as_the_group_have_neither : allowed_mask [] (alone (codes "g")) of_user ≡ 0
+users_named_as_the_group_have_neither = refl
 
 inherit_only_on_a_file : own_entries_fault (allow_entry 8 1 (User ann) ∷ []) File ≡ Some AttrNotSupp
 inherit_only_on_a_file = refl

@@ -5,5 +5,6 @@ pub mod Lowest
 pub mod Decisions
 pub mod Travelling
 pub mod Marks
+pub mod OwnerRights
 mod Names
 mod Examples

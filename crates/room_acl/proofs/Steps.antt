@@ -10,10 +10,10 @@ use Rattle.room_acl.specs.declared.subject.Standing.{Standing}
 use Rattle.room_acl.specs.Bits.{all_rights, has_bit, named_bits, IsMask}
 use Rattle.room_acl.specs.SubjectModel.{SubjectModel}
 use Rattle.room_acl.specs.Entries.{EntryModel}
-use Rattle.room_acl.specs.Access.{entries_allow, applies, decides, is_allow, decision_by}
+use Rattle.room_acl.specs.Access.{entries_allow, allows_bit, owner_may, applies, decides, is_allow, decision_by}
 use Rattle.room_acl.specs.Pending.{PendingModel, refuses_with}
 use Rattle.room_acl.specs.declared.access.Decision.TheVariants.{Denied}
-use Rattle.room_acl.proofs.BitTests.{has_bit-or, has_bit-and, has_bit-without, same_bits}
+use Rattle.room_acl.proofs.BitTests.{has_bit-none, has_bit-or, has_bit-and, has_bit-without, same_bits}
 
 -- an applying entry decides the bits that it names
 pub entries_allow-first : (entry : EntryModel) (rest : List EntryModel)
@@ -124,11 +124,27 @@ pub refused_at_end : (left denied : ℕ) (caller : SubjectModel) (standing : Sta
 refused_at_end left denied caller standing bit =
     has_bit-or denied left bit ∙ ap (λ l. has_bit denied bit || l) (sym (and_true (has_bit left bit)))
 
+-- the owner's rights are taken out before the first entry, and the entries decide the others
+without_owners : (w o e : Bool) → ((w && not o) && not e) ≡ (w && not (o || e))
+without_owners true true e = refl
+without_owners true false e = refl
+without_owners false o e = refl
+
+pub refused_at_start : (entries : List EntryModel) (caller : SubjectModel)
+    (standing : Standing) (wanted left bit : ℕ) →
+    has_bit left bit ≡ (has_bit wanted bit && not (owner_may caller standing bit))
+    → refuses_with entries caller standing (record { left = left; denied = 0 }) bit
+    ≡ (has_bit wanted bit && not (allows_bit entries caller standing bit))
+refused_at_start entries caller standing wanted left bit is =
+    ap (λ d. d || (has_bit left bit && not (entries_allow entries caller standing bit))) (has_bit-none bit)
+    ∙ ap (λ l. l && not (entries_allow entries caller standing bit)) is
+    ∙ without_owners (has_bit wanted bit) (owner_may caller standing bit) (entries_allow entries caller standing bit)
+
 -- the pending decision with the rest of the list to come refuses what the whole list refuses
 pub record Walked (entries rest : List EntryModel) (caller : SubjectModel)
     (standing : Standing) (wanted : ℕ) (pending : PendingModel) : Type 0 where
   pub at : (bit : ℕ) → refuses_with rest caller standing pending bit
-      ≡ (has_bit wanted bit && not (entries_allow entries caller standing bit))
+      ≡ (has_bit wanted bit && not (allows_bit entries caller standing bit))
 
 -- the next entry stands at the front of what is left
 pub walked_at : (entries : List EntryModel) (i : ℕ) (entry : EntryModel)
@@ -154,7 +170,7 @@ pub walked_all : (entries : List EntryModel) (i : ℕ) (caller : SubjectModel)
     (standing : Standing) (wanted : ℕ) (pending : PendingModel) →
     length entries ≤ i → Walked entries (drop i entries) caller standing wanted pending
     → (bit : ℕ) → refuses_with [] caller standing pending bit
-    ≡ (has_bit wanted bit && not (entries_allow entries caller standing bit))
+    ≡ (has_bit wanted bit && not (allows_bit entries caller standing bit))
 walked_all entries i caller standing wanted pending all w bit =
     ap (λ rest. refuses_with rest caller standing pending bit) (sym (drop_all i entries all)) ∙ w.at bit
 

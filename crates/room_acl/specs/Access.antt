@@ -1,5 +1,6 @@
--- Which bits a list allows: the first applying entry that names a bit decides it (RFC 8881, section 6.2.1).
-use Rattle.std.specs.Prelude.{◌≡◌, ℕ, ◌^◌, ◌<◌, Bool, true, false, not, ◌&&◌, List, ◌∷◌, ◌++◌, IsTrue}
+-- Which bits a list allows: the first applying entry that names a bit decides it (RFC 8881, section 6.2.1), but for the
+-- two that an object's owner always has (our own rule).
+use Rattle.std.specs.Prelude.{◌≡◌, ℕ, ◌^◌, ◌<◌, Bool, true, false, not, ◌&&◌, ◌||◌, ◌⊎◌, List, ◌∷◌, ◌++◌, IsTrue}
 use Rattle.std.specs.Prelude.{Option, None, Some}
 use Rattle.std.specs.List.{find, list_any, AllByRecursion}
 use Rattle.std.specs.Str.{bytes_eq}
@@ -8,16 +9,19 @@ use Rattle.room_acl.specs.declared.who.Who.TheVariants.{Owner, Group, Everyone, 
 use Rattle.room_acl.specs.declared.subject.Standing.{Standing}
 use Rattle.room_acl.specs.declared.access.Decision.{Decision}
 use Rattle.room_acl.specs.declared.access.Decision.TheVariants.{Allowed, Denied}
-use Rattle.room_acl.specs.Bits.{has_bit, inherit_only, named_bits, mask_of}
+use Rattle.room_acl.specs.Bits.{has_bit, inherit_only, named_bits, mask_of, owner_rights}
 use Rattle.room_acl.specs.SubjectModel.{SubjectModel}
 use Rattle.room_acl.specs.Entries.{EntryModel}
+
+abbrev pub is_owner : SubjectModel → Standing → Bool
+is_owner caller standing = bytes_eq standing.owner caller.name
 
 abbrev pub is_member : SubjectModel → List ℕ → Bool
 is_member caller group = list_any (bytes_eq group) caller.groups
 
 -- whom an entry names (RFC 8881, section 6.2.1.5). A user and a group of one name are two principals
 abbrev pub matches : SubjectModel → Standing → Who → Bool
-matches caller standing Owner = bytes_eq standing.owner caller.name
+matches caller standing Owner = is_owner caller standing
 matches caller standing Group = is_member caller standing.group
 matches caller standing Everyone = true
 matches caller standing (User name) = bytes_eq name caller.name
@@ -40,9 +44,13 @@ is_allow (Some entry) = entry.allow
 abbrev pub entries_allow : List EntryModel → SubjectModel → Standing → ℕ → Bool
 entries_allow entries caller standing bit = is_allow (find (decides caller standing bit) entries)
 
--- the entries decide each bit
+-- the owner of an object may always read and write its list, whatever the list says (our own rule)
+abbrev pub owner_may : SubjectModel → Standing → ℕ → Bool
+owner_may caller standing bit = is_owner caller standing && has_bit owner_rights bit
+
+-- the owner has two bits, and the entries decide each other one
 abbrev pub allows_bit : List EntryModel → SubjectModel → Standing → ℕ → Bool
-allows_bit entries caller standing bit = entries_allow entries caller standing bit
+allows_bit entries caller standing bit = owner_may caller standing bit || entries_allow entries caller standing bit
 
 -- the same in the standard's words: some applying allow entry names the bit, and no earlier applying entry names it
 pub record EntriesAllow (entries : List EntryModel)
@@ -55,8 +63,10 @@ pub record EntriesAllow (entries : List EntryModel)
   pub applying : IsTrue (decides caller standing bit entry)
   pub first : AllByRecursion (λ other. IsTrue (not (decides caller standing bit other))) earlier
 
+-- the bit is one of the owner's, or the entries allow it
 abbrev pub AllowsBit : List EntryModel → SubjectModel → Standing → ℕ → Type 0
-AllowsBit entries caller standing bit = EntriesAllow entries caller standing bit
+AllowsBit entries caller standing bit =
+    IsTrue (owner_may caller standing bit) ⊎ EntriesAllow entries caller standing bit
 
 -- a mask is allowed where each of its bits is
 abbrev pub AllowsMask : List EntryModel → SubjectModel → Standing → ℕ → Type 0

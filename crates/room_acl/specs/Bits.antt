@@ -73,7 +73,11 @@ all_rights =
 abbrev pub reading_rights : ℕ
 reading_rights = read_data + read_named_attrs + execute + read_attributes + read_acl + synchronize
 
--- the same rights, as places of bits, the lowest first
+-- those that an object's owner always has, 0x60000 (our own rule)
+abbrev pub owner_rights : ℕ
+owner_rights = read_acl + write_acl
+
+-- the sixteen rights again, as places of bits, the lowest first
 abbrev pub named_bits : List ℕ
 named_bits = 0 ∷ 1 ∷ 2 ∷ 3 ∷ 4 ∷ 5 ∷ 6 ∷ 7 ∷ 8 ∷ 9 ∷ 10 ∷ 16 ∷ 17 ∷ 18 ∷ 19 ∷ 20 ∷ []
 

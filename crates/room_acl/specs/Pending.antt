@@ -14,7 +14,8 @@ pub record PendingModel : Type 0 where
   pub left : ℕ
   pub denied : ℕ
 
--- a bit is refused that was denied, or that is left and not allowed by the entries still to come
+-- a bit is refused that was denied, or that is left and not allowed by the entries still to come. What the owner
+-- always has is never left
 abbrev pub refuses_with : List EntryModel → SubjectModel → Standing → PendingModel → ℕ → Bool
 refuses_with entries caller standing pending bit =
     has_bit pending.denied bit || (has_bit pending.left bit && not (entries_allow entries caller standing bit))

@@ -1,14 +1,19 @@
 //! Who is allowed what.
-ghost use Rattle.std.specs.Prelude.{◌≡◌, ℕ, [], ◌&&◌, not, IsTrue, ◌↔◌};
+ghost use Rattle.std.specs.Prelude.{◌≡◌, ℕ, true, false, List, [], ◌&&◌, not, IsTrue, ◌↔◌};
 ghost use Rattle.std.specs.List.{list_any, find};
 ghost use Rattle.std.specs.Str.{bytes_eq};
-ghost use Rattle.room_acl.specs.Bits.{all_rights, has_bit, named_bits, IsMask};
-ghost use Rattle.room_acl.specs.Access.{decision, decision_by, allowed_mask, matches, applies, entries_allow};
+ghost use Rattle.room_acl.specs.declared.subject.Standing.{Standing};
+ghost use Rattle.room_acl.specs.SubjectModel.{SubjectModel};
+ghost use Rattle.room_acl.specs.Entries.{EntryModel};
+ghost use Rattle.room_acl.specs.Bits.{all_rights, has_bit, named_bits, mask_of, owner_rights, read_acl, write_acl};
+ghost use Rattle.room_acl.specs.Bits.{IsMask};
+ghost use Rattle.room_acl.specs.Access.{decision, decision_by, allowed_mask, matches, applies, allows_bit};
+ghost use Rattle.room_acl.specs.Access.{entries_allow, is_owner, owner_may};
 ghost use Rattle.room_acl.specs.Access.{AllowsBit, AllowsMask, IsLowestRefused};
 ghost use Rattle.room_acl.specs.Pending.{decision_with, refuses_with};
 
 use crate::entry::Entry;
-use crate::mask::{ALL_RIGHTS, Mask};
+use crate::mask::{ALL_RIGHTS, Mask, OWNER_RIGHTS};
 use crate::pending::Pending;
 use crate::principal::Principal;
 use crate::subject::{Standing, Subject};
@@ -28,8 +33,9 @@ pub enum Decision {
 
 /// Whether the list allows each wanted right (RFC 8881, section 6.2.1). Takes no memory.
 ///
-/// Entries are taken in order. An entry that names somebody else, or has INHERIT_ONLY, is passed over. Each
-/// wanted right is decided by the first other entry that names it; a right that none names is denied.
+/// The owner always has READ_ACL and WRITE_ACL, whatever the entries say (our own rule). Else entries are taken in
+/// order. An entry that names somebody else, or has INHERIT_ONLY, is passed over. Each wanted right is decided by the
+/// first other entry that names it; a right that none names is denied.
 pub fn decide(entries: &[Entry], subject: &Subject, standing: &Standing, wanted: Mask) -> Decision
     ensures value { result ≡ decision entries.now subject.now standing.now wanted }
     ensures allowed { (result ≡ Decision.Allowed) ↔ AllowsMask entries.now subject.now standing.now wanted }
@@ -44,7 +50,7 @@ fn after_all(entries: &[Entry], subject: &Subject, standing: &Standing, wanted: 
     ensures answers { decision_with [] subject.now standing.now result
         ≡ decision entries.now subject.now standing.now wanted }
     ensures bits { (bit : ℕ) → refuses_with [] subject.now standing.now result bit
-        ≡ (has_bit wanted bit && not (entries_allow entries.now subject.now standing.now bit)) }
+        ≡ (has_bit wanted bit && not (allows_bit entries.now subject.now standing.now bit)) }
     ensures named { IsMask wanted }
 {
     let _ = wanted.bits();
@@ -80,6 +86,46 @@ pub fn allowed_bits(entries: &[Entry], subject: &Subject, standing: &Standing) -
     Mask::of_named(ALL_RIGHTS ^ (ALL_RIGHTS & refused))
 }
 
+/// What the owner's rule gives, and what it does not, as laws. The call does nothing.
+///
+/// The owner has READ_ACL and WRITE_ACL by every list (`reads`, `writes`). Of each other right, and of every right of
+/// somebody else, the entries alone decide (`another`, `others`, `all`).
+pub fn owner_rights_laws()
+    ensures reads { (entries : List EntryModel) (caller : SubjectModel) (standing : Standing) →
+        is_owner caller standing ≡ true → decision entries caller standing read_acl ≡ Decision.Allowed }
+    ensures writes { (entries : List EntryModel) (caller : SubjectModel) (standing : Standing) →
+        is_owner caller standing ≡ true → decision entries caller standing write_acl ≡ Decision.Allowed }
+    ensures another { (entries : List EntryModel) (caller : SubjectModel) (standing : Standing) (bit : ℕ) →
+        has_bit owner_rights bit ≡ false →
+        allows_bit entries caller standing bit ≡ entries_allow entries caller standing bit }
+    ensures others { (entries : List EntryModel) (caller : SubjectModel) (standing : Standing) (wanted : ℕ) →
+        is_owner caller standing ≡ false →
+        decision entries caller standing wanted
+        ≡ decision_by (find (λ bit. has_bit wanted bit && not (entries_allow entries caller standing bit)) named_bits) }
+    ensures all { (entries : List EntryModel) (caller : SubjectModel) (standing : Standing) →
+        is_owner caller standing ≡ false →
+        allowed_mask entries caller standing ≡ mask_of (entries_allow entries caller standing) }
+{}
+
+/// The wanted rights that the entries decide: all, but for the two that the owner always has (our own rule).
+pub(crate) fn left_to_entries(wanted: Mask, subject: &Subject, standing: &Standing) -> Mask
+    ensures { (bit : ℕ) → has_bit result bit
+        ≡ (has_bit wanted bit && not (owner_may subject.now standing.now bit)) }
+{
+    let bits = wanted.bits();
+    if is_owner(subject, standing) {
+        Mask::of_named(bits ^ (bits & OWNER_RIGHTS))
+    } else {
+        wanted
+    }
+}
+
+fn is_owner(subject: &Subject, standing: &Standing) -> bool
+    ensures { result ≡ is_owner subject.now standing.now }
+{
+    standing.owner.text() == subject.name.text()
+}
+
 /// Whether the entry counts on the object where it stands.
 pub(crate) fn applies(entry: &Entry, subject: &Subject, standing: &Standing) -> bool
     ensures { result ≡ applies subject.now standing.now entry.now }
@@ -92,7 +138,7 @@ fn matches(who: &Who, subject: &Subject, standing: &Standing) -> bool
     ensures { result ≡ matches subject.now standing.now who.now }
 {
     match who {
-        Who::Owner => standing.owner.text() == subject.name.text(),
+        Who::Owner => is_owner(subject, standing),
         Who::Group => is_among(&subject.groups, &standing.group),
         Who::Everyone => true,
         Who::User(name) => name.text() == subject.name.text(),

@@ -15,7 +15,7 @@ mod principal;
 mod subject;
 mod who;
 
-pub use access::{Decision, allowed_bits, decide};
+pub use access::{Decision, allowed_bits, decide, owner_rights_laws};
 pub use entry::{Entry, copy_entries, same_entries};
 pub use flags::Flags;
 pub use inheritance::{

@@ -7,6 +7,9 @@ use std::marker::Model;
 /// All sixteen rights.
 pub(crate) const ALL_RIGHTS: u32 = 0x001F_07FF;
 
+/// Those that an object's owner always has.
+pub(crate) const OWNER_RIGHTS: u32 = 0x0006_0000;
+
 /// A set of rights, the empty one included (RFC 8881, section 6.2.1.3).
 #[derive(Clone, Copy, Debug, PartialEq, Eq)]
 pub struct Mask {
@@ -69,6 +72,8 @@ impl Mask {
     /// READ_DATA (LIST_DIRECTORY), READ_NAMED_ATTRS, EXECUTE, READ_ATTRIBUTES, READ_ACL and SYNCHRONIZE: what a
     /// reader needs who changes nothing (our own choice).
     pub const READING: Mask = Mask { bits: 0x12_00A9 };
+    /// READ_ACL and WRITE_ACL: what an object's owner always has, whatever its list says (our own rule).
+    pub const OWNER: Mask = Mask { bits: OWNER_RIGHTS };
 }
 
 impl Mask {

@@ -4,10 +4,10 @@ ghost use Rattle.room_acl.specs.declared.subject.Standing.{Standing};
 ghost use Rattle.room_acl.specs.SubjectModel.{SubjectModel};
 ghost use Rattle.room_acl.specs.Bits.{has_bit};
 ghost use Rattle.room_acl.specs.Entries.{EntryModel};
-ghost use Rattle.room_acl.specs.Access.{decision, decides, entries_allow};
+ghost use Rattle.room_acl.specs.Access.{decision, decides, allows_bit, owner_may};
 ghost use Rattle.room_acl.specs.Pending.{decision_with, refuses_with};
 
-use crate::access::{Decision, applies, decision_of};
+use crate::access::{Decision, applies, decision_of, left_to_entries};
 use crate::entry::Entry;
 use crate::mask::Mask;
 use crate::subject::{Standing, Subject};
@@ -32,16 +32,18 @@ impl Model for Pending {
 }
 
 impl Pending {
-    /// The decision of these rights before the first entry.
+    /// The decision of these rights before the first entry. READ_ACL and WRITE_ACL are allowed to the owner from then
+    /// on, and are not left (our own rule).
     pub fn new(wanted: Mask, subject: &Subject, standing: &Standing) -> Pending
         ensures answers { (entries : List EntryModel) → decision_with entries subject.now standing.now result
             ≡ decision entries subject.now standing.now wanted }
         ensures bits { (entries : List EntryModel) (bit : ℕ) → refuses_with entries subject.now standing.now result bit
-            ≡ (has_bit wanted bit && not (entries_allow entries subject.now standing.now bit)) }
-        ensures left { result.left ≡ wanted }
+            ≡ (has_bit wanted bit && not (allows_bit entries subject.now standing.now bit)) }
+        ensures left { (bit : ℕ) → has_bit result.left bit
+            ≡ (has_bit wanted bit && not (owner_may subject.now standing.now bit)) }
     {
         Pending {
-            left: wanted,
+            left: left_to_entries(wanted, subject, standing),
             denied: 0,
         }
     }
@@ -56,7 +58,8 @@ impl Pending {
         ensures left { (bit : ℕ) → has_bit self.new.left bit
             ≡ (has_bit self.old.left bit && not (decides subject.now standing.now bit entry.now)) }
     {
-        if applies(entry, subject, standing) {
+        let counts = applies(entry, subject, standing);
+        if counts {
             let left = self.left.bits();
             let decided = left & entry.mask().bits();
             if !entry.allow() {

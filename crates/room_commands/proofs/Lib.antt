@@ -9,4 +9,5 @@ pub mod ChecksTell
 pub mod SetListKept
 pub mod EffectIsRoom
 pub mod RoomLaws
+pub mod OwnersLists
 mod Examples

@@ -1,16 +1,21 @@
 //! Laws of rooms and commands. Each function here does nothing: its contract is what the definitions
 //! are meant to say, proved of them.
-ghost use Rattle.std.specs.Prelude.{◌≡◌, ℕ, false, List, [], ◌∷◌, ◌++◌, Some, None, map, if◌then◌else◌, ◌↔◌, Contains};
+ghost use Rattle.std.specs.Prelude.{◌≡◌, ℕ, true, false, List, [], ◌∷◌, ◌++◌, Some, None, map, if◌then◌else◌, ◌↔◌};
+ghost use Rattle.std.specs.Prelude.{Contains};
 ghost use Rattle.std.specs.List.Sorted.{IsStrictlySortedBy};
 ghost use Rattle.room_acl.specs.declared.subject.Kind.{Kind};
 ghost use Rattle.room_acl.specs.SubjectModel.{SubjectModel};
-ghost use Rattle.room_acl.specs.Inheritance.{handed_down};
+ghost use Rattle.room_acl.specs.Entries.{EntryModel};
+ghost use Rattle.room_acl.specs.Access.{is_owner};
+ghost use Rattle.room_acl.specs.Inheritance.{handed_down, own_entries_fault};
 ghost use Rattle.room_records.specs.Names.{Name, Path, name_cmp};
 ghost use Rattle.room_records.specs.Room.{Object, Room, IsRoom, fresh_room, object_at, children, list_of, follows};
-ghost use Rattle.room_commands.specs.CommandModel.{CommandModel, Read, Write, Append, Rename};
-ghost use Rattle.room_commands.specs.ReplyModel.{IsRefused, Bytes};
+ghost use Rattle.room_records.specs.Room.{standing_of};
+ghost use Rattle.room_commands.specs.CommandModel.{CommandModel, Read, Write, Append, Rename, GetList, SetList};
+ghost use Rattle.room_commands.specs.ReplyModel.{IsRefused, Bytes, Entries, Done};
+ghost use Rattle.room_commands.specs.SetList.{own_entries_of_setlist};
 ghost use Rattle.room_commands.specs.Lawful.{IsLawful};
-ghost use Rattle.room_commands.specs.Checks.{bytes_at, is_at_or_below};
+ghost use Rattle.room_commands.specs.Checks.{bytes_at, is_at_or_below, walk};
 ghost use Rattle.room_commands.specs.Effect.{effect};
 ghost use Rattle.room_commands.specs.Needs.{NeedsAllowed};
 
@@ -36,6 +41,20 @@ pub fn a_refused_command_leaves_the_room()
 pub fn a_success_had_every_right()
     ensures { (room : Room) (caller : SubjectModel) (command : CommandModel) →
         (IsRefused (effect room caller command).reply → ⊥) → NeedsAllowed room caller command }
+{}
+
+/// The owner of an object can always read its list and set it, where the folders above let the owner through (`walk`
+/// meets no refusal): GETLIST gives the list, and SETLIST of entries that may be own ones is done, whatever the list
+/// says (our own rule).
+pub fn an_owner_can_always_mend_a_list()
+    ensures reads { (room : Room) (caller : SubjectModel) (path : Path) (o : Object) →
+        object_at room path ≡ Some o → is_owner caller (standing_of o) ≡ true → walk room caller path ≡ None →
+        (effect room caller (GetList path)).reply ≡ Entries o.aclflag (list_of room path) }
+    ensures writes { (room : Room) (caller : SubjectModel) (path : Path) (o : Object)
+        (aclflag : ℕ) (entries : List EntryModel) →
+        object_at room path ≡ Some o → is_owner caller (standing_of o) ≡ true → walk room caller path ≡ None →
+        own_entries_fault (own_entries_of_setlist path aclflag entries) o.kind ≡ None →
+        (effect room caller (SetList aclflag entries path)).reply ≡ Done }
 {}
 
 /// Where a caller may both write and read a file, a READ right after the WRITE gives the bytes

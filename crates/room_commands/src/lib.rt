@@ -11,5 +11,6 @@ pub use laws::{
     a_command_keeps_a_room, a_folder_names_what_is_in_it, a_fresh_room_is_a_room,
     a_list_is_own_entries_and_inherited_ones, a_read_gives_what_was_written,
     a_refused_command_leaves_the_room, a_rename_moves_a_subtree, a_success_had_every_right,
+    an_owner_can_always_mend_a_list,
 };
 pub use reply::{RefusalCode, Reply};

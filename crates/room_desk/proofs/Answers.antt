@@ -16,7 +16,7 @@ use Rattle.room_wire.specs.Forms.Texts.{reply_text}
 use Rattle.room_wire.specs.declared.answers.code.Code.TheVariants.{BadSession}
 use Rattle.room_wire.specs.Asks.EventModel.{Open, Close}
 use Rattle.room_desk.specs.AnswerModel.{Reply, Refused}
-use Rattle.room_desk.specs.History.{History, Session, session_of, is_open_for, is_open, slots_of}
+use Rattle.room_desk.specs.History.{History, Session, session_of, is_open_for, slots_of}
 use Rattle.room_desk.specs.History.{answer_to, changes_rows}
 use Rattle.room_desk.specs.Representation.{RepresentsHistory, session_row_of}
 use Rattle.room_desk.specs.RowAnswers.{is_usable}

@@ -11,6 +11,7 @@ pub mod Running
 pub mod SlotTests
 pub mod Idle
 pub mod Alike
+pub mod SentAgain
 pub mod Stops
 pub mod StreamStops
 pub mod Numbers

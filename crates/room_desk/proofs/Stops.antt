@@ -190,21 +190,17 @@ module _ {S : Type 0} (view : S → View) where
           (after_delay (view before) (view mid) event answered run.1 there start past stands doubted leaves) in
           (later.0, (past, inr (is, refl), later.1), later.2, subst (Doubt later.0) (sym (ap is_delay is)) later.3)
 
-  -- the same from an answer on that settled: nothing is asked of what a crash might have left before it
-  pub left_since_reply : (before mid after : S) (event : EventModel) (answered : AnswerModel)
-      (events : List EventModel) (answers : List AnswerModel) (start : Room) (past : History)
-      → EventAnswered view before event answered mid
-      → InTurn (EventAnswered view) mid events answers after → (view after).is_intact
+  -- an event that changed what is kept and was not answered DELAY: nothing is in doubt then
+  pub after_settled : (before mid : S) (event : EventModel) (answered : AnswerModel) (start : Room) (past : History)
+      → EventAnswered view before event answered mid → (view mid).is_intact
       → StandsFor start past (view before) → changes_rows past event ≡ true → answered ≢ Refused Delay
-      → Left after events answers start (event ∷ past) []
-  left_since_reply before mid after event answered events answers start past call run intact stands changes other =
-      left_in_doubt mid after events answers start (event ∷ past) [] run intact
-      (by_step step.1 step.2)
-      (λ left may. inl (call.settled there start past stands changes other left may).1)
+      → StandsFor start (event ∷ past) (view mid)
+      × LeavesNew (view mid) (StandsInDoubt start (event ∷ past) [])
+  after_settled before mid event answered start past call there stands changes other = (
+    by_step step.1 step.2,
+    (λ left may. inl (call.settled there start past stands changes other left may).1),
+  )
     where
-      there : (view mid).is_intact
-      there = intact_before mid after events answers run intact
-
       step : (next : History) × Step start past event answered next × StandsFor start next (view mid)
       step = call.step there start past stands
 
@@ -213,6 +209,18 @@ module _ {S : Type 0} (view : S → View) where
       by_step (inl (is, longer)) stand =
           let Stands : History → Type 0 = λ h. StandsFor start h (view mid) in subst Stands longer stand
       by_step (inr (delay, same)) stand = absurd (other delay)
+
+  -- the same from an answer on that settled: nothing is asked of what a crash might have left before it
+  pub left_since_reply : (before mid after : S) (event : EventModel) (answered : AnswerModel)
+      (events : List EventModel) (answers : List AnswerModel) (start : Room) (past : History)
+      → EventAnswered view before event answered mid
+      → InTurn (EventAnswered view) mid events answers after → (view after).is_intact
+      → StandsFor start past (view before) → changes_rows past event ≡ true → answered ≢ Refused Delay
+      → Left after events answers start (event ∷ past) []
+  left_since_reply before mid after event answered events answers start past call run intact stands changes other =
+      let settled = after_settled before mid event answered start past call
+      (intact_before mid after events answers run intact) stands changes other in
+      left_in_doubt mid after events answers start (event ∷ past) [] run intact settled.0 settled.1
 
   -- an event that is sent again, where the rows stand for the history with it or without
   pub sent_again : (found after : S) (event : EventModel) (answered : AnswerModel) (start : Room) (past : History)

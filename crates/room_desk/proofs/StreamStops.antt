@@ -1,6 +1,6 @@
 -- What a stop may leave after several messages.
 use Rattle.std.proofs.Common.{◌≡◌, ℕ, refl, ap, sym, ◌∙◌, subst, ◌⊎◌, inl, inr, Result, Ok, Err}
-use Rattle.std.proofs.Common.{Bool, true, false, List, [], ◌∷◌}
+use Rattle.std.proofs.Common.{◌≢◌, Bool, true, false, List, [], ◌∷◌}
 use Rattle.std.specs.Prelude.{if◌then◌else◌}
 use Rattle.room_acl.specs.SubjectModel.{SubjectModel}
 use Rattle.room_records.specs.Records.{Records}
@@ -16,9 +16,9 @@ use Rattle.room_desk.specs.AnswerModel.{AnswerModel, Refused}
 use Rattle.room_desk.specs.Crashes.{LeavesNew}
 use Rattle.room_desk.specs.History.{History, changes_rows}
 use Rattle.room_desk.specs.Representation.{StandsFor}
-use Rattle.room_desk.specs.Serving.{Answered, MayAnswer, AnswersOrDelays, StandsWithAsked}
-use Rattle.room_desk.specs.Stops.{is_delay, doubt_after, StandsInDoubt, Doubt, AnswersInDoubt}
-use Rattle.room_desk.proofs.Stops.{never_delay, after_answer, after_delay}
+use Rattle.room_desk.specs.Serving.{Answered, MayAnswer, AnswersOrDelays}
+use Rattle.room_desk.specs.Stops.{is_delay, doubt_after, StandsInDoubt, Doubt, no_doubt, AnswersInDoubt}
+use Rattle.room_desk.proofs.Stops.{never_delay, after_answer, after_delay, after_settled}
 
 -- one message that was answered, and what is in doubt after it
 module _ (start : Room) (past : History) (doubted : List EventModel) (before after : View) (answered : AnswerModel)
@@ -134,3 +134,17 @@ module _ {S : Type 0} (view : S → View) (users : List SubjectModel) where
       record { past = one.0; doubted = doubt_after known.past known.doubted (ask_of users m) run.0 } in
       let later = stream_in_doubt run.1 after ms run.2 start mid run.4 intact one.2 one.3 in
       (later.0, (run.0, mid, run.2, (one.1, refl), later.1, run.5), later.2, later.3)
+
+  -- the same from a message on whose answer settled: nothing is asked of what a crash might have left before it
+  pub stream_since_reply : (before mid after : S) (m : MessageModel) (event : EventModel) (answered : AnswerModel)
+      (ms : List MessageModel) (out : List ℕ) (start : Room) (past : History)
+      → ask_of users m ≡ Ok (Event event) → MayAnswer view users before m answered mid
+      → Outputs (MayAnswer view users) mid ms out after → (view after).is_intact
+      → StandsFor start past (view before) → changes_rows past event ≡ true → answered ≢ Refused Delay
+      → (next : Doubt) × Outputs (AnswersInDoubt users start) (no_doubt (event ∷ past)) ms out next
+      × StandsFor start next.past (view after) × LeavesNew (view after) (StandsInDoubt start next.past next.doubted)
+  stream_since_reply before mid after m event answered ms out start past asks call run intact stands changes other =
+      let As : Result AskModel WireFault → Type 0 = λ ask. Answered ask (view before) answered (view mid) in
+      let settled = after_settled view before mid event answered start past (subst As asks call)
+      (intact_before mid after ms out run intact) stands changes other in
+      stream_in_doubt mid after ms out start (no_doubt (event ∷ past)) run intact settled.0 settled.1

@@ -46,6 +46,10 @@ pub record Doubt : Type 0 where
   pub past : History
   pub doubted : List EventModel
 
+-- a history with nothing in doubt
+abbrev pub no_doubt : History → Doubt
+no_doubt past = record { past = past; doubted = [] }
+
 -- a message is answered, and what is in doubt then
 abbrev pub AnswersInDoubt : List SubjectModel → Room → Doubt → MessageModel → AnswerModel → Doubt → Type 0
 AnswersInDoubt users start before m answered after =

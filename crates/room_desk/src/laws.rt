@@ -1,14 +1,15 @@
 //! Laws of histories. Each function here does nothing: its contract is what the definitions are meant
 //! to say, proved of them.
 ghost use Rattle.std.specs.Prelude.{◌≡◌, ◌≢◌, ◌≤◌, ◌↔◌, ℕ, ◌^◌, true, false, List, [], ◌∷◌, None, map};
-ghost use Rattle.std.specs.Prelude.{length, nat_eq, nat_lt};
+ghost use Rattle.std.specs.Prelude.{◌++◌, length, nat_eq, nat_lt};
 ghost use Rattle.std.specs.List.{AllByRecursion, IsDistinct};
+ghost use Rattle.room_acl.specs.SubjectModel.{SubjectModel};
 ghost use Rattle.room_slots.specs.Slots.{next_number, verdict};
 ghost use Rattle.room_slots.specs.declared.verdict.Verdict.TheVariants.{New};
 ghost use Rattle.room_records.specs.Records.{Records};
 ghost use Rattle.room_records.specs.Room.{Room, IsRoom};
 ghost use Rattle.room_records.specs.Representation.{RepresentsRoom};
-ghost use Rattle.room_wire.specs.Asks.EventModel.{EventModel, Request, Slot};
+ghost use Rattle.room_wire.specs.Asks.EventModel.{EventModel, Request, Open, Close, Slot};
 ghost use Rattle.room_wire.specs.declared.answers.code.Code.TheVariants.{SeqFalseRetry, SeqMisordered};
 ghost use Rattle.room_wire.specs.Forms.Texts.{command_text};
 ghost use Rattle.room_desk.specs.AnswerModel.{Reply, Refused, IsTurnedAway};
@@ -86,6 +87,19 @@ pub fn a_repeat_gets_its_first_reply()
         accepted past q.sid q.slot ≡ last ∷ earlier →
         q.seq ≢ last.request.seq → q.seq ≢ next_number (length (last ∷ earlier)) →
         answer_to start past (Slot q) ≡ Refused SeqMisordered }
+{}
+
+/// OPEN and CLOSE that were answered with a reply get that reply again, however much came in between: OPEN while its
+/// session is open, CLOSE always.
+pub fn open_and_close_sent_again_get_their_first_reply()
+    ensures open { (start : Room) (past later : History) (caller : SubjectModel) (sid : List ℕ) (slots : ℕ)
+        (text : List ℕ) →
+        answer_to start past (Open caller sid slots) ≡ Reply text →
+        is_open_for sid caller (session_of (later ++ (Open caller sid slots ∷ past)) sid) ≡ true →
+        answer_to start (later ++ (Open caller sid slots ∷ past)) (Open caller sid slots) ≡ Reply text }
+    ensures close { (start : Room) (past later : History) (caller : SubjectModel) (sid : List ℕ) (text : List ℕ) →
+        answer_to start past (Close caller sid) ≡ Reply text →
+        answer_to start (later ++ (Close caller sid ∷ past)) (Close caller sid) ≡ Reply text }
 {}
 
 /// In an open session of the caller, the slot test by what the slot keeps answers as the history does,

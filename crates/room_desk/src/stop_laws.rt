@@ -1,7 +1,8 @@
 //! Laws of what a stop leaves after several events, and of an event that is sent again after it.
-ghost use Rattle.std.specs.Prelude.{◌≡◌, ◌≢◌, ◌⊎◌, ℕ, true, List, [], ◌∷◌};
+ghost use Rattle.std.specs.Prelude.{◌≡◌, ◌≢◌, ◌⊎◌, ℕ, true, List, [], ◌∷◌, Ok};
 ghost use Rattle.room_acl.specs.SubjectModel.{SubjectModel};
 ghost use Rattle.room_records.specs.Room.{Room};
+ghost use Rattle.room_wire.specs.Asks.AskOf.{Event, ask_of};
 ghost use Rattle.room_wire.specs.Asks.EventModel.{EventModel};
 ghost use Rattle.room_wire.specs.declared.answers.code.Code.TheVariants.{Delay};
 ghost use Rattle.room_wire.specs.Messages.MessageModel.{MessageModel};
@@ -11,15 +12,15 @@ ghost use Rattle.room_desk.specs.Crashes.{LeavesNew};
 ghost use Rattle.room_desk.specs.History.{History, answer_to, changes_rows};
 ghost use Rattle.room_desk.specs.Representation.{StandsFor, InTurn, Run};
 ghost use Rattle.room_desk.specs.Serving.{EventAnswered, MayAnswer};
-ghost use Rattle.room_desk.specs.Stops.{StandsInDoubt, in_doubt, Doubt, AnswersInDoubt};
+ghost use Rattle.room_desk.specs.Stops.{StandsInDoubt, in_doubt, Doubt, no_doubt, AnswersInDoubt};
 
 use room_records::Shelf;
 
 /// Events are answered in turn, as `run` says it. A crash after the last may leave rows that stand for the history by
 /// their answers, or for it with one event more, which is in doubt: it was answered DELAY, and no event that changes
 /// what is kept was answered otherwise since. So it is where a crash before the first left such rows (`run`), and
-/// wherever an event just before them changed what is kept and was not answered DELAY (`since`). `stream` says as
-/// `run` does of the messages of a stream.
+/// wherever an event just before them changed what is kept and was not answered DELAY (`since`). `stream` and
+/// `stream_since` say the same of the messages of a stream, the event before them asked by a message too.
 pub fn a_stop_leaves_what_was_answered_and_at_most_one_more<S: Shelf>()
     ensures run { (before after : S) (events : List EventModel) (answers : List AnswerModel)
         (start : Room) (past : History) (doubted : List EventModel) →
@@ -40,6 +41,15 @@ pub fn a_stop_leaves_what_was_answered_and_at_most_one_more<S: Shelf>()
         StandsFor start known.past (S.view before)
         → LeavesNew (S.view before) (StandsInDoubt start known.past known.doubted) →
         (next : Doubt) × Outputs (AnswersInDoubt users start) known ms out next
+        × StandsFor start next.past (S.view after)
+        × LeavesNew (S.view after) (StandsInDoubt start next.past next.doubted) }
+    ensures stream_since { (users : List SubjectModel) (before mid after : S)
+        (m : MessageModel) (event : EventModel) (answered : AnswerModel)
+        (ms : List MessageModel) (out : List ℕ) (start : Room) (past : History) →
+        ask_of users m ≡ Ok (Event event) → MayAnswer S.view users before m answered mid →
+        Outputs (MayAnswer S.view users) mid ms out after → (S.view after).is_intact →
+        StandsFor start past (S.view before) → changes_rows past event ≡ true → answered ≢ Refused Delay →
+        (next : Doubt) × Outputs (AnswersInDoubt users start) (no_doubt (event ∷ past)) ms out next
         × StandsFor start next.past (S.view after)
         × LeavesNew (S.view after) (StandsInDoubt start next.past next.doubted) }
 {}

@@ -51,11 +51,18 @@ IsSelftestFault Memory = Unit {0}
 IsSelftestFault SelftestFailed = Unit {0}
 IsSelftestFault other = ⊥
 
--- `selftest`: it is done only after a connection to itself was made, and one was accepted
+-- the first client of `selftest` is done only where a connection was made
+abbrev pub AskedAndClosed : {M C : Type 0} → (does : M → Call C → M → Type 0)
+    → (old new : M) → Result (Unit {0}) Fault → Type 0
+AskedAndClosed does old new (Ok done) = does old (connects true) new
+AskedAndClosed does old new (Err fault) = IsSelftestFault fault
+
+-- `selftest`: it is done only after two connections to itself were made, and two accepted
 abbrev pub SelftestEnds : {M C : Type 0} → (does : M → Call C → M → Type 0)
     → (accepts : M → M → Type 0) → (old new : M) → Result (Unit {0}) Fault → Type 0
 SelftestEnds {M} does accepts old new (Ok done) =
-    (bound : M) × does old (connects true) bound × Accepted accepts 1 bound new
+    (first second : M) × does old (connects true) first × does first (connects true) second
+    × Accepted accepts 2 second new
 SelftestEnds does accepts old new (Err fault) = IsSelftestFault fault
 
 -- the fault of a job that is not done

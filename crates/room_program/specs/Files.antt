@@ -7,6 +7,8 @@ use Rattle.room_acl.specs.SubjectModel.{SubjectModel}
 use Rattle.room_tables.specs.Tables.{schema_0, has_a_table, has_room}
 use Rattle.room_tables.specs.Layout.{IsRoomDatabase}
 use Rattle.room_tables.specs.Fresh.{IsFreshRoom, MayBeMade}
+use Rattle.room_sql.specs.declared.sql_shelf.SqlShelf.{SqlShelf}
+use Rattle.room_sql.specs.Known.{KnowsNothing}
 use Rattle.room_roster.specs.Rosters.{IsRosterText}
 use Rattle.room_program.specs.declared.fault.Fault.{Fault}
 use Rattle.room_program.specs.declared.fault.Fault.TheVariants.{CannotReadRoster, BadRoster, RoomExists, NotARoom}
@@ -68,11 +70,12 @@ TakesRoom {M} does adopts path old new taken =
     ((begun : Option Bool) × does old (looks path begun) new × IsUnopened begun taken)
     ⊎ ((seen : M) × does old (looks path (Some true)) seen × OpensRoom does adopts path seen new taken)
 
--- a store that was opened has the tables and columns of a room, and is taken as it was
-abbrev pub Adopted : {S : Type 0} → Ghosts S → (opened taken : Held S) → Type 0
+-- a store that was opened has the tables and columns of a room, and is taken as it was, by a shelf that knows nothing
+abbrev pub Adopted : {S : Type 0} (g : Ghosts S) → (opened : Held S) → (taken : SqlShelf S g) → Type 0
 Adopted g opened taken = IsTrue (has_room opened.schema)
-    × (HasCleanDisk (state g taken) → IsTrue (state g taken).is_open × ((state g taken).now ≡ (state g opened).now))
-    × Survives (state g opened) (state g taken) (λ _. ⊥)
+    × (HasCleanDisk (state g taken.conn) → IsTrue (state g taken.conn).is_open
+    × ((state g taken.conn).now ≡ (state g opened).now))
+    × Survives (state g opened) (state g taken.conn) (λ _. ⊥) × KnowsNothing taken.known
 
 -- a store that was opened had no table of a room, and a fresh room was made in it, as `SqlShelf::init` has it
 abbrev pub Made : {S : Type 0} → Ghosts S → (owner group : List ℕ) → (opened made : Held S) → Type 0

@@ -15,7 +15,7 @@ pub data Call (C : Type 0) : Type 0 where
   leaves : (left : C) → Call C
   -- whether connections to a port of 127.0.0.1 are listened for
   listens : (port : ℕ) → (done : Bool) → Call C
-  -- whether they are listened for on a free port, with one made to it
+  -- whether they are listened for, on a free port where they were not yet, with one more made
   connects : (done : Bool) → Call C
 
 -- what a call was answered, where it did not fail

@@ -73,7 +73,7 @@ abbrev pub means : {M C Shelf : Type 0} → (does : M → Call C → M → Type 
 means d a f p s m t v =
     record { does = d; accepts = a; fails = f; adopts = p; store = s; made = m; taken = t; view = v }
 
--- the line `selftest ok` goes to the output after a connection was served, or a fault is told
+-- the line `selftest ok` goes to the output after two connections were served, or a fault is told
 abbrev pub Tries : {M C : Type 0} → (does : M → Call C → M → Type 0)
     → (accepts : M → M → Type 0) → (before later : M) → Streams → Streams → ℕ → Type 0
 Tries does accepts before later old new status =

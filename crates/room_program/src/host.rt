@@ -61,10 +61,13 @@ impl<'a> Machine<FileConnection> for Host<'a> {
     }
 
     fn connect(&mut self) -> io::Result<TcpStream> {
-        let listener = TcpListener::bind(self.rt, (Ipv4Addr::LOCALHOST, 0))?;
-        let client = TcpStream::connect(self.rt, listener.local_addr()?)?;
-        self.listener = Some(listener);
-        Ok(client)
+        if self.listener.is_none() {
+            self.listen(0)?;
+        }
+        match &self.listener {
+            Some(listener) => TcpStream::connect(self.rt, listener.local_addr()?),
+            None => Err(io::Error::from(ErrorKind::NotConnected)),
+        }
     }
 }
 

@@ -39,7 +39,7 @@ pub trait Machine<C> {
     fn listen(&mut self, port: u16) -> io::Result<()>
         ensures bound { does self.old (listens port (is_done result)) self.new };
 
-    /// Listens on a free port of 127.0.0.1, and makes a connection to it.
+    /// Listens on a free port of 127.0.0.1, where it listens for nothing yet, and makes a connection to it.
     fn connect(&mut self) -> io::Result<TcpStream>
         ensures joined { does self.old (connects (is_done result)) self.new };
 }

@@ -49,9 +49,9 @@ fn finish(stream: &TcpStream) {
     }
 }
 
-/// Serves one connection, and none whose waits have no bound. However it ends, the room's history has gone on while the
-/// store is there. Where the peer neither sends nor takes anything for a minute, it ends as after a failed read or write:
-/// what was read of the next message so far changes nothing.
+/// Serves one connection, and none whose waits have no bound. However it ends, the room's history has gone on while
+/// the store is there. Where the peer neither sends nor takes anything for a minute, it ends as after a failed read or
+/// write: what was read of the next message so far changes nothing.
 fn serve_stream<S: Shelf>(stream: &TcpStream, desk: &mut Desk<S>, roster: &Roster)
     ensures frame { DeskCall (S.view desk.old) (S.view desk.new) }
     ensures messages { AnswersSome S.view roster.now desk.old desk.new }

@@ -29,7 +29,7 @@ pub(crate) fn open<S: Alter + Drop, M: Machine<Connection<S>>>(
 /// The shelf over a store that was opened.
 fn adopt<S: Alter + Drop>(alloc: Global, connection: Connection<S>) -> Result<SqlShelf<S>, Fault>
     requires { connection.in_transaction ≡ false }
-    ensures { Adopts (λ opened shelf. Adopted S.Store opened shelf.conn) connection result }
+    ensures { Adopts (λ opened shelf. Adopted S.Store opened shelf) connection result }
 {
     match SqlShelf::adopt(alloc, connection) {
         Ok(shelf) => Ok(shelf),
@@ -45,7 +45,7 @@ fn open_room<S: Alter + Drop, M: Machine<Connection<S>>>(
     machine: &mut M,
     path: &str,
 ) -> Result<SqlShelf<S>, Fault>
-    ensures { OpensRoom M.does (λ opened shelf. Adopted S.Store opened shelf.conn)
+    ensures { OpensRoom M.does (λ opened shelf. Adopted S.Store opened shelf)
         path.now machine.old machine.new result }
 {
     match open(machine, path) {
@@ -61,7 +61,7 @@ pub(crate) fn take_room<S: Alter + Drop, M: Machine<Connection<S>>>(
     machine: &mut M,
     path: &str,
 ) -> Result<SqlShelf<S>, Fault>
-    ensures { TakesRoom M.does (λ opened shelf. Adopted S.Store opened shelf.conn)
+    ensures { TakesRoom M.does (λ opened shelf. Adopted S.Store opened shelf)
         path.now machine.old machine.new result }
 {
     match machine.is_begun(path) {

@@ -81,7 +81,7 @@ pub(crate) fn report<S: Alter + Drop, M: Machine<Connection<S>>, W: Write>(
     kind: ReportKind,
     writer: &mut W,
 ) -> Result<(), Fault>
-    ensures { Reports M.does (λ opened shelf. Adopted S.Store opened shelf.conn) (λ shelf. shelf.conn)
+    ensures { Reports M.does (λ opened shelf. Adopted S.Store opened shelf) (λ shelf. shelf.conn)
         ⟦<SqlShelf<S> as Shelf>⟧.view db.now roster.now kind
         machine.old machine.new (W.contents writer.old) (W.contents writer.new) result }
 {

@@ -139,7 +139,7 @@ fn run_report<S: Alter + Drop, M: Machine<Connection<S>>, W: Write, E: Write>(
     output: &mut W,
     errors: &mut E,
 ) -> u8
-    ensures { Ends (Reports M.does (λ opened shelf. Adopted S.Store opened shelf.conn) (λ shelf. shelf.conn)
+    ensures { Ends (Reports M.does (λ opened shelf. Adopted S.Store opened shelf) (λ shelf. shelf.conn)
         ⟦<SqlShelf<S> as Shelf>⟧.view db.now roster.now kind
         machine.old machine.new (W.contents output.old) (W.contents output.new))
         (E.contents errors.old) (E.contents errors.new) result }
@@ -178,7 +178,7 @@ fn run_serve<S: Alter + Drop, M: Machine<Connection<S>> + Listener, E: Write>(
     errors: &mut E,
 ) -> u8
     ensures { Ends (ServesRoom M.does M.accepts M.fails
-        (λ opened shelf. Adopted S.Store opened shelf.conn) (λ shelf. shelf.conn) ⟦<SqlShelf<S> as Shelf>⟧.view
+        (λ opened shelf. Adopted S.Store opened shelf) (λ shelf. shelf.conn) ⟦<SqlShelf<S> as Shelf>⟧.view
         db.now roster.now port count machine.old machine.new)
         (E.contents errors.old) (E.contents errors.new) result }
 {
@@ -195,7 +195,7 @@ fn run_job<S: Alter + Drop, M: Machine<Connection<S>> + Listener, R: Read, W: Wr
     output: &mut W,
     errors: &mut E,
 ) -> u8
-    ensures { RunsJob (means M.does M.accepts M.fails (λ opened shelf. Adopted S.Store opened shelf.conn)
+    ensures { RunsJob (means M.does M.accepts M.fails (λ opened shelf. Adopted S.Store opened shelf)
         (λ shelf. shelf.conn) (Made S.Store) IsTaken ⟦<SqlShelf<S> as Shelf>⟧.view)
         machine.old machine.new job.now
         (streams (R.remaining input.old) (W.contents output.old) (E.contents errors.old))
@@ -290,7 +290,7 @@ pub fn run_machine<
     output: &mut W,
     errors: &mut E,
 ) -> u8
-    ensures { Runs (means M.does M.accepts M.fails (λ opened shelf. Adopted S.Store opened shelf.conn)
+    ensures { Runs (means M.does M.accepts M.fails (λ opened shelf. Adopted S.Store opened shelf)
         (λ shelf. shelf.conn) (Made S.Store) IsTaken ⟦<SqlShelf<S> as Shelf>⟧.view)
         machine.old machine.new (texts_of words.now)
         (streams (R.remaining input.old) (W.contents output.old) (E.contents errors.old))
@@ -314,7 +314,7 @@ pub fn run_program<R: Read, W: Write, E: Write>(
 ) -> u8
     ensures { (before later : _) × Runs (means ⟦<Host<'static> as Machine<FileConnection>>⟧.does
         ⟦<Host<'static> as Listener>⟧.accepts ⟦<Host<'static> as Listener>⟧.fails
-        (λ opened shelf. Adopted ⟦<FileStore<File> as Store>⟧ opened shelf.conn)
+        (λ opened shelf. Adopted ⟦<FileStore<File> as Store>⟧ opened shelf)
         (λ shelf. shelf.conn) (Made ⟦<FileStore<File> as Store>⟧)
         IsTaken ⟦<SqlShelf<FileStore<File>> as Shelf>⟧.view)
         before later (texts_of words.now)

@@ -1,6 +1,6 @@
-//! Trying a room in memory over a socket to itself.
+//! Trying a room in memory over sockets to itself.
 ghost use Rattle.std.specs.Prelude.{IfErr};
-ghost use Rattle.room_program.specs.Ends.{IsSelftestFault, SelftestEnds};
+ghost use Rattle.room_program.specs.Ends.{AskedAndClosed, IsSelftestFault, SelftestEnds};
 
 use crate::fault::Fault;
 use crate::listening::Listener;
@@ -17,19 +17,23 @@ use std::net::{Shutdown, TcpStream};
 
 const ROSTER: &str = "[users]\nann = [\"eng\"]\nbob = [\"eng\", \"staff\"]\neng = []\n";
 
-/// OPEN, MKDIR, and the same MKDIR once more.
-const REQUESTS: &str = "POST /v1/sessions/0123456789abcdef0123456789abcdef HTTP/1.1\r\n\
+/// OPEN and MKDIR.
+const FIRST: &str = "POST /v1/sessions/0123456789abcdef0123456789abcdef HTTP/1.1\r\n\
 room-user: ann\r\ncontent-length: 11\r\n\r\n{\"slots\":3}\
-POST /v1/sessions/0123456789abcdef0123456789abcdef/slots/0/1 HTTP/1.1\r\n\
-room-user: ann\r\ncontent-length: 31\r\n\r\n{\"cmd\":\"MKDIR\",\"path\":\"/plans\"}\
 POST /v1/sessions/0123456789abcdef0123456789abcdef/slots/0/1 HTTP/1.1\r\n\
 room-user: ann\r\ncontent-length: 31\r\n\r\n{\"cmd\":\"MKDIR\",\"path\":\"/plans\"}";
 
-/// What they are answered.
+/// The same MKDIR again, and LIST of the root, the last message.
+const SECOND: &str = "POST /v1/sessions/0123456789abcdef0123456789abcdef/slots/0/1 HTTP/1.1\r\n\
+room-user: ann\r\ncontent-length: 31\r\n\r\n{\"cmd\":\"MKDIR\",\"path\":\"/plans\"}\
+POST /v1/sessions/0123456789abcdef0123456789abcdef/slots/1/1 HTTP/1.1\r\n\
+room-user: ann\r\nconnection: close\r\ncontent-length: 25\r\n\r\n{\"cmd\":\"LIST\",\"path\":\"/\"}";
+
+/// What these two are answered.
 const ANSWERS: &str = "HTTP/1.1 200 OK\r\ncontent-type: application/json\r\n\
-content-length: 20\r\n\r\n{\"code\":0,\"slots\":3}\
-HTTP/1.1 200 OK\r\ncontent-type: application/json\r\ncontent-length: 10\r\n\r\n{\"code\":0}\
-HTTP/1.1 200 OK\r\ncontent-type: application/json\r\ncontent-length: 10\r\n\r\n{\"code\":0}";
+content-length: 10\r\n\r\n{\"code\":0}\
+HTTP/1.1 200 OK\r\ncontent-type: application/json\r\ncontent-length: 39\r\n\
+connection: close\r\n\r\n{\"code\":0,\"names\":[[\"plans\",\"folder\"]]}";
 
 fn users(alloc: Global) -> Result<Roster, Fault>
     ensures { IfErr result IsSelftestFault }
@@ -51,18 +55,18 @@ fn desk(alloc: Global) -> Result<Desk<MemShelf>, Fault>
     }
 }
 
-/// The client's end: what it writes before it is served. It writes no more then.
-fn ask(client: &TcpStream) -> Result<(), Fault>
+/// A client's end: what it writes before it is served. It writes no more then.
+fn ask(client: &TcpStream, requests: &str) -> Result<(), Fault>
     ensures { IfErr result IsSelftestFault }
 {
     let mut writer = client;
-    if writer.write_all(REQUESTS.as_bytes()).is_err() || client.shutdown(Shutdown::Write).is_err() {
+    if writer.write_all(requests.as_bytes()).is_err() || client.shutdown(Shutdown::Write).is_err() {
         return Err(Fault::SelftestFailed);
     }
     Ok(())
 }
 
-/// Whether the client's end has the answers, and nothing behind them.
+/// Whether a client's end has the answers, and nothing behind them.
 fn is_answered(alloc: Global, client: &TcpStream) -> Result<(), Fault>
     ensures { IfErr result IsSelftestFault }
 {
@@ -74,7 +78,17 @@ fn is_answered(alloc: Global, client: &TcpStream) -> Result<(), Fault>
     Ok(())
 }
 
-/// Both ends of a connection, one after the other.
+/// A client that asks and is gone before it is served, so that it takes no answer.
+fn ask_and_close<C, M: Machine<C> + Listener>(machine: &mut M) -> Result<(), Fault>
+    ensures { AskedAndClosed M.does machine.old machine.new result }
+{
+    let Ok(client) = machine.connect() else {
+        return Err(Fault::SelftestFailed);
+    };
+    ask(&client, FIRST)
+}
+
+/// Two clients, and then the server's end of both. The first one's answers are lost; what it asked was done once.
 fn talk<C, M: Machine<C> + Listener>(
     alloc: Global,
     machine: &mut M,
@@ -83,19 +97,22 @@ fn talk<C, M: Machine<C> + Listener>(
 ) -> Result<(), Fault>
     ensures { SelftestEnds M.does M.accepts machine.old machine.new result }
 {
+    if ask_and_close(machine).is_err() {
+        return Err(Fault::SelftestFailed);
+    }
     let Ok(client) = machine.connect() else {
         return Err(Fault::SelftestFailed);
     };
-    if ask(&client).is_err() {
+    if ask(&client, SECOND).is_err() {
         return Err(Fault::SelftestFailed);
     }
-    match serve_listener(machine, desk, roster, 1) {
+    match serve_listener(machine, desk, roster, 2) {
         Ok(()) => is_answered(alloc, &client),
         Err(_) => Err(Fault::SelftestFailed),
     }
 }
 
-/// Asks a fresh room in memory over a socket to itself, one end after the other.
+/// Asks a fresh room in memory over sockets to itself, one end after the other.
 pub(crate) fn selftest<C, M: Machine<C> + Listener>(
     alloc: Global,
     machine: &mut M,

@@ -65,7 +65,7 @@ pub(crate) fn serve<S: Alter + Drop, M: Machine<Connection<S>> + Listener>(
     count: u32,
 ) -> Result<(), Fault>
     ensures { ServesRoom M.does M.accepts M.fails
-        (λ opened shelf. Adopted S.Store opened shelf.conn) (λ shelf. shelf.conn) ⟦<SqlShelf<S> as Shelf>⟧.view
+        (λ opened shelf. Adopted S.Store opened shelf) (λ shelf. shelf.conn) ⟦<SqlShelf<S> as Shelf>⟧.view
         db.now roster.now port count machine.old machine.new result }
 {
     let roster = match roster_at(alloc, machine, roster) {

@@ -21,7 +21,7 @@ use Rattle.room_acl.specs.declared.subject.Standing.{Standing}
 use Rattle.room_acl.specs.Bits.{has_bit}
 use Rattle.room_acl.specs.SubjectModel.{SubjectModel}
 use Rattle.room_acl.specs.Entries.{EntryModel}
-use Rattle.room_acl.specs.Access.{decides, decision}
+use Rattle.room_acl.specs.Access.{decides, decision, owner_may}
 use Rattle.room_acl.specs.Pending.{PendingModel, decision_with}
 use Rattle.room_acl.proofs.BitTests.{same_bits}
 use Rattle.room_tables.specs.Layout.{IsRoomDatabase}
@@ -76,21 +76,17 @@ survives_on a b c one two = survives_then a b c _ _ (λ _. ⊥) (λ _ db none. n
 
 -- ---- the decision under way
 
+or_none : (b : Bool) → (b || false) ≡ b
+or_none true = refl
+or_none false = refl
+
+or_assoc : (a b c : Bool) → (a || (b || c)) ≡ ((a || b) || c)
+or_assoc true b c = refl
+or_assoc false b c = refl
+
 any_more : {X : Type 0} (p : X → Bool) (xs : List X) (x : X) → list_any p (xs ++ x ∷ []) ≡ (list_any p xs || p x)
 any_more p [] x = or_none (p x)
-  where
-    or_none : (b : Bool) → (b || false) ≡ b
-    or_none true = refl
-    or_none false = refl
 any_more p (y ∷ xs) x = ap (λ b. p y || b) (any_more p xs x) ∙ or_assoc (p y) (list_any p xs) (p x)
-  where
-    or_assoc : (a b c : Bool) → (a || (b || c)) ≡ ((a || b) || c)
-    or_assoc true b c = refl
-    or_assoc false b c = refl
-
-and_true : (b : Bool) → b ≡ (b && true)
-and_true true = refl
-and_true false = refl
 
 less_more : (w a d : Bool) → ((w && not a) && not d) ≡ (w && not (a || d))
 less_more false a d = refl
@@ -103,15 +99,17 @@ module _ (caller : SubjectModel) (standing : Standing) (wanted : ℕ) where
     pub answers : (entries : List EntryModel) → decision_with entries caller standing p
         ≡ decision (map entry_of rows ++ entries) caller standing wanted
     pub left : (bit : ℕ) → has_bit p.left bit
-        ≡ (has_bit wanted bit && not (list_any (decides caller standing bit) (map entry_of rows)))
+        ≡ (has_bit wanted bit
+        && not (owner_may caller standing bit || list_any (decides caller standing bit) (map entry_of rows)))
 
   pub at_start : (p : PendingModel)
       → ((entries : List EntryModel) → decision_with entries caller standing p
       ≡ decision entries caller standing wanted)
-      → p.left ≡ wanted → IsAfter [] p
+      → ((bit : ℕ) → has_bit p.left bit ≡ (has_bit wanted bit && not (owner_may caller standing bit)))
+      → IsAfter [] p
   at_start p answers left = record {
     answers = answers;
-    left = λ bit. ap (λ l. has_bit l bit) left ∙ and_true (has_bit wanted bit);
+    left = λ bit. left bit ∙ ap (λ o. has_bit wanted bit && not o) (sym (or_none (owner_may caller standing bit)));
   }
 
   pub taken : (rows : List Row) (row : Row) (e : EntryModel) (p q : PendingModel) → IsAfter rows p → e ≡ entry_of row
@@ -126,9 +124,13 @@ module _ (caller : SubjectModel) (standing : Standing) (wanted : ℕ) where
             ∙ ap (λ l. decision l caller standing wanted) (sym (append_assoc (map entry_of rows) (e ∷ []) entries)
             ∙ ap (λ l. l ++ entries) (sym more));
         left = λ bit. left bit ∙ ap (λ b. b && not (decides caller standing bit e)) (was.left bit)
-            ∙ less_more (has_bit wanted bit) (list_any (decides caller standing bit) (map entry_of rows))
+            ∙ less_more (has_bit wanted bit)
+            (owner_may caller standing bit || list_any (decides caller standing bit) (map entry_of rows))
             (decides caller standing bit e)
-            ∙ ap (λ b. has_bit wanted bit && not b) (sym (any_more (decides caller standing bit) (map entry_of rows) e)
+            ∙ ap (λ b. has_bit wanted bit && not b) (sym (or_assoc (owner_may caller standing bit)
+            (list_any (decides caller standing bit) (map entry_of rows)) (decides caller standing bit e)))
+            ∙ ap (λ b. has_bit wanted bit && not (owner_may caller standing bit || b))
+            (sym (any_more (decides caller standing bit) (map entry_of rows) e)
             ∙ ap (list_any (decides caller standing bit)) (sym more));
       }
 

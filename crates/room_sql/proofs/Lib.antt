@@ -2,3 +2,5 @@ pub mod Bound
 pub mod Frames
 pub mod Decisions
 pub mod Turns
+pub mod NodeRows
+pub mod Calls

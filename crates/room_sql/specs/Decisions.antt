@@ -1,5 +1,5 @@
 -- How far a decision reads, and why it gives up.
-use Rattle.std.specs.Prelude.{◌≤◌, ◌⊎◌, ◌-◌, ◌^◌, ℕ, pos, List, [], ◌∷◌, ◌++◌, length, map, IsTrue}
+use Rattle.std.specs.Prelude.{◌≤◌, ◌⊎◌, ◌-◌, ◌^◌, ◌||◌, ℕ, pos, List, [], ◌∷◌, ◌++◌, length, map, IsTrue}
 use Rattle.std.specs.List.{list_any}
 use Rattle.sqlite_value.specs.declared.value.Value.TheVariants.{Int}
 use Rattle.sqlite_value.specs.Order.{Row}
@@ -9,15 +9,15 @@ use Rattle.room_acl.specs.declared.subject.Standing.{Standing}
 use Rattle.room_acl.specs.SubjectModel.{SubjectModel}
 use Rattle.room_acl.specs.Bits.{has_bit}
 use Rattle.room_acl.specs.Entries.{EntryModel}
-use Rattle.room_acl.specs.Access.{decides}
+use Rattle.room_acl.specs.Access.{decides, owner_may}
 use Rattle.room_tables.specs.Rows.{entry_of}
 use Rattle.room_tables.specs.Texts.{read_entries_text}
 use Rattle.room_sql.specs.Columns.{IsLawfulEntryRow}
 
--- each wanted right is decided by one of the entries
+-- each wanted right is the owner's, or decided by one of the entries
 abbrev pub AllDecided : List EntryModel → SubjectModel → Standing → ℕ → Type 0
 AllDecided entries caller standing wanted = (bit : ℕ) → IsTrue (has_bit wanted bit)
-    → IsTrue (list_any (decides caller standing bit) entries)
+    → IsTrue (owner_may caller standing bit || list_any (decides caller standing bit) entries)
 
 -- these rows begin what the query answers of the object
 abbrev pub HasReadEntries : ℕ → State → List Row → Type 0

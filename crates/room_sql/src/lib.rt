@@ -2,6 +2,7 @@
 #![tactic(auto)]
 
 mod deciding;
+mod known;
 mod open;
 mod reads;
 mod rows;

@@ -12,6 +12,7 @@ ghost use Rattle.room_tables.specs.Versions.{TellsVersion};
 ghost use Rattle.room_tables.specs.Layout.{IsRoomDatabase};
 ghost use Rattle.room_tables.specs.Fresh.{IsFreshRoom, MayBeMade};
 ghost use Rattle.room_sql.specs.Frames.{QueryFrame, QueryAnswered};
+ghost use Rattle.room_sql.specs.Known.{KnowsNothing};
 
 use crate::sql_shelf::SqlShelf;
 use crate::tables::make;
@@ -160,6 +161,7 @@ impl<S: Alter> SqlShelf<S> {
             × IsFreshRoom owner.now group.now (state S.Store shelf.conn).now.trees)) }
         ensures absent { IfOk result (λ shelf. has_a_table connection.schema ≡ false) }
         ensures started { IfOk result (λ shelf. shelf.failures ≡ 0) }
+        ensures known { IfOk result (λ shelf. KnowsNothing shelf.known) }
         ensures exists { IfErr result (λ e. e.0 ≡ OpenFault.RoomExists → IsTrue (has_a_table connection.schema)) }
         ensures taken { IsTrue (has_a_table connection.schema)
             → IsErrAnd result (λ e. (e.0 ≡ OpenFault.RoomExists) × (e.1 ≡ connection)) }
@@ -218,6 +220,7 @@ impl<S: Alter> SqlShelf<S> {
         ensures unchanged { IfErr result (λ e. HasCleanDisk (state S.Store e.1)
             → IsTrue (state S.Store e.1).is_open → (state S.Store e.1).now ≡ (state S.Store connection).now) }
         ensures started { IfOk result (λ shelf. shelf.failures ≡ 0) }
+        ensures known { IfOk result (λ shelf. KnowsNothing shelf.known) }
         ensures outside { IfErr result (λ e. e.1.in_transaction ≡ false) }
         ensures kept { IfOk result (λ shelf. Survives (state S.Store connection) (state S.Store shelf.conn) (λ _. ⊥)) }
         ensures refused { IfErr result (λ e. Survives (state S.Store connection) (state S.Store e.1) (λ _. ⊥)) }

@@ -1,8 +1,12 @@
 //! The shelf.
 
-ghost use Rattle.std.specs.Prelude.{◌≡◌, ◌≢◌, ◌≤◌, ◌⊎◌, ◌+◌, ◌-◌, ◌^◌, min, false, Err};
+ghost use Rattle.std.specs.Prelude.{◌≡◌, ◌≢◌, ◌≤◌, ◌⊎◌, ◌+◌, ◌-◌, ◌^◌, min, true, false, None, Err};
+ghost use Rattle.sqlite.specs.State.{HasCleanDisk};
+ghost use Rattle.sqlite.specs.Held.{state};
 ghost use Rattle.room_records.specs.Shelf.{FailureCounted};
+ghost use Rattle.room_sql.specs.Known.{KnowsNothing};
 
+use crate::known::Known;
 use crate::rows::{
     all_entries, all_nodes, first_node, one_count, one_doc, one_kept, one_node, one_number,
     one_session,
@@ -15,24 +19,29 @@ use sqlite::{Alter, Connection, Error, ErrorCode};
 use std::alloc::Global;
 
 /// A shelf whose records are the rows of the six tables in its connection's database, and nothing beside them.
-/// The connection is outside a transaction between calls.
+/// The connection is outside a transaction between calls. It remembers one folder's count of children, while the
+/// connection is open, and one number that no row has; any fault makes it forget both.
 #[derive(Drop)]
 pub struct SqlShelf<S: Alter> {
     alloc: Global,
     conn: Connection<S>,
     failures: u64,
+    known: Known,
     ghost outside: { conn.in_transaction ≡ false },
+    ghost there: { known.counted ≢ None → HasCleanDisk (state S.Store conn) → (state S.Store conn).is_open ≡ true },
 }
 
 impl<S: Alter> SqlShelf<S> {
     pub(crate) fn over(alloc: Global, conn: Connection<S>) -> SqlShelf<S>
         requires { conn.in_transaction ≡ false }
-        ensures { (result.conn ≡ conn) × (result.failures ≡ 0) }
+        ensures new { (result.conn ≡ conn) × (result.failures ≡ 0) }
+        ensures known { KnowsNothing result.known }
     {
         SqlShelf {
             alloc,
             conn,
             failures: 0,
+            known: Known::nothing(),
         }
     }
 
@@ -45,14 +54,15 @@ impl<S: Alter> SqlShelf<S> {
             alloc: _,
             conn,
             failures: _,
+            known: _,
         } = self;
         conn
     }
 }
 
 /// What an error is to the shelf: a want of memory is told, and any other error is counted as a failure of the store.
-/// The count stays at 2^64 - 1.
-fn fault(failures: &mut u64, error: Error) -> ShelfFault
+/// The count stays at 2^64 - 1. What was known is known no longer.
+fn fault(failures: &mut u64, known: &mut Known, error: Error) -> ShelfFault
     ensures exact { ((error ≡ Error.SqliteFailure ErrorCode.OutOfMemory)
         × (result ≡ ShelfFault.Memory) × (failures.new ≡ failures.old))
         ⊎ ((error ≢ Error.SqliteFailure ErrorCode.OutOfMemory) × (result ≡ ShelfFault.Store)
@@ -60,7 +70,10 @@ fn fault(failures: &mut u64, error: Error) -> ShelfFault
     ensures counted { result ≡ ShelfFault.Store → FailureCounted failures.old failures.new }
     ensures never_falls { failures.old ≤ failures.new }
     ensures quiet { result ≢ ShelfFault.Store → failures.new ≡ failures.old }
+    ensures forgotten { KnowsNothing known.new }
+    ensures uncounted { known.new.counted ≡ None }
 {
+    *known = Known::nothing();
     match error {
         Error::SqliteFailure(ErrorCode::OutOfMemory) => ShelfFault::Memory,
         _ => {
@@ -102,11 +115,12 @@ impl<S: Alter> Shelf for SqlShelf<S> {
         let _outside = self.conn.is_autocommit();
         let rows = match reads::node_rows(&mut self.conn, id) {
             Ok(rows) => rows,
-            Err(error) => return Err(fault(&mut self.failures, error)),
+            Err(error) => return Err(fault(&mut self.failures, &mut self.known, error)),
         };
+        self.known = self.known.with_free(id, rows.is_empty());
         match one_node(self.alloc, rows.as_slice()) {
             Ok(found) => Ok(found),
-            Err(error) => Err(fault(&mut self.failures, error)),
+            Err(error) => Err(fault(&mut self.failures, &mut self.known, error)),
         }
     }
 
@@ -121,11 +135,11 @@ impl<S: Alter> Shelf for SqlShelf<S> {
         let _outside = self.conn.is_autocommit();
         let rows = match reads::named_rows(&mut self.conn, parent, name.text()) {
             Ok(rows) => rows,
-            Err(error) => return Err(fault(&mut self.failures, error)),
+            Err(error) => return Err(fault(&mut self.failures, &mut self.known, error)),
         };
         match first_node(self.alloc, rows.as_slice()) {
             Ok(found) => Ok(found),
-            Err(error) => Err(fault(&mut self.failures, error)),
+            Err(error) => Err(fault(&mut self.failures, &mut self.known, error)),
         }
     }
 
@@ -140,11 +154,11 @@ impl<S: Alter> Shelf for SqlShelf<S> {
         let _outside = self.conn.is_autocommit();
         let rows = match reads::child_rows(&mut self.conn, parent) {
             Ok(rows) => rows,
-            Err(error) => return Err(fault(&mut self.failures, error)),
+            Err(error) => return Err(fault(&mut self.failures, &mut self.known, error)),
         };
         match all_nodes(self.alloc, rows.as_slice()) {
             Ok(found) => Ok(found),
-            Err(error) => Err(fault(&mut self.failures, error)),
+            Err(error) => Err(fault(&mut self.failures, &mut self.known, error)),
         }
     }
 
@@ -156,14 +170,20 @@ impl<S: Alter> Shelf for SqlShelf<S> {
         ensures cause { ReadCause S.Store self.old self.new result
             count_children_text (Int (pos parent) ∷ []) IsOneCount }
     {
+        if let Some(count) = self.known.count_in(parent) {
+            return Ok(count);
+        }
         let _outside = self.conn.is_autocommit();
         let rows = match reads::count_rows(&mut self.conn, parent) {
             Ok(rows) => rows,
-            Err(error) => return Err(fault(&mut self.failures, error)),
+            Err(error) => return Err(fault(&mut self.failures, &mut self.known, error)),
         };
         match one_count(rows.as_slice()) {
-            Ok(found) => Ok(found),
-            Err(error) => Err(fault(&mut self.failures, error)),
+            Ok(found) => {
+                self.known = self.known.with_count(parent, found);
+                Ok(found)
+            },
+            Err(error) => Err(fault(&mut self.failures, &mut self.known, error)),
         }
     }
 
@@ -178,11 +198,11 @@ impl<S: Alter> Shelf for SqlShelf<S> {
         let _outside = self.conn.is_autocommit();
         let rows = match reads::entry_rows(&mut self.conn, id) {
             Ok(rows) => rows,
-            Err(error) => return Err(fault(&mut self.failures, error)),
+            Err(error) => return Err(fault(&mut self.failures, &mut self.known, error)),
         };
         match all_entries(self.alloc, rows.as_slice()) {
             Ok(found) => Ok(found),
-            Err(error) => Err(fault(&mut self.failures, error)),
+            Err(error) => Err(fault(&mut self.failures, &mut self.known, error)),
         }
     }
 
@@ -202,7 +222,7 @@ impl<S: Alter> Shelf for SqlShelf<S> {
         let _outside = self.conn.is_autocommit();
         match deciding::decide_entries(self.alloc, &mut self.conn, id, subject, standing, wanted) {
             Ok(found) => Ok(found),
-            Err(error) => Err(fault(&mut self.failures, error)),
+            Err(error) => Err(fault(&mut self.failures, &mut self.known, error)),
         }
     }
 
@@ -217,11 +237,11 @@ impl<S: Alter> Shelf for SqlShelf<S> {
         let _outside = self.conn.is_autocommit();
         let rows = match reads::doc_rows(&mut self.conn, id) {
             Ok(rows) => rows,
-            Err(error) => return Err(fault(&mut self.failures, error)),
+            Err(error) => return Err(fault(&mut self.failures, &mut self.known, error)),
         };
         match one_doc(self.alloc, rows.as_slice()) {
             Ok(found) => Ok(found),
-            Err(error) => Err(fault(&mut self.failures, error)),
+            Err(error) => Err(fault(&mut self.failures, &mut self.known, error)),
         }
     }
 
@@ -236,11 +256,11 @@ impl<S: Alter> Shelf for SqlShelf<S> {
         let _outside = self.conn.is_autocommit();
         let rows = match reads::session_rows(&mut self.conn, sid.text()) {
             Ok(rows) => rows,
-            Err(error) => return Err(fault(&mut self.failures, error)),
+            Err(error) => return Err(fault(&mut self.failures, &mut self.known, error)),
         };
         match one_session(self.alloc, sid, rows.as_slice()) {
             Ok(found) => Ok(found),
-            Err(error) => Err(fault(&mut self.failures, error)),
+            Err(error) => Err(fault(&mut self.failures, &mut self.known, error)),
         }
     }
 
@@ -255,11 +275,11 @@ impl<S: Alter> Shelf for SqlShelf<S> {
         let _outside = self.conn.is_autocommit();
         let rows = match reads::slot_rows(&mut self.conn, sid.text(), slot) {
             Ok(rows) => rows,
-            Err(error) => return Err(fault(&mut self.failures, error)),
+            Err(error) => return Err(fault(&mut self.failures, &mut self.known, error)),
         };
         match one_kept(rows.as_slice()) {
             Ok(found) => Ok(found),
-            Err(error) => Err(fault(&mut self.failures, error)),
+            Err(error) => Err(fault(&mut self.failures, &mut self.known, error)),
         }
     }
 
@@ -273,11 +293,11 @@ impl<S: Alter> Shelf for SqlShelf<S> {
         let _outside = self.conn.is_autocommit();
         let rows = match reads::next_rows(&mut self.conn) {
             Ok(rows) => rows,
-            Err(error) => return Err(fault(&mut self.failures, error)),
+            Err(error) => return Err(fault(&mut self.failures, &mut self.known, error)),
         };
         match one_number(rows.as_slice()) {
             Ok(found) => Ok(found),
-            Err(error) => Err(fault(&mut self.failures, error)),
+            Err(error) => Err(fault(&mut self.failures, &mut self.known, error)),
         }
     }
 
@@ -301,8 +321,11 @@ impl<S: Alter> Shelf for SqlShelf<S> {
     {
         let _outside = self.conn.is_autocommit();
         match writes::commit(&mut self.conn, changes) {
-            Ok(()) => Ok(()),
-            Err(error) => Err(fault(&mut self.failures, error)),
+            Ok(()) => {
+                self.known = self.known.after(changes);
+                Ok(())
+            },
+            Err(error) => Err(fault(&mut self.failures, &mut self.known, error)),
         }
     }
 }

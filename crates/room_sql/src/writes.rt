@@ -16,6 +16,7 @@ ghost use Rattle.room_tables.specs.Steps.{Steps, Lists, MayBecome};
 ghost use Rattle.room_sql.specs.Causes.{statement, RunInTurn, writes_of, writes_of_all, entry_writes, entries_drop};
 ghost use Rattle.room_sql.specs.Causes.{IsShort, CommitFails};
 ghost use Rattle.room_sql.specs.Frames.{InsideFrame, CommitFrame};
+ghost use Rattle.room_sql.specs.NodeRows.{AfterAll};
 
 use crate::values::{
     entry_row, flag_number, group_text, kept_number, kept_reply, kept_request, kind_number,
@@ -300,6 +301,7 @@ fn add_entries<S: Alter>(
     ensures ran { HasCleanDisk (state S.Store tx.new.conn.now)
         → tx.old.conn.now.in_transaction ≡ true → length entries.now < 2 ^ 32
         → RunInTurn S.Store (entry_writes id 0 entries.now) tx.old.conn.now tx.new.conn.now result }
+    ensures short { OnOk result (length entries.now < 2 ^ 32) }
 {
     if u32::try_from(entries.len()).is_err() {
         return Err(Error::SqliteFailure(ErrorCode::TooBig));
@@ -326,6 +328,7 @@ pub(crate) fn put_entries<S: Alter>(
     ensures ran { HasCleanDisk (state S.Store tx.new.conn.now)
         → tx.old.conn.now.in_transaction ≡ true → length entries.now.items < 2 ^ 32
         → RunInTurn S.Store (writes_of (PutEntries id entries.now)) tx.old.conn.now tx.new.conn.now result }
+    ensures short { OnOk result (length entries.now.items < 2 ^ 32) }
 {
     clear_entries(tx, id)?;
     add_entries(tx, id, entries.as_slice())
@@ -428,6 +431,7 @@ fn apply<S: Alter>(tx: &mut Transaction<'_, S>, change: &Change) -> Result<(), E
         Steps (state S.Store tx.old.conn.now) (state S.Store tx.new.conn.now) (apply_change change.now)) }
     ensures ran { HasCleanDisk (state S.Store tx.new.conn.now) → tx.old.conn.now.in_transaction ≡ true
         → IsShort change.now → RunInTurn S.Store (writes_of change.now) tx.old.conn.now tx.new.conn.now result }
+    ensures short { OnOk result (IsShort change.now) }
 {
     match change {
         Change::PutNode(node) => put_node(tx, node),
@@ -449,6 +453,9 @@ fn apply_all<S: Alter>(tx: &mut Transaction<'_, S>, changes: &[Change]) -> Resul
         Steps (state S.Store tx.old.conn.now) (state S.Store tx.new.conn.now) (apply_changes changes.now)) }
     ensures ran { HasCleanDisk (state S.Store tx.new.conn.now) → AllByRecursion IsShort changes.now
         → RunInTurn S.Store (writes_of_all changes.now) tx.old.conn.now tx.new.conn.now result }
+    ensures nodes { HasCleanDisk (state S.Store tx.new.conn.now)
+        → OnOk result (IsRoomDatabase (state S.Store tx.old.conn.now).now → AfterAll changes.now
+        ((state S.Store tx.old.conn.now).now.trees 1) ((state S.Store tx.new.conn.now).now.trees 1)) }
 {
     for change in changes {
         apply(tx, change)?;
@@ -464,6 +471,8 @@ pub(crate) fn commit<S: Alter>(conn: &mut Connection<S>, changes: &[Change]) -> 
         → OnOk result (IsTrue (state S.Store conn.new).is_open × (IsRoomDatabase (state S.Store conn.old).now →
         IsRoomDatabase (state S.Store conn.new).now
         × MayBecome changes.now (state S.Store conn.old).now (state S.Store conn.new).now.trees)) }
+    ensures nodes { HasCleanDisk (state S.Store conn.new) → OnOk result (IsRoomDatabase (state S.Store conn.old).now
+        → AfterAll changes.now ((state S.Store conn.old).now.trees 1) ((state S.Store conn.new).now.trees 1)) }
     ensures version { HasCleanDisk (state S.Store conn.new) → OnOk result (IsRoomDatabase (state S.Store conn.old).now
         → IsVersion1 (version_rows (state S.Store conn.old).now.trees) →
         IsVersion1 (version_rows (state S.Store conn.new).now.trees)) }

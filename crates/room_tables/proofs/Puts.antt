@@ -307,7 +307,8 @@ with_two_truths true b h = with_truth b h
 with_two_truths false b h = h
 
 slot_conflict : (rowid : ℤ) (sid : List ℕ) (slot seq : ℕ) (request reply : List ℕ) (r : Row)
-    → conflicts (Some (1 ∷ 2 ∷ [])) room_schema.indexes slot_table (Int rowid ∷ slot_values sid slot seq request reply) r
+    → conflicts (Some (1 ∷ 2 ∷ [])) room_schema.indexes slot_table
+    (Int rowid ∷ slot_values sid slot seq request reply) r
     ≡ true → is_slot sid slot r ≡ true
 unfolding first_key
 slot_conflict rowid sid slot seq request reply r h = with_two_truths (has_text 1 sid r) (has 2 slot r) h

@@ -48,7 +48,8 @@ slots_apart sid q slot n r differs h = elim (cases_Bool (is_slot sid slot r)) [
       let name : q ≡ sid = has_text_one 1 q sid r (first_of_both _ _ h) (first_of_both _ _ also) in
       let number : n ≡ slot = has_one 2 n slot r (second_of_both _ _ h) (second_of_both _ _ also) in
       let test : (n == slot) ≡ true = Rattle.std.proofs.Common.eq-eqb n slot number in
-      absurd (true≢false (sym (both_true (bytes_eq q sid) (n == slot) ((bytes_eq-Decides q sid).1 name) test) ∙ differs))
+      absurd (true≢false
+      (sym (both_true (bytes_eq q sid) (n == slot) ((bytes_eq-Decides q sid).1 name) test) ∙ differs))
   | inr other ↦ other
 ]
 

@@ -1,6 +1,6 @@
 -- A column that has a number has no other.
-use Rattle.std.proofs.Common.{◌≡◌, ℕ, List, ℤ, pos, Bool, true, false, ◌||◌, ◌&&◌, cond, Some, refl, sym, ap, subst, ◌∙◌}
-use Rattle.std.proofs.Common.{Ordering, Less, Equal, Greater, is_eq, true≢false}
+use Rattle.std.proofs.Common.{◌≡◌, ℕ, List, ℤ, pos, Bool, true, false, ◌||◌, ◌&&◌, cond, Some, refl, sym, ap}
+use Rattle.std.proofs.Common.{subst, ◌∙◌, Ordering, Less, Equal, Greater, is_eq, true≢false}
 use Rattle.std.proofs.lemmas.Map.Lookups.{exact_signed, exact_bytes}
 use Rattle.std.proofs.lemmas.Cmp.{alike_right, tied_back, tied_itself}
 use Rattle.sqlite_value.specs.declared.value.Value.{Value}

@@ -82,6 +82,9 @@ fn number_for_new<S: Shelf>(shelf: &mut S, above: &LoadedObject) -> Result<u32, 
     check_children(count)?;
     let next = shelf.next_id()?;
     check_number(next)?;
+    // Lawful records have no node of this number. A shelf over tables learns so that no row has it, and need not count
+    // the folder again after this commit.
+    let _none = shelf.node(next)?;
     Ok(next)
 }
 

@@ -33,15 +33,16 @@ pub told : (p : ValueParser) (words : List Text) (e : Error) (f : WordsFault)
     → HasKind (fault_of (program_command p) words) e → TellsKind (kind_of e) f → ReadsWith p words (Err f)
 told p words e (Usage text) (inl m) k = absurd (k.1 m)
 told p words e (Usage text) (inr a) k = (kind_of e, a, k.0)
-told p words e (Help text) (inl m) k = cc (m, k)
-told p words e (Help text) (inr a) k = subst (λ (x : ErrorKind). IsAmong x (fault_of (program_command p) words)) k a
+told p words e (Help text) (inl m) (inl k) = cc (m, k)
+told p words e (Help text) (inl m) (inr k) = cc (m, k)
+told p words e (Help text) (inr a) k = (kind_of e, a, k)
 told p words e Memory h k = tt
 
 -- words that are not refused are refused for want of memory alone
 taken_refused : (p : ValueParser) (words : List Text) (job : Job) (f : WordsFault)
     → fault_of (program_command p) words ≡ [] → ReadsWith p words (Err f) → IsReadAs job (Err f)
 taken_refused p words job (Usage text) none r = subst (λ (ks : Kinds). IsAmong r.0 ks) none r.1
-taken_refused p words job (Help text) none r = subst (λ (ks : Kinds). IsAmong kind.DisplayHelp ks) none r
+taken_refused p words job (Help text) none r = subst (λ (ks : Kinds). IsAmong r.0 ks) none r.1
 taken_refused p words job Memory none r = tt
 
 check_passes : (p : ValueParser) → fault_of (program_command p) (codes "check" ∷ []) ≡ []

@@ -54,9 +54,14 @@ abbrev pub IsKindParser : ValueParser → Type 0
 IsKindParser (parser.Names names) = texts names.now ≡ codes "access" ∷ codes "lists" ∷ []
 IsKindParser other = ⊥
 
--- a subcommand is wanted, the words begin behind the program's name, and help is asked for by a flag
+-- a subcommand is wanted, the words begin behind the program's name, help is asked for by a flag, and so is the version
 abbrev pub top_settings : Shape → Shape
-top_settings s = record s { no_binary_name = true; subcommand_required = true; disable_help_subcommand = true }
+top_settings s = record s {
+  no_binary_name = true;
+  subcommand_required = true;
+  disable_help_subcommand = true;
+  has_version = true;
+}
 
 abbrev pub bare_program : App
 bare_program = on_top top_settings (new_app (codes "fileroom"))
@@ -112,10 +117,14 @@ IsRowOf row Selftest = row.0 ≡ codes "selftest"
 abbrev pub texts_of : List (String Global) → List Text
 texts_of words = map string_bytes words
 
+-- the words ask for a text: help, or the version
+abbrev pub IsAsked : ErrorKind → Type 0
+IsAsked k = (k ≡ kind.DisplayHelp) ⊎ (k ≡ kind.DisplayVersion)
+
 -- why the reader of command lines gave nothing, told as a fault of words
 abbrev pub TellsKind : ErrorKind → WordsFault → Type 0
-TellsKind k (Usage text) = (k ≡ kind.DisplayHelp → ⊥) × (k ≡ kind.OutOfMemory → ⊥)
-TellsKind k (Help text) = k ≡ kind.DisplayHelp
+TellsKind k (Usage text) = (IsAsked k → ⊥) × (k ≡ kind.OutOfMemory → ⊥)
+TellsKind k (Help text) = IsAsked k
 TellsKind k Memory = Unit {0}
 
 -- what the words are read as, where KIND is read by this parser
@@ -123,11 +132,12 @@ abbrev pub ReadsWith : ValueParser → List Text → Result Job WordsFault → T
 -- they name a row of the table
 ReadsWith p words (Ok job) = (row : Text × List Row) × (fault_of (program_command p) words ≡ [])
     × (subcommand_of (program_command p) words ≡ Some row) × IsRowOf row job
--- they are refused, and not for help
+-- they are refused, and not because they ask for a text
 ReadsWith p words (Err (Usage text)) =
-    (k : ErrorKind) × IsAmong k (fault_of (program_command p) words) × (k ≡ kind.DisplayHelp → ⊥)
--- they ask for help
-ReadsWith p words (Err (Help text)) = IsAmong kind.DisplayHelp (fault_of (program_command p) words)
+    (k : ErrorKind) × IsAmong k (fault_of (program_command p) words) × (IsAsked k → ⊥)
+-- they ask for help, or for the version
+ReadsWith p words (Err (Help text)) =
+    (k : ErrorKind) × IsAmong k (fault_of (program_command p) words) × IsAsked k
 ReadsWith p words (Err Memory) = Unit {0}
 
 abbrev pub ReadsAs : List Text → Result Job WordsFault → Type 0

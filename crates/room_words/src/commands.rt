@@ -8,6 +8,13 @@ use clap::builder::ValueParser;
 use clap::{Arg, Command};
 use std::alloc::{AllocError, Global};
 
+/// What `--version` tells; docs/CHANGES.md says what each version changed.
+const VERSION: &str = "0.2.0";
+
+const AFTER_HELP: &str = "A value that begins with - is written behind --.
+
+Exit statuses: 0 done, or help was shown; 1 a fault, told in a line; 2 other words.";
+
 static KINDS: [&str; 2] = ["access", "lists"];
 
 /// What KIND may be.
@@ -17,20 +24,64 @@ pub(crate) fn kind_parser() -> ValueParser<'static>
     ValueParser::Names(KINDS.as_slice())
 }
 
-/// A value that must be there.
-fn value<'a>(alloc: Global, name: &'a str) -> Arg<'a>
+/// A value that must be there, with its line of help.
+fn value<'a>(alloc: Global, name: &'a str, help: &'a str) -> Arg<'a>
     ensures rule { rule_of result ≡ value_rule name.entry.now }
     ensures local { result.global ≡ false }
 {
-    Arg::new(alloc, name).required(true)
+    Arg::new(alloc, name).required(true).help(help)
+}
+
+fn database<'a>(alloc: Global) -> Arg<'a>
+    ensures rule { rule_of result ≡ value_rule (codes "DB") }
+    ensures local { result.global ≡ false }
+{
+    value(
+        alloc,
+        "DB",
+        "The room's file; its log lies beside it, as DB-wal",
+    )
+}
+
+fn roster<'a>(alloc: Global) -> Arg<'a>
+    ensures rule { rule_of result ≡ value_rule (codes "ROSTER") }
+    ensures local { result.global ≡ false }
+{
+    value(
+        alloc,
+        "ROSTER",
+        "The users and their groups: a TOML file with one table, users",
+    )
+}
+
+fn owner<'a>(alloc: Global) -> Arg<'a>
+    ensures rule { rule_of result ≡ value_rule (codes "OWNER") }
+    ensures local { result.global ≡ false }
+{
+    value(
+        alloc,
+        "OWNER",
+        "The user who owns the root: 1 to 32 letters, digits, '.', '_' or '-'",
+    )
+}
+
+fn group<'a>(alloc: Global) -> Arg<'a>
+    ensures rule { rule_of result ≡ value_rule (codes "GROUP") }
+    ensures local { result.global ≡ false }
+{
+    value(
+        alloc,
+        "GROUP",
+        "The root's group: 1 to 32 letters, digits, '.', '_' or '-'",
+    )
 }
 
 /// A value that must be there, and be as the parser says.
-fn parsed<'a>(alloc: Global, name: &'a str, parser: ValueParser<'a>) -> Arg<'a>
+fn parsed<'a>(alloc: Global, name: &'a str, help: &'a str, parser: ValueParser<'a>) -> Arg<'a>
     ensures rule { rule_of result ≡ parsed_rule name.entry.now parser.entry }
     ensures local { result.global ≡ false }
 {
-    value(alloc, name).value_parser(parser)
+    value(alloc, name, help).value_parser(parser)
 }
 
 fn init<'a>(alloc: Global) -> Result<Command<'a>, AllocError>
@@ -38,9 +89,9 @@ fn init<'a>(alloc: Global) -> Result<Command<'a>, AllocError>
 {
     Command::new(alloc, "init")
         .about("Makes a room in the file DB")
-        .arg(value(alloc, "DB"))?
-        .arg(value(alloc, "OWNER"))?
-        .arg(value(alloc, "GROUP"))
+        .arg(database(alloc))?
+        .arg(owner(alloc))?
+        .arg(group(alloc))
 }
 
 fn replay<'a>(alloc: Global) -> Result<Command<'a>, AllocError>
@@ -48,20 +99,30 @@ fn replay<'a>(alloc: Global) -> Result<Command<'a>, AllocError>
 {
     Command::new(alloc, "replay")
         .about("Answers requests to a fresh room in memory, from standard input to standard output")
-        .arg(value(alloc, "ROSTER"))?
-        .arg(value(alloc, "OWNER"))?
-        .arg(value(alloc, "GROUP"))
+        .arg(roster(alloc))?
+        .arg(owner(alloc))?
+        .arg(group(alloc))
 }
 
 fn serve<'a>(alloc: Global) -> Result<Command<'a>, AllocError>
     ensures { IfOk result (IsCommand serve_command) }
 {
-    let port = parsed(alloc, "PORT", ValueParser::Signed(1, 65535));
-    let count = parsed(alloc, "COUNT", ValueParser::Signed(1, 4294967295));
+    let port = parsed(
+        alloc,
+        "PORT",
+        "The port of 127.0.0.1 to listen on, 1 to 65535",
+        ValueParser::Signed(1, 65535),
+    );
+    let count = parsed(
+        alloc,
+        "COUNT",
+        "How many connections are served before the program ends, 1 to 4294967295",
+        ValueParser::Signed(1, 4294967295),
+    );
     Command::new(alloc, "serve")
         .about("Serves the room in the file DB on 127.0.0.1, COUNT connections one after another")
-        .arg(value(alloc, "DB"))?
-        .arg(value(alloc, "ROSTER"))?
+        .arg(database(alloc))?
+        .arg(roster(alloc))?
         .arg(port)?
         .arg(count)
 }
@@ -71,9 +132,14 @@ fn report<'a>(alloc: Global, kind: ValueParser<'a>) -> Result<Command<'a>, Alloc
 {
     Command::new(alloc, "report")
         .about("Writes a report of the room in the file DB; KIND is access or lists")
-        .arg(value(alloc, "DB"))?
-        .arg(value(alloc, "ROSTER"))?
-        .arg(parsed(alloc, "KIND", kind))
+        .arg(database(alloc))?
+        .arg(roster(alloc))?
+        .arg(parsed(
+            alloc,
+            "KIND",
+            "What each user may do with each object, or the list of each object",
+            kind,
+        ))
 }
 
 fn check<'a>(alloc: Global) -> Command<'a>
@@ -95,8 +161,9 @@ fn program<'a>(alloc: Global) -> Command<'a>
     ensures { IsCommand bare_program result }
 {
     Command::new(alloc, "fileroom")
+        .version(VERSION)
         .about("A shared room of folders and documents with inherited access lists")
-        .after_help("A value that begins with - is written behind --.")
+        .after_help(AFTER_HELP)
         .no_binary_name(true)
         .subcommand_required(true)
         .disable_help_subcommand(true)

@@ -7,7 +7,7 @@ pub enum WordsFault {
     /// The words are not as the table has them; the text says what is wrong.
     #[error("{0}")]
     Usage(String),
-    /// The words ask for help; the text is the help.
+    /// The words ask for help, or for the version; the text is what they ask for.
     #[error("{0}")]
     Help(String),
     /// Want of memory.

@@ -35,13 +35,15 @@ fn words_fault(alloc: Global, error: &Error) -> WordsFault
     }
     match error.to_string(alloc) {
         Err(_) => WordsFault::Memory,
-        Ok(text) if kind == ErrorKind::DisplayHelp => WordsFault::Help(text),
+        Ok(text) if kind == ErrorKind::DisplayHelp || kind == ErrorKind::DisplayVersion => {
+            WordsFault::Help(text)
+        }
         Ok(text) => WordsFault::Usage(text),
     }
 }
 
-/// Reads the words behind the program's name. Help is asked for by `-h` or `--help`. A value that
-/// begins with `-` is to be written behind `--`.
+/// Reads the words behind the program's name. Help is asked for by `-h` or `--help`, the version by `-V` or
+/// `--version`. A value that begins with `-` is to be written behind `--`.
 pub fn read_words(alloc: Global, words: &[String]) -> Result<Job, WordsFault>
     ensures reads { ReadsAs (texts_of words.now) result }
 

@@ -4,7 +4,7 @@ use crate::lists::LONGEST;
 use room_acl::{Decision, Entry, Flags, Mask, Standing, Who};
 use room_records::{Change, Shelf, ShelfFault};
 use room_sql::SqlShelf;
-use sqlite::MemStore;
+use sqlite::{Alter, Connection, MemStore};
 use std::alloc::Global;
 use std::test::Fail;
 use test_stores::{in_tables, taken};
@@ -121,21 +121,32 @@ fn long_list(alloc: Global, place: usize) -> Result<Vec<Entry>, Fail> {
     Ok(entries)
 }
 
-/// Whether the root's list lets this user write.
-fn may_write<S: Shelf>(alloc: Global, shelf: &mut S, user: &str) -> Result<bool, Fail> {
+/// What the root's list decides where this user would write.
+fn decision<S: Shelf>(
+    alloc: Global,
+    shelf: &mut S,
+    user: &str,
+) -> Result<Result<Decision, ShelfFault>, Fail> {
     let standing = Standing {
         owner: named(alloc, "ann")?,
         group: named(alloc, "eng")?,
     };
     let wanted = Mask::new(2).ok_or("no mask")?;
-    Ok(shelf.decide_at(1, &subject(alloc, user)?, &standing, wanted)? == Decision::Allowed)
+    Ok(shelf.decide_at(1, &subject(alloc, user)?, &standing, wanted))
+}
+
+/// The root gets the list that lets bob write at this place.
+fn put_long_list<S: Shelf>(alloc: Global, shelf: &mut S, place: usize) -> Result<(), Fail> {
+    let changes = vec![in alloc; Change::PutEntries(1, long_list(alloc, place)?)]?;
+    Ok(shelf.commit(changes.as_slice())?)
 }
 
 /// Where the root has the list that lets bob write at this place, bob may, and eve may not.
 fn is_decided<S: Shelf>(alloc: Global, shelf: &mut S, place: usize) -> Result<bool, Fail> {
-    let changes = vec![in alloc; Change::PutEntries(1, long_list(alloc, place)?)]?;
-    shelf.commit(changes.as_slice())?;
-    Ok(may_write(alloc, shelf, "bob")? && !may_write(alloc, shelf, "eve")?)
+    put_long_list(alloc, shelf, place)?;
+    let bob = decision(alloc, shelf, "bob")?;
+    let eve = decision(alloc, shelf, "eve")?;
+    Ok(bob? == Decision::Allowed && eve? != Decision::Allowed)
 }
 
 /// The first entry, one in the middle, and the last.
@@ -148,6 +159,53 @@ fn any_entry_of_the_longest_list_decides(rt: HostRuntime) -> Result<(), Fail> {
     for place in &PLACES {
         assert!(rt; is_decided(rt.alloc(), &mut tables, *place)?);
         assert!(rt; is_decided(rt.alloc(), &mut memory, *place)?);
+    }
+    Ok(())
+}
+
+/// What is decided of bob's right to write, where the entry at a place gives it and each query may take so many
+/// steps: a row that is fetched takes two, and three come on top.
+static STEPS: [(usize, u64, &str); 7] = [
+    (0, 3, "A"),
+    (1, 4, "S"),
+    (1, 5, "A"),
+    (272, 546, "S"),
+    (272, 547, "A"),
+    (543, 1088, "S"),
+    (543, 1089, "A"),
+];
+
+/// A room whose queries may take so many steps.
+fn limited<S: Alter + Drop>(
+    alloc: Global,
+    conn: Connection<S>,
+    steps: u64,
+) -> Result<SqlShelf<S>, Fail> {
+    let mut conn = conn;
+    conn.set_step_limit(Some(steps));
+    taken(alloc, conn)
+}
+
+/// What is decided of the list that lets bob write at this place.
+fn decided_in<S: Alter + Drop>(
+    alloc: Global,
+    shelf: SqlShelf<S>,
+    place: usize,
+    steps: u64,
+) -> Result<&'static str, Fail> {
+    let mut shelf = shelf;
+    put_long_list(alloc, &mut shelf, place)?;
+    let mut shelf = limited(alloc, shelf.into_connection(), steps)?;
+    Ok(letter(&decision(alloc, &mut shelf, "bob")?))
+}
+
+/// A body that fetches a row more than it needs is interrupted, and so is one that fetches all of them.
+#[test]
+fn rows_behind_the_deciding_one_are_not_fetched(rt: HostRuntime) -> Result<(), Fail> {
+    for (place, steps, wanted) in STEPS {
+        let shelf = in_tables(rt.alloc())?;
+        let got = decided_in(rt.alloc(), shelf, place, steps)?;
+        assert!(rt; got == wanted, "at {place} within {steps} steps: {got}");
     }
     Ok(())
 }

@@ -9,7 +9,7 @@ use Rattle.room_program.proofs.running.run_job.Goals as goal
 pub returns-in-Init : goal.returns-in-Init
 returns-in-Init g c =
     let m = means g.M.Machine.does g.M.Listener.accepts g.M.Listener.fails
-    (λ (opened : Held g.row.S.Denot) (shelf : SqlShelf g.row.S.Denot g.S.Store). Adopted g.S.Store opened shelf.conn)
+    (λ (opened : Held g.row.S.Denot) (shelf : SqlShelf g.row.S.Denot g.S.Store). Adopted g.S.Store opened shelf)
     (λ (shelf : SqlShelf g.row.S.Denot g.S.Store). shelf.conn)
     (Made g.S.Store) (IsTaken {S = g.row.S.Denot}) (sql_view g.S.Store) in
     ran_init m c.args.machine.now c.run_init.new.machine c.args.job.now
@@ -21,7 +21,7 @@ returns-in-Init g c =
 pub returns-in-Report : goal.returns-in-Report
 returns-in-Report g c =
     let m = means g.M.Machine.does g.M.Listener.accepts g.M.Listener.fails
-    (λ (opened : Held g.row.S.Denot) (shelf : SqlShelf g.row.S.Denot g.S.Store). Adopted g.S.Store opened shelf.conn)
+    (λ (opened : Held g.row.S.Denot) (shelf : SqlShelf g.row.S.Denot g.S.Store). Adopted g.S.Store opened shelf)
     (λ (shelf : SqlShelf g.row.S.Denot g.S.Store). shelf.conn)
     (Made g.S.Store) (IsTaken {S = g.row.S.Denot}) (sql_view g.S.Store) in
     ran_report m c.args.machine.now c.run_report.new.machine c.args.job.now
@@ -33,7 +33,7 @@ returns-in-Report g c =
 pub returns-in-Replay : goal.returns-in-Replay
 returns-in-Replay g c =
     let m = means g.M.Machine.does g.M.Listener.accepts g.M.Listener.fails
-    (λ (opened : Held g.row.S.Denot) (shelf : SqlShelf g.row.S.Denot g.S.Store). Adopted g.S.Store opened shelf.conn)
+    (λ (opened : Held g.row.S.Denot) (shelf : SqlShelf g.row.S.Denot g.S.Store). Adopted g.S.Store opened shelf)
     (λ (shelf : SqlShelf g.row.S.Denot g.S.Store). shelf.conn)
     (Made g.S.Store) (IsTaken {S = g.row.S.Denot}) (sql_view g.S.Store) in
     ran_replay m c.args.machine.now c.run_replay.new.machine c.args.job.now
@@ -47,7 +47,7 @@ returns-in-Replay g c =
 pub returns-in-Serve : goal.returns-in-Serve
 returns-in-Serve g c =
     let m = means g.M.Machine.does g.M.Listener.accepts g.M.Listener.fails
-    (λ (opened : Held g.row.S.Denot) (shelf : SqlShelf g.row.S.Denot g.S.Store). Adopted g.S.Store opened shelf.conn)
+    (λ (opened : Held g.row.S.Denot) (shelf : SqlShelf g.row.S.Denot g.S.Store). Adopted g.S.Store opened shelf)
     (λ (shelf : SqlShelf g.row.S.Denot g.S.Store). shelf.conn)
     (Made g.S.Store) (IsTaken {S = g.row.S.Denot}) (sql_view g.S.Store) in
     ran_serve m c.args.machine.now c.run_serve.new.machine c.args.job.now

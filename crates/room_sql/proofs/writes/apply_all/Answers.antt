@@ -5,7 +5,9 @@ use Rattle.sqlite.specs.State.{HasCleanDisk}
 use Rattle.sqlite.specs.Held.{state}
 use Rattle.room_tables.proofs.Effects.{steps_more}
 use Rattle.room_sql.specs.Causes.{RunInTurn, IsShort, writes_of, writes_of_all}
+use Rattle.room_sql.specs.NodeRows.{AfterAll}
 use Rattle.room_sql.proofs.Frames.{inside_then, inside_passed}
+use Rattle.room_sql.proofs.NodeRows.{nodes_after, nodes_then}
 use Rattle.room_sql.proofs.Turns.{turn_none, turn_then, turn_passed, next_change, no_more}
 use Rattle.room_sql.proofs.writes.apply_all.Goals as goal
 
@@ -24,6 +26,19 @@ loop-change-preserved g c =
           (take_more c.args.changes.now c.loop-change.change-index c.change-item.result (omega arith)
           ∙ ap (λ x. take c.loop-change.change-index c.args.changes.now ++ x ∷ []) (sym c.change-item.is))
           was (c.in_ok-apply.ensures.ok clean was.room);
+      nodes = λ clean room.
+          let xs = c.args.changes.now in
+          let k = c.loop-change.change-index in
+          let item = c.change-item.result in
+          let inv = c.loop-change.invariant in
+          let early : HasCleanDisk mid = omega (arith, c.apply.ensures.frame.crash.clean) in
+          let one = nodes_after g.S.Store item c.loop-change.tx.conn.now c.apply.new.tx.conn.now
+          (inv.done early room).room
+          (c.in_ok-apply.ensures.ran clean (inv.frame.inside early) c.in_ok-apply.ensures.short) in
+          subst (λ l. AfterAll l (old.now.trees 1) (new.now.trees 1))
+          (sym (take_more xs k item (omega arith) ∙ ap (λ x. take k xs ++ x ∷ []) (sym c.change-item.is)))
+          (nodes_then (take k xs) item (old.now.trees 1) (mid.now.trees 1) (new.now.trees 1)
+          (inv.nodes early room) one);
       ran = λ clean short end out after.
           let midh = c.loop-change.tx.conn.now in
           let newh = c.apply.new.tx.conn.now in

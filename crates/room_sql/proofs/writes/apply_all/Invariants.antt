@@ -8,6 +8,7 @@ use Rattle.room_tables.specs.Layout.{IsRoomDatabase}
 use Rattle.room_tables.specs.Steps.{Steps}
 use Rattle.room_sql.specs.Causes.{RunInTurn, writes_of_all, IsShort}
 use Rattle.room_sql.specs.Frames.{InsideFrame}
+use Rattle.room_sql.specs.NodeRows.{AfterAll}
 use Rattle.room_sql.proofs.writes.apply_all.Given as goal
 
 abbrev pub invariant-loop-change : goal.invariant-loop-change
@@ -17,6 +18,8 @@ invariant-loop-change g l =
     record {
       frame : InsideFrame g.S.Store {T = Unit {0}} l.fn.tx l.tx (Ok tt);
       done : HasCleanDisk now → IsRoomDatabase old.now → Steps old now (apply_changes (take l.change-index l.changes));
+      nodes : HasCleanDisk now → IsRoomDatabase old.now
+          → AfterAll (take l.change-index l.changes) (old.now.trees 1) (now.now.trees 1);
       -- what the statements of the rest make of it, those of all make of the start
       ran : HasCleanDisk now → AllByRecursion IsShort l.changes → (end : Held _) (out : Result (Unit {0}) Error)
           → RunInTurn g.S.Store (writes_of_all (drop l.change-index l.changes)) l.tx.conn.now end out

@@ -33,11 +33,12 @@ returns-in_err-check_number-clause-value g c = λ available laid_out t e room st
 
 pub returns-clause-value : goal.returns-clause-value
 returns-clause-value g c = λ available laid_out t e room stand folder found.
-    let before = c.next_id.ensures.frame.call.was_available available in
+    let numbered = c.node.ensures.frame.call.was_available available in
+    let before = c.next_id.ensures.frame.call.was_available numbered in
     let declared = c.count_children.ensures.frame.call.laid_out before laid_out in
     let same = ap (λ (r : Records). r.objects) (c.count_children.ensures.frame.same before laid_out) ∙ e in
     let count = c.in_ok-count.ensures.value before laid_out t e room stand folder found in
-    let next = c.in_ok-next.ensures.value available declared ∙ ap (λ (r : ObjectRecords). r.next) same in (
+    let next = c.in_ok-next.ensures.value numbered declared ∙ ap (λ (r : ObjectRecords). r.next) same in (
       skip (check_folder_full room folder) (check_room_full room ∷ [])
           (ap (λ n. refuse_if (nat_le max_children n) FolderFull) (sym count) ∙ sym c.in_ok-check_children.ensures)
           ∙ first_alone (check_room_full room)

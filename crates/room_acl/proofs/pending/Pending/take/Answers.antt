@@ -9,7 +9,7 @@ of_named-self-inside-requires c =
 
 pub returns-after-not-allow-clause-bits : goal.returns-after-not-allow-clause-bits
 returns-after-not-allow-clause-bits c = λ entries bit.
-    let on = sym c.applies.ensures ∙ c.if-applies.true in
+    let on = sym c.applies-counts.ensures ∙ c.if-counts.true in
     elim c.if-not-allow.branch [
       | then-not-allow w ↦ rw (w.self-inside-is, c.of_named-self-inside.ensures, ← c.self.view_is)
           (rw (c.bits.ensures.value, c.mask.ensures, c.bits-left.ensures.value)
@@ -26,7 +26,7 @@ returns-after-not-allow-clause-answers c = λ entries. same_decision _ _ (return
 
 pub returns-after-not-allow-clause-left : goal.returns-after-not-allow-clause-left
 returns-after-not-allow-clause-left c = λ bit.
-    let on = sym c.applies.ensures ∙ c.if-applies.true in
+    let on = sym c.applies-counts.ensures ∙ c.if-counts.true in
     rw (c.of_named-self-inside.ensures, ← c.self.view_is)
     (rw (c.bits.ensures.value, c.mask.ensures, c.bits-left.ensures.value)
     (left_taken c.args.entry.now c.args.subject.now c.args.standing.now c.self.inside.left bit on))

@@ -6,4 +6,5 @@ use Rattle.room_sql.proofs.sql_shelf.SqlShelf.init.Goals as goal
 -- the shelf holds the connection in which the room was made
 pub returns-in-Ok-clause-fresh : goal.returns-in-Ok-clause-fresh
 returns-in-Ok-clause-fresh g c clean =
-    rw c.over.ensures.0 (c.in-Ok.ensures.ok (subst (λ h. HasCleanDisk (state g.S.Store h)) c.over.ensures.0 clean))
+    let same = c.over.ensures.new.0 in
+    rw same (c.in-Ok.ensures.ok (subst (λ h. HasCleanDisk (state g.S.Store h)) same clean))

@@ -8,4 +8,4 @@ pub returns-in-Ok-clause-settled : goal.returns-in-Ok-clause-settled
 returns-in-Ok-clause-settled g c clean laid_out rules left may =
     may.1.2 ∙ ap records_of (g.met.S.Store.settled c.commit.new.conn.store may.1.0 (c.in-Ok.ensures.ok clean).0 may.1.1
     ∙ ap (λ (d : Database). d.trees) (c.in-Ok.ensures.frame.settled clean))
-    ∙ ((c.in-Ok.ensures.ok clean).1 laid_out.room).1 laid_out.room
+    ∙ ((c.in-Ok.ensures.ok clean).1 laid_out.0.room).1 laid_out.0.room

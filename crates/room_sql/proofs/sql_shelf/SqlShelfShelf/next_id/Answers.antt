@@ -7,4 +7,4 @@ use Rattle.room_sql.proofs.sql_shelf.SqlShelfShelf.next_id.Goals as goal
 pub returns-in-Ok-one_number-clause-value : goal.returns-in-Ok-one_number-clause-value
 returns-in-Ok-one_number-clause-value g c available laid_out =
     c.in-Ok-one_number.ensures.value ∙ ap (λ o. unwrap_or (option_map (λ row. number_in (column row 0)) o) 0)
-    (ap only c.as_slice.ensures.value ∙ only_permuted _ _ (c.in-Ok.ensures.rows available.0 laid_out.room.schema))
+    (ap only c.as_slice.ensures.value ∙ only_permuted _ _ (c.in-Ok.ensures.rows available.0 laid_out.0.room.schema))

@@ -1,0 +1,51 @@
+-- The owner of an object can always read its list and set it.
+use Rattle.std.proofs.Common.{◌≡◌, ℕ, refl, ap, ◌∙◌, true, List, ◌∷◌, Option, None, Some}
+use Rattle.std.specs.Prelude.{is_some, not}
+use Rattle.room_acl.specs.SubjectModel.{SubjectModel}
+use Rattle.room_acl.specs.Entries.{EntryModel}
+use Rattle.room_acl.specs.Bits.{read_acl, write_acl}
+use Rattle.room_acl.specs.Access.{decision, is_owner}
+use Rattle.room_acl.specs.Inheritance.{own_entries_fault}
+use Rattle.room_acl.specs.declared.access.Decision.TheVariants.{Allowed}
+use Rattle.room_acl.proofs.OwnerRights.{owner_reads, owner_writes}
+use Rattle.room_records.specs.Names.{Path}
+use Rattle.room_records.specs.Room.{Object, Room, object_at, list_of, standing_of}
+use Rattle.room_commands.specs.CommandModel as C
+use Rattle.room_commands.specs.declared.reply.RefusalCode.TheVariants.{NoEnt}
+use Rattle.room_commands.specs.ReplyModel.{Refusal, Entries, Done}
+use Rattle.room_commands.specs.SetList.{own_entries_of_setlist}
+use Rattle.room_commands.specs.Checks.{first_refusal, check_right, right_on, denied_at, walk, refuse_if, check_lawful}
+use Rattle.room_commands.specs.Checks.{kind_of}
+use Rattle.room_commands.specs.Effect.{effect, effect_by, or_no_object}
+
+-- checks none of which refuses
+pass : (a : Option Refusal) (others : List (Option Refusal)) → a ≡ None
+    → first_refusal others ≡ None → first_refusal (a ∷ others) ≡ None
+pass a others is rest = ap (λ x. first_refusal (x ∷ others)) is ∙ rest
+
+module _ (room : Room) (caller : SubjectModel) (path : Path) (o : Object)
+    (there : object_at room path ≡ Some o) (way : walk room caller path ≡ None) where
+  right : (mask : ℕ) → decision (list_of room path) caller (standing_of o) mask ≡ Allowed
+      → check_right room caller path mask ≡ None
+  right mask allowed = ap (λ found. right_on room caller path mask found) there ∙ ap (λ d. denied_at path d) allowed
+
+  exists : refuse_if (not (is_some (object_at room path))) NoEnt ≡ None
+  exists = ap (λ found. refuse_if (not (is_some found)) NoEnt) there
+
+  pub owner_gets : is_owner caller (standing_of o) ≡ true
+      → (effect room caller (C.GetList path)).reply ≡ Entries o.aclflag (list_of room path)
+  owner_gets owns =
+      ap (λ refused. (effect_by room caller (C.GetList path) refused).reply)
+      (pass (walk room caller path) _ way (pass _ _ exists
+      (pass _ _ (right read_acl (owner_reads (list_of room path) caller (standing_of o) owns)) refl)))
+      ∙ ap (λ found. Entries (or_no_object found).aclflag (list_of room path)) there
+
+  pub owner_sets : (aclflag : ℕ) (entries : List EntryModel) → is_owner caller (standing_of o) ≡ true
+      → own_entries_fault (own_entries_of_setlist path aclflag entries) o.kind ≡ None
+      → (effect room caller (C.SetList aclflag entries path)).reply ≡ Done
+  owner_sets aclflag entries owns lawful =
+      ap (λ refused. (effect_by room caller (C.SetList aclflag entries path) refused).reply)
+      (pass (walk room caller path) _ way (pass _ _ exists
+      (pass _ _ (right write_acl (owner_writes (list_of room path) caller (standing_of o) owns))
+      (pass _ _ (ap (λ found. check_lawful (own_entries_fault (own_entries_of_setlist path aclflag entries)
+      (kind_of found))) there ∙ ap (λ fault. check_lawful fault) lawful) refl))))

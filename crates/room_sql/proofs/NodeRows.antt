@@ -1,0 +1,167 @@
+-- What the statements of a change do to the rows of nodes.
+use Rattle.std.proofs.Common.{◌≡◌, ◌∙◌, ◌+◌, ◌==◌, ℕ, pos, Bool, true, false, List, [], ◌∷◌, ◌++◌, length, filter}
+use Rattle.std.proofs.Common.{Option, None, Some, unwrap_or, Ok, inl, inr, refl, sym, ap, subst, is_eq, eq-eqb, arith}
+use Rattle.std.proofs.Common.{if◌then◌else◌}
+use Rattle.std.proofs.lemmas.Bool.{cases_Bool, cases_eq}
+use Rattle.std.proofs.lemmas.Bool.Decides.{nat_tests}
+use Rattle.std.proofs.lemmas.List.Sorted.{length_permutation}
+use Rattle.sqlite_value.specs.declared.value.Value.TheVariants.{Int, Text, Blob}
+use Rattle.sqlite_value.specs.Order.{Row, column, value_cmp}
+use Rattle.sqlite_value.proofs.OrderLemmas.{value_cmp-Null}
+use Rattle.sqlite_trees.specs.Tree.{Trees, without_rowid, has_rowid}
+use Rattle.sqlite_trees.specs.declared.store.Store.{Ghosts}
+use Rattle.sqlite_keyed.proofs.ListLemmas.{IsPermutation-filter}
+use Rattle.sqlite_rules.specs.Lists.{Has}
+use Rattle.sqlite_rules.proofs.ListLemmas.{has_kept}
+use Rattle.sqlite.specs.State.{ExecutesInside}
+use Rattle.sqlite.specs.Held.{Held, state}
+use Rattle.room_acl.specs.Entries.{EntryModel}
+use Rattle.room_records.specs.declared.change.Change.{Change}
+use Rattle.room_records.specs.declared.change.Change.TheVariants.{PutNode, DropNode, PutEntries, PutDoc, PutSession}
+use Rattle.room_records.specs.declared.change.Change.TheVariants.{PutSlot, DropSlots, PutNext}
+use Rattle.room_tables.specs.Tables.{room_schema}
+use Rattle.room_tables.specs.Rows.{has}
+use Rattle.room_tables.specs.Layout.{IsRoomDatabase, parent_value}
+use Rattle.room_tables.specs.Steps.{kind_number, flag_of}
+use Rattle.room_tables.specs.Texts.{put_node_text, drop_entries_text, add_entry_text, add_two_text, add_three_text}
+use Rattle.room_tables.specs.Texts.{add_four_text, put_doc_text, put_session_text, put_slot_text, drop_slots_text}
+use Rattle.room_tables.specs.Texts.{put_next_text}
+use Rattle.room_tables.proofs.Changes.{executes_inside}
+use Rattle.room_tables.proofs.Upserts.{Put}
+use Rattle.room_tables.proofs.Puts.{stored_node, node_params, slot_values, puts_node, puts_doc, puts_next, puts_session}
+use Rattle.room_tables.proofs.Puts.{puts_slot}
+use Rattle.room_tables.proofs.Takes.{drops_entries, drops_slots, AddsEntries, bound_entries, adds_one, adds_two}
+use Rattle.room_tables.proofs.Takes.{adds_three, adds_four}
+use Rattle.room_tables.proofs.Filters.{put_is_one_more, others_left_on, not_both}
+use Rattle.room_tables.proofs.Values.{int_has, has_is}
+use Rattle.room_sql.specs.Causes.{statement, RunInTurn, writes_of, entry_writes}
+use Rattle.room_sql.specs.NodeRows.{HasNone, HasOneMore, is_parent, After, AfterAll}
+
+-- ---- a node where no row has its number
+
+-- a row is in the folder that is its parent
+is_in : (parent : Option ℕ) (folder : ℕ) (row : Row) → column row 2 ≡ parent_value parent
+    → has 2 folder row ≡ is_parent parent folder
+is_in None folder row is = has_is 2 folder row ∙ ap (λ v. is_eq (value_cmp v (Int (pos folder)))) is
+    ∙ ap is_eq (value_cmp-Null (Int (pos folder)))
+is_in (Some parent) folder row is = elim (cases_eq parent folder) [
+  | inl same ↦ int_has 2 folder row (is ∙ ap (λ n. Int (pos n)) same) ∙ sym (eq-eqb parent folder same)
+  | inr apart ↦
+      let test : (parent == folder) ≡ false = grind (arith, nat_tests) in
+      not_both 2 folder parent row apart (int_has 2 parent row is) ∙ sym test
+]
+
+one_counted : (p : Row → Bool) (r : Row) (rows : List Row) (b : Bool) → p r ≡ b
+    → length (filter p (r ∷ rows)) ≡ length (filter p rows) + (if b then 1 else 0)
+one_counted p r rows true is = rw is (omega arith)
+one_counted p r rows false is = rw is (omega arith)
+
+one_more : (id : ℕ) (parent : Option ℕ) (row : Row) (db next : Trees) → column row 2 ≡ parent_value parent
+    → Put 1 db next (λ r. r ≡ row) (λ r. has 0 id r ≡ true) → HasNone id (db 1) → HasOneMore parent (db 1) (next 1)
+one_more id parent row db next is it none folder =
+    ap (λ l. length (filter (has 2 folder) l)) it.rows
+    ∙ sym (length_permutation _ _ (IsPermutation-filter (has 2 folder) _ _ (put_is_one_more it.row left it.free)))
+    ∙ one_counted (has 2 folder) it.row left (is_parent parent folder)
+    (is_in parent folder it.row (ap (λ (r : Row). column r 2) it.fits ∙ is))
+    ∙ ap (λ (l : List Row). length l + (if is_parent parent folder then 1 else 0))
+    (others_left_on (has_rowid it.id) (has 2 folder) (db 1) (λ r there h. stays r there))
+  where
+    left : List Row
+    left = without_rowid it.id (db 1)
+
+    stays : (r : Row) → Has (db 1) r → has_rowid it.id r ≡ false
+    stays r there = elim (cases_Bool (has_rowid it.id r)) [
+      | inl gone ↦ absurd (subst (λ l. Has l r) none (has_kept (has 0 id) (db 1) r there (it.gone r there gone)))
+      | inr other ↦ other
+    ]
+
+-- ---- statements in turn
+
+module _ {S : Type 0} (store : Ghosts S) where
+  abbrev nodes : Held S → List Row
+  nodes h = (state store h).now.trees 1
+
+  one_ran : (text : List ℕ) (args : Row) (a b : Held S) → RunInTurn store (statement text args ∷ []) a b (Ok tt)
+      → (count : ℕ) × ExecutesInside 0 text args (state store a) (state store b) (Ok count)
+  unfolding RunInTurn
+  one_ran text args a b (inl failed) = absurd (let bad = failed.1 in cc)
+  one_ran text args a b (inr on) = (
+    on.1,
+    subst (λ h. ExecutesInside 0 text args (state store a) (state store h) (Ok on.1)) (sym on.3.1) on.2.runs,
+  )
+
+  one_added : (text : List ℕ) (id place : ℕ) (batch : List EntryModel) (a b : Held S)
+      → AddsEntries text id place batch → (state store a).now.schema ≡ room_schema
+      → RunInTurn store (statement text (Int (pos id) ∷ bound_entries place batch) ∷ []) a b (Ok tt)
+      → nodes b ≡ nodes a
+  one_added text id place batch a b adds schema ran =
+      let one = one_ran text (Int (pos id) ∷ bound_entries place batch) a b ran in
+      (adds (state store a) (state store b) one.0 schema (executes_inside text _ (state store a) (state store b)
+      one.0 one.1).0).others.node (omega arith)
+
+  all_added : (id place : ℕ) (entries : List EntryModel) (a b : Held S) → (state store a).now.schema ≡ room_schema
+      → RunInTurn store (entry_writes id place entries) a b (Ok tt) → nodes b ≡ nodes a
+  unfolding RunInTurn
+  all_added id place [] a b schema ran = ap nodes ran.1
+  all_added id place (x ∷ []) a b schema ran =
+      one_added add_entry_text id place (x ∷ []) a b (adds_one id place x) schema ran
+  all_added id place (x ∷ y ∷ []) a b schema ran =
+      one_added add_two_text id place (x ∷ y ∷ []) a b (adds_two id place x y) schema ran
+  all_added id place (x ∷ y ∷ z ∷ []) a b schema ran =
+      one_added add_three_text id place (x ∷ y ∷ z ∷ []) a b (adds_three id place x y z) schema ran
+  all_added id place (x ∷ y ∷ z ∷ w ∷ more) a b schema (inl failed) = absurd (let bad = failed.1 in cc)
+  all_added id place (x ∷ y ∷ z ∷ w ∷ more) a b schema (inr on) =
+      let it = adds_four id place x y z w (state store a) (state store on.0) on.1 schema
+      (executes_inside add_four_text _ (state store a) (state store on.0) on.1 on.2.runs).0 in
+      all_added id (place + 4) more on.0 b it.schema on.3 ∙ it.others.node (omega arith)
+
+  -- what the statements of a change do to the rows of nodes
+  pub nodes_after : (change : Change) (a b : Held S) → IsRoomDatabase (state store a).now
+      → RunInTurn store (writes_of change) a b (Ok tt) → After change (nodes a) (nodes b)
+  unfolding RunInTurn
+  nodes_after (PutNode node) a b room ran = λ none.
+      let name = unwrap_or node.name [] in
+      let kind = kind_number node.kind in
+      let one = one_ran put_node_text (node_params node.id node.parent name kind node.owner node.group node.aclflag)
+      a b ran in
+      let it = puts_node (state store a) (state store b) node.id node.parent name kind node.owner node.group
+      node.aclflag one.0 room.schema room.keyed.node (executes_inside put_node_text _ _ _ one.0 one.1).0 in
+      one_more node.id node.parent (stored_node node.id node.parent name kind node.owner node.group node.aclflag)
+      (state store a).now.trees (state store b).now.trees refl it.put none
+  nodes_after (DropNode id) a b room ran = tt
+  nodes_after (PutEntries id entries) a b room (inl failed) = absurd (let bad = failed.1 in cc)
+  nodes_after (PutEntries id entries) a b room (inr on) =
+      let it = drops_entries (state store a) (state store on.0) id on.1 room.schema room.keyed.entry
+      (executes_inside drop_entries_text _ _ _ on.1 on.2.runs).0 in
+      all_added id 0 entries.items on.0 b it.schema on.3 ∙ it.others.node (omega arith)
+  nodes_after (PutDoc id bytes) a b room ran =
+      let one = one_ran put_doc_text (Int (pos id) ∷ Blob bytes.items ∷ []) a b ran in
+      (puts_doc (state store a) (state store b) id bytes.items one.0 room.schema room.keyed.doc
+      (executes_inside put_doc_text _ _ _ one.0 one.1).0).put.others.node (omega arith)
+  nodes_after (PutSession row) a b room ran =
+      let one = one_ran put_session_text
+      (Text row.sid ∷ Text row.owner ∷ Int (pos row.slots) ∷ Int (pos (flag_of row.is_open)) ∷ []) a b ran in
+      (puts_session (state store a) (state store b) row.sid row.owner row.slots (flag_of row.is_open) one.0
+      room.schema room.keyed.session (executes_inside put_session_text _ _ _ one.0 one.1).0).put.others.node
+      (omega arith)
+  nodes_after (PutSlot row) a b room ran =
+      let one = one_ran put_slot_text
+      (slot_values row.sid row.slot row.kept.seq row.kept.request row.kept.reply) a b ran in
+      (puts_slot (state store a) (state store b) row.sid row.slot row.kept.seq row.kept.request row.kept.reply one.0
+      room.schema room.keyed.slot (executes_inside put_slot_text _ _ _ one.0 one.1).0).put.others.node (omega arith)
+  nodes_after (DropSlots sid) a b room ran =
+      let one = one_ran drop_slots_text (Text sid ∷ []) a b ran in
+      (drops_slots (state store a) (state store b) sid one.0 room.schema room.keyed.slot
+      (executes_inside drop_slots_text _ _ _ one.0 one.1).0).others.node (omega arith)
+  nodes_after (PutNext next) a b room ran =
+      let one = one_ran put_next_text (Int (pos next) ∷ []) a b ran in
+      (puts_next (state store a) (state store b) next one.0 room.schema room.keyed.room
+      (executes_inside put_next_text _ _ _ one.0 one.1).0).put.others.node (omega arith)
+
+-- ---- changes in turn
+
+-- one change more
+pub nodes_then : (changes : List Change) (change : Change) (a b c : List Row)
+    → AfterAll changes a b → After change b c → AfterAll (changes ++ change ∷ []) a c
+nodes_then [] change a b c same last = (c, subst (λ l. After change l c) same last, refl)
+nodes_then (x ∷ xs) change a b c all last = (all.0, all.1, nodes_then xs change all.0 b c all.2 last)

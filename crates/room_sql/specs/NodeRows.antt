@@ -1,0 +1,36 @@
+-- What changes do to the rows of nodes. It speaks of rows, and so needs no rule of the records.
+use Rattle.std.specs.Prelude.{◌≡◌, ◌+◌, ℕ, Bool, false, ◌==◌, List, [], ◌∷◌, length, filter, Option, None, Some}
+use Rattle.std.specs.Prelude.{if◌then◌else◌}
+use Rattle.sqlite_value.specs.Order.{Row}
+use Rattle.room_records.specs.declared.change.Change.{Change}
+use Rattle.room_records.specs.declared.change.Change.TheVariants.{PutNode, DropNode}
+use Rattle.room_tables.specs.Rows.{has}
+
+-- how many rows are in a folder
+abbrev pub in_folder : ℕ → List Row → ℕ
+in_folder folder rows = length (filter (has 2 folder) rows)
+
+-- no row has the number
+abbrev pub HasNone : ℕ → List Row → Type 0
+HasNone id rows = filter (has 0 id) rows ≡ []
+
+abbrev pub is_parent : Option ℕ → ℕ → Bool
+is_parent None folder = false
+is_parent (Some parent) folder = parent == folder
+
+-- one row more in the folder that is the parent, and as many as before in all others
+abbrev pub HasOneMore : Option ℕ → List Row → List Row → Type 0
+HasOneMore parent old new =
+    (folder : ℕ) → in_folder folder new ≡ in_folder folder old + (if is_parent parent folder then 1 else 0)
+
+-- A node of a number that no row has is one row more. Of a node that is put in another's place, and of one that is
+-- dropped, nothing is said. All other changes leave the rows of nodes as they are
+abbrev pub After : Change → List Row → List Row → Type 0
+After (PutNode node) old new = HasNone node.id old → HasOneMore node.parent old new
+After (DropNode id) old new = Unit {0}
+After _ old new = new ≡ old
+
+-- the same of changes in their order
+abbrev pub AfterAll : List Change → List Row → List Row → Type 0
+AfterAll [] old new = new ≡ old
+AfterAll (change ∷ changes) old new = (mid : List Row) × After change old mid × AfterAll changes mid new
