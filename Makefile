@@ -2,7 +2,7 @@
 # Only `make test` is a verdict.
 RT ?= rt
 
-.PHONY: demo build test wrong growth wire tables crash hostile bench
+.PHONY: demo build test wrong growth failing full wire tables crash hostile front soak client page bench install uninstall service firstday
 
 # Answers the questions of examples/, and walks through a served room with curl: with build/fileroom where `make build`
 # made it, and else with the toolchain's quick build, which proves nothing.
@@ -25,9 +25,19 @@ test:
 wrong:
 	@RT='$(RT)' tests/wrong/rounds $(CRATE)
 
-# Refuses each growth of memory in turn, over questions and over a room.
+# Refuses each growth of memory in turn, over questions, a room, and all examples. `make test` tries a sample of those of
+# the examples.
 growth: build
 	RT='$(RT)' tests/growth/run
+	RT='$(RT)' EVERY=1 tests/growth/examples
+
+# Fails reads and writes in turn, over every example. `make test` tries a sample in long streams.
+failing: build
+	RT='$(RT)' tests/failing/run
+
+# Serves rooms whose files cannot grow, as on a full disk.
+full: build
+	tests/full/run
 
 # Asks a served room everything over sockets, and compares each answer with docs/.
 wire: build
@@ -46,8 +56,31 @@ crash: build
 hostile: build
 	STREAMS=50000 KILLS=60 PIECES=40 tests/hostile/run
 
-# Times `check`, a room in memory, a served room, its tables, SETLIST over many followers, `replay` and the reports, and
-# counts the instructions of a request. Needs sqlite3, strace and valgrind.
+# The client of client/ against a served room: commands, refusals, lost answers, and kills of both.
+client: build
+	tests/client/run
+
+# Forty clients with a password each through nginx with the files of front/, and kills. Needs nginx and openssl.
+front: build
+	tests/front/run
+
+# A million requests to one served room: its memory stays, and so does the time of a request. Not part of `make test`.
+soak: build
+	tests/soak/run
+
+# Does the README's first screen, with the quick build too, and the first day of docs/RUNNING.md by their own lines, and
+# times them. Needs nginx, openssl, sqlite3 and curl, and for the first day root.
+firstday: build
+	tests/firstday/run
+	RT='$(RT)' tests/firstday/run quick
+
+# Tries the page in a browser. Needs nginx-light, chromium and chromium-driver, and says so where they are not installed.
+page: build
+	tests/page/run
+
+# Times `check`, a room in memory, a served room, its tables, SETLIST over many followers, `replay` and the reports; then
+# the program beside a server in C over libsqlite3, and counts the instructions of both; then many rooms behind a front.
+# Needs sqlite3, strace, valgrind, gcc, libsqlite3-dev and nginx.
 bench: build
 	bench/check
 	bench/room
@@ -55,4 +88,21 @@ bench: build
 	bench/tables
 	bench/setlist
 	bench/report
+	bench/side
 	bench/instructions
+	bench/many
+
+# Puts the proved program that `make build` made below PREFIX, with its man pages, the client, the page, units, the backup
+# script, and samples of roster and front: docs/RUNNING.md goes on from there. DESTDIR stands before each path, for who
+# makes a package.
+PREFIX ?= /usr/local
+install:
+	@service/install '$(DESTDIR)' '$(PREFIX)'
+
+# Takes away what `make install` puts there, and nothing else: rooms, rosters and backups stay.
+uninstall:
+	@service/install --remove '$(DESTDIR)' '$(PREFIX)'
+
+# Installs below a folder of its own, looks at the units, kills a served room, and brings it back from a backup.
+service: build
+	tests/service/run

@@ -15,6 +15,8 @@ USERS = 100
 ROSTER = "[users]\n" + "".join(f'u{n:02} = ["g{n % 10}", "all"]\n' for n in range(USERS))
 ROOT = [(0, 3, 0x1F07FF, "OWNER@"), (0, 3, 0x1200A9, "GROUP@")]  # as `init` makes it
 OWN = [(place % 2, 67 if place else 3, 1 << place, f"{'g' if place else 'u0'}{place}") for place in range(4)]
+FOLDER = 250  # objects of one folder of followers, itself one of them
+LISTS = [[(0, 3, 1 << bit, f"u{bit}{place}") for place in range(4)] for bit in (0, 1)]  # two that take turns
 
 
 def list_rows(number, entries):
@@ -54,3 +56,37 @@ def filled(folder, objects):
     room = Room(folder, ROSTER, "u00", "g0")
     subprocess.run(["sqlite3", "-batch", room.db], input=rows(objects), text=True, check=True)
     return room
+
+
+def follower_rows(first, followers):
+    """The rows of `/top` and so many objects below it, numbered from a number on, and of the next number; and each of
+    these objects with whether it is a folder."""
+    above = with_inherited([], 1, True, ROOT)
+    list_of = {True: with_inherited([], 1, True, above), False: with_inherited([], 1, False, above)}
+    out = [f"INSERT INTO node VALUES ({first}, 1, 'top', 1, 'u00', 'g0', 1);", list_rows(first, above)]
+    number, folder, kinds = first, first, []
+    for count in range(followers):
+        number += 1
+        is_folder = followers > FOLDER and count % FOLDER == 0
+        parent = first if is_folder or followers <= FOLDER else folder
+        folder = number if is_folder else folder
+        out.append(f"INSERT INTO node VALUES ({number}, {parent}, 'n{count}', {int(is_folder)}, 'u00', 'g0', 1);")
+        out.append(list_rows(number, list_of[is_folder]))
+        if not is_folder:
+            out.append(f"INSERT INTO doc VALUES ({number}, x'00');")
+        kinds.append((number, is_folder))
+    out.append(f"UPDATE room SET next = {number + 1};")
+    return out, kinds
+
+
+def with_followers(kind, folder, followers, others=0):
+    """A room of this class with `/top` and so many objects below that follow it, and so many other objects; the number
+    of `/top`; the followers, as above."""
+    room = kind(folder, ROSTER, "u00", "g0")
+    if others:
+        subprocess.run(["sqlite3", "-batch", room.db], input=rows(others), text=True, check=True)
+    told = subprocess.run(["sqlite3", "-batch", room.db, "SELECT next FROM room"], stdout=subprocess.PIPE, check=True)
+    first = int(told.stdout)
+    out, kinds = follower_rows(first, followers)
+    subprocess.run(["sqlite3", "-batch", room.db], input="\n".join(["BEGIN;", *out, "COMMIT;"]), text=True, check=True)
+    return room, first, kinds

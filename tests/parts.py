@@ -1,8 +1,9 @@
 """Parts of the gate: commands that run one after another or beside each other, with their times and counts.
 
-A part is a command. Its last line may be 'N passed, M failed'; without that it counts as one. It has failed where it
-ends with another status than 0, counts a failure or nothing at all, takes longer than it may, or leaves a process or,
-in the folder for its temporary files, a file.
+A part is a command. Its last line may be 'N passed, M failed'; without that it counts as one. It may also be 'skipped:
+WHY', where the machine lacks what the part needs: it then counts nothing, and the table says so. A part has failed
+where it ends with another status than 0, counts a failure or nothing at all, takes longer than it may, or leaves a
+process or, in the folder for its temporary files, a file.
 """
 import os
 import re
@@ -17,6 +18,7 @@ import time
 from served import end_with_parent
 
 COUNTS = re.compile(r"(\d+) passed, (\d+) failed")
+SKIPPED = re.compile(r"skipped: (.+)")
 GRACE = 20  # seconds to end in order
 TICKS = os.sysconf("SC_CLK_TCK")
 
@@ -100,6 +102,7 @@ class Part:
         self.watch, self.own_folder = watch, own_folder
         self.child = self.folder = None
         self.lines, self.why, self.rest, self.is_open = [], [], b"", False
+        self.skipped = ""
         self.passed = self.failed = 0
         self.seconds = self.ended = 0.0
 
@@ -192,6 +195,8 @@ class Part:
                 self.why.append(f"{self.failed} failed{f': {self.watch.failed}' if self.watch else ''}")
             elif not self.passed:
                 self.why.append("it showed nothing")
+        elif lines and not self.child.returncode and SKIPPED.fullmatch(lines[-1]):
+            self.skipped = SKIPPED.fullmatch(lines[-1])[1]
         elif not self.child.returncode:
             self.passed = 1
         if self.child.returncode:
@@ -204,6 +209,8 @@ class Part:
             return "not run"
         if self.why:
             return f"FAILED: {self.why[0][:300]}"
+        if self.skipped:
+            return f"SKIPPED: {self.skipped}"
         if self.watch:
             return self.watch.showed()
         lines = [it for it in self.lines if it.strip() and not COUNTS.fullmatch(it)]

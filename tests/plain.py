@@ -16,6 +16,7 @@ ALL = 0x1F07FF
 READ_DATA, WRITE_DATA, APPEND_DATA = 1, 2, 4
 ADD_FILE, ADD_SUBDIRECTORY, EXECUTE, DELETE_CHILD, READ_ATTRIBUTES = 2, 4, 0x20, 0x40, 0x80
 DELETE, READ_ACL, WRITE_ACL, WRITE_OWNER = 0x10000, 0x20000, 0x40000, 0x80000
+OWNER_RIGHTS = READ_ACL | WRITE_ACL
 NAMES = {1: "NOENT", 2: "NOTDIR", 3: "ISDIR", 4: "EXIST", 6: "NOTEMPTY", 7: "INVAL", 8: "ATTRNOTSUPP", 9: "FBIG",
          10: "TOO_DEEP", 11: "FOLDER_FULL", 12: "ROOM_FULL", 20: "BADSESSION", 21: "BADSLOT", 22: "SEQ_MISORDERED",
          23: "SEQ_FALSE_RETRY", 24: "SESSION_TAKEN", 30: "DELAY", 40: "BAD_HTTP", 41: "BAD_ROUTE",
@@ -177,13 +178,13 @@ def applies(it, caller, owner, group):
 
 
 def allowed(list_, caller, owner, group):
-    """Each right, by the first entry that applies and names it."""
+    """Each right, by the first entry that applies and names it; and the owner's two, whatever the entries say."""
     given = decided = 0
     for it in list_:
         if applies(it, caller, owner, group):
             given |= it["mask"] & ~decided if it["type"] == 0 else 0
             decided |= it["mask"]
-    return given
+    return given | (OWNER_RIGHTS if caller.user == owner else 0)
 
 
 def lowest(bits):

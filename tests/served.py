@@ -110,6 +110,20 @@ def free_port():
     sys.exit(f"{SCRIPT}: no port is free")
 
 
+def wait_for_port(port, server):
+    """Waits until this server listens on a port. False where it ended before."""
+    listening = f":{port:04X} 00000000:0000 0A"
+    end = time.monotonic() + WAIT
+    while time.monotonic() < end:
+        if server.poll() is not None:
+            return False
+        with open("/proc/net/tcp") as sockets:
+            if listening in sockets.read():
+                return True
+        time.sleep(0.01)
+    sys.exit(f"{SCRIPT}: the server does not listen")
+
+
 class Tally:
     """Counts what a script compares, and prints what differs. Its last line is 'N passed, M failed'."""
 
@@ -133,6 +147,12 @@ class Tally:
     def end(self):
         print(f"{self.passed} passed, {self.failed} failed", flush=True)
         sys.exit(self.failed != 0)
+
+
+def skip(why):
+    """Ends a script that this machine cannot run: tests/gate counts it as skipped, and says why."""
+    print(f"skipped: {why}", flush=True)
+    sys.exit(0)
 
 
 def message(user, method, target, body=b"", version="1.1", fields=()):
@@ -179,7 +199,7 @@ def first_answer(written):
     head, end, rest = written.partition(b"\r\n\r\n")
     if not end:
         return None
-    length = next(int(line[15:]) for line in head.split(b"\r\n") if line.startswith(b"content-length:"))
+    length = next(int(line[15:]) for line in head.split(b"\r\n") if line.lower().startswith(b"content-length:"))
     return (Answer(head, rest[:length]), rest[length:]) if len(rest) >= length else None
 
 
@@ -194,8 +214,8 @@ def answers(written):
 class Line:
     """One connection."""
 
-    def __init__(self, port):
-        self.socket = socket.create_connection(("127.0.0.1", port), WAIT)
+    def __init__(self, port, source="127.0.0.1"):
+        self.socket = socket.create_connection(("127.0.0.1", port), WAIT, (source, 0))
         self.socket.setsockopt(socket.IPPROTO_TCP, socket.TCP_NODELAY, 1)
         self.rest = b""
 
@@ -238,6 +258,7 @@ class Room:
         self.db = os.path.join(folder, "room.db")
         self.roster = os.path.join(folder, "roster.toml")
         self.server = None
+        self.env = None  # (that of this script)
         self.port = free_port()
         with open(self.roster, "w") as file:
             file.write(roster)
@@ -249,24 +270,14 @@ class Room:
     def start(self, count=4294967295):
         """Starts the server, on another port where somebody took this one meanwhile."""
         for _ in range(3):
-            self.server = start_program("serve", self.db, self.roster, str(self.port), str(count))
+            self.server = start_program("serve", self.db, self.roster, str(self.port), str(count), env=self.env)
             if self.listens():
                 return self
             self.port = free_port()
         sys.exit(f"{SCRIPT}: serve ended at once with status {self.server.returncode}")
 
     def listens(self):
-        """Waits until the server listens. False where it ended before."""
-        listening = f":{self.port:04X} 00000000:0000 0A"
-        end = time.monotonic() + WAIT
-        while time.monotonic() < end:
-            if self.server.poll() is not None:
-                return False
-            with open("/proc/net/tcp") as sockets:
-                if listening in sockets.read():
-                    return True
-            time.sleep(0.01)
-        sys.exit(f"{SCRIPT}: the server does not listen")
+        return wait_for_port(self.port, self.server)
 
     def line(self):
         return Line(self.port)

@@ -1,22 +1,33 @@
-// Loaded before the C library: refuses one growth of memory, the one whose number (from 1) stands in
-// REFUSE_GROWTH, and then writes a byte to the file descriptor 9.
+// Loaded before the C library: refuses one growth of memory at a time. The first words of the file that REFUSE_PAGE
+// names, which this library and a script both have in memory, say which growth from now is refused (0: none), how many
+// were refused, and how many came.
 void *__libc_malloc(unsigned long size);
 void *__libc_realloc(void *old, unsigned long size);
 char *getenv(const char *name);
-long write(int fd, const void *bytes, unsigned long count);
+int open(const char *path, int flags, ...);
+void *mmap(void *at, unsigned long length, int access, int flags, int fd, long offset);
 
-static unsigned long left;
+enum { READ_AND_WRITE = 2, ACCESS = 3, SHARED = 1 };
+
+struct page {
+    unsigned long left, refused, came;
+};
+static volatile struct page *page;
 
 __attribute__((constructor)) static void begin(void) {
-    const char *digits = getenv("REFUSE_GROWTH");
-    for (; digits && *digits; digits++)
-        left = left * 10 + (unsigned long)(*digits - '0');
+    const char *path = getenv("REFUSE_PAGE");
+    int fd = path ? open(path, READ_AND_WRITE) : -1;
+    if (fd >= 0)
+        page = mmap(0, sizeof *page, ACCESS, SHARED, fd, 0);
 }
 
 static int is_refused(void) {
-    if (left == 0 || --left != 0)
+    if (!page)
         return 0;
-    write(9, "r", 1);
+    page->came++;
+    if (page->left == 0 || --page->left != 0)
+        return 0;
+    page->refused++;
     return 1;
 }
 

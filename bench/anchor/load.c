@@ -1,0 +1,76 @@
+// load PORT ANSWERS < MESSAGES: sends messages over one connection, each after the answer to the one before.
+//
+// A message is its length in decimal, LF, and its bytes. Written are the nanoseconds of each, a line each; the bodies
+// of the answers go to the file ANSWERS, a line each.
+#include <arpa/inet.h>
+#include <netinet/tcp.h>
+#include <stdio.h>
+#include <stdlib.h>
+#include <string.h>
+#include <sys/socket.h>
+#include <time.h>
+#include <unistd.h>
+
+enum { MOST = 1 << 18 };
+static char message[MOST], answer[MOST];
+
+static void fail(const char *what)
+{
+    perror(what);
+    exit(1);
+}
+
+static long long now(void)
+{
+    struct timespec it;
+    clock_gettime(CLOCK_MONOTONIC, &it);
+    return it.tv_sec * 1000000000LL + it.tv_nsec;
+}
+
+// Reads an answer: where its body begins. `held` is what was read.
+static size_t read_answer(int line, size_t *held)
+{
+    size_t begin = 0, whole = MOST;
+    for (*held = 0; *held < whole;) {
+        ssize_t more = read(line, answer + *held, MOST - 1 - *held);
+        if (more <= 0)
+            fail("the answer");
+        *held += (size_t)more;
+        answer[*held] = 0;
+        char *end = begin ? 0 : strstr(answer, "\r\n\r\n"), *length = end ? strstr(answer, "content-length: ") : 0;
+        if (length) {
+            begin = (size_t)(end + 4 - answer);
+            whole = begin + strtoul(length + 16, 0, 10);
+        }
+    }
+    return begin;
+}
+
+int main(int count, char **words)
+{
+    struct sockaddr_in at = {.sin_family = AF_INET, .sin_addr = {htonl(INADDR_LOOPBACK)}};
+    int line = socket(AF_INET, SOCK_STREAM, 0), yes = 1;
+    FILE *answers = count == 3 ? fopen(words[2], "w") : 0;
+    if (!answers)
+        fail("load PORT ANSWERS");
+    at.sin_port = htons((unsigned short)atoi(words[1]));
+    if (connect(line, (struct sockaddr *)&at, sizeof at))
+        fail("connect");
+    setsockopt(line, IPPROTO_TCP, TCP_NODELAY, &yes, sizeof yes);
+    for (size_t length, held; scanf("%zu%*1[\n]", &length) == 1;) {
+        if (length > MOST || fread(message, 1, length, stdin) != length)
+            fail("a message");
+        long long begin = now();
+        for (size_t sent = 0; sent < length;) {
+            ssize_t more = write(line, message + sent, length - sent);
+            if (more <= 0)
+                fail("send");
+            sent += (size_t)more;
+        }
+        size_t body = read_answer(line, &held);
+        printf("%lld\n", now() - begin);
+        fwrite(answer + body, 1, held - body, answers);
+        fputc('\n', answers);
+    }
+    return fclose(answers) != 0;
+}

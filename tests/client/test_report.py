@@ -1,0 +1,74 @@
+"""The access report as a table and as a page."""
+import csv
+import io
+from html.parser import HTMLParser
+
+from desk import Desk
+from room_client import BadWords, report
+
+MARKUP = '<b>"&\'=x'
+
+
+class Cells(HTMLParser):
+    """The texts of a page's cells, and its tags."""
+
+    def __init__(self):
+        super().__init__()
+        self.rows, self.tags = [], set()
+
+    def handle_starttag(self, tag, _):
+        self.tags.add(tag)
+        if tag == "tr":
+            self.rows.append([])
+        elif tag in ("td", "th"):
+            self.rows[-1].append("")
+
+    def handle_data(self, data):
+        if self.rows and self.rows[-1]:
+            self.rows[-1][-1] += data.rstrip("\n")
+
+
+class Reports(Desk):
+    def setUp(self):
+        super().setUp()
+        with self.room() as room:
+            room.mkdir("/plans")
+            room.create(f"/plans/{MARKUP}", b"")
+            room.set_list(f"/plans/{MARKUP}", 0, [{"flag": 0, "mask": 0x1200AE, "type": 0, "who": "bob"},
+                                                  {"flag": 0, "mask": 0x1301FF, "type": 0, "who": "OWNER@"}])
+        self.served.kill()
+        status, self.report, err = self.served.report("access")
+        self.assertEqual((status, err), (0, b""))
+
+    def test_table(self):
+        status, text, err = self.does("report", "--csv", stdin=self.report, own_settings=False)
+        self.assertEqual((status, err, text[0]), (0, "", "\ufeff"))
+        rows = list(csv.reader(io.StringIO(text[1:], newline="")))
+        self.assertEqual(rows[0][:6], ["path", "user", "rights", "mask", "list/read", "add-file/write"])
+        self.assertEqual(rows[1], ["/", "ann", "all", "001f07ff", *["yes"] * 16])
+        self.assertEqual(rows[3][:5], ["/", "eng", "none", "00000000", ""])
+        self.assertEqual(rows[8][:6], [f"/plans/{MARKUP}", "bob", "add-file,write,add-folder,append,read-named-attrs,"
+                                       "traverse,execute,read-attributes,read-acl,synchronize", "001200ae", "", "yes"])
+        self.assertEqual(len(rows), 10)
+
+    def test_page(self):
+        self.file("access", self.report)
+        status, text, err = self.does("report", "--html", "access", own_settings=False)
+        self.assertEqual((status, err), (0, ""))
+        page = Cells()
+        page.feed(text)
+        self.assertNotIn("b", page.tags)
+        self.assertEqual(page.rows[1], ["object", "ann", "bob", "eng"])
+        self.assertEqual(page.rows[2], ["/", "all", "view", "none"])
+        self.assertEqual(page.rows[4][0], f"/plans/{MARKUP}")
+        self.assertTrue(page.rows[4][1].startswith("change + "), page.rows[4])
+        self.assertTrue(page.rows[4][2].startswith("add-file, write, "), page.rows[4])
+        self.assertIn("view: see it and what is in it", page.rows[0])
+
+    def test_what_is_no_report(self):
+        for text, says in [(b"001f07ff ann", "in the middle of a line"), (b"hello\n", "line 1 is none"),
+                           (self.report + b"00000800 ann                              /\n", "line 10 is none"),
+                           (b"001f07ff ann /\n", "line 1 is none"), (self.report[:-1], "in the middle")]:
+            with self.assertRaisesRegex(BadWords, says):
+                report.read_report(text)
+        self.assertEqual(report.read_report(b""), [])

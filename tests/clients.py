@@ -1,0 +1,127 @@
+"""Many clients of one room at once: each sends requests again at random, while the room is killed and started again.
+
+Each appends its pieces to a document of its own and to one that all share. `tests/hostile/run` plays them at the port,
+`tests/front/run` through the front.
+"""
+import base64
+import json
+import random
+import threading
+import time
+
+from served import Tally
+
+AGAIN = {429, 502, 503, 504}  # the same request is sent again: the room was busy, or there was none
+SHARED = "/shared"
+
+
+class SharedTally(Tally):
+    """A tally that threads share. What ends a thread before its time is counted as well."""
+
+    def __init__(self):
+        super().__init__()
+        self.lock = threading.Lock()
+
+    def differs(self, name, got, want):
+        with self.lock:
+            super().differs(name, got, want)
+
+    def thread(self, name, play, *words):
+        def counted():
+            try:
+                play(*words)
+            except BaseException as fault:  # (SystemExit too: a thread would end by it without a word)
+                self.differs(name, repr(fault), "its end")
+        return threading.Thread(target=counted, daemon=True)
+
+
+class Caller:
+    """A user with a session of one slot. `once(method, target, body)` sends one message: its answer, or None."""
+
+    def __init__(self, once, sid):
+        self.once, self.sid, self.seq = once, sid, 0
+
+    def ask(self, method, target, body):
+        """Sends until an answer comes that is no word of a busy room."""
+        got = None
+        while not got or got.status in AGAIN:
+            got = self.once(method, target, body)
+            if not got or got.status in AGAIN:
+                time.sleep(random.random() / 20)
+        return got
+
+    def open(self):
+        return self.ask("POST", f"/v1/sessions/{self.sid}", {"slots": 1})
+
+    def slot(self, command):
+        self.seq += 1
+        return self.ask("POST", f"/v1/sessions/{self.sid}/slots/0/{self.seq}", command)
+
+    def read(self, path):
+        """The pieces of a document."""
+        data = json.loads(self.slot({"cmd": "READ", "path": path}).body)["data"]
+        return base64.b64decode(data).decode().split(";")[:-1]
+
+
+class Client(Caller):
+    """A caller that sends each request again at random: its answer is then the same."""
+
+    def __init__(self, once, number, seed, pieces, tally):
+        super().__init__(once, f"{number:032x}")
+        self.number, self.pieces, self.tally = number, pieces, tally
+        self.dice = random.Random(f"{seed} client {number}")
+
+    def ask(self, method, target, body):
+        got = super().ask(method, target, body)
+        if self.dice.random() < 0.3:
+            again = self.once(method, target, body)
+            if again and again.status not in AGAIN:
+                self.tally.differs(f"client {self.number}, again", (again.status, again.body), (got.status, got.body))
+        return got
+
+    def append(self, path, piece):
+        return self.slot({"cmd": "APPEND", "path": path, "data": base64.b64encode(piece).decode()}).body
+
+    def own(self):
+        return f"/own-{self.number}"
+
+    def names(self):
+        """The pieces that are to be in its document, in order."""
+        return [f"{self.number:04d}.{n:04d}" for n in range(self.pieces)]
+
+    def play(self):
+        self.tally.differs("OPEN", self.open().body, b'{"code":0,"slots":1}')
+        made = self.slot({"cmd": "CREATE", "path": self.own(), "data": ""}).body
+        self.tally.differs("CREATE", made, b'{"code":0,"size":0}')
+        for n, name in enumerate(self.names()):
+            piece = f"{name};".encode()
+            got = self.append(self.own(), piece)
+            self.tally.differs("APPEND", got, b'{"code":0,"size":%d}' % ((n + 1) * len(piece)))
+            self.append(SHARED, piece)
+
+
+def play_with_kills(room, clients, kills, seed, tally):
+    """Plays the clients beside each other, and kills the room at random, so many times at most."""
+    threads = [tally.thread(f"client {it.number}", it.play) for it in clients]
+    for it in threads:
+        it.start()
+    dice, killed = random.Random(f"{seed} kills"), 0
+    while any(it.is_alive() for it in threads):
+        if killed < kills:
+            time.sleep(dice.random() / 5)
+            room.kill()
+            room.start()
+            killed += 1
+        else:
+            time.sleep(0.05)
+    tally.differs("killed while they asked", killed > 2, True)
+
+
+def look(reader, clients, tally):
+    """Nothing is lost, and nothing there twice."""
+    shared = reader.read(SHARED)
+    tally.differs("what all share has each piece once", sorted(shared), [name for it in clients for name in it.names()])
+    for it in clients:
+        own = [name for name in shared if name.startswith(f"{it.number:04d}")]
+        tally.differs("a client's pieces, in order", own, it.names())
+        tally.differs("a client's own file", reader.read(it.own()), it.names())

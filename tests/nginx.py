@@ -1,0 +1,59 @@
+"""The front of front/ before rooms: an nginx of one's own on a loopback port, with a password for each user."""
+import base64
+import os
+import shutil
+import subprocess
+
+from served import HERE, Line, end_with_parent, free_port, message, started_here, wait_for_port
+
+FOLDER = os.path.join(HERE, "..", "front")
+PATH = os.pathsep.join([os.environ.get("PATH", ""), "/usr/sbin"])  # (where Debian has nginx)
+
+
+def lacking():
+    """The programs that this machine lacks for a front."""
+    return [it for it in ("nginx", "openssl") if not shutil.which(it, path=PATH)]
+
+
+def hashed(passwords):
+    """Each password as nginx compares it."""
+    words = ["openssl", "passwd", "-apr1", "-stdin"]
+    return subprocess.run(words, input="\n".join(passwords), capture_output=True, text=True, check=True).stdout.split()
+
+
+def login(user, password):
+    """The field by which a caller logs in."""
+    return "authorization: Basic " + base64.b64encode(f"{user}:{password}".encode()).decode()
+
+
+class Front:
+    """`users` is each user's password, `rooms` each room's port, `page` the folder that stands at /.
+
+    `rate` is how often a login may ask, as nginx writes it; by itself that of the front's files.
+    """
+
+    def __init__(self, folder, users, rooms, page, **rate):
+        self.folder, self.users, self.page, self.port = folder, users, page, free_port()
+        with open(os.path.join(folder, "users"), "w") as file:
+            file.writelines(f"{user}:{it}\n" for user, it in zip(users, hashed(users.values())))
+        words = [os.path.join(FOLDER, "start"), folder, str(self.port), page, *(f"{it}={rooms[it]}" for it in rooms)]
+        env = {**os.environ, "PATH": PATH, **{name.upper(): it for name, it in rate.items()}}
+        self.server = subprocess.Popen(words, preexec_fn=end_with_parent, env=env)
+        started_here.append(self.server)
+        if not wait_for_port(self.port, self.server):
+            raise RuntimeError(f"nginx ended with status {self.server.returncode}")
+
+    def fields(self, user, more=()):
+        return ["host: 127.0.0.1", *more] + ([login(user, self.users[user])] if user else [])
+
+    def once(self, user, method, target, body=b"", more=(), source="127.0.0.1"):
+        """The answer to one message over a connection of its own, or None where there was none."""
+        line = None
+        try:
+            line = Line(self.port, source)
+            return line.ask(message(None, method, target, body, fields=self.fields(user, more)))
+        except OSError:
+            return None
+        finally:
+            if line:
+                line.close()

@@ -1,0 +1,65 @@
+"""What stands between browser and front in this test: it passes all on, and loses answers when it is told to."""
+import http.client
+import http.server
+import threading
+
+from browser import ANSWER
+
+
+class Lossy(http.server.ThreadingHTTPServer):
+    """`lose(word, count)`: the next so many requests whose body has that word are passed on, and their answers lost."""
+    daemon_threads = True
+
+    def __init__(self, front):
+        super().__init__(("127.0.0.1", 0), Passing)
+        self.front, self.word, self.left, self.bodies = front, b"", 0, []
+        threading.Thread(target=self.serve_forever, daemon=True).start()
+
+    @property
+    def port(self):
+        return self.server_address[1]
+
+    def lose(self, word, count=1):
+        self.word, self.left = word.encode(), count
+
+    def times(self, word):
+        """How often a request with that word was sent."""
+        return sum(word.encode() in it for it in self.bodies)
+
+    def handle_error(self, request, address):
+        """A browser that went away in the middle is nothing to tell."""
+
+
+class Passing(http.server.BaseHTTPRequestHandler):
+    protocol_version = "HTTP/1.1"
+
+    def pass_on(self):
+        body = self.rfile.read(int(self.headers.get("content-length", 0)))
+        self.server.bodies.append(body)
+        line = http.client.HTTPConnection("127.0.0.1", self.server.front, timeout=ANSWER)
+        try:
+            line.request(self.command, self.path, body or None, dict(self.headers))
+            answer = line.getresponse()
+            told = answer.read()
+        finally:
+            line.close()
+        if self.server.left and self.server.word in body:
+            self.server.left -= 1
+            self.close_connection = True
+        else:
+            self.answer(answer, told)
+
+    do_GET = do_POST = do_DELETE = pass_on
+
+    def answer(self, answer, told):
+        self.send_response_only(answer.status, answer.reason)
+        for name, value in answer.getheaders():
+            if name.lower() not in ("transfer-encoding", "connection", "content-length"):
+                self.send_header(name, value)
+        if answer.status != 304:
+            self.send_header("content-length", str(len(told)))
+        self.end_headers()
+        self.wfile.write(told)
+
+    def log_message(self, *_):
+        """Nothing is told of each request."""
