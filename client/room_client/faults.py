@@ -1,0 +1,101 @@
+"""What goes wrong: each fault is one line with cause and remedy, and has an exit status."""
+import contextlib
+from collections.abc import Iterator
+
+from .words import FILE, FOLDER, right_words, shown
+
+ACCESS = 5
+FBIG = {"code": 9, "error": "FBIG"}
+SESSION_CODES = range(20, 25)
+
+REFUSALS = {
+    1: ("nothing is there, or a folder above it is missing", "look with: room ls"),
+    2: ("a folder is wanted, and a document is there", "mend the path"),
+    3: ("a document is wanted, and a folder is there", "mend the path"),
+    4: ("something is there already", "choose another name, or remove it first"),
+    6: ("the folder has something in it", "remove that first"),
+    7: ("the root neither moves nor goes, nothing moves into itself, and a list has at most 32 entries of its own",
+        "mend the words"),
+    8: ("inheritance that this object cannot have: on a document none, and on a folder 'not-here' only beside it",
+        "mend the entry"),
+    9: ("a document has at most 65,536 bytes", "split it"),
+    10: ("a path has at most 16 names", "move it higher"),
+    11: ("the folder is full: it has 256 things in it", "make another folder"),
+    12: ("the room is full: a million things were made in it", "ask who runs the room for a new one"),
+    20: ("the session is not open: the room was made anew or set back to a copy, or the session was closed",
+         "begin another: room session new"),
+    21: ("the session has no such slot", "begin another: room session new"),
+    22: ("the number is not the session's next one: the room or the state file was set back to a copy",
+         "begin another: room session new"),
+    23: ("the number was used for another command: the room or the state file was set back to a copy",
+         "begin another: room session new"),
+    24: ("the session's name is another user's", "begin another: room session new"),
+    40: ("the room read no message", "is something else in between? ask who runs the room"),
+    41: ("the room has no such route", "mend the URL"),
+    42: ("you are no user of the room", "ask who keeps its roster"),
+    43: ("a word is not as the room takes it: a path is / or up to 16 names, each of at most 64 bytes behind a /; "
+         "a user or group is 1 to 32 letters, digits, '.', '_' or '-'", "mend the words"),
+}
+
+
+class Fault(Exception):
+    """Something went wrong, told in one line."""
+
+    status = 1
+
+
+class Refused(Fault):
+    """The room refused it; nothing was changed by it. `reply` is the room's."""
+
+    def __init__(self, reply: dict, command: dict | None = None):
+        self.reply = reply
+        super().__init__(refusal_line(reply, command or {}))
+
+
+class BadWords(Fault):
+    """The words of the command, or the settings, are none."""
+
+    status = 2
+
+
+class NoAnswer(Fault):
+    """No answer came in the time that was given, or the front did not let it pass."""
+
+    status = 3
+
+
+class SessionLost(Refused):
+    """The room and the state file do not know the same session."""
+
+    status = 4
+
+
+class LocalFault(Fault):
+    """A file on this machine cannot be read or written, or another process has it."""
+
+    status = 5
+
+
+@contextlib.contextmanager
+def reading(path: str) -> Iterator[None]:
+    """What fails on a file here is a fault of that file."""
+    try:
+        yield
+    except OSError as fault:
+        raise LocalFault(f"{shown(path)}: {fault.strerror}") from None
+
+
+def refusal_line(reply: dict, command: dict) -> str:
+    code, name = reply["code"], reply.get("error", "?")
+    if code == ACCESS:
+        kind = FILE if command.get("cmd") in ("READ", "WRITE", "APPEND") else FOLDER
+        path, right = shown(reply["path"]), "/".join(right_words(reply["bit"], kind))
+        return f"ACCESS (5) at {path}: you lack the right {right}: ask its owner, or who may set its list"
+    cause, remedy = REFUSALS.get(code, ("the client does not know this refusal", "docs/CODES.md"))
+    place = f" at {shown(command['path'])}" if "path" in command else ""
+    return f"{name} ({code}){place}: {cause}: {remedy}"
+
+
+def refused(reply: dict, command: dict | None = None) -> Refused:
+    kind = SessionLost if reply["code"] in SESSION_CODES else Refused
+    return kind(reply, command)

@@ -1,0 +1,94 @@
+"""Who may do what with an object: the room decides for each name, by `/v1/check`, and nothing here does."""
+import itertools
+import tomllib
+from collections.abc import Iterator
+from dataclasses import dataclass
+from pathlib import PurePosixPath
+
+from .faults import LocalFault, Refused, reading
+from .room import Room
+from .words import ALL, GROUP, mask_words, right_words, shown, FOLDER
+
+TRAVERSE = 0x20
+
+
+@dataclass(frozen=True)
+class Subject:
+    label: str
+    user: str
+    groups: tuple[str, ...] = ()
+
+
+@dataclass(frozen=True)
+class Row:
+    name: str
+    allowed: int
+    rights: str
+    stopped_at: str | None  # the first folder above that does not let them pass
+    not_known: str | None  # the first folder above whose list may not be seen
+
+
+def read_roster(path: str) -> list[Subject]:
+    try:
+        with reading(path), open(path, "rb") as file:
+            users = tomllib.load(file)["users"]
+        return [Subject(name, name, tuple(groups)) for name, groups in sorted(users.items())]
+    except (ValueError, KeyError, TypeError, AttributeError):
+        raise LocalFault(f"{path} is no roster: a table [users] of lines like: ann = [\"eng\"]") from None
+
+
+def subjects_of(its: dict) -> list[Subject]:
+    """Whom the object's list can tell apart, without a roster: nobody's groups are known."""
+    owner, named = its["owner"], [it for it in its["entries"] if not it["who"].endswith("@")]
+    users = {it["who"] for it in named if not it["flag"] & GROUP}
+    groups = {it["who"] for it in named if it["flag"] & GROUP}
+    stranger = next(it for it in map("nobody-{}".format, itertools.count()) if it not in users | {owner})
+    rows = [Subject(f"{owner} (owner)", owner)]
+    rows += [Subject(it, it) for it in sorted(users - {owner})]
+    rows += [Subject(f"group:{it}", stranger, (it,)) for it in sorted(groups | {its["group"]})]
+    return rows + [Subject("anybody else", stranger)]
+
+
+def standing(room: Room, path: str) -> dict:
+    """What the room needs to know of an object to decide, and its kind."""
+    return room.stat(path) | room.get_list(path)
+
+
+def standing_above(room: Room, path: str) -> Iterator[tuple[str, dict | None]]:
+    """Each folder above, from the root down, with None where the caller may not see it."""
+    for folder in map(str, reversed(PurePosixPath(path).parents)):
+        try:
+            yield folder, standing(room, folder)
+        except Refused as fault:
+            if fault.reply["error"] != "ACCESS":
+                raise
+            yield folder, None
+
+
+def allowed(room: Room, its: dict, subject: Subject, mask: int) -> int:
+    question = {it: its[it] for it in ("entries", "group", "owner")}
+    return room.check(question | {"groups": subject.groups, "mask": mask, "user": subject.user})["allowed"]
+
+
+def who(room: Room, path: str, roster: list[Subject] | None) -> list[Row]:
+    its = standing(room, path)
+    above = list(standing_above(room, path))
+    not_known = next((folder for folder, found in above if found is None), None)
+    rows = []
+    for subject in roster if roster is not None else subjects_of(its):
+        mask = allowed(room, its, subject, ALL)
+        closed = (folder for folder, found in above if found and not allowed(room, found, subject, TRAVERSE))
+        rows.append(Row(subject.label, mask, mask_words(mask, its["kind"]), next(closed, None), not_known))
+    return rows
+
+
+def who_lines(rows: list[Row]) -> Iterator[str]:
+    width = max((len(it.name) for it in rows), default=0)
+    traverse = right_words(TRAVERSE, FOLDER)[0]
+    for it in rows:
+        line = f"{it.name:{width}}  {it.rights}"
+        if it.stopped_at:
+            line += f"  (but cannot get there: lacks {traverse} at {shown(it.stopped_at)})"
+        yield line
+    if rows and rows[0].not_known:
+        yield f"# You may not see the list of {shown(rows[0].not_known)}: whether it lets them pass is not known."

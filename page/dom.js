@@ -1,0 +1,42 @@
+/** Elements of the page. Whatever comes from the room is put in as text, never as markup. */
+
+/** An element with these properties or attributes. Children that are no elements are put in as text. */
+export function make(tag, how = {}, ...children) {
+  const it = document.createElement(tag);
+  for (const [name, value] of Object.entries(how)) {
+    if (name in it && name !== "list") it[name] = value;
+    else it.setAttribute(name, value);
+  }
+  it.append(...children);
+  return it;
+}
+
+export const button = (words, onclick, how = {}) => make("button", { type: "button", onclick, ...how }, words);
+export const link = (href, ...words) => make("a", { href }, ...words);
+
+/** A name of the room, kept apart from the direction in which the text around it is written. */
+export const nameText = (name) => make("bdi", {}, name);
+
+let ids = 0;
+
+/** A field with its label in front of it. */
+export function labelled(words, field) {
+  ids += 1;
+  field.id ||= `field-${ids}`;
+  return make("p", { className: "field" }, make("label", { htmlFor: field.id }, words), field);
+}
+
+export function checkbox(words, checked, onchange, how = {}) {
+  const box = make("input", { type: "checkbox", checked, ...how });
+  box.onchange = () => onchange(box.checked);
+  return make("label", { className: "choice" }, box, ` ${words}`);
+}
+
+/** A choice among `{value, word}`. */
+export function select(choices, value, onchange, how = {}) {
+  const options = choices.map((it) => make("option", { value: it.value }, it.word));
+  const it = make("select", how, ...options);
+  it.value = value;
+  it.onchange = () => onchange(it.value);
+  return it;
+}

@@ -1,0 +1,87 @@
+/** One entry of a list, as a sentence that opens into its fields. */
+import { button, checkbox, make, select } from "./dom.js";
+import { input } from "./dialogs.js";
+import { REACH, WHOM, isDeny, sentence, whomOf, withWhom } from "./lists.js";
+import { FOLDER, RIGHTS, SETS, bothWords } from "./rights.js";
+
+const CHOSEN = "chosen";
+
+/** The fields of an entry; `entry` is what they say now, and `changed` is called with each change. */
+class Fields {
+  constructor(entry, kind, names, changed) {
+    Object.assign(this, { entry, kind, names, changed });
+  }
+
+  set(entry) {
+    this.entry = entry;
+    this.changed(entry);
+  }
+
+  verb() {
+    const choices = [{ value: "0", word: "Allow" }, { value: "1", word: "Deny" }];
+    return select(choices, isDeny(this.entry) ? "1" : "0", (it) => this.set({ ...this.entry, type: Number(it) }),
+      { "aria-label": "Allow or deny" });
+  }
+
+  whom() {
+    const now = whomOf(this.entry);
+    const name = input(now.name, { "aria-label": "Name", list: this.names, hidden: now.name === "" });
+    const choices = WHOM.map(({ id, word }) => ({ value: id, word }));
+    const whom = select(choices, now.id, (id) => {
+      name.hidden = !WHOM.find((it) => it.id === id).isNamed;
+      this.set(withWhom(this.entry, { id, name: name.value }));
+    }, { "aria-label": "Whom" });
+    name.oninput = () => this.set(withWhom(this.entry, { id: whom.value, name: name.value.trim() }));
+    return [whom, name];
+  }
+
+  rights() {
+    const boxes = RIGHTS.map((it) => this.right(it));
+    const choices = [...SETS.map(({ mask, name }) => ({ value: String(mask), word: name })),
+      { value: CHOSEN, word: "do what is chosen below" }];
+    this.sets = select(choices, this.setNow(), (it) => {
+      if (it !== CHOSEN) this.set({ ...this.entry, mask: Number(it) });
+      for (const [at, { bit }] of RIGHTS.entries()) boxes[at].firstChild.checked = (this.entry.mask & bit) !== 0;
+    }, { "aria-label": "Rights" });
+    const some = (isAsked) => boxes.filter((_, at) => RIGHTS[at].isAsked === isAsked);
+    return [make("fieldset", {}, make("legend", {}, "Rights"), ...some(true),
+      make("details", {}, make("summary", {}, "Rights that no command asks for"), ...some(false)))];
+  }
+
+  setNow() {
+    return SETS.some((it) => it.mask === this.entry.mask) ? String(this.entry.mask) : CHOSEN;
+  }
+
+  right(it) {
+    const words = this.kind === FOLDER ? bothWords(it) : it[this.kind];
+    return checkbox(words, (this.entry.mask & it.bit) !== 0, () => {
+      this.set({ ...this.entry, mask: this.entry.mask ^ it.bit });
+      this.sets.value = this.setNow();
+    });
+  }
+
+  reach() {
+    if (this.kind !== FOLDER) return [];
+    const boxes = REACH.map(({ flag, word, isTurned }) =>
+      checkbox(word, ((this.entry.flag & flag) !== 0) !== Boolean(isTurned),
+        () => this.set({ ...this.entry, flag: this.entry.flag ^ flag })));
+    return [make("fieldset", {}, make("legend", {}, "Counts for"), ...boxes)];
+  }
+
+  all() {
+    const rights = this.rights();
+    return [make("p", { className: "row" }, this.verb(), ...this.whom(), "to", this.sets), ...rights, ...this.reach()];
+  }
+}
+
+/** An entry that can be changed. `does` has what its buttons do: up, down, remove. */
+export function entryEditor(entry, { kind, standing, names, isOpen, changed, does }) {
+  const summary = make("summary", {}, sentence(entry, kind, standing));
+  const fields = new Fields(entry, kind, names, (now) => {
+    summary.textContent = sentence(now, kind, standing);
+    changed(now);
+  });
+  const buttons = Object.entries(does).map(([words, action]) => button(words, action));
+  return make("li", {}, make("details", { open: isOpen, className: isDeny(entry) ? "deny" : "allow" }, summary,
+    ...fields.all(), make("p", { className: "tools" }, ...buttons)));
+}

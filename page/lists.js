@@ -1,0 +1,95 @@
+/** Entries of a list in words, and back. docs/LISTS.md has the rules; whether an entry is lawful the room says. */
+import { FOLDER, FILE, RIGHTS, SETS, bothWords, rightsIn } from "./rights.js";
+
+const DENY = 1;
+const GROUP_FLAG = 0x40;
+const MARK = 0x80;
+export const TO_FILES = 0x1;
+export const TO_FOLDERS = 0x2;
+const CHILDREN_ALONE = 0x4;
+const NOT_HERE = 0x8;
+const AUTO_INHERIT = 1;
+const PROTECTED = 2;
+
+/** Whom an entry can name: the word of the choice, and whether a name stands behind it. */
+export const WHOM = [
+  { id: "EVERYONE@", word: "everyone" },
+  { id: "OWNER@", word: "its owner" },
+  { id: "GROUP@", word: "its group" },
+  { id: "user", word: "the user", isNamed: true },
+  { id: "group", word: "the group", isNamed: true },
+];
+
+/** Where an entry of a folder counts: its flag, the word, and whether the flag stands for no. */
+export const REACH = [
+  { flag: NOT_HERE, word: "this folder itself", isTurned: true },
+  { flag: TO_FILES, word: "the documents in it" },
+  { flag: TO_FOLDERS, word: "the folders in it" },
+  { flag: CHILDREN_ALONE, word: "what is further down", isTurned: true },
+];
+
+export const isInherited = (entry) => (entry.flag & MARK) !== 0;
+export const asOwn = (entry) => ({ ...entry, flag: entry.flag & ~MARK });
+export const isDeny = (entry) => entry.type === DENY;
+export const newEntry = (kind) =>
+  ({ type: 0, flag: kind === FOLDER ? TO_FILES | TO_FOLDERS : 0, mask: SETS[0].mask, who: "EVERYONE@" });
+
+/** Whether an object takes over what its folder hands down. */
+export function follows(aclflag) {
+  return (aclflag & AUTO_INHERIT) !== 0 && (aclflag & PROTECTED) === 0;
+}
+
+export function withFollows(aclflag, isWanted) {
+  if (follows(aclflag) === isWanted) return aclflag;
+  const rest = aclflag & ~(AUTO_INHERIT | PROTECTED);
+  return rest | (isWanted ? AUTO_INHERIT : PROTECTED);
+}
+
+/** The choice of `WHOM` that an entry has, with its name where one stands there. */
+export function whomOf(entry) {
+  if (entry.who.endsWith("@")) return { id: entry.who, name: "" };
+  return { id: entry.flag & GROUP_FLAG ? "group" : "user", name: entry.who };
+}
+
+export function withWhom(entry, { id, name }) {
+  const isNamed = WHOM.find((it) => it.id === id).isNamed;
+  const flag = (entry.flag & ~GROUP_FLAG) | (id === "group" ? GROUP_FLAG : 0);
+  return { ...entry, flag, who: isNamed ? name : id };
+}
+
+function whomWords(entry, { owner, group }) {
+  const { id, name } = whomOf(entry);
+  const whose = { "OWNER@": owner, "GROUP@": group }[id];
+  const word = WHOM.find((it) => it.id === id).word;
+  return [word, name, whose ? `(${whose})` : ""].filter((it) => it !== "").join(" ");
+}
+
+export function joined(words) {
+  return words.length < 2 ? words.join("") : `${words.slice(0, -1).join(", ")} and ${words.at(-1)}`;
+}
+
+/** The rights of an entry, in the words of the kinds of objects for which it counts. */
+function rightsWords({ mask, flag }, kind) {
+  const set = SETS.find((it) => it.mask === mask);
+  if (set) return set.name;
+  if (mask === 0) return "do nothing";
+  const isForFiles = kind === FILE || flag & NOT_HERE && flag & TO_FILES && !(flag & TO_FOLDERS);
+  const isForBoth = !isForFiles && kind === FOLDER && flag & TO_FILES;
+  if (!isForBoth) return joined(rightsIn(mask, isForFiles ? FILE : FOLDER));
+  return joined(RIGHTS.filter((it) => mask & it.bit).map(bothWords));
+}
+
+function reachWords(flag) {
+  const kinds = [flag & TO_FILES ? "documents" : "", flag & TO_FOLDERS ? "folders" : ""].filter((it) => it !== "");
+  if (kinds.length === 0) return flag & NOT_HERE ? "Counts nowhere." : "Counts here alone.";
+  const depth = flag & CHILDREN_ALONE ? ", and no further" : ", and further down";
+  return `${flag & NOT_HERE ? "Does not count here, but is" : "Counts here, and is"} handed down to ${joined(kinds)}` +
+    ` in it${depth}.`;
+}
+
+/** An entry as a sentence. */
+export function sentence(entry, kind, standing) {
+  const verb = isDeny(entry) ? "Deny" : "Allow";
+  const reach = kind === FOLDER ? ` ${reachWords(entry.flag)}` : "";
+  return `${verb} ${whomWords(entry, standing)} to ${rightsWords(entry, kind)}.${reach}`;
+}

@@ -1,0 +1,169 @@
+/** The view of who may do what: users and objects, and what the room says of each pair. */
+import { button, labelled, make, nameText } from "./dom.js";
+import { head } from "./heads.js";
+import { joined, whomOf } from "./lists.js";
+import { foldersAbove, inFolder, lastName, ROOT } from "./places.js";
+import { ALL, FOLDER, LEGEND, NOT_KNOWN, PASS_THROUGH, SHUT_OUT, levelOf, rightsIn } from "./rights.js";
+
+const MOST_USERS = 20; // columns shown at once
+const MOST_OBJECTS = 40; // rows shown at first, and added each time: two requests each
+
+/** What is asked of the room for one matrix, each thing once. */
+class Questions {
+  constructor(app) {
+    Object.assign(this, { app, asked: new Map() });
+  }
+
+  once(key, task) {
+    if (!this.asked.has(key)) this.asked.set(key, task());
+    return this.asked.get(key);
+  }
+
+  /** Kind, owner, group and list, or null where the caller may not see them. */
+  object(path) {
+    return this.once(path, async () => {
+      const stat = await this.app.room.runIfAllowed("STAT", path);
+      const list = stat && await this.app.room.runIfAllowed("GETLIST", path);
+      return list && { ...stat, ...list };
+    });
+  }
+
+  /** The rights that the object's list allows the user, or null where that is not known. */
+  async allowed(path, user, groups) {
+    const it = await this.object(path);
+    const isOwn = user === this.app.user;
+    if (isOwn && !(it && groups)) return this.once(`${path} own`, () => this.own(path));
+    const key = JSON.stringify([user, it]);
+    return it && this.once(key, () => this.app.room.allowed(it, user, groups ?? []));
+  }
+
+  async own(path) {
+    return (await this.app.room.runIfAllowed("ACCESS", path, { mask: ALL }))?.allowed ?? null;
+  }
+
+  /** The first folder above that does not let the user pass, or null; `isKnown` where each of them told. */
+  async barrier(path, user, groups) {
+    let isKnown = true;
+    for (const folder of foldersAbove(path)) {
+      const allowed = await this.allowed(folder, user, groups);
+      if (allowed !== null && !(allowed & PASS_THROUGH)) return { folder, isKnown: true };
+      isKnown &&= allowed !== null;
+    }
+    return { folder: null, isKnown };
+  }
+}
+
+async function cellOf(questions, { path, kind }, user, groups) {
+  const allowed = await questions.allowed(path, user, groups);
+  const barrier = await questions.barrier(path, user, groups);
+  const level = barrier.folder ? SHUT_OUT : allowed === null ? NOT_KNOWN : levelOf(allowed, kind);
+  return { path, kind, user, allowed, barrier, level };
+}
+
+/** A cell in whole sentences. */
+function told({ path, kind, user, allowed, barrier }) {
+  if (allowed === null && !barrier.folder) return `What ${user} may do with ${path}: ${NOT_KNOWN.tells}.`;
+  const rights = allowed ? joined(rightsIn(allowed, kind)) : "do nothing with it";
+  const may = allowed === null ? "" : `The list of ${path} lets ${user} ${rights}.`;
+  if (barrier.folder) return `${user} may not pass through ${barrier.folder}, so cannot get at ${path}. ${may}`;
+  return barrier.isKnown ? may : `${may} Whether ${user} may pass through each folder above is not known to you.`;
+}
+
+function cellElement(cell, detail) {
+  const isSure = cell.barrier.isKnown || cell.level === NOT_KNOWN;
+  const it = button(cell.level.word + (isSure ? "" : "?"), () => {
+    detail.textContent = told(cell);
+  }, { title: told(cell) });
+  return make("td", { className: `level ${cell.level.name}` }, it);
+}
+
+function legend() {
+  const rows = LEGEND.map((it) => make("div", {}, make("dt", { className: `level ${it.name}` }, it.word),
+    make("dd", {}, it.tells)));
+  return make("dl", { className: "legend", "aria-label": "Legend" }, ...rows);
+}
+
+async function table(questions, objects, users, detail) {
+  const titles = users.map(([user]) => make("th", { scope: "col" }, nameText(user)));
+  const rows = [];
+  for (const object of objects) {
+    const cells = [];
+    for (const [user, groups] of users) {
+      cells.push(cellElement(await cellOf(questions, object, user, groups), detail));
+    }
+    const name = `${lastName(object.path)}${object.kind === FOLDER && object.path !== ROOT ? "/" : ""}`;
+    rows.push(make("tr", {}, make("th", { scope: "row" }, nameText(name)), ...cells));
+  }
+  return make("div", { className: "wide", tabIndex: 0, role: "region", "aria-label": "Users and objects" },
+    make("table", { className: "matrix" }, make("thead", {}, make("tr", {}, make("th", { scope: "col" }, "Object"),
+      ...titles)), make("tbody", {}, ...rows)));
+}
+
+/** The roster's users with their groups; without it those that are seen, whose groups are not known. */
+async function usersOf(app, questions, objects) {
+  const roster = await app.room.users();
+  if (roster) return { users: Object.entries(roster), isWhole: true };
+  const seen = new Set([app.user]);
+  for (const { path } of objects) {
+    const it = await questions.object(path);
+    for (const entry of it?.entries ?? []) if (whomOf(entry).id === "user") seen.add(entry.who);
+    if (it) seen.add(it.owner);
+  }
+  return { users: [...seen].map((user) => [user, null]), isWhole: false };
+}
+
+async function objectsOf(app, path) {
+  const { kind } = await app.room.standing(path);
+  const inside = kind === FOLDER ? await app.room.runIfAllowed("LIST", path) : null;
+  const children = (inside?.names ?? []).map(([name, itsKind]) => ({ path: inFolder(path, name), kind: itsKind }));
+  return [{ path, kind }, ...children];
+}
+
+const WITHOUT_ROSTER = "The front does not tell this room's users: these are the ones that lists and owners name, " +
+  "asked about without their groups.";
+
+/** The table with as many rows as were asked for, and the users whose name has a word. */
+class MatrixView {
+  constructor(app, questions, objects, users) {
+    Object.assign(this, { app, questions, objects, users, count: MOST_OBJECTS, word: "" });
+    this.detail = make("p", { className: "detail", role: "status" }, "Choose a cell to read it in words.");
+    this.element = make("div", {});
+  }
+
+  async draw() {
+    const users = this.users.filter(([user]) => user.includes(this.word));
+    const objects = this.objects.slice(0, this.count);
+    const shown = await table(this.questions, objects, users.slice(0, MOST_USERS), this.detail);
+    this.element.replaceChildren(shown, ...this.more(), ...this.narrow(users.length));
+  }
+
+  more() {
+    const left = this.objects.length - this.count;
+    const show = () => this.app.attempt(() => {
+      this.count += MOST_OBJECTS;
+      return this.draw();
+    });
+    return left > 0 ? [button(`Show more of the ${left} objects that are left`, show)] : [];
+  }
+
+  narrow(found) {
+    if (this.users.length <= MOST_USERS) return [];
+    const field = make("input", { type: "search", value: this.word });
+    field.onchange = () => this.app.attempt(() => {
+      this.word = field.value.trim();
+      return this.draw();
+    });
+    const words = `Users whose name has these letters (${Math.min(found, MOST_USERS)} of ${found} are shown)`;
+    return [labelled(words, field)];
+  }
+}
+
+export async function showMatrix(app, place) {
+  const questions = new Questions(app);
+  const objects = await objectsOf(app, place.path);
+  const { users, isWhole } = await usersOf(app, questions, objects.slice(0, MOST_OBJECTS));
+  const view = new MatrixView(app, questions, objects, users);
+  await view.draw();
+  const note = isWhole ? [] : [make("p", { className: "fault" }, WITHOUT_ROSTER)];
+  return [...head(place), ...note, view.element, view.detail, legend()];
+}

@@ -1,0 +1,64 @@
+/** Paths of the room, and the part of the address behind '#' that says which of them is shown. */
+
+const MAX_NAME_BYTES = 64;
+const MAX_NAMES = 16;
+
+export const ROOT = "/";
+
+export function namesOf(path) {
+  return path.split("/").filter((it) => it !== "");
+}
+
+export function pathOf(names) {
+  return `/${names.join("/")}`;
+}
+
+export function inFolder(folder, name) {
+  return pathOf([...namesOf(folder), name]);
+}
+
+export function folderOf(path) {
+  return pathOf(namesOf(path).slice(0, -1));
+}
+
+export function lastName(path) {
+  return namesOf(path).at(-1) ?? ROOT;
+}
+
+/** The folders that a walk to the path goes through, from the root down. */
+export function foldersAbove(path) {
+  const names = namesOf(path);
+  return names.map((_, count) => pathOf(names.slice(0, count)));
+}
+
+/** Why the room would not take this as a name, or nothing. */
+export function nameFault(name) {
+  if (name === "" || name === "." || name === "..") return "A name is wanted, other than . and ..";
+  if (/[/\u0000-\u001f\u007f]/.test(name)) return "A name has no / and no control character.";
+  const bytes = new TextEncoder().encode(name).length;
+  return bytes > MAX_NAME_BYTES ? `This name has ${bytes} bytes, and ${MAX_NAME_BYTES} is the most.` : "";
+}
+
+/** Why the room would not take this as a path, or nothing. */
+export function pathFault(path) {
+  const names = path.split("/").slice(1);
+  if (!path.startsWith("/")) return "A path begins with /.";
+  if (names.length > MAX_NAMES) return `A path has at most ${MAX_NAMES} names.`;
+  return names.map(nameFault).find((it) => it !== "") ?? "";
+}
+
+/** The address of a place: its view, room and names, each percent-encoded. */
+export function addressOf({ view = "open", room, path }) {
+  return `#${[view, room, ...namesOf(path)].map(encodeURIComponent).join("/")}`;
+}
+
+/** The place of an address, or null where it names none. */
+export function placeOf(address) {
+  try {
+    const [view, room, ...names] = address.replace(/^#/, "").split("/").map(decodeURIComponent);
+    const isPath = names.length === 0 || pathFault(pathOf(names)) === "";
+    return room && isPath ? { view, room, path: pathOf(names) } : null;
+  } catch {
+    return null;
+  }
+}

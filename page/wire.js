@@ -1,0 +1,69 @@
+/** One exchange with the room, and the same again until it is answered. */
+
+const WAIT = 30_000; // milliseconds for an answer
+const DELAY = 30; // the code of 'later': the message did nothing
+
+/** No answer of the room came. Whether it acted is not known, and the very same message may be sent again. */
+export class NoAnswer extends Error {}
+
+function isReply(it) {
+  return typeof it === "object" && it !== null && Number.isInteger(it.code);
+}
+
+function readReply(text) {
+  try {
+    const it = JSON.parse(text);
+    return isReply(it) ? it : null;
+  } catch {
+    return null;
+  }
+}
+
+function whyNoReply(status) {
+  if (status === 401) return "The login is not accepted any more. Log in again in another tab, or reload this page.";
+  if (status === 404) return "The front knows no such room.";
+  if (status >= 500 || status === 429) return "The room is busy, or is being started again.";
+  return `The front answers with status ${status}.`;
+}
+
+async function fetchText(url, how) {
+  try {
+    const whole = new URL(url, location.origin); // (not of the page's address, which may hold a password)
+    const rules = { cache: "no-store", credentials: "same-origin", redirect: "error" };
+    const answer = await fetch(whole, { ...rules, ...how, signal: AbortSignal.timeout(WAIT) });
+    return { status: answer.status, text: await answer.text() };
+  } catch {
+    throw new NoAnswer("The room cannot be reached.");
+  }
+}
+
+/** What the room answers to one message. */
+async function exchange(url, body) {
+  const headers = { "content-type": "application/json" };
+  const { status, text } = await fetchText(url, { method: "POST", headers, body });
+  const reply = readReply(text);
+  if (reply === null) throw new NoAnswer(whyNoReply(status));
+  if (reply.code === DELAY) throw new NoAnswer("The room is busy.");
+  return reply;
+}
+
+/** Sends until there is an answer. `before` is called before each sending; `patience` waits, or throws to give up. */
+export async function untilAnswered(url, body, patience, before = () => {}) {
+  for (let times = 1; ; times += 1) {
+    before();
+    try {
+      const reply = await exchange(url, body);
+      patience.over();
+      return reply;
+    } catch (fault) {
+      if (!(fault instanceof NoAnswer)) throw fault;
+      await patience.wait(fault.message, times);
+    }
+  }
+}
+
+/** A file of the front's, as text; null where it has none. */
+export async function fileOfFront(url) {
+  const { status, text } = await fetchText(url, {});
+  return status === 200 ? text : null;
+}
