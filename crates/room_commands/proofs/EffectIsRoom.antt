@@ -63,13 +63,13 @@ module _ (room : Room) (caller : SubjectModel) (lawful : IsRoom room) where
 -- RENAME, where its checks pass
 renaming : (room : Room) (caller : SubjectModel) (path to : Path) → IsPath to → IsRoom room
     → AllNone (checks room caller (C.Rename path to)) → IsRoom (renamed room path to)
-renaming room caller path to is_path lawful a =
-    let roots = or_parts (is_root path || is_root to) (is_at_or_below to path) (not_refused _ _ a.0) in
+renaming room caller path to is_path lawful (outside, (_, (there, (walked_to, (free, (_, (_, (depth, (full, _))))))))) =
+    let roots = or_parts (is_root path || is_root to) (is_at_or_below to path) (not_refused _ _ outside) in
     let two = or_parts (is_root path) (is_root to) roots.0 in
     let end = not_root_ends to two.1 in
-    let moving = exists_there room path a.1.1.0 in
+    let moving = exists_there room path there in
     let Walked : Path → Type 0 = λ p. walk room caller p ≡ None in
-    let above = walk_ends_in_folder room caller end.folder end.name (subst Walked end.is a.1.1.1.0) in
+    let above = walk_ends_in_folder room caller end.folder end.name (subst Walked end.is walked_to) in
     let in_folder : parent_of to ≡ end.folder = ap parent_of end.is ∙ parent_of_end end.folder end.name in
     let Renamed : Path → Type 0 = λ p. IsRoom (renamed room path p) in
     subst Renamed (sym end.is) (renamed_is_room room lawful path end.folder end.name (record {
@@ -77,18 +77,18 @@ renaming room caller path to is_path lawful a =
       there = moving.1;
       below_root = root_off path two.0;
       apart = ap (λ p. is_at_or_below p path) (sym end.is) ∙ roots.1;
-      free = ap (object_at room) (sym end.is) ∙ absent_there room to a.1.1.1.1.0;
+      free = ap (object_at room) (sym end.is) ∙ absent_there room to free;
       is_path = subst IsPath end.is is_path;
       above = above.0;
       stands = above.1;
       is_folder = above.2;
       fits = λ q other there below.
           let Fits : Path → Type 0 = λ p. length p + (length q - length path) ≤ max_names in
-          subst Fits end.is (depth_there room path to a.1.1.1.1.1.1.1.0 q other there below);
+          subst Fits end.is (depth_there room path to depth q other there below);
       not_full = λ other.
           let NotFull : Path → Type 0 = λ p. length (children room p) < max_children in
           subst NotFull in_folder (not_full_there room (parent_of to) (full_checked
-          (path_eq (parent_of path) (parent_of to)) refl (λ same. other (same ∙ in_folder)) a.1.1.1.1.1.1.1.1.0));
+          (path_eq (parent_of path) (parent_of to)) refl (λ same. other (same ∙ in_folder)) full));
     }))
   where
     root_off : (p : Path) → is_root p ≡ false → is_at_or_below [] p ≡ false
@@ -113,52 +113,52 @@ few_by_fault entries kind h = by_test (nat_lt max_own_entries (length entries)) 
 pub created_is_room : (room : Room) (caller : SubjectModel) (bytes : List ℕ) (path : Path) → IsPath path → IsRoom room →
     first_refusal (checks room caller (C.Create bytes path)) ≡ None → IsRoom (changed room caller (C.Create bytes path))
 created_is_room room caller bytes path is_path lawful passed =
-    let a = all_none (checks room caller (C.Create bytes path)) passed in
+    let (not_root, (walked, (free, (_, (small, (not_full, _)))))) = all_none (checks room caller (C.Create bytes path)) passed in
     new_is_room room caller lawful path (new_object room caller path File bytes)
-    is_path (not_refused _ _ a.0) a.1.0 a.1.1.0 a.1.1.1.1.1.0
+    is_path (not_refused _ _ not_root) walked free not_full
     (record {
       few_entries = omega arith;
       own_entries = refl;
-      small = small_enough room (length bytes) a.1.1.1.1.0;
+      small = small_enough room (length bytes) small;
       folder = λ is. absurd (file_is_no_folder File refl is);
     })
 
 pub written_is_room : (room : Room) (caller : SubjectModel) (bytes : List ℕ) (path : Path) → IsRoom room
     → first_refusal (checks room caller (C.Write bytes path)) ≡ None → IsRoom (changed room caller (C.Write bytes path))
 written_is_room room caller bytes path lawful passed =
-    let a = all_none (checks room caller (C.Write bytes path)) passed in
+    let (_, (_, (file, (_, (small, _))))) = all_none (checks room caller (C.Write bytes path)) passed in
     with_object_is_room room path (λ o. record o { bytes = bytes }) (λ o. refl) lawful
     (λ o there. record {
       few_entries = (object_lawful room caller lawful path o there).few_entries;
       own_entries = (object_lawful room caller lawful path o there).own_entries;
-      small = small_enough room (length bytes) a.1.1.1.1.0;
-      folder = λ is. absurd (file_is_no_folder o.kind (file_there room path o there a.1.1.0) is);
+      small = small_enough room (length bytes) small;
+      folder = λ is. absurd (file_is_no_folder o.kind (file_there room path o there file) is);
     })
 
 pub appended_is_room : (room : Room) (caller : SubjectModel) (bytes : List ℕ) (path : Path) → IsRoom room →
     first_refusal (checks room caller (C.Append bytes path)) ≡ None → IsRoom (changed room caller (C.Append bytes path))
 appended_is_room room caller bytes path lawful passed =
-    let a = all_none (checks room caller (C.Append bytes path)) passed in
+    let (_, (_, (file, (_, (small, _))))) = all_none (checks room caller (C.Append bytes path)) passed in
     with_object_is_room room path (λ o. record o { bytes = o.bytes ++ bytes }) (λ o. refl) lawful
     (λ o there.
-    let size = small_enough room (length (bytes_at room path) + length bytes) a.1.1.1.1.0 in
+    let size = small_enough room (length (bytes_at room path) + length bytes) small in
     let same : length (bytes_at room path) ≡ length o.bytes = ap (λ found. length (bytes_of found)) there in
     record {
       few_entries = (object_lawful room caller lawful path o there).few_entries;
       own_entries = (object_lawful room caller lawful path o there).own_entries;
       small = omega (arith, size, same, length-append o.bytes bytes);
-      folder = λ is. absurd (file_is_no_folder o.kind (file_there room path o there a.1.1.0) is);
+      folder = λ is. absurd (file_is_no_folder o.kind (file_there room path o there file) is);
     })
 
 pub setlist_is_room : (room : Room) (caller : SubjectModel) (aclflag : ℕ) (sent : List EntryModel) (path : Path)
     → IsRoom room → first_refusal (checks room caller (C.SetList aclflag sent path)) ≡ None
     → IsRoom (changed room caller (C.SetList aclflag sent path))
 setlist_is_room room caller aclflag sent path lawful passed =
-    let a = all_none (checks room caller (C.SetList aclflag sent path)) passed in
+    let (_, (_, (_, (own_lawful, _)))) = all_none (checks room caller (C.SetList aclflag sent path)) passed in
     with_object_is_room room path
     (λ o. record o { aclflag = aclflag; own = own_entries_of_setlist path aclflag sent }) (λ o. refl) lawful
     (λ o there. record {
-      few_entries = few_by_fault (own_entries_of_setlist path aclflag sent) (kind_of (object_at room path)) a.1.1.1.0;
+      few_entries = few_by_fault (own_entries_of_setlist path aclflag sent) (kind_of (object_at room path)) own_lawful;
       own_entries = no_mark_left path aclflag sent;
       small = (object_lawful room caller lawful path o there).small;
       folder = (object_lawful room caller lawful path o there).folder;
@@ -185,9 +185,9 @@ changed_is_room room caller (C.Read path) is_lawful lawful passed = lawful
 changed_is_room room caller (C.GetList path) is_lawful lawful passed = lawful
 changed_is_room room caller (C.Access mask path) is_lawful lawful passed = lawful
 changed_is_room room caller (C.Mkdir path) is_lawful lawful passed =
-    let a = all_none (checks room caller (C.Mkdir path)) passed in
+    let (not_root, (walked, (free, (_, (not_full, _))))) = all_none (checks room caller (C.Mkdir path)) passed in
     new_is_room room caller lawful path (new_object room caller path Folder [])
-    is_lawful (not_refused _ _ a.0) a.1.0 a.1.1.0 a.1.1.1.1.0
+    is_lawful (not_refused _ _ not_root) walked free not_full
     (record { few_entries = omega arith; own_entries = refl; small = omega arith; folder = λ is. refl })
 changed_is_room room caller (C.Create bytes path) is_lawful lawful passed =
     created_is_room room caller bytes path is_lawful.1 lawful passed
@@ -196,10 +196,10 @@ changed_is_room room caller (C.Write bytes path) is_lawful lawful passed =
 changed_is_room room caller (C.Append bytes path) is_lawful lawful passed =
     appended_is_room room caller bytes path lawful passed
 changed_is_room room caller (C.Remove path) is_lawful lawful passed =
-    let a = all_none (checks room caller (C.Remove path)) passed in
-    without_is_room room path lawful (not_root_is path (not_refused _ _ a.0))
+    let (not_root, (_, (_, (_, (empty, _))))) = all_none (checks room caller (C.Remove path)) passed in
+    without_is_room room path lawful (not_root_is path (not_refused _ _ not_root))
     (nothing_in_empty room path
-    (omega (arith, ltb-false 0 (length (children room path)) (not_refused _ _ a.1.1.1.1.0))))
+    (omega (arith, ltb-false 0 (length (children room path)) (not_refused _ _ empty))))
 changed_is_room room caller (C.Rename path to) is_lawful lawful passed =
     renaming room caller path to is_lawful.1 lawful (all_none (checks room caller (C.Rename path to)) passed)
 changed_is_room room caller (C.SetList aclflag sent path) is_lawful lawful passed =

@@ -53,9 +53,9 @@ pub ways_none : (room : Room) (caller : SubjectModel) (ways : List Path)
     → list_all (list_any (allows room caller)) (map (λ front. need front execute) ways) ≡ true
 ways_none room caller [] h = refl
 ways_none room caller (front ∷ ways) h =
-    let here =
+    let (there, (folder, (right, _))) =
     all_none (check_exists room front ∷ check_folder room front ∷ check_right room caller front execute ∷ []) h.0 in
-    both _ _ (right_none room caller front execute here.1.1.0) (ways_none room caller ways h.1)
+    both _ _ (right_none room caller front execute right) (ways_none room caller ways h.1)
 
 walk_none : (room : Room) (caller : SubjectModel) (path : Path) → walk room caller path ≡ None
     → list_all (list_any (allows room caller)) (on_the_way path) ≡ true
@@ -86,40 +86,44 @@ at_one room caller path on mask r w = both _ _ (right_none room caller on mask r
 pub rights_of_success : (room : Room) (caller : SubjectModel) (command : CommandModel)
     → first_refusal (checks room caller command) ≡ None → NeedsAllowed room caller command
 rights_of_success room caller (C.Stat path) h =
-    let a = all_none (checks room caller (C.Stat path)) h in at_one room caller path path read_attributes a.1.1.0 a.0
+    let (walked, (there, (right, _))) = all_none (checks room caller (C.Stat path)) h in
+    at_one room caller path path read_attributes right walked
 rights_of_success room caller (C.ListNames path) h =
-    let a = all_none (checks room caller (C.ListNames path)) h in
-    at_one room caller path path list_directory a.1.1.1.0 a.0
+    let (walked, (there, (folder, (right, _)))) = all_none (checks room caller (C.ListNames path)) h in
+    at_one room caller path path list_directory right walked
 rights_of_success room caller (C.Mkdir path) h =
-    let a = all_none (checks room caller (C.Mkdir path)) h in
-    at_one room caller path (parent_of path) add_subdirectory a.1.1.1.0 a.1.0
+    let (not_root, (walked, (free, (right, _)))) = all_none (checks room caller (C.Mkdir path)) h in
+    at_one room caller path (parent_of path) add_subdirectory right walked
 rights_of_success room caller (C.Create bytes path) h =
-    let a = all_none (checks room caller (C.Create bytes path)) h in
-    at_one room caller path (parent_of path) add_file a.1.1.1.0 a.1.0
+    let (not_root, (walked, (free, (right, _)))) = all_none (checks room caller (C.Create bytes path)) h in
+    at_one room caller path (parent_of path) add_file right walked
 rights_of_success room caller (C.Read path) h =
-    let a = all_none (checks room caller (C.Read path)) h in at_one room caller path path read_data a.1.1.1.0 a.0
+    let (walked, (there, (file, (right, _)))) = all_none (checks room caller (C.Read path)) h in
+    at_one room caller path path read_data right walked
 rights_of_success room caller (C.Write bytes path) h =
-    let a = all_none (checks room caller (C.Write bytes path)) h in
-    at_one room caller path path write_data a.1.1.1.0 a.0
+    let (walked, (there, (file, (right, _)))) = all_none (checks room caller (C.Write bytes path)) h in
+    at_one room caller path path write_data right walked
 rights_of_success room caller (C.Append bytes path) h =
-    let a = all_none (checks room caller (C.Append bytes path)) h in
-    at_one room caller path path append_data a.1.1.1.0 a.0
+    let (walked, (there, (file, (right, _)))) = all_none (checks room caller (C.Append bytes path)) h in
+    at_one room caller path path append_data right walked
 rights_of_success room caller (C.Remove path) h =
-    let a = all_none (checks room caller (C.Remove path)) h in
-    both _ _ (removal_none room caller path a.1.1.1.0) (walk_none room caller path a.1.0)
+    let (not_root, (walked, (there, (removal, _)))) = all_none (checks room caller (C.Remove path)) h in
+    both _ _ (removal_none room caller path removal) (walk_none room caller path walked)
 rights_of_success room caller (C.Rename path to) h =
-    let a = all_none (checks room caller (C.Rename path to)) h in
-    both _ _ (removal_none room caller path a.1.1.1.1.1.0)
-    (both _ _ (right_none room caller (parent_of to) (right_to_add room path) a.1.1.1.1.1.1.0)
+    let (outside, (walked, (there, (walked_to, (free, (removal, (right, _))))))) =
+    all_none (checks room caller (C.Rename path to)) h in
+    both _ _ (removal_none room caller path removal)
+    (both _ _ (right_none room caller (parent_of to) (right_to_add room path) right)
     (list_all-append _ (on_the_way path) (on_the_way to)
-    ∙ both _ _ (walk_none room caller path a.1.0) (walk_none room caller to a.1.1.1.0)))
+    ∙ both _ _ (walk_none room caller path walked) (walk_none room caller to walked_to)))
 rights_of_success room caller (C.GetList path) h =
-    let a = all_none (checks room caller (C.GetList path)) h in at_one room caller path path read_acl a.1.1.0 a.0
+    let (walked, (there, (right, _))) = all_none (checks room caller (C.GetList path)) h in
+    at_one room caller path path read_acl right walked
 rights_of_success room caller (C.SetList flags sent path) h =
-    let a = all_none (checks room caller (C.SetList flags sent path)) h in
-    at_one room caller path path write_acl a.1.1.0 a.0
+    let (walked, (there, (right, _))) = all_none (checks room caller (C.SetList flags sent path)) h in
+    at_one room caller path path write_acl right walked
 rights_of_success room caller (C.Chown group owner path) h =
-    let a = all_none (checks room caller (C.Chown group owner path)) h in
-    at_one room caller path path write_owner a.1.1.0 a.0
+    let (walked, (there, (right, _))) = all_none (checks room caller (C.Chown group owner path)) h in
+    at_one room caller path path write_owner right walked
 rights_of_success room caller (C.Access mask path) h =
-    let a = all_none (checks room caller (C.Access mask path)) h in walk_none room caller path a.0
+    let (walked, _) = all_none (checks room caller (C.Access mask path)) h in walk_none room caller path walked

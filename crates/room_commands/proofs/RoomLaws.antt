@@ -20,7 +20,7 @@ use Rattle.room_commands.specs.Checks.{walk, bytes_of, bytes_at, is_root, is_at_
 use Rattle.room_commands.specs.declared.reply.RefusalCode.TheVariants.{NoEnt, NotDir, IsDir}
 use Rattle.room_commands.specs.Effect.{effect, effect_by, changed, reply, with_object, renamed}
 use Rattle.room_commands.specs.Needs.{NeedsAllowed}
-use Rattle.room_commands.proofs.Rights.{all_none, rights_of_success}
+use Rattle.room_commands.proofs.Rights.{AllNone, all_none, rights_of_success}
 use Rattle.room_commands.proofs.ChecksTell.{not_refused, exists_there, absent_there}
 use Rattle.room_commands.proofs.RoomsObject.{at_changed, after_change}
 use Rattle.room_commands.proofs.RoomsRenamed.{at_new_place, at_old_place, away}
@@ -191,15 +191,18 @@ module _ (room : Room) (caller : SubjectModel) (path to : Path) (lawful : IsRoom
   passed : first_refusal (checks room caller (C.Rename path to)) ≡ None
   passed = passed_if_not_refused room caller (C.Rename path to) success
 
+  each : AllNone (checks room caller (C.Rename path to))
+  each = all_none (checks room caller (C.Rename path to)) passed
+
   apart : is_at_or_below to path ≡ false
-  apart = (or_parts (is_root path || is_root to) (is_at_or_below to path)
-      (not_refused _ _ (all_none (checks room caller (C.Rename path to)) passed).0)).1
+  apart = let (outside, _) = each in
+      (or_parts (is_root path || is_root to) (is_at_or_below to path) (not_refused _ _ outside)).1
 
   moving : (o : Object) × (object_at room path ≡ Some o)
-  moving = exists_there room path (all_none (checks room caller (C.Rename path to)) passed).1.1.0
+  moving = let (_, (_, (there, _))) = each in exists_there room path there
 
   free : object_at room to ≡ None
-  free = absent_there room to (all_none (checks room caller (C.Rename path to)) passed).1.1.1.1.0
+  free = let (_, (_, (_, (_, (free_there, _))))) = each in absent_there room to free_there
 
   later_is : (effect room caller (C.Rename path to)).room ≡ renamed room path to
   later_is = room_if_passed room caller (C.Rename path to) passed
