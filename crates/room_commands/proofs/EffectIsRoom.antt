@@ -113,7 +113,8 @@ few_by_fault entries kind h = by_test (nat_lt max_own_entries (length entries)) 
 pub created_is_room : (room : Room) (caller : SubjectModel) (bytes : List ℕ) (path : Path) → IsPath path → IsRoom room →
     first_refusal (checks room caller (C.Create bytes path)) ≡ None → IsRoom (changed room caller (C.Create bytes path))
 created_is_room room caller bytes path is_path lawful passed =
-    let (not_root, (walked, (free, (_, (small, (not_full, _)))))) = all_none (checks room caller (C.Create bytes path)) passed in
+    let (not_root, (walked, (free, (_, (small, (not_full, _)))))) =
+    all_none (checks room caller (C.Create bytes path)) passed in
     new_is_room room caller lawful path (new_object room caller path File bytes)
     is_path (not_refused _ _ not_root) walked free not_full
     (record {
