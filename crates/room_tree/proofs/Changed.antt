@@ -45,8 +45,7 @@ none_new : (t later : ObjectRecords) → SameShape t later → (id : ℕ) → Is
 none_new t later shape id absent present =
     let now = is_present (later.node id) present in
     let before = shape.back id now.0 now.1 in
-    let There : Option Node → Type 0 = λ o. IsSome o in
-    none_and_some (t.node id) absent (subst There (sym before.1) refl)
+    none_and_some (t.node id) absent (rw before.1 refl)
 
 file_by_kind : (kind : Kind) (o : Object)
     → refuse_if (is_kind Folder (Some (record o { kind = kind }))) IsDir ≡ None → kind ≡ File
@@ -74,9 +73,7 @@ replaced_plans t room caller command outcome changes path o now_is node
     success_plans t room caller command outcome stand changes passed replied planned of_objects rules few
     (replaced t later room (changed room caller command) path o now_is node now stand r)
     (λ q id at stands there.
-    let At : Path → Type 0 = λ p. HasPath later p id in
-    subst At (sym (stays q))
-    (replaced_keeps t later room (changed room caller command) path o now_is node now stand r q id at))
+    rw (stays q) (replaced_keeps t later room (changed room caller command) path o now_is node now stand r q id at))
     (λ id absent present. absurd (none_new t later r.shape id absent present))
 
 module _ (t : ObjectRecords) (room : Room) (stand : RepresentsRoom t room) (path : Path)

@@ -92,8 +92,7 @@ module _ (t : ObjectRecords) (room : Room) (caller : SubjectModel) (path : Path)
   no_document = elim (some_or_none (t.document node.id)) [
     | inl none ↦ ap (λ (d : Option (List ℕ)). unwrap_or d []) none
     | inr some ↦ absurd (
-        let There : Option (List ℕ) → Type 0 = λ d. IsSome d in
-        let owner = stand.rules.documents node.id (subst There (sym some.1) refl) in
+        let owner = stand.rules.documents node.id (rw some.1 refl) in
         none_is_some owner.0 (sym fresh ∙ owner.1))
   ]
 
@@ -111,7 +110,7 @@ module _ (t : ObjectRecords) (room : Room) (caller : SubjectModel) (path : Path)
       found.is_there.shows.kind ∙ ap (λ (p : Object). p.kind) same ∙ parent.2
 
   folder_at : HasPath t end.folder above.id
-  folder_at = let At : Path → Type 0 = λ p. HasPath t p above.id in subst At in_folder found.is_there.at
+  folder_at = rw (← in_folder) found.is_there.at
 
   free : IsFree (apply_to_objects (PutNext (id + 1)) t) node above.id end.name
   free = record {
@@ -124,7 +123,7 @@ module _ (t : ObjectRecords) (room : Room) (caller : SubjectModel) (path : Path)
     folder = folder_is;
     inside = new.parent;
     named = new.name end.folder end.name end.is;
-    lawful = (let P : Path → Type 0 = λ p. IsPath p in last_is_name end.folder end.name (subst P end.is is_path).names);
+    lawful = (last_is_name end.folder end.name (rw end.is at is_path).names);
     alone = λ other child named.
         let at = child_is_at t stand.rules end.folder end.name above.id other folder_at
         (record { stands = child.stands; inside = child.inside }) named in
@@ -219,9 +218,7 @@ module _ (t : ObjectRecords) (room : Room) (caller : SubjectModel) (path : Path)
   only_next later nodes k none some = elim (same_or_other k node.id) [
     | inl same ↦ same ∙ numbered
     | inr other ↦ absurd (
-        let There : Option Node → Type 0 = λ n. IsSome n in
-        none_and_some (t.node k) none (subst There
-        (ap (λ (f : ℕ → Option Node). f k) nodes ∙ if_other k node.id (Some node) (t.node k) other) some))
+        none_and_some (t.node k) none (rw (← ap (λ (f : ℕ → Option Node). f k) nodes ∙ if_other k node.id (Some node) (t.node k) other) some))
   ]
 
 few_made : (t : ObjectRecords) (room : Room) → RepresentsRoom t room
@@ -337,10 +334,7 @@ create_plans t room caller bytes path above id node list copy outcome stand
     (ap (λ (d : Option (List ℕ)). unwrap_or d [])
     (if_same node.id id (Some copy.items) (third.document node.id) new.number) ∙ same) in
     let whole = sym (apply_append puts (PutDoc id copy ∷ []) second) in
-    let Stands : ObjectRecords → Type 0 = λ s. RepresentsRoom s (with_new room path o) in
-    let Keeps : ObjectRecords → Type 0 = λ s. (q : Path) (k : ℕ) → HasPath t q k → HasPath s q k in
-    let New : ObjectRecords → Type 0 = λ s. (k : ℕ) → IsNone (t.node k) → IsSome (s.node k) → k ≡ t.next in
-    let keeps = subst Keeps whole (added_keeps t later room (with_new room path o) path o node stand r) in
+    let keeps = rw whole at (added_keeps t later room (with_new room path o) path o node stand r) in
     success_plans t room caller command outcome stand
     (PutNext (id + 1) ∷ PutNode node ∷ puts ++ PutDoc id copy ∷ []) passed replied planned
     (tt, (tt, all_append IsOfObjects puts (PutDoc id copy ∷ []) gives.of_objects (tt, tt))) (
@@ -348,7 +342,7 @@ create_plans t room caller bytes path above id node list copy outcome stand
       (rules, rules_append puts (PutDoc id copy ∷ []) second gives.each (last, tt)),
     )
     (few_for_document t id none (id + 1) node list copy)
-    (subst Stands whole (added t later room (with_new room path o) path o node stand r))
+    (rw whole at (added t later room (with_new room path o) path o node stand r))
     (λ q k at stands there. keeps q k at)
-    (subst New whole (only_next t room caller path above File id node stand is_path
+    (rw (← whole) (only_next t room caller path above File id node stand is_path
     root_off absent found number.1 few new o lawful later gives.nodes))

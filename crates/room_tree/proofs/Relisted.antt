@@ -64,18 +64,15 @@ module _ (t : ObjectRecords) (room : Room) (stand : RepresentsRoom t room)
     (path : Path) (loaded : LoadedObject) (found : IsLoaded t room path loaded) where
   none_above : path ≡ [] → loaded.parent ≡ None
   none_above root =
-      let At : Path → Type 0 = λ p. HasPath t p loaded.id in
-      let one : loaded.id ≡ 1 = subst At root found.is_there.at in
-      let Root : Option Node → Type 0 = λ o. IfSome o IsRoot in
+      let one : loaded.id ≡ 1 = rw root at found.is_there.at in
       let is_root : IsRoot (node_of loaded) =
-      subst Root (ap t.node (sym one) ∙ found.is_there.node_stands) stand.rules.root in
+      rw (ap t.node (sym one) ∙ found.is_there.node_stands) at stand.rules.root in
       is_root.no_parent
 
   folder_above : (folder : Path) (name : Name) → path ≡ folder ++ name ∷ []
       → entries_of t loaded.parent ≡ list_of room folder
   folder_above folder name is =
-      let Up : List Name → Type 0 = λ names. NamesUpwards t names loaded.id in
-      let up = subst Up (ap reverse is ∙ reverse-append folder (name ∷ [])) found.is_there.at in
+      let up = rw (ap reverse is ∙ reverse-append folder (name ∷ [])) at found.is_there.at in
       let same : node_of loaded ≡ up.0 = some_is (node_of loaded) up.0 (sym found.is_there.node_stands ∙ up.2) in
       let parent : loaded.parent ≡ Some up.1 = ap (λ (n : Node). n.parent) same ∙ up.4 in
       ap (entries_of t) parent ∙ stored_list t room stand folder up.1 up.5
@@ -140,10 +137,9 @@ module _ (t : ObjectRecords) (room : Room) (stand : RepresentsRoom t room)
         where
           by_test : (b : Bool) → is_at_or_below q path ≡ b → later.entries id ≡ list_of after q
           by_test true below =
-              let At : Path → Type 0 = λ p. HasPath t p id in
               let rest : Path = drop (length path) q in
               let split : q ≡ path ++ rest = rest_below path q below in
-              relisted_at t room stand path list puts r now rest id (subst At split at)
+              relisted_at t room stand path list puts r now rest id (rw (← split) (at))
               ∙ ap (λ l. list_below room path l (reverse rest)) (sym is)
               ∙ sym (lists_renewed room after path path (λ below some. elsewhere_unchanged room path change (path
               ++ below) (λ same. some (append_cancel_left path below [] (same ∙ sym (append-nil path))))) rest)

@@ -81,16 +81,14 @@ module _ (t : ObjectRecords) (room : Room) (stand : RepresentsRoom t room) (a b 
   -- a folder is another one exactly where its number is
   pub same_folder : here.id ≡ there.id → path_eq a b ≡ true
   same_folder same =
-      let At : ℕ → Type 0 = λ id. HasPath t a id in
       let one : a ≡ b =
-      path_of_node t stand.rules a b there.id (subst At same is_here.is_there.at) is_there.is_there.at in
+      path_of_node t stand.rules a b there.id (rw (← same) is_here.is_there.at) is_there.is_there.at in
       ap (path_eq a) (sym one) ∙ path_itself a
 
   pub other_folder : (here.id ≡ there.id → ⊥) → path_eq a b ≡ false
   other_folder other = other_path a b (λ same.
-      let At : Path → Type 0 = λ p. HasPath t p there.id in
       other (reads_one t stand.rules (reverse a) here.id there.id
-      is_here.is_there.at (subst At (sym same) is_there.is_there.at)))
+      is_here.is_there.at (rw same is_there.is_there.at)))
 
 not_in_root : (path : Path) → is_root path ≡ false → is_at_or_below [] path ≡ false
 not_in_root [] off = cc
@@ -120,8 +118,7 @@ module _ (t : ObjectRecords) (room : Room) (stand : RepresentsRoom t room)
       by_place true below =
           let rest = drop (length path) q in
           let split : q ≡ path ++ rest = rest_below path q below in
-          let At : Path → Type 0 = λ p. HasPath t p id in
-          relisted_at t room stand path list puts r now rest id (subst At split at)
+          relisted_at t room stand path list puts r now rest id (rw (← split) (at))
           ∙ ap (λ l. list_below room path l (reverse rest)) (sym is)
           ∙ sym (lists_of_moved room stand.lawful path to o m.apart m.is_there.object_stands m.free rest)
           ∙ ap (list_of (renamed room path to)) (sym (ap (moved path to) split ∙ moved_rest path to rest))
@@ -167,14 +164,10 @@ rename_plans t room caller path to move now outcome stand is_path is_to passed f
     let in_folder : parent_of to ≡ last.folder = ap parent_of last.is ∙ parent_of_end last.folder last.name in
     let is = row last.folder last.name last.is in
     let lawful = changed_is_room room caller command (is_path, is_to) stand.lawful passed in
-    let Walked : Path → Type 0 = λ p. walk room caller p ≡ None in
-    let above = walk_ends_in_folder room caller last.folder last.name (subst Walked last.is a.1.1.1.0) in
+    let above = walk_ends_in_folder room caller last.folder last.name (rw (← last.is) a.1.1.1.0) in
     let into = found.into.is_there in
     let same : found.into.object ≡ above.0 =
     some_is found.into.object above.0 (sym into.object_stands ∙ ap (object_at room) in_folder ∙ above.1) in
-    let At : Path → Type 0 = λ p. HasPath t p move.into.id in
-    let Lawful : Path → Type 0 = λ p. IsRoom (renamed room path p) in
-    let Names : Path → Type 0 = λ p. IsPath p in
     let m : MovesNode t room path last.folder last.name found.loaded.object (node_of move.loaded) now move.into.id =
     record {
       is_there = found.loaded.is_there;
@@ -182,11 +175,11 @@ rename_plans t room caller path to move now outcome stand is_path is_to passed f
       off_root = not_in_root path pass.below_root;
       apart = ap (λ p. is_at_or_below p path) (sym last.is) ∙ pass.apart;
       free = ap (object_at room) (sym last.is) ∙ absent_there room to a.1.1.1.1.0;
-      up_at = subst At in_folder into.at;
+      up_at = rw (← in_folder) into.at;
       parent = node_of move.into;
       parent_stands = into.node_stands;
       parent_folder = into.shows.kind ∙ ap (λ (o : Object). o.kind) same ∙ above.2;
-      named = last_is_name last.folder last.name (subst Names last.is is_to).names;
+      named = last_is_name last.folder last.name (rw last.is at is_to).names;
       id = ap (λ (n : Node). n.id) is;
       inside = ap (λ (n : Node). n.parent) is;
       name = ap (λ (n : Node). n.name) is;
@@ -194,7 +187,7 @@ rename_plans t room caller path to move now outcome stand is_path is_to passed f
       owner = ap (λ (n : Node). n.owner) is;
       group = ap (λ (n : Node). n.group) is;
       aclflag = ap (λ (n : Node). n.aclflag) is;
-      lawful = subst Lawful last.is lawful;
+      lawful = rw (← last.is) lawful;
     } in
     plan_by last.folder last.name last.is m
   where
@@ -208,8 +201,7 @@ rename_plans t room caller path to move now outcome stand is_path is_to passed f
         let loaded = move.loaded in
         let there = found.loaded.is_there in
         let given = list_under (object_at room path) (t.entries move.into.id) in
-        let Here : ℕ → Type 0 = λ k. HasPath t path k in
-        let puts = planned (subst Here (sym m.id) there.at) (ap t.node m.id ∙ there.node_stands) (sym m.kind) in
+        let puts = planned (rw m.id there.at) (ap t.node m.id ∙ there.node_stands) (sym m.kind) in
         let changed = changes_list t loaded.id (t.entries loaded.id) given refl new changes in
         let what = puts_relist t room stand path loaded.id there.at now m.id new changed outcome.changes.items puts in
         let list = list_then t loaded.id new in
@@ -225,15 +217,13 @@ rename_plans t room caller path to move now outcome stand is_path is_to passed f
         as_moved ∙ sym (list_then_is t loaded.id (t.entries loaded.id) given refl new changes) in
         let later = apply_all_to_objects (PutNode now ∷ map put what.0) t in
         let w = moves_lists t room stand path up name o node now move.into.id m list list_is what.0 what.2 in
-        let Stands : Path → Type 0 = λ p. RepresentsRoom later (renamed room path p) in
-        let Keeps : Path → Type 0 = λ p. (q : Path) (id : ℕ) → HasPath t q id → HasPath later (moved path p q) id in
         success_plans t room caller (C.Rename path to) outcome stand
         (PutNode now ∷ map put what.0) passed replied what.1
         (relisted_of_objects t room stand path list what.0 what.2 now)
         (rules_after t room stand path up name o node now move.into.id m list list_is what.0 what.2).0
         (relisted_few t room stand path list what.0 what.2 now)
-        (subst Stands (sym is) (moved_represents t room stand path up name o node now move.into.id m later w))
+        (rw is (moved_represents t room stand path up name o node now move.into.id m later w))
         (λ q id at stands there.
-        subst Keeps (sym is) (moved_keeps t room stand path up name o node now move.into.id m later w) q id at)
+        (rw (← is) at (moved_keeps t room stand path up name o node now move.into.id m later w)) q id at)
         (λ id absent present.
         absurd (none_new_moved t room stand path up name o node now move.into.id m later w id absent present))

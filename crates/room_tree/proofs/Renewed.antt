@@ -116,7 +116,7 @@ put_found P (p ∷ puts) id each found = by_test (eqb id p.0) refl found (put_fo
         → (IsTrue (list_any (puts_entries_of id) (map put puts)) → (entries : List EntryModel) × P id entries)
         → (entries : List EntryModel) × P id entries
     by_test true same h rest =
-        (let For : ℕ → Type 0 = λ k. P k p.1.items in (p.1.items, subst For (sym (eqb-true id p.0 same)) each.0))
+        ((p.1.items, rw (eqb-true id p.0 same) each.0))
     by_test false other h rest = rest h
 
 abbrev one_if : Bool → ℕ
@@ -238,8 +238,7 @@ module _ (t : ObjectRecords) (room : Room) (stand : RepresentsRoom t room)
     not_here = each_weaker (IsRenewed t room path list.items) (λ k entries. k ≢ id) other below each
       where
         other : (k : ℕ) (entries : List EntryModel) → IsRenewed t room path list.items k entries → k ≢ id
-        other k entries new same = let At : ℕ → Type 0 = λ j. HasPath t (path ++ new.rest) j in
-            new.below (only_here new.rest (subst At same new.at))
+        other k entries new same = new.below (only_here new.rest (rw (← same) new.at))
 
     any_of_whole : (k : ℕ) → list_any (puts_entries_of k) (map put whole)
         ≡ (list_any (puts_entries_of k) (map put below) || (eqb k id || false))
@@ -257,8 +256,7 @@ module _ (t : ObjectRecords) (room : Room) (stand : RepresentsRoom t room)
         → (t.entries k ≡ list_below room path list.items (reverse rest))
         ⊎ IsTrue (list_any (puts_entries_of k) (map put whole))
     put_or_kept [] k at =
-        let At : Path → Type 0 = λ q. HasPath t q k in
-        let same : k ≡ id = reads_one t stand.rules (reverse path) k id (subst At (append-nil path) at) here in
+        let same : k ≡ id = reads_one t stand.rules (reverse path) k id (rw (← append-nil path) (at)) here in
         inr (any_of_whole k ∙ ap (λ b. list_any (puts_entries_of k) (map put below) || (b || false)) (eq-eqb k id same)
         ∙ or_true (list_any (puts_entries_of k) (map put below)))
     put_or_kept (name ∷ rest) k at = elim (renews.every (name ∷ rest) k (λ none. cc) at) [
@@ -277,11 +275,10 @@ module _ (t : ObjectRecords) (room : Room) (stand : RepresentsRoom t room)
 
     relists_whole : Relists t room path list.items whole
     relists_whole =
-        let At : Path → Type 0 = λ q. HasPath t q id in
         let weaker : EachPut (IsRelisted t room path list.items) below =
         each_weaker (IsRenewed t room path list.items) (IsRelisted t room path list.items) as_relisted below each in
         let top : IsRelisted t room path list.items id list.items =
-        record { rest = []; at = subst At (sym (append-nil path)) here; is_list = refl; changes = changes } in
+        record { rest = []; at = rw (append-nil path) here; is_list = refl; changes = changes } in
         record {
           each = each_append (IsRelisted t room path list.items) below ((id, list) ∷ []) weaker (top, tt);
           every = put_or_kept;
@@ -301,13 +298,12 @@ module _ (t : ObjectRecords) (room : Room) (stand : RepresentsRoom t room)
   puts_relist now same None changes planned is = ([], is, relists_nothing)
   puts_relist now same (Some list) changes planned (added, renews, is) =
       let split = split_renewals t room path list.items added renews.each in
-      let Renews : List Change → Type 0 = λ cs. RenewsBelow t room path list.items cs in
       let lists : added ++ PutEntries now.id list ∷ [] ≡ map put (split.0 ++ (id, list) ∷ []) =
       ap (λ cs. cs ++ PutEntries now.id list ∷ []) split.1 ∙ ap (λ k. map put split.0 ++ PutEntries k list ∷ []) same
       ∙ sym (map-append put split.0 ((id, list) ∷ [])) in (
         split.0 ++ (id, list) ∷ [],
         is ∙ ap (λ cs. PutNode now ∷ cs) lists,
-        relists_whole list changes split.0 (subst Renews split.1 renews) split.2,
+        relists_whole list changes split.0 (rw (← split.1) renews) split.2,
       )
 
 -- the rows after a row is put, and the lists
@@ -331,9 +327,8 @@ module _ (t : ObjectRecords) (room : Room) (stand : RepresentsRoom t room) (path
       one_list : (k : ℕ) (entries : List EntryModel) → IsRelisted t room path list k entries
           → k ≡ id → entries ≡ list_below room path list (reverse rest)
       one_list k entries new same =
-          let At : ℕ → Type 0 = λ j. HasPath t (path ++ new.rest) j in
           let one : new.rest ≡ rest = append_cancel_left path new.rest rest
-          (path_of_node t stand.rules (path ++ new.rest) (path ++ rest) id (subst At same new.at) at) in
+          (path_of_node t stand.rules (path ++ new.rest) (path ++ rest) id (rw (← same) new.at) at) in
           new.is_list ∙ ap (λ names. list_below room path list (reverse names)) one
 
   -- and each other one what it had
@@ -344,9 +339,8 @@ module _ (t : ObjectRecords) (room : Room) (stand : RepresentsRoom t room) (path
     where
       other : (k : ℕ) (entries : List EntryModel) → IsRelisted t room path list k entries → k ≢ id
       other k entries new same =
-          let At : ℕ → Type 0 = λ j. HasPath t (path ++ new.rest) j in
           let one : q ≡ path ++ new.rest =
-          path_of_node t stand.rules q (path ++ new.rest) id at (subst At same new.at) in
+          path_of_node t stand.rules q (path ++ new.rest) id at (rw (← same) new.at) in
           not_both (is_at_or_below q path) (ap (λ p. is_at_or_below p path) one ∙ at_behind path new.rest) off
 
   pub relisted_of_objects : AllByRecursion IsOfObjects (PutNode now ∷ map put puts)

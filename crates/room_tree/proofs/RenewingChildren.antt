@@ -53,8 +53,7 @@ under_last (first ∷ nodes) node rest begins = inr (under_last nodes node rest 
 under_contained : (nodes : List Node) (node : Node) (rest : Path) (k : ℕ) → k < length nodes
     → slice_index_or nodes k node ≡ node → BeginsWith (name_of node) rest → UnderOne nodes rest
 under_contained [] node rest k below is begins = absurd (omega (arith, below))
-under_contained (first ∷ nodes) node rest zero below is begins = let P : Node
-    → Type 0 = λ n. BeginsWith (name_of n) rest in inl (subst P (sym is) begins)
+under_contained (first ∷ nodes) node rest zero below is begins = inl (rw is begins)
 under_contained (first ∷ nodes) node rest (suc k) below is begins =
     inr (under_contained nodes node rest k (omega (arith, below)) is begins)
 
@@ -210,12 +209,10 @@ module _ (t : ObjectRecords) (room : Room) (stand : RepresentsRoom t room)
       sym (take-append-drop (i + 1) nodes) ∙ ap (λ front. front ++ drop (i + 1) nodes) more in
       let order =
       order_of_front (take i nodes ++ node ∷ []) (drop (i + 1) nodes) (subst InNameOrder split are.in_order) in
-      let Below : List Node → Type 0 = λ front. Renews t room path list (UnderOne front) (so.added ++ ys) in
       record {
         added = so.added ++ ys;
         goes_on = goes_on ∙ ap (λ before. before ++ ys) so.goes_on ∙ append_assoc old so.added ys;
-        renews = subst Below (sym more)
-            (renews_more t room stand path list (take i nodes) node so.added ys order so.renews last);
+        renews = rw more (renews_more t room stand path list (take i nodes) node so.added ys order so.renews last);
       }
 
   -- all children
@@ -223,9 +220,9 @@ module _ (t : ObjectRecords) (room : Room) (stand : RepresentsRoom t room)
       → HasPath t path id → AreChildren t id nodes → length nodes ≤ i
       → RenewsSoFar t room path list (take i nodes) old new → AddsRenewals t room path list old new
   all_so_far id nodes i new here are end so =
-      let Below : List Node → Type 0 = λ front. Renews t room path list (UnderOne front) so.added in record {
+      record {
         added = so.added;
         goes_on = so.goes_on;
         renews = renews_children t room stand path list id nodes so.added
-            here are (subst Below (take_all i nodes end) so.renews);
+            here are (rw (← take_all i nodes end) so.renews);
       }

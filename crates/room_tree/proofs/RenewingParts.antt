@@ -69,8 +69,7 @@ put_is_renewed t room path list (PutEntries at entries ∷ changes) id each foun
         → (list_any (puts_entries_of id) changes ≡ true
         → (list_put : List EntryModel) × IsRenewed t room path list id list_put)
         → (list_put : List EntryModel) × IsRenewed t room path list id list_put
-    by_test true same h later = let Is : ℕ → Type 0 = λ k. IsRenewed t room path list k entries.items in
-        (entries.items, subst Is (sym (eqb-true id at same)) each.0)
+    by_test true same h later = (entries.items, rw (eqb-true id at same) each.0)
     by_test false other h later = later h
 put_is_renewed t room path list (PutNode node ∷ changes) id each found = absurd each.0
 put_is_renewed t room path list (DropNode gone ∷ changes) id each found = absurd each.0
@@ -161,13 +160,12 @@ GoesOnFrom name rest = (below : Path) × (below ≢ []) × (rest ≡ name ∷ be
 
 module _ (t : ObjectRecords) (room : Room) (path : Path) (list : List EntryModel) (name : Name) where
   at_above : (rest : Path) (id : ℕ) → HasPath t ((path ++ name ∷ []) ++ rest) id → HasPath t (path ++ name ∷ rest) id
-  at_above rest id at = let At : Path → Type 0 = λ p. HasPath t p id in subst At (append_assoc path (name ∷ []) rest) at
+  at_above rest id at = rw (← append_assoc path (name ∷ []) rest) (at)
 
   at_child : (rest below : Path) (id : ℕ) → rest ≡ name ∷ below
       → HasPath t (path ++ rest) id → HasPath t ((path ++ name ∷ []) ++ below) id
   at_child rest below id is at =
-      let At : Path → Type 0 = λ p. HasPath t p id in
-      subst At (ap (λ p. path ++ p) is ∙ sym (append_assoc path (name ∷ []) below)) at
+      rw (← ap (λ p. path ++ p) is ∙ sym (append_assoc path (name ∷ []) below)) (at)
 
   -- where the child has this list, lists below it are those below the path
   module _ (given : List EntryModel) (is_given : given ≡ list_below room path list (name ∷ [])) where
@@ -225,11 +223,9 @@ module _ (t : ObjectRecords) (room : Room) (path : Path) (list : List EntryModel
     renews_itself entries is changes = record {
       each = (record { rest = name ∷ []; below = λ none. cc; at = here; is_list = is; changes = changes }, tt);
       put_at = λ k found.
-          let At : ℕ → Type 0 = λ j. HasPath t (path ++ name ∷ []) j in
-          (name ∷ [], refl, subst At (sym (eqb-true k id (left_of_or (eqb k id) found))) here);
+          (name ∷ [], refl, rw (eqb-true k id (left_of_or (eqb k id) found)) here);
       every = λ rest k only at.
-          let At : Path → Type 0 = λ p. HasPath t (path ++ p) k in
-          let same : k ≡ id = reads_one t rules (reverse (path ++ name ∷ [])) k id (subst At only at) here in
+          let same : k ≡ id = reads_one t rules (reverse (path ++ name ∷ [])) k id (rw (← only) (at)) here in
           inr (ap (λ b. b || false) (eq-eqb k id same));
       once = λ k.
           let more =

@@ -58,15 +58,14 @@ module _ (t : ObjectRecords) (rules : ObjectRules t) (node : Node)
     ];
     root = elim (some_or_none (t.node 1)) [
       | inl none ↦
-          absurd (let There : Option Node → Type 0 = λ o. IsSome o in let f = subst There none rules.has_root in cc)
-      | inr found ↦ (let Root : Option Node → Type 0 = λ o. IfSome o IsRoot in
-          subst Root (found.1 ∙ sym (forth 1 found.0 found.1)) rules.root)
+          absurd (let f = rw none at rules.has_root in cc)
+      | inr found ↦ (rw (← found.1 ∙ sym (forth 1 found.0 found.1)) rules.root)
     ];
     has_root = elim (some_or_none (t.node 1)) [
       | inl none ↦
-          absurd (let There : Option Node → Type 0 = λ o. IsSome o in let f = subst There none rules.has_root in cc)
+          absurd (let f = rw none at rules.has_root in cc)
       | inr found ↦
-          (let There : Option Node → Type 0 = λ o. IsSome o in subst There (sym (forth 1 found.0 found.1)) refl)
+          (rw (forth 1 found.0 found.1) refl)
     ];
     below = λ id found stands other. elim (back id found stands) [
       | inl new ↦ record {
@@ -148,9 +147,7 @@ module _ (t later : ObjectRecords) (room after : Room) (path : Path) (o : Object
 
   new_at : HasPath later path node.id
   new_at =
-      let Up : List Name → Type 0 = λ names. NamesUpwards later names node.id in
-      subst Up (sym (ap reverse a.path_is ∙ reverse-append a.folder (a.name ∷ [])))
-      (node, a.above, a.stands, a.named, a.inside, names_stay (reverse a.folder) a.above a.folder_at)
+      rw (ap reverse a.path_is ∙ reverse-append a.folder (a.name ∷ [])) (node, a.above, a.stands, a.named, a.inside, names_stay (reverse a.folder) a.above a.folder_at)
 
   old_is : (id : ℕ) (found : Node) (q : Path) (p : Object)
       → NodeIsObject t room id found q p → NodeIsObject later after id found q p
@@ -183,18 +180,14 @@ module _ (t later : ObjectRecords) (room after : Room) (path : Path) (o : Object
     nodes = λ id found stands. elim (same_or_other id node.id) [
       | inl same ↦
           let is : node ≡ found = some_is node found (sym a.stands ∙ ap later.node (sym same) ∙ stands) in
-          let P : ℕ → Type 0 = λ k. NodeIsObject later after k node path o in
-          let Q : Node → Type 0 = λ n. NodeIsObject later after id n path o in
-          (path, o, subst Q is (subst P (sym same) new_is))
+          (path, o, rw (← is) (rw same new_is))
       | inr other ↦
           let before = stand.nodes id found (sym (a.nodes_away id other) ∙ stands) in
           (before.0, before.1, old_is id found before.0 before.1 before.2)
     ];
     objects = λ q p stands. elim (a.new_or_old q p stands) [
       | inl new ↦
-          let P : Path → Type 0 = λ x. NodeIsObject later after node.id node x o in
-          let Q : Object → Type 0 = λ x. NodeIsObject later after node.id node q x in
-          (node.id, node, subst Q new.1 (subst P (sym new.0) new_is))
+          (node.id, node, rw (← new.1) (rw new.0 new_is))
       | inr there ↦
           let before = stand.objects q p there in
           (before.0, before.1, old_is before.0 before.1 q p before.2)

@@ -128,10 +128,8 @@ module _ (t : ObjectRecords) (room : Room) (stand : RepresentsRoom t room)
 
   is_path_of : (names : List Name) (id : ℕ) → NamesUpwards t names id → id ≡ node.id → reverse names ≡ path
   is_path_of names id at same =
-      let At : List Name → Type 0 = λ ns. NamesUpwards t ns id in
-      let Here : ℕ → Type 0 = λ k. HasPath t (reverse names) k in
       path_of_node t stand.rules (reverse names) path node.id
-      (subst Here same (subst At (sym (reverse-reverse names)) at)) m.is_there.at
+      (rw (← same) (rw (reverse-reverse names) (at))) m.is_there.at
 
   itself_below : is_at_or_below path path ≡ true
   itself_below = ap (λ p. is_at_or_below p path) (sym (append-nil path)) ∙ at_behind path []
@@ -155,66 +153,48 @@ module _ (t : ObjectRecords) (room : Room) (stand : RepresentsRoom t room)
 
   at_to : HasPath later to node.id
   at_to =
-      let At : List Name → Type 0 = λ ns. NamesUpwards later ns node.id in
-      let Off : Path → Type 0 = λ p. is_at_or_below p path ≡ false in
-      subst At (sym (reverse-append up (last ∷ []))) (
+      rw (reverse-append up (last ∷ [])) (
         now,
         above,
         put node.id refl,
         m.name,
         m.inside,
-        names_off (reverse up) above m.up_at (subst Off (sym (reverse-reverse up)) (off_by up last m.apart)),
+        names_off (reverse up) above m.up_at (rw (reverse-reverse up) (off_by up last m.apart)),
       )
 
   -- each node is where its path was moved
   names_moved : (names : List Name) (id : ℕ) → NamesUpwards t names id
       → HasPath later (moved path to (reverse names)) id
-  names_moved [] id at =
-      let At : Path → Type 0 = λ p. HasPath later p id in
-      subst At (sym (moved_off [] path to m.off_root)) at
+  names_moved [] id at = rw (moved_off [] path to m.off_root) (at)
   names_moved (name ∷ names) id (found, parent, stands, named, inside, rest) =
       by_place (is_at_or_below (reverse (name ∷ names)) path) refl (names_moved names parent rest)
     where
       by_place : (b : Bool) → is_at_or_below (reverse (name ∷ names)) path ≡ b → HasPath later
           (moved path to (reverse names)) parent → HasPath later (moved path to (reverse (name ∷ names))) id
       by_place false off folder =
-          let Up : List Name → Type 0 = λ ns. NamesUpwards later ns id in
-          let Here : Path → Type 0 = λ p. HasPath later p id in
-          subst Here (sym (moved_off (reverse (name ∷ names)) path to off))
-          (subst Up (sym (reverse-reverse (name ∷ names)))
+          rw (moved_off (reverse (name ∷ names)) path to off) (rw (reverse-reverse (name ∷ names))
           (names_off (name ∷ names) id (found, parent, stands, named, inside, rest) off))
       by_place true below folder = elim (same_or_other id node.id) [
         | inl same ↦
-            let Here : Path → Type 0 = λ p. HasPath later p id in
-            let Id : ℕ → Type 0 = λ k. HasPath later to k in
             let is = is_path_of (name ∷ names) id (found, parent, stands, named, inside, rest) same in
-            subst Here (sym (ap (moved path to) is ∙ moved_top path to)) (subst Id (sym same) at_to)
+            rw (ap (moved path to) is ∙ moved_top path to) (rw same at_to)
         | inr other ↦
-            let Here : Path → Type 0 = λ p. HasPath later p id in
             let not_top : reverse names ++ name ∷ [] ≡ path → ⊥ = (λ top. other (
-            let Up : List Name → Type 0 = λ ns. NamesUpwards t ns id in
             reads_one t stand.rules (reverse path) id node.id
-            (subst Up (sym (ap reverse (sym (turned name names ∙ top)) ∙ reverse-reverse (name ∷ names)))
-            (found, parent, stands, named, inside, rest)) m.is_there.at)) in
+            (rw (ap reverse (sym (turned name names ∙ top)) ∙ reverse-reverse (name ∷ names)) (found, parent, stands, named, inside, rest)) m.is_there.at)) in
             let in_subtree = below_parent (reverse names) path name
             (ap (λ p. is_at_or_below p path) (sym (turned name names)) ∙ below) not_top in
-            let Up : List Name → Type 0 = λ ns. NamesUpwards later ns id in
-            subst Here
-            (sym (ap (moved path to) (turned name names) ∙ moved_child (reverse names) path to name in_subtree))
-            (subst Up (sym (reverse-append (moved path to (reverse names)) (name ∷ [])))
-            (found, parent, away id other ∙ stands, named, inside, folder))
+            rw (ap (moved path to) (turned name names) ∙ moved_child (reverse names) path to name in_subtree) (rw (reverse-append (moved path to (reverse names)) (name ∷ [])) (found, parent, away id other ∙ stands, named, inside, folder))
       ]
 
   -- numbers are kept
   keeps_place : (q : Path) (id : ℕ) → HasPath t q id → HasPath later (moved path to q) id
   keeps_place q id at =
-      let Here : Path → Type 0 = λ p. HasPath later (moved path to p) id in
-      subst Here (reverse-reverse q) (names_moved (reverse q) id at)
+      rw (← reverse-reverse q) (names_moved (reverse q) id at)
 
   not_first : node.id ≢ 1
   not_first same =
-      let Up : List Name → Type 0 = λ names. NamesUpwards t names node.id in
-      let up_names = subst Up (ap reverse m.end.is ∙ reverse-append m.end.folder (m.end.name ∷ [])) m.is_there.at in
+      let up_names = rw (ap reverse m.end.is ∙ reverse-append m.end.folder (m.end.name ∷ [])) at m.is_there.at in
       root_only t stand.rules up_names.0 up_names.1 (ap t.node (sym same) ∙ up_names.2) up_names.4
 
   forth : (id : ℕ) (found : Node) → t.node id ≡ Some found
@@ -261,11 +241,9 @@ module _ (t : ObjectRecords) (room : Room) (stand : RepresentsRoom t room)
       | inr old ↦ stand.rules.numbered id found old.1
     ];
     root =
-        let Root : Option Node → Type 0 = λ n. IfSome n IsRoot in
-        subst Root (sym (away 1 (λ same. not_first (sym same)))) stand.rules.root;
+        rw (away 1 (λ same. not_first (sym same))) stand.rules.root;
     has_root =
-        let There : Option Node → Type 0 = λ n. IsSome n in
-        subst There (sym (away 1 (λ same. not_first (sym same)))) stand.rules.has_root;
+        rw (away 1 (λ same. not_first (sym same))) stand.rules.has_root;
     below = λ id found stands other. elim (back id found stands) [
       | inl new ↦ (let parent = forth above m.parent m.parent_stands in record {
         above = above;
@@ -386,8 +364,7 @@ module _ (t : ObjectRecords) (room : Room) (stand : RepresentsRoom t room)
           let before = old_node id found (sym (row_after id) ∙ stands) in
           let was = stand.nodes id before.0 before.1 in
           let after = moved_is id before.0 was.0 was.1 was.2 in
-          let Row : Node → Type 0 = λ n. NodeIsObject rows (renamed room path to) id n (moved path to was.0) was.1 in
-          (moved path to was.0, was.1, subst Row (same_row id after.0 found after.1.node_stands stands) after.1);
+          (moved path to was.0, was.1, rw (same_row id after.0 found after.1.node_stands stands) at after.1);
       objects = λ q p stands. by_stand q p
           (stands_after room stand.lawful path to o m.apart m.is_there.object_stands m.free q p stands);
       next = w.next ∙ stand.next;
@@ -402,15 +379,12 @@ module _ (t : ObjectRecords) (room : Room) (stand : RepresentsRoom t room)
         by_stand : (q : Path) (p : Object)
             → Stands room stand.lawful path to o m.apart m.is_there.object_stands m.free q p → Found q p
         by_stand q p (Moved _ _ rest same stands) =
-            let At : Path → Type 0 = λ x. Found x p in
-            subst At (moved_rest path to rest ∙ sym same) (there (path ++ rest) p stands)
+            (rw (moved_rest path to rest ∙ sym same) at (there (path ++ rest) p stands))
         by_stand q p (Stayed _ _ off off_to stands) =
-            let At : Path → Type 0 = λ x. Found x p in subst At (moved_off q path to off) (there q p stands)
+            rw (← moved_off q path to off) (there q p stands)
 
     pub none_new_moved : (id : ℕ) → IsNone (t.node id) → IsSome (rows.node id) → ⊥
     none_new_moved id none some = elim (some_or_none (later.node id)) [
-      | inl gone ↦ (let There : Option Node → Type 0 = λ x. IsSome x in
-          none_and_some {X = Node} None refl (subst There (row_after id ∙ gone) some))
-      | inr found ↦ (let There : Option Node → Type 0 = λ x. IsSome x in
-          none_and_some (t.node id) none (subst There (sym (old_node id found.0 found.1).1) refl))
+      | inl gone ↦ (none_and_some {X = Node} None refl (rw (row_after id ∙ gone) at some))
+      | inr found ↦ (none_and_some (t.node id) none (rw ((old_node id found.0 found.1).1) refl))
     ]

@@ -52,13 +52,11 @@ module _ (t later : ObjectRecords) (room after : Room) (path : Path) (o now_is :
       → NodeIsObject later after id found path now_is
   here_is id same found stands =
       let is : now ≡ found = some_is now found (sym r.stands ∙ ap later.node (sym same) ∙ stands) in
-      let At : ℕ → Type 0 = λ k. HasPath later path k in
-      let Shown : Node → Type 0 = λ n. RowsShowObject later n after path now_is in
       record {
-        at = subst At (sym same) (stays_at path node.id r.is_there.at);
+        at = rw same (stays_at path node.id r.is_there.at);
         node_stands = stands;
         object_stands = r.at_path;
-        shows = subst Shown is r.shows;
+        shows = rw (← is) r.shows;
       }
 
   away_is : (id : ℕ) → id ≢ node.id → (found : Node) (q : Path) (p : Object)
@@ -66,9 +64,8 @@ module _ (t later : ObjectRecords) (room after : Room) (path : Path) (o now_is :
   away_is id other found q p is =
       let number : found.id ≡ id = (stand.rules.numbered id found is.node_stands).0 in
       let apart : found.id ≢ node.id = (λ same. other (sym number ∙ same)) in
-      let At : Path → Type 0 = λ a. HasPath t a id in
       let moved : q ≡ path → ⊥ =
-      (λ same. other (reads_one t stand.rules (reverse path) id node.id (subst At same is.at) r.is_there.at)) in
+      (λ same. other (reads_one t stand.rules (reverse path) id node.id (rw (← same) is.at) r.is_there.at)) in
       record {
         at = stays_at q id is.at;
         node_stands = r.nodes_away id other ∙ is.node_stands;
@@ -97,14 +94,11 @@ module _ (t later : ObjectRecords) (room after : Room) (path : Path) (o now_is :
       | inl same ↦
           let is : now_is ≡ p = some_is now_is p (sym r.at_path ∙ ap (object_at after) (sym same) ∙ stands) in
           let P : Path → Object → Type 0 = λ a b. (id : ℕ) × (found : Node) × NodeIsObject later after id found a b in
-          let Q : Path → Type 0 = λ a. P a p in
-          let R : Object → Type 0 = λ b. P path b in
-          subst Q (sym same) (subst R is (node.id, now, here_is node.id refl now r.stands))
+          rw same (rw (← is) (node.id, now, here_is node.id refl now r.stands))
       | inr other ↦
           let before = stand.objects q p (sym (r.away q other) ∙ stands) in
           let apart : before.0 ≢ node.id = (λ same.
-          let At : ℕ → Type 0 = λ k. HasPath t q k in
-          other (path_of_node t stand.rules q path node.id (subst At same before.2.at) r.is_there.at)) in
+          other (path_of_node t stand.rules q path node.id (rw (← same) before.2.at) r.is_there.at)) in
           (before.0, before.1, away_is before.0 apart before.1 q p before.2)
     ];
     next = r.next ∙ stand.next ∙ ap (λ (made : ℕ). made + 1) (sym r.made);

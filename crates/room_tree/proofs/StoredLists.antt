@@ -27,13 +27,11 @@ pub node_at_path : (t : ObjectRecords) (room : Room)
     → (node : Node) × (t.node id ≡ Some node)
 node_at_path t room stand path id at = elim (root_or_below path) [
   | inl root ↦ (
-      let At : Path → Type 0 = λ p. HasPath t p id in
-      let one : id ≡ 1 = subst At root at in
+      let one : id ≡ 1 = rw root at at in
       let first = is_present (t.node 1) stand.rules.has_root in
       (first.0, ap t.node one ∙ first.1))
   | inr end ↦ (
-      let Up : List Name → Type 0 = λ names. NamesUpwards t names id in
-      let up = subst Up (ap reverse end.is ∙ reverse-append end.folder (end.name ∷ [])) at in
+      let up = rw (ap reverse end.is ∙ reverse-append end.folder (end.name ∷ [])) at at in
       (up.0, up.2))
 ]
 

@@ -13,8 +13,7 @@ use Rattle.room_tree.proofs.depth.+reaches_down.Goals as goal
 
 pub returns-then-levels-eq0-clause-value : goal.returns-then-levels-eq0-clause-value
 returns-then-levels-eq0-clause-value g m c = λ available laid_out t e room stand path node at stands kind.
-    let Below : ℕ → Type 0 = λ n. StandsBelow room path n in
-    subst Below (sym c.if-levels-eq0.true) (itself_below t room stand path c.args.id node at stands)
+    rw c.if-levels-eq0.true (itself_below t room stand path c.args.id node at stands)
 
 pub returns-in-File-clause-value : goal.returns-in-File-clause-value
 returns-in-File-clause-value g m c = λ available laid_out t e room stand path node at stands kind.
@@ -25,11 +24,7 @@ pub loop-node-init : goal.loop-node-init
 loop-node-init g m c = record {
   frame = c.in_ok-nodes.ensures.frame;
   children = λ available laid_out t e room stand.
-      let Rules : ObjectRecords → Type 0 = λ r. ObjectRules r in
-      let Are : ObjectRecords → Type 0 = λ r. AreChildren r c.args.id c.in_ok-nodes.nodes.items in
-      let Nodes : List Node → Type 0 = λ nodes. AreChildren t c.args.id nodes in
-      subst Nodes (sym c.deref-node-items.ensures.value)
-      (subst Are e (c.in_ok-nodes.ensures.value available laid_out (subst Rules (sym e) stand.rules)));
+      rw c.deref-node-items.ensures.value (rw (← e) (c.in_ok-nodes.ensures.value available laid_out (rw e stand.rules)));
   none = λ available laid_out t e room stand path node at stands kind. tt;
 }
 
@@ -70,11 +65,9 @@ loop-node-preserved g m c =
           let found = c.in_ok-deep.ensures.value available declared t same room stand (path ++ name_of child ∷ []) child
           (child_path t room stand path c.args.id child at is_child) is_child.stands refl in
           let Free : Node → Type 0 = λ n. StandsBelow room (path ++ name_of n ∷ []) (c.args.levels - 1) → ⊥ in
-          let Each : List Node → Type 0 = λ nodes. NoneBelowEach room path (c.args.levels - 1) nodes in
           let more : take (i + 1) items ≡ take i items ++ child ∷ [] =
           take_more items i child c.loop-node-test.true ∙ ap (λ n. take i items ++ n ∷ []) (sym c.node-item.is) in
-          subst Each (sym more)
-          (all_append Free (take i items) (child ∷ []) (c.loop-node.invariant.none before laid_out
+          rw more (all_append Free (take i items) (child ∷ []) (c.loop-node.invariant.none before laid_out
           t e room stand path node at stands kind) (rw c.if-deep.false at found, tt));
     }
 
@@ -83,6 +76,5 @@ returns-clause-value g m c = λ available laid_out t e room stand path node at s
     let items = c.deref-node-items.result.now in
     let are = c.loop-node.invariant.children available laid_out t e room stand in
     let none = c.loop-node.invariant.none available laid_out t e room stand path node at stands kind in
-    let Each : List Node → Type 0 = λ nodes. NoneBelowEach room path (c.args.levels - 1) nodes in
     none_below_children t room stand path c.args.id c.args.levels items at are (omega (arith, c.if-levels-eq0.false))
-    (subst Each (take_all c.loop-node.node-index items c.loop-node-test.false) none)
+    (rw (← take_all c.loop-node.node-index items c.loop-node-test.false) none)

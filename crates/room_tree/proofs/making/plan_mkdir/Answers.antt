@@ -6,6 +6,7 @@ use Rattle.room_commands.specs.Checks.{refuse_if, is_root, walk, check_absent, c
 use Rattle.room_commands.specs.Checks.{check_folder_full, check_room_full}
 use Rattle.room_tree.proofs.Made.{mkdir_plans}
 use Rattle.room_tree.proofs.Stops.{handed_on, in_front, past_front}
+use Rattle.room_tree.proofs.Told.{both_tell}
 use Rattle.room_tree.proofs.making.plan_mkdir.Goals as goal
 
 pub returns-in_err-above-clause-effect : goal.returns-in_err-above-clause-effect
@@ -20,15 +21,13 @@ returns-in_err-above-clause-effect g c = λ available laid_out t e room stand.
 pub returns-in_err-id-clause-effect : goal.returns-in_err-id-clause-effect
 returns-in_err-id-clause-effect g c = λ available laid_out t e room stand.
     let path = c.args.path.now in
-    let before = c.number_for_new.ensures.frame.call.was_available available in
-    let reached = c.in_ok-above.ensures.value before laid_out t e room stand in
-    let declared = c.folder_for_new.ensures.frame.call.laid_out before laid_out in
-    let same = ap (λ (r : Records). r.objects) (c.folder_for_new.ensures.frame.same before laid_out) ∙ e in
+    let told = both_tell _ _ c.folder_for_new.ensures.frame c.number_for_new.ensures.frame
+    c.in_ok-above.ensures.value c.in_err-id.ensures.value available laid_out t e room stand in
     handed_on _ _ _ c.from_residual-in_err-id.result c.from_residual-in_err-id.ensures.1
     (past_front (refuse_if (is_root path) Exist ∷ walk room c.args.subject.now path
     ∷ check_absent room path ∷ check_right room c.args.subject.now (parent_of path) 0x4 ∷ [])
-    (check_folder_full room (parent_of path) ∷ check_room_full room ∷ []) _ reached.0
-    (c.in_err-id.ensures.value available declared t same room stand (parent_of path) reached.1))
+    (check_folder_full room (parent_of path) ∷ check_room_full room ∷ []) _ told.0.0
+    (told.1 (parent_of path) told.0.1))
 
 pub returns-clause-effect : goal.returns-clause-effect
 returns-clause-effect g c = λ available laid_out t e room stand.

@@ -62,10 +62,8 @@ returns-clause-effect g c = λ available laid_out t e room stand.
     let there = allowed.1.loaded.is_there in
     let is : c.into_node-node.result ≡ node_of move.loaded = c.into_node-node.ensures in
     let given = list_under (object_at room path) (t.entries move.into.id) in
-    let Listed : Node → Type 0 = λ n. HasPath t path n.id → t.node n.id ≡ Some n → MatchOption c.in_ok-list.list
-    (t.entries n.id ≡ given) (λ list. (list.items ≡ given) × (list.items ≢ t.entries n.id)) in
     let list =
-    subst Listed is (c.in_ok-list.ensures.value listed declared_then t same_then room stand path)
+    (rw is at (c.in_ok-list.ensures.value listed declared_then t same_then room stand path))
     there.at there.node_stands in
     rename_plans t room caller path to move c.in_ok-moved.moved _ stand lawful.0 lawful.1
     (none_passes first (move_limits room path to) allowed.0 ∙ limits) allowed.1

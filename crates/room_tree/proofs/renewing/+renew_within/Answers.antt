@@ -45,11 +45,7 @@ pub loop-node-init : goal.loop-node-init
 loop-node-init g m c = record {
   frame = c.in_ok-nodes.ensures.frame;
   children = λ available laid_out t e room stand.
-      let Rules : ObjectRecords → Type 0 = λ r. ObjectRules r in
-      let Are : ObjectRecords → Type 0 = λ r. AreChildren r c.args.id c.in_ok-nodes.nodes.items in
-      let Nodes : List Node → Type 0 = λ nodes. AreChildren t c.args.id nodes in
-      subst Nodes (sym c.deref-node-items.ensures.value)
-      (subst Are e (c.in_ok-nodes.ensures.value available laid_out (subst Rules (sym e) stand.rules)));
+      rw c.deref-node-items.ensures.value (rw (← e) (c.in_ok-nodes.ensures.value available laid_out (rw e stand.rules)));
   renews = λ available laid_out t e room stand path at deep.
       none_so_far t room stand path c.args.list.now c.args.out.now.items;
 }
@@ -123,14 +119,13 @@ loop-node-preserved g m c =
           then_declared t then_same room stand (path ++ name ∷ []) here
           (file_there t child is_child.stands)
           (fewer_levels path name c.args.levels (omega (arith, c.if-levels-eq0.false)) deep) in
-          let Below : List EntryModel → Type 0 = λ l. RenewsBelow t room (path ++ name ∷ []) l below.added in
           let put : List Change = PutEntries child.id renewed ∷ [] in
           one_more_so_far t room stand path c.args.list.now c.args.out.now.items
           c.args.id items i child c.loop-node.out.items _ (below.added ++ put) are
           c.loop-node-test.true c.node-item.is
           (c.loop-node.invariant.renews before laid_out t e room stand path at deep)
           (renews_child t room path c.args.list.now name stand.rules child.id here renewed
-          below.added told.0 told.1 (subst Below c.as_slice.ensures.value below.renews))
+          below.added told.0 told.1 (rw (← c.as_slice.ensures.value) below.renews))
           (c.in_ok-add_change.ensures ∙ ap (λ l. l ++ put) below.goes_on
           ∙ append_assoc c.loop-node.out.items below.added put);
     }

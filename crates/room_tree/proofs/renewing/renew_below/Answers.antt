@@ -18,6 +18,4 @@ returns-in-File-clause-value g c = λ available laid_out t e room stand path nod
 
 pub returns-clause-value : goal.returns-clause-value
 returns-clause-value g c = λ available laid_out t e room stand path node at stands kind.
-    let Renewed : ObjectRecords → Type 0 = λ r. RepresentsRoom r room → HasPath r path c.args.id
-    → OnOk c.renew.result (AddsRenewals r room path c.args.list.now c.args.out.now.items c.renew.new.out.items) in
-    subst Renewed e (λ stood has. c.renew.ensures.value available laid_out room stood path has) stand at
+    rw (← e) (c.renew.ensures.value available laid_out room (rw e stand) path (rw e (at)))

@@ -90,15 +90,9 @@ returns-clause-effect g c = λ available laid_out t e room stand.
     let now = record node { aclflag = flag } in
     let shows = reached.1.is_there in
     let is : c.with_flags-node.result ≡ now = c.with_flags-node.ensures in
-    let Here : Node → Type 0 = λ n. HasPath t path n.id in
-    let Stands : Node → Type 0 = λ n. t.node n.id ≡ Some node in
-    let Kind : Node → Type 0 = λ n. node.kind ≡ n.kind in
-    let Puts : Node → Type 0 = λ n. PutsList t room path n c.if_changed-list.result c.in_ok-changes.changes.items in
     let planned =
-    subst Puts is (c.in_ok-changes.ensures.value available laid_out_at_last t same_at_last room stand path node
-    (subst Here (sym is) shows.at) (subst Stands (sym is) shows.node_stands) (subst Kind (sym is) refl)) in
-    let Changes : List EntryModel → Type 0 =
-    λ stored. IsChangeOf stored c.in_ok-list.list.items c.if_changed-list.result in
-    let changes = subst Changes (c.as_slice-2.ensures.value ∙ stored) c.if_changed-list.ensures in
+    rw is at (c.in_ok-changes.ensures.value available laid_out_at_last t same_at_last room stand path node
+    (rw is shows.at) (rw is shows.node_stands) (rw is refl)) in
+    let changes = rw (c.as_slice-2.ensures.value ∙ stored) at c.if_changed-list.ensures in
     setlist_plans t room stand path loaded reached.1 caller flag sent passed
     c.in_ok-list.list.items list c.if_changed-list.result changes _ planned refl

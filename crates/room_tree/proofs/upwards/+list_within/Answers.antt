@@ -50,10 +50,9 @@ returns-clause-value g m c = λ available laid_out t e room stand path at stands
     sym (ap (λ (r : ObjectRecords). r.node folder) same)
     ∙ sym (c.in_ok-above.ensures.value read declared) ∙ c.in-Some-2.is in
     let number : above.id ≡ folder = (stand.rules.numbered folder above there).0 in
-    let At : ℕ → Type 0 = λ id. HasPath t up.folder id in
     let fits : length up.folder ≤ c.args.levels - 1 = omega (arith, up.one_more, short) in
     let given = c.in_ok-given.ensures.value available then_declared t
-    then_same room stand up.folder (subst At (sym number) up.at)
+    then_same room stand up.folder (rw number up.at)
     (own_number t stand.rules folder above there) fits in
     c.in_ok-list.ensures
     ∙ ap (λ (own : List EntryModel).

@@ -21,9 +21,8 @@ returns-clause-value g c = λ available laid_out room stand path at.
     let same = ap (λ (r : Records). r.objects) (c.node.ensures.frame.same before laid_out) in
     let there : t.node c.args.id ≡ Some node = sym (c.in_ok-node.ensures.value before laid_out) ∙ c.in-Some.is in
     let number : node.id ≡ c.args.id = (stand.rules.numbered c.args.id node there).0 in
-    let At : ℕ → Type 0 = λ id. HasPath t path id in
     c.list_within.ensures.value available declared t same room stand path
-    (subst At (sym number) at) (own_number t stand.rules c.args.id node there)
+    (rw number (at)) (own_number t stand.rules c.args.id node there)
     (few_names t room stand path c.args.id node at there)
 
 pub returns-clause-absent : goal.returns-clause-absent
