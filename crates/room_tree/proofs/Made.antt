@@ -218,7 +218,8 @@ module _ (t : ObjectRecords) (room : Room) (caller : SubjectModel) (path : Path)
   only_next later nodes k none some = elim (same_or_other k node.id) [
     | inl same ↦ same ∙ numbered
     | inr other ↦ absurd (
-        none_and_some (t.node k) none (rw (← ap (λ (f : ℕ → Option Node). f k) nodes ∙ if_other k node.id (Some node) (t.node k) other) some))
+        none_and_some (t.node k) none
+        (rw (← ap (λ (f : ℕ → Option Node). f k) nodes ∙ if_other k node.id (Some node) (t.node k) other) some))
   ]
 
 few_made : (t : ObjectRecords) (room : Room) → RepresentsRoom t room

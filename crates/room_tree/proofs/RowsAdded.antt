@@ -147,7 +147,8 @@ module _ (t later : ObjectRecords) (room after : Room) (path : Path) (o : Object
 
   new_at : HasPath later path node.id
   new_at =
-      rw (ap reverse a.path_is ∙ reverse-append a.folder (a.name ∷ [])) (node, a.above, a.stands, a.named, a.inside, names_stay (reverse a.folder) a.above a.folder_at)
+      rw (ap reverse a.path_is ∙ reverse-append a.folder (a.name ∷ []))
+      (node, a.above, a.stands, a.named, a.inside, names_stay (reverse a.folder) a.above a.folder_at)
 
   old_is : (id : ℕ) (found : Node) (q : Path) (p : Object)
       → NodeIsObject t room id found q p → NodeIsObject later after id found q p

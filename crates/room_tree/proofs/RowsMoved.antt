@@ -181,10 +181,13 @@ module _ (t : ObjectRecords) (room : Room) (stand : RepresentsRoom t room)
         | inr other ↦
             let not_top : reverse names ++ name ∷ [] ≡ path → ⊥ = (λ top. other (
             reads_one t stand.rules (reverse path) id node.id
-            (rw (ap reverse (sym (turned name names ∙ top)) ∙ reverse-reverse (name ∷ names)) (found, parent, stands, named, inside, rest)) m.is_there.at)) in
+            (rw (ap reverse (sym (turned name names ∙ top)) ∙ reverse-reverse (name ∷ names))
+            (found, parent, stands, named, inside, rest)) m.is_there.at)) in
             let in_subtree = below_parent (reverse names) path name
             (ap (λ p. is_at_or_below p path) (sym (turned name names)) ∙ below) not_top in
-            rw (ap (moved path to) (turned name names) ∙ moved_child (reverse names) path to name in_subtree) (rw (reverse-append (moved path to (reverse names)) (name ∷ [])) (found, parent, away id other ∙ stands, named, inside, folder))
+            rw (ap (moved path to) (turned name names) ∙ moved_child (reverse names) path to name in_subtree)
+            (rw (reverse-append (moved path to (reverse names)) (name ∷ []))
+            (found, parent, away id other ∙ stands, named, inside, folder))
       ]
 
   -- numbers are kept

@@ -12,7 +12,8 @@ pub returns-in_default-2-clause-value : goal.returns-in_default-2-clause-value
 returns-in_default-2-clause-value g c = λ available laid_out room stand.
     let before = c.child.ensures.frame.call.was_available available in
     let declared = c.loop-name.invariant.frame.call.laid_out before laid_out in
-    let none = rw (c.loop-name.invariant.frame.same before laid_out) at (rw c.in_default-2.is at (c.in_ok-next.ensures.value available declared)) in
+    let none = rw (c.loop-name.invariant.frame.same before laid_out) at
+    (rw c.in_default-2.is at (c.in_ok-next.ensures.value available declared)) in
     none_on_the_way (g.S.Shelf.view c.args.shelf.now).records.objects room stand
     c.args.path.now c.loop-name.name-index c.name-item.result c.loop-name.here.id
     (rw (← c.loop-name.invariant.names) c.loop-name-test.true)
@@ -28,7 +29,8 @@ loop-name-preserved g c =
       at = λ available laid_out room stand.
           let before = c.child.ensures.frame.call.was_available available in
           let declared = c.loop-name.invariant.frame.call.laid_out before laid_out in
-          let child = rw (c.loop-name.invariant.frame.same before laid_out) at (rw c.in-Some-2.is at (c.in_ok-next.ensures.value available declared)) in
+          let child = rw (c.loop-name.invariant.frame.same before laid_out) at
+          (rw c.in-Some-2.is at (c.in_ok-next.ensures.value available declared)) in
           one_further (g.S.Shelf.view c.args.shelf.now).records.objects room stand c.args.path.now
           c.loop-name.name-index c.name-item.result c.loop-name.here.id c.in-Some-2.next
           (rw (← c.loop-name.invariant.names) c.loop-name-test.true)
@@ -37,13 +39,14 @@ loop-name-preserved g c =
       stands = λ available laid_out room stand.
           let before = c.child.ensures.frame.call.was_available available in
           let declared = c.loop-name.invariant.frame.call.laid_out before laid_out in
-          let child = rw (c.loop-name.invariant.frame.same before laid_out) at (rw c.in-Some-2.is at (c.in_ok-next.ensures.value available declared)) in
+          let child = rw (c.loop-name.invariant.frame.same before laid_out) at
+          (rw c.in-Some-2.is at (c.in_ok-next.ensures.value available declared)) in
           child.0.stands;
     }
 
 pub returns-clause-value : goal.returns-clause-value
-returns-clause-value g c = λ available laid_out room stand.
-    (
-      rw (← take_all c.loop-name.name-index c.args.path.now (rw (← c.loop-name.invariant.names) c.loop-name-test.false)) (c.loop-name.invariant.at available laid_out room stand),
-      c.loop-name.invariant.stands available laid_out room stand,
-    )
+returns-clause-value g c = λ available laid_out room stand. (
+  rw (← take_all c.loop-name.name-index c.args.path.now (rw (← c.loop-name.invariant.names) c.loop-name-test.false))
+      (c.loop-name.invariant.at available laid_out room stand),
+  c.loop-name.invariant.stands available laid_out room stand,
+)

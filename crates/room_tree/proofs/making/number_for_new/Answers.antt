@@ -50,7 +50,8 @@ returns-in-Some-clause-value g c = λ available laid_out t e room stand folder f
     let asked = c.next_id.ensures.frame.call.laid_out numbered declared in
     let stays = ap (λ (r : Records). r.objects) (c.next_id.ensures.frame.same numbered declared) ∙ same in
     let taken = rw c.in-Some.is at (c.in_ok-node.ensures.value available asked) in
-    let told = stand.rules.numbered c.in_ok-next.next c.in-Some.field-0 (sym (taken ∙ ap (λ (r : ObjectRecords). r.node c.in_ok-next.next) stays)) in
+    let told = stand.rules.numbered c.in_ok-next.next c.in-Some.field-0
+    (sym (taken ∙ ap (λ (r : ObjectRecords). r.node c.in_ok-next.next) stays)) in
     absurd (omega (arith, told.2, next))
 
 pub returns-clause-value : goal.returns-clause-value

@@ -16,10 +16,12 @@ pub returns-in-Read-clause-effect : goal.returns-in-Read-clause-effect
 returns-in-Read-clause-effect g c = rw c.in-Read.is c.plan_read.ensures.effect
 
 pub returns-in-Write-clause-effect : goal.returns-in-Write-clause-effect
-returns-in-Write-clause-effect g c = rw c.in-Write.is (rw c.as_slice-in-Write.ensures.value at c.plan_write.ensures.effect)
+returns-in-Write-clause-effect g c =
+    rw c.in-Write.is (rw c.as_slice-in-Write.ensures.value at c.plan_write.ensures.effect)
 
 pub returns-in-Append-clause-effect : goal.returns-in-Append-clause-effect
-returns-in-Append-clause-effect g c = rw c.in-Append.is (rw c.as_slice-in-Append.ensures.value at c.plan_append.ensures.effect)
+returns-in-Append-clause-effect g c =
+    rw c.in-Append.is (rw c.as_slice-in-Append.ensures.value at c.plan_append.ensures.effect)
 
 pub returns-in-GetList-clause-effect : goal.returns-in-GetList-clause-effect
 returns-in-GetList-clause-effect g c = rw c.in-GetList.is c.plan_getlist.ensures.effect
@@ -34,7 +36,8 @@ pub returns-in-Remove-clause-effect : goal.returns-in-Remove-clause-effect
 returns-in-Remove-clause-effect g c = rw c.in-Remove.is c.plan_remove.ensures.effect
 
 pub returns-in-SetList-clause-effect : goal.returns-in-SetList-clause-effect
-returns-in-SetList-clause-effect g c = rw c.in-SetList.is (rw c.as_slice-in-SetList.ensures.value at c.plan_setlist.ensures.effect)
+returns-in-SetList-clause-effect g c =
+    rw c.in-SetList.is (rw c.as_slice-in-SetList.ensures.value at c.plan_setlist.ensures.effect)
 
 pub returns-in-Rename-clause-effect : goal.returns-in-Rename-clause-effect
 returns-in-Rename-clause-effect g c = rw c.in-Rename.is c.plan_rename.ensures.effect

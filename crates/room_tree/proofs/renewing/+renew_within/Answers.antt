@@ -45,7 +45,8 @@ pub loop-node-init : goal.loop-node-init
 loop-node-init g m c = record {
   frame = c.in_ok-nodes.ensures.frame;
   children = λ available laid_out t e room stand.
-      rw c.deref-node-items.ensures.value (rw (← e) (c.in_ok-nodes.ensures.value available laid_out (rw e stand.rules)));
+      rw c.deref-node-items.ensures.value
+      (rw (← e) (c.in_ok-nodes.ensures.value available laid_out (rw e stand.rules)));
   renews = λ available laid_out t e room stand path at deep.
       none_so_far t room stand path c.args.list.now c.args.out.now.items;
 }

@@ -91,8 +91,7 @@ returns-clause-value g c = λ available laid_out t e room stand.
     let so = c.loop-index.invariant.walked available laid_out t e room stand in
     let all = rw c.names-names.ensures.value at c.loop-index-test.false in
     let within = rw c.names-names.ensures.value at c.loop-index.auto.index-end in
-    let last : c.loop-index.index ≡ length path = omega (arith, all, within) in
-    (
+    let last : c.loop-index.index ≡ length path = omega (arith, all, within) in (
       walk_done room c.args.subject.now path c.loop-index.index so.0 all,
       (rw (← take_all c.loop-index.index path all) so.1, rw (← last) so.2),
     )
