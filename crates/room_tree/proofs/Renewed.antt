@@ -115,8 +115,7 @@ put_found P (p ∷ puts) id each found = by_test (eqb id p.0) refl found (put_fo
     by_test : (b : Bool) → eqb id p.0 ≡ b → IsTrue (b || list_any (puts_entries_of id) (map put puts))
         → (IsTrue (list_any (puts_entries_of id) (map put puts)) → (entries : List EntryModel) × P id entries)
         → (entries : List EntryModel) × P id entries
-    by_test true same h rest =
-        ((p.1.items, rw (eqb-true id p.0 same) each.0))
+    by_test true same h rest = ((p.1.items, rw (eqb-true id p.0 same) each.0))
     by_test false other h rest = rest h
 
 abbrev one_if : Bool → ℕ
@@ -339,8 +338,7 @@ module _ (t : ObjectRecords) (room : Room) (stand : RepresentsRoom t room) (path
     where
       other : (k : ℕ) (entries : List EntryModel) → IsRelisted t room path list k entries → k ≢ id
       other k entries new same =
-          let one : q ≡ path ++ new.rest =
-          path_of_node t stand.rules q (path ++ new.rest) id at (rw (← same) new.at) in
+          let one : q ≡ path ++ new.rest = path_of_node t stand.rules q (path ++ new.rest) id at (rw (← same) new.at) in
           not_both (is_at_or_below q path) (ap (λ p. is_at_or_below p path) one ∙ at_behind path new.rest) off
 
   pub relisted_of_objects : AllByRecursion IsOfObjects (PutNode now ∷ map put puts)

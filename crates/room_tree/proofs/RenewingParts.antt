@@ -164,8 +164,7 @@ module _ (t : ObjectRecords) (room : Room) (path : Path) (list : List EntryModel
 
   at_child : (rest below : Path) (id : ℕ) → rest ≡ name ∷ below
       → HasPath t (path ++ rest) id → HasPath t ((path ++ name ∷ []) ++ below) id
-  at_child rest below id is at =
-      rw (← ap (λ p. path ++ p) is ∙ sym (append_assoc path (name ∷ []) below)) (at)
+  at_child rest below id is at = rw (← ap (λ p. path ++ p) is ∙ sym (append_assoc path (name ∷ []) below)) (at)
 
   -- where the child has this list, lists below it are those below the path
   module _ (given : List EntryModel) (is_given : given ≡ list_below room path list (name ∷ [])) where

@@ -57,15 +57,12 @@ module _ (t : ObjectRecords) (rules : ObjectRules t) (node : Node)
       | inr old ↦ rules.numbered id found old
     ];
     root = elim (some_or_none (t.node 1)) [
-      | inl none ↦
-          absurd (let f = rw none at rules.has_root in cc)
+      | inl none ↦ absurd (let f = rw none at rules.has_root in cc)
       | inr found ↦ (rw (← found.1 ∙ sym (forth 1 found.0 found.1)) rules.root)
     ];
     has_root = elim (some_or_none (t.node 1)) [
-      | inl none ↦
-          absurd (let f = rw none at rules.has_root in cc)
-      | inr found ↦
-          (rw (forth 1 found.0 found.1) refl)
+      | inl none ↦ absurd (let f = rw none at rules.has_root in cc)
+      | inr found ↦ (rw (forth 1 found.0 found.1) refl)
     ];
     below = λ id found stands other. elim (back id found stands) [
       | inl new ↦ record {
@@ -187,8 +184,7 @@ module _ (t later : ObjectRecords) (room after : Room) (path : Path) (o : Object
           (before.0, before.1, old_is id found before.0 before.1 before.2)
     ];
     objects = λ q p stands. elim (a.new_or_old q p stands) [
-      | inl new ↦
-          (node.id, node, rw (← new.1) (rw new.0 new_is))
+      | inl new ↦ (node.id, node, rw (← new.1) (rw new.0 new_is))
       | inr there ↦
           let before = stand.objects q p there in
           (before.0, before.1, old_is before.0 before.1 q p before.2)

@@ -192,8 +192,7 @@ module _ (t : ObjectRecords) (room : Room) (stand : RepresentsRoom t room)
 
   -- numbers are kept
   keeps_place : (q : Path) (id : ℕ) → HasPath t q id → HasPath later (moved path to q) id
-  keeps_place q id at =
-      rw (← reverse-reverse q) (names_moved (reverse q) id at)
+  keeps_place q id at = rw (← reverse-reverse q) (names_moved (reverse q) id at)
 
   not_first : node.id ≢ 1
   not_first same =
@@ -243,10 +242,8 @@ module _ (t : ObjectRecords) (room : Room) (stand : RepresentsRoom t room)
       ))
       | inr old ↦ stand.rules.numbered id found old.1
     ];
-    root =
-        rw (away 1 (λ same. not_first (sym same))) stand.rules.root;
-    has_root =
-        rw (away 1 (λ same. not_first (sym same))) stand.rules.has_root;
+    root = rw (away 1 (λ same. not_first (sym same))) stand.rules.root;
+    has_root = rw (away 1 (λ same. not_first (sym same))) stand.rules.has_root;
     below = λ id found stands other. elim (back id found stands) [
       | inl new ↦ (let parent = forth above m.parent m.parent_stands in record {
         above = above;
@@ -383,8 +380,7 @@ module _ (t : ObjectRecords) (room : Room) (stand : RepresentsRoom t room)
             → Stands room stand.lawful path to o m.apart m.is_there.object_stands m.free q p → Found q p
         by_stand q p (Moved _ _ rest same stands) =
             (rw (moved_rest path to rest ∙ sym same) at (there (path ++ rest) p stands))
-        by_stand q p (Stayed _ _ off off_to stands) =
-            rw (← moved_off q path to off) (there q p stands)
+        by_stand q p (Stayed _ _ off off_to stands) = rw (← moved_off q path to off) (there q p stands)
 
     pub none_new_moved : (id : ℕ) → IsNone (t.node id) → IsSome (rows.node id) → ⊥
     none_new_moved id none some = elim (some_or_none (later.node id)) [

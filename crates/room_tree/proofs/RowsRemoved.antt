@@ -67,10 +67,8 @@ module _ (t : ObjectRecords) (room : Room) (stand : RepresentsRoom t room) (path
   rules_dropped : ObjectRules (apply_to_objects (DropNode id) t)
   rules_dropped = record {
     numbered = λ k found stands. stand.rules.numbered k found (back k found stands).1;
-    root =
-        rw (if_other 1 id None (t.node 1) (λ same. not_first (sym same))) stand.rules.root;
-    has_root =
-        rw (if_other 1 id None (t.node 1) (λ same. not_first (sym same))) stand.rules.has_root;
+    root = rw (if_other 1 id None (t.node 1) (λ same. not_first (sym same))) stand.rules.root;
+    has_root = rw (if_other 1 id None (t.node 1) (λ same. not_first (sym same))) stand.rules.has_root;
     below = λ k found stands other.
         let before = back k found stands in
         let under = stand.rules.below k found before.1 other in
