@@ -55,8 +55,7 @@ file_by_kind Folder o h = cc
 -- a found object that passes as a document is one
 pub is_document : (t : ObjectRecords) (room : Room) (path : Path) (loaded : LoadedObject)
     (found : IsLoaded t room path loaded) → check_file room path ≡ None → loaded.kind ≡ File
-is_document t room path loaded found passed =
-    file_by_kind loaded.kind found.object (sym (file_check t room path loaded found) ∙ passed)
+is_document t room path loaded found passed = file_by_kind loaded.kind found.object (sym (file_check found) ∙ passed)
 
 -- what changed one object plans the effect
 pub replaced_plans : (t : ObjectRecords) (room : Room) (caller : SubjectModel)
@@ -70,21 +69,20 @@ pub replaced_plans : (t : ObjectRecords) (room : Room) (caller : SubjectModel)
 replaced_plans t room caller command outcome changes path o now_is node
     now stand r passed replied planned of_objects rules few stays =
     let later = apply_all_to_objects changes t in
-    success_plans t room caller command outcome stand changes passed replied planned of_objects rules few
-    (replaced t later room (changed room caller command) path o now_is node now stand r)
+    success_plans caller command outcome stand changes passed replied planned of_objects rules few (replaced stand r)
     (λ q id at stands there.
-    rw (stays q) (replaced_keeps t later room (changed room caller command) path o now_is node now stand r q id at))
+    rw (stays q) (replaced_keeps stand r q id at))
     (λ id absent present. absurd (none_new t later r.shape id absent present))
 
-module _ (t : ObjectRecords) (room : Room) (stand : RepresentsRoom t room) (path : Path)
-    (loaded : LoadedObject) (found : IsLoaded t room path loaded) (change : Object → Object)
+module _ {t : ObjectRecords} {room : Room} (stand : RepresentsRoom t room) {path : Path} {loaded : LoadedObject}
+    (found : IsLoaded t room path loaded) (change : Object → Object)
     (lawful : IsRoom (with_object room path change)) where
   parts_stay : (change found.object).own ≡ found.object.own → (change found.object).aclflag ≡ found.object.aclflag
       → (change found.object).kind ≡ found.object.kind
       → (p : Path) → list_part (object_at (with_object room path change) p) ≡ list_part (object_at room p)
   parts_stay own aclflag kind p = elim (path_same_or_other p path) [
     | inl same ↦
-        let is_there = there t room path loaded found in
+        let is_there = there found in
         ap (λ (q : Path). list_part (object_at (with_object room path change) q)) same
         ∙ ap list_part (changed_at room path change found.object is_there)
         ∙ same_parts (change found.object) found.object own aclflag kind
@@ -129,7 +127,7 @@ module _ (t : ObjectRecords) (room : Room) (stand : RepresentsRoom t room) (path
         next = refl;
         made = refl;
         lawful = lawful;
-        at_path = changed_at room path change found.object (there t room path loaded found);
+        at_path = changed_at room path change found.object (there found);
         away = elsewhere_unchanged room path change;
       }
 
@@ -164,6 +162,6 @@ module _ (t : ObjectRecords) (room : Room) (stand : RepresentsRoom t room) (path
         next = refl;
         made = refl;
         lawful = lawful;
-        at_path = changed_at room path change found.object (there t room path loaded found);
+        at_path = changed_at room path change found.object (there found);
         away = elsewhere_unchanged room path change;
       }

@@ -41,8 +41,8 @@ off_root (name ∷ path) h = refl
 pub is_absent : (room : Room) (path : Path) → object_at room path ≡ None → check_absent room path ≡ None
 is_absent room path nothing = ap (λ (o : Option Object). refuse_if (is_some o) Exist) nothing
 
-module _ (t : ObjectRecords) (room : Room) (path : Path)
-    (loaded : LoadedObject) (found : IsLoaded t room path loaded) where
+module _ {t : ObjectRecords} {room : Room} {path : Path} {loaded : LoadedObject}
+    (found : IsLoaded t room path loaded) where
   pub there : object_at room path ≡ Some found.object
   there = found.is_there.object_stands
 
@@ -115,10 +115,10 @@ pub if_ok_map : {T E : Type 0} (P Q : T → Type 0) → ((x : T) → P x → Q x
 if_ok_map P Q weaker (Ok x) h = weaker x h
 if_ok_map P Q weaker (Err e) h = tt
 
-module _ (t : ObjectRecords) (room : Room) (stand : RepresentsRoom t room)
-    (path : Path) (loaded : LoadedObject) (found : IsLoaded t room path loaded) where
+module _ {t : ObjectRecords} {room : Room} (stand : RepresentsRoom t room) {path : Path} {loaded : LoadedObject}
+    (found : IsLoaded t room path loaded) where
   pub bytes_there : bytes_at room path ≡ found.object.bytes
-  bytes_there = ap (λ (o : Option Object). bytes_in o) (there t room path loaded found)
+  bytes_there = ap (λ (o : Option Object). bytes_in o) (there found)
     where
       bytes_in : Option Object → List ℕ
       bytes_in None = []
@@ -126,7 +126,7 @@ module _ (t : ObjectRecords) (room : Room) (stand : RepresentsRoom t room)
 
   pub few_bytes : length (bytes_at room path) ≤ max_document
   few_bytes =
-      let small = (object_there_is_lawful room stand.lawful path found.object (there t room path loaded found)).small in
+      let small = (object_there_is_lawful room stand.lawful path found.object (there found)).small in
       omega (arith, ap length bytes_there, small)
 
 -- what passes is not too large

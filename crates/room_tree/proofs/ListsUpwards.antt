@@ -40,8 +40,8 @@ node_there t room stand path id at none = elim (root_or_below path) [
       none_is_some up.0 (sym none ∙ up.2))
 ]
 
-module _ (t : ObjectRecords) (room : Room) (stand : RepresentsRoom t room) (path : Path)
-    (id : ℕ) (node : Node) (at : HasPath t path id) (stands : t.node id ≡ Some node) where
+module _ {t : ObjectRecords} {room : Room} (stand : RepresentsRoom t room) (path : Path) (id : ℕ) (node : Node)
+    (at : HasPath t path id) (stands : t.node id ≡ Some node) where
   number : node.id ≡ id
   number = (stand.rules.numbered id node stands).0
 

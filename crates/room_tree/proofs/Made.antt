@@ -63,12 +63,11 @@ pub ends_of : (path : Path) → is_root path ≡ false → Ends path
 ends_of [] h = cc
 ends_of (first ∷ rest) h = ends first rest
 
-module _ (t : ObjectRecords) (room : Room) (caller : SubjectModel) (path : Path)
-    (above : LoadedObject) (kind : Kind) (id : ℕ) (node : Node) (stand : RepresentsRoom t room)
-    (is_path : IsPath path) (root_off : is_root path ≡ false) (absent : object_at room path ≡ None)
-    (found : IsLoaded t room (parent_of path) above) (number : id ≡ t.next)
-    (few : t.next ≤ max_objects) (new : IsNewNode caller path above kind id node)
-    (o : Object) (lawful : IsRoom (with_new room path o)) where
+module _ {t : ObjectRecords} {room : Room} {caller : SubjectModel} {path : Path} {above : LoadedObject} {kind : Kind}
+    {id : ℕ} {node : Node} (stand : RepresentsRoom t room) (is_path : IsPath path) (root_off : is_root path ≡ false)
+    (absent : object_at room path ≡ None) (found : IsLoaded t room (parent_of path) above) (number : id ≡ t.next)
+    (few : t.next ≤ max_objects) (new : IsNewNode caller path above kind id node) (o : Object)
+    (lawful : IsRoom (with_new room path o)) where
   end : Ends path
   end = ends_of path root_off
 
@@ -136,7 +135,7 @@ module _ (t : ObjectRecords) (room : Room) (caller : SubjectModel) (path : Path)
       is_there (Some n) h = (n, refl)
 
   pub rules_made : ObjectRules (apply_to_objects (PutNode node) (apply_to_objects (PutNext (id + 1)) t))
-  rules_made = rules_put_new (apply_to_objects (PutNext (id + 1)) t) rules_bumped node above.id end.name free
+  rules_made = rules_put_new rules_bumped free
 
   pub new_stands : (k : ℕ) → k ≡ node.id
       → (apply_to_objects (PutNode node) (apply_to_objects (PutNext (id + 1)) t)).node k ≡ Some node
@@ -144,7 +143,7 @@ module _ (t : ObjectRecords) (room : Room) (caller : SubjectModel) (path : Path)
 
   group_is : node.group ≡ (object_group room path)
   group_is = new.group ∙ found.is_there.shows.group
-      ∙ ap (λ (p : Object). p.group) (sym (object_is t room (parent_of path) above found))
+      ∙ ap (λ (p : Object). p.group) (sym (object_is found))
 
   -- what is there keeps its list
   lists_stay : (q : Path) (p : Object) → object_at room q ≡ Some p → list_of room q ≡ list_of (with_new room path o) q
@@ -254,32 +253,24 @@ mkdir_plans t room caller path above id node list outcome stand is_path before f
     let lawful = changed_is_room room caller command is_path stand.lawful passed in
     let first = apply_to_objects (PutNext (id + 1)) t in
     let second = apply_to_objects (PutNode node) first in
-    let rules = rules_made t room caller path above Folder id node
-    stand is_path root_off absent found number.1 few new o lawful in
-    let stands = new_stands t room caller path above Folder id node stand is_path
-    root_off absent found number.1 few new o lawful id (sym new.number) in
-    let none = no_entries t room caller path above Folder id node stand is_path
-    root_off absent found number.1 few new o lawful in
+    let rules = rules_made stand is_path root_off absent found number.1 few new o lawful in
+    let stands = new_stands stand is_path root_off absent found number.1 few new o lawful id (sym new.number) in
+    let none = no_entries stand is_path root_off absent found number.1 few new o lawful in
     let later = apply_all_to_objects (puts_new id list) second in
     let gives = gives_list second id node list rules stands none in
-    let r = adds t room caller path above Folder id node stand is_path
-    root_off absent found number.1 few new o lawful later gives.nodes
+    let r = adds stand is_path root_off absent found number.1 few new o lawful later gives.nodes
     (λ k other. gives.away k (λ is. other (is ∙ sym new.number)))
     (ap later.entries new.number ∙ gives.listed ∙ given)
     (λ k other. ap (λ (f : ℕ → Option (List ℕ)). f k) gives.documents) gives.next gives.rules refl refl refl refl refl
     (ap (λ (f : ℕ → Option (List ℕ)). unwrap_or (f node.id) []) gives.documents
-    ∙ no_document t room caller path above Folder id node stand
-    is_path root_off absent found number.1 few new o lawful) in
-    success_plans t room caller command outcome stand
+    ∙ no_document stand is_path root_off absent found number.1 few new o lawful) in
+    success_plans caller command outcome stand
     (PutNext (id + 1) ∷ PutNode node ∷ puts_new id list) passed replied planned (tt, (tt, gives.of_objects)) (
-      rules_bumped t room caller path above Folder id node stand is_path
-          root_off absent found number.1 few new o lawful,
+      rules_bumped stand is_path root_off absent found number.1 few new o lawful,
       (rules, gives.each),
     )
     (few_for_folder t id none (id + 1) node list)
-    (added t later room (with_new room path o) path o node stand r)
-    (λ q k at stands there. added_keeps t later room (with_new room path o) path o node stand r q k at)
-    (only_next t room caller path above Folder id node stand is_path
+    (added stand r) (λ q k at stands there. added_keeps stand r q k at) (only_next stand is_path
     root_off absent found number.1 few new o lawful later gives.nodes)
 
 -- CREATE
@@ -313,20 +304,16 @@ create_plans t room caller bytes path above id node list copy outcome stand
     let lawful = created_is_room room caller bytes path is_path stand.lawful passed in
     let first = apply_to_objects (PutNext (id + 1)) t in
     let second = apply_to_objects (PutNode node) first in
-    let rules = rules_made t room caller path above File id node stand
-    is_path root_off absent found number.1 few new o lawful in
-    let stands = new_stands t room caller path above File id node stand is_path
-    root_off absent found number.1 few new o lawful id (sym new.number) in
-    let none = no_entries t room caller path above File id node stand is_path
-    root_off absent found number.1 few new o lawful in
+    let rules = rules_made stand is_path root_off absent found number.1 few new o lawful in
+    let stands = new_stands stand is_path root_off absent found number.1 few new o lawful id (sym new.number) in
+    let none = no_entries stand is_path root_off absent found number.1 few new o lawful in
     let puts = puts_new id list in
     let third = apply_all_to_objects puts second in
     let later = apply_to_objects (PutDoc id copy) third in
     let gives = gives_list second id node list rules stands none in
     let last = rules_put_doc third gives.rules id node (ap (λ (f : ℕ → Option Node). f id) gives.nodes ∙ stands)
     new.kind_is copy in
-    let r = adds t room caller path above File id node stand is_path
-    root_off absent found number.1 few new o lawful later gives.nodes
+    let r = adds stand is_path root_off absent found number.1 few new o lawful later gives.nodes
     (λ k other. gives.away k (λ is. other (is ∙ sym new.number)))
     (ap third.entries new.number ∙ gives.listed ∙ given)
     (λ k other. if_other k id (Some copy.items) (third.document k) (λ is. other (is ∙ sym new.number))
@@ -335,15 +322,13 @@ create_plans t room caller bytes path above id node list copy outcome stand
     (ap (λ (d : Option (List ℕ)). unwrap_or d [])
     (if_same node.id id (Some copy.items) (third.document node.id) new.number) ∙ same) in
     let whole = sym (apply_append puts (PutDoc id copy ∷ []) second) in
-    let keeps = rw whole at (added_keeps t later room (with_new room path o) path o node stand r) in
-    success_plans t room caller command outcome stand
+    let keeps = rw whole at (added_keeps stand r) in
+    success_plans caller command outcome stand
     (PutNext (id + 1) ∷ PutNode node ∷ puts ++ PutDoc id copy ∷ []) passed replied planned
     (tt, (tt, all_append IsOfObjects puts (PutDoc id copy ∷ []) gives.of_objects (tt, tt))) (
-      rules_bumped t room caller path above File id node stand is_path root_off absent found number.1 few new o lawful,
+      rules_bumped stand is_path root_off absent found number.1 few new o lawful,
       (rules, rules_append puts (PutDoc id copy ∷ []) second gives.each (last, tt)),
     )
     (few_for_document t id none (id + 1) node list copy)
-    (rw whole at (added t later room (with_new room path o) path o node stand r))
-    (λ q k at stands there. keeps q k at)
-    (rw (← whole) (only_next t room caller path above File id node stand is_path
+    (rw whole at (added stand r)) (λ q k at stands there. keeps q k at) (rw (← whole) (only_next stand is_path
     root_off absent found number.1 few new o lawful later gives.nodes))

@@ -27,8 +27,8 @@ absent_present : {X : Type 0} (o : Option X) → IsNone o → IsSome o → ⊥
 absent_present None a b = let f = b in cc
 absent_present (Some x) a b = let f = a in cc
 
-module _ (t : ObjectRecords) (room : Room) (caller : SubjectModel)
-    (command : CommandModel) (outcome : Outcome) (stand : RepresentsRoom t room) where
+module _ {t : ObjectRecords} {room : Room} (caller : SubjectModel) (command : CommandModel) (outcome : Outcome)
+    (stand : RepresentsRoom t room) where
   -- a refusal plans nothing
   pub refusal_plans : (refusal : Refusal) → first_refusal (checks room caller command) ≡ Some refusal
       → reply_model outcome.reply ≡ Refused refusal → outcome.changes.items ≡ []

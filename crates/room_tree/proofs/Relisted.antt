@@ -60,8 +60,8 @@ shape_with t first later same shape = record {
       (now.0, ap (λ (f : ℕ → Option Node). f id) same ∙ now.1, now.2);
 }
 
-module _ (t : ObjectRecords) (room : Room) (stand : RepresentsRoom t room)
-    (path : Path) (loaded : LoadedObject) (found : IsLoaded t room path loaded) where
+module _ {t : ObjectRecords} {room : Room} (stand : RepresentsRoom t room) {path : Path} {loaded : LoadedObject}
+    (found : IsLoaded t room path loaded) where
   none_above : path ≡ [] → loaded.parent ≡ None
   none_above root =
       let one : loaded.id ≡ 1 = rw root at found.is_there.at in
@@ -94,7 +94,7 @@ module _ (t : ObjectRecords) (room : Room) (stand : RepresentsRoom t room)
     same_place = record { id = refl; parent = refl; name = refl; kind = refl }
 
     at_path : object_at after path ≡ Some (change found.object)
-    at_path = changed_at room path change found.object (there t room path loaded found)
+    at_path = changed_at room path change found.object (there found)
 
     -- the list that the object has afterwards
     list_after : list_of after path ≡ with_inherited kept flag loaded.kind (entries_of t loaded.parent)
@@ -120,9 +120,8 @@ module _ (t : ObjectRecords) (room : Room) (stand : RepresentsRoom t room)
         not_both (is_at_or_below q path)
         (ap (λ p. is_at_or_below p path) (same ∙ sym (append-nil path)) ∙ at_behind path []) off)
 
-    module _ (passed : first_refusal (checks room caller (C.SetList flag sent path)) ≡ None)
-        (list : List EntryModel) (is : list_of after path ≡ list)
-        (puts : Puts) (r : Relists t room path list puts) where
+    module _ (passed : first_refusal (checks room caller (C.SetList flag sent path)) ≡ None) {list : List EntryModel}
+        (is : list_of after path ≡ list) {puts : Puts} (r : Relists t room path list puts) where
       abbrev first : ObjectRecords
       first = apply_to_objects (PutNode now) t
 
@@ -139,17 +138,16 @@ module _ (t : ObjectRecords) (room : Room) (stand : RepresentsRoom t room)
           by_test true below =
               let rest : Path = drop (length path) q in
               let split : q ≡ path ++ rest = rest_below path q below in
-              relisted_at t room stand path list puts r now rest id (rw (← split) (at))
+              relisted_at stand r now rest id (rw (← split) (at))
               ∙ ap (λ l. list_below room path l (reverse rest)) (sym is)
               ∙ sym (lists_renewed room after path path (λ below some. elsewhere_unchanged room path change (path
               ++ below) (λ same. some (append_cancel_left path below [] (same ∙ sym (append-nil path))))) rest)
               ∙ ap (list_of after) (sym split)
-          by_test false off =
-              relisted_off t room stand path list puts r now q id at off
+          by_test false off = relisted_off stand r now q id at off
               ∙ stored_list t room stand q id at ∙ sym (lists_away room after path away_from q off)
 
       rules_after : ObjectRulesHoldAfterEach (PutNode now ∷ map put puts) t × ObjectRules later
-      rules_after = relisted_rules t room stand path list puts r now
+      rules_after = relisted_rules stand r now
           (rules_put t stand.rules (node_of loaded) now found.is_there.node_stands same_place)
 
       replaces : Replaces t later room after path found.object (change found.object) (node_of loaded) now
@@ -186,8 +184,8 @@ module _ (t : ObjectRecords) (room : Room) (stand : RepresentsRoom t room)
       planned_with outcome replied planned =
           replaced_plans t room caller (C.SetList flag sent path) outcome (PutNode now ∷ map put puts)
           path found.object (change found.object) (node_of loaded) now stand
-          replaces passed replied planned (relisted_of_objects t room stand path list puts r now)
-          rules_after.0 (relisted_few t room stand path list puts r now) (λ q. refl)
+          replaces passed replied planned (relisted_of_objects stand r now)
+          rules_after.0 (relisted_few stand r now) (λ q. refl)
 
     -- the row, its list where that changes, and those below lead to the room with other list flags and own entries
     pub setlist_plans : first_refusal (checks room caller (C.SetList flag sent path)) ≡ None
@@ -197,7 +195,8 @@ module _ (t : ObjectRecords) (room : Room) (stand : RepresentsRoom t room)
         → reply_model outcome.reply ≡ Done → PlansEffect t room caller (C.SetList flag sent path) outcome
     setlist_plans passed list is new changes outcome planned replied =
         let stored = stored_at t room path loaded found in
-        let what = puts_relist t room stand path loaded.id found.is_there.at now refl new
+        let what = puts_relist stand path loaded.id found.is_there.at now refl new
         (changes_list t loaded.id (list_of room path) list stored new changes) outcome.changes.items planned in
-        planned_with passed (list_then t loaded.id new) (list_after ∙ sym is ∙ sym
-        (list_then_is t loaded.id (list_of room path) list stored new changes)) what.0 what.2 outcome replied what.1
+        planned_with passed
+        (list_after ∙ sym is ∙ sym (list_then_is t loaded.id (list_of room path) list stored new changes))
+        what.2 outcome replied what.1

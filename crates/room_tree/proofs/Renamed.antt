@@ -76,8 +76,8 @@ paths_pass path to passed =
     let roots = or_parts (is_root path) (is_root to) apart.0 in
     record { below_root = roots.0; to_below_root = roots.1; apart = apart.1 }
 
-module _ (t : ObjectRecords) (room : Room) (stand : RepresentsRoom t room) (a b : Path)
-    (here there : LoadedObject) (is_here : IsLoaded t room a here) (is_there : IsLoaded t room b there) where
+module _ {t : ObjectRecords} {room : Room} (stand : RepresentsRoom t room) {a b : Path} {here there : LoadedObject}
+    (is_here : IsLoaded t room a here) (is_there : IsLoaded t room b there) where
   -- a folder is another one exactly where its number is
   pub same_folder : here.id ≡ there.id → path_eq a b ≡ true
   same_folder same =
@@ -94,11 +94,10 @@ not_in_root : (path : Path) → is_root path ≡ false → is_at_or_below [] pat
 not_in_root [] off = cc
 not_in_root (name ∷ path) off = refl
 
-module _ (t : ObjectRecords) (room : Room) (stand : RepresentsRoom t room)
-    (path up : Path) (last : Name) (o : Object) (node now : Node) (above : ℕ)
-    (m : MovesNode t room path up last o node now above) (list : List EntryModel)
-    (is : list_of (renamed room path (up ++ last ∷ [])) (up ++ last ∷ []) ≡ list)
-    (puts : Puts) (r : Relists t room path list puts) where
+module _ {t : ObjectRecords} {room : Room} (stand : RepresentsRoom t room) {path up : Path} {last : Name} {o : Object}
+    {node now : Node} {above : ℕ} (m : MovesNode t room path up last o node now above) {list : List EntryModel}
+    (is : list_of (renamed room path (up ++ last ∷ [])) (up ++ last ∷ []) ≡ list) {puts : Puts}
+    (r : Relists t room path list puts) where
   abbrev to : Path
   to = up ++ last ∷ []
 
@@ -118,22 +117,19 @@ module _ (t : ObjectRecords) (room : Room) (stand : RepresentsRoom t room)
       by_place true below =
           let rest = drop (length path) q in
           let split : q ≡ path ++ rest = rest_below path q below in
-          relisted_at t room stand path list puts r now rest id (rw (← split) (at))
-          ∙ ap (λ l. list_below room path l (reverse rest)) (sym is)
+          relisted_at stand r now rest id (rw (← split) (at)) ∙ ap (λ l. list_below room path l (reverse rest)) (sym is)
           ∙ sym (lists_of_moved room stand.lawful path to o m.apart m.is_there.object_stands m.free rest)
           ∙ ap (list_of (renamed room path to)) (sym (ap (moved path to) split ∙ moved_rest path to rest))
       by_place false off =
           let found = node_at_path t room stand q id at in
           let other = object_at_node t room stand q id found.0 at found.1 in
-          relisted_off t room stand path list puts r now q id at off
-          ∙ stored_list t room stand q id at
+          relisted_off stand r now q id at off ∙ stored_list t room stand q id at
           ∙ sym (list_of_stayed room stand.lawful path to o m.apart
           m.is_there.object_stands m.free q other.0 other.1 off)
           ∙ ap (list_of (renamed room path to)) (sym (moved_off q path to off))
 
   pub rules_after : ObjectRulesHoldAfterEach (PutNode now ∷ map put puts) t × ObjectRules rows
-  rules_after = relisted_rules t room stand path list puts r now
-      (rules_moved t room stand path up last o node now above m)
+  rules_after = relisted_rules stand r now (rules_moved stand m)
 
   pub moves_lists : MovesLists t rows now room path to
   moves_lists = record {
@@ -203,7 +199,7 @@ rename_plans t room caller path to move now outcome stand is_path is_to passed f
         let given = list_under (object_at room path) (t.entries move.into.id) in
         let puts = planned (rw m.id there.at) (ap t.node m.id ∙ there.node_stands) (sym m.kind) in
         let changed = changes_list t loaded.id (t.entries loaded.id) given refl new changes in
-        let what = puts_relist t room stand path loaded.id there.at now m.id new changed outcome.changes.items puts in
+        let what = puts_relist stand path loaded.id there.at now m.id new changed outcome.changes.items puts in
         let list = list_then t loaded.id new in
         let in_folder : parent_of to ≡ up = ap parent_of is ∙ parent_of_end up name in
         let handed : t.entries move.into.id ≡ list_of room up =
@@ -216,14 +212,9 @@ rename_plans t room caller path to move now outcome stand is_path is_to passed f
         let list_is : list_of (renamed room path target) target ≡ list =
         as_moved ∙ sym (list_then_is t loaded.id (t.entries loaded.id) given refl new changes) in
         let later = apply_all_to_objects (PutNode now ∷ map put what.0) t in
-        let w = moves_lists t room stand path up name o node now move.into.id m list list_is what.0 what.2 in
-        success_plans t room caller (C.Rename path to) outcome stand
-        (PutNode now ∷ map put what.0) passed replied what.1
-        (relisted_of_objects t room stand path list what.0 what.2 now)
-        (rules_after t room stand path up name o node now move.into.id m list list_is what.0 what.2).0
-        (relisted_few t room stand path list what.0 what.2 now)
-        (rw is (moved_represents t room stand path up name o node now move.into.id m later w))
-        (λ q id at stands there.
-        (rw (← is) at (moved_keeps t room stand path up name o node now move.into.id m later w)) q id at)
-        (λ id absent present.
-        absurd (none_new_moved t room stand path up name o node now move.into.id m later w id absent present))
+        let w = moves_lists stand m list_is what.2 in
+        success_plans caller (C.Rename path to) outcome stand (PutNode now ∷ map put what.0) passed replied what.1
+        (relisted_of_objects stand what.2 now) (rules_after stand m list_is what.2).0 (relisted_few stand what.2 now)
+        (rw is (moved_represents stand m w)) (λ q id at stands there.
+        (rw (← is) at (moved_keeps stand m w)) q id at) (λ id absent present.
+        absurd (none_new_moved stand m w id absent present))

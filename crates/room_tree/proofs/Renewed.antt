@@ -207,8 +207,8 @@ pub changes_list : (t : ObjectRecords) (id : ℕ) (stored list : List EntryModel
 changes_list t id stored list is None same = tt
 changes_list t id stored list is (Some changed) changes = (λ same. changes.1 (sym changes.0 ∙ same ∙ is))
 
-module _ (t : ObjectRecords) (room : Room) (stand : RepresentsRoom t room)
-    (path : Path) (id : ℕ) (here : HasPath t path id) where
+module _ {t : ObjectRecords} {room : Room} (stand : RepresentsRoom t room) (path : Path) (id : ℕ)
+    (here : HasPath t path id) where
   only_here : (rest : Path) → HasPath t (path ++ rest) id → rest ≡ []
   only_here rest at = append_cancel_left path rest
       [] (path_of_node t stand.rules (path ++ rest) path id at here ∙ sym (append-nil path))
@@ -227,8 +227,8 @@ module _ (t : ObjectRecords) (room : Room) (stand : RepresentsRoom t room)
           stored_list t room stand (path ++ rest) k at ∙ sym (lists_stay room path rest)
           ∙ ap (λ list. list_below room path list (reverse rest)) (sym (stored_list t room stand path id here))
 
-  module _ (list : Vec EntryModel Global) (changes : list.items ≢ t.entries id)
-      (below : Puts) (renews : RenewsBelow t room path list.items (map put below))
+  module _ (list : Vec EntryModel Global) (changes : list.items ≢ t.entries id) (below : Puts)
+      (renews : RenewsBelow t room path list.items (map put below))
       (each : EachPut (IsRenewed t room path list.items) below) where
     abbrev whole : Puts
     whole = below ++ (id, list) ∷ []
@@ -306,8 +306,8 @@ module _ (t : ObjectRecords) (room : Room) (stand : RepresentsRoom t room)
       )
 
 -- the rows after a row is put, and the lists
-module _ (t : ObjectRecords) (room : Room) (stand : RepresentsRoom t room) (path : Path)
-    (list : List EntryModel) (puts : Puts) (r : Relists t room path list puts) (now : Node) where
+module _ {t : ObjectRecords} {room : Room} (stand : RepresentsRoom t room) {path : Path} {list : List EntryModel}
+    {puts : Puts} (r : Relists t room path list puts) (now : Node) where
   abbrev pub first : ObjectRecords
   first = apply_to_objects (PutNode now) t
 

@@ -99,7 +99,7 @@ stands_above room front rest o stands none_below = by_value (object_at room fron
     by_value None none = absurd (none_is_some o (sym (none_below none) ∙ stands))
     by_value (Some above) is = (above, is)
 
-module _ (t : ObjectRecords) (room : Room) (stand : RepresentsRoom t room) (path : Path) (list : List EntryModel) where
+module _ {t : ObjectRecords} {room : Room} (stand : RepresentsRoom t room) (path : Path) (list : List EntryModel) where
   -- no child yet
   pub renews_none : Renews t room path list (UnderOne []) []
   renews_none = record {
@@ -191,10 +191,10 @@ pub record RenewsSoFar (t : ObjectRecords) (room : Room) (path : Path)
   pub goes_on : new ≡ old ++ added
   pub renews : Renews t room path list (UnderOne nodes) added
 
-module _ (t : ObjectRecords) (room : Room) (stand : RepresentsRoom t room)
-    (path : Path) (list : List EntryModel) (old : List Change) where
+module _ {t : ObjectRecords} {room : Room} (stand : RepresentsRoom t room) (path : Path) (list : List EntryModel)
+    (old : List Change) where
   pub none_so_far : RenewsSoFar t room path list [] old old
-  none_so_far = record { added = []; goes_on = sym (append-nil old); renews = renews_none t room stand path list }
+  none_so_far = record { added = []; goes_on = sym (append-nil old); renews = renews_none stand path list }
 
   -- with the changes for one child more
   pub one_more_so_far : (id : ℕ) (nodes : List Node) (i : ℕ) (node : Node) (new now ys : List Change)
@@ -212,7 +212,7 @@ module _ (t : ObjectRecords) (room : Room) (stand : RepresentsRoom t room)
       record {
         added = so.added ++ ys;
         goes_on = goes_on ∙ ap (λ before. before ++ ys) so.goes_on ∙ append_assoc old so.added ys;
-        renews = rw more (renews_more t room stand path list (take i nodes) node so.added ys order so.renews last);
+        renews = rw more (renews_more stand path list (take i nodes) node so.added ys order so.renews last);
       }
 
   -- all children
@@ -223,6 +223,5 @@ module _ (t : ObjectRecords) (room : Room) (stand : RepresentsRoom t room)
       record {
         added = so.added;
         goes_on = so.goes_on;
-        renews = renews_children t room stand path list id nodes so.added
-            here are (rw (← take_all i nodes end) so.renews);
+        renews = renews_children stand path list id nodes so.added here are (rw (← take_all i nodes end) so.renews);
       }

@@ -28,8 +28,8 @@ pub record IsFree (t : ObjectRecords) (node : Node) (above : ℕ) (name : Name) 
   pub lawful : IsFileName name
   pub alone : (other : Node) → IsChild t above other → other.name ≡ Some name → ⊥
 
-module _ (t : ObjectRecords) (rules : ObjectRules t) (node : Node)
-    (above : ℕ) (name : Name) (free : IsFree t node above name) where
+module _ {t : ObjectRecords} (rules : ObjectRules t) {node : Node} {above : ℕ} {name : Name}
+    (free : IsFree t node above name) where
   abbrev later : ObjectRecords
   later = apply_to_objects (PutNode node) t
 
@@ -129,7 +129,7 @@ pub record Adds (t later : ObjectRecords) (room after : Room) (path : Path) (o :
   pub new_or_old : (q : Path) (p : Object) → object_at after q ≡ Some p
       → ((q ≡ path) × (o ≡ p)) ⊎ (object_at room q ≡ Some p)
 
-module _ (t later : ObjectRecords) (room after : Room) (path : Path) (o : Object) (node : Node)
+module _ {t later : ObjectRecords} {room after : Room} {path : Path} {o : Object} {node : Node}
     (stand : RepresentsRoom t room) (a : Adds t later room after path o node) where
   apart : (id : ℕ) (found : Node) → t.node id ≡ Some found → id ≢ node.id
   apart id found stands same = none_is_some found (sym a.fresh ∙ ap t.node (sym same) ∙ stands)

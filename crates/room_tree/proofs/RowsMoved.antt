@@ -100,9 +100,8 @@ pub record MovesLists (t rows : ObjectRecords) (now : Node) (room : Room) (path 
   pub rules : ObjectRules rows
   pub lists : (q : Path) (id : ℕ) → HasPath t q id → rows.entries id ≡ list_of (renamed room path to) (moved path to q)
 
-module _ (t : ObjectRecords) (room : Room) (stand : RepresentsRoom t room)
-    (path up : Path) (last : Name) (o : Object) (node now : Node) (above : ℕ)
-    (m : MovesNode t room path up last o node now above) where
+module _ {t : ObjectRecords} {room : Room} (stand : RepresentsRoom t room) {path up : Path} {last : Name} {o : Object}
+    {node now : Node} {above : ℕ} (m : MovesNode t room path up last o node now above) where
   abbrev to : Path
   to = up ++ last ∷ []
 
@@ -294,7 +293,7 @@ module _ (t : ObjectRecords) (room : Room) (stand : RepresentsRoom t room)
   ]
 
   -- with other entries, where each is the list of its object in the room after
-  module _ (rows : ObjectRecords) (w : MovesLists t rows now room path to) where
+  module _ {rows : ObjectRecords} (w : MovesLists t rows now room path to) where
     row_after : (id : ℕ) → rows.node id ≡ later.node id
     row_after id = ap (λ (f : ℕ → Option Node). f id) w.nodes
 

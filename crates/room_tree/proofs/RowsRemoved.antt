@@ -34,10 +34,9 @@ use Rattle.room_tree.proofs.Outcomes.{success_plans}
 use Rattle.room_commands.proofs.RoomsWithout.{at_removed, elsewhere_left, left_was_there}
 use Rattle.room_tree.proofs.RowsReplaced.{path_of_node}
 
-module _ (t : ObjectRecords) (room : Room) (stand : RepresentsRoom t room) (path : Path)
-    (id : ℕ) (node : Node) (o : Object) (is : NodeIsObject t room id node path o)
-    (end : Ends path) (empty : (name : Name) → object_at room (path ++ name ∷ []) ≡ None)
-    (lawful : IsRoom (without room path)) where
+module _ {t : ObjectRecords} {room : Room} (stand : RepresentsRoom t room) {path : Path} {id : ℕ} {node : Node}
+    {o : Object} (is : NodeIsObject t room id node path o) (end : Ends path)
+    (empty : (name : Name) → object_at room (path ++ name ∷ []) ≡ None) (lawful : IsRoom (without room path)) where
   abbrev later : ObjectRecords
   later = apply_to_objects (DropNode id) t
 
@@ -190,11 +189,8 @@ remove_plans t room caller path loaded outcome stand found passed root_off is_pa
     let empty = nothing_in_empty room path none in
     let lawful = changed_is_room room caller (C.Remove path) is_path stand.lawful passed in
     let node = node_of loaded in
-    success_plans t room caller (C.Remove path) outcome stand (DropNode loaded.id ∷ []) passed replied planned (tt, tt)
-    (rules_dropped t room stand path loaded.id node found.object found.is_there end empty lawful, tt)
-    (few_dropped t loaded.id)
-    (removed t room stand path loaded.id node found.object found.is_there end empty lawful)
-    (λ q k at stands there. removed_keeps t room stand path loaded.id
-    node found.object found.is_there end empty lawful q k at there)
-    (λ k absent present. absurd (none_made t room stand path loaded.id node
-    found.object found.is_there end empty lawful k absent present))
+    success_plans caller (C.Remove path) outcome stand (DropNode loaded.id ∷ []) passed replied planned (tt, tt)
+    (rules_dropped stand found.is_there end empty lawful, tt) (few_dropped t loaded.id)
+    (removed stand found.is_there end empty lawful)
+    (λ q k at stands there. removed_keeps stand found.is_there end empty lawful q k at there)
+    (λ k absent present. absurd (none_made stand found.is_there end empty lawful k absent present))

@@ -43,7 +43,7 @@ pub record Replaces (t later : ObjectRecords) (room after : Room)
   pub at_path : object_at after path ≡ Some now_is
   pub away : (q : Path) → (q ≡ path → ⊥) → object_at after q ≡ object_at room q
 
-module _ (t later : ObjectRecords) (room after : Room) (path : Path) (o now_is : Object) (node now : Node)
+module _ {t later : ObjectRecords} {room after : Room} {path : Path} {o now_is : Object} {node now : Node}
     (stand : RepresentsRoom t room) (r : Replaces t later room after path o now_is node now) where
   stays_at : (q : Path) (id : ℕ) → HasPath t q id → HasPath later q id
   stays_at q id at = names_by_shape t later r.shape (reverse q) id at

@@ -60,12 +60,12 @@ returns-clause-effect g c = λ available laid_out t e room stand.
     let file = is_document t room path loaded told.0.1 all.1.1.0 in
     let change : Object → Object = λ o. record o { bytes = o.bytes ++ bytes } in
     let is : all_bytes.items ≡ told.0.1.object.bytes ++ bytes =
-    joined.1 ∙ ap (λ b. b ++ bytes) (old ∙ bytes_there t room stand path loaded told.0.1) in
+    joined.1 ∙ ap (λ b. b ++ bytes) (old ∙ bytes_there stand told.0.1) in
     let long : length all_bytes.items ≡ length (bytes_at room path) + length bytes =
     ap length (joined.1 ∙ ap (λ b. b ++ bytes) old) ∙ length-append (bytes_at room path) bytes in
     let fits : length all_bytes.items < 2 ^ 32 =
     omega (arith, long, small_by_check (length (bytes_at room path) + length bytes) size) in
-    let r = document_replaces t room stand path loaded told.0.1 change (appended_is_room room caller bytes path
+    let r = document_replaces stand told.0.1 change (appended_is_room room caller bytes path
     stand.lawful passed) file all_bytes (ap (λ (b : List ℕ). record told.0.1.object { bytes = b }) (sym is)) in
     replaced_plans t room caller (C.Append c.args.bytes.now path) c.in_ok-outcome.outcome (PutDoc loaded.id all_bytes
     ∷ []) path told.0.1.object (change told.0.1.object) (node_of loaded) (node_of loaded) stand

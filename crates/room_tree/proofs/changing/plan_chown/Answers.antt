@@ -27,8 +27,7 @@ returns-clause-effect g c = λ available laid_out t e room stand.
     let change : Object → Object = λ o. record o { owner = owner; group = group } in
     let node = c.in_ok-node.node in
     let is = c.in_ok-node.ensures in
-    let r = row_replaces t room stand path loaded reached.1 change
-    (chown_is_room room caller group owner path stand.lawful reached.0) node
+    let r = row_replaces stand reached.1 change (chown_is_room room caller group owner path stand.lawful reached.0) node
     (record {
       id = ap (λ (n : Node). n.id) is;
       parent = ap (λ (n : Node). n.parent) is;

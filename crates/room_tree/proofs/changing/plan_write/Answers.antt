@@ -50,7 +50,7 @@ returns-clause-effect g c = λ available laid_out t e room stand.
     let same : copy.items ≡ bytes = c.in_ok-copy.ensures.items_if_clones_equal (λ x y is. is) in
     let change : Object → Object = λ o. record o { bytes = bytes } in
     let fits : length copy.items < 2 ^ 32 = omega (arith, ap length same, small_by_check (length bytes) size) in
-    let r = document_replaces t room stand path loaded reached.1 change (written_is_room room caller bytes path
+    let r = document_replaces stand reached.1 change (written_is_room room caller bytes path
     stand.lawful passed) file copy (ap (λ (b : List ℕ). record reached.1.object { bytes = b }) (sym same)) in
     replaced_plans t room caller (C.Write c.args.bytes.now path) c.in_ok-outcome.outcome (PutDoc loaded.id copy ∷ [])
     path reached.1.object (change reached.1.object) (node_of loaded) (node_of loaded) stand

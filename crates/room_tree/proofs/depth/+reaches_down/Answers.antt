@@ -13,11 +13,11 @@ use Rattle.room_tree.proofs.depth.+reaches_down.Goals as goal
 
 pub returns-then-levels-eq0-clause-value : goal.returns-then-levels-eq0-clause-value
 returns-then-levels-eq0-clause-value g m c = λ available laid_out t e room stand path node at stands kind.
-    rw c.if-levels-eq0.true (itself_below t room stand path c.args.id node at stands)
+    rw c.if-levels-eq0.true (itself_below stand path c.args.id node at stands)
 
 pub returns-in-File-clause-value : goal.returns-in-File-clause-value
 returns-in-File-clause-value g m c = λ available laid_out t e room stand path node at stands kind.
-    none_below_file t room stand path c.args.id node c.args.levels at
+    none_below_file stand path c.args.id node c.args.levels at
     stands (kind ∙ c.in-File.is) (omega (arith, c.if-levels-eq0.false))
 
 pub loop-node-init : goal.loop-node-init
@@ -41,7 +41,7 @@ returns-then-deep-clause-value g m c = λ available laid_out t e room stand path
     let is_child : Child child = subst Child (sym c.node-item.is)
     (all_at Child items c.loop-node.node-index child are.each c.loop-node-test.true) in
     let found = c.in_ok-deep.ensures.value available declared t same room stand (path ++ name_of child ∷ []) child
-    (child_path t room stand path c.args.id child at is_child) is_child.stands refl in
+    (child_path stand path c.args.id child at is_child) is_child.stands refl in
     one_level_more room path (name_of child) c.args.levels
     (omega (arith, c.if-levels-eq0.false)) (rw c.if-deep.true at found)
 
@@ -64,7 +64,7 @@ loop-node-preserved g m c =
           let is_child : Child child =
           subst Child (sym c.node-item.is) (all_at Child items i child are.each c.loop-node-test.true) in
           let found = c.in_ok-deep.ensures.value available declared t same room stand (path ++ name_of child ∷ []) child
-          (child_path t room stand path c.args.id child at is_child) is_child.stands refl in
+          (child_path stand path c.args.id child at is_child) is_child.stands refl in
           let Free : Node → Type 0 = λ n. StandsBelow room (path ++ name_of n ∷ []) (c.args.levels - 1) → ⊥ in
           let more : take (i + 1) items ≡ take i items ++ child ∷ [] =
           take_more items i child c.loop-node-test.true ∙ ap (λ n. take i items ++ n ∷ []) (sym c.node-item.is) in
@@ -77,5 +77,5 @@ returns-clause-value g m c = λ available laid_out t e room stand path node at s
     let items = c.deref-node-items.result.now in
     let are = c.loop-node.invariant.children available laid_out t e room stand in
     let none = c.loop-node.invariant.none available laid_out t e room stand path node at stands kind in
-    none_below_children t room stand path c.args.id c.args.levels items at are (omega (arith, c.if-levels-eq0.false))
+    none_below_children stand path c.args.id c.args.levels items at are (omega (arith, c.if-levels-eq0.false))
     (rw (← take_all c.loop-node.node-index items c.loop-node-test.false) none)

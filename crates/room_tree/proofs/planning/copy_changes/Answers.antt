@@ -15,5 +15,5 @@ loop-change-preserved c =
     ≡ take now.change-index c.args.changes.now ++ change ∷ [] =
     take_more c.args.changes.now now.change-index change c.loop-change-test.true
     ∙ ap (λ x. take now.change-index c.args.changes.now ++ x ∷ []) (sym c.change-item.is) in
-    (rw (← items) at (rw front (same_push now.copy.items
-    (take now.change-index c.args.changes.now) step change now.invariant c.in_ok-step.ensures)))
+    rw items (rw front (same_push now.copy.items
+    (take now.change-index c.args.changes.now) step change now.invariant c.in_ok-step.ensures))

@@ -22,8 +22,7 @@ returns-clause-effect g c = λ available laid_out t e room stand.
     let loaded = c.in_ok-loaded.loaded in
     let allowed = c.common_bits.ensures ∙ ap (bit_and c.args.mask) (c.allowed_bits-allowed.ensures.value
     ∙ ap (λ list. allowed_mask list c.args.subject.now loaded.standing) c.as_slice.ensures.value) in
-    reading_plans t room c.args.subject.now (C.Access c.args.mask c.args.path.now)
+    reading_plans c.args.subject.now (C.Access c.args.mask c.args.path.now)
     c.reading.result stand (λ path. refl) refl told.0.0
     (c.reading.ensures.reply ∙ ap Allowed allowed
-    ∙ access_reply t room c.args.path.now loaded told.0.1 c.in_ok-list.list.items list c.args.subject.now c.args.mask)
-    c.reading.ensures.none
+    ∙ access_reply told.0.1 c.in_ok-list.list.items list c.args.subject.now c.args.mask) c.reading.ensures.none

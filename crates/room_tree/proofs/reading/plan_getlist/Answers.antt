@@ -16,8 +16,5 @@ returns-clause-effect g c = λ available laid_out t e room stand.
     let told = both_tell _ _ c.reach_to_use.ensures.frame c.whole_list.ensures.frame
     c.in_ok-loaded.ensures.value c.in_ok-list.ensures.value available laid_out t e room stand in
     let list = told.1 c.args.path.now told.0.1 in
-    reading_plans t room c.args.subject.now (C.GetList c.args.path.now)
-    c.reading.result stand (λ path. refl) refl told.0.0
-    (c.reading.ensures.reply ∙ entries_reply t room c.args.path.now c.in_ok-loaded.loaded told.0.1
-    c.in_ok-list.list.items list)
-    c.reading.ensures.none
+    reading_plans c.args.subject.now (C.GetList c.args.path.now) c.reading.result stand (λ path. refl) refl told.0.0
+    (c.reading.ensures.reply ∙ entries_reply told.0.1 c.in_ok-list.list.items list) c.reading.ensures.none

@@ -16,6 +16,5 @@ returns-clause-effect g c = λ available laid_out t e room stand.
     let told = both_tell _ _ c.reach_to_use.ensures.frame c.bytes_of.ensures.frame
     c.in_ok-loaded.ensures.value c.in_ok-bytes.ensures.value available laid_out t e room stand in
     let bytes = told.1 c.args.path.now told.0.1 in
-    reading_plans t room c.args.subject.now (C.Read c.args.path.now)
-    c.reading.result stand (λ path. refl) refl told.0.0
+    reading_plans c.args.subject.now (C.Read c.args.path.now) c.reading.result stand (λ path. refl) refl told.0.0
     (c.reading.ensures.reply ∙ ap Bytes bytes) c.reading.ensures.none

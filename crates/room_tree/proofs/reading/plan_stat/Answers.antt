@@ -16,7 +16,6 @@ returns-clause-effect g c = λ available laid_out t e room stand.
     let told = both_tell _ _ c.reach_to_use.ensures.frame c.size_of.ensures.frame
     c.in_ok-loaded.ensures.value c.in_ok-size.ensures.value available laid_out t e room stand in
     let size = told.1 c.args.path.now told.0.1 in
-    reading_plans t room c.args.subject.now (C.Stat c.args.path.now)
-    c.reading.result stand (λ path. refl) refl told.0.0
-    (c.reading.ensures.reply ∙ stat_reply t room c.args.path.now c.in_ok-loaded.loaded told.0.1
+    reading_plans c.args.subject.now (C.Stat c.args.path.now) c.reading.result stand (λ path. refl) refl told.0.0
+    (c.reading.ensures.reply ∙ stat_reply told.0.1
     c.into_node-node.result c.in_ok-size.size c.into_node-node.ensures size) c.reading.ensures.none

@@ -31,14 +31,14 @@ pub returns-then-levels-eq0-clause-value : goal.returns-then-levels-eq0-clause-v
 returns-then-levels-eq0-clause-value g m c = λ available laid_out t e room stand path at file deep. record {
   added = [];
   goes_on = sym (append-nil c.args.out.now.items);
-  renews = renews_lowest t room stand path c.args.list.now (omega (arith, c.if-levels-eq0.true, deep));
+  renews = renews_lowest stand path c.args.list.now (omega (arith, c.if-levels-eq0.true, deep));
 }
 
 pub returns-in-File-clause-value : goal.returns-in-File-clause-value
 returns-in-File-clause-value g m c = λ available laid_out t e room stand path at file deep. record {
   added = [];
   goes_on = sym (append-nil c.args.out.now.items);
-  renews = renews_file t room stand path c.args.list.now c.args.id at (file c.in-File.is);
+  renews = renews_file stand path c.args.list.now c.args.id at (file c.in-File.is);
 }
 
 pub loop-node-init : goal.loop-node-init
@@ -48,12 +48,12 @@ loop-node-init g m c = record {
       rw c.deref-node-items.ensures.value
       (rw (← e) (c.in_ok-nodes.ensures.value available laid_out (rw e stand.rules)));
   renews = λ available laid_out t e room stand path at deep.
-      none_so_far t room stand path c.args.list.now c.args.out.now.items;
+      none_so_far stand path c.args.list.now c.args.out.now.items;
 }
 
 pub returns-clause-value : goal.returns-clause-value
 returns-clause-value g m c = λ available laid_out t e room stand path at file deep.
-    all_so_far t room stand path c.args.list.now c.args.out.now.items c.args.id
+    all_so_far stand path c.args.list.now c.args.out.now.items c.args.id
     c.deref-node-items.result.now c.loop-node.node-index c.loop-node.out.items at
     (c.loop-node.invariant.children available laid_out t e room stand) c.loop-node-test.false
     (c.loop-node.invariant.renews available laid_out t e room stand path at deep)
@@ -76,10 +76,10 @@ loop-node-preserved-in_default-2 g m c =
           let Child : Node → Type 0 = λ n. IsChild t c.args.id n in
           let is_child : Child child =
           subst Child (sym c.node-item.is) (all_at Child items i child are.each c.loop-node-test.true) in
-          let here = child_path t room stand path c.args.id child at is_child in
+          let here = child_path stand path c.args.id child at is_child in
           let told = c.in_ok-renewed.ensures.value available declared t same
           room stand (path ++ name_of child ∷ []) here is_child.stands in
-          one_more_so_far t room stand path c.args.list.now c.args.out.now.items
+          one_more_so_far stand path c.args.list.now c.args.out.now.items
           c.args.id items i child c.loop-node.out.items c.loop-node.out.items [] are
           c.loop-node-test.true c.node-item.is
           (c.loop-node.invariant.renews before laid_out t e room stand path at deep)
@@ -113,7 +113,7 @@ loop-node-preserved g m c =
           let is_child : Child child =
           subst Child (sym c.node-item.is) (all_at Child items i child are.each c.loop-node-test.true) in
           let name = name_of child in
-          let here = child_path t room stand path c.args.id child at is_child in
+          let here = child_path stand path c.args.id child at is_child in
           let told = rw c.in-Some.is at (c.in_ok-renewed.ensures.value then_there
           declared t same room stand (path ++ name ∷ []) here is_child.stands) in
           let below = c.in_ok-renew_within.ensures.value available
@@ -121,7 +121,7 @@ loop-node-preserved g m c =
           (file_there t child is_child.stands)
           (fewer_levels path name c.args.levels (omega (arith, c.if-levels-eq0.false)) deep) in
           let put : List Change = PutEntries child.id renewed ∷ [] in
-          one_more_so_far t room stand path c.args.list.now c.args.out.now.items
+          one_more_so_far stand path c.args.list.now c.args.out.now.items
           c.args.id items i child c.loop-node.out.items _ (below.added ++ put) are
           c.loop-node-test.true c.node-item.is
           (c.loop-node.invariant.renews before laid_out t e room stand path at deep)

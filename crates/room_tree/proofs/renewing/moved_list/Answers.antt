@@ -12,7 +12,7 @@ is_in (Some other) folder same = ap Some (eqb-true other folder same)
 
 pub returns-then-eq-clause-value : goal.returns-then-eq-clause-value
 returns-then-eq-clause-value g c = λ available laid_out t e room stand path at stands.
-    stays_in_folder t room stand path c.args.node.now at stands c.args.into
+    stays_in_folder stand path c.args.node.now at stands c.args.into
     (is_in c.args.node.now.parent c.args.into (sym c.eq.ensures ∙ c.if-eq.true))
 
 pub returns-clause-value : goal.returns-clause-value
@@ -20,5 +20,5 @@ returns-clause-value g c = λ available laid_out t e room stand path at stands.
     let node = c.args.node.now in
     let told = both_tell _ _ c.list_above.ensures.frame c.renewed_list.ensures.frame
     c.in_ok-above.ensures.value c.renewed_list.ensures.value available laid_out t e room stand in
-    (rw (under_alike t room stand path node at stands c.as_slice.result.now (t.entries c.args.into)
+    (rw (under_alike stand path node at stands c.as_slice.result.now (t.entries c.args.into)
     (λ on. c.as_slice.ensures.value ∙ told.0 on)) at (told.1 path at stands))

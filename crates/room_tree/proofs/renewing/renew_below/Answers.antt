@@ -12,7 +12,7 @@ pub returns-in-File-clause-value : goal.returns-in-File-clause-value
 returns-in-File-clause-value g c = λ available laid_out t e room stand path node at stands kind. record {
   added = [];
   goes_on = sym (append-nil c.args.out.now.items);
-  renews = renews_file t room stand path c.args.list.now c.args.id at
+  renews = renews_file stand path c.args.list.now c.args.id at
       (λ found is. ap (λ (n : Node). n.kind) (some_is found node (sym is ∙ stands)) ∙ kind ∙ c.in-File.is);
 }
 

@@ -36,6 +36,5 @@ returns-clause-value g c = λ available laid_out t e room stand path at stands.
     changed_as c.if_changed.result c.in_ok-list.list.items c.as_slice-2.result.now
     (t.entries node.id) (list_under (object_at room path) c.args.above.now)
     (c.in_ok-list.ensures ∙ ap (λ (l : List EntryModel). with_inherited l node.aclflag node.kind c.args.above.now) own
-    ∙ list_by_rows t room stand path node at stands c.args.above.now)
-    (c.as_slice-2.ensures.value ∙ stored)
+    ∙ list_by_rows stand path node at stands c.args.above.now) (c.as_slice-2.ensures.value ∙ stored)
     c.if_changed.ensures

@@ -41,7 +41,7 @@ returns-in_err-check_lawful-clause-effect g c = λ available laid_out t e room s
     let own : c.in_ok-own.own.items ≡ own_entries_of_setlist path flag sent =
     c.in_ok-own.ensures ∙ ap (λ b. filter_map (kept_entry b) sent) c.follows_at.ensures ∙ kept_is path flag sent in
     let kind : loaded.kind ≡ kind_of (object_at room path) =
-    reached.1.is_there.shows.kind ∙ sym (ap kind_of (there t room path loaded reached.1)) in
+    reached.1.is_there.shows.kind ∙ sym (ap kind_of (there reached.1)) in
     let whole = none_passes (walk room caller path ∷ check_exists room path ∷ check_right room caller path 0x40000 ∷ [])
     ((check_lawful (own_entries_fault (own_entries_of_setlist path flag sent) (kind_of (object_at room path))))
     ∷ []) reached.0 ∙ first_alone
@@ -75,7 +75,7 @@ returns-clause-effect g c = λ available laid_out t e room stand.
     let own : c.in_ok-own.own.items ≡ own_entries_of_setlist path flag sent =
     c.in_ok-own.ensures ∙ ap (λ b. filter_map (kept_entry b) sent) c.follows_at.ensures ∙ kept_is path flag sent in
     let kind : loaded.kind ≡ kind_of (object_at room path) =
-    reached.1.is_there.shows.kind ∙ sym (ap kind_of (there t room path loaded reached.1)) in
+    reached.1.is_there.shows.kind ∙ sym (ap kind_of (there reached.1)) in
     let whole = none_passes (walk room caller path ∷ check_exists room path ∷ check_right room caller path 0x40000 ∷ [])
     ((check_lawful (own_entries_fault (own_entries_of_setlist path flag sent) (kind_of (object_at room path))))
     ∷ []) reached.0 ∙ first_alone
@@ -94,5 +94,5 @@ returns-clause-effect g c = λ available laid_out t e room stand.
     rw is at (c.in_ok-changes.ensures.value available laid_out_at_last t same_at_last room stand path node
     (rw is shows.at) (rw is shows.node_stands) (rw is refl)) in
     let changes = rw (c.as_slice-2.ensures.value ∙ stored) at c.if_changed-list.ensures in
-    setlist_plans t room stand path loaded reached.1 caller flag sent passed
+    setlist_plans stand reached.1 caller flag sent passed
     c.in_ok-list.list.items list c.if_changed-list.result changes _ planned refl

@@ -13,12 +13,12 @@ returns-in_default-clause-value g m c = λ available laid_out t e room stand pat
     let node = c.args.node.now in
     c.in_ok-own.ensures ∙ ap own_part (c.as_slice.ensures.value
     ∙ c.in_ok-stored.ensures.value available laid_out ∙ ap (λ (r : ObjectRecords). r.entries node.id) e)
-    ∙ list_ends t room stand path node.id node at stands (sym c.folder_followed.ensures ∙ c.in_default.is)
+    ∙ list_ends stand path node.id node at stands (sym c.folder_followed.ensures ∙ c.in_default.is)
 
 pub returns-then-levels-eq0-clause-value : goal.returns-then-levels-eq0-clause-value
 returns-then-levels-eq0-clause-value g m c = λ available laid_out t e room stand path at stands short.
     let node = c.args.node.now in
-    let up = goes_on t room stand path node.id node at stands
+    let up = goes_on stand path node.id node at stands
     c.in-Some.folder (sym c.folder_followed.ensures ∙ c.in-Some.is) in
     absurd (omega (arith, up.one_more, short, c.if-levels-eq0.true))
 
@@ -28,7 +28,7 @@ returns-in_default-2-clause-value g m c = λ available laid_out t e room stand p
     let before = c.node.ensures.frame.call.was_available available in
     let declared = c.entries.ensures.frame.call.laid_out before laid_out in
     let same = ap (λ (r : Records). r.objects) (c.entries.ensures.frame.same before laid_out) ∙ e in
-    let up = goes_on t room stand path node.id node at stands
+    let up = goes_on stand path node.id node at stands
     c.in-Some.folder (sym c.folder_followed.ensures ∙ c.in-Some.is) in
     absurd (node_there t room stand up.folder c.in-Some.folder up.at
     (sym (ap (λ (r : ObjectRecords). r.node c.in-Some.folder) same)
@@ -45,7 +45,7 @@ returns-clause-value g m c = λ available laid_out t e room stand path at stands
     let same = ap (λ (r : Records). r.objects) (c.entries.ensures.frame.same before laid_out) ∙ e in
     let then_declared = c.node.ensures.frame.call.laid_out read declared in
     let then_same = ap (λ (r : Records). r.objects) (c.node.ensures.frame.same read declared) ∙ same in
-    let up = goes_on t room stand path node.id node at stands folder (sym c.folder_followed.ensures ∙ c.in-Some.is) in
+    let up = goes_on stand path node.id node at stands folder (sym c.folder_followed.ensures ∙ c.in-Some.is) in
     let there : t.node folder ≡ Some above =
     sym (ap (λ (r : ObjectRecords). r.node folder) same)
     ∙ sym (c.in_ok-above.ensures.value read declared) ∙ c.in-Some-2.is in

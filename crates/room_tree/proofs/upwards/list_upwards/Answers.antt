@@ -23,7 +23,7 @@ returns-clause-value g c = λ available laid_out room stand path at.
     let number : node.id ≡ c.args.id = (stand.rules.numbered c.args.id node there).0 in
     c.list_within.ensures.value available declared t same room stand path
     (rw number (at)) (own_number t stand.rules c.args.id node there)
-    (few_names t room stand path c.args.id node at there)
+    (few_names stand path c.args.id node at there)
 
 pub returns-clause-absent : goal.returns-clause-absent
 returns-clause-absent g c = λ available laid_out none.

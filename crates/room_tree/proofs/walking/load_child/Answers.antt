@@ -13,5 +13,4 @@ returns-in_default-clause-value g c = λ available laid_out t e room stand path 
 pub returns-clause-value : goal.returns-clause-value
 returns-clause-value g c = λ available laid_out t e room stand path folder.
     let child = rw e at (rw c.in-Some.is at (c.in_ok-node.ensures.value available laid_out)) in
-    child_is_loaded t room stand path c.args.name.now c.args.here.now
-    c.of.result c.in-Some.node folder child c.of.ensures
+    child_is_loaded stand path c.args.name.now c.args.here.now c.of.result c.in-Some.node folder child c.of.ensures

@@ -24,8 +24,7 @@ returns-then-self-clause-value g c = λ available laid_out t e room stand path m
     let to = c.args.to.now in
     let depth = (c.in_ok-check_depth.ensures.value available laid_out t e room stand path move.loaded).0 in
     let full = cond (path_eq (parent_of path) (parent_of to)) None (check_folder_full room (parent_of to)) in
-    let one = same_folder t room stand (parent_of path) (parent_of to)
-    c.args.self.now.from c.args.self.now.into move.from move.into c.if-self.true in (
+    let one = same_folder stand move.from move.into c.if-self.true in (
       skip (check_depth room path to) (full ∷ []) depth ∙ first_alone full
           ∙ ap (λ b. cond b None (check_folder_full room (parent_of to))) one,
       tt,
@@ -40,8 +39,7 @@ returns-in_err-check_children-clause-value g c = λ available laid_out t e room 
     let depth = (c.in_ok-check_depth.ensures.value before laid_out t e room stand path move.loaded).0 in
     let count = c.in_ok-count.ensures.value available declared t same room stand (parent_of to) move.into in
     let full = cond (path_eq (parent_of path) (parent_of to)) None (check_folder_full room (parent_of to)) in
-    let two = other_folder t room stand (parent_of path) (parent_of to)
-    c.args.self.now.from c.args.self.now.into move.from move.into c.if-self.false in
+    let two = other_folder stand move.from move.into c.if-self.false in
     handed_on _ _ _ c.from_residual-in_err-check_children.result c.from_residual-in_err-check_children.ensures.1
     (skip (check_depth room path to) (full ∷ []) depth ∙ first_alone full
     ∙ ap (λ b. cond b None (check_folder_full room (parent_of to))) two
@@ -56,8 +54,7 @@ returns-clause-value g c = λ available laid_out t e room stand path move.
     let depth = (c.in_ok-check_depth.ensures.value before laid_out t e room stand path move.loaded).0 in
     let count = c.in_ok-count.ensures.value available declared t same room stand (parent_of to) move.into in
     let full = cond (path_eq (parent_of path) (parent_of to)) None (check_folder_full room (parent_of to)) in
-    let two = other_folder t room stand (parent_of path) (parent_of to)
-    c.args.self.now.from c.args.self.now.into move.from move.into c.if-self.false in (
+    let two = other_folder stand move.from move.into c.if-self.false in (
       skip (check_depth room path to) (full ∷ []) depth ∙ first_alone full
           ∙ ap (λ b. cond b None (check_folder_full room (parent_of to))) two
           ∙ ap (λ n. refuse_if (nat_le max_children n) FolderFull) (sym count) ∙ sym c.in_ok-check_children.ensures,
