@@ -53,21 +53,19 @@ file_by_kind File o h = refl
 file_by_kind Folder o h = cc
 
 -- a found object that passes as a document is one
-pub is_document : (t : ObjectRecords) (room : Room) (path : Path) (loaded : LoadedObject)
+pub is_document : {t : ObjectRecords} {room : Room} {path : Path} {loaded : LoadedObject}
     (found : IsLoaded t room path loaded) → check_file room path ≡ None → loaded.kind ≡ File
-is_document t room path loaded found passed = file_by_kind loaded.kind found.object (sym (file_check found) ∙ passed)
+is_document {loaded} found passed = file_by_kind loaded.kind found.object (sym (file_check found) ∙ passed)
 
 -- what changed one object plans the effect
-pub replaced_plans : (t : ObjectRecords) (room : Room) (caller : SubjectModel)
-    (command : CommandModel) (outcome : Outcome) (changes : List Change)
-    (path : Path) (o now_is : Object) (node now : Node) → RepresentsRoom t room
-    → Replaces t (apply_all_to_objects changes t) room (changed room caller command) path o now_is node now
-    → first_refusal (checks room caller command) ≡ None
+pub replaced_plans : {t : ObjectRecords} {room : Room} (caller : SubjectModel) (command : CommandModel)
+    (outcome : Outcome) (changes : List Change) {path : Path} {o now_is : Object} {node now : Node}
+    → RepresentsRoom t room → Replaces t (apply_all_to_objects changes t) room
+    (changed room caller command) path o now_is node now → first_refusal (checks room caller command) ≡ None
     → reply_model outcome.reply ≡ reply room caller command → outcome.changes.items ≡ changes
     → AllByRecursion IsOfObjects changes → ObjectRulesHoldAfterEach changes t → ChangesFewRows t changes
     → ((q : Path) → place_after command None q ≡ q) → PlansEffect t room caller command outcome
-replaced_plans t room caller command outcome changes path o now_is node
-    now stand r passed replied planned of_objects rules few stays =
+replaced_plans {t} caller command outcome changes stand r passed replied planned of_objects rules few stays =
     let later = apply_all_to_objects changes t in
     success_plans caller command outcome stand changes passed replied planned of_objects rules few (replaced stand r)
     (λ q id at stands there.
@@ -122,7 +120,7 @@ module _ {t : ObjectRecords} {room : Room} (stand : RepresentsRoom t room) {path
               ∙ sym (ap (λ (o : Object). o.bytes) becomes);
         };
         nodes_away = λ id other. refl;
-        lists_away = λ q id at other. stored_list t room stand q id at ∙ stays q;
+        lists_away = λ q id at other. stored_list stand q id at ∙ stays q;
         documents_away = λ id other. if_other id loaded.id (Some bytes.items) (t.document id) other;
         next = refl;
         made = refl;
@@ -157,7 +155,7 @@ module _ {t : ObjectRecords} {room : Room} (stand : RepresentsRoom t room) {path
           bytes = ap (λ id. unwrap_or (t.document id) []) same.id ∙ shows.bytes ∙ sym bytes;
         };
         nodes_away = λ id other. if_other id now.id (Some now) (t.node id) (λ is. other (is ∙ same.id));
-        lists_away = λ q id at other. stored_list t room stand q id at ∙ stays q;
+        lists_away = λ q id at other. stored_list stand q id at ∙ stays q;
         documents_away = λ id other. refl;
         next = refl;
         made = refl;

@@ -73,7 +73,6 @@ module _ {t : ObjectRecords} {room : Room} (stand : RepresentsRoom t room) (path
       → t.entries node.id ≡ list_under (object_at room path) (t.entries folder)
   stays_in_folder folder inside =
       let up = under stand path node.id node at stands folder inside in
-      stored_list t room stand path node.id at ∙ sym up.list
+      stored_list stand path node.id at ∙ sym up.list
       ∙ ap (with_inherited (own_part (t.entries node.id)) node.aclflag node.kind)
-      (sym (stored_list t room stand up.folder folder up.at))
-      ∙ list_by_rows (t.entries folder)
+      (sym (stored_list stand up.folder folder up.at)) ∙ list_by_rows (t.entries folder)

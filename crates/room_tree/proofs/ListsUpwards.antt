@@ -28,9 +28,9 @@ is_present None h = let f = h in cc
 is_present (Some x) h = (x, refl)
 
 -- a number that has a path is a node's
-pub node_there : (t : ObjectRecords) (room : Room) → RepresentsRoom t room
-    → (path : Path) (id : ℕ) → HasPath t path id → t.node id ≡ None → ⊥
-node_there t room stand path id at none = elim (root_or_below path) [
+pub node_there : {t : ObjectRecords} {room : Room} → RepresentsRoom t room → (path : Path) (id : ℕ) → HasPath t path id
+    → t.node id ≡ None → ⊥
+node_there {t} stand path id at none = elim (root_or_below path) [
   | inl root ↦ (
       let one : id ≡ 1 = rw root at at in
       let first = is_present (t.node 1) stand.rules.has_root in

@@ -184,10 +184,10 @@ module _ {t : ObjectRecords} {room : Room} {caller : SubjectModel} {path : Path}
     stands = ap (λ (f : ℕ → Option Node). f node.id) nodes ∙ new_stands node.id refl;
     nodes_away = λ k other. ap (λ (f : ℕ → Option Node). f k) nodes ∙ if_other k node.id (Some node) (t.node k) other;
     lists_away = λ q k at.
-        let there = node_at_path t room stand q k at in
+        let there = node_at_path stand q k at in
         let apart : k ≢ node.id = (λ same. none_is_some there.0 (sym fresh ∙ ap t.node (sym same) ∙ there.1)) in
         let stands = object_at_node t room stand q k there.0 at there.1 in
-        entries k apart ∙ stored_list t room stand q k at ∙ lists_stay q stands.0 stands.1;
+        entries k apart ∙ stored_list stand q k at ∙ lists_stay q stands.0 stands.1;
     documents_away = documents;
     folder = end.folder;
     name = end.name;
@@ -221,25 +221,23 @@ module _ {t : ObjectRecords} {room : Room} {caller : SubjectModel} {path : Path}
         (rw (← ap (λ (f : ℕ → Option Node). f k) nodes ∙ if_other k node.id (Some node) (t.node k) other) some))
   ]
 
-few_made : (t : ObjectRecords) (room : Room) → RepresentsRoom t room
-    → check_room_full room ≡ None → t.next ≤ max_objects
-few_made t room stand passed =
+few_made : {t : ObjectRecords} {room : Room} → RepresentsRoom t room → check_room_full room ≡ None
+    → t.next ≤ max_objects
+few_made {room} stand passed =
     let below = below_by_test max_objects room.made (not_refused (nat_le max_objects room.made) RoomFull passed) in
     omega (arith, below, stand.next)
 
 -- MKDIR
-pub mkdir_plans : (t : ObjectRecords) (room : Room) (caller : SubjectModel) (path : Path)
-    (above : LoadedObject) (id : ℕ) (node : Node) (list : Vec EntryModel Global) (outcome : Outcome)
-    → RepresentsRoom t room → IsPath path
-    → first_refusal (refuse_if (is_root path) Exist ∷ walk room caller path
-    ∷ check_absent room path ∷ check_right room caller (parent_of path) 0x4 ∷ []) ≡ None
-    → IsLoaded t room (parent_of path) above
+pub mkdir_plans : {t : ObjectRecords} {room : Room} {caller : SubjectModel} {path : Path} {above : LoadedObject}
+    {id : ℕ} {node : Node} (list : Vec EntryModel Global) (outcome : Outcome) → RepresentsRoom t room → IsPath path
+    → first_refusal (refuse_if (is_root path) Exist ∷ walk room caller path ∷ check_absent room path
+    ∷ check_right room caller (parent_of path) 0x4 ∷ []) ≡ None → IsLoaded t room (parent_of path) above
     → (first_refusal (check_folder_full room (parent_of path) ∷ check_room_full room ∷ []) ≡ None) × (id ≡ t.next)
     → IsNewNode caller path above Folder id node → list.items ≡ handed_down (list_of room (parent_of path)) Folder
-    → outcome.changes.items ≡ PutNext (id + 1) ∷ PutNode node ∷ puts_new id list
-    → reply_model outcome.reply ≡ Done
+    → outcome.changes.items ≡ PutNext (id + 1) ∷ PutNode node ∷ puts_new id list → reply_model outcome.reply ≡ Done
     → PlansEffect t room caller (C.Mkdir path) outcome
-mkdir_plans t room caller path above id node list outcome stand is_path before found number new given planned replied =
+mkdir_plans {t} {room} {caller} {path} {id} {node} list outcome stand is_path before found number new given
+    planned replied =
     let command = C.Mkdir path in
     let passed : first_refusal (checks room caller command) ≡ None =
     none_passes (refuse_if (is_root path) Exist ∷ walk room caller path
@@ -248,7 +246,7 @@ mkdir_plans t room caller path above id node list outcome stand is_path before f
     let a = all_none (checks room caller command) passed in
     let root_off = not_refused (is_root path) Exist a.0 in
     let absent = none_there (object_at room path) (not_refused _ Exist a.1.1.0) in
-    let few = few_made t room stand a.1.1.1.1.1.0 in
+    let few = few_made stand a.1.1.1.1.1.0 in
     let o = new_object room caller path Folder [] in
     let lawful = changed_is_room room caller command is_path stand.lawful passed in
     let first = apply_to_objects (PutNext (id + 1)) t in
@@ -274,21 +272,19 @@ mkdir_plans t room caller path above id node list outcome stand is_path before f
     root_off absent found number.1 few new o lawful later gives.nodes)
 
 -- CREATE
-pub create_plans : (t : ObjectRecords) (room : Room) (caller : SubjectModel) (bytes : List ℕ) (path : Path)
-    (above : LoadedObject) (id : ℕ) (node : Node) (list : Vec EntryModel Global) (copy : Vec ℕ Global)
-    (outcome : Outcome)
-    → RepresentsRoom t room → IsPath path
-    → first_refusal (refuse_if (is_root path) Exist ∷ walk room caller path
-    ∷ check_absent room path ∷ check_right room caller (parent_of path) 0x2 ∷ []) ≡ None
-    → check_size (length bytes) ≡ None
+pub create_plans : {t : ObjectRecords} {room : Room} {caller : SubjectModel} (bytes : List ℕ) {path : Path}
+    {above : LoadedObject} {id : ℕ} {node : Node} (list : Vec EntryModel Global) (copy : Vec ℕ Global)
+    (outcome : Outcome) → RepresentsRoom t room → IsPath path
+    → first_refusal (refuse_if (is_root path) Exist ∷ walk room caller path ∷ check_absent room path
+    ∷ check_right room caller (parent_of path) 0x2 ∷ []) ≡ None → check_size (length bytes) ≡ None
     → IsLoaded t room (parent_of path) above
     → (first_refusal (check_folder_full room (parent_of path) ∷ check_room_full room ∷ []) ≡ None) × (id ≡ t.next)
     → IsNewNode caller path above File id node → list.items ≡ handed_down (list_of room (parent_of path)) File
-    → copy.items ≡ bytes
-    → outcome.changes.items ≡ PutNext (id + 1) ∷ PutNode node ∷ puts_new id list ++ PutDoc id copy ∷ []
-    → reply_model outcome.reply ≡ Size (length bytes) → PlansEffect t room caller (C.Create bytes path) outcome
-create_plans t room caller bytes path above id node list copy outcome stand
-    is_path before small found number new given same planned replied =
+    → copy.items ≡ bytes → outcome.changes.items ≡ PutNext (id + 1) ∷ PutNode node
+    ∷ puts_new id list ++ PutDoc id copy ∷ [] → reply_model outcome.reply ≡ Size (length bytes)
+    → PlansEffect t room caller (C.Create bytes path) outcome
+create_plans {t} {room} {caller} bytes {path} {id} {node} list copy outcome stand is_path before small found
+    number new given same planned replied =
     let command = C.Create bytes path in
     let passed : first_refusal (checks room caller command) ≡ None =
     none_passes (refuse_if (is_root path) Exist ∷ walk room caller path
@@ -299,7 +295,7 @@ create_plans t room caller bytes path above id node list copy outcome stand
     let a = all_none (checks room caller command) passed in
     let root_off = not_refused (is_root path) Exist a.0 in
     let absent = none_there (object_at room path) (not_refused _ Exist a.1.1.0) in
-    let few = few_made t room stand a.1.1.1.1.1.1.0 in
+    let few = few_made stand a.1.1.1.1.1.1.0 in
     let o = new_object room caller path File bytes in
     let lawful = created_is_room room caller bytes path is_path stand.lawful passed in
     let first = apply_to_objects (PutNext (id + 1)) t in

@@ -75,7 +75,7 @@ module _ {t : ObjectRecords} {room : Room} (stand : RepresentsRoom t room) {path
       let up = rw (ap reverse is ∙ reverse-append folder (name ∷ [])) at found.is_there.at in
       let same : node_of loaded ≡ up.0 = some_is (node_of loaded) up.0 (sym found.is_there.node_stands ∙ up.2) in
       let parent : loaded.parent ≡ Some up.1 = ap (λ (n : Node). n.parent) same ∙ up.4 in
-      ap (entries_of t) parent ∙ stored_list t room stand folder up.1 up.5
+      ap (entries_of t) parent ∙ stored_list stand folder up.1 up.5
 
   module _ (caller : SubjectModel) (flag : ℕ) (sent : List EntryModel) where
     abbrev kept : List EntryModel
@@ -144,7 +144,7 @@ module _ {t : ObjectRecords} {room : Room} (stand : RepresentsRoom t room) {path
               ++ below) (λ same. some (append_cancel_left path below [] (same ∙ sym (append-nil path))))) rest)
               ∙ ap (list_of after) (sym split)
           by_test false off = relisted_off stand r now q id at off
-              ∙ stored_list t room stand q id at ∙ sym (lists_away room after path away_from q off)
+              ∙ stored_list stand q id at ∙ sym (lists_away room after path away_from q off)
 
       rules_after : ObjectRulesHoldAfterEach (PutNode now ∷ map put puts) t × ObjectRules later
       rules_after = relisted_rules stand r now
@@ -182,8 +182,7 @@ module _ {t : ObjectRecords} {room : Room} (stand : RepresentsRoom t room) {path
           → outcome.changes.items ≡ PutNode now ∷ map put puts
           → PlansEffect t room caller (C.SetList flag sent path) outcome
       planned_with outcome replied planned =
-          replaced_plans t room caller (C.SetList flag sent path) outcome (PutNode now ∷ map put puts)
-          path found.object (change found.object) (node_of loaded) now stand
+          replaced_plans caller (C.SetList flag sent path) outcome (PutNode now ∷ map put puts) stand
           replaces passed replied planned (relisted_of_objects stand r now)
           rules_after.0 (relisted_few stand r now) (λ q. refl)
 
@@ -194,7 +193,7 @@ module _ {t : ObjectRecords} {room : Room} (stand : RepresentsRoom t room) {path
         → (outcome : Outcome) → PutsList t room path now new outcome.changes.items
         → reply_model outcome.reply ≡ Done → PlansEffect t room caller (C.SetList flag sent path) outcome
     setlist_plans passed list is new changes outcome planned replied =
-        let stored = stored_at t room path loaded found in
+        let stored = stored_at found in
         let what = puts_relist stand path loaded.id found.is_there.at now refl new
         (changes_list t loaded.id (list_of room path) list stored new changes) outcome.changes.items planned in
         planned_with passed

@@ -121,9 +121,9 @@ module _ {t : ObjectRecords} {room : Room} (stand : RepresentsRoom t room) {path
           ∙ sym (lists_of_moved room stand.lawful path to o m.apart m.is_there.object_stands m.free rest)
           ∙ ap (list_of (renamed room path to)) (sym (ap (moved path to) split ∙ moved_rest path to rest))
       by_place false off =
-          let found = node_at_path t room stand q id at in
+          let found = node_at_path stand q id at in
           let other = object_at_node t room stand q id found.0 at found.1 in
-          relisted_off stand r now q id at off ∙ stored_list t room stand q id at
+          relisted_off stand r now q id at off ∙ stored_list stand q id at
           ∙ sym (list_of_stayed room stand.lawful path to o m.apart
           m.is_there.object_stands m.free q other.0 other.1 off)
           ∙ ap (list_of (renamed room path to)) (sym (moved_off q path to off))
@@ -141,18 +141,18 @@ module _ {t : ObjectRecords} {room : Room} (stand : RepresentsRoom t room) {path
   }
 
 -- the row that is planned leads to the room with the subtree moved
-pub rename_plans : (t : ObjectRecords) (room : Room) (caller : SubjectModel)
-    (path to : Path) (move : Move) (now : Node) (outcome : Outcome) → RepresentsRoom t room
-    → IsPath path → IsPath to → first_refusal (checks room caller (C.Rename path to)) ≡ None
-    → IsMove t room path to move
-    → ((folder : Path) (name : Name) → to ≡ folder ++ name ∷ []
-    → now ≡ record (node_of move.loaded) { parent = Some move.into.id; name = Some name })
+pub rename_plans : {t : ObjectRecords} {room : Room} (caller : SubjectModel) {path to : Path} {move : Move}
+    (now : Node) (outcome : Outcome) → RepresentsRoom t room → IsPath path → IsPath to
+    → first_refusal (checks room caller (C.Rename path to)) ≡ None → IsMove t room path to move
+    → ((folder : Path) (name : Name) → to ≡ folder ++ name ∷ [] → now
+    ≡ record (node_of move.loaded) { parent = Some move.into.id; name = Some name })
     → (new : Option (Vec EntryModel Global))
     → IsChangeOf (t.entries move.loaded.id) (list_under (object_at room path) (t.entries move.into.id)) new
-    → (HasPath t path now.id → t.node now.id ≡ Some (node_of move.loaded)
-    → (node_of move.loaded).kind ≡ now.kind → PutsList t room path now new outcome.changes.items)
-    → reply_model outcome.reply ≡ Done → PlansEffect t room caller (C.Rename path to) outcome
-rename_plans t room caller path to move now outcome stand is_path is_to passed found row new changes planned replied =
+    → (HasPath t path now.id → t.node now.id ≡ Some (node_of move.loaded) → (node_of move.loaded).kind ≡ now.kind
+    → PutsList t room path now new outcome.changes.items) → reply_model outcome.reply ≡ Done
+    → PlansEffect t room caller (C.Rename path to) outcome
+rename_plans {t} {room} caller {path} {to} {move} now outcome stand is_path is_to passed found row new changes
+    planned replied =
     let command = C.Rename path to in
     let a = all_none (checks room caller command) passed in
     let pass = paths_pass path to a.0 in
@@ -202,8 +202,7 @@ rename_plans t room caller path to move now outcome stand is_path is_to passed f
         let what = puts_relist stand path loaded.id there.at now m.id new changed outcome.changes.items puts in
         let list = list_then t loaded.id new in
         let in_folder : parent_of to ≡ up = ap parent_of is ∙ parent_of_end up name in
-        let handed : t.entries move.into.id ≡ list_of room up =
-        stored_at t room (parent_of to) move.into found.into ∙ ap (list_of room) in_folder in
+        let handed : t.entries move.into.id ≡ list_of room up = stored_at found.into ∙ ap (list_of room) in_folder in
         let as_moved : list_of (renamed room path target) target ≡ given =
         list_of_moved room stand.lawful path target o m.apart there.object_stands m.free up name found.into.object refl
         (ap (object_at room) (sym in_folder) ∙ found.into.is_there.object_stands)

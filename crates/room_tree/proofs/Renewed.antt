@@ -223,9 +223,8 @@ module _ {t : ObjectRecords} {room : Room} (stand : RepresentsRoom t room) (path
     where
       stays : (rest : Path) (k : ℕ) → HasPath t (path ++ rest) k
           → t.entries k ≡ list_below room path (t.entries id) (reverse rest)
-      stays rest k at =
-          stored_list t room stand (path ++ rest) k at ∙ sym (lists_stay room path rest)
-          ∙ ap (λ list. list_below room path list (reverse rest)) (sym (stored_list t room stand path id here))
+      stays rest k at = stored_list stand (path ++ rest) k at ∙ sym (lists_stay room path rest)
+          ∙ ap (λ list. list_below room path list (reverse rest)) (sym (stored_list stand path id here))
 
   module _ (list : Vec EntryModel Global) (changes : list.items ≢ t.entries id) (below : Puts)
       (renews : RenewsBelow t room path list.items (map put below))
@@ -354,7 +353,7 @@ module _ {t : ObjectRecords} {room : Room} (stand : RepresentsRoom t room) {path
       → ObjectRulesHoldAfterEach (PutNode now ∷ map put puts) t × ObjectRules relisted
   relisted_rules rules =
       let there = each_weaker (IsRelisted t room path list) (λ id entries. (m : Node) × (first.node id ≡ Some m))
-      (λ id entries new. let node = node_at_path t room stand (path ++ new.rest) id new.at in
+      (λ id entries new. let node = node_at_path stand (path ++ new.rest) id new.at in
       there_after id node.0 node.1) puts r.each in
       let after = rules_kept puts first rules there in
       ((rules, after.0), after.1)
@@ -375,6 +374,6 @@ module _ {t : ObjectRecords} {room : Room} (stand : RepresentsRoom t room) {path
   }
 
 -- the rows hold the list of a found object
-pub stored_at : (t : ObjectRecords) (room : Room) (path : Path) (loaded : LoadedObject)
-    → IsLoaded t room path loaded → t.entries loaded.id ≡ list_of room path
-stored_at t room path loaded found = found.is_there.shows.entries
+pub stored_at : {t : ObjectRecords} {room : Room} {path : Path} {loaded : LoadedObject} → IsLoaded t room path loaded
+    → t.entries loaded.id ≡ list_of room path
+stored_at found = found.is_there.shows.entries

@@ -121,7 +121,7 @@ module _ {t : ObjectRecords} {room : Room} (stand : RepresentsRoom t room) (path
 
   object_of : (q : Path) (id : ℕ) → HasPath t q id → (o : Object) × (object_at room q ≡ Some o)
   object_of q id at =
-      let node = node_at_path t room stand q id at in
+      let node = node_at_path stand q id at in
       let found = object_at_node t room stand q id node.0 at node.1 in
       (found.0, found.1)
 
@@ -176,7 +176,7 @@ module _ {t : ObjectRecords} {room : Room} (stand : RepresentsRoom t room) (path
       none : (rest : Path) (k : ℕ) → rest ≢ [] → HasPath t (path ++ rest) k → ⊥
       none [] k some at = some refl
       none (name ∷ rest) k some at =
-          let node = node_at_path t room stand path id here in
+          let node = node_at_path stand path id here in
           let itself = object_at_node t room stand path id node.0 here node.1 in
           let found = object_of (path ++ name ∷ rest) k at in
           let no_child = nothing_in_a_file room stand.lawful path itself.0 itself.1

@@ -265,9 +265,8 @@ child_stays t room stand path list name id here stays = record {
   every = λ rest k begins at.
       let below = begins.0 in
       let child = at_child t room path list name rest below k begins.1 at in
-      inl (stored_list t room stand ((path ++ name ∷ []) ++ below) k child
-      ∙ sym (lists_stay room (path ++ name ∷ []) below)
+      inl (stored_list stand ((path ++ name ∷ []) ++ below) k child ∙ sym (lists_stay room (path ++ name ∷ []) below)
       ∙ list_there t room path list name (list_of room (path ++ name ∷ []))
-      (sym (stored_list t room stand (path ++ name ∷ []) id here) ∙ stays) rest below begins.1);
+      (sym (stored_list stand (path ++ name ∷ []) id here) ∙ stays) rest below begins.1);
   once = λ k. omega arith;
 }

@@ -178,13 +178,12 @@ module _ {t : ObjectRecords} {room : Room} (stand : RepresentsRoom t room) {path
   ]
 
 -- REMOVE
-pub remove_plans : (t : ObjectRecords) (room : Room) (caller : SubjectModel) (path : Path)
-    (loaded : LoadedObject) (outcome : Outcome) → RepresentsRoom t room → IsLoaded t room path loaded
-    → first_refusal (checks room caller (C.Remove path)) ≡ None
-    → is_root path ≡ false → IsPath path → length (children room path) ≡ 0
-    → outcome.changes.items ≡ DropNode loaded.id ∷ [] → reply_model outcome.reply ≡ Done
-    → PlansEffect t room caller (C.Remove path) outcome
-remove_plans t room caller path loaded outcome stand found passed root_off is_path none planned replied =
+pub remove_plans : {t : ObjectRecords} {room : Room} (caller : SubjectModel) {path : Path} {loaded : LoadedObject}
+    (outcome : Outcome) → RepresentsRoom t room → IsLoaded t room path loaded
+    → first_refusal (checks room caller (C.Remove path)) ≡ None → is_root path ≡ false → IsPath path
+    → length (children room path) ≡ 0 → outcome.changes.items ≡ DropNode loaded.id ∷ []
+    → reply_model outcome.reply ≡ Done → PlansEffect t room caller (C.Remove path) outcome
+remove_plans {t} {room} caller {path} {loaded} outcome stand found passed root_off is_path none planned replied =
     let end = ends_of path root_off in
     let empty = nothing_in_empty room path none in
     let lawful = changed_is_room room caller (C.Remove path) is_path stand.lawful passed in

@@ -22,10 +22,9 @@ is_present None h = let f = h in cc
 is_present (Some x) h = (x, refl)
 
 -- a number that has a path is a node's
-pub node_at_path : (t : ObjectRecords) (room : Room)
-    → RepresentsRoom t room → (path : Path) (id : ℕ) → HasPath t path id
-    → (node : Node) × (t.node id ≡ Some node)
-node_at_path t room stand path id at = elim (root_or_below path) [
+pub node_at_path : {t : ObjectRecords} {room : Room} → RepresentsRoom t room → (path : Path) (id : ℕ)
+    → HasPath t path id → (node : Node) × (t.node id ≡ Some node)
+node_at_path {t} stand path id at = elim (root_or_below path) [
   | inl root ↦ (
       let one : id ≡ 1 = rw root at at in
       let first = is_present (t.node 1) stand.rules.has_root in
@@ -36,10 +35,10 @@ node_at_path t room stand path id at = elim (root_or_below path) [
 ]
 
 -- its rows hold the list of the object there
-pub stored_list : (t : ObjectRecords) (room : Room) → RepresentsRoom t room → (path : Path) (id : ℕ) → HasPath t path id
-    → t.entries id ≡ list_of room path
-stored_list t room stand path id at =
-    let node = node_at_path t room stand path id at in
+pub stored_list : {t : ObjectRecords} {room : Room} → RepresentsRoom t room → (path : Path) (id : ℕ)
+    → HasPath t path id → t.entries id ≡ list_of room path
+stored_list {t} {room} stand path id at =
+    let node = node_at_path stand path id at in
     let found = object_at_node t room stand path id node.0 at node.1 in
     ap t.entries (sym (stand.rules.numbered id node.0 node.1).0) ∙ found.2.entries
 

@@ -57,7 +57,7 @@ returns-clause-effect g c = λ available laid_out t e room stand.
     ∙ first_alone (check_size (length (bytes_at room path) + length bytes)) ∙ size in
     let all = all_none (walk room caller path ∷ check_exists room path
     ∷ check_file room path ∷ check_right room caller path 0x4 ∷ []) told.0.0 in
-    let file = is_document t room path loaded told.0.1 all.1.1.0 in
+    let file = is_document told.0.1 all.1.1.0 in
     let change : Object → Object = λ o. record o { bytes = o.bytes ++ bytes } in
     let is : all_bytes.items ≡ told.0.1.object.bytes ++ bytes =
     joined.1 ∙ ap (λ b. b ++ bytes) (old ∙ bytes_there stand told.0.1) in
@@ -67,7 +67,7 @@ returns-clause-effect g c = λ available laid_out t e room stand.
     omega (arith, long, small_by_check (length (bytes_at room path) + length bytes) size) in
     let r = document_replaces stand told.0.1 change (appended_is_room room caller bytes path
     stand.lawful passed) file all_bytes (ap (λ (b : List ℕ). record told.0.1.object { bytes = b }) (sym is)) in
-    replaced_plans t room caller (C.Append c.args.bytes.now path) c.in_ok-outcome.outcome (PutDoc loaded.id all_bytes
-    ∷ []) path told.0.1.object (change told.0.1.object) (node_of loaded) (node_of loaded) stand
+    replaced_plans caller (C.Append c.args.bytes.now path) c.in_ok-outcome.outcome (PutDoc loaded.id all_bytes
+    ∷ []) stand
     r passed (c.in_ok-outcome.ensures.reply fits ∙ ap Size long) c.in_ok-outcome.ensures.changes
     (tt, tt) (r.rules, tt) (few_document t loaded.id all_bytes) (λ q. refl)

@@ -36,7 +36,7 @@ returns-clause-effect g c = λ available laid_out t e room stand.
     })
     (ap (λ (n : Node). n.owner) is) (ap (λ (n : Node). n.group) is)
     (ap (λ (n : Node). n.aclflag) is ∙ reached.1.is_there.shows.aclflag) refl refl refl refl in
-    replaced_plans t room caller (C.Chown c.args.group.now c.args.owner.now path) c.in_ok-outcome.outcome
-    (PutNode node ∷ []) path reached.1.object (change reached.1.object) (node_of loaded) node stand
+    replaced_plans caller (C.Chown c.args.group.now c.args.owner.now path) c.in_ok-outcome.outcome
+    (PutNode node ∷ []) stand
     r reached.0 (ap reply_model c.in_ok-outcome.ensures.reply) c.in_ok-outcome.ensures.changes
     (tt, tt) (r.rules, tt) (few_row t node) (λ q. refl)

@@ -45,15 +45,14 @@ returns-clause-effect g c = λ available laid_out t e room stand.
     (check_size (length bytes) ∷ []) reached.0 ∙ first_alone (check_size (length bytes)) ∙ size in
     let all = all_none (walk room caller path ∷ check_exists room path
     ∷ check_file room path ∷ check_right room caller path 0x2 ∷ []) reached.0 in
-    let file = is_document t room path loaded reached.1 all.1.1.0 in
+    let file = is_document reached.1 all.1.1.0 in
     let copy = c.in_ok-copy.copy in
     let same : copy.items ≡ bytes = c.in_ok-copy.ensures.items_if_clones_equal (λ x y is. is) in
     let change : Object → Object = λ o. record o { bytes = bytes } in
     let fits : length copy.items < 2 ^ 32 = omega (arith, ap length same, small_by_check (length bytes) size) in
     let r = document_replaces stand reached.1 change (written_is_room room caller bytes path
     stand.lawful passed) file copy (ap (λ (b : List ℕ). record reached.1.object { bytes = b }) (sym same)) in
-    replaced_plans t room caller (C.Write c.args.bytes.now path) c.in_ok-outcome.outcome (PutDoc loaded.id copy ∷ [])
-    path reached.1.object (change reached.1.object) (node_of loaded) (node_of loaded) stand
+    replaced_plans caller (C.Write c.args.bytes.now path) c.in_ok-outcome.outcome (PutDoc loaded.id copy ∷ []) stand
     r passed (c.in_ok-outcome.ensures.reply fits ∙ ap (λ (b : List ℕ). Size (length b)) same)
     c.in_ok-outcome.ensures.changes
     (tt, tt) (r.rules, tt) (few_document t loaded.id copy) (λ q. refl)

@@ -60,7 +60,7 @@ returns-clause-effect g c = λ available laid_out t e room stand.
     let given = c.in_ok-list.ensures.value available listing t same_then room stand (parent_of path) reached.1 in
     let size : check_size (length c.args.bytes.now) ≡ None = sym c.in_ok-check_size.ensures in
     let fits : length c.args.bytes.now < 2 ^ 32 = omega (arith, small_by_check (length c.args.bytes.now) size) in
-    create_plans t room c.args.subject.now c.args.bytes.now path c.in_ok-above.above c.in_ok-id.id c.in_ok-node.node
+    create_plans c.args.bytes.now
     c.in_ok-list.list c.in_ok-copy.copy _ stand c.in_ok-above.ensures.lawful reached.0 size reached.1
     number c.in_ok-node.ensures given
     (c.in_ok-copy.ensures.items_if_clones_equal (λ x y is. is))

@@ -41,7 +41,6 @@ returns-clause-effect g c = λ available laid_out t e room stand.
     let listing = c.number_for_new.ensures.frame.call.laid_out numbered declared in
     let same_then = ap (λ (r : Records). r.objects) (c.number_for_new.ensures.frame.same numbered declared) ∙ same in
     let given = c.in_ok-list.ensures.value available listing t same_then room stand (parent_of path) reached.1 in
-    mkdir_plans t room c.args.subject.now path c.in_ok-above.above c.in_ok-id.id c.in_ok-node.node
-    c.in_ok-list.list _ stand c.in_ok-above.ensures.lawful reached.0 reached.1
+    mkdir_plans c.in_ok-list.list _ stand c.in_ok-above.ensures.lawful reached.0 reached.1
     number c.in_ok-node.ensures given
     c.in_ok-changes.ensures refl

@@ -65,7 +65,7 @@ returns-clause-effect g c = λ available laid_out t e room stand.
     let list =
     (rw is at (c.in_ok-list.ensures.value listed declared_then t same_then room stand path))
     there.at there.node_stands in
-    rename_plans t room caller path to move c.in_ok-moved.moved _ stand lawful.0 lawful.1
+    rename_plans caller c.in_ok-moved.moved _ stand lawful.0 lawful.1
     (none_passes first (move_limits room path to) allowed.0 ∙ limits) allowed.1
     (λ folder name last. c.in_ok-moved.ensures folder name last
     ∙ ap (λ (n : Node). record n { parent = Some move.into.id; name = Some name }) is)

@@ -51,6 +51,5 @@ returns-clause-effect g c = λ available laid_out t e room stand.
     (not_refused (nat_lt 0 (length (children room path))) NotEmpty alone) in
     let none : length (children room path) ≡ 0 = omega (arith, few) in
     let root_off = not_refused (is_root path) Inval (all_none first told.0.0).0 in
-    remove_plans t room caller path c.in_ok-loaded.loaded c.in_ok-outcome.outcome
-    stand told.0.1 passed root_off c.in_ok-loaded.ensures.lawful none
+    remove_plans caller c.in_ok-outcome.outcome stand told.0.1 passed root_off c.in_ok-loaded.ensures.lawful none
     c.in_ok-outcome.ensures.changes (ap reply_model c.in_ok-outcome.ensures.reply)

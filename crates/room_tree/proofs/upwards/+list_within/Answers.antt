@@ -30,7 +30,7 @@ returns-in_default-2-clause-value g m c = λ available laid_out t e room stand p
     let same = ap (λ (r : Records). r.objects) (c.entries.ensures.frame.same before laid_out) ∙ e in
     let up = goes_on stand path node.id node at stands
     c.in-Some.folder (sym c.folder_followed.ensures ∙ c.in-Some.is) in
-    absurd (node_there t room stand up.folder c.in-Some.folder up.at
+    absurd (node_there stand up.folder c.in-Some.folder up.at
     (sym (ap (λ (r : ObjectRecords). r.node c.in-Some.folder) same)
     ∙ sym (c.in_ok-above.ensures.value available declared) ∙ c.in_default-2.is))
 

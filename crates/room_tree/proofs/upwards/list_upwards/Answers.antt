@@ -9,8 +9,7 @@ use Rattle.room_tree.proofs.upwards.list_upwards.Goals as goal
 pub returns-in_default-clause-value : goal.returns-in_default-clause-value
 returns-in_default-clause-value g c = λ available laid_out room stand path at.
     let t = (g.S.Shelf.view c.args.shelf.now).records.objects in
-    absurd (node_there t room stand path c.args.id at
-    (sym (c.in_ok-node.ensures.value available laid_out) ∙ c.in_default.is))
+    absurd (node_there stand path c.args.id at (sym (c.in_ok-node.ensures.value available laid_out) ∙ c.in_default.is))
 
 pub returns-clause-value : goal.returns-clause-value
 returns-clause-value g c = λ available laid_out room stand path at.
