@@ -36,7 +36,7 @@ use Rattle.room_tree.specs.Plans.{PlansEffect}
 use Rattle.room_tree.specs.Renewals.{puts_new}
 use Rattle.room_commands.specs.ReplyModel.{Done, Size, reply_model}
 use Rattle.room_tree.proofs.Changed.{none_and_some}
-use Rattle.room_tree.proofs.Checking.{none_passes}
+use Rattle.room_tree.proofs.Checking.{none_passes, limit_checks, new_checks}
 use Rattle.room_commands.proofs.ChecksTell.{not_refused, none_there}
 use Rattle.room_commands.proofs.EffectIsRoom.{changed_is_room, created_is_room}
 use Rattle.room_tree.proofs.FewRows.{few_for_folder, few_for_document}
@@ -230,9 +230,8 @@ few_made {room} stand passed =
 -- MKDIR
 pub mkdir_plans : {t : ObjectRecords} {room : Room} {caller : SubjectModel} {path : Path} {above : LoadedObject}
     {id : ℕ} {node : Node} (list : Vec EntryModel Global) (outcome : Outcome) → RepresentsRoom t room → IsPath path
-    → first_refusal (refuse_if (is_root path) Exist ∷ walk room caller path ∷ check_absent room path
-    ∷ check_right room caller (parent_of path) 0x4 ∷ []) ≡ None → IsLoaded t room (parent_of path) above
-    → (first_refusal (check_folder_full room (parent_of path) ∷ check_room_full room ∷ []) ≡ None) × (id ≡ t.next)
+    → first_refusal (new_checks room caller path 0x4) ≡ None → IsLoaded t room (parent_of path) above
+    → (first_refusal (limit_checks room path) ≡ None) × (id ≡ t.next)
     → IsNewNode caller path above Folder id node → list.items ≡ handed_down (list_of room (parent_of path)) Folder
     → outcome.changes.items ≡ PutNext (id + 1) ∷ PutNode node ∷ puts_new id list → reply_model outcome.reply ≡ Done
     → PlansEffect t room caller (C.Mkdir path) outcome
@@ -240,9 +239,7 @@ mkdir_plans {t} {room} {caller} {path} {id} {node} list outcome stand is_path be
     planned replied =
     let command = C.Mkdir path in
     let passed : first_refusal (checks room caller command) ≡ None =
-    none_passes (refuse_if (is_root path) Exist ∷ walk room caller path
-    ∷ check_absent room path ∷ check_right room caller (parent_of path) 0x4 ∷ [])
-    (check_folder_full room (parent_of path) ∷ check_room_full room ∷ []) before ∙ number.0 in
+    none_passes (new_checks room caller path 0x4) (limit_checks room path) before ∙ number.0 in
     let a = all_none (checks room caller command) passed in
     let root_off = not_refused (is_root path) Exist a.0 in
     let absent = none_there (object_at room path) (not_refused _ Exist a.1.1.0) in
@@ -275,10 +272,9 @@ mkdir_plans {t} {room} {caller} {path} {id} {node} list outcome stand is_path be
 pub create_plans : {t : ObjectRecords} {room : Room} {caller : SubjectModel} (bytes : List ℕ) {path : Path}
     {above : LoadedObject} {id : ℕ} {node : Node} (list : Vec EntryModel Global) (copy : Vec ℕ Global)
     (outcome : Outcome) → RepresentsRoom t room → IsPath path
-    → first_refusal (refuse_if (is_root path) Exist ∷ walk room caller path ∷ check_absent room path
-    ∷ check_right room caller (parent_of path) 0x2 ∷ []) ≡ None → check_size (length bytes) ≡ None
+    → first_refusal (new_checks room caller path 0x2) ≡ None → check_size (length bytes) ≡ None
     → IsLoaded t room (parent_of path) above
-    → (first_refusal (check_folder_full room (parent_of path) ∷ check_room_full room ∷ []) ≡ None) × (id ≡ t.next)
+    → (first_refusal (limit_checks room path) ≡ None) × (id ≡ t.next)
     → IsNewNode caller path above File id node → list.items ≡ handed_down (list_of room (parent_of path)) File
     → copy.items ≡ bytes → outcome.changes.items ≡ PutNext (id + 1) ∷ PutNode node
     ∷ puts_new id list ++ PutDoc id copy ∷ [] → reply_model outcome.reply ≡ Size (length bytes)
@@ -287,11 +283,8 @@ create_plans {t} {room} {caller} bytes {path} {id} {node} list copy outcome stan
     number new given same planned replied =
     let command = C.Create bytes path in
     let passed : first_refusal (checks room caller command) ≡ None =
-    none_passes (refuse_if (is_root path) Exist ∷ walk room caller path
-    ∷ check_absent room path ∷ check_right room caller (parent_of path) 0x2 ∷ [])
-    (check_size (length bytes) ∷ check_folder_full room (parent_of path) ∷ check_room_full room ∷ []) before
-    ∙ ap (λ o. first_refusal (o ∷ check_folder_full room (parent_of path) ∷ check_room_full room ∷ [])) small
-    ∙ number.0 in
+    none_passes (new_checks room caller path 0x2) (check_size (length bytes) ∷ limit_checks room path) before
+    ∙ ap (λ o. first_refusal (o ∷ limit_checks room path)) small ∙ number.0 in
     let a = all_none (checks room caller command) passed in
     let root_off = not_refused (is_root path) Exist a.0 in
     let absent = none_there (object_at room path) (not_refused _ Exist a.1.1.0) in

@@ -6,7 +6,7 @@ use Rattle.room_commands.specs.CommandModel as C
 use Rattle.room_commands.specs.Checks.{walk, check_exists, check_file, check_right, check_size, bytes_at}
 use Rattle.room_tree.specs.LoadedObjects.{node_of}
 use Rattle.room_commands.specs.ReplyModel.{Size}
-use Rattle.room_tree.proofs.Checking.{none_passes, first_alone, small_by_check, bytes_there}
+use Rattle.room_tree.proofs.Checking.{none_passes, first_alone, small_by_check, bytes_there, file_checks}
 use Rattle.room_tree.proofs.Changed.{is_document, replaced_plans, document_replaces}
 use Rattle.room_tree.proofs.FewRows.{few_document}
 use Rattle.room_commands.proofs.EffectIsRoom.{appended_is_room}
@@ -21,8 +21,7 @@ returns-in_err-loaded-clause-effect g c = λ available laid_out t e room stand.
     let caller = c.args.subject.now in
     let bytes = c.args.bytes.now in
     handed_on _ _ _ c.from_residual.result c.from_residual.ensures.1
-    (in_front (walk room caller path ∷ check_exists room path ∷ check_file room path
-    ∷ check_right room caller path 0x4 ∷ []) (check_size (length (bytes_at room path) + length bytes) ∷ [])
+    (in_front (file_checks room caller path 0x4) (check_size (length (bytes_at room path) + length bytes) ∷ [])
     _ (c.in_err-loaded.ensures.value available laid_out t e room stand))
 
 pub returns-in_err-all-clause-effect : goal.returns-in_err-all-clause-effect
@@ -34,8 +33,8 @@ returns-in_err-all-clause-effect g c = λ available laid_out t e room stand.
     c.in_ok-loaded.ensures.value c.in_ok-old.ensures.value available laid_out t e room stand in
     let old = told.1 path told.0.1 in
     handed_on _ _ _ c.from_residual-in_err-all.result c.from_residual-in_err-all.ensures.1
-    (past_front (walk room caller path ∷ check_exists room path ∷ check_file room path ∷ check_right room
-    caller path 0x4 ∷ []) (check_size (length (bytes_at room path) + length bytes) ∷ []) _ told.0.0
+    (past_front (file_checks room caller path 0x4)
+    (check_size (length (bytes_at room path) + length bytes) ∷ []) _ told.0.0
     (at_head (check_size (length (bytes_at room path) + length bytes)) [] _
     (stopped_by _ (check_size (length (bytes_at room path) + length bytes)) _
     (ap (λ (b : List ℕ). check_size (length b + length bytes)) (sym old)) c.in_err-all.ensures.value)))
@@ -52,11 +51,10 @@ returns-clause-effect g c = λ available laid_out t e room stand.
     let joined = c.in_ok-all.ensures.value in
     let all_bytes = c.in_ok-all.all in
     let size = rw old at joined.0 in
-    let passed = none_passes (walk room caller path ∷ check_exists room path ∷ check_file room path ∷ check_right room
-    caller path 0x4 ∷ []) (check_size (length (bytes_at room path) + length bytes) ∷ []) told.0.0
+    let passed = none_passes (file_checks room caller path 0x4)
+    (check_size (length (bytes_at room path) + length bytes) ∷ []) told.0.0
     ∙ first_alone (check_size (length (bytes_at room path) + length bytes)) ∙ size in
-    let all = all_none (walk room caller path ∷ check_exists room path
-    ∷ check_file room path ∷ check_right room caller path 0x4 ∷ []) told.0.0 in
+    let all = all_none (file_checks room caller path 0x4) told.0.0 in
     let file = is_document told.0.1 all.1.1.0 in
     let change : Object → Object = λ o. record o { bytes = o.bytes ++ bytes } in
     let is : all_bytes.items ≡ told.0.1.object.bytes ++ bytes =

@@ -9,6 +9,7 @@ use Rattle.room_records.proofs.Shelves.{read_then}
 use Rattle.room_tree.specs.Depths.{StandsBelow}
 use Rattle.room_tree.proofs.Depths.{NoneBelowEach, itself_below, none_below_file, one_level_more}
 use Rattle.room_tree.proofs.Depths.{child_path, none_below_children}
+use Rattle.room_tree.proofs.Told.{both_tell}
 use Rattle.room_tree.proofs.depth.+reaches_down.Goals as goal
 
 pub returns-then-levels-eq0-clause-value : goal.returns-then-levels-eq0-clause-value
@@ -33,14 +34,13 @@ pub returns-then-deep-clause-value : goal.returns-then-deep-clause-value
 returns-then-deep-clause-value g m c = λ available laid_out t e room stand path node at stands kind.
     let items = c.deref-node-items.result.now in
     let child = c.node-item.result in
-    let before = c.reaches_down.ensures.frame.call.was_available available in
-    let declared = c.loop-node.invariant.frame.call.laid_out before laid_out in
-    let same = ap (λ (r : Records). r.objects) (c.loop-node.invariant.frame.same before laid_out) ∙ e in
-    let are = c.loop-node.invariant.children before laid_out t e room stand in
+    let told = both_tell _ _ c.loop-node.invariant.frame c.reaches_down.ensures.frame
+    c.loop-node.invariant.children c.in_ok-deep.ensures.value available laid_out t e room stand in
+    let are = told.0 in
     let Child : Node → Type 0 = λ n. IsChild t c.args.id n in
     let is_child : Child child = subst Child (sym c.node-item.is)
     (all_at Child items c.loop-node.node-index child are.each c.loop-node-test.true) in
-    let found = c.in_ok-deep.ensures.value available declared t same room stand (path ++ name_of child ∷ []) child
+    let found = told.1 (path ++ name_of child ∷ []) child
     (child_path stand path c.args.id child at is_child) is_child.stands refl in
     one_level_more room path (name_of child) c.args.levels
     (omega (arith, c.if-levels-eq0.false)) (rw c.if-deep.true at found)

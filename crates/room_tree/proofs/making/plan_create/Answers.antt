@@ -5,7 +5,7 @@ use Rattle.room_commands.specs.declared.reply.RefusalCode.TheVariants.{Exist}
 use Rattle.room_commands.specs.Checks.{refuse_if, is_root, walk, check_absent, check_right, check_size}
 use Rattle.room_commands.specs.Checks.{check_folder_full, check_room_full}
 use Rattle.room_commands.specs.ReplyModel.{Size}
-use Rattle.room_tree.proofs.Checking.{none_passes, stop, small_by_check}
+use Rattle.room_tree.proofs.Checking.{none_passes, stop, small_by_check, limit_checks, new_checks}
 use Rattle.room_tree.proofs.Made.{create_plans}
 use Rattle.room_tree.proofs.Stops.{handed_on, in_front, past_front, past_head}
 use Rattle.room_tree.proofs.Told.{both_tell}
@@ -15,9 +15,8 @@ pub returns-in_err-above-clause-effect : goal.returns-in_err-above-clause-effect
 returns-in_err-above-clause-effect g c = λ available laid_out t e room stand.
     let path = c.args.path.now in
     handed_on _ _ _ c.from_residual.result c.from_residual.ensures.1
-    (in_front (refuse_if (is_root path) Exist ∷ walk room c.args.subject.now path
-    ∷ check_absent room path ∷ check_right room c.args.subject.now (parent_of path) 0x2 ∷ [])
-    (check_size (length c.args.bytes.now) ∷ check_folder_full room (parent_of path) ∷ check_room_full room ∷ [])
+    (in_front (new_checks room c.args.subject.now path 0x2)
+    (check_size (length c.args.bytes.now) ∷ limit_checks room path)
     _ (c.in_err-above.ensures.value available laid_out t e room stand))
 
 pub returns-in_err-check_size-clause-effect : goal.returns-in_err-check_size-clause-effect
@@ -25,12 +24,10 @@ returns-in_err-check_size-clause-effect g c = λ available laid_out t e room sta
     let path = c.args.path.now in
     let reached = c.in_ok-above.ensures.value available laid_out t e room stand in
     handed_on _ _ _ c.from_residual-in_err-check_size.result c.from_residual-in_err-check_size.ensures.1
-    (none_passes (refuse_if (is_root path) Exist ∷ walk room c.args.subject.now path
-    ∷ check_absent room path ∷ check_right room c.args.subject.now (parent_of path) 0x2 ∷ [])
-    (check_size (length c.args.bytes.now) ∷ check_folder_full room (parent_of path) ∷ check_room_full room ∷ [])
-    reached.0
+    (none_passes (new_checks room c.args.subject.now path 0x2)
+    (check_size (length c.args.bytes.now) ∷ limit_checks room path) reached.0
     ∙ stop (check_size (length c.args.bytes.now))
-    (check_folder_full room (parent_of path) ∷ check_room_full room ∷ []) _ (sym c.in_err-check_size.ensures))
+    (limit_checks room path) _ (sym c.in_err-check_size.ensures))
 
 pub returns-in_err-id-clause-effect : goal.returns-in_err-id-clause-effect
 returns-in_err-id-clause-effect g c = λ available laid_out t e room stand.
@@ -38,13 +35,10 @@ returns-in_err-id-clause-effect g c = λ available laid_out t e room stand.
     let told = both_tell _ _ c.folder_for_new.ensures.frame c.number_for_new.ensures.frame
     c.in_ok-above.ensures.value c.in_err-id.ensures.value available laid_out t e room stand in
     handed_on _ _ _ c.from_residual-in_err-id.result c.from_residual-in_err-id.ensures.1
-    (past_front (refuse_if (is_root path) Exist ∷ walk room c.args.subject.now path
-    ∷ check_absent room path ∷ check_right room c.args.subject.now (parent_of path) 0x2 ∷ [])
-    (check_size (length c.args.bytes.now) ∷ check_folder_full room (parent_of path) ∷ check_room_full room ∷ [])
-    _ told.0.0
+    (past_front (new_checks room c.args.subject.now path 0x2)
+    (check_size (length c.args.bytes.now) ∷ limit_checks room path) _ told.0.0
     (past_head (check_size (length c.args.bytes.now))
-    (check_folder_full room (parent_of path) ∷ check_room_full room ∷ []) _ (sym c.in_ok-check_size.ensures)
-    (told.1 (parent_of path) told.0.1)))
+    (limit_checks room path) _ (sym c.in_ok-check_size.ensures) (told.1 (parent_of path) told.0.1)))
 
 pub returns-clause-effect : goal.returns-clause-effect
 returns-clause-effect g c = λ available laid_out t e room stand.

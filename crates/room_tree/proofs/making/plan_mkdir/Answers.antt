@@ -4,6 +4,7 @@ use Rattle.room_records.specs.Room.{parent_of}
 use Rattle.room_commands.specs.declared.reply.RefusalCode.TheVariants.{Exist}
 use Rattle.room_commands.specs.Checks.{refuse_if, is_root, walk, check_absent, check_right}
 use Rattle.room_commands.specs.Checks.{check_folder_full, check_room_full}
+use Rattle.room_tree.proofs.Checking.{limit_checks, new_checks}
 use Rattle.room_tree.proofs.Made.{mkdir_plans}
 use Rattle.room_tree.proofs.Stops.{handed_on, in_front, past_front}
 use Rattle.room_tree.proofs.Told.{both_tell}
@@ -13,9 +14,7 @@ pub returns-in_err-above-clause-effect : goal.returns-in_err-above-clause-effect
 returns-in_err-above-clause-effect g c = λ available laid_out t e room stand.
     let path = c.args.path.now in
     handed_on _ _ _ c.from_residual.result c.from_residual.ensures.1
-    (in_front (refuse_if (is_root path) Exist ∷ walk room c.args.subject.now path
-    ∷ check_absent room path ∷ check_right room c.args.subject.now (parent_of path) 0x4 ∷ [])
-    (check_folder_full room (parent_of path) ∷ check_room_full room ∷ [])
+    (in_front (new_checks room c.args.subject.now path 0x4) (limit_checks room path)
     _ (c.in_err-above.ensures.value available laid_out t e room stand))
 
 pub returns-in_err-id-clause-effect : goal.returns-in_err-id-clause-effect
@@ -24,9 +23,7 @@ returns-in_err-id-clause-effect g c = λ available laid_out t e room stand.
     let told = both_tell _ _ c.folder_for_new.ensures.frame c.number_for_new.ensures.frame
     c.in_ok-above.ensures.value c.in_err-id.ensures.value available laid_out t e room stand in
     handed_on _ _ _ c.from_residual-in_err-id.result c.from_residual-in_err-id.ensures.1
-    (past_front (refuse_if (is_root path) Exist ∷ walk room c.args.subject.now path
-    ∷ check_absent room path ∷ check_right room c.args.subject.now (parent_of path) 0x4 ∷ [])
-    (check_folder_full room (parent_of path) ∷ check_room_full room ∷ []) _ told.0.0
+    (past_front (new_checks room c.args.subject.now path 0x4) (limit_checks room path) _ told.0.0
     (told.1 (parent_of path) told.0.1))
 
 pub returns-clause-effect : goal.returns-clause-effect

@@ -1,5 +1,4 @@
 use Rattle.std.proofs.Common.{ap, sym, ◌∙◌, ◌++◌, ◌||◌}
-use Rattle.room_records.specs.Records.{Records}
 use Rattle.room_commands.specs.declared.reply.RefusalCode.TheVariants.{Inval}
 use Rattle.room_commands.specs.Checks.{refuse_if, is_root, is_at_or_below}
 use Rattle.room_tree.specs.Renames.{end_checks, move_rights}
@@ -52,13 +51,12 @@ returns-clause-value g c = λ available laid_out t e room stand.
     let caller = c.args.subject.now in
     let to = c.args.to.now in
     let passed = sym c.in_ok-check_paths.ensures.value in
-    let before = c.check_rights.ensures.frame.call.was_available available in
-    let ended = c.in_ok-ends.ensures.value before laid_out t e room stand (paths_pass path to passed).below_root in
-    let declared = c.ends_of_move.ensures.frame.call.laid_out before laid_out in
-    let same = ap (λ (r : Records). r.objects) (c.ends_of_move.ensures.frame.same before laid_out) ∙ e in (
+    let told = both_tell _ _ c.ends_of_move.ensures.frame c.check_rights.ensures.frame
+    c.in_ok-ends.ensures.value c.in_ok-check_rights.ensures.value available laid_out t e room stand in
+    let ended = told.0 (paths_pass path to passed).below_root in (
       skip (refuse_if (is_root path || is_root to || is_at_or_below to path) Inval)
           (end_checks room caller path to ++ move_rights room caller path to) passed
           ∙ none_passes (end_checks room caller path to) (move_rights room caller path to) ended.0
-          ∙ (c.in_ok-check_rights.ensures.value available declared t same room stand ended.1).0,
+          ∙ (told.1 ended.1).0,
       ended.1,
     )

@@ -11,6 +11,7 @@ use Rattle.room_tree.proofs.Checking.{none_passes}
 use Rattle.room_tree.proofs.Renamed.{rename_plans}
 use Rattle.room_tree.proofs.Renewed.{is_change}
 use Rattle.room_tree.proofs.Stops.{handed_on, in_front, past_front}
+use Rattle.room_tree.proofs.Told.{both_tell}
 use Rattle.room_tree.proofs.moving.plan_rename.Goals as goal
 
 pub returns-in_err-moving-clause-effect : goal.returns-in_err-moving-clause-effect
@@ -30,13 +31,12 @@ returns-in_err-check_limits-clause-effect g c = λ available laid_out t e room s
     let to = c.args.to.now in
     let first = refuse_if (is_root path || is_root to || is_at_or_below to path) Inval
     ∷ (end_checks room caller path to ++ move_rights room caller path to) in
-    let before = c.check_limits.ensures.frame.call.was_available available in
-    let declared = c.allowed_move.ensures.frame.call.laid_out before laid_out in
-    let same = ap (λ (r : Records). r.objects) (c.allowed_move.ensures.frame.same before laid_out) ∙ e in
-    let allowed = c.in_ok-moving.ensures.value before laid_out t e room stand in
+    let told = both_tell _ _ c.allowed_move.ensures.frame c.check_limits.ensures.frame
+    c.in_ok-moving.ensures.value c.in_err-check_limits.ensures.value available laid_out t e room stand in
+    let allowed = told.0 in
     handed_on _ _ _ c.from_residual-in_err-check_limits.result c.from_residual-in_err-check_limits.ensures.1
     (past_front first (move_limits room path to) _ allowed.0
-    (c.in_err-check_limits.ensures.value available declared t same room stand path allowed.1))
+    (told.1 path allowed.1))
 
 pub returns-clause-effect : goal.returns-clause-effect
 returns-clause-effect g c = λ available laid_out t e room stand.

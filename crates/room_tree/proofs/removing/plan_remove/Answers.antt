@@ -5,7 +5,7 @@ use borrow.Author.Tests.{ltb-false}
 use Rattle.room_commands.specs.declared.reply.RefusalCode.TheVariants.{Inval, NotEmpty}
 use Rattle.room_commands.specs.ReplyModel.{reply_model}
 use Rattle.room_commands.specs.Checks.{refuse_if, is_root, walk, check_exists, check_removal}
-use Rattle.room_tree.proofs.Checking.{none_passes, first_alone}
+use Rattle.room_tree.proofs.Checking.{none_passes, first_alone, removal_checks}
 use Rattle.room_commands.proofs.ChecksTell.{not_refused}
 use Rattle.room_commands.proofs.Rights.{all_none}
 use Rattle.room_tree.proofs.RowsRemoved.{remove_plans}
@@ -17,8 +17,7 @@ pub returns-in_err-loaded-clause-effect : goal.returns-in_err-loaded-clause-effe
 returns-in_err-loaded-clause-effect g c = λ available laid_out t e room stand.
     let path = c.args.path.now in
     handed_on _ _ _ c.from_residual.result c.from_residual.ensures.1
-    (in_front (refuse_if (is_root path) Inval ∷ walk room c.args.subject.now path
-    ∷ check_exists room path ∷ check_removal room c.args.subject.now path ∷ [])
+    (in_front (removal_checks room c.args.subject.now path)
     (refuse_if (nat_lt 0 (length (children room path))) NotEmpty ∷ []) _
     (c.in_err-loaded.ensures.value available laid_out t e room stand))
 
@@ -30,8 +29,7 @@ returns-in_err-check_empty-clause-effect g c = λ available laid_out t e room st
     let count = told.1 path told.0.1 in
     let empty = refuse_if (nat_lt 0 (length (children room path))) NotEmpty in
     handed_on _ _ _ c.from_residual-in_err-check_empty.result c.from_residual-in_err-check_empty.ensures.1
-    (none_passes (refuse_if (is_root path) Inval ∷ walk room c.args.subject.now path
-    ∷ check_exists room path ∷ check_removal room c.args.subject.now path ∷ []) (empty ∷ []) told.0.0
+    (none_passes (removal_checks room c.args.subject.now path) (empty ∷ []) told.0.0
     ∙ first_alone empty ∙ ap (λ n. refuse_if (nat_lt 0 n) NotEmpty) (sym count) ∙ sym c.in_err-check_empty.ensures)
 
 pub returns-clause-effect : goal.returns-clause-effect
@@ -41,8 +39,7 @@ returns-clause-effect g c = λ available laid_out t e room stand.
     let told = both_tell _ _ c.removable.ensures.frame c.count_children.ensures.frame
     c.in_ok-loaded.ensures.value c.in_ok-count.ensures.value available laid_out t e room stand in
     let count = told.1 path told.0.1 in
-    let first = refuse_if (is_root path) Inval ∷ walk room caller path
-    ∷ check_exists room path ∷ check_removal room caller path ∷ [] in
+    let first = removal_checks room caller path in
     let empty = refuse_if (nat_lt 0 (length (children room path))) NotEmpty in
     let alone : empty ≡ None =
     ap (λ n. refuse_if (nat_lt 0 n) NotEmpty) (sym count) ∙ sym c.in_ok-check_empty.ensures in

@@ -7,6 +7,7 @@ use Rattle.room_tree.specs.LoadedObjects.{IsLoaded, IsAbove}
 use Rattle.room_tree.proofs.Walks.{walk_stopped, walk_goes_on, walk_ends, walk_is_cut, last_is_absent}
 use Rattle.room_tree.proofs.Walks.{next_is_there, last_folder, walk_done}
 use Rattle.room_tree.proofs.Stops.{handed_on, refused_as}
+use Rattle.room_tree.proofs.Told.{both_tell}
 use Rattle.room_tree.proofs.walking.walk_path.Goals as goal
 
 pub returns-in_default-clause-value : goal.returns-in_default-clause-value
@@ -25,15 +26,14 @@ pub returns-in_err-check_way-clause-value : goal.returns-in_err-check_way-clause
 returns-in_err-check_way-clause-value g c = λ available laid_out t e room stand.
     let path = c.args.path.now in
     let i = c.loop-index.index in
-    let before = c.check_way.ensures.frame.call.was_available available in
-    let declared = c.loop-index.invariant.frame.call.laid_out before laid_out in
-    let same = ap (λ (r : Records). r.objects) (c.loop-index.invariant.frame.same before laid_out) ∙ e in
-    let so = c.loop-index.invariant.walked before laid_out t e room stand in
+    let told = both_tell _ _ c.loop-index.invariant.frame c.check_way.ensures.frame
+    c.loop-index.invariant.walked c.in_err-check_way.ensures.value available laid_out t e room stand in
+    let so = told.0 in
     let below = rw c.names-names.ensures.value at c.loop-index-test.true in
     handed_on _ _ _ c.from_residual-in_err-check_way.result c.from_residual-in_err-check_way.ensures.1
     (walk_stopped room c.args.subject.now path i (get_or path i [])
     below (get_or_default path i [] (get_or path i []) below) _ so.0
-    (c.in_err-check_way.ensures.value available declared t same room stand (take i path) refl so.1))
+    (told.1 (take i path) refl so.1))
 
 pub returns-then-index-names-clause-value : goal.returns-then-index-names-clause-value
 returns-then-index-names-clause-value g c = λ available laid_out t e room stand.
