@@ -1,5 +1,5 @@
 -- One object changed where it stands: what is planned is the effect.
-use Rattle.std.proofs.Common.{◌≡◌, ℕ, refl, ap, sym, ◌∙◌, subst, inl, inr, List, [], Option, None, Some}
+use Rattle.std.proofs.Common.{◌≡◌, ℕ, refl, ap, sym, ◌∙◌, inl, inr, List, [], Option, None, Some}
 use Rattle.std.proofs.Common.{IsSome, IsNone, unwrap_or}
 use Rattle.std.specs.Prelude.{Vec}
 use Rattle.std.specs.declared.alloc.Global.{Global}
@@ -14,7 +14,7 @@ use Rattle.room_records.specs.Names.{Path}
 use Rattle.room_records.specs.Records.{ObjectRecords}
 use Rattle.room_records.specs.Changes.{apply_to_objects, apply_all_to_objects, IsOfObjects, ObjectRulesHoldAfterEach}
 use Rattle.room_records.specs.Room.{Object, Room, IsRoom, object_at, list_of}
-use Rattle.room_records.specs.Representation.{RepresentsRoom, HasPath}
+use Rattle.room_records.specs.Representation.{RepresentsRoom}
 use Rattle.room_records.proofs.RulesKept.{if_same, if_other, SamePlace, SameShape, shape_itself, shape_put}
 use Rattle.room_records.proofs.RulesKept.{rules_put, rules_put_doc}
 use Rattle.room_commands.specs.CommandModel.{CommandModel}

@@ -20,14 +20,12 @@ use Rattle.room_records.proofs.Lists.{all_append}
 use Rattle.room_records.proofs.Paths.{object_at_node, child_is_at}
 use Rattle.room_records.proofs.RoomsMap.{some_is, none_is_some, Ends, ends, parent_of_end, nothing_below}
 use Rattle.room_records.proofs.RoomsLists.{list_of_child, lists_by_objects_above}
-use Rattle.room_records.proofs.RulesKept.{same_or_other, some_or_none, if_same, if_other, rules_put_next}
-use Rattle.room_records.proofs.RulesKept.{rules_put_doc}
+use Rattle.room_records.proofs.RulesKept.{same_or_other, some_or_none, if_same, if_other, rules_put_next, rules_put_doc}
 use Rattle.room_commands.specs.CommandModel as C
 use Rattle.room_tree.specs.declared.loaded.LoadedObject.{LoadedObject}
 use Rattle.room_tree.specs.declared.planning.Outcome.{Outcome}
 use Rattle.room_commands.specs.declared.reply.RefusalCode.TheVariants.{Exist, RoomFull}
-use Rattle.room_commands.specs.Checks.{first_refusal, checks, refuse_if, is_root, walk, check_absent, check_right}
-use Rattle.room_commands.specs.Checks.{check_size, check_folder_full, check_room_full}
+use Rattle.room_commands.specs.Checks.{first_refusal, checks, is_root, check_size, check_room_full}
 use Rattle.room_acl.specs.Entries.{EntryModel}
 use Rattle.room_acl.specs.Inheritance.{handed_down}
 use Rattle.room_commands.specs.Effect.{object_or_default, with_new, new_object}

@@ -13,8 +13,8 @@ use Rattle.room_commands.specs.CommandModel as C
 use Rattle.room_tree.specs.declared.planning.Outcome.{Outcome}
 use Rattle.room_commands.specs.Checks.{first_refusal, checks}
 use Rattle.room_commands.specs.ReplyModel.{Refused, reply_model, IsRefused, Refusal}
-use Rattle.room_commands.specs.Effect.{effect, effect_by, changed, reply}
-use Rattle.room_tree.specs.Plans.{PlansEffect, KeepsNumbers, place_after}
+use Rattle.room_commands.specs.Effect.{effect_by, changed, reply}
+use Rattle.room_tree.specs.Plans.{PlansEffect, place_after}
 use Rattle.room_tree.specs.Renewals.{ChangesFewRows}
 use Rattle.room_commands.proofs.Rights.{rights_of_success}
 use Rattle.room_tree.proofs.FewRows.{few_none}

@@ -1,6 +1,6 @@
 -- SETLIST: what is planned is the effect.
-use Rattle.std.proofs.Common.{◌≡◌, ℕ, ◌⊎◌, refl, ap, sym, ◌∙◌, subst, Bool, true, false, cond, inl, inr, List, [], ◌∷◌}
-use Rattle.std.proofs.Common.{◌++◌, map, drop, length, reverse, append-nil, Option, None, Some, IfSome, unwrap_or}
+use Rattle.std.proofs.Common.{◌≡◌, ℕ, ◌⊎◌, refl, ap, sym, ◌∙◌, Bool, true, false, cond, inl, inr, List, [], ◌∷◌}
+use Rattle.std.proofs.Common.{◌++◌, map, drop, length, reverse, append-nil, Option, None, Some, unwrap_or}
 use Rattle.std.specs.Prelude.{Vec}
 use Rattle.std.specs.declared.alloc.Global.{Global}
 use Rattle.std.proofs.lemmas.List.{reverse-append, append_cancel_left}
@@ -16,7 +16,7 @@ use Rattle.room_records.specs.Records.{ObjectRecords}
 use Rattle.room_records.specs.Rules.{ObjectRules, IsRoot}
 use Rattle.room_records.specs.Changes.{apply_to_objects, apply_all_to_objects, ObjectRulesHoldAfterEach}
 use Rattle.room_records.specs.Room.{Object, Room, object_at, list_of}
-use Rattle.room_records.specs.Representation.{RepresentsRoom, HasPath, NamesUpwards}
+use Rattle.room_records.specs.Representation.{RepresentsRoom, HasPath}
 use Rattle.room_records.proofs.RoomsLists.{list_of_child, list_of_root}
 use Rattle.room_records.proofs.RoomsMap.{some_is, Ends}
 use Rattle.room_records.proofs.RulesKept.{if_same, if_other, SamePlace, SameShape, shape_put, rules_put}
@@ -38,7 +38,7 @@ use Rattle.room_tree.proofs.Changed.{replaced_plans}
 use Rattle.room_tree.proofs.Checking.{there}
 use Rattle.room_tree.proofs.ListsRenewed.{lists_renewed, lists_away, list_above_stays}
 use Rattle.room_tree.proofs.OwnPart.{root_or_below}
-use Rattle.room_tree.proofs.Renewed.{Puts, put, Relists, IsChangeOf, list_then, list_then_is, changes_list, puts_relist}
+use Rattle.room_tree.proofs.Renewed.{Puts, put, Relists, IsChangeOf, list_then_is, changes_list, puts_relist}
 use Rattle.room_tree.proofs.Renewed.{stored_at, nodes_stay, documents_stay, next_stays, relisted_at, relisted_off}
 use Rattle.room_tree.proofs.Renewed.{relisted_of_objects, relisted_rules, relisted_few}
 use Rattle.room_tree.proofs.RowsReplaced.{Replaces, changed_at}

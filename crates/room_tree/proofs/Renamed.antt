@@ -1,5 +1,5 @@
 -- RENAME: its checks by what was read, and what it plans.
-use Rattle.std.proofs.Common.{◌≡◌, ℕ, refl, ap, sym, ◌∙◌, subst, Bool, true, false, not, ◌||◌, List, [], ◌∷◌, ◌++◌, map}
+use Rattle.std.proofs.Common.{◌≡◌, ℕ, refl, ap, sym, ◌∙◌, Bool, true, false, not, ◌||◌, List, [], ◌∷◌, ◌++◌, map}
 use Rattle.std.proofs.Common.{drop, length, Option, None, Some, reverse}
 use Rattle.std.specs.Prelude.{Vec}
 use Rattle.std.specs.declared.alloc.Global.{Global}
@@ -13,7 +13,7 @@ use Rattle.room_records.specs.Names.{Name, Path, IsPath, name_eq, path_eq}
 use Rattle.room_records.specs.Records.{ObjectRecords}
 use Rattle.room_records.specs.Rules.{ObjectRules}
 use Rattle.room_records.specs.Changes.{apply_to_objects, apply_all_to_objects, ObjectRulesHoldAfterEach}
-use Rattle.room_records.specs.Room.{Object, Room, IsRoom, object_at, list_of, list_under, parent_of}
+use Rattle.room_records.specs.Room.{Object, Room, object_at, list_of, list_under, parent_of}
 use Rattle.room_records.specs.Representation.{RepresentsRoom, HasPath}
 use Rattle.room_records.proofs.Paths.{reads_one, object_at_node}
 use Rattle.room_records.proofs.RoomsMap.{some_is, path_itself, other_path, parent_of_end}
@@ -23,7 +23,7 @@ use Rattle.room_tree.specs.declared.planning.Outcome.{Outcome}
 use Rattle.room_tree.specs.declared.loaded.LoadedObject.{LoadedObject}
 use Rattle.room_tree.specs.declared.moving.Move.{Move}
 use Rattle.room_commands.specs.declared.reply.RefusalCode.TheVariants.{Inval}
-use Rattle.room_commands.specs.Checks.{first_refusal, checks, refuse_if, is_root, is_at_or_below, walk}
+use Rattle.room_commands.specs.Checks.{first_refusal, checks, refuse_if, is_root, is_at_or_below}
 use Rattle.room_commands.specs.Effect.{renamed, moved}
 use Rattle.room_tree.specs.LoadedObjects.{IsLoaded, node_of}
 use Rattle.room_tree.specs.Plans.{PlansEffect}

@@ -1,5 +1,5 @@
 -- Rows after lists were put, that of one object and those below it.
-use Rattle.std.proofs.Common.{◌≡◌, ◌≢◌, ℕ, ◌+◌, ◌≤◌, refl, ap, sym, ◌∙◌, subst, arith, Bool, true, false, not, cond}
+use Rattle.std.proofs.Common.{◌≡◌, ◌≢◌, ℕ, ◌+◌, ◌≤◌, refl, ap, sym, ◌∙◌, arith, Bool, true, false, not, cond}
 use Rattle.std.proofs.Common.{eqb, ◌||◌, ◌⊎◌, inl, inr, List, [], ◌∷◌, ◌++◌, map, reverse, append-nil, Option, None}
 use Rattle.std.proofs.Common.{Some, IsTrue, count_by, MatchOption, eq-eqb}
 use Rattle.std.specs.Prelude.{Vec}

@@ -1,14 +1,14 @@
 -- Rows where one node has another folder and name stand for the room with its subtree moved.
-use Rattle.std.proofs.Common.{◌≡◌, ◌≢◌, ℕ, ◌≤◌, refl, ap, sym, ◌∙◌, subst, arith, Bool, true, false, cond, ◌⊎◌, inl}
+use Rattle.std.proofs.Common.{◌≡◌, ◌≢◌, ℕ, ◌≤◌, refl, ap, sym, ◌∙◌, arith, Bool, true, false, cond, ◌⊎◌, inl}
 use Rattle.std.proofs.Common.{inr, List, [], ◌∷◌, ◌++◌, reverse, length, drop, append_assoc, append-nil, length-append}
-use Rattle.std.proofs.Common.{Option, None, Some, IsSome, IsNone, IfSome, unwrap_or}
+use Rattle.std.proofs.Common.{Option, None, Some, IsSome, IsNone, unwrap_or}
 use Rattle.std.proofs.lemmas.List.{reverse-append, reverse-reverse, drop-append-le, drop_all, same_from_push}
 use Rattle.room_acl.specs.declared.subject.Kind.TheVariants.{Folder}
 use Rattle.room_records.specs.declared.node.Node.{Node}
 use Rattle.room_records.specs.declared.change.Change.TheVariants.{PutNode}
 use Rattle.room_records.specs.Names.{Name, Path, IsFileName}
 use Rattle.room_records.specs.Records.{ObjectRecords, IsChild}
-use Rattle.room_records.specs.Rules.{ObjectRules, IsRoot}
+use Rattle.room_records.specs.Rules.{ObjectRules}
 use Rattle.room_records.specs.Changes.{apply_to_objects}
 use Rattle.room_records.specs.Room.{Object, Room, IsRoom, object_at, list_of}
 use Rattle.room_records.specs.Representation.{RepresentsRoom, NodeIsObject, HasPath, NamesUpwards}

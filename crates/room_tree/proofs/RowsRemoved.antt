@@ -1,12 +1,12 @@
 -- Rows without one node stand for the room without its object.
-use Rattle.std.proofs.Common.{◌≡◌, ◌≢◌, ℕ, refl, ap, sym, ◌∙◌, subst, inl, inr, List, [], ◌∷◌, ◌++◌, reverse, length}
-use Rattle.std.proofs.Common.{Option, None, Some, IsSome, IsNone, IfSome, false, unwrap_or, append-nil, append_assoc}
+use Rattle.std.proofs.Common.{◌≡◌, ◌≢◌, ℕ, refl, ap, sym, ◌∙◌, inl, inr, List, [], ◌∷◌, ◌++◌, reverse, length}
+use Rattle.std.proofs.Common.{Option, None, Some, IsSome, IsNone, false, unwrap_or, append-nil, append_assoc}
 use Rattle.std.proofs.lemmas.List.{reverse-append}
 use Rattle.room_records.specs.declared.node.Node.{Node}
 use Rattle.room_records.specs.declared.change.Change.TheVariants.{DropNode}
 use Rattle.room_records.specs.Names.{Name, Path, IsPath}
 use Rattle.room_records.specs.Records.{ObjectRecords, IsChild}
-use Rattle.room_records.specs.Rules.{ObjectRules, IsRoot}
+use Rattle.room_records.specs.Rules.{ObjectRules}
 use Rattle.room_records.specs.Changes.{apply_to_objects}
 use Rattle.room_records.specs.Shelf.{name_of}
 use Rattle.room_records.specs.Room.{Object, Room, IsRoom, object_at, children, list_of}

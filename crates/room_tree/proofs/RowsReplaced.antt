@@ -1,5 +1,5 @@
 -- Rows where one object changed stand for the room with that object changed.
-use Rattle.std.proofs.Common.{◌≡◌, ◌≢◌, ℕ, ◌+◌, refl, ap, sym, ◌∙◌, subst, Bool, true, false, ◌⊎◌, inl, inr, List, []}
+use Rattle.std.proofs.Common.{◌≡◌, ◌≢◌, ℕ, ◌+◌, refl, ap, sym, ◌∙◌, Bool, true, false, ◌⊎◌, inl, inr, List, []}
 use Rattle.std.proofs.Common.{reverse, Option, Some, option_map, unwrap_or}
 use Rattle.std.proofs.lemmas.List.{reverse-reverse}
 use Rattle.room_records.specs.declared.node.Node.{Node}

@@ -1,5 +1,5 @@
 -- The rows of entries of a node hold its list; and what a list does not depend on.
-use Rattle.std.proofs.Common.{◌≡◌, ℕ, refl, ap, sym, ◌∙◌, subst, inl, inr, ◌⊎◌, List, [], ◌∷◌, reverse}
+use Rattle.std.proofs.Common.{◌≡◌, ℕ, refl, ap, sym, ◌∙◌, inl, inr, ◌⊎◌, List, [], ◌∷◌, reverse}
 use Rattle.std.proofs.Common.{Option, None, Some, IsSome, option_map}
 use Rattle.std.proofs.lemmas.List.{reverse-append}
 use Rattle.room_acl.specs.declared.subject.Kind.{Kind}
@@ -9,7 +9,7 @@ use Rattle.room_records.specs.declared.node.Node.{Node}
 use Rattle.room_records.specs.Names.{Name, Path}
 use Rattle.room_records.specs.Records.{ObjectRecords}
 use Rattle.room_records.specs.Room.{Object, Room, object_at, list_of, list_upwards, list_under, root_list}
-use Rattle.room_records.specs.Representation.{HasPath, NamesUpwards, RepresentsRoom}
+use Rattle.room_records.specs.Representation.{HasPath, RepresentsRoom}
 use Rattle.room_records.proofs.Paths.{object_at_node}
 use Rattle.room_records.proofs.RoomsMap.{Ends, ends}
 

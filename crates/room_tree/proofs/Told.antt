@@ -1,5 +1,5 @@
 -- What two reads tell of a room, one after the other.
-use Rattle.std.proofs.Common.{◌≡◌, ap, ◌∙◌, Option}
+use Rattle.std.proofs.Common.{ap, ◌∙◌, Option}
 use Rattle.room_records.specs.declared.shelf.ShelfFault.{ShelfFault}
 use Rattle.room_records.specs.Records.{ObjectRecords, Records}
 use Rattle.room_records.specs.Room.{Room}

@@ -1,10 +1,9 @@
-use Rattle.std.proofs.Common.{◌≡◌, ℕ, ◌+◌, ◌<◌, ◌^◌, refl, ap, sym, ◌∙◌, subst, arith, List, [], ◌∷◌, ◌++◌}
-use Rattle.std.proofs.Common.{length, length-append, None}
+use Rattle.std.proofs.Common.{◌≡◌, ℕ, ◌+◌, ◌<◌, ◌^◌, refl, ap, sym, ◌∙◌, arith, List, [], ◌∷◌, ◌++◌}
+use Rattle.std.proofs.Common.{length, length-append}
 use Rattle.room_records.specs.declared.change.Change.TheVariants.{PutDoc}
 use Rattle.room_records.specs.Room.{Object}
 use Rattle.room_commands.specs.CommandModel as C
-use Rattle.room_commands.specs.Checks.{walk, check_exists, check_file, check_right, check_size, bytes_at}
-use Rattle.room_tree.specs.LoadedObjects.{node_of}
+use Rattle.room_commands.specs.Checks.{check_size, bytes_at}
 use Rattle.room_commands.specs.ReplyModel.{Size}
 use Rattle.room_tree.proofs.Checking.{none_passes, first_alone, small_by_check, bytes_there, file_checks}
 use Rattle.room_tree.proofs.Changed.{is_document, replaced_plans, document_replaces}

@@ -3,7 +3,6 @@ use Rattle.room_records.specs.declared.change.Change.TheVariants.{PutNode}
 use Rattle.room_records.specs.declared.node.Node.{Node}
 use Rattle.room_records.specs.Room.{Object}
 use Rattle.room_commands.specs.CommandModel as C
-use Rattle.room_tree.specs.LoadedObjects.{node_of}
 use Rattle.room_commands.specs.ReplyModel.{reply_model}
 use Rattle.room_tree.proofs.Changed.{replaced_plans, row_replaces}
 use Rattle.room_tree.proofs.FewRows.{few_row}

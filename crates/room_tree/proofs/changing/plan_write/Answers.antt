@@ -2,8 +2,7 @@ use Rattle.std.proofs.Common.{◌≡◌, ℕ, ◌<◌, ◌^◌, refl, ap, sym, �
 use Rattle.room_records.specs.declared.change.Change.TheVariants.{PutDoc}
 use Rattle.room_records.specs.Room.{Object}
 use Rattle.room_commands.specs.CommandModel as C
-use Rattle.room_commands.specs.Checks.{walk, check_exists, check_file, check_right, check_size}
-use Rattle.room_tree.specs.LoadedObjects.{node_of}
+use Rattle.room_commands.specs.Checks.{check_size}
 use Rattle.room_commands.specs.ReplyModel.{Size}
 use Rattle.room_tree.proofs.Checking.{none_passes, first_alone, small_by_check, file_checks}
 use Rattle.room_tree.proofs.Changed.{is_document, replaced_plans, document_replaces}

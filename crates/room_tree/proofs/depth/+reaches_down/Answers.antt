@@ -1,14 +1,12 @@
-use Rattle.std.proofs.Common.{◌≡◌, ℕ, ◌+◌, ◌-◌, refl, ap, sym, ◌∙◌, subst, arith, List, [], ◌∷◌, ◌++◌, take}
+use Rattle.std.proofs.Common.{◌≡◌, ◌+◌, ◌-◌, refl, ap, sym, ◌∙◌, subst, arith, [], ◌∷◌, ◌++◌, take}
 use Rattle.std.proofs.lemmas.List.{take_more, take_all}
 use Rattle.room_records.specs.declared.node.Node.{Node}
-use Rattle.room_records.specs.Records.{ObjectRecords, Records, IsChild}
-use Rattle.room_records.specs.Rules.{ObjectRules}
-use Rattle.room_records.specs.Shelf.{AreChildren, name_of}
+use Rattle.room_records.specs.Records.{Records, IsChild}
+use Rattle.room_records.specs.Shelf.{name_of}
 use Rattle.room_records.proofs.Lists.{all_at, all_append}
 use Rattle.room_records.proofs.Shelves.{read_then}
 use Rattle.room_tree.specs.Depths.{StandsBelow}
-use Rattle.room_tree.proofs.Depths.{NoneBelowEach, itself_below, none_below_file, one_level_more}
-use Rattle.room_tree.proofs.Depths.{child_path, none_below_children}
+use Rattle.room_tree.proofs.Depths.{itself_below, none_below_file, one_level_more, child_path, none_below_children}
 use Rattle.room_tree.proofs.Told.{both_tell}
 use Rattle.room_tree.proofs.depth.+reaches_down.Goals as goal
 

@@ -1,8 +1,7 @@
-use Rattle.std.proofs.Common.{◌≡◌, ℕ, ◌-◌, refl, ap, ◌∙◌, subst, length}
+use Rattle.std.proofs.Common.{◌≡◌, ◌-◌, refl, ap, ◌∙◌, length}
 use Rattle.room_records.specs.Names.{Path}
 use Rattle.room_commands.specs.declared.reply.RefusalCode.TheVariants.{TooDeep}
 use Rattle.room_commands.specs.Checks.{refuse_if}
-use Rattle.room_tree.specs.Depths.{TellsBelow}
 use Rattle.room_tree.specs.LoadedObjects.{node_of}
 use Rattle.room_tree.proofs.Depths.{depth_check}
 use Rattle.room_tree.proofs.Stops.{refused_as}

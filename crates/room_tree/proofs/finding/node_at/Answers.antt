@@ -1,9 +1,4 @@
-use Rattle.std.proofs.Common.{◌≡◌, ◌<◌, ◌≤◌, None, Some, subst, length, get_or}
 use Rattle.std.proofs.lemmas.List.{take_all}
-use Rattle.room_records.specs.Names.{Path}
-use Rattle.room_records.specs.Shelf.{IsChildNamed}
-use Rattle.room_records.specs.Records.{Records}
-use Rattle.room_records.specs.Representation.{HasPath}
 use Rattle.room_records.proofs.Paths.{none_on_the_way, one_further}
 use Rattle.room_records.proofs.Shelves.{read_then}
 use Rattle.room_tree.proofs.finding.node_at.Goals as goal

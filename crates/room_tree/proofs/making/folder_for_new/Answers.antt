@@ -1,4 +1,4 @@
-use Rattle.std.proofs.Common.{◌≡◌, ◌-◌, ap, ◌∙◌, subst, [], ◌∷◌, take, length}
+use Rattle.std.proofs.Common.{◌≡◌, ◌-◌, ap, ◌∙◌, [], ◌∷◌, take, length}
 use Rattle.room_records.specs.Names.{Path}
 use Rattle.room_records.specs.Room.{parent_of}
 use Rattle.room_commands.specs.declared.reply.RefusalCode.TheVariants.{Exist}

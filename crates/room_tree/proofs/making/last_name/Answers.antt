@@ -1,6 +1,5 @@
-use Rattle.std.proofs.Common.{◌≡◌, ◌-◌, ap, ◌∙◌, subst, arith, [], ◌∷◌, ◌++◌, length, get_or, Some}
+use Rattle.std.proofs.Common.{◌≡◌, ◌-◌, ap, ◌∙◌, arith, [], ◌∷◌, ◌++◌, length, Some}
 use Rattle.std.proofs.lemmas.List.{length_push, get_or_push}
-use Rattle.room_records.specs.Names.{Path}
 use Rattle.room_tree.proofs.making.last_name.Goals as goal
 
 pub returns : goal.returns

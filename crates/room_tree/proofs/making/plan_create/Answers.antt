@@ -1,9 +1,7 @@
-use Rattle.std.proofs.Common.{◌≡◌, ◌<◌, ◌^◌, arith, ap, sym, ◌∙◌, List, [], ◌∷◌, None, length}
+use Rattle.std.proofs.Common.{◌≡◌, ◌<◌, ◌^◌, arith, ap, sym, ◌∙◌, ◌∷◌, None, length}
 use Rattle.room_records.specs.Records.{Records}
 use Rattle.room_records.specs.Room.{parent_of}
-use Rattle.room_commands.specs.declared.reply.RefusalCode.TheVariants.{Exist}
-use Rattle.room_commands.specs.Checks.{refuse_if, is_root, walk, check_absent, check_right, check_size}
-use Rattle.room_commands.specs.Checks.{check_folder_full, check_room_full}
+use Rattle.room_commands.specs.Checks.{check_size}
 use Rattle.room_commands.specs.ReplyModel.{Size}
 use Rattle.room_tree.proofs.Checking.{none_passes, stop, small_by_check, limit_checks, new_checks}
 use Rattle.room_tree.proofs.Made.{create_plans}

@@ -1,9 +1,6 @@
-use Rattle.std.proofs.Common.{ap, ◌∙◌, List, [], ◌∷◌, refl}
+use Rattle.std.proofs.Common.{ap, ◌∙◌, refl}
 use Rattle.room_records.specs.Records.{Records}
 use Rattle.room_records.specs.Room.{parent_of}
-use Rattle.room_commands.specs.declared.reply.RefusalCode.TheVariants.{Exist}
-use Rattle.room_commands.specs.Checks.{refuse_if, is_root, walk, check_absent, check_right}
-use Rattle.room_commands.specs.Checks.{check_folder_full, check_room_full}
 use Rattle.room_tree.proofs.Checking.{limit_checks, new_checks}
 use Rattle.room_tree.proofs.Made.{mkdir_plans}
 use Rattle.room_tree.proofs.Stops.{handed_on, in_front, past_front}

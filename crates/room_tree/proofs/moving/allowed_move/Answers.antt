@@ -1,4 +1,4 @@
-use Rattle.std.proofs.Common.{ap, sym, ◌∙◌, ◌++◌, ◌||◌}
+use Rattle.std.proofs.Common.{sym, ◌∙◌, ◌++◌, ◌||◌}
 use Rattle.room_commands.specs.declared.reply.RefusalCode.TheVariants.{Inval}
 use Rattle.room_commands.specs.Checks.{refuse_if, is_root, is_at_or_below}
 use Rattle.room_tree.specs.Renames.{end_checks, move_rights}

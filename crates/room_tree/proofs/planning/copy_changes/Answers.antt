@@ -1,7 +1,5 @@
-use Rattle.std.proofs.Common.{◌≡◌, ◌∷◌, ◌++◌, ◌+◌, [], List, ap, sym, ◌∙◌, subst, rules, take}
+use Rattle.std.proofs.Common.{◌≡◌, ◌∷◌, ◌++◌, ◌+◌, [], ap, sym, ◌∙◌, rules, take}
 use Rattle.std.proofs.lemmas.List.{take_more}
-use Rattle.room_records.specs.declared.change.Change.{Change}
-use Rattle.room_records.specs.Mem.{AreSameChanges}
 use Rattle.room_records.proofs.MemRecords.{same_push}
 use Rattle.room_tree.proofs.planning.copy_changes.Goals as goal
 

@@ -1,5 +1,4 @@
-use Rattle.std.proofs.Common.{ap, ◌∙◌, [], ◌∷◌}
-use Rattle.room_commands.specs.Checks.{check_exists, walk}
+use Rattle.std.proofs.Common.{◌∙◌}
 use Rattle.room_tree.specs.LoadedObjects.{use_checks}
 use Rattle.room_tree.proofs.Checking.{none_passes, found_checks}
 use Rattle.room_tree.proofs.Stops.{handed_on, in_front, past_front}

@@ -1,4 +1,4 @@
-use Rattle.std.proofs.Common.{◌≡◌, sym, subst, IsSome, Option, None, ℕ}
+use Rattle.std.proofs.Common.{◌≡◌, IsSome, Option, None}
 use Rattle.room_acl.specs.Bits.{IsMask}
 use Rattle.room_tree.proofs.Replies.{common_is_mask}
 use Rattle.room_tree.proofs.reading.common_bits.Goals as goal

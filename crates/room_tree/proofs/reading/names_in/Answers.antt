@@ -1,7 +1,4 @@
-use Rattle.std.proofs.Common.{sym, ◌∙◌, subst}
-use Rattle.room_records.specs.Records.{ObjectRecords}
-use Rattle.room_records.specs.Rules.{ObjectRules}
-use Rattle.room_records.specs.Shelf.{AreChildren}
+use Rattle.std.proofs.Common.{◌∙◌}
 use Rattle.room_records.proofs.Folders.{nodes_are_children}
 use Rattle.room_tree.proofs.Replies.{all_listed}
 use Rattle.room_tree.proofs.reading.names_in.Goals as goal

@@ -4,7 +4,7 @@ use Rattle.std.specs.Prelude.{nat_lt}
 use borrow.Author.Tests.{ltb-false}
 use Rattle.room_commands.specs.declared.reply.RefusalCode.TheVariants.{Inval, NotEmpty}
 use Rattle.room_commands.specs.ReplyModel.{reply_model}
-use Rattle.room_commands.specs.Checks.{refuse_if, is_root, walk, check_exists, check_removal}
+use Rattle.room_commands.specs.Checks.{refuse_if, is_root}
 use Rattle.room_tree.proofs.Checking.{none_passes, first_alone, removal_checks}
 use Rattle.room_commands.proofs.ChecksTell.{not_refused}
 use Rattle.room_commands.proofs.Rights.{all_none}

@@ -1,5 +1,4 @@
-use Rattle.std.proofs.Common.{◌≡◌, ap, ◌∙◌, subst, [], ◌∷◌, length}
-use Rattle.room_records.specs.Names.{Path}
+use Rattle.std.proofs.Common.{ap, ◌∙◌, [], ◌∷◌}
 use Rattle.room_commands.specs.declared.reply.RefusalCode.TheVariants.{Inval}
 use Rattle.room_commands.specs.Checks.{refuse_if, is_root, walk, check_exists, check_removal}
 use Rattle.room_tree.proofs.Checking.{skip, off_root, none_passes, first_alone, found_checks}

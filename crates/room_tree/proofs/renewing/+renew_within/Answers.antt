@@ -1,19 +1,16 @@
 use Rattle.std.proofs.Common.{◌≡◌, ℕ, ◌+◌, ◌-◌, ◌<◌, ◌≤◌, ap, sym, ◌∙◌, subst, arith, List, [], ◌∷◌, ◌++◌, length}
 use Rattle.std.proofs.Common.{append-nil, append_assoc, length-append, Some}
 use Rattle.room_acl.specs.declared.subject.Kind.TheVariants.{File}
-use Rattle.room_acl.specs.Entries.{EntryModel}
 use Rattle.room_records.specs.declared.change.Change.{Change}
 use Rattle.room_records.specs.declared.change.Change.TheVariants.{PutEntries}
 use Rattle.room_records.specs.declared.node.Node.{Node}
 use Rattle.room_records.specs.Limits.{max_names}
 use Rattle.room_records.specs.Names.{Name, Path}
 use Rattle.room_records.specs.Records.{ObjectRecords, Records, IsChild}
-use Rattle.room_records.specs.Rules.{ObjectRules}
-use Rattle.room_records.specs.Shelf.{AreChildren, name_of}
+use Rattle.room_records.specs.Shelf.{name_of}
 use Rattle.room_records.proofs.Lists.{all_at}
 use Rattle.room_records.proofs.Shelves.{read_then}
 use Rattle.room_records.proofs.RoomsMap.{some_is}
-use Rattle.room_tree.specs.Renewals.{RenewsBelow}
 use Rattle.room_tree.proofs.Depths.{child_path}
 use Rattle.room_tree.proofs.RenewingParts.{child_stays, renews_child}
 use Rattle.room_tree.proofs.RenewingChildren.{renews_lowest, renews_file, none_so_far, one_more_so_far, all_so_far}

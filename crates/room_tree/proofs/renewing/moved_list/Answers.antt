@@ -1,7 +1,6 @@
-use Rattle.std.proofs.Common.{◌≡◌, ◌≢◌, ℕ, ap, sym, ◌∙◌, subst, true, eqb, List, Option, None, Some, IfOk, MatchOption}
+use Rattle.std.proofs.Common.{◌≡◌, ℕ, ap, sym, ◌∙◌, true, eqb, Option, None, Some}
 use Rattle.std.specs.Option.{option_eq}
 use Rattle.std.proofs.lemmas.Bool.{eqb-true}
-use Rattle.room_acl.specs.Entries.{EntryModel}
 use Rattle.room_tree.proofs.ListsByRows.{stays_in_folder, under_alike}
 use Rattle.room_tree.proofs.Told.{both_tell}
 use Rattle.room_tree.proofs.renewing.moved_list.Goals as goal

@@ -1,10 +1,6 @@
-use Rattle.std.proofs.Common.{ap, sym, ◌∙◌, subst, [], append-nil}
-use Rattle.std.specs.Prelude.{OnOk}
+use Rattle.std.proofs.Common.{ap, sym, ◌∙◌, [], append-nil}
 use Rattle.room_records.specs.declared.node.Node.{Node}
-use Rattle.room_records.specs.Records.{ObjectRecords}
-use Rattle.room_records.specs.Representation.{HasPath, RepresentsRoom}
 use Rattle.room_records.proofs.RoomsMap.{some_is}
-use Rattle.room_tree.specs.Renewals.{AddsRenewals}
 use Rattle.room_tree.proofs.RenewingChildren.{renews_file}
 use Rattle.room_tree.proofs.renewing.renew_below.Goals as goal
 

@@ -1,10 +1,6 @@
-use Rattle.std.proofs.Common.{ap, sym, ◌∙◌, subst, List, [], ◌∷◌, ◌++◌, Option}
-use Rattle.std.specs.Prelude.{Vec}
-use Rattle.std.specs.declared.alloc.Global.{Global}
-use Rattle.room_acl.specs.Entries.{EntryModel}
+use Rattle.std.proofs.Common.{ap, ◌∙◌, List, [], ◌∷◌, ◌++◌}
 use Rattle.room_records.specs.declared.change.Change.{Change}
 use Rattle.room_records.specs.declared.change.Change.TheVariants.{PutEntries, PutNode}
-use Rattle.room_tree.specs.Renewals.{PutsList, RenewsBelow}
 use Rattle.room_tree.proofs.renewing.with_list.Goals as goal
 
 pub returns-in_default-clause-value : goal.returns-in_default-clause-value

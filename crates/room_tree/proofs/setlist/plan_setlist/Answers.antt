@@ -1,20 +1,15 @@
-use Rattle.std.proofs.Common.{◌≡◌, ap, sym, ◌∙◌, subst, List, [], ◌∷◌, Some, refl}
+use Rattle.std.proofs.Common.{◌≡◌, ap, sym, ◌∙◌, [], ◌∷◌, refl}
 use Rattle.std.specs.List.{filter_map}
-use Rattle.room_acl.specs.Inheritance.{own_entries_fault}
-use Rattle.room_acl.specs.Entries.{EntryModel}
-use Rattle.room_acl.specs.Inheritance.{with_inherited}
+use Rattle.room_acl.specs.Inheritance.{own_entries_fault, with_inherited}
 use Rattle.room_records.specs.Records.{Records}
-use Rattle.room_records.specs.declared.node.Node.{Node}
-use Rattle.room_records.specs.Representation.{HasPath}
 use Rattle.room_records.specs.Room.{object_at}
 use Rattle.room_commands.specs.SetList.{own_entries_of_setlist}
 use Rattle.room_tree.specs.LoadedObjects.{node_of, kept_entry}
-use Rattle.room_tree.specs.Renewals.{PutsList, entries_of}
+use Rattle.room_tree.specs.Renewals.{entries_of}
 use Rattle.room_commands.specs.Checks.{walk, check_exists, check_right, check_lawful, kind_of}
 use Rattle.room_tree.proofs.Checking.{none_passes, first_alone, there}
 use Rattle.room_tree.proofs.Marks.{kept_is}
 use Rattle.room_tree.proofs.Relisted.{setlist_plans}
-use Rattle.room_tree.proofs.Renewed.{IsChangeOf}
 use Rattle.room_tree.proofs.Stops.{handed_on, in_front}
 use Rattle.room_tree.proofs.setlist.plan_setlist.Goals as goal
 

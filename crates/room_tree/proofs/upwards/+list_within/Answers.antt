@@ -1,8 +1,7 @@
-use Rattle.std.proofs.Common.{◌≡◌, ℕ, ◌≤◌, ◌-◌, ap, sym, ◌∙◌, subst, arith, cond, [], ◌++◌, length, Some, List}
+use Rattle.std.proofs.Common.{◌≡◌, ◌≤◌, ◌-◌, ap, sym, ◌∙◌, arith, cond, [], ◌++◌, length, Some, List}
 use Rattle.room_acl.specs.Entries.{EntryModel}
 use Rattle.room_acl.specs.Inheritance.{handed_down, own_part}
 use Rattle.room_records.specs.Records.{ObjectRecords, Records}
-use Rattle.room_records.specs.Representation.{HasPath}
 use Rattle.room_records.specs.Room.{follows}
 use Rattle.room_records.proofs.Paths.{own_number}
 use Rattle.room_tree.proofs.ListsUpwards.{node_there, list_ends, goes_on}

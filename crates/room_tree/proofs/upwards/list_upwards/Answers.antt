@@ -1,6 +1,5 @@
-use Rattle.std.proofs.Common.{◌≡◌, ℕ, ap, sym, ◌∙◌, subst, Some}
+use Rattle.std.proofs.Common.{◌≡◌, ap, sym, ◌∙◌, Some}
 use Rattle.room_records.specs.Records.{Records}
-use Rattle.room_records.specs.Representation.{HasPath}
 use Rattle.room_records.proofs.Paths.{own_number}
 use Rattle.room_records.proofs.RoomsMap.{none_is_some}
 use Rattle.room_tree.proofs.ListsUpwards.{node_there, few_names}

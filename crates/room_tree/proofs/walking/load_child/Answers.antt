@@ -1,6 +1,3 @@
-use Rattle.std.proofs.Common.{subst, None, Some}
-use Rattle.room_records.specs.Records.{ObjectRecords}
-use Rattle.room_records.specs.Shelf.{IsChildNamed}
 use Rattle.room_records.proofs.Paths.{no_child}
 use Rattle.room_tree.proofs.LoadedObjects.{child_is_loaded}
 use Rattle.room_tree.proofs.walking.load_child.Goals as goal

@@ -1,9 +1,8 @@
-use Rattle.std.proofs.Common.{◌≡◌, ℕ, ◌+◌, ◌<◌, ◌≤◌, refl, ap, ◌∙◌, subst, take, length, get_or, arith, []}
+use Rattle.std.proofs.Common.{◌≡◌, ℕ, refl, ap, ◌∙◌, subst, take, length, get_or, arith, []}
 use Rattle.std.proofs.lemmas.List.{get_or_default, take_all}
-use Rattle.room_records.specs.Names.{Path}
 use Rattle.room_records.specs.Records.{Records}
 use Rattle.room_records.proofs.Shelves.{read_then}
-use Rattle.room_tree.specs.LoadedObjects.{IsLoaded, IsAbove}
+use Rattle.room_tree.specs.LoadedObjects.{IsLoaded}
 use Rattle.room_tree.proofs.Walks.{walk_stopped, walk_goes_on, walk_ends, walk_is_cut, last_is_absent}
 use Rattle.room_tree.proofs.Walks.{next_is_there, last_folder, walk_done}
 use Rattle.room_tree.proofs.Stops.{handed_on, refused_as}
