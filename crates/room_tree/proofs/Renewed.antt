@@ -118,10 +118,10 @@ put_found P (p ∷ puts) id each found = by_test (eqb id p.0) refl found (put_fo
     by_test true same h rest = ((p.1.items, rw (eqb-true id p.0 same) each.0))
     by_test false other h rest = rest h
 
-abbrev one_if : Bool → ℕ
+abbrev pub one_if : Bool → ℕ
 one_if b = cond b 1 0
 
-one_or_none : (b : Bool) → one_if b ≤ 1
+pub one_or_none : (b : Bool) → one_if b ≤ 1
 one_or_none true = omega arith
 one_or_none false = omega arith
 
@@ -145,7 +145,7 @@ no_others (p ∷ puts) =
     omega (arith, more, rest)
 
 -- what is put below
-split_renewals : (t : ObjectRecords) (room : Room) (path : Path) (list : List EntryModel) (changes : List Change)
+pub split_renewals : (t : ObjectRecords) (room : Room) (path : Path) (list : List EntryModel) (changes : List Change)
     → AllByRecursion (IsRenewal t room path list) changes
     → (puts : Puts) × (changes ≡ map put puts) × EachPut (IsRenewed t room path list) puts
 split_renewals t room path list [] each = ([], refl, tt)
@@ -176,7 +176,7 @@ pub record Relists (t : ObjectRecords) (room : Room) (path : Path) (list : List 
       ⊎ IsTrue (list_any (puts_entries_of id) (map put puts))
   pub once : (id : ℕ) → count_by (puts_entries_of id) (map put puts) ≤ 1
 
-or_true : (b : Bool) → (b || true) ≡ true
+pub or_true : (b : Bool) → (b || true) ≡ true
 or_true true = refl
 or_true false = refl
 

@@ -20,14 +20,11 @@ use Rattle.room_records.specs.Representation.{HasPath, RepresentsRoom}
 use Rattle.room_records.proofs.Lists.{all_append}
 use Rattle.room_records.proofs.Paths.{reads_one}
 use Rattle.room_tree.specs.Renewals.{list_below, IsRenewed, IsRenewal, RenewsBelow, puts_entries_of}
+use Rattle.room_tree.proofs.Renewed.{one_if, one_or_none, or_true, split_renewals, put_found}
 use Rattle.room_tree.proofs.ListsRenewed.{lists_stay}
 use Rattle.room_tree.proofs.RenewingLists.{list_below_child}
 use Rattle.room_tree.proofs.RowsReplaced.{path_of_node}
 use Rattle.room_tree.proofs.StoredLists.{stored_list}
-
-or_true : (b : Bool) → (b || true) ≡ true
-or_true true = refl
-or_true false = refl
 
 left_of_or : (b : Bool) → (b || false) ≡ true → b ≡ true
 left_of_or true e = refl
@@ -35,9 +32,6 @@ left_of_or false e = e
 
 count_append : {X : Type 0} (p : X → Bool) (xs ys : List X) → count_by p (xs ++ ys) ≡ count_by p xs + count_by p ys
 count_append p xs ys = sum_by-append (λ x. cond (p x) 1 0) xs ys
-
-abbrev one_if : Bool → ℕ
-one_if b = cond b 1 0
 
 none_counted : {X : Type 0} (p : X → Bool) (xs : List X) → list_any p xs ≡ false → count_by p xs ≡ 0
 none_counted p [] none = refl
@@ -52,32 +46,14 @@ none_counted p (x ∷ xs) none = by_test (p x) refl none (none_counted p xs)
         let others : count_by p xs ≡ 0 = rest h in
         omega (arith, more, first, others)
 
-one_counted : (b : Bool) → one_if b ≤ 1
-one_counted true = omega arith
-one_counted false = omega arith
-
 -- what is put is renewed
 pub put_is_renewed : (t : ObjectRecords) (room : Room) (path : Path)
     (list : List EntryModel) (changes : List Change) (id : ℕ)
     → AllByRecursion (IsRenewal t room path list) changes → list_any (puts_entries_of id) changes ≡ true
     → (entries : List EntryModel) × IsRenewed t room path list id entries
-put_is_renewed t room path list [] id each found = absurd (let f : false ≡ true = found in cc)
-put_is_renewed t room path list (PutEntries at entries ∷ changes) id each found =
-    by_test (eqb id at) refl found (put_is_renewed t room path list changes id each.1)
-  where
-    by_test : (b : Bool) → eqb id at ≡ b → (b || list_any (puts_entries_of id) changes) ≡ true
-        → (list_any (puts_entries_of id) changes ≡ true
-        → (list_put : List EntryModel) × IsRenewed t room path list id list_put)
-        → (list_put : List EntryModel) × IsRenewed t room path list id list_put
-    by_test true same h later = (entries.items, rw (eqb-true id at same) each.0)
-    by_test false other h later = later h
-put_is_renewed t room path list (PutNode node ∷ changes) id each found = absurd each.0
-put_is_renewed t room path list (DropNode gone ∷ changes) id each found = absurd each.0
-put_is_renewed t room path list (PutDoc at bytes ∷ changes) id each found = absurd each.0
-put_is_renewed t room path list (PutSession row ∷ changes) id each found = absurd each.0
-put_is_renewed t room path list (PutSlot row ∷ changes) id each found = absurd each.0
-put_is_renewed t room path list (DropSlots sid ∷ changes) id each found = absurd each.0
-put_is_renewed t room path list (PutNext next ∷ changes) id each found = absurd each.0
+put_is_renewed t room path list changes id each found =
+    let split = split_renewals t room path list changes each in
+    put_found (IsRenewed t room path list) split.0 id split.2 (rw split.1 at found)
 
 -- these changes renew the lists of the objects below a path whose further names are among these, and no others
 pub record Renews (t : ObjectRecords) (room : Room) (path : Path) (list : List EntryModel)
@@ -229,7 +205,7 @@ module _ (t : ObjectRecords) (room : Room) (path : Path) (list : List EntryModel
       once = λ k.
           let more =
           sum_by-cons (λ (change : Change). cond (puts_entries_of k change) 1 0) (PutEntries id entries) [] in
-          let one : one_if (eqb k id) ≤ 1 = one_counted (eqb k id) in
+          let one : one_if (eqb k id) ≤ 1 = one_or_none (eqb k id) in
           omega (arith, more, one);
     }
 

@@ -14,6 +14,7 @@ use Rattle.room_records.specs.Room.{Object, Room, IsRoom, object_at, list_of}
 use Rattle.room_records.specs.Representation.{RepresentsRoom, NodeIsObject, RowsShowObject, HasPath, NamesUpwards}
 use Rattle.room_records.proofs.RoomsMap.{some_is, none_is_some}
 use Rattle.room_records.proofs.RulesKept.{same_or_other, if_same, if_other, some_or_none}
+use Rattle.room_tree.proofs.RowsReplaced.{still_shows}
 
 -- a row for a number that is free, in a folder that has not its name
 pub record IsFree (t : ObjectRecords) (node : Node) (above : ℕ) (name : Name) : Type 0 where
@@ -157,15 +158,8 @@ module _ {t later : ObjectRecords} {room after : Room} {path : Path} {o : Object
         at = added_keeps q id is.at;
         node_stands = a.nodes_away id other ∙ is.node_stands;
         object_stands = a.old q p is.object_stands;
-        shows = record {
-          kind = is.shows.kind;
-          owner = is.shows.owner;
-          group = is.shows.group;
-          aclflag = is.shows.aclflag;
-          entries = ap later.entries number ∙ a.lists_away q id is.at;
-          bytes = ap (λ (d : Option (List ℕ)). unwrap_or d [])
-              (a.documents_away found.id other_number) ∙ is.shows.bytes;
-        };
+        shows = still_shows is.shows (ap later.entries number ∙ a.lists_away q id is.at)
+            (a.documents_away found.id other_number);
       }
 
   new_is : NodeIsObject later after node.id node path o

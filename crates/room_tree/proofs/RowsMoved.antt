@@ -21,7 +21,7 @@ use Rattle.room_tree.proofs.Changed.{none_and_some}
 use Rattle.room_commands.proofs.Renaming.{at_behind}
 use Rattle.room_commands.proofs.RoomsRenamed.{rest_below, below_more, not_both, at_moved, Stands, Moved}
 use Rattle.room_commands.proofs.RoomsRenamed.{Stayed, stands_after}
-use Rattle.room_tree.proofs.RowsReplaced.{path_of_node}
+use Rattle.room_tree.proofs.RowsReplaced.{path_of_node, still_shows}
 
 -- an object below a path, but not at it, has its folder there too
 below_parent : (q path : Path) (name : Name) → is_at_or_below (q ++ name ∷ []) path ≡ true
@@ -297,9 +297,6 @@ module _ {t : ObjectRecords} {room : Room} (stand : RepresentsRoom t room) {path
     row_after : (id : ℕ) → rows.node id ≡ later.node id
     row_after id = ap (λ (f : ℕ → Option Node). f id) w.nodes
 
-    bytes_after : (id : ℕ) → unwrap_or (rows.document id) [] ≡ unwrap_or (t.document id) []
-    bytes_after id = ap (λ (f : ℕ → Option (List ℕ)). unwrap_or (f id) []) w.documents
-
     -- numbers are kept
     pub moved_keeps : (q : Path) (id : ℕ) → HasPath t q id → HasPath rows (moved path to q) id
     moved_keeps q id at =
@@ -323,7 +320,7 @@ module _ {t : ObjectRecords} {room : Room} (stand : RepresentsRoom t room) {path
                 group = m.group ∙ ap (λ (n : Node). n.group) same_node ∙ is.shows.group;
                 aclflag = m.aclflag ∙ ap (λ (n : Node). n.aclflag) same_node ∙ is.shows.aclflag;
                 entries = ap rows.entries (m.id ∙ sym same) ∙ w.lists q id is.at;
-                bytes = bytes_after now.id
+                bytes = ap (λ (f : ℕ → Option (List ℕ)). unwrap_or (f now.id) []) w.documents
                     ∙ ap (λ k. unwrap_or (t.document k) []) (m.id ∙ ap (λ (n : Node). n.id) same_node) ∙ is.shows.bytes;
               };
             },
@@ -334,14 +331,9 @@ module _ {t : ObjectRecords} {room : Room} (stand : RepresentsRoom t room) {path
           at = moved_keeps q id is.at;
           node_stands = row_after id ∙ away id other ∙ is.node_stands;
           object_stands = stands_there;
-          shows = record {
-            kind = is.shows.kind;
-            owner = is.shows.owner;
-            group = is.shows.group;
-            aclflag = is.shows.aclflag;
-            entries = ap rows.entries (stand.rules.numbered id found is.node_stands).0 ∙ w.lists q id is.at;
-            bytes = bytes_after found.id ∙ is.shows.bytes;
-          };
+          shows = still_shows is.shows
+              (ap rows.entries (stand.rules.numbered id found is.node_stands).0 ∙ w.lists q id is.at)
+              (ap (λ (f : ℕ → Option (List ℕ)). f found.id) w.documents);
         },
       )
     ]

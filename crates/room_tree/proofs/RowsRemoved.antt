@@ -32,7 +32,7 @@ use Rattle.room_commands.proofs.EffectIsRoom.{changed_is_room}
 use Rattle.room_tree.proofs.Made.{ends_of}
 use Rattle.room_tree.proofs.Outcomes.{success_plans}
 use Rattle.room_commands.proofs.RoomsWithout.{at_removed, elsewhere_left, left_was_there}
-use Rattle.room_tree.proofs.RowsReplaced.{path_of_node}
+use Rattle.room_tree.proofs.RowsReplaced.{path_of_node, still_shows}
 
 module _ {t : ObjectRecords} {room : Room} (stand : RepresentsRoom t room) {path : Path} {id : ℕ} {node : Node}
     {o : Object} (is : NodeIsObject t room id node path o) (end : Ends path)
@@ -133,16 +133,10 @@ module _ {t : ObjectRecords} {room : Room} (stand : RepresentsRoom t room) {path
         at = names_stay (reverse q) k at.at other;
         node_stands = forth k found at.node_stands other;
         object_stands = elsewhere_left room path q away ∙ at.object_stands;
-        shows = record {
-          kind = at.shows.kind;
-          owner = at.shows.owner;
-          group = at.shows.group;
-          aclflag = at.shows.aclflag;
-          entries = if_other found.id id [] (t.entries found.id) apart
-              ∙ at.shows.entries ∙ lists_stay q p at.object_stands away;
-          bytes = ap (λ (d : Option (List ℕ)). unwrap_or d [])
-              (if_other found.id id None (t.document found.id) apart) ∙ at.shows.bytes;
-        };
+        shows = still_shows at.shows
+            (if_other found.id id [] (t.entries found.id) apart ∙ at.shows.entries
+            ∙ lists_stay q p at.object_stands away)
+            (if_other found.id id None (t.document found.id) apart);
       }
     where
       reads_same : (q : Path) (a b : ℕ) → HasPath t q a → HasPath t q b → a ≡ b

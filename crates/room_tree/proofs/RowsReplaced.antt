@@ -26,6 +26,19 @@ path_same_or_other a b = by_test (path_eq a b) refl
     by_test true e = inl (same_path a b e)
     by_test false e = inr (λ same. let f : true ≡ false = sym (ap (path_eq a) (sym same) ∙ path_itself a) ∙ e in cc)
 
+-- a row that stays shows what it showed
+pub still_shows : {t later : ObjectRecords} {room after : Room} {path to : Path} {node : Node} {o : Object}
+    → RowsShowObject t node room path o → later.entries node.id ≡ list_of after to
+    → later.document node.id ≡ t.document node.id → RowsShowObject later node after to o
+still_shows shows entries document = record {
+  kind = shows.kind;
+  owner = shows.owner;
+  group = shows.group;
+  aclflag = shows.aclflag;
+  entries = entries;
+  bytes = ap (λ (d : Option (List ℕ)). unwrap_or d []) document ∙ shows.bytes;
+}
+
 -- one node of the rows changed, and stays where it is
 pub record Replaces (t later : ObjectRecords) (room after : Room)
     (path : Path) (o now_is : Object) (node now : Node) : Type 0 where
@@ -70,14 +83,8 @@ module _ {t later : ObjectRecords} {room after : Room} {path : Path} {o now_is :
         at = stays_at q id is.at;
         node_stands = r.nodes_away id other ∙ is.node_stands;
         object_stands = r.away q moved ∙ is.object_stands;
-        shows = record {
-          kind = is.shows.kind;
-          owner = is.shows.owner;
-          group = is.shows.group;
-          aclflag = is.shows.aclflag;
-          entries = ap later.entries number ∙ r.lists_away q id is.at other;
-          bytes = ap (λ (d : Option (List ℕ)). unwrap_or d []) (r.documents_away found.id apart) ∙ is.shows.bytes;
-        };
+        shows = still_shows is.shows (ap later.entries number ∙ r.lists_away q id is.at other)
+            (r.documents_away found.id apart);
       }
 
   pub replaced : RepresentsRoom later after

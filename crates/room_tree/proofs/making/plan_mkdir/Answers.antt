@@ -1,6 +1,7 @@
 use Rattle.std.proofs.Common.{ap, ◌∙◌, refl}
 use Rattle.room_records.specs.Records.{Records}
 use Rattle.room_records.specs.Room.{parent_of}
+use Rattle.room_records.proofs.Shelves.{read_then}
 use Rattle.room_tree.proofs.Checking.{limit_checks, new_checks}
 use Rattle.room_tree.proofs.Made.{mkdir_plans}
 use Rattle.room_tree.proofs.Stops.{handed_on, in_front, past_front}
@@ -26,15 +27,13 @@ returns-in_err-id-clause-effect g c = λ available laid_out t e room stand.
 pub returns-clause-effect : goal.returns-clause-effect
 returns-clause-effect g c = λ available laid_out t e room stand.
     let path = c.args.path.now in
-    let numbered = c.list_for_new.ensures.frame.call.was_available available in
-    let before = c.number_for_new.ensures.frame.call.was_available numbered in
-    let reached = c.in_ok-above.ensures.value before laid_out t e room stand in
-    let declared = c.folder_for_new.ensures.frame.call.laid_out before laid_out in
-    let same = ap (λ (r : Records). r.objects) (c.folder_for_new.ensures.frame.same before laid_out) ∙ e in
-    let number = c.in_ok-id.ensures.value numbered declared t same room stand (parent_of path) reached.1 in
-    let listing = c.number_for_new.ensures.frame.call.laid_out numbered declared in
-    let same_then = ap (λ (r : Records). r.objects) (c.number_for_new.ensures.frame.same numbered declared) ∙ same in
-    let given = c.in_ok-list.ensures.value available listing t same_then room stand (parent_of path) reached.1 in
+    let told = both_tell _ _ c.folder_for_new.ensures.frame
+    (read_then _ _ _ _ c.list_for_new.ensures.frame c.in_ok-id.ensures.frame) c.in_ok-above.ensures.value
+    (both_tell _ _ c.in_ok-id.ensures.frame c.list_for_new.ensures.frame c.in_ok-id.ensures.value
+    c.in_ok-list.ensures.value) available laid_out t e room stand in
+    let reached = told.0 in
+    let number = told.1.0 (parent_of path) reached.1 in
+    let given = told.1.1 (parent_of path) reached.1 in
     mkdir_plans c.in_ok-list.list _ stand c.in_ok-above.ensures.lawful reached.0 reached.1
     number c.in_ok-node.ensures given
     c.in_ok-changes.ensures refl

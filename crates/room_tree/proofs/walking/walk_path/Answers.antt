@@ -39,20 +39,17 @@ returns-then-index-names-clause-value g c = λ available laid_out t e room stand
     let path = c.args.path.now in
     let i = c.loop-index.index in
     let name = c.index-names-index.result in
-    let checked = c.load_child.ensures.frame.call.was_available available in
-    let before = c.check_way.ensures.frame.call.was_available checked in
-    let declared = c.loop-index.invariant.frame.call.laid_out before laid_out in
-    let same = ap (λ (r : Records). r.objects) (c.loop-index.invariant.frame.same before laid_out) ∙ e in
-    let allowed = c.check_way.ensures.frame.call.laid_out checked declared in
-    let stays = ap (λ (r : Records). r.objects) (c.check_way.ensures.frame.same checked declared) ∙ same in
-    let so = c.loop-index.invariant.walked before laid_out t e room stand in
+    let told = both_tell _ _ c.loop-index.invariant.frame
+    (read_then _ _ _ _ c.load_child.ensures.frame c.in_ok-check_way.ensures.frame) c.loop-index.invariant.walked
+    (both_tell _ _ c.in_ok-check_way.ensures.frame c.load_child.ensures.frame c.in_ok-check_way.ensures.value
+    c.in_ok-next.ensures.value) available laid_out t e room stand in
+    let so = told.0 in
     let below = rw c.names-names.ensures.value at c.loop-index-test.true in
     refused_as c.of-then-index-names.result _ c.of-then-index-names.ensures
     (walk_is_cut room c.args.subject.now path i name below
     (rw (← c.names-names.ensures.value) c.index-names-index.is) so.0
-    (c.in_ok-check_way.ensures.value checked declared t same room stand (take i path) refl so.1).0
-    (rw c.in_default-2.is at (c.in_ok-next.ensures.value available allowed
-    t stays room stand (take i path) so.1))
+    (told.1.0 (take i path) refl so.1).0
+    (rw c.in_default-2.is at (told.1.1 (take i path) so.1))
     (rw (← c.names-names.ensures.value) c.if-index-names.true))
 
 pub loop-index-preserved : goal.loop-index-preserved
@@ -67,19 +64,16 @@ loop-index-preserved g c =
           (read_then _ _ _ _ c.in_ok-check_way.ensures.frame c.loop-index.invariant.frame);
       names = c.loop-index.invariant.names;
       walked = λ available laid_out t e room stand.
-          let checked = c.load_child.ensures.frame.call.was_available available in
-          let before = c.check_way.ensures.frame.call.was_available checked in
-          let declared = c.loop-index.invariant.frame.call.laid_out before laid_out in
-          let same = ap (λ (r : Records). r.objects) (c.loop-index.invariant.frame.same before laid_out) ∙ e in
-          let allowed = c.check_way.ensures.frame.call.laid_out checked declared in
-          let stays = ap (λ (r : Records). r.objects) (c.check_way.ensures.frame.same checked declared) ∙ same in
-          let so = c.loop-index.invariant.walked before laid_out t e room stand in
+          let told = both_tell _ _ c.loop-index.invariant.frame
+          (read_then _ _ _ _ c.load_child.ensures.frame c.in_ok-check_way.ensures.frame) c.loop-index.invariant.walked
+          (both_tell _ _ c.in_ok-check_way.ensures.frame c.load_child.ensures.frame c.in_ok-check_way.ensures.value
+          c.in_ok-next.ensures.value) available laid_out t e room stand in
+          let so = told.0 in
           let At : ℕ → Type 0 = λ n. IsLoaded t room (take n path) c.loop-index.here in (
             walk_goes_on room c.args.subject.now path i name below is so.0
-                (c.in_ok-check_way.ensures.value checked declared t same room stand (take i path) refl so.1).0,
+                (told.1.0 (take i path) refl so.1).0,
             next_is_there room c.args.subject.now path i name below is (λ p. IsLoaded t room p c.in-Some-2.next)
-                (rw c.in-Some-2.is at (c.in_ok-next.ensures.value available allowed
-                t stays room stand (take i path) so.1)),
+                (rw c.in-Some-2.is at (told.1.1 (take i path) so.1)),
             (omega arith, subst At (omega arith) so.1),
           );
     }
@@ -100,20 +94,17 @@ returns-in_default-2-clause-value g c = λ available laid_out t e room stand.
     let path = c.args.path.now in
     let i = c.loop-index.index in
     let name = c.index-names-index.result in
-    let checked = c.load_child.ensures.frame.call.was_available available in
-    let before = c.check_way.ensures.frame.call.was_available checked in
-    let declared = c.loop-index.invariant.frame.call.laid_out before laid_out in
-    let same = ap (λ (r : Records). r.objects) (c.loop-index.invariant.frame.same before laid_out) ∙ e in
-    let allowed = c.check_way.ensures.frame.call.laid_out checked declared in
-    let stays = ap (λ (r : Records). r.objects) (c.check_way.ensures.frame.same checked declared) ∙ same in
-    let so = c.loop-index.invariant.walked before laid_out t e room stand in
+    let told = both_tell _ _ c.loop-index.invariant.frame
+    (read_then _ _ _ _ c.load_child.ensures.frame c.in_ok-check_way.ensures.frame) c.loop-index.invariant.walked
+    (both_tell _ _ c.in_ok-check_way.ensures.frame c.load_child.ensures.frame c.in_ok-check_way.ensures.value
+    c.in_ok-next.ensures.value) available laid_out t e room stand in
+    let so = told.0 in
     let below = rw c.names-names.ensures.value at c.loop-index-test.true in
     let is = rw c.names-names.ensures.value at c.index-names-index.is in
     let last = rw c.names-names.ensures.value at c.if-index-names.false in
-    let nothing = rw c.in_default-2.is at (c.in_ok-next.ensures.value available allowed
-    t stays room stand (take i path) so.1) in (
+    let nothing = rw c.in_default-2.is at (told.1.1 (take i path) so.1) in (
       walk_ends room c.args.subject.now path i name below is so.0
-          (c.in_ok-check_way.ensures.value checked declared t same room stand (take i path) refl so.1).0 last,
+          (told.1.0 (take i path) refl so.1).0 last,
       (
         last_is_absent room c.args.subject.now path i name below is nothing last,
         rw (← last_folder room c.args.subject.now path i name below is last) so.1,
