@@ -1,5 +1,5 @@
 -- One object changed where it stands: what is planned is the effect.
-use Rattle.std.proofs.Common.{◌≡◌, ℕ, refl, ap, sym, ◌∙◌, subst, inl, inr, List, [], Option, None, Some}
+use Rattle.std.proofs.Common.{◌≡◌, ℕ, refl, ap, sym, ◌∙◌, inl, inr, List, [], Option, None, Some}
 use Rattle.std.proofs.Common.{IsSome, IsNone, unwrap_or}
 use Rattle.std.specs.Prelude.{Vec}
 use Rattle.std.specs.declared.alloc.Global.{Global}
@@ -14,7 +14,7 @@ use Rattle.room_records.specs.Names.{Path}
 use Rattle.room_records.specs.Records.{ObjectRecords}
 use Rattle.room_records.specs.Changes.{apply_to_objects, apply_all_to_objects, IsOfObjects, ObjectRulesHoldAfterEach}
 use Rattle.room_records.specs.Room.{Object, Room, IsRoom, object_at, list_of}
-use Rattle.room_records.specs.Representation.{RepresentsRoom, HasPath}
+use Rattle.room_records.specs.Representation.{RepresentsRoom}
 use Rattle.room_records.proofs.RulesKept.{if_same, if_other, SamePlace, SameShape, shape_itself, shape_put}
 use Rattle.room_records.proofs.RulesKept.{rules_put, rules_put_doc}
 use Rattle.room_commands.specs.CommandModel.{CommandModel}
@@ -45,8 +45,7 @@ none_new : (t later : ObjectRecords) → SameShape t later → (id : ℕ) → Is
 none_new t later shape id absent present =
     let now = is_present (later.node id) present in
     let before = shape.back id now.0 now.1 in
-    let There : Option Node → Type 0 = λ o. IsSome o in
-    none_and_some (t.node id) absent (subst There (sym before.1) refl)
+    none_and_some (t.node id) absent (rw before.1 refl)
 
 file_by_kind : (kind : Kind) (o : Object)
     → refuse_if (is_kind Folder (Some (record o { kind = kind }))) IsDir ≡ None → kind ≡ File
@@ -54,40 +53,34 @@ file_by_kind File o h = refl
 file_by_kind Folder o h = cc
 
 -- a found object that passes as a document is one
-pub is_document : (t : ObjectRecords) (room : Room) (path : Path) (loaded : LoadedObject)
+pub is_document : {t : ObjectRecords} {room : Room} {path : Path} {loaded : LoadedObject}
     (found : IsLoaded t room path loaded) → check_file room path ≡ None → loaded.kind ≡ File
-is_document t room path loaded found passed =
-    file_by_kind loaded.kind found.object (sym (file_check t room path loaded found) ∙ passed)
+is_document {loaded} found passed = file_by_kind loaded.kind found.object (sym (file_check found) ∙ passed)
 
 -- what changed one object plans the effect
-pub replaced_plans : (t : ObjectRecords) (room : Room) (caller : SubjectModel)
-    (command : CommandModel) (outcome : Outcome) (changes : List Change)
-    (path : Path) (o now_is : Object) (node now : Node) → RepresentsRoom t room
-    → Replaces t (apply_all_to_objects changes t) room (changed room caller command) path o now_is node now
-    → first_refusal (checks room caller command) ≡ None
+pub replaced_plans : {t : ObjectRecords} {room : Room} (caller : SubjectModel) (command : CommandModel)
+    (outcome : Outcome) (changes : List Change) {path : Path} {o now_is : Object} {node now : Node}
+    → RepresentsRoom t room → Replaces t (apply_all_to_objects changes t) room
+    (changed room caller command) path o now_is node now → first_refusal (checks room caller command) ≡ None
     → reply_model outcome.reply ≡ reply room caller command → outcome.changes.items ≡ changes
     → AllByRecursion IsOfObjects changes → ObjectRulesHoldAfterEach changes t → ChangesFewRows t changes
     → ((q : Path) → place_after command None q ≡ q) → PlansEffect t room caller command outcome
-replaced_plans t room caller command outcome changes path o now_is node
-    now stand r passed replied planned of_objects rules few stays =
+replaced_plans {t} caller command outcome changes stand r passed replied planned of_objects rules few stays =
     let later = apply_all_to_objects changes t in
-    success_plans t room caller command outcome stand changes passed replied planned of_objects rules few
-    (replaced t later room (changed room caller command) path o now_is node now stand r)
+    success_plans caller command outcome stand changes passed replied planned of_objects rules few (replaced stand r)
     (λ q id at stands there.
-    let At : Path → Type 0 = λ p. HasPath later p id in
-    subst At (sym (stays q))
-    (replaced_keeps t later room (changed room caller command) path o now_is node now stand r q id at))
+    rw (stays q) (replaced_keeps stand r q id at))
     (λ id absent present. absurd (none_new t later r.shape id absent present))
 
-module _ (t : ObjectRecords) (room : Room) (stand : RepresentsRoom t room) (path : Path)
-    (loaded : LoadedObject) (found : IsLoaded t room path loaded) (change : Object → Object)
+module _ {t : ObjectRecords} {room : Room} (stand : RepresentsRoom t room) {path : Path} {loaded : LoadedObject}
+    (found : IsLoaded t room path loaded) (change : Object → Object)
     (lawful : IsRoom (with_object room path change)) where
   parts_stay : (change found.object).own ≡ found.object.own → (change found.object).aclflag ≡ found.object.aclflag
       → (change found.object).kind ≡ found.object.kind
       → (p : Path) → list_part (object_at (with_object room path change) p) ≡ list_part (object_at room p)
   parts_stay own aclflag kind p = elim (path_same_or_other p path) [
     | inl same ↦
-        let is_there = there t room path loaded found in
+        let is_there = there found in
         ap (λ (q : Path). list_part (object_at (with_object room path change) q)) same
         ∙ ap list_part (changed_at room path change found.object is_there)
         ∙ same_parts (change found.object) found.object own aclflag kind
@@ -127,12 +120,12 @@ module _ (t : ObjectRecords) (room : Room) (stand : RepresentsRoom t room) (path
               ∙ sym (ap (λ (o : Object). o.bytes) becomes);
         };
         nodes_away = λ id other. refl;
-        lists_away = λ q id at other. stored_list t room stand q id at ∙ stays q;
+        lists_away = λ q id at other. stored_list stand q id at ∙ stays q;
         documents_away = λ id other. if_other id loaded.id (Some bytes.items) (t.document id) other;
         next = refl;
         made = refl;
         lawful = lawful;
-        at_path = changed_at room path change found.object (there t room path loaded found);
+        at_path = changed_at room path change found.object (there found);
         away = elsewhere_unchanged room path change;
       }
 
@@ -162,11 +155,11 @@ module _ (t : ObjectRecords) (room : Room) (stand : RepresentsRoom t room) (path
           bytes = ap (λ id. unwrap_or (t.document id) []) same.id ∙ shows.bytes ∙ sym bytes;
         };
         nodes_away = λ id other. if_other id now.id (Some now) (t.node id) (λ is. other (is ∙ same.id));
-        lists_away = λ q id at other. stored_list t room stand q id at ∙ stays q;
+        lists_away = λ q id at other. stored_list stand q id at ∙ stays q;
         documents_away = λ id other. refl;
         next = refl;
         made = refl;
         lawful = lawful;
-        at_path = changed_at room path change found.object (there t room path loaded found);
+        at_path = changed_at room path change found.object (there found);
         away = elsewhere_unchanged room path change;
       }

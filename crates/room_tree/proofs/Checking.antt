@@ -13,14 +13,34 @@ use Rattle.room_records.specs.Records.{ObjectRecords}
 use Rattle.room_records.specs.Limits.{max_document}
 use Rattle.room_records.specs.Representation.{RepresentsRoom}
 use Rattle.room_records.proofs.RoomsMap.{object_there_is_lawful}
-use Rattle.room_records.specs.Room.{Object, Room, object_at, standing_of}
+use Rattle.room_records.specs.Room.{Object, Room, object_at, parent_of, standing_of}
 use Rattle.room_tree.specs.declared.loaded.LoadedObject.{LoadedObject}
-use Rattle.room_commands.specs.declared.reply.RefusalCode.TheVariants.{NoEnt, Exist, IsDir, NotDir, FBig}
+use Rattle.room_commands.specs.declared.reply.RefusalCode.TheVariants.{NoEnt, Exist, Inval, IsDir, NotDir, FBig}
 use Rattle.room_commands.specs.ReplyModel.{Refusal}
 use Rattle.room_commands.specs.Checks.{refuse_if, refusal_without_place, is_kind, denied_at, right_on, check_exists}
 use Rattle.room_commands.specs.Checks.{check_absent, check_right, check_folder, check_file, prefix_refusal}
-use Rattle.room_commands.specs.Checks.{first_refusal, is_root, bytes_at, check_size}
+use Rattle.room_commands.specs.Checks.{first_refusal, is_root, bytes_at, check_size, walk, check_removal}
+use Rattle.room_commands.specs.Checks.{check_folder_full, check_room_full}
 use Rattle.room_tree.specs.LoadedObjects.{IsLoaded}
+
+-- the checks that several commands begin with, or end with
+abbrev pub found_checks : Room → SubjectModel → Path → List (Option Refusal)
+found_checks room caller path = walk room caller path ∷ check_exists room path ∷ []
+
+abbrev pub file_checks : Room → SubjectModel → Path → ℕ → List (Option Refusal)
+file_checks room caller path wanted =
+    walk room caller path ∷ check_exists room path ∷ check_file room path ∷ check_right room caller path wanted ∷ []
+
+abbrev pub removal_checks : Room → SubjectModel → Path → List (Option Refusal)
+removal_checks room caller path = refuse_if (is_root path) Inval ∷ walk room caller path
+    ∷ check_exists room path ∷ check_removal room caller path ∷ []
+
+abbrev pub new_checks : Room → SubjectModel → Path → ℕ → List (Option Refusal)
+new_checks room caller path wanted = refuse_if (is_root path) Exist ∷ walk room caller path
+    ∷ check_absent room path ∷ check_right room caller (parent_of path) wanted ∷ []
+
+abbrev pub limit_checks : Room → Path → List (Option Refusal)
+limit_checks room path = check_folder_full room (parent_of path) ∷ check_room_full room ∷ []
 
 pub first_alone : (o : Option Refusal) → first_refusal (o ∷ []) ≡ o
 first_alone None = refl
@@ -41,8 +61,8 @@ off_root (name ∷ path) h = refl
 pub is_absent : (room : Room) (path : Path) → object_at room path ≡ None → check_absent room path ≡ None
 is_absent room path nothing = ap (λ (o : Option Object). refuse_if (is_some o) Exist) nothing
 
-module _ (t : ObjectRecords) (room : Room) (path : Path)
-    (loaded : LoadedObject) (found : IsLoaded t room path loaded) where
+module _ {t : ObjectRecords} {room : Room} {path : Path} {loaded : LoadedObject}
+    (found : IsLoaded t room path loaded) where
   pub there : object_at room path ≡ Some found.object
   there = found.is_there.object_stands
 
@@ -115,10 +135,10 @@ pub if_ok_map : {T E : Type 0} (P Q : T → Type 0) → ((x : T) → P x → Q x
 if_ok_map P Q weaker (Ok x) h = weaker x h
 if_ok_map P Q weaker (Err e) h = tt
 
-module _ (t : ObjectRecords) (room : Room) (stand : RepresentsRoom t room)
-    (path : Path) (loaded : LoadedObject) (found : IsLoaded t room path loaded) where
+module _ {t : ObjectRecords} {room : Room} (stand : RepresentsRoom t room) {path : Path} {loaded : LoadedObject}
+    (found : IsLoaded t room path loaded) where
   pub bytes_there : bytes_at room path ≡ found.object.bytes
-  bytes_there = ap (λ (o : Option Object). bytes_in o) (there t room path loaded found)
+  bytes_there = ap (λ (o : Option Object). bytes_in o) (there found)
     where
       bytes_in : Option Object → List ℕ
       bytes_in None = []
@@ -126,7 +146,7 @@ module _ (t : ObjectRecords) (room : Room) (stand : RepresentsRoom t room)
 
   pub few_bytes : length (bytes_at room path) ≤ max_document
   few_bytes =
-      let small = (object_there_is_lawful room stand.lawful path found.object (there t room path loaded found)).small in
+      let small = (object_there_is_lawful room stand.lawful path found.object (there found)).small in
       omega (arith, ap length bytes_there, small)
 
 -- what passes is not too large

@@ -66,7 +66,7 @@ abbrev pub NoneBelowEach : Room → Path → ℕ → List Node → Type 0
 NoneBelowEach room path levels nodes =
     AllByRecursion (λ (node : Node). StandsBelow room (path ++ name_of node ∷ []) levels → ⊥) nodes
 
-module _ (t : ObjectRecords) (room : Room) (stand : RepresentsRoom t room) where
+module _ {t : ObjectRecords} {room : Room} (stand : RepresentsRoom t room) where
   pub itself_below : (path : Path) (id : ℕ) (node : Node)
       → HasPath t path id → t.node id ≡ Some node → StandsBelow room path 0
   itself_below path id node at stands =

@@ -44,7 +44,7 @@ unfollowed room path o there off above = elim (root_or_below path) [
     plain = ap (λ found. list_under found above) there
         ∙ ap (λ b. o.own ++ cond b (handed_down above o.kind) []) off ∙ append-nil o.own
 
-module _ (t : ObjectRecords) (room : Room) (stand : RepresentsRoom t room) (path : Path) (node : Node)
+module _ {t : ObjectRecords} {room : Room} (stand : RepresentsRoom t room) (path : Path) (node : Node)
     (at : HasPath t path node.id) (stands : t.node node.id ≡ Some node) where
   -- the own part of its entries, and what that list hands down
   pub list_by_rows : (above : List EntryModel)
@@ -72,8 +72,7 @@ module _ (t : ObjectRecords) (room : Room) (stand : RepresentsRoom t room) (path
   pub stays_in_folder : (folder : ℕ) → node.parent ≡ Some folder
       → t.entries node.id ≡ list_under (object_at room path) (t.entries folder)
   stays_in_folder folder inside =
-      let up = under t room stand path node.id node at stands folder inside in
-      stored_list t room stand path node.id at ∙ sym up.list
+      let up = under stand path node.id node at stands folder inside in
+      stored_list stand path node.id at ∙ sym up.list
       ∙ ap (with_inherited (own_part (t.entries node.id)) node.aclflag node.kind)
-      (sym (stored_list t room stand up.folder folder up.at))
-      ∙ list_by_rows (t.entries folder)
+      (sym (stored_list stand up.folder folder up.at)) ∙ list_by_rows (t.entries folder)

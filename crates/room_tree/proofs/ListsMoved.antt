@@ -1,5 +1,5 @@
 -- Lists in a room with a subtree moved.
-use Rattle.std.proofs.Common.{◌≡◌, ap, sym, ◌∙◌, false, List, [], ◌∷◌, ◌++◌, reverse, append-nil, None, Some}
+use Rattle.std.proofs.Common.{◌≡◌, ap, sym, ◌∙◌, false, [], ◌∷◌, ◌++◌, reverse, append-nil, None, Some}
 use Rattle.room_acl.specs.Inheritance.{with_inherited}
 use Rattle.room_records.specs.Names.{Name, Path}
 use Rattle.room_records.specs.Room.{Object, Room, IsRoom, object_at, list_of}

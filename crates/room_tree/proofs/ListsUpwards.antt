@@ -1,15 +1,15 @@
 -- The list of an object by its rows and those of the folders above it.
-use Rattle.std.proofs.Common.{◌≡◌, ℕ, ◌+◌, ◌≤◌, refl, ap, sym, ◌∙◌, subst, arith, Bool, true, false, cond, inl, inr}
+use Rattle.std.proofs.Common.{◌≡◌, ℕ, ◌+◌, ◌≤◌, refl, ap, sym, ◌∙◌, arith, Bool, true, false, cond, inl, inr}
 use Rattle.std.proofs.Common.{List, [], ◌∷◌, ◌++◌, length, reverse, append-nil, Option, None, Some, IsSome}
 use Rattle.std.proofs.lemmas.List.{reverse-append, length_push}
 use Rattle.room_acl.specs.Entries.{EntryModel}
 use Rattle.room_acl.specs.Inheritance.{handed_down, own_part}
 use Rattle.room_records.specs.declared.node.Node.{Node}
-use Rattle.room_records.specs.Names.{Name, Path}
+use Rattle.room_records.specs.Names.{Path}
 use Rattle.room_records.specs.Records.{ObjectRecords}
 use Rattle.room_records.specs.Limits.{max_names}
 use Rattle.room_records.specs.Room.{Object, Room, object_at, list_of, follows}
-use Rattle.room_records.specs.Representation.{HasPath, NamesUpwards, RepresentsRoom}
+use Rattle.room_records.specs.Representation.{HasPath, RepresentsRoom}
 use Rattle.room_records.proofs.Paths.{object_at_node, root_only}
 use Rattle.room_records.proofs.RoomsLists.{list_of_child, list_of_root}
 use Rattle.room_records.proofs.RoomsMap.{some_is, none_is_some, Ends, path_of_object}
@@ -28,22 +28,20 @@ is_present None h = let f = h in cc
 is_present (Some x) h = (x, refl)
 
 -- a number that has a path is a node's
-pub node_there : (t : ObjectRecords) (room : Room) → RepresentsRoom t room
-    → (path : Path) (id : ℕ) → HasPath t path id → t.node id ≡ None → ⊥
-node_there t room stand path id at none = elim (root_or_below path) [
+pub node_there : {t : ObjectRecords} {room : Room} → RepresentsRoom t room → (path : Path) (id : ℕ) → HasPath t path id
+    → t.node id ≡ None → ⊥
+node_there {t} stand path id at none = elim (root_or_below path) [
   | inl root ↦ (
-      let At : Path → Type 0 = λ p. HasPath t p id in
-      let one : id ≡ 1 = subst At root at in
+      let one : id ≡ 1 = rw root at at in
       let first = is_present (t.node 1) stand.rules.has_root in
       none_is_some first.0 (sym none ∙ ap t.node one ∙ first.1))
   | inr end ↦ (
-      let Up : List Name → Type 0 = λ names. NamesUpwards t names id in
-      let up = subst Up (ap reverse end.is ∙ reverse-append end.folder (end.name ∷ [])) at in
+      let up = rw (ap reverse end.is ∙ reverse-append end.folder (end.name ∷ [])) at at in
       none_is_some up.0 (sym none ∙ up.2))
 ]
 
-module _ (t : ObjectRecords) (room : Room) (stand : RepresentsRoom t room) (path : Path)
-    (id : ℕ) (node : Node) (at : HasPath t path id) (stands : t.node id ≡ Some node) where
+module _ {t : ObjectRecords} {room : Room} (stand : RepresentsRoom t room) (path : Path) (id : ℕ) (node : Node)
+    (at : HasPath t path id) (stands : t.node id ≡ Some node) where
   number : node.id ≡ id
   number = (stand.rules.numbered id node stands).0
 
@@ -68,8 +66,7 @@ module _ (t : ObjectRecords) (room : Room) (stand : RepresentsRoom t room) (path
 
   above_of : (end : Ends path) → (above : ℕ) × (node.parent ≡ Some above) × HasPath t end.folder above
   above_of end =
-      let Up : List Name → Type 0 = λ names. NamesUpwards t names id in
-      let up = subst Up (ap reverse end.is ∙ reverse-append end.folder (end.name ∷ [])) at in
+      let up = rw (ap reverse end.is ∙ reverse-append end.folder (end.name ∷ [])) at at in
       (up.1, ap (λ (n : Node). n.parent) (some_is node up.0 (sym stands ∙ up.2)) ∙ up.4, up.5)
 
   list_below : (end : Ends path) → own_part (t.entries id)
@@ -106,16 +103,14 @@ module _ (t : ObjectRecords) (room : Room) (stand : RepresentsRoom t room) (path
   pub under : (above : ℕ) → node.parent ≡ Some above → IsUnder t room path id node above
   under above inside = elim (root_or_below path) [
     | inl root ↦ absurd (
-        let At : Path → Type 0 = λ p. HasPath t p id in
-        let one : id ≡ 1 = subst At root at in
+        let one : id ≡ 1 = rw root at at in
         root_only t stand.rules node above (ap t.node (sym one) ∙ stands) inside)
     | inr end ↦ (
         let up = above_of end in
         let same : up.0 ≡ above = some_is up.0 above (sym up.1 ∙ inside) in
-        let At : ℕ → Type 0 = λ k. HasPath t end.folder k in
         record {
           folder = end.folder;
-          at = subst At same up.2;
+          at = rw (← same) up.2;
           one_more = omega (arith, ap length end.is, length_push end.folder end.name);
           list = list_below end;
         })

@@ -10,7 +10,7 @@ use Rattle.room_records.proofs.Paths.{object_at_node, child_is_at}
 use Rattle.room_tree.specs.declared.loaded.LoadedObject.{LoadedObject}
 use Rattle.room_tree.specs.LoadedObjects.{IsLoaded, node_of}
 
-module _ (t : ObjectRecords) (room : Room) (stand : RepresentsRoom t room) where
+module _ {t : ObjectRecords} {room : Room} (stand : RepresentsRoom t room) where
   -- a node with a path
   is_loaded : (path : Path) (node : Node) (loaded : LoadedObject)
       → HasPath t path node.id → t.node node.id ≡ Some node → node_of loaded ≡ node → IsLoaded t room path loaded

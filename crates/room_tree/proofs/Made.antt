@@ -20,14 +20,12 @@ use Rattle.room_records.proofs.Lists.{all_append}
 use Rattle.room_records.proofs.Paths.{object_at_node, child_is_at}
 use Rattle.room_records.proofs.RoomsMap.{some_is, none_is_some, Ends, ends, parent_of_end, nothing_below}
 use Rattle.room_records.proofs.RoomsLists.{list_of_child, lists_by_objects_above}
-use Rattle.room_records.proofs.RulesKept.{same_or_other, some_or_none, if_same, if_other, rules_put_next}
-use Rattle.room_records.proofs.RulesKept.{rules_put_doc}
+use Rattle.room_records.proofs.RulesKept.{same_or_other, some_or_none, if_same, if_other, rules_put_next, rules_put_doc}
 use Rattle.room_commands.specs.CommandModel as C
 use Rattle.room_tree.specs.declared.loaded.LoadedObject.{LoadedObject}
 use Rattle.room_tree.specs.declared.planning.Outcome.{Outcome}
 use Rattle.room_commands.specs.declared.reply.RefusalCode.TheVariants.{Exist, RoomFull}
-use Rattle.room_commands.specs.Checks.{first_refusal, checks, refuse_if, is_root, walk, check_absent, check_right}
-use Rattle.room_commands.specs.Checks.{check_size, check_folder_full, check_room_full}
+use Rattle.room_commands.specs.Checks.{first_refusal, checks, is_root, check_size, check_room_full}
 use Rattle.room_acl.specs.Entries.{EntryModel}
 use Rattle.room_acl.specs.Inheritance.{handed_down}
 use Rattle.room_commands.specs.Effect.{object_or_default, with_new, new_object}
@@ -36,7 +34,7 @@ use Rattle.room_tree.specs.Plans.{PlansEffect}
 use Rattle.room_tree.specs.Renewals.{puts_new}
 use Rattle.room_commands.specs.ReplyModel.{Done, Size, reply_model}
 use Rattle.room_tree.proofs.Changed.{none_and_some}
-use Rattle.room_tree.proofs.Checking.{none_passes}
+use Rattle.room_tree.proofs.Checking.{none_passes, limit_checks, new_checks}
 use Rattle.room_commands.proofs.ChecksTell.{not_refused, none_there}
 use Rattle.room_commands.proofs.EffectIsRoom.{changed_is_room, created_is_room}
 use Rattle.room_tree.proofs.FewRows.{few_for_folder, few_for_document}
@@ -63,12 +61,11 @@ pub ends_of : (path : Path) → is_root path ≡ false → Ends path
 ends_of [] h = cc
 ends_of (first ∷ rest) h = ends first rest
 
-module _ (t : ObjectRecords) (room : Room) (caller : SubjectModel) (path : Path)
-    (above : LoadedObject) (kind : Kind) (id : ℕ) (node : Node) (stand : RepresentsRoom t room)
-    (is_path : IsPath path) (root_off : is_root path ≡ false) (absent : object_at room path ≡ None)
-    (found : IsLoaded t room (parent_of path) above) (number : id ≡ t.next)
-    (few : t.next ≤ max_objects) (new : IsNewNode caller path above kind id node)
-    (o : Object) (lawful : IsRoom (with_new room path o)) where
+module _ {t : ObjectRecords} {room : Room} {caller : SubjectModel} {path : Path} {above : LoadedObject} {kind : Kind}
+    {id : ℕ} {node : Node} (stand : RepresentsRoom t room) (is_path : IsPath path) (root_off : is_root path ≡ false)
+    (absent : object_at room path ≡ None) (found : IsLoaded t room (parent_of path) above) (number : id ≡ t.next)
+    (few : t.next ≤ max_objects) (new : IsNewNode caller path above kind id node) (o : Object)
+    (lawful : IsRoom (with_new room path o)) where
   end : Ends path
   end = ends_of path root_off
 
@@ -92,8 +89,7 @@ module _ (t : ObjectRecords) (room : Room) (caller : SubjectModel) (path : Path)
   no_document = elim (some_or_none (t.document node.id)) [
     | inl none ↦ ap (λ (d : Option (List ℕ)). unwrap_or d []) none
     | inr some ↦ absurd (
-        let There : Option (List ℕ) → Type 0 = λ d. IsSome d in
-        let owner = stand.rules.documents node.id (subst There (sym some.1) refl) in
+        let owner = stand.rules.documents node.id (rw some.1 refl) in
         none_is_some owner.0 (sym fresh ∙ owner.1))
   ]
 
@@ -111,7 +107,7 @@ module _ (t : ObjectRecords) (room : Room) (caller : SubjectModel) (path : Path)
       found.is_there.shows.kind ∙ ap (λ (p : Object). p.kind) same ∙ parent.2
 
   folder_at : HasPath t end.folder above.id
-  folder_at = let At : Path → Type 0 = λ p. HasPath t p above.id in subst At in_folder found.is_there.at
+  folder_at = rw (← in_folder) found.is_there.at
 
   free : IsFree (apply_to_objects (PutNext (id + 1)) t) node above.id end.name
   free = record {
@@ -124,7 +120,7 @@ module _ (t : ObjectRecords) (room : Room) (caller : SubjectModel) (path : Path)
     folder = folder_is;
     inside = new.parent;
     named = new.name end.folder end.name end.is;
-    lawful = (let P : Path → Type 0 = λ p. IsPath p in last_is_name end.folder end.name (subst P end.is is_path).names);
+    lawful = (last_is_name end.folder end.name (rw end.is at is_path).names);
     alone = λ other child named.
         let at = child_is_at t stand.rules end.folder end.name above.id other folder_at
         (record { stands = child.stands; inside = child.inside }) named in
@@ -137,7 +133,7 @@ module _ (t : ObjectRecords) (room : Room) (caller : SubjectModel) (path : Path)
       is_there (Some n) h = (n, refl)
 
   pub rules_made : ObjectRules (apply_to_objects (PutNode node) (apply_to_objects (PutNext (id + 1)) t))
-  rules_made = rules_put_new (apply_to_objects (PutNext (id + 1)) t) rules_bumped node above.id end.name free
+  rules_made = rules_put_new rules_bumped free
 
   pub new_stands : (k : ℕ) → k ≡ node.id
       → (apply_to_objects (PutNode node) (apply_to_objects (PutNext (id + 1)) t)).node k ≡ Some node
@@ -145,7 +141,7 @@ module _ (t : ObjectRecords) (room : Room) (caller : SubjectModel) (path : Path)
 
   group_is : node.group ≡ (object_group room path)
   group_is = new.group ∙ found.is_there.shows.group
-      ∙ ap (λ (p : Object). p.group) (sym (object_is t room (parent_of path) above found))
+      ∙ ap (λ (p : Object). p.group) (sym (object_is found))
 
   -- what is there keeps its list
   lists_stay : (q : Path) (p : Object) → object_at room q ≡ Some p → list_of room q ≡ list_of (with_new room path o) q
@@ -186,10 +182,10 @@ module _ (t : ObjectRecords) (room : Room) (caller : SubjectModel) (path : Path)
     stands = ap (λ (f : ℕ → Option Node). f node.id) nodes ∙ new_stands node.id refl;
     nodes_away = λ k other. ap (λ (f : ℕ → Option Node). f k) nodes ∙ if_other k node.id (Some node) (t.node k) other;
     lists_away = λ q k at.
-        let there = node_at_path t room stand q k at in
+        let there = node_at_path stand q k at in
         let apart : k ≢ node.id = (λ same. none_is_some there.0 (sym fresh ∙ ap t.node (sym same) ∙ there.1)) in
         let stands = object_at_node t room stand q k there.0 at there.1 in
-        entries k apart ∙ stored_list t room stand q k at ∙ lists_stay q stands.0 stands.1;
+        entries k apart ∙ stored_list stand q k at ∙ lists_stay q stands.0 stands.1;
     documents_away = documents;
     folder = end.folder;
     name = end.name;
@@ -219,116 +215,92 @@ module _ (t : ObjectRecords) (room : Room) (caller : SubjectModel) (path : Path)
   only_next later nodes k none some = elim (same_or_other k node.id) [
     | inl same ↦ same ∙ numbered
     | inr other ↦ absurd (
-        let There : Option Node → Type 0 = λ n. IsSome n in
-        none_and_some (t.node k) none (subst There
-        (ap (λ (f : ℕ → Option Node). f k) nodes ∙ if_other k node.id (Some node) (t.node k) other) some))
+        none_and_some (t.node k) none
+        (rw (← ap (λ (f : ℕ → Option Node). f k) nodes ∙ if_other k node.id (Some node) (t.node k) other) some))
   ]
 
-few_made : (t : ObjectRecords) (room : Room) → RepresentsRoom t room
-    → check_room_full room ≡ None → t.next ≤ max_objects
-few_made t room stand passed =
+few_made : {t : ObjectRecords} {room : Room} → RepresentsRoom t room → check_room_full room ≡ None
+    → t.next ≤ max_objects
+few_made {room} stand passed =
     let below = below_by_test max_objects room.made (not_refused (nat_le max_objects room.made) RoomFull passed) in
     omega (arith, below, stand.next)
 
 -- MKDIR
-pub mkdir_plans : (t : ObjectRecords) (room : Room) (caller : SubjectModel) (path : Path)
-    (above : LoadedObject) (id : ℕ) (node : Node) (list : Vec EntryModel Global) (outcome : Outcome)
-    → RepresentsRoom t room → IsPath path
-    → first_refusal (refuse_if (is_root path) Exist ∷ walk room caller path
-    ∷ check_absent room path ∷ check_right room caller (parent_of path) 0x4 ∷ []) ≡ None
-    → IsLoaded t room (parent_of path) above
-    → (first_refusal (check_folder_full room (parent_of path) ∷ check_room_full room ∷ []) ≡ None) × (id ≡ t.next)
+pub mkdir_plans : {t : ObjectRecords} {room : Room} {caller : SubjectModel} {path : Path} {above : LoadedObject}
+    {id : ℕ} {node : Node} (list : Vec EntryModel Global) (outcome : Outcome) → RepresentsRoom t room → IsPath path
+    → first_refusal (new_checks room caller path 0x4) ≡ None → IsLoaded t room (parent_of path) above
+    → (first_refusal (limit_checks room path) ≡ None) × (id ≡ t.next)
     → IsNewNode caller path above Folder id node → list.items ≡ handed_down (list_of room (parent_of path)) Folder
-    → outcome.changes.items ≡ PutNext (id + 1) ∷ PutNode node ∷ puts_new id list
-    → reply_model outcome.reply ≡ Done
+    → outcome.changes.items ≡ PutNext (id + 1) ∷ PutNode node ∷ puts_new id list → reply_model outcome.reply ≡ Done
     → PlansEffect t room caller (C.Mkdir path) outcome
-mkdir_plans t room caller path above id node list outcome stand is_path before found number new given planned replied =
+mkdir_plans {t} {room} {caller} {path} {id} {node} list outcome stand is_path before found number new given
+    planned replied =
     let command = C.Mkdir path in
     let passed : first_refusal (checks room caller command) ≡ None =
-    none_passes (refuse_if (is_root path) Exist ∷ walk room caller path
-    ∷ check_absent room path ∷ check_right room caller (parent_of path) 0x4 ∷ [])
-    (check_folder_full room (parent_of path) ∷ check_room_full room ∷ []) before ∙ number.0 in
+    none_passes (new_checks room caller path 0x4) (limit_checks room path) before ∙ number.0 in
     let a = all_none (checks room caller command) passed in
     let root_off = not_refused (is_root path) Exist a.0 in
     let absent = none_there (object_at room path) (not_refused _ Exist a.1.1.0) in
-    let few = few_made t room stand a.1.1.1.1.1.0 in
+    let few = few_made stand a.1.1.1.1.1.0 in
     let o = new_object room caller path Folder [] in
     let lawful = changed_is_room room caller command is_path stand.lawful passed in
     let first = apply_to_objects (PutNext (id + 1)) t in
     let second = apply_to_objects (PutNode node) first in
-    let rules = rules_made t room caller path above Folder id node
-    stand is_path root_off absent found number.1 few new o lawful in
-    let stands = new_stands t room caller path above Folder id node stand is_path
-    root_off absent found number.1 few new o lawful id (sym new.number) in
-    let none = no_entries t room caller path above Folder id node stand is_path
-    root_off absent found number.1 few new o lawful in
+    let rules = rules_made stand is_path root_off absent found number.1 few new o lawful in
+    let stands = new_stands stand is_path root_off absent found number.1 few new o lawful id (sym new.number) in
+    let none = no_entries stand is_path root_off absent found number.1 few new o lawful in
     let later = apply_all_to_objects (puts_new id list) second in
     let gives = gives_list second id node list rules stands none in
-    let r = adds t room caller path above Folder id node stand is_path
-    root_off absent found number.1 few new o lawful later gives.nodes
+    let r = adds stand is_path root_off absent found number.1 few new o lawful later gives.nodes
     (λ k other. gives.away k (λ is. other (is ∙ sym new.number)))
     (ap later.entries new.number ∙ gives.listed ∙ given)
     (λ k other. ap (λ (f : ℕ → Option (List ℕ)). f k) gives.documents) gives.next gives.rules refl refl refl refl refl
     (ap (λ (f : ℕ → Option (List ℕ)). unwrap_or (f node.id) []) gives.documents
-    ∙ no_document t room caller path above Folder id node stand
-    is_path root_off absent found number.1 few new o lawful) in
-    success_plans t room caller command outcome stand
+    ∙ no_document stand is_path root_off absent found number.1 few new o lawful) in
+    success_plans caller command outcome stand
     (PutNext (id + 1) ∷ PutNode node ∷ puts_new id list) passed replied planned (tt, (tt, gives.of_objects)) (
-      rules_bumped t room caller path above Folder id node stand is_path
-          root_off absent found number.1 few new o lawful,
+      rules_bumped stand is_path root_off absent found number.1 few new o lawful,
       (rules, gives.each),
     )
     (few_for_folder t id none (id + 1) node list)
-    (added t later room (with_new room path o) path o node stand r)
-    (λ q k at stands there. added_keeps t later room (with_new room path o) path o node stand r q k at)
-    (only_next t room caller path above Folder id node stand is_path
+    (added stand r) (λ q k at stands there. added_keeps stand r q k at) (only_next stand is_path
     root_off absent found number.1 few new o lawful later gives.nodes)
 
 -- CREATE
-pub create_plans : (t : ObjectRecords) (room : Room) (caller : SubjectModel) (bytes : List ℕ) (path : Path)
-    (above : LoadedObject) (id : ℕ) (node : Node) (list : Vec EntryModel Global) (copy : Vec ℕ Global)
-    (outcome : Outcome)
-    → RepresentsRoom t room → IsPath path
-    → first_refusal (refuse_if (is_root path) Exist ∷ walk room caller path
-    ∷ check_absent room path ∷ check_right room caller (parent_of path) 0x2 ∷ []) ≡ None
-    → check_size (length bytes) ≡ None
+pub create_plans : {t : ObjectRecords} {room : Room} {caller : SubjectModel} (bytes : List ℕ) {path : Path}
+    {above : LoadedObject} {id : ℕ} {node : Node} (list : Vec EntryModel Global) (copy : Vec ℕ Global)
+    (outcome : Outcome) → RepresentsRoom t room → IsPath path
+    → first_refusal (new_checks room caller path 0x2) ≡ None → check_size (length bytes) ≡ None
     → IsLoaded t room (parent_of path) above
-    → (first_refusal (check_folder_full room (parent_of path) ∷ check_room_full room ∷ []) ≡ None) × (id ≡ t.next)
+    → (first_refusal (limit_checks room path) ≡ None) × (id ≡ t.next)
     → IsNewNode caller path above File id node → list.items ≡ handed_down (list_of room (parent_of path)) File
-    → copy.items ≡ bytes
-    → outcome.changes.items ≡ PutNext (id + 1) ∷ PutNode node ∷ puts_new id list ++ PutDoc id copy ∷ []
-    → reply_model outcome.reply ≡ Size (length bytes) → PlansEffect t room caller (C.Create bytes path) outcome
-create_plans t room caller bytes path above id node list copy outcome stand
-    is_path before small found number new given same planned replied =
+    → copy.items ≡ bytes → outcome.changes.items ≡ PutNext (id + 1) ∷ PutNode node
+    ∷ puts_new id list ++ PutDoc id copy ∷ [] → reply_model outcome.reply ≡ Size (length bytes)
+    → PlansEffect t room caller (C.Create bytes path) outcome
+create_plans {t} {room} {caller} bytes {path} {id} {node} list copy outcome stand is_path before small found
+    number new given same planned replied =
     let command = C.Create bytes path in
     let passed : first_refusal (checks room caller command) ≡ None =
-    none_passes (refuse_if (is_root path) Exist ∷ walk room caller path
-    ∷ check_absent room path ∷ check_right room caller (parent_of path) 0x2 ∷ [])
-    (check_size (length bytes) ∷ check_folder_full room (parent_of path) ∷ check_room_full room ∷ []) before
-    ∙ ap (λ o. first_refusal (o ∷ check_folder_full room (parent_of path) ∷ check_room_full room ∷ [])) small
-    ∙ number.0 in
+    none_passes (new_checks room caller path 0x2) (check_size (length bytes) ∷ limit_checks room path) before
+    ∙ ap (λ o. first_refusal (o ∷ limit_checks room path)) small ∙ number.0 in
     let a = all_none (checks room caller command) passed in
     let root_off = not_refused (is_root path) Exist a.0 in
     let absent = none_there (object_at room path) (not_refused _ Exist a.1.1.0) in
-    let few = few_made t room stand a.1.1.1.1.1.1.0 in
+    let few = few_made stand a.1.1.1.1.1.1.0 in
     let o = new_object room caller path File bytes in
     let lawful = created_is_room room caller bytes path is_path stand.lawful passed in
     let first = apply_to_objects (PutNext (id + 1)) t in
     let second = apply_to_objects (PutNode node) first in
-    let rules = rules_made t room caller path above File id node stand
-    is_path root_off absent found number.1 few new o lawful in
-    let stands = new_stands t room caller path above File id node stand is_path
-    root_off absent found number.1 few new o lawful id (sym new.number) in
-    let none = no_entries t room caller path above File id node stand is_path
-    root_off absent found number.1 few new o lawful in
+    let rules = rules_made stand is_path root_off absent found number.1 few new o lawful in
+    let stands = new_stands stand is_path root_off absent found number.1 few new o lawful id (sym new.number) in
+    let none = no_entries stand is_path root_off absent found number.1 few new o lawful in
     let puts = puts_new id list in
     let third = apply_all_to_objects puts second in
     let later = apply_to_objects (PutDoc id copy) third in
     let gives = gives_list second id node list rules stands none in
     let last = rules_put_doc third gives.rules id node (ap (λ (f : ℕ → Option Node). f id) gives.nodes ∙ stands)
     new.kind_is copy in
-    let r = adds t room caller path above File id node stand is_path
-    root_off absent found number.1 few new o lawful later gives.nodes
+    let r = adds stand is_path root_off absent found number.1 few new o lawful later gives.nodes
     (λ k other. gives.away k (λ is. other (is ∙ sym new.number)))
     (ap third.entries new.number ∙ gives.listed ∙ given)
     (λ k other. if_other k id (Some copy.items) (third.document k) (λ is. other (is ∙ sym new.number))
@@ -337,18 +309,13 @@ create_plans t room caller bytes path above id node list copy outcome stand
     (ap (λ (d : Option (List ℕ)). unwrap_or d [])
     (if_same node.id id (Some copy.items) (third.document node.id) new.number) ∙ same) in
     let whole = sym (apply_append puts (PutDoc id copy ∷ []) second) in
-    let Stands : ObjectRecords → Type 0 = λ s. RepresentsRoom s (with_new room path o) in
-    let Keeps : ObjectRecords → Type 0 = λ s. (q : Path) (k : ℕ) → HasPath t q k → HasPath s q k in
-    let New : ObjectRecords → Type 0 = λ s. (k : ℕ) → IsNone (t.node k) → IsSome (s.node k) → k ≡ t.next in
-    let keeps = subst Keeps whole (added_keeps t later room (with_new room path o) path o node stand r) in
-    success_plans t room caller command outcome stand
+    let keeps = rw whole at (added_keeps stand r) in
+    success_plans caller command outcome stand
     (PutNext (id + 1) ∷ PutNode node ∷ puts ++ PutDoc id copy ∷ []) passed replied planned
     (tt, (tt, all_append IsOfObjects puts (PutDoc id copy ∷ []) gives.of_objects (tt, tt))) (
-      rules_bumped t room caller path above File id node stand is_path root_off absent found number.1 few new o lawful,
+      rules_bumped stand is_path root_off absent found number.1 few new o lawful,
       (rules, rules_append puts (PutDoc id copy ∷ []) second gives.each (last, tt)),
     )
     (few_for_document t id none (id + 1) node list copy)
-    (subst Stands whole (added t later room (with_new room path o) path o node stand r))
-    (λ q k at stands there. keeps q k at)
-    (subst New whole (only_next t room caller path above File id node stand is_path
+    (rw whole at (added stand r)) (λ q k at stands there. keeps q k at) (rw (← whole) (only_next stand is_path
     root_off absent found number.1 few new o lawful later gives.nodes))

@@ -13,8 +13,8 @@ use Rattle.room_commands.specs.CommandModel as C
 use Rattle.room_tree.specs.declared.planning.Outcome.{Outcome}
 use Rattle.room_commands.specs.Checks.{first_refusal, checks}
 use Rattle.room_commands.specs.ReplyModel.{Refused, reply_model, IsRefused, Refusal}
-use Rattle.room_commands.specs.Effect.{effect, effect_by, changed, reply}
-use Rattle.room_tree.specs.Plans.{PlansEffect, KeepsNumbers, place_after}
+use Rattle.room_commands.specs.Effect.{effect_by, changed, reply}
+use Rattle.room_tree.specs.Plans.{PlansEffect, place_after}
 use Rattle.room_tree.specs.Renewals.{ChangesFewRows}
 use Rattle.room_commands.proofs.Rights.{rights_of_success}
 use Rattle.room_tree.proofs.FewRows.{few_none}
@@ -27,35 +27,27 @@ absent_present : {X : Type 0} (o : Option X) → IsNone o → IsSome o → ⊥
 absent_present None a b = let f = b in cc
 absent_present (Some x) a b = let f = a in cc
 
-module _ (t : ObjectRecords) (room : Room) (caller : SubjectModel)
-    (command : CommandModel) (outcome : Outcome) (stand : RepresentsRoom t room) where
+module _ {t : ObjectRecords} {room : Room} (caller : SubjectModel) (command : CommandModel) (outcome : Outcome)
+    (stand : RepresentsRoom t room) where
   -- a refusal plans nothing
   pub refusal_plans : (refusal : Refusal) → first_refusal (checks room caller command) ≡ Some refusal
       → reply_model outcome.reply ≡ Refused refusal → outcome.changes.items ≡ []
       → PlansEffect t room caller command outcome
   refusal_plans refusal is replied none =
-      let Objects : List Change → Type 0 = λ changes. AllByRecursion IsOfObjects changes in
-      let Rules : List Change → Type 0 = λ changes. ObjectRulesHoldAfterEach changes t in
-      let Leads : List Change → Type 0 =
-      λ changes. RepresentsRoom (apply_all_to_objects changes t) (effect room caller command).room in
-      let Stays : Option Refusal → Type 0 = λ found. RepresentsRoom t (effect_by room caller command found).room in
       let Keeps : Option Refusal → Type 0 = λ found. (path : Path) (id : ℕ) → HasPath t path id → IsSome (t.node id)
       → IsSome (object_at (effect_by room caller command found).room (place_after command found path))
       → HasPath t (place_after command found path) id in
-      let Numbers : List Change → Type 0 =
-      λ changes. KeepsNumbers t (apply_all_to_objects changes t) room caller command in
-      let Few : List Change → Type 0 = λ changes. ChangesFewRows t changes in
       let kept : Keeps (Some refusal) = (λ path id at stands there. at) in
       record {
         reply = replied ∙ sym (ap (λ found. (effect_by room caller command found).reply) is);
-        of_tree = subst Objects (sym none) tt;
-        rules = subst Rules (sym none) tt;
-        leads = subst Leads (sym none) (subst Stays (sym is) stand);
-        numbers = subst Numbers (sym none) (record {
+        of_tree = rw none tt;
+        rules = rw none tt;
+        leads = rw none (rw is stand);
+        numbers = rw none (record {
           kept = subst Keeps (sym is) kept;
           new = λ id absent present. absurd (absent_present (t.node id) absent present);
         });
-        few = subst Few (sym none) (few_none t);
+        few = rw none (few_none t);
         refusal = λ refused. none;
         allowed = λ allowed. absurd (allowed (subst IsRefused (sym replied) tt));
       }
@@ -87,25 +79,13 @@ module _ (t : ObjectRecords) (room : Room) (caller : SubjectModel)
       → ((id : ℕ) → IsNone (t.node id) → IsSome ((apply_all_to_objects changes t).node id) → id ≡ t.next)
       → PlansEffect t room caller command outcome
   success_plans changes is replied planned of_objects rules few leads kept new =
-      let Objects : List Change → Type 0 = λ planned. AllByRecursion IsOfObjects planned in
-      let Rules : List Change → Type 0 = λ planned. ObjectRulesHoldAfterEach planned t in
-      let Leads : List Change → Type 0 =
-      λ planned. RepresentsRoom (apply_all_to_objects planned t) (effect room caller command).room in
-      let Stays : Option Refusal → Type 0 =
-      λ found. RepresentsRoom (apply_all_to_objects changes t) (effect_by room caller command found).room in
-      let Keeps : Option Refusal → Type 0 = λ found. (path : Path) (id : ℕ) → HasPath t path id → IsSome (t.node id)
-      → IsSome (object_at (effect_by room caller command found).room (place_after command found path))
-      → HasPath (apply_all_to_objects changes t) (place_after command found path) id in
-      let Numbers : List Change → Type 0 =
-      λ planned. KeepsNumbers t (apply_all_to_objects planned t) room caller command in
-      let Few : List Change → Type 0 = λ planned. ChangesFewRows t planned in
       record {
         reply = replied ∙ sym (ap (λ found. (effect_by room caller command found).reply) is);
-        of_tree = subst Objects (sym planned) of_objects;
-        rules = subst Rules (sym planned) rules;
-        leads = subst Leads (sym planned) (subst Stays (sym is) leads);
-        numbers = subst Numbers (sym planned) (record { kept = subst Keeps (sym is) kept; new = new });
-        few = subst Few (sym planned) few;
+        of_tree = rw planned of_objects;
+        rules = rw planned rules;
+        leads = rw planned (rw is leads);
+        numbers = rw planned (record { kept = rw is kept; new = new });
+        few = rw planned few;
         refusal = λ refused. absurd (not_refused command (subst IsRefused replied refused));
         allowed = λ allowed. rights_of_success room caller command is;
       }
@@ -116,7 +96,6 @@ module _ (t : ObjectRecords) (room : Room) (caller : SubjectModel)
       → reply_model outcome.reply ≡ reply room caller command
       → outcome.changes.items ≡ [] → PlansEffect t room caller command outcome
   reading_plans stays same is replied none =
-      let Stands : Room → Type 0 = λ r. RepresentsRoom t r in
-      success_plans [] is replied none tt tt (few_none t) (subst Stands (sym same) stand)
-      (λ path id at stands there. let At : Path → Type 0 = λ p. HasPath t p id in subst At (sym (stays path)) at)
+      success_plans [] is replied none tt tt (few_none t) (rw same stand)
+      (λ path id at stands there. rw (stays path) (at))
       (λ id absent present. absurd (absent_present (t.node id) absent present))

@@ -1,6 +1,6 @@
 -- SETLIST: what is planned is the effect.
-use Rattle.std.proofs.Common.{◌≡◌, ℕ, ◌⊎◌, refl, ap, sym, ◌∙◌, subst, Bool, true, false, cond, inl, inr, List, [], ◌∷◌}
-use Rattle.std.proofs.Common.{◌++◌, map, drop, length, reverse, append-nil, Option, None, Some, IfSome, unwrap_or}
+use Rattle.std.proofs.Common.{◌≡◌, ℕ, ◌⊎◌, refl, ap, sym, ◌∙◌, Bool, true, false, cond, inl, inr, List, [], ◌∷◌}
+use Rattle.std.proofs.Common.{◌++◌, map, drop, length, reverse, append-nil, Option, None, Some, unwrap_or}
 use Rattle.std.specs.Prelude.{Vec}
 use Rattle.std.specs.declared.alloc.Global.{Global}
 use Rattle.std.proofs.lemmas.List.{reverse-append, append_cancel_left}
@@ -16,7 +16,7 @@ use Rattle.room_records.specs.Records.{ObjectRecords}
 use Rattle.room_records.specs.Rules.{ObjectRules, IsRoot}
 use Rattle.room_records.specs.Changes.{apply_to_objects, apply_all_to_objects, ObjectRulesHoldAfterEach}
 use Rattle.room_records.specs.Room.{Object, Room, object_at, list_of}
-use Rattle.room_records.specs.Representation.{RepresentsRoom, HasPath, NamesUpwards}
+use Rattle.room_records.specs.Representation.{RepresentsRoom, HasPath}
 use Rattle.room_records.proofs.RoomsLists.{list_of_child, list_of_root}
 use Rattle.room_records.proofs.RoomsMap.{some_is, Ends}
 use Rattle.room_records.proofs.RulesKept.{if_same, if_other, SamePlace, SameShape, shape_put, rules_put}
@@ -38,7 +38,7 @@ use Rattle.room_tree.proofs.Changed.{replaced_plans}
 use Rattle.room_tree.proofs.Checking.{there}
 use Rattle.room_tree.proofs.ListsRenewed.{lists_renewed, lists_away, list_above_stays}
 use Rattle.room_tree.proofs.OwnPart.{root_or_below}
-use Rattle.room_tree.proofs.Renewed.{Puts, put, Relists, IsChangeOf, list_then, list_then_is, changes_list, puts_relist}
+use Rattle.room_tree.proofs.Renewed.{Puts, put, Relists, IsChangeOf, list_then_is, changes_list, puts_relist}
 use Rattle.room_tree.proofs.Renewed.{stored_at, nodes_stay, documents_stay, next_stays, relisted_at, relisted_off}
 use Rattle.room_tree.proofs.Renewed.{relisted_of_objects, relisted_rules, relisted_few}
 use Rattle.room_tree.proofs.RowsReplaced.{Replaces, changed_at}
@@ -60,25 +60,22 @@ shape_with t first later same shape = record {
       (now.0, ap (λ (f : ℕ → Option Node). f id) same ∙ now.1, now.2);
 }
 
-module _ (t : ObjectRecords) (room : Room) (stand : RepresentsRoom t room)
-    (path : Path) (loaded : LoadedObject) (found : IsLoaded t room path loaded) where
+module _ {t : ObjectRecords} {room : Room} (stand : RepresentsRoom t room) {path : Path} {loaded : LoadedObject}
+    (found : IsLoaded t room path loaded) where
   none_above : path ≡ [] → loaded.parent ≡ None
   none_above root =
-      let At : Path → Type 0 = λ p. HasPath t p loaded.id in
-      let one : loaded.id ≡ 1 = subst At root found.is_there.at in
-      let Root : Option Node → Type 0 = λ o. IfSome o IsRoot in
+      let one : loaded.id ≡ 1 = rw root at found.is_there.at in
       let is_root : IsRoot (node_of loaded) =
-      subst Root (ap t.node (sym one) ∙ found.is_there.node_stands) stand.rules.root in
+      rw (ap t.node (sym one) ∙ found.is_there.node_stands) at stand.rules.root in
       is_root.no_parent
 
   folder_above : (folder : Path) (name : Name) → path ≡ folder ++ name ∷ []
       → entries_of t loaded.parent ≡ list_of room folder
   folder_above folder name is =
-      let Up : List Name → Type 0 = λ names. NamesUpwards t names loaded.id in
-      let up = subst Up (ap reverse is ∙ reverse-append folder (name ∷ [])) found.is_there.at in
+      let up = rw (ap reverse is ∙ reverse-append folder (name ∷ [])) at found.is_there.at in
       let same : node_of loaded ≡ up.0 = some_is (node_of loaded) up.0 (sym found.is_there.node_stands ∙ up.2) in
       let parent : loaded.parent ≡ Some up.1 = ap (λ (n : Node). n.parent) same ∙ up.4 in
-      ap (entries_of t) parent ∙ stored_list t room stand folder up.1 up.5
+      ap (entries_of t) parent ∙ stored_list stand folder up.1 up.5
 
   module _ (caller : SubjectModel) (flag : ℕ) (sent : List EntryModel) where
     abbrev kept : List EntryModel
@@ -97,7 +94,7 @@ module _ (t : ObjectRecords) (room : Room) (stand : RepresentsRoom t room)
     same_place = record { id = refl; parent = refl; name = refl; kind = refl }
 
     at_path : object_at after path ≡ Some (change found.object)
-    at_path = changed_at room path change found.object (there t room path loaded found)
+    at_path = changed_at room path change found.object (there found)
 
     -- the list that the object has afterwards
     list_after : list_of after path ≡ with_inherited kept flag loaded.kind (entries_of t loaded.parent)
@@ -123,9 +120,8 @@ module _ (t : ObjectRecords) (room : Room) (stand : RepresentsRoom t room)
         not_both (is_at_or_below q path)
         (ap (λ p. is_at_or_below p path) (same ∙ sym (append-nil path)) ∙ at_behind path []) off)
 
-    module _ (passed : first_refusal (checks room caller (C.SetList flag sent path)) ≡ None)
-        (list : List EntryModel) (is : list_of after path ≡ list)
-        (puts : Puts) (r : Relists t room path list puts) where
+    module _ (passed : first_refusal (checks room caller (C.SetList flag sent path)) ≡ None) {list : List EntryModel}
+        (is : list_of after path ≡ list) {puts : Puts} (r : Relists t room path list puts) where
       abbrev first : ObjectRecords
       first = apply_to_objects (PutNode now) t
 
@@ -140,20 +136,18 @@ module _ (t : ObjectRecords) (room : Room) (stand : RepresentsRoom t room)
         where
           by_test : (b : Bool) → is_at_or_below q path ≡ b → later.entries id ≡ list_of after q
           by_test true below =
-              let At : Path → Type 0 = λ p. HasPath t p id in
               let rest : Path = drop (length path) q in
               let split : q ≡ path ++ rest = rest_below path q below in
-              relisted_at t room stand path list puts r now rest id (subst At split at)
+              relisted_at stand r now rest id (rw (← split) (at))
               ∙ ap (λ l. list_below room path l (reverse rest)) (sym is)
               ∙ sym (lists_renewed room after path path (λ below some. elsewhere_unchanged room path change (path
               ++ below) (λ same. some (append_cancel_left path below [] (same ∙ sym (append-nil path))))) rest)
               ∙ ap (list_of after) (sym split)
-          by_test false off =
-              relisted_off t room stand path list puts r now q id at off
-              ∙ stored_list t room stand q id at ∙ sym (lists_away room after path away_from q off)
+          by_test false off = relisted_off stand r now q id at off
+              ∙ stored_list stand q id at ∙ sym (lists_away room after path away_from q off)
 
       rules_after : ObjectRulesHoldAfterEach (PutNode now ∷ map put puts) t × ObjectRules later
-      rules_after = relisted_rules t room stand path list puts r now
+      rules_after = relisted_rules stand r now
           (rules_put t stand.rules (node_of loaded) now found.is_there.node_stands same_place)
 
       replaces : Replaces t later room after path found.object (change found.object) (node_of loaded) now
@@ -188,10 +182,9 @@ module _ (t : ObjectRecords) (room : Room) (stand : RepresentsRoom t room)
           → outcome.changes.items ≡ PutNode now ∷ map put puts
           → PlansEffect t room caller (C.SetList flag sent path) outcome
       planned_with outcome replied planned =
-          replaced_plans t room caller (C.SetList flag sent path) outcome (PutNode now ∷ map put puts)
-          path found.object (change found.object) (node_of loaded) now stand
-          replaces passed replied planned (relisted_of_objects t room stand path list puts r now)
-          rules_after.0 (relisted_few t room stand path list puts r now) (λ q. refl)
+          replaced_plans caller (C.SetList flag sent path) outcome (PutNode now ∷ map put puts) stand
+          replaces passed replied planned (relisted_of_objects stand r now)
+          rules_after.0 (relisted_few stand r now) (λ q. refl)
 
     -- the row, its list where that changes, and those below lead to the room with other list flags and own entries
     pub setlist_plans : first_refusal (checks room caller (C.SetList flag sent path)) ≡ None
@@ -200,8 +193,9 @@ module _ (t : ObjectRecords) (room : Room) (stand : RepresentsRoom t room)
         → (outcome : Outcome) → PutsList t room path now new outcome.changes.items
         → reply_model outcome.reply ≡ Done → PlansEffect t room caller (C.SetList flag sent path) outcome
     setlist_plans passed list is new changes outcome planned replied =
-        let stored = stored_at t room path loaded found in
-        let what = puts_relist t room stand path loaded.id found.is_there.at now refl new
+        let stored = stored_at found in
+        let what = puts_relist stand path loaded.id found.is_there.at now refl new
         (changes_list t loaded.id (list_of room path) list stored new changes) outcome.changes.items planned in
-        planned_with passed (list_then t loaded.id new) (list_after ∙ sym is ∙ sym
-        (list_then_is t loaded.id (list_of room path) list stored new changes)) what.0 what.2 outcome replied what.1
+        planned_with passed
+        (list_after ∙ sym is ∙ sym (list_then_is t loaded.id (list_of room path) list stored new changes))
+        what.2 outcome replied what.1

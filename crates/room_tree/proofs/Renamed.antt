@@ -1,5 +1,5 @@
 -- RENAME: its checks by what was read, and what it plans.
-use Rattle.std.proofs.Common.{◌≡◌, ℕ, refl, ap, sym, ◌∙◌, subst, Bool, true, false, not, ◌||◌, List, [], ◌∷◌, ◌++◌, map}
+use Rattle.std.proofs.Common.{◌≡◌, ℕ, refl, ap, sym, ◌∙◌, Bool, true, false, not, ◌||◌, List, [], ◌∷◌, ◌++◌, map}
 use Rattle.std.proofs.Common.{drop, length, Option, None, Some, reverse}
 use Rattle.std.specs.Prelude.{Vec}
 use Rattle.std.specs.declared.alloc.Global.{Global}
@@ -13,7 +13,7 @@ use Rattle.room_records.specs.Names.{Name, Path, IsPath, name_eq, path_eq}
 use Rattle.room_records.specs.Records.{ObjectRecords}
 use Rattle.room_records.specs.Rules.{ObjectRules}
 use Rattle.room_records.specs.Changes.{apply_to_objects, apply_all_to_objects, ObjectRulesHoldAfterEach}
-use Rattle.room_records.specs.Room.{Object, Room, IsRoom, object_at, list_of, list_under, parent_of}
+use Rattle.room_records.specs.Room.{Object, Room, object_at, list_of, list_under, parent_of}
 use Rattle.room_records.specs.Representation.{RepresentsRoom, HasPath}
 use Rattle.room_records.proofs.Paths.{reads_one, object_at_node}
 use Rattle.room_records.proofs.RoomsMap.{some_is, path_itself, other_path, parent_of_end}
@@ -23,7 +23,7 @@ use Rattle.room_tree.specs.declared.planning.Outcome.{Outcome}
 use Rattle.room_tree.specs.declared.loaded.LoadedObject.{LoadedObject}
 use Rattle.room_tree.specs.declared.moving.Move.{Move}
 use Rattle.room_commands.specs.declared.reply.RefusalCode.TheVariants.{Inval}
-use Rattle.room_commands.specs.Checks.{first_refusal, checks, refuse_if, is_root, is_at_or_below, walk}
+use Rattle.room_commands.specs.Checks.{first_refusal, checks, refuse_if, is_root, is_at_or_below}
 use Rattle.room_commands.specs.Effect.{renamed, moved}
 use Rattle.room_tree.specs.LoadedObjects.{IsLoaded, node_of}
 use Rattle.room_tree.specs.Plans.{PlansEffect}
@@ -76,31 +76,28 @@ paths_pass path to passed =
     let roots = or_parts (is_root path) (is_root to) apart.0 in
     record { below_root = roots.0; to_below_root = roots.1; apart = apart.1 }
 
-module _ (t : ObjectRecords) (room : Room) (stand : RepresentsRoom t room) (a b : Path)
-    (here there : LoadedObject) (is_here : IsLoaded t room a here) (is_there : IsLoaded t room b there) where
+module _ {t : ObjectRecords} {room : Room} (stand : RepresentsRoom t room) {a b : Path} {here there : LoadedObject}
+    (is_here : IsLoaded t room a here) (is_there : IsLoaded t room b there) where
   -- a folder is another one exactly where its number is
   pub same_folder : here.id ≡ there.id → path_eq a b ≡ true
   same_folder same =
-      let At : ℕ → Type 0 = λ id. HasPath t a id in
       let one : a ≡ b =
-      path_of_node t stand.rules a b there.id (subst At same is_here.is_there.at) is_there.is_there.at in
+      path_of_node t stand.rules a b there.id (rw (← same) is_here.is_there.at) is_there.is_there.at in
       ap (path_eq a) (sym one) ∙ path_itself a
 
   pub other_folder : (here.id ≡ there.id → ⊥) → path_eq a b ≡ false
   other_folder other = other_path a b (λ same.
-      let At : Path → Type 0 = λ p. HasPath t p there.id in
       other (reads_one t stand.rules (reverse a) here.id there.id
-      is_here.is_there.at (subst At (sym same) is_there.is_there.at)))
+      is_here.is_there.at (rw same is_there.is_there.at)))
 
 not_in_root : (path : Path) → is_root path ≡ false → is_at_or_below [] path ≡ false
 not_in_root [] off = cc
 not_in_root (name ∷ path) off = refl
 
-module _ (t : ObjectRecords) (room : Room) (stand : RepresentsRoom t room)
-    (path up : Path) (last : Name) (o : Object) (node now : Node) (above : ℕ)
-    (m : MovesNode t room path up last o node now above) (list : List EntryModel)
-    (is : list_of (renamed room path (up ++ last ∷ [])) (up ++ last ∷ []) ≡ list)
-    (puts : Puts) (r : Relists t room path list puts) where
+module _ {t : ObjectRecords} {room : Room} (stand : RepresentsRoom t room) {path up : Path} {last : Name} {o : Object}
+    {node now : Node} {above : ℕ} (m : MovesNode t room path up last o node now above) {list : List EntryModel}
+    (is : list_of (renamed room path (up ++ last ∷ [])) (up ++ last ∷ []) ≡ list) {puts : Puts}
+    (r : Relists t room path list puts) where
   abbrev to : Path
   to = up ++ last ∷ []
 
@@ -120,23 +117,19 @@ module _ (t : ObjectRecords) (room : Room) (stand : RepresentsRoom t room)
       by_place true below =
           let rest = drop (length path) q in
           let split : q ≡ path ++ rest = rest_below path q below in
-          let At : Path → Type 0 = λ p. HasPath t p id in
-          relisted_at t room stand path list puts r now rest id (subst At split at)
-          ∙ ap (λ l. list_below room path l (reverse rest)) (sym is)
+          relisted_at stand r now rest id (rw (← split) (at)) ∙ ap (λ l. list_below room path l (reverse rest)) (sym is)
           ∙ sym (lists_of_moved room stand.lawful path to o m.apart m.is_there.object_stands m.free rest)
           ∙ ap (list_of (renamed room path to)) (sym (ap (moved path to) split ∙ moved_rest path to rest))
       by_place false off =
-          let found = node_at_path t room stand q id at in
+          let found = node_at_path stand q id at in
           let other = object_at_node t room stand q id found.0 at found.1 in
-          relisted_off t room stand path list puts r now q id at off
-          ∙ stored_list t room stand q id at
+          relisted_off stand r now q id at off ∙ stored_list stand q id at
           ∙ sym (list_of_stayed room stand.lawful path to o m.apart
           m.is_there.object_stands m.free q other.0 other.1 off)
           ∙ ap (list_of (renamed room path to)) (sym (moved_off q path to off))
 
   pub rules_after : ObjectRulesHoldAfterEach (PutNode now ∷ map put puts) t × ObjectRules rows
-  rules_after = relisted_rules t room stand path list puts r now
-      (rules_moved t room stand path up last o node now above m)
+  rules_after = relisted_rules stand r now (rules_moved stand m)
 
   pub moves_lists : MovesLists t rows now room path to
   moves_lists = record {
@@ -148,18 +141,18 @@ module _ (t : ObjectRecords) (room : Room) (stand : RepresentsRoom t room)
   }
 
 -- the row that is planned leads to the room with the subtree moved
-pub rename_plans : (t : ObjectRecords) (room : Room) (caller : SubjectModel)
-    (path to : Path) (move : Move) (now : Node) (outcome : Outcome) → RepresentsRoom t room
-    → IsPath path → IsPath to → first_refusal (checks room caller (C.Rename path to)) ≡ None
-    → IsMove t room path to move
-    → ((folder : Path) (name : Name) → to ≡ folder ++ name ∷ []
-    → now ≡ record (node_of move.loaded) { parent = Some move.into.id; name = Some name })
+pub rename_plans : {t : ObjectRecords} {room : Room} (caller : SubjectModel) {path to : Path} {move : Move}
+    (now : Node) (outcome : Outcome) → RepresentsRoom t room → IsPath path → IsPath to
+    → first_refusal (checks room caller (C.Rename path to)) ≡ None → IsMove t room path to move
+    → ((folder : Path) (name : Name) → to ≡ folder ++ name ∷ [] → now
+    ≡ record (node_of move.loaded) { parent = Some move.into.id; name = Some name })
     → (new : Option (Vec EntryModel Global))
     → IsChangeOf (t.entries move.loaded.id) (list_under (object_at room path) (t.entries move.into.id)) new
-    → (HasPath t path now.id → t.node now.id ≡ Some (node_of move.loaded)
-    → (node_of move.loaded).kind ≡ now.kind → PutsList t room path now new outcome.changes.items)
-    → reply_model outcome.reply ≡ Done → PlansEffect t room caller (C.Rename path to) outcome
-rename_plans t room caller path to move now outcome stand is_path is_to passed found row new changes planned replied =
+    → (HasPath t path now.id → t.node now.id ≡ Some (node_of move.loaded) → (node_of move.loaded).kind ≡ now.kind
+    → PutsList t room path now new outcome.changes.items) → reply_model outcome.reply ≡ Done
+    → PlansEffect t room caller (C.Rename path to) outcome
+rename_plans {t} {room} caller {path} {to} {move} now outcome stand is_path is_to passed found row new changes
+    planned replied =
     let command = C.Rename path to in
     let a = all_none (checks room caller command) passed in
     let pass = paths_pass path to a.0 in
@@ -167,14 +160,10 @@ rename_plans t room caller path to move now outcome stand is_path is_to passed f
     let in_folder : parent_of to ≡ last.folder = ap parent_of last.is ∙ parent_of_end last.folder last.name in
     let is = row last.folder last.name last.is in
     let lawful = changed_is_room room caller command (is_path, is_to) stand.lawful passed in
-    let Walked : Path → Type 0 = λ p. walk room caller p ≡ None in
-    let above = walk_ends_in_folder room caller last.folder last.name (subst Walked last.is a.1.1.1.0) in
+    let above = walk_ends_in_folder room caller last.folder last.name (rw (← last.is) a.1.1.1.0) in
     let into = found.into.is_there in
     let same : found.into.object ≡ above.0 =
     some_is found.into.object above.0 (sym into.object_stands ∙ ap (object_at room) in_folder ∙ above.1) in
-    let At : Path → Type 0 = λ p. HasPath t p move.into.id in
-    let Lawful : Path → Type 0 = λ p. IsRoom (renamed room path p) in
-    let Names : Path → Type 0 = λ p. IsPath p in
     let m : MovesNode t room path last.folder last.name found.loaded.object (node_of move.loaded) now move.into.id =
     record {
       is_there = found.loaded.is_there;
@@ -182,11 +171,11 @@ rename_plans t room caller path to move now outcome stand is_path is_to passed f
       off_root = not_in_root path pass.below_root;
       apart = ap (λ p. is_at_or_below p path) (sym last.is) ∙ pass.apart;
       free = ap (object_at room) (sym last.is) ∙ absent_there room to a.1.1.1.1.0;
-      up_at = subst At in_folder into.at;
+      up_at = rw (← in_folder) into.at;
       parent = node_of move.into;
       parent_stands = into.node_stands;
       parent_folder = into.shows.kind ∙ ap (λ (o : Object). o.kind) same ∙ above.2;
-      named = last_is_name last.folder last.name (subst Names last.is is_to).names;
+      named = last_is_name last.folder last.name (rw last.is at is_to).names;
       id = ap (λ (n : Node). n.id) is;
       inside = ap (λ (n : Node). n.parent) is;
       name = ap (λ (n : Node). n.name) is;
@@ -194,7 +183,7 @@ rename_plans t room caller path to move now outcome stand is_path is_to passed f
       owner = ap (λ (n : Node). n.owner) is;
       group = ap (λ (n : Node). n.group) is;
       aclflag = ap (λ (n : Node). n.aclflag) is;
-      lawful = subst Lawful last.is lawful;
+      lawful = rw (← last.is) lawful;
     } in
     plan_by last.folder last.name last.is m
   where
@@ -208,14 +197,12 @@ rename_plans t room caller path to move now outcome stand is_path is_to passed f
         let loaded = move.loaded in
         let there = found.loaded.is_there in
         let given = list_under (object_at room path) (t.entries move.into.id) in
-        let Here : ℕ → Type 0 = λ k. HasPath t path k in
-        let puts = planned (subst Here (sym m.id) there.at) (ap t.node m.id ∙ there.node_stands) (sym m.kind) in
+        let puts = planned (rw m.id there.at) (ap t.node m.id ∙ there.node_stands) (sym m.kind) in
         let changed = changes_list t loaded.id (t.entries loaded.id) given refl new changes in
-        let what = puts_relist t room stand path loaded.id there.at now m.id new changed outcome.changes.items puts in
+        let what = puts_relist stand path loaded.id there.at now m.id new changed outcome.changes.items puts in
         let list = list_then t loaded.id new in
         let in_folder : parent_of to ≡ up = ap parent_of is ∙ parent_of_end up name in
-        let handed : t.entries move.into.id ≡ list_of room up =
-        stored_at t room (parent_of to) move.into found.into ∙ ap (list_of room) in_folder in
+        let handed : t.entries move.into.id ≡ list_of room up = stored_at found.into ∙ ap (list_of room) in_folder in
         let as_moved : list_of (renamed room path target) target ≡ given =
         list_of_moved room stand.lawful path target o m.apart there.object_stands m.free up name found.into.object refl
         (ap (object_at room) (sym in_folder) ∙ found.into.is_there.object_stands)
@@ -224,16 +211,9 @@ rename_plans t room caller path to move now outcome stand is_path is_to passed f
         let list_is : list_of (renamed room path target) target ≡ list =
         as_moved ∙ sym (list_then_is t loaded.id (t.entries loaded.id) given refl new changes) in
         let later = apply_all_to_objects (PutNode now ∷ map put what.0) t in
-        let w = moves_lists t room stand path up name o node now move.into.id m list list_is what.0 what.2 in
-        let Stands : Path → Type 0 = λ p. RepresentsRoom later (renamed room path p) in
-        let Keeps : Path → Type 0 = λ p. (q : Path) (id : ℕ) → HasPath t q id → HasPath later (moved path p q) id in
-        success_plans t room caller (C.Rename path to) outcome stand
-        (PutNode now ∷ map put what.0) passed replied what.1
-        (relisted_of_objects t room stand path list what.0 what.2 now)
-        (rules_after t room stand path up name o node now move.into.id m list list_is what.0 what.2).0
-        (relisted_few t room stand path list what.0 what.2 now)
-        (subst Stands (sym is) (moved_represents t room stand path up name o node now move.into.id m later w))
-        (λ q id at stands there.
-        subst Keeps (sym is) (moved_keeps t room stand path up name o node now move.into.id m later w) q id at)
-        (λ id absent present.
-        absurd (none_new_moved t room stand path up name o node now move.into.id m later w id absent present))
+        let w = moves_lists stand m list_is what.2 in
+        success_plans caller (C.Rename path to) outcome stand (PutNode now ∷ map put what.0) passed replied what.1
+        (relisted_of_objects stand what.2 now) (rules_after stand m list_is what.2).0 (relisted_few stand what.2 now)
+        (rw is (moved_represents stand m w)) (λ q id at stands there.
+        (rw (← is) at (moved_keeps stand m w)) q id at) (λ id absent present.
+        absurd (none_new_moved stand m w id absent present))

@@ -1,5 +1,5 @@
 -- Rows after lists were put, that of one object and those below it.
-use Rattle.std.proofs.Common.{◌≡◌, ◌≢◌, ℕ, ◌+◌, ◌≤◌, refl, ap, sym, ◌∙◌, subst, arith, Bool, true, false, not, cond}
+use Rattle.std.proofs.Common.{◌≡◌, ◌≢◌, ℕ, ◌+◌, ◌≤◌, refl, ap, sym, ◌∙◌, arith, Bool, true, false, not, cond}
 use Rattle.std.proofs.Common.{eqb, ◌||◌, ◌⊎◌, inl, inr, List, [], ◌∷◌, ◌++◌, map, reverse, append-nil, Option, None}
 use Rattle.std.proofs.Common.{Some, IsTrue, count_by, MatchOption, eq-eqb}
 use Rattle.std.specs.Prelude.{Vec}
@@ -115,14 +115,13 @@ put_found P (p ∷ puts) id each found = by_test (eqb id p.0) refl found (put_fo
     by_test : (b : Bool) → eqb id p.0 ≡ b → IsTrue (b || list_any (puts_entries_of id) (map put puts))
         → (IsTrue (list_any (puts_entries_of id) (map put puts)) → (entries : List EntryModel) × P id entries)
         → (entries : List EntryModel) × P id entries
-    by_test true same h rest =
-        (let For : ℕ → Type 0 = λ k. P k p.1.items in (p.1.items, subst For (sym (eqb-true id p.0 same)) each.0))
+    by_test true same h rest = ((p.1.items, rw (eqb-true id p.0 same) each.0))
     by_test false other h rest = rest h
 
-abbrev one_if : Bool → ℕ
+abbrev pub one_if : Bool → ℕ
 one_if b = cond b 1 0
 
-one_or_none : (b : Bool) → one_if b ≤ 1
+pub one_or_none : (b : Bool) → one_if b ≤ 1
 one_or_none true = omega arith
 one_or_none false = omega arith
 
@@ -146,7 +145,7 @@ no_others (p ∷ puts) =
     omega (arith, more, rest)
 
 -- what is put below
-split_renewals : (t : ObjectRecords) (room : Room) (path : Path) (list : List EntryModel) (changes : List Change)
+pub split_renewals : (t : ObjectRecords) (room : Room) (path : Path) (list : List EntryModel) (changes : List Change)
     → AllByRecursion (IsRenewal t room path list) changes
     → (puts : Puts) × (changes ≡ map put puts) × EachPut (IsRenewed t room path list) puts
 split_renewals t room path list [] each = ([], refl, tt)
@@ -177,7 +176,7 @@ pub record Relists (t : ObjectRecords) (room : Room) (path : Path) (list : List 
       ⊎ IsTrue (list_any (puts_entries_of id) (map put puts))
   pub once : (id : ℕ) → count_by (puts_entries_of id) (map put puts) ≤ 1
 
-or_true : (b : Bool) → (b || true) ≡ true
+pub or_true : (b : Bool) → (b || true) ≡ true
 or_true true = refl
 or_true false = refl
 
@@ -208,8 +207,8 @@ pub changes_list : (t : ObjectRecords) (id : ℕ) (stored list : List EntryModel
 changes_list t id stored list is None same = tt
 changes_list t id stored list is (Some changed) changes = (λ same. changes.1 (sym changes.0 ∙ same ∙ is))
 
-module _ (t : ObjectRecords) (room : Room) (stand : RepresentsRoom t room)
-    (path : Path) (id : ℕ) (here : HasPath t path id) where
+module _ {t : ObjectRecords} {room : Room} (stand : RepresentsRoom t room) (path : Path) (id : ℕ)
+    (here : HasPath t path id) where
   only_here : (rest : Path) → HasPath t (path ++ rest) id → rest ≡ []
   only_here rest at = append_cancel_left path rest
       [] (path_of_node t stand.rules (path ++ rest) path id at here ∙ sym (append-nil path))
@@ -224,12 +223,11 @@ module _ (t : ObjectRecords) (room : Room) (stand : RepresentsRoom t room)
     where
       stays : (rest : Path) (k : ℕ) → HasPath t (path ++ rest) k
           → t.entries k ≡ list_below room path (t.entries id) (reverse rest)
-      stays rest k at =
-          stored_list t room stand (path ++ rest) k at ∙ sym (lists_stay room path rest)
-          ∙ ap (λ list. list_below room path list (reverse rest)) (sym (stored_list t room stand path id here))
+      stays rest k at = stored_list stand (path ++ rest) k at ∙ sym (lists_stay room path rest)
+          ∙ ap (λ list. list_below room path list (reverse rest)) (sym (stored_list stand path id here))
 
-  module _ (list : Vec EntryModel Global) (changes : list.items ≢ t.entries id)
-      (below : Puts) (renews : RenewsBelow t room path list.items (map put below))
+  module _ (list : Vec EntryModel Global) (changes : list.items ≢ t.entries id) (below : Puts)
+      (renews : RenewsBelow t room path list.items (map put below))
       (each : EachPut (IsRenewed t room path list.items) below) where
     abbrev whole : Puts
     whole = below ++ (id, list) ∷ []
@@ -238,8 +236,7 @@ module _ (t : ObjectRecords) (room : Room) (stand : RepresentsRoom t room)
     not_here = each_weaker (IsRenewed t room path list.items) (λ k entries. k ≢ id) other below each
       where
         other : (k : ℕ) (entries : List EntryModel) → IsRenewed t room path list.items k entries → k ≢ id
-        other k entries new same = let At : ℕ → Type 0 = λ j. HasPath t (path ++ new.rest) j in
-            new.below (only_here new.rest (subst At same new.at))
+        other k entries new same = new.below (only_here new.rest (rw (← same) new.at))
 
     any_of_whole : (k : ℕ) → list_any (puts_entries_of k) (map put whole)
         ≡ (list_any (puts_entries_of k) (map put below) || (eqb k id || false))
@@ -257,8 +254,7 @@ module _ (t : ObjectRecords) (room : Room) (stand : RepresentsRoom t room)
         → (t.entries k ≡ list_below room path list.items (reverse rest))
         ⊎ IsTrue (list_any (puts_entries_of k) (map put whole))
     put_or_kept [] k at =
-        let At : Path → Type 0 = λ q. HasPath t q k in
-        let same : k ≡ id = reads_one t stand.rules (reverse path) k id (subst At (append-nil path) at) here in
+        let same : k ≡ id = reads_one t stand.rules (reverse path) k id (rw (← append-nil path) (at)) here in
         inr (any_of_whole k ∙ ap (λ b. list_any (puts_entries_of k) (map put below) || (b || false)) (eq-eqb k id same)
         ∙ or_true (list_any (puts_entries_of k) (map put below)))
     put_or_kept (name ∷ rest) k at = elim (renews.every (name ∷ rest) k (λ none. cc) at) [
@@ -277,11 +273,10 @@ module _ (t : ObjectRecords) (room : Room) (stand : RepresentsRoom t room)
 
     relists_whole : Relists t room path list.items whole
     relists_whole =
-        let At : Path → Type 0 = λ q. HasPath t q id in
         let weaker : EachPut (IsRelisted t room path list.items) below =
         each_weaker (IsRenewed t room path list.items) (IsRelisted t room path list.items) as_relisted below each in
         let top : IsRelisted t room path list.items id list.items =
-        record { rest = []; at = subst At (sym (append-nil path)) here; is_list = refl; changes = changes } in
+        record { rest = []; at = rw (append-nil path) here; is_list = refl; changes = changes } in
         record {
           each = each_append (IsRelisted t room path list.items) below ((id, list) ∷ []) weaker (top, tt);
           every = put_or_kept;
@@ -301,18 +296,17 @@ module _ (t : ObjectRecords) (room : Room) (stand : RepresentsRoom t room)
   puts_relist now same None changes planned is = ([], is, relists_nothing)
   puts_relist now same (Some list) changes planned (added, renews, is) =
       let split = split_renewals t room path list.items added renews.each in
-      let Renews : List Change → Type 0 = λ cs. RenewsBelow t room path list.items cs in
       let lists : added ++ PutEntries now.id list ∷ [] ≡ map put (split.0 ++ (id, list) ∷ []) =
       ap (λ cs. cs ++ PutEntries now.id list ∷ []) split.1 ∙ ap (λ k. map put split.0 ++ PutEntries k list ∷ []) same
       ∙ sym (map-append put split.0 ((id, list) ∷ [])) in (
         split.0 ++ (id, list) ∷ [],
         is ∙ ap (λ cs. PutNode now ∷ cs) lists,
-        relists_whole list changes split.0 (subst Renews split.1 renews) split.2,
+        relists_whole list changes split.0 (rw (← split.1) renews) split.2,
       )
 
 -- the rows after a row is put, and the lists
-module _ (t : ObjectRecords) (room : Room) (stand : RepresentsRoom t room) (path : Path)
-    (list : List EntryModel) (puts : Puts) (r : Relists t room path list puts) (now : Node) where
+module _ {t : ObjectRecords} {room : Room} (stand : RepresentsRoom t room) {path : Path} {list : List EntryModel}
+    {puts : Puts} (r : Relists t room path list puts) (now : Node) where
   abbrev pub first : ObjectRecords
   first = apply_to_objects (PutNode now) t
 
@@ -331,9 +325,8 @@ module _ (t : ObjectRecords) (room : Room) (stand : RepresentsRoom t room) (path
       one_list : (k : ℕ) (entries : List EntryModel) → IsRelisted t room path list k entries
           → k ≡ id → entries ≡ list_below room path list (reverse rest)
       one_list k entries new same =
-          let At : ℕ → Type 0 = λ j. HasPath t (path ++ new.rest) j in
           let one : new.rest ≡ rest = append_cancel_left path new.rest rest
-          (path_of_node t stand.rules (path ++ new.rest) (path ++ rest) id (subst At same new.at) at) in
+          (path_of_node t stand.rules (path ++ new.rest) (path ++ rest) id (rw (← same) new.at) at) in
           new.is_list ∙ ap (λ names. list_below room path list (reverse names)) one
 
   -- and each other one what it had
@@ -344,9 +337,7 @@ module _ (t : ObjectRecords) (room : Room) (stand : RepresentsRoom t room) (path
     where
       other : (k : ℕ) (entries : List EntryModel) → IsRelisted t room path list k entries → k ≢ id
       other k entries new same =
-          let At : ℕ → Type 0 = λ j. HasPath t (path ++ new.rest) j in
-          let one : q ≡ path ++ new.rest =
-          path_of_node t stand.rules q (path ++ new.rest) id at (subst At same new.at) in
+          let one : q ≡ path ++ new.rest = path_of_node t stand.rules q (path ++ new.rest) id at (rw (← same) new.at) in
           not_both (is_at_or_below q path) (ap (λ p. is_at_or_below p path) one ∙ at_behind path new.rest) off
 
   pub relisted_of_objects : AllByRecursion IsOfObjects (PutNode now ∷ map put puts)
@@ -362,7 +353,7 @@ module _ (t : ObjectRecords) (room : Room) (stand : RepresentsRoom t room) (path
       → ObjectRulesHoldAfterEach (PutNode now ∷ map put puts) t × ObjectRules relisted
   relisted_rules rules =
       let there = each_weaker (IsRelisted t room path list) (λ id entries. (m : Node) × (first.node id ≡ Some m))
-      (λ id entries new. let node = node_at_path t room stand (path ++ new.rest) id new.at in
+      (λ id entries new. let node = node_at_path stand (path ++ new.rest) id new.at in
       there_after id node.0 node.1) puts r.each in
       let after = rules_kept puts first rules there in
       ((rules, after.0), after.1)
@@ -383,6 +374,6 @@ module _ (t : ObjectRecords) (room : Room) (stand : RepresentsRoom t room) (path
   }
 
 -- the rows hold the list of a found object
-pub stored_at : (t : ObjectRecords) (room : Room) (path : Path) (loaded : LoadedObject)
-    → IsLoaded t room path loaded → t.entries loaded.id ≡ list_of room path
-stored_at t room path loaded found = found.is_there.shows.entries
+pub stored_at : {t : ObjectRecords} {room : Room} {path : Path} {loaded : LoadedObject} → IsLoaded t room path loaded
+    → t.entries loaded.id ≡ list_of room path
+stored_at found = found.is_there.shows.entries

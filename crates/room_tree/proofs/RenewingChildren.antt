@@ -53,8 +53,7 @@ under_last (first ∷ nodes) node rest begins = inr (under_last nodes node rest 
 under_contained : (nodes : List Node) (node : Node) (rest : Path) (k : ℕ) → k < length nodes
     → slice_index_or nodes k node ≡ node → BeginsWith (name_of node) rest → UnderOne nodes rest
 under_contained [] node rest k below is begins = absurd (omega (arith, below))
-under_contained (first ∷ nodes) node rest zero below is begins = let P : Node
-    → Type 0 = λ n. BeginsWith (name_of n) rest in inl (subst P (sym is) begins)
+under_contained (first ∷ nodes) node rest zero below is begins = inl (rw is begins)
 under_contained (first ∷ nodes) node rest (suc k) below is begins =
     inr (under_contained nodes node rest k (omega (arith, below)) is begins)
 
@@ -100,7 +99,7 @@ stands_above room front rest o stands none_below = by_value (object_at room fron
     by_value None none = absurd (none_is_some o (sym (none_below none) ∙ stands))
     by_value (Some above) is = (above, is)
 
-module _ (t : ObjectRecords) (room : Room) (stand : RepresentsRoom t room) (path : Path) (list : List EntryModel) where
+module _ {t : ObjectRecords} {room : Room} (stand : RepresentsRoom t room) (path : Path) (list : List EntryModel) where
   -- no child yet
   pub renews_none : Renews t room path list (UnderOne []) []
   renews_none = record {
@@ -122,7 +121,7 @@ module _ (t : ObjectRecords) (room : Room) (stand : RepresentsRoom t room) (path
 
   object_of : (q : Path) (id : ℕ) → HasPath t q id → (o : Object) × (object_at room q ≡ Some o)
   object_of q id at =
-      let node = node_at_path t room stand q id at in
+      let node = node_at_path stand q id at in
       let found = object_at_node t room stand q id node.0 at node.1 in
       (found.0, found.1)
 
@@ -177,7 +176,7 @@ module _ (t : ObjectRecords) (room : Room) (stand : RepresentsRoom t room) (path
       none : (rest : Path) (k : ℕ) → rest ≢ [] → HasPath t (path ++ rest) k → ⊥
       none [] k some at = some refl
       none (name ∷ rest) k some at =
-          let node = node_at_path t room stand path id here in
+          let node = node_at_path stand path id here in
           let itself = object_at_node t room stand path id node.0 here node.1 in
           let found = object_of (path ++ name ∷ rest) k at in
           let no_child = nothing_in_a_file room stand.lawful path itself.0 itself.1
@@ -192,10 +191,10 @@ pub record RenewsSoFar (t : ObjectRecords) (room : Room) (path : Path)
   pub goes_on : new ≡ old ++ added
   pub renews : Renews t room path list (UnderOne nodes) added
 
-module _ (t : ObjectRecords) (room : Room) (stand : RepresentsRoom t room)
-    (path : Path) (list : List EntryModel) (old : List Change) where
+module _ {t : ObjectRecords} {room : Room} (stand : RepresentsRoom t room) (path : Path) (list : List EntryModel)
+    (old : List Change) where
   pub none_so_far : RenewsSoFar t room path list [] old old
-  none_so_far = record { added = []; goes_on = sym (append-nil old); renews = renews_none t room stand path list }
+  none_so_far = record { added = []; goes_on = sym (append-nil old); renews = renews_none stand path list }
 
   -- with the changes for one child more
   pub one_more_so_far : (id : ℕ) (nodes : List Node) (i : ℕ) (node : Node) (new now ys : List Change)
@@ -210,12 +209,10 @@ module _ (t : ObjectRecords) (room : Room) (stand : RepresentsRoom t room)
       sym (take-append-drop (i + 1) nodes) ∙ ap (λ front. front ++ drop (i + 1) nodes) more in
       let order =
       order_of_front (take i nodes ++ node ∷ []) (drop (i + 1) nodes) (subst InNameOrder split are.in_order) in
-      let Below : List Node → Type 0 = λ front. Renews t room path list (UnderOne front) (so.added ++ ys) in
       record {
         added = so.added ++ ys;
         goes_on = goes_on ∙ ap (λ before. before ++ ys) so.goes_on ∙ append_assoc old so.added ys;
-        renews = subst Below (sym more)
-            (renews_more t room stand path list (take i nodes) node so.added ys order so.renews last);
+        renews = rw more (renews_more stand path list (take i nodes) node so.added ys order so.renews last);
       }
 
   -- all children
@@ -223,9 +220,8 @@ module _ (t : ObjectRecords) (room : Room) (stand : RepresentsRoom t room)
       → HasPath t path id → AreChildren t id nodes → length nodes ≤ i
       → RenewsSoFar t room path list (take i nodes) old new → AddsRenewals t room path list old new
   all_so_far id nodes i new here are end so =
-      let Below : List Node → Type 0 = λ front. Renews t room path list (UnderOne front) so.added in record {
+      record {
         added = so.added;
         goes_on = so.goes_on;
-        renews = renews_children t room stand path list id nodes so.added
-            here are (subst Below (take_all i nodes end) so.renews);
+        renews = renews_children stand path list id nodes so.added here are (rw (← take_all i nodes end) so.renews);
       }

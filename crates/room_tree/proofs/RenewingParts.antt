@@ -20,14 +20,11 @@ use Rattle.room_records.specs.Representation.{HasPath, RepresentsRoom}
 use Rattle.room_records.proofs.Lists.{all_append}
 use Rattle.room_records.proofs.Paths.{reads_one}
 use Rattle.room_tree.specs.Renewals.{list_below, IsRenewed, IsRenewal, RenewsBelow, puts_entries_of}
+use Rattle.room_tree.proofs.Renewed.{one_if, one_or_none, or_true, split_renewals, put_found}
 use Rattle.room_tree.proofs.ListsRenewed.{lists_stay}
 use Rattle.room_tree.proofs.RenewingLists.{list_below_child}
 use Rattle.room_tree.proofs.RowsReplaced.{path_of_node}
 use Rattle.room_tree.proofs.StoredLists.{stored_list}
-
-or_true : (b : Bool) → (b || true) ≡ true
-or_true true = refl
-or_true false = refl
 
 left_of_or : (b : Bool) → (b || false) ≡ true → b ≡ true
 left_of_or true e = refl
@@ -35,9 +32,6 @@ left_of_or false e = e
 
 count_append : {X : Type 0} (p : X → Bool) (xs ys : List X) → count_by p (xs ++ ys) ≡ count_by p xs + count_by p ys
 count_append p xs ys = sum_by-append (λ x. cond (p x) 1 0) xs ys
-
-abbrev one_if : Bool → ℕ
-one_if b = cond b 1 0
 
 none_counted : {X : Type 0} (p : X → Bool) (xs : List X) → list_any p xs ≡ false → count_by p xs ≡ 0
 none_counted p [] none = refl
@@ -52,33 +46,14 @@ none_counted p (x ∷ xs) none = by_test (p x) refl none (none_counted p xs)
         let others : count_by p xs ≡ 0 = rest h in
         omega (arith, more, first, others)
 
-one_counted : (b : Bool) → one_if b ≤ 1
-one_counted true = omega arith
-one_counted false = omega arith
-
 -- what is put is renewed
 pub put_is_renewed : (t : ObjectRecords) (room : Room) (path : Path)
     (list : List EntryModel) (changes : List Change) (id : ℕ)
     → AllByRecursion (IsRenewal t room path list) changes → list_any (puts_entries_of id) changes ≡ true
     → (entries : List EntryModel) × IsRenewed t room path list id entries
-put_is_renewed t room path list [] id each found = absurd (let f : false ≡ true = found in cc)
-put_is_renewed t room path list (PutEntries at entries ∷ changes) id each found =
-    by_test (eqb id at) refl found (put_is_renewed t room path list changes id each.1)
-  where
-    by_test : (b : Bool) → eqb id at ≡ b → (b || list_any (puts_entries_of id) changes) ≡ true
-        → (list_any (puts_entries_of id) changes ≡ true
-        → (list_put : List EntryModel) × IsRenewed t room path list id list_put)
-        → (list_put : List EntryModel) × IsRenewed t room path list id list_put
-    by_test true same h later = let Is : ℕ → Type 0 = λ k. IsRenewed t room path list k entries.items in
-        (entries.items, subst Is (sym (eqb-true id at same)) each.0)
-    by_test false other h later = later h
-put_is_renewed t room path list (PutNode node ∷ changes) id each found = absurd each.0
-put_is_renewed t room path list (DropNode gone ∷ changes) id each found = absurd each.0
-put_is_renewed t room path list (PutDoc at bytes ∷ changes) id each found = absurd each.0
-put_is_renewed t room path list (PutSession row ∷ changes) id each found = absurd each.0
-put_is_renewed t room path list (PutSlot row ∷ changes) id each found = absurd each.0
-put_is_renewed t room path list (DropSlots sid ∷ changes) id each found = absurd each.0
-put_is_renewed t room path list (PutNext next ∷ changes) id each found = absurd each.0
+put_is_renewed t room path list changes id each found =
+    let split = split_renewals t room path list changes each in
+    put_found (IsRenewed t room path list) split.0 id split.2 (rw split.1 at found)
 
 -- these changes renew the lists of the objects below a path whose further names are among these, and no others
 pub record Renews (t : ObjectRecords) (room : Room) (path : Path) (list : List EntryModel)
@@ -161,13 +136,11 @@ GoesOnFrom name rest = (below : Path) × (below ≢ []) × (rest ≡ name ∷ be
 
 module _ (t : ObjectRecords) (room : Room) (path : Path) (list : List EntryModel) (name : Name) where
   at_above : (rest : Path) (id : ℕ) → HasPath t ((path ++ name ∷ []) ++ rest) id → HasPath t (path ++ name ∷ rest) id
-  at_above rest id at = let At : Path → Type 0 = λ p. HasPath t p id in subst At (append_assoc path (name ∷ []) rest) at
+  at_above rest id at = rw (← append_assoc path (name ∷ []) rest) (at)
 
   at_child : (rest below : Path) (id : ℕ) → rest ≡ name ∷ below
       → HasPath t (path ++ rest) id → HasPath t ((path ++ name ∷ []) ++ below) id
-  at_child rest below id is at =
-      let At : Path → Type 0 = λ p. HasPath t p id in
-      subst At (ap (λ p. path ++ p) is ∙ sym (append_assoc path (name ∷ []) below)) at
+  at_child rest below id is at = rw (← ap (λ p. path ++ p) is ∙ sym (append_assoc path (name ∷ []) below)) (at)
 
   -- where the child has this list, lists below it are those below the path
   module _ (given : List EntryModel) (is_given : given ≡ list_below room path list (name ∷ [])) where
@@ -225,16 +198,14 @@ module _ (t : ObjectRecords) (room : Room) (path : Path) (list : List EntryModel
     renews_itself entries is changes = record {
       each = (record { rest = name ∷ []; below = λ none. cc; at = here; is_list = is; changes = changes }, tt);
       put_at = λ k found.
-          let At : ℕ → Type 0 = λ j. HasPath t (path ++ name ∷ []) j in
-          (name ∷ [], refl, subst At (sym (eqb-true k id (left_of_or (eqb k id) found))) here);
+          (name ∷ [], refl, rw (eqb-true k id (left_of_or (eqb k id) found)) here);
       every = λ rest k only at.
-          let At : Path → Type 0 = λ p. HasPath t (path ++ p) k in
-          let same : k ≡ id = reads_one t rules (reverse (path ++ name ∷ [])) k id (subst At only at) here in
+          let same : k ≡ id = reads_one t rules (reverse (path ++ name ∷ [])) k id (rw (← only) (at)) here in
           inr (ap (λ b. b || false) (eq-eqb k id same));
       once = λ k.
           let more =
           sum_by-cons (λ (change : Change). cond (puts_entries_of k change) 1 0) (PutEntries id entries) [] in
-          let one : one_if (eqb k id) ≤ 1 = one_counted (eqb k id) in
+          let one : one_if (eqb k id) ≤ 1 = one_or_none (eqb k id) in
           omega (arith, more, one);
     }
 
@@ -270,9 +241,8 @@ child_stays t room stand path list name id here stays = record {
   every = λ rest k begins at.
       let below = begins.0 in
       let child = at_child t room path list name rest below k begins.1 at in
-      inl (stored_list t room stand ((path ++ name ∷ []) ++ below) k child
-      ∙ sym (lists_stay room (path ++ name ∷ []) below)
+      inl (stored_list stand ((path ++ name ∷ []) ++ below) k child ∙ sym (lists_stay room (path ++ name ∷ []) below)
       ∙ list_there t room path list name (list_of room (path ++ name ∷ []))
-      (sym (stored_list t room stand (path ++ name ∷ []) id here) ∙ stays) rest below begins.1);
+      (sym (stored_list stand (path ++ name ∷ []) id here) ∙ stays) rest below begins.1);
   once = λ k. omega arith;
 }

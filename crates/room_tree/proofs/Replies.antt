@@ -28,10 +28,10 @@ abbrev pub stat_of : Node → ℕ → ReplyModel
 stat_of node size =
     Stat (record { aclflag = node.aclflag; group = node.group; kind = node.kind; owner = node.owner; size = size })
 
-module _ (t : ObjectRecords) (room : Room) (path : Path)
-    (loaded : LoadedObject) (found : IsLoaded t room path loaded) where
+module _ {t : ObjectRecords} {room : Room} {path : Path} {loaded : LoadedObject}
+    (found : IsLoaded t room path loaded) where
   pub object_is : object_or_default room path ≡ found.object
-  object_is = ap (λ (o : Option Object). object_from o) (there t room path loaded found)
+  object_is = ap (λ (o : Option Object). object_from o) (there found)
     where
       object_from : Option Object → Object
       object_from None = no_object

@@ -1,6 +1,6 @@
 -- Rows with one object more stand for the room with it.
-use Rattle.std.proofs.Common.{◌≡◌, ◌≢◌, ℕ, ◌+◌, ◌<◌, ◌≤◌, refl, ap, sym, ◌∙◌, subst, arith, ◌⊎◌, inl, inr, List, []}
-use Rattle.std.proofs.Common.{◌∷◌, ◌++◌, reverse, Option, None, Some, IsSome, IfSome, unwrap_or}
+use Rattle.std.proofs.Common.{◌≡◌, ◌≢◌, ℕ, ◌+◌, ◌<◌, ◌≤◌, refl, ap, sym, ◌∙◌, arith, ◌⊎◌, inl, inr, List, []}
+use Rattle.std.proofs.Common.{◌∷◌, ◌++◌, reverse, Option, None, Some, unwrap_or}
 use Rattle.std.specs.List.{AllByRecursion}
 use Rattle.std.proofs.lemmas.List.{reverse-append}
 use Rattle.room_acl.specs.declared.subject.Kind.TheVariants.{Folder}
@@ -8,12 +8,13 @@ use Rattle.room_records.specs.declared.node.Node.{Node}
 use Rattle.room_records.specs.declared.change.Change.TheVariants.{PutNode}
 use Rattle.room_records.specs.Names.{Name, Path, IsFileName}
 use Rattle.room_records.specs.Records.{ObjectRecords, IsChild}
-use Rattle.room_records.specs.Rules.{ObjectRules, IsRoot}
+use Rattle.room_records.specs.Rules.{ObjectRules}
 use Rattle.room_records.specs.Changes.{apply_to_objects}
 use Rattle.room_records.specs.Room.{Object, Room, IsRoom, object_at, list_of}
 use Rattle.room_records.specs.Representation.{RepresentsRoom, NodeIsObject, RowsShowObject, HasPath, NamesUpwards}
 use Rattle.room_records.proofs.RoomsMap.{some_is, none_is_some}
 use Rattle.room_records.proofs.RulesKept.{same_or_other, if_same, if_other, some_or_none}
+use Rattle.room_tree.proofs.RowsReplaced.{still_shows}
 
 -- a row for a number that is free, in a folder that has not its name
 pub record IsFree (t : ObjectRecords) (node : Node) (above : ℕ) (name : Name) : Type 0 where
@@ -28,8 +29,8 @@ pub record IsFree (t : ObjectRecords) (node : Node) (above : ℕ) (name : Name) 
   pub lawful : IsFileName name
   pub alone : (other : Node) → IsChild t above other → other.name ≡ Some name → ⊥
 
-module _ (t : ObjectRecords) (rules : ObjectRules t) (node : Node)
-    (above : ℕ) (name : Name) (free : IsFree t node above name) where
+module _ {t : ObjectRecords} (rules : ObjectRules t) {node : Node} {above : ℕ} {name : Name}
+    (free : IsFree t node above name) where
   abbrev later : ObjectRecords
   later = apply_to_objects (PutNode node) t
 
@@ -57,16 +58,12 @@ module _ (t : ObjectRecords) (rules : ObjectRules t) (node : Node)
       | inr old ↦ rules.numbered id found old
     ];
     root = elim (some_or_none (t.node 1)) [
-      | inl none ↦
-          absurd (let There : Option Node → Type 0 = λ o. IsSome o in let f = subst There none rules.has_root in cc)
-      | inr found ↦ (let Root : Option Node → Type 0 = λ o. IfSome o IsRoot in
-          subst Root (found.1 ∙ sym (forth 1 found.0 found.1)) rules.root)
+      | inl none ↦ absurd (let f = rw none at rules.has_root in cc)
+      | inr found ↦ (rw (← found.1 ∙ sym (forth 1 found.0 found.1)) rules.root)
     ];
     has_root = elim (some_or_none (t.node 1)) [
-      | inl none ↦
-          absurd (let There : Option Node → Type 0 = λ o. IsSome o in let f = subst There none rules.has_root in cc)
-      | inr found ↦
-          (let There : Option Node → Type 0 = λ o. IsSome o in subst There (sym (forth 1 found.0 found.1)) refl)
+      | inl none ↦ absurd (let f = rw none at rules.has_root in cc)
+      | inr found ↦ (rw (forth 1 found.0 found.1) refl)
     ];
     below = λ id found stands other. elim (back id found stands) [
       | inl new ↦ record {
@@ -133,7 +130,7 @@ pub record Adds (t later : ObjectRecords) (room after : Room) (path : Path) (o :
   pub new_or_old : (q : Path) (p : Object) → object_at after q ≡ Some p
       → ((q ≡ path) × (o ≡ p)) ⊎ (object_at room q ≡ Some p)
 
-module _ (t later : ObjectRecords) (room after : Room) (path : Path) (o : Object) (node : Node)
+module _ {t later : ObjectRecords} {room after : Room} {path : Path} {o : Object} {node : Node}
     (stand : RepresentsRoom t room) (a : Adds t later room after path o node) where
   apart : (id : ℕ) (found : Node) → t.node id ≡ Some found → id ≢ node.id
   apart id found stands same = none_is_some found (sym a.fresh ∙ ap t.node (sym same) ∙ stands)
@@ -148,8 +145,7 @@ module _ (t later : ObjectRecords) (room after : Room) (path : Path) (o : Object
 
   new_at : HasPath later path node.id
   new_at =
-      let Up : List Name → Type 0 = λ names. NamesUpwards later names node.id in
-      subst Up (sym (ap reverse a.path_is ∙ reverse-append a.folder (a.name ∷ [])))
+      rw (ap reverse a.path_is ∙ reverse-append a.folder (a.name ∷ []))
       (node, a.above, a.stands, a.named, a.inside, names_stay (reverse a.folder) a.above a.folder_at)
 
   old_is : (id : ℕ) (found : Node) (q : Path) (p : Object)
@@ -162,15 +158,8 @@ module _ (t later : ObjectRecords) (room after : Room) (path : Path) (o : Object
         at = added_keeps q id is.at;
         node_stands = a.nodes_away id other ∙ is.node_stands;
         object_stands = a.old q p is.object_stands;
-        shows = record {
-          kind = is.shows.kind;
-          owner = is.shows.owner;
-          group = is.shows.group;
-          aclflag = is.shows.aclflag;
-          entries = ap later.entries number ∙ a.lists_away q id is.at;
-          bytes = ap (λ (d : Option (List ℕ)). unwrap_or d [])
-              (a.documents_away found.id other_number) ∙ is.shows.bytes;
-        };
+        shows = still_shows is.shows (ap later.entries number ∙ a.lists_away q id is.at)
+            (a.documents_away found.id other_number);
       }
 
   new_is : NodeIsObject later after node.id node path o
@@ -183,18 +172,13 @@ module _ (t later : ObjectRecords) (room after : Room) (path : Path) (o : Object
     nodes = λ id found stands. elim (same_or_other id node.id) [
       | inl same ↦
           let is : node ≡ found = some_is node found (sym a.stands ∙ ap later.node (sym same) ∙ stands) in
-          let P : ℕ → Type 0 = λ k. NodeIsObject later after k node path o in
-          let Q : Node → Type 0 = λ n. NodeIsObject later after id n path o in
-          (path, o, subst Q is (subst P (sym same) new_is))
+          (path, o, rw (← is) (rw same new_is))
       | inr other ↦
           let before = stand.nodes id found (sym (a.nodes_away id other) ∙ stands) in
           (before.0, before.1, old_is id found before.0 before.1 before.2)
     ];
     objects = λ q p stands. elim (a.new_or_old q p stands) [
-      | inl new ↦
-          let P : Path → Type 0 = λ x. NodeIsObject later after node.id node x o in
-          let Q : Object → Type 0 = λ x. NodeIsObject later after node.id node q x in
-          (node.id, node, subst Q new.1 (subst P (sym new.0) new_is))
+      | inl new ↦ (node.id, node, rw (← new.1) (rw new.0 new_is))
       | inr there ↦
           let before = stand.objects q p there in
           (before.0, before.1, old_is before.0 before.1 q p before.2)

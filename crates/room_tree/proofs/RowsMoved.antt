@@ -1,14 +1,14 @@
 -- Rows where one node has another folder and name stand for the room with its subtree moved.
-use Rattle.std.proofs.Common.{◌≡◌, ◌≢◌, ℕ, ◌≤◌, refl, ap, sym, ◌∙◌, subst, arith, Bool, true, false, cond, ◌⊎◌, inl}
+use Rattle.std.proofs.Common.{◌≡◌, ◌≢◌, ℕ, ◌≤◌, refl, ap, sym, ◌∙◌, arith, Bool, true, false, cond, ◌⊎◌, inl}
 use Rattle.std.proofs.Common.{inr, List, [], ◌∷◌, ◌++◌, reverse, length, drop, append_assoc, append-nil, length-append}
-use Rattle.std.proofs.Common.{Option, None, Some, IsSome, IsNone, IfSome, unwrap_or}
+use Rattle.std.proofs.Common.{Option, None, Some, IsSome, IsNone, unwrap_or}
 use Rattle.std.proofs.lemmas.List.{reverse-append, reverse-reverse, drop-append-le, drop_all, same_from_push}
 use Rattle.room_acl.specs.declared.subject.Kind.TheVariants.{Folder}
 use Rattle.room_records.specs.declared.node.Node.{Node}
 use Rattle.room_records.specs.declared.change.Change.TheVariants.{PutNode}
 use Rattle.room_records.specs.Names.{Name, Path, IsFileName}
 use Rattle.room_records.specs.Records.{ObjectRecords, IsChild}
-use Rattle.room_records.specs.Rules.{ObjectRules, IsRoot}
+use Rattle.room_records.specs.Rules.{ObjectRules}
 use Rattle.room_records.specs.Changes.{apply_to_objects}
 use Rattle.room_records.specs.Room.{Object, Room, IsRoom, object_at, list_of}
 use Rattle.room_records.specs.Representation.{RepresentsRoom, NodeIsObject, HasPath, NamesUpwards}
@@ -21,7 +21,7 @@ use Rattle.room_tree.proofs.Changed.{none_and_some}
 use Rattle.room_commands.proofs.Renaming.{at_behind}
 use Rattle.room_commands.proofs.RoomsRenamed.{rest_below, below_more, not_both, at_moved, Stands, Moved}
 use Rattle.room_commands.proofs.RoomsRenamed.{Stayed, stands_after}
-use Rattle.room_tree.proofs.RowsReplaced.{path_of_node}
+use Rattle.room_tree.proofs.RowsReplaced.{path_of_node, still_shows}
 
 -- an object below a path, but not at it, has its folder there too
 below_parent : (q path : Path) (name : Name) → is_at_or_below (q ++ name ∷ []) path ≡ true
@@ -100,9 +100,8 @@ pub record MovesLists (t rows : ObjectRecords) (now : Node) (room : Room) (path 
   pub rules : ObjectRules rows
   pub lists : (q : Path) (id : ℕ) → HasPath t q id → rows.entries id ≡ list_of (renamed room path to) (moved path to q)
 
-module _ (t : ObjectRecords) (room : Room) (stand : RepresentsRoom t room)
-    (path up : Path) (last : Name) (o : Object) (node now : Node) (above : ℕ)
-    (m : MovesNode t room path up last o node now above) where
+module _ {t : ObjectRecords} {room : Room} (stand : RepresentsRoom t room) {path up : Path} {last : Name} {o : Object}
+    {node now : Node} {above : ℕ} (m : MovesNode t room path up last o node now above) where
   abbrev to : Path
   to = up ++ last ∷ []
 
@@ -128,10 +127,8 @@ module _ (t : ObjectRecords) (room : Room) (stand : RepresentsRoom t room)
 
   is_path_of : (names : List Name) (id : ℕ) → NamesUpwards t names id → id ≡ node.id → reverse names ≡ path
   is_path_of names id at same =
-      let At : List Name → Type 0 = λ ns. NamesUpwards t ns id in
-      let Here : ℕ → Type 0 = λ k. HasPath t (reverse names) k in
       path_of_node t stand.rules (reverse names) path node.id
-      (subst Here same (subst At (sym (reverse-reverse names)) at)) m.is_there.at
+      (rw (← same) (rw (reverse-reverse names) (at))) m.is_there.at
 
   itself_below : is_at_or_below path path ≡ true
   itself_below = ap (λ p. is_at_or_below p path) (sym (append-nil path)) ∙ at_behind path []
@@ -155,66 +152,50 @@ module _ (t : ObjectRecords) (room : Room) (stand : RepresentsRoom t room)
 
   at_to : HasPath later to node.id
   at_to =
-      let At : List Name → Type 0 = λ ns. NamesUpwards later ns node.id in
-      let Off : Path → Type 0 = λ p. is_at_or_below p path ≡ false in
-      subst At (sym (reverse-append up (last ∷ []))) (
+      rw (reverse-append up (last ∷ [])) (
         now,
         above,
         put node.id refl,
         m.name,
         m.inside,
-        names_off (reverse up) above m.up_at (subst Off (sym (reverse-reverse up)) (off_by up last m.apart)),
+        names_off (reverse up) above m.up_at (rw (reverse-reverse up) (off_by up last m.apart)),
       )
 
   -- each node is where its path was moved
   names_moved : (names : List Name) (id : ℕ) → NamesUpwards t names id
       → HasPath later (moved path to (reverse names)) id
-  names_moved [] id at =
-      let At : Path → Type 0 = λ p. HasPath later p id in
-      subst At (sym (moved_off [] path to m.off_root)) at
+  names_moved [] id at = rw (moved_off [] path to m.off_root) (at)
   names_moved (name ∷ names) id (found, parent, stands, named, inside, rest) =
       by_place (is_at_or_below (reverse (name ∷ names)) path) refl (names_moved names parent rest)
     where
       by_place : (b : Bool) → is_at_or_below (reverse (name ∷ names)) path ≡ b → HasPath later
           (moved path to (reverse names)) parent → HasPath later (moved path to (reverse (name ∷ names))) id
       by_place false off folder =
-          let Up : List Name → Type 0 = λ ns. NamesUpwards later ns id in
-          let Here : Path → Type 0 = λ p. HasPath later p id in
-          subst Here (sym (moved_off (reverse (name ∷ names)) path to off))
-          (subst Up (sym (reverse-reverse (name ∷ names)))
+          rw (moved_off (reverse (name ∷ names)) path to off) (rw (reverse-reverse (name ∷ names))
           (names_off (name ∷ names) id (found, parent, stands, named, inside, rest) off))
       by_place true below folder = elim (same_or_other id node.id) [
         | inl same ↦
-            let Here : Path → Type 0 = λ p. HasPath later p id in
-            let Id : ℕ → Type 0 = λ k. HasPath later to k in
             let is = is_path_of (name ∷ names) id (found, parent, stands, named, inside, rest) same in
-            subst Here (sym (ap (moved path to) is ∙ moved_top path to)) (subst Id (sym same) at_to)
+            rw (ap (moved path to) is ∙ moved_top path to) (rw same at_to)
         | inr other ↦
-            let Here : Path → Type 0 = λ p. HasPath later p id in
             let not_top : reverse names ++ name ∷ [] ≡ path → ⊥ = (λ top. other (
-            let Up : List Name → Type 0 = λ ns. NamesUpwards t ns id in
             reads_one t stand.rules (reverse path) id node.id
-            (subst Up (sym (ap reverse (sym (turned name names ∙ top)) ∙ reverse-reverse (name ∷ names)))
+            (rw (ap reverse (sym (turned name names ∙ top)) ∙ reverse-reverse (name ∷ names))
             (found, parent, stands, named, inside, rest)) m.is_there.at)) in
             let in_subtree = below_parent (reverse names) path name
             (ap (λ p. is_at_or_below p path) (sym (turned name names)) ∙ below) not_top in
-            let Up : List Name → Type 0 = λ ns. NamesUpwards later ns id in
-            subst Here
-            (sym (ap (moved path to) (turned name names) ∙ moved_child (reverse names) path to name in_subtree))
-            (subst Up (sym (reverse-append (moved path to (reverse names)) (name ∷ [])))
+            rw (ap (moved path to) (turned name names) ∙ moved_child (reverse names) path to name in_subtree)
+            (rw (reverse-append (moved path to (reverse names)) (name ∷ []))
             (found, parent, away id other ∙ stands, named, inside, folder))
       ]
 
   -- numbers are kept
   keeps_place : (q : Path) (id : ℕ) → HasPath t q id → HasPath later (moved path to q) id
-  keeps_place q id at =
-      let Here : Path → Type 0 = λ p. HasPath later (moved path to p) id in
-      subst Here (reverse-reverse q) (names_moved (reverse q) id at)
+  keeps_place q id at = rw (← reverse-reverse q) (names_moved (reverse q) id at)
 
   not_first : node.id ≢ 1
   not_first same =
-      let Up : List Name → Type 0 = λ names. NamesUpwards t names node.id in
-      let up_names = subst Up (ap reverse m.end.is ∙ reverse-append m.end.folder (m.end.name ∷ [])) m.is_there.at in
+      let up_names = rw (ap reverse m.end.is ∙ reverse-append m.end.folder (m.end.name ∷ [])) at m.is_there.at in
       root_only t stand.rules up_names.0 up_names.1 (ap t.node (sym same) ∙ up_names.2) up_names.4
 
   forth : (id : ℕ) (found : Node) → t.node id ≡ Some found
@@ -260,12 +241,8 @@ module _ (t : ObjectRecords) (room : Room) (stand : RepresentsRoom t room)
       ))
       | inr old ↦ stand.rules.numbered id found old.1
     ];
-    root =
-        let Root : Option Node → Type 0 = λ n. IfSome n IsRoot in
-        subst Root (sym (away 1 (λ same. not_first (sym same)))) stand.rules.root;
-    has_root =
-        let There : Option Node → Type 0 = λ n. IsSome n in
-        subst There (sym (away 1 (λ same. not_first (sym same)))) stand.rules.has_root;
+    root = rw (away 1 (λ same. not_first (sym same))) stand.rules.root;
+    has_root = rw (away 1 (λ same. not_first (sym same))) stand.rules.has_root;
     below = λ id found stands other. elim (back id found stands) [
       | inl new ↦ (let parent = forth above m.parent m.parent_stands in record {
         above = above;
@@ -316,12 +293,9 @@ module _ (t : ObjectRecords) (room : Room) (stand : RepresentsRoom t room)
   ]
 
   -- with other entries, where each is the list of its object in the room after
-  module _ (rows : ObjectRecords) (w : MovesLists t rows now room path to) where
+  module _ {rows : ObjectRecords} (w : MovesLists t rows now room path to) where
     row_after : (id : ℕ) → rows.node id ≡ later.node id
     row_after id = ap (λ (f : ℕ → Option Node). f id) w.nodes
-
-    bytes_after : (id : ℕ) → unwrap_or (rows.document id) [] ≡ unwrap_or (t.document id) []
-    bytes_after id = ap (λ (f : ℕ → Option (List ℕ)). unwrap_or (f id) []) w.documents
 
     -- numbers are kept
     pub moved_keeps : (q : Path) (id : ℕ) → HasPath t q id → HasPath rows (moved path to q) id
@@ -346,7 +320,7 @@ module _ (t : ObjectRecords) (room : Room) (stand : RepresentsRoom t room)
                 group = m.group ∙ ap (λ (n : Node). n.group) same_node ∙ is.shows.group;
                 aclflag = m.aclflag ∙ ap (λ (n : Node). n.aclflag) same_node ∙ is.shows.aclflag;
                 entries = ap rows.entries (m.id ∙ sym same) ∙ w.lists q id is.at;
-                bytes = bytes_after now.id
+                bytes = ap (λ (f : ℕ → Option (List ℕ)). unwrap_or (f now.id) []) w.documents
                     ∙ ap (λ k. unwrap_or (t.document k) []) (m.id ∙ ap (λ (n : Node). n.id) same_node) ∙ is.shows.bytes;
               };
             },
@@ -357,14 +331,9 @@ module _ (t : ObjectRecords) (room : Room) (stand : RepresentsRoom t room)
           at = moved_keeps q id is.at;
           node_stands = row_after id ∙ away id other ∙ is.node_stands;
           object_stands = stands_there;
-          shows = record {
-            kind = is.shows.kind;
-            owner = is.shows.owner;
-            group = is.shows.group;
-            aclflag = is.shows.aclflag;
-            entries = ap rows.entries (stand.rules.numbered id found is.node_stands).0 ∙ w.lists q id is.at;
-            bytes = bytes_after found.id ∙ is.shows.bytes;
-          };
+          shows = still_shows is.shows
+              (ap rows.entries (stand.rules.numbered id found is.node_stands).0 ∙ w.lists q id is.at)
+              (ap (λ (f : ℕ → Option (List ℕ)). f found.id) w.documents);
         },
       )
     ]
@@ -386,8 +355,7 @@ module _ (t : ObjectRecords) (room : Room) (stand : RepresentsRoom t room)
           let before = old_node id found (sym (row_after id) ∙ stands) in
           let was = stand.nodes id before.0 before.1 in
           let after = moved_is id before.0 was.0 was.1 was.2 in
-          let Row : Node → Type 0 = λ n. NodeIsObject rows (renamed room path to) id n (moved path to was.0) was.1 in
-          (moved path to was.0, was.1, subst Row (same_row id after.0 found after.1.node_stands stands) after.1);
+          (moved path to was.0, was.1, rw (same_row id after.0 found after.1.node_stands stands) at after.1);
       objects = λ q p stands. by_stand q p
           (stands_after room stand.lawful path to o m.apart m.is_there.object_stands m.free q p stands);
       next = w.next ∙ stand.next;
@@ -402,15 +370,11 @@ module _ (t : ObjectRecords) (room : Room) (stand : RepresentsRoom t room)
         by_stand : (q : Path) (p : Object)
             → Stands room stand.lawful path to o m.apart m.is_there.object_stands m.free q p → Found q p
         by_stand q p (Moved _ _ rest same stands) =
-            let At : Path → Type 0 = λ x. Found x p in
-            subst At (moved_rest path to rest ∙ sym same) (there (path ++ rest) p stands)
-        by_stand q p (Stayed _ _ off off_to stands) =
-            let At : Path → Type 0 = λ x. Found x p in subst At (moved_off q path to off) (there q p stands)
+            (rw (moved_rest path to rest ∙ sym same) at (there (path ++ rest) p stands))
+        by_stand q p (Stayed _ _ off off_to stands) = rw (← moved_off q path to off) (there q p stands)
 
     pub none_new_moved : (id : ℕ) → IsNone (t.node id) → IsSome (rows.node id) → ⊥
     none_new_moved id none some = elim (some_or_none (later.node id)) [
-      | inl gone ↦ (let There : Option Node → Type 0 = λ x. IsSome x in
-          none_and_some {X = Node} None refl (subst There (row_after id ∙ gone) some))
-      | inr found ↦ (let There : Option Node → Type 0 = λ x. IsSome x in
-          none_and_some (t.node id) none (subst There (sym (old_node id found.0 found.1).1) refl))
+      | inl gone ↦ (none_and_some {X = Node} None refl (rw (row_after id ∙ gone) at some))
+      | inr found ↦ (none_and_some (t.node id) none (rw ((old_node id found.0 found.1).1) refl))
     ]

@@ -1,12 +1,12 @@
 -- Rows without one node stand for the room without its object.
-use Rattle.std.proofs.Common.{◌≡◌, ◌≢◌, ℕ, refl, ap, sym, ◌∙◌, subst, inl, inr, List, [], ◌∷◌, ◌++◌, reverse, length}
-use Rattle.std.proofs.Common.{Option, None, Some, IsSome, IsNone, IfSome, false, unwrap_or, append-nil, append_assoc}
+use Rattle.std.proofs.Common.{◌≡◌, ◌≢◌, ℕ, refl, ap, sym, ◌∙◌, inl, inr, List, [], ◌∷◌, ◌++◌, reverse, length}
+use Rattle.std.proofs.Common.{Option, None, Some, IsSome, IsNone, false, unwrap_or, append-nil, append_assoc}
 use Rattle.std.proofs.lemmas.List.{reverse-append}
 use Rattle.room_records.specs.declared.node.Node.{Node}
 use Rattle.room_records.specs.declared.change.Change.TheVariants.{DropNode}
 use Rattle.room_records.specs.Names.{Name, Path, IsPath}
 use Rattle.room_records.specs.Records.{ObjectRecords, IsChild}
-use Rattle.room_records.specs.Rules.{ObjectRules, IsRoot}
+use Rattle.room_records.specs.Rules.{ObjectRules}
 use Rattle.room_records.specs.Changes.{apply_to_objects}
 use Rattle.room_records.specs.Shelf.{name_of}
 use Rattle.room_records.specs.Room.{Object, Room, IsRoom, object_at, children, list_of}
@@ -32,12 +32,11 @@ use Rattle.room_commands.proofs.EffectIsRoom.{changed_is_room}
 use Rattle.room_tree.proofs.Made.{ends_of}
 use Rattle.room_tree.proofs.Outcomes.{success_plans}
 use Rattle.room_commands.proofs.RoomsWithout.{at_removed, elsewhere_left, left_was_there}
-use Rattle.room_tree.proofs.RowsReplaced.{path_of_node}
+use Rattle.room_tree.proofs.RowsReplaced.{path_of_node, still_shows}
 
-module _ (t : ObjectRecords) (room : Room) (stand : RepresentsRoom t room) (path : Path)
-    (id : ℕ) (node : Node) (o : Object) (is : NodeIsObject t room id node path o)
-    (end : Ends path) (empty : (name : Name) → object_at room (path ++ name ∷ []) ≡ None)
-    (lawful : IsRoom (without room path)) where
+module _ {t : ObjectRecords} {room : Room} (stand : RepresentsRoom t room) {path : Path} {id : ℕ} {node : Node}
+    {o : Object} (is : NodeIsObject t room id node path o) (end : Ends path)
+    (empty : (name : Name) → object_at room (path ++ name ∷ []) ≡ None) (lawful : IsRoom (without room path)) where
   abbrev later : ObjectRecords
   later = apply_to_objects (DropNode id) t
 
@@ -52,8 +51,7 @@ module _ (t : ObjectRecords) (room : Room) (stand : RepresentsRoom t room) (path
 
   not_first : id ≢ 1
   not_first same =
-      let Up : List Name → Type 0 = λ names. NamesUpwards t names id in
-      let up = subst Up (ap reverse end.is ∙ reverse-append end.folder (end.name ∷ [])) is.at in
+      let up = rw (ap reverse end.is ∙ reverse-append end.folder (end.name ∷ [])) at is.at in
       root_only t stand.rules up.0 up.1 (ap t.node (sym same) ∙ up.2) up.4
 
   forth : (k : ℕ) (found : Node) → t.node k ≡ Some found → k ≢ id → later.node k ≡ Some found
@@ -68,12 +66,8 @@ module _ (t : ObjectRecords) (room : Room) (stand : RepresentsRoom t room) (path
   rules_dropped : ObjectRules (apply_to_objects (DropNode id) t)
   rules_dropped = record {
     numbered = λ k found stands. stand.rules.numbered k found (back k found stands).1;
-    root =
-        let Root : Option Node → Type 0 = λ n. IfSome n IsRoot in
-        subst Root (sym (if_other 1 id None (t.node 1) (λ same. not_first (sym same)))) stand.rules.root;
-    has_root =
-        let There : Option Node → Type 0 = λ n. IsSome n in
-        subst There (sym (if_other 1 id None (t.node 1) (λ same. not_first (sym same)))) stand.rules.has_root;
+    root = rw (if_other 1 id None (t.node 1) (λ same. not_first (sym same))) stand.rules.root;
+    has_root = rw (if_other 1 id None (t.node 1) (λ same. not_first (sym same))) stand.rules.has_root;
     below = λ k found stands other.
         let before = back k found stands in
         let under = stand.rules.below k found before.1 other in
@@ -96,10 +90,8 @@ module _ (t : ObjectRecords) (room : Room) (stand : RepresentsRoom t room) (path
           ∙ stand.rules.entries k (sym (if_other k id None (t.node k) other) ∙ gone)
     ];
     documents = λ k there. elim (same_or_other k id) [
-      | inl same ↦ absurd (let There : Option (List ℕ) → Type 0 = λ d. IsSome d in
-          none_and_some {X = List ℕ} None refl (subst There (if_same k id None (t.document k) same) there))
-      | inr other ↦ (let There : Option (List ℕ) → Type 0 = λ d. IsSome d in
-          let owner = stand.rules.documents k (subst There (if_other k id None (t.document k) other) there) in
+      | inl same ↦ absurd (none_and_some {X = List ℕ} None refl (rw (if_same k id None (t.document k) same) at there))
+      | inr other ↦ (let owner = stand.rules.documents k (rw (← if_other k id None (t.document k) other) there) in
           (owner.0, forth k owner.0 owner.1 other, owner.2))
     ];
     next = stand.rules.next;
@@ -136,22 +128,15 @@ module _ (t : ObjectRecords) (room : Room) (stand : RepresentsRoom t room) (path
       let number : found.id ≡ k = (stand.rules.numbered k found at.node_stands).0 in
       let apart : found.id ≢ id = (λ same. other (sym number ∙ same)) in
       let away : q ≡ path → ⊥ = (λ same. other (
-      let At : Path → Type 0 = λ x. HasPath t x k in
-      reads_same path k id (subst At same at.at) is.at)) in
+      reads_same path k id (rw (← same) at.at) is.at)) in
       record {
         at = names_stay (reverse q) k at.at other;
         node_stands = forth k found at.node_stands other;
         object_stands = elsewhere_left room path q away ∙ at.object_stands;
-        shows = record {
-          kind = at.shows.kind;
-          owner = at.shows.owner;
-          group = at.shows.group;
-          aclflag = at.shows.aclflag;
-          entries = if_other found.id id [] (t.entries found.id) apart
-              ∙ at.shows.entries ∙ lists_stay q p at.object_stands away;
-          bytes = ap (λ (d : Option (List ℕ)). unwrap_or d [])
-              (if_other found.id id None (t.document found.id) apart) ∙ at.shows.bytes;
-        };
+        shows = still_shows at.shows
+            (if_other found.id id [] (t.entries found.id) apart ∙ at.shows.entries
+            ∙ lists_stay q p at.object_stands away)
+            (if_other found.id id None (t.document found.id) apart);
       }
     where
       reads_same : (q : Path) (a b : ℕ) → HasPath t q a → HasPath t q b → a ≡ b
@@ -169,45 +154,36 @@ module _ (t : ObjectRecords) (room : Room) (stand : RepresentsRoom t room) (path
         let was = left_was_there room path q p stands in
         let at = stand.objects q p was.1 in
         let other : at.0 ≢ id = (λ same.
-        let At : ℕ → Type 0 = λ k. HasPath t q k in
-        was.0 (path_of_node t stand.rules q path id (subst At same at.2.at) is.at)) in
+        was.0 (path_of_node t stand.rules q path id (rw (← same) at.2.at) is.at)) in
         (at.0, at.1, still at.0 at.1 q p other at.2);
     next = stand.next;
   }
 
   pub removed_keeps : (q : Path) (k : ℕ) → HasPath t q k → IsSome (object_at (without room path) q) → HasPath later q k
   removed_keeps q k at there = names_stay (reverse q) k at (λ same.
-      let At : ℕ → Type 0 = λ x. HasPath t q x in
-      let here = path_of_node t stand.rules q path id (subst At same at) is.at in
-      let There : Option Object → Type 0 = λ x. IsSome x in
+      let here = path_of_node t stand.rules q path id (rw (← same) (at)) is.at in
       none_and_some {X = Object} None refl
-      (subst There (ap (object_at (without room path)) here ∙ at_removed room path) there))
+      (rw (ap (object_at (without room path)) here ∙ at_removed room path) at there))
 
   pub none_made : (k : ℕ) → IsNone (t.node k) → IsSome (later.node k) → ⊥
   none_made k none some = elim (some_or_none (later.node k)) [
-    | inl gone ↦ (let There : Option Node → Type 0 = λ x. IsSome x in
-        none_and_some {X = Node} None refl (subst There gone some))
-    | inr found ↦ (let There : Option Node → Type 0 = λ x. IsSome x in
-        none_and_some (t.node k) none (subst There (sym (back k found.0 found.1).1) refl))
+    | inl gone ↦ (none_and_some {X = Node} None refl (rw gone at some))
+    | inr found ↦ (none_and_some (t.node k) none (rw ((back k found.0 found.1).1) refl))
   ]
 
 -- REMOVE
-pub remove_plans : (t : ObjectRecords) (room : Room) (caller : SubjectModel) (path : Path)
-    (loaded : LoadedObject) (outcome : Outcome) → RepresentsRoom t room → IsLoaded t room path loaded
-    → first_refusal (checks room caller (C.Remove path)) ≡ None
-    → is_root path ≡ false → IsPath path → length (children room path) ≡ 0
-    → outcome.changes.items ≡ DropNode loaded.id ∷ [] → reply_model outcome.reply ≡ Done
-    → PlansEffect t room caller (C.Remove path) outcome
-remove_plans t room caller path loaded outcome stand found passed root_off is_path none planned replied =
+pub remove_plans : {t : ObjectRecords} {room : Room} (caller : SubjectModel) {path : Path} {loaded : LoadedObject}
+    (outcome : Outcome) → RepresentsRoom t room → IsLoaded t room path loaded
+    → first_refusal (checks room caller (C.Remove path)) ≡ None → is_root path ≡ false → IsPath path
+    → length (children room path) ≡ 0 → outcome.changes.items ≡ DropNode loaded.id ∷ []
+    → reply_model outcome.reply ≡ Done → PlansEffect t room caller (C.Remove path) outcome
+remove_plans {t} {room} caller {path} {loaded} outcome stand found passed root_off is_path none planned replied =
     let end = ends_of path root_off in
     let empty = nothing_in_empty room path none in
     let lawful = changed_is_room room caller (C.Remove path) is_path stand.lawful passed in
     let node = node_of loaded in
-    success_plans t room caller (C.Remove path) outcome stand (DropNode loaded.id ∷ []) passed replied planned (tt, tt)
-    (rules_dropped t room stand path loaded.id node found.object found.is_there end empty lawful, tt)
-    (few_dropped t loaded.id)
-    (removed t room stand path loaded.id node found.object found.is_there end empty lawful)
-    (λ q k at stands there. removed_keeps t room stand path loaded.id
-    node found.object found.is_there end empty lawful q k at there)
-    (λ k absent present. absurd (none_made t room stand path loaded.id node
-    found.object found.is_there end empty lawful k absent present))
+    success_plans caller (C.Remove path) outcome stand (DropNode loaded.id ∷ []) passed replied planned (tt, tt)
+    (rules_dropped stand found.is_there end empty lawful, tt) (few_dropped t loaded.id)
+    (removed stand found.is_there end empty lawful)
+    (λ q k at stands there. removed_keeps stand found.is_there end empty lawful q k at there)
+    (λ k absent present. absurd (none_made stand found.is_there end empty lawful k absent present))

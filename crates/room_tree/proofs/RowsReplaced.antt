@@ -1,5 +1,5 @@
 -- Rows where one object changed stand for the room with that object changed.
-use Rattle.std.proofs.Common.{◌≡◌, ◌≢◌, ℕ, ◌+◌, refl, ap, sym, ◌∙◌, subst, Bool, true, false, ◌⊎◌, inl, inr, List, []}
+use Rattle.std.proofs.Common.{◌≡◌, ◌≢◌, ℕ, ◌+◌, refl, ap, sym, ◌∙◌, Bool, true, false, ◌⊎◌, inl, inr, List, []}
 use Rattle.std.proofs.Common.{reverse, Option, Some, option_map, unwrap_or}
 use Rattle.std.proofs.lemmas.List.{reverse-reverse}
 use Rattle.room_records.specs.declared.node.Node.{Node}
@@ -26,6 +26,19 @@ path_same_or_other a b = by_test (path_eq a b) refl
     by_test true e = inl (same_path a b e)
     by_test false e = inr (λ same. let f : true ≡ false = sym (ap (path_eq a) (sym same) ∙ path_itself a) ∙ e in cc)
 
+-- a row that stays shows what it showed
+pub still_shows : {t later : ObjectRecords} {room after : Room} {path to : Path} {node : Node} {o : Object}
+    → RowsShowObject t node room path o → later.entries node.id ≡ list_of after to
+    → later.document node.id ≡ t.document node.id → RowsShowObject later node after to o
+still_shows shows entries document = record {
+  kind = shows.kind;
+  owner = shows.owner;
+  group = shows.group;
+  aclflag = shows.aclflag;
+  entries = entries;
+  bytes = ap (λ (d : Option (List ℕ)). unwrap_or d []) document ∙ shows.bytes;
+}
+
 -- one node of the rows changed, and stays where it is
 pub record Replaces (t later : ObjectRecords) (room after : Room)
     (path : Path) (o now_is : Object) (node now : Node) : Type 0 where
@@ -43,7 +56,7 @@ pub record Replaces (t later : ObjectRecords) (room after : Room)
   pub at_path : object_at after path ≡ Some now_is
   pub away : (q : Path) → (q ≡ path → ⊥) → object_at after q ≡ object_at room q
 
-module _ (t later : ObjectRecords) (room after : Room) (path : Path) (o now_is : Object) (node now : Node)
+module _ {t later : ObjectRecords} {room after : Room} {path : Path} {o now_is : Object} {node now : Node}
     (stand : RepresentsRoom t room) (r : Replaces t later room after path o now_is node now) where
   stays_at : (q : Path) (id : ℕ) → HasPath t q id → HasPath later q id
   stays_at q id at = names_by_shape t later r.shape (reverse q) id at
@@ -52,13 +65,11 @@ module _ (t later : ObjectRecords) (room after : Room) (path : Path) (o now_is :
       → NodeIsObject later after id found path now_is
   here_is id same found stands =
       let is : now ≡ found = some_is now found (sym r.stands ∙ ap later.node (sym same) ∙ stands) in
-      let At : ℕ → Type 0 = λ k. HasPath later path k in
-      let Shown : Node → Type 0 = λ n. RowsShowObject later n after path now_is in
       record {
-        at = subst At (sym same) (stays_at path node.id r.is_there.at);
+        at = rw same (stays_at path node.id r.is_there.at);
         node_stands = stands;
         object_stands = r.at_path;
-        shows = subst Shown is r.shows;
+        shows = rw (← is) r.shows;
       }
 
   away_is : (id : ℕ) → id ≢ node.id → (found : Node) (q : Path) (p : Object)
@@ -66,21 +77,14 @@ module _ (t later : ObjectRecords) (room after : Room) (path : Path) (o now_is :
   away_is id other found q p is =
       let number : found.id ≡ id = (stand.rules.numbered id found is.node_stands).0 in
       let apart : found.id ≢ node.id = (λ same. other (sym number ∙ same)) in
-      let At : Path → Type 0 = λ a. HasPath t a id in
       let moved : q ≡ path → ⊥ =
-      (λ same. other (reads_one t stand.rules (reverse path) id node.id (subst At same is.at) r.is_there.at)) in
+      (λ same. other (reads_one t stand.rules (reverse path) id node.id (rw (← same) is.at) r.is_there.at)) in
       record {
         at = stays_at q id is.at;
         node_stands = r.nodes_away id other ∙ is.node_stands;
         object_stands = r.away q moved ∙ is.object_stands;
-        shows = record {
-          kind = is.shows.kind;
-          owner = is.shows.owner;
-          group = is.shows.group;
-          aclflag = is.shows.aclflag;
-          entries = ap later.entries number ∙ r.lists_away q id is.at other;
-          bytes = ap (λ (d : Option (List ℕ)). unwrap_or d []) (r.documents_away found.id apart) ∙ is.shows.bytes;
-        };
+        shows = still_shows is.shows (ap later.entries number ∙ r.lists_away q id is.at other)
+            (r.documents_away found.id apart);
       }
 
   pub replaced : RepresentsRoom later after
@@ -97,14 +101,11 @@ module _ (t later : ObjectRecords) (room after : Room) (path : Path) (o now_is :
       | inl same ↦
           let is : now_is ≡ p = some_is now_is p (sym r.at_path ∙ ap (object_at after) (sym same) ∙ stands) in
           let P : Path → Object → Type 0 = λ a b. (id : ℕ) × (found : Node) × NodeIsObject later after id found a b in
-          let Q : Path → Type 0 = λ a. P a p in
-          let R : Object → Type 0 = λ b. P path b in
-          subst Q (sym same) (subst R is (node.id, now, here_is node.id refl now r.stands))
+          rw same (rw (← is) (node.id, now, here_is node.id refl now r.stands))
       | inr other ↦
           let before = stand.objects q p (sym (r.away q other) ∙ stands) in
           let apart : before.0 ≢ node.id = (λ same.
-          let At : ℕ → Type 0 = λ k. HasPath t q k in
-          other (path_of_node t stand.rules q path node.id (subst At same before.2.at) r.is_there.at)) in
+          other (path_of_node t stand.rules q path node.id (rw (← same) before.2.at) r.is_there.at)) in
           (before.0, before.1, away_is before.0 apart before.1 q p before.2)
     ];
     next = r.next ∙ stand.next ∙ ap (λ (made : ℕ). made + 1) (sym r.made);

@@ -1,5 +1,5 @@
 -- The rows of entries of a node hold its list; and what a list does not depend on.
-use Rattle.std.proofs.Common.{◌≡◌, ℕ, refl, ap, sym, ◌∙◌, subst, inl, inr, ◌⊎◌, List, [], ◌∷◌, reverse}
+use Rattle.std.proofs.Common.{◌≡◌, ℕ, refl, ap, sym, ◌∙◌, inl, inr, ◌⊎◌, List, [], ◌∷◌, reverse}
 use Rattle.std.proofs.Common.{Option, None, Some, IsSome, option_map}
 use Rattle.std.proofs.lemmas.List.{reverse-append}
 use Rattle.room_acl.specs.declared.subject.Kind.{Kind}
@@ -9,7 +9,7 @@ use Rattle.room_records.specs.declared.node.Node.{Node}
 use Rattle.room_records.specs.Names.{Name, Path}
 use Rattle.room_records.specs.Records.{ObjectRecords}
 use Rattle.room_records.specs.Room.{Object, Room, object_at, list_of, list_upwards, list_under, root_list}
-use Rattle.room_records.specs.Representation.{HasPath, NamesUpwards, RepresentsRoom}
+use Rattle.room_records.specs.Representation.{HasPath, RepresentsRoom}
 use Rattle.room_records.proofs.Paths.{object_at_node}
 use Rattle.room_records.proofs.RoomsMap.{Ends, ends}
 
@@ -22,26 +22,23 @@ is_present None h = let f = h in cc
 is_present (Some x) h = (x, refl)
 
 -- a number that has a path is a node's
-pub node_at_path : (t : ObjectRecords) (room : Room)
-    → RepresentsRoom t room → (path : Path) (id : ℕ) → HasPath t path id
-    → (node : Node) × (t.node id ≡ Some node)
-node_at_path t room stand path id at = elim (root_or_below path) [
+pub node_at_path : {t : ObjectRecords} {room : Room} → RepresentsRoom t room → (path : Path) (id : ℕ)
+    → HasPath t path id → (node : Node) × (t.node id ≡ Some node)
+node_at_path {t} stand path id at = elim (root_or_below path) [
   | inl root ↦ (
-      let At : Path → Type 0 = λ p. HasPath t p id in
-      let one : id ≡ 1 = subst At root at in
+      let one : id ≡ 1 = rw root at at in
       let first = is_present (t.node 1) stand.rules.has_root in
       (first.0, ap t.node one ∙ first.1))
   | inr end ↦ (
-      let Up : List Name → Type 0 = λ names. NamesUpwards t names id in
-      let up = subst Up (ap reverse end.is ∙ reverse-append end.folder (end.name ∷ [])) at in
+      let up = rw (ap reverse end.is ∙ reverse-append end.folder (end.name ∷ [])) at at in
       (up.0, up.2))
 ]
 
 -- its rows hold the list of the object there
-pub stored_list : (t : ObjectRecords) (room : Room) → RepresentsRoom t room → (path : Path) (id : ℕ) → HasPath t path id
-    → t.entries id ≡ list_of room path
-stored_list t room stand path id at =
-    let node = node_at_path t room stand path id at in
+pub stored_list : {t : ObjectRecords} {room : Room} → RepresentsRoom t room → (path : Path) (id : ℕ)
+    → HasPath t path id → t.entries id ≡ list_of room path
+stored_list {t} {room} stand path id at =
+    let node = node_at_path stand path id at in
     let found = object_at_node t room stand path id node.0 at node.1 in
     ap t.entries (sym (stand.rules.numbered id node.0 node.1).0) ∙ found.2.entries
 

@@ -3,7 +3,6 @@ use Rattle.room_records.specs.declared.change.Change.TheVariants.{PutNode}
 use Rattle.room_records.specs.declared.node.Node.{Node}
 use Rattle.room_records.specs.Room.{Object}
 use Rattle.room_commands.specs.CommandModel as C
-use Rattle.room_tree.specs.LoadedObjects.{node_of}
 use Rattle.room_commands.specs.ReplyModel.{reply_model}
 use Rattle.room_tree.proofs.Changed.{replaced_plans, row_replaces}
 use Rattle.room_tree.proofs.FewRows.{few_row}
@@ -27,8 +26,7 @@ returns-clause-effect g c = λ available laid_out t e room stand.
     let change : Object → Object = λ o. record o { owner = owner; group = group } in
     let node = c.in_ok-node.node in
     let is = c.in_ok-node.ensures in
-    let r = row_replaces t room stand path loaded reached.1 change
-    (chown_is_room room caller group owner path stand.lawful reached.0) node
+    let r = row_replaces stand reached.1 change (chown_is_room room caller group owner path stand.lawful reached.0) node
     (record {
       id = ap (λ (n : Node). n.id) is;
       parent = ap (λ (n : Node). n.parent) is;
@@ -37,7 +35,7 @@ returns-clause-effect g c = λ available laid_out t e room stand.
     })
     (ap (λ (n : Node). n.owner) is) (ap (λ (n : Node). n.group) is)
     (ap (λ (n : Node). n.aclflag) is ∙ reached.1.is_there.shows.aclflag) refl refl refl refl in
-    replaced_plans t room caller (C.Chown c.args.group.now c.args.owner.now path) c.in_ok-outcome.outcome
-    (PutNode node ∷ []) path reached.1.object (change reached.1.object) (node_of loaded) node stand
+    replaced_plans caller (C.Chown c.args.group.now c.args.owner.now path) c.in_ok-outcome.outcome
+    (PutNode node ∷ []) stand
     r reached.0 (ap reply_model c.in_ok-outcome.ensures.reply) c.in_ok-outcome.ensures.changes
     (tt, tt) (r.rules, tt) (few_row t node) (λ q. refl)

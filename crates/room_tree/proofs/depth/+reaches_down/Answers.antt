@@ -1,35 +1,30 @@
-use Rattle.std.proofs.Common.{◌≡◌, ℕ, ◌+◌, ◌-◌, refl, ap, sym, ◌∙◌, subst, arith, List, [], ◌∷◌, ◌++◌, take}
+use Rattle.std.proofs.Common.{◌≡◌, ◌+◌, ◌-◌, refl, ap, sym, ◌∙◌, subst, arith, [], ◌∷◌, ◌++◌, take}
 use Rattle.std.proofs.lemmas.List.{take_more, take_all}
 use Rattle.room_records.specs.declared.node.Node.{Node}
-use Rattle.room_records.specs.Records.{ObjectRecords, Records, IsChild}
-use Rattle.room_records.specs.Rules.{ObjectRules}
-use Rattle.room_records.specs.Shelf.{AreChildren, name_of}
+use Rattle.room_records.specs.Records.{Records, IsChild}
+use Rattle.room_records.specs.Shelf.{name_of}
 use Rattle.room_records.proofs.Lists.{all_at, all_append}
 use Rattle.room_records.proofs.Shelves.{read_then}
 use Rattle.room_tree.specs.Depths.{StandsBelow}
-use Rattle.room_tree.proofs.Depths.{NoneBelowEach, itself_below, none_below_file, one_level_more}
-use Rattle.room_tree.proofs.Depths.{child_path, none_below_children}
+use Rattle.room_tree.proofs.Depths.{itself_below, none_below_file, one_level_more, child_path, none_below_children}
+use Rattle.room_tree.proofs.Told.{both_tell}
 use Rattle.room_tree.proofs.depth.+reaches_down.Goals as goal
 
 pub returns-then-levels-eq0-clause-value : goal.returns-then-levels-eq0-clause-value
 returns-then-levels-eq0-clause-value g m c = λ available laid_out t e room stand path node at stands kind.
-    let Below : ℕ → Type 0 = λ n. StandsBelow room path n in
-    subst Below (sym c.if-levels-eq0.true) (itself_below t room stand path c.args.id node at stands)
+    rw c.if-levels-eq0.true (itself_below stand path c.args.id node at stands)
 
 pub returns-in-File-clause-value : goal.returns-in-File-clause-value
 returns-in-File-clause-value g m c = λ available laid_out t e room stand path node at stands kind.
-    none_below_file t room stand path c.args.id node c.args.levels at
+    none_below_file stand path c.args.id node c.args.levels at
     stands (kind ∙ c.in-File.is) (omega (arith, c.if-levels-eq0.false))
 
 pub loop-node-init : goal.loop-node-init
 loop-node-init g m c = record {
   frame = c.in_ok-nodes.ensures.frame;
   children = λ available laid_out t e room stand.
-      let Rules : ObjectRecords → Type 0 = λ r. ObjectRules r in
-      let Are : ObjectRecords → Type 0 = λ r. AreChildren r c.args.id c.in_ok-nodes.nodes.items in
-      let Nodes : List Node → Type 0 = λ nodes. AreChildren t c.args.id nodes in
-      subst Nodes (sym c.deref-node-items.ensures.value)
-      (subst Are e (c.in_ok-nodes.ensures.value available laid_out (subst Rules (sym e) stand.rules)));
+      rw c.deref-node-items.ensures.value
+      (rw (← e) (c.in_ok-nodes.ensures.value available laid_out (rw e stand.rules)));
   none = λ available laid_out t e room stand path node at stands kind. tt;
 }
 
@@ -37,15 +32,14 @@ pub returns-then-deep-clause-value : goal.returns-then-deep-clause-value
 returns-then-deep-clause-value g m c = λ available laid_out t e room stand path node at stands kind.
     let items = c.deref-node-items.result.now in
     let child = c.node-item.result in
-    let before = c.reaches_down.ensures.frame.call.was_available available in
-    let declared = c.loop-node.invariant.frame.call.laid_out before laid_out in
-    let same = ap (λ (r : Records). r.objects) (c.loop-node.invariant.frame.same before laid_out) ∙ e in
-    let are = c.loop-node.invariant.children before laid_out t e room stand in
+    let told = both_tell _ _ c.loop-node.invariant.frame c.reaches_down.ensures.frame
+    c.loop-node.invariant.children c.in_ok-deep.ensures.value available laid_out t e room stand in
+    let are = told.0 in
     let Child : Node → Type 0 = λ n. IsChild t c.args.id n in
     let is_child : Child child = subst Child (sym c.node-item.is)
     (all_at Child items c.loop-node.node-index child are.each c.loop-node-test.true) in
-    let found = c.in_ok-deep.ensures.value available declared t same room stand (path ++ name_of child ∷ []) child
-    (child_path t room stand path c.args.id child at is_child) is_child.stands refl in
+    let found = told.1 (path ++ name_of child ∷ []) child
+    (child_path stand path c.args.id child at is_child) is_child.stands refl in
     one_level_more room path (name_of child) c.args.levels
     (omega (arith, c.if-levels-eq0.false)) (rw c.if-deep.true at found)
 
@@ -68,13 +62,11 @@ loop-node-preserved g m c =
           let is_child : Child child =
           subst Child (sym c.node-item.is) (all_at Child items i child are.each c.loop-node-test.true) in
           let found = c.in_ok-deep.ensures.value available declared t same room stand (path ++ name_of child ∷ []) child
-          (child_path t room stand path c.args.id child at is_child) is_child.stands refl in
+          (child_path stand path c.args.id child at is_child) is_child.stands refl in
           let Free : Node → Type 0 = λ n. StandsBelow room (path ++ name_of n ∷ []) (c.args.levels - 1) → ⊥ in
-          let Each : List Node → Type 0 = λ nodes. NoneBelowEach room path (c.args.levels - 1) nodes in
           let more : take (i + 1) items ≡ take i items ++ child ∷ [] =
           take_more items i child c.loop-node-test.true ∙ ap (λ n. take i items ++ n ∷ []) (sym c.node-item.is) in
-          subst Each (sym more)
-          (all_append Free (take i items) (child ∷ []) (c.loop-node.invariant.none before laid_out
+          rw more (all_append Free (take i items) (child ∷ []) (c.loop-node.invariant.none before laid_out
           t e room stand path node at stands kind) (rw c.if-deep.false at found, tt));
     }
 
@@ -83,6 +75,5 @@ returns-clause-value g m c = λ available laid_out t e room stand path node at s
     let items = c.deref-node-items.result.now in
     let are = c.loop-node.invariant.children available laid_out t e room stand in
     let none = c.loop-node.invariant.none available laid_out t e room stand path node at stands kind in
-    let Each : List Node → Type 0 = λ nodes. NoneBelowEach room path (c.args.levels - 1) nodes in
-    none_below_children t room stand path c.args.id c.args.levels items at are (omega (arith, c.if-levels-eq0.false))
-    (subst Each (take_all c.loop-node.node-index items c.loop-node-test.false) none)
+    none_below_children stand path c.args.id c.args.levels items at are (omega (arith, c.if-levels-eq0.false))
+    (rw (← take_all c.loop-node.node-index items c.loop-node-test.false) none)

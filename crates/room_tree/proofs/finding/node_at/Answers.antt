@@ -1,9 +1,4 @@
-use Rattle.std.proofs.Common.{◌≡◌, ◌<◌, ◌≤◌, None, Some, subst, length, get_or}
 use Rattle.std.proofs.lemmas.List.{take_all}
-use Rattle.room_records.specs.Names.{Path}
-use Rattle.room_records.specs.Shelf.{IsChildNamed}
-use Rattle.room_records.specs.Records.{Records}
-use Rattle.room_records.specs.Representation.{HasPath}
 use Rattle.room_records.proofs.Paths.{none_on_the_way, one_further}
 use Rattle.room_records.proofs.Shelves.{read_then}
 use Rattle.room_tree.proofs.finding.node_at.Goals as goal
@@ -12,23 +7,16 @@ pub returns-in_default-2-clause-value : goal.returns-in_default-2-clause-value
 returns-in_default-2-clause-value g c = λ available laid_out room stand.
     let before = c.child.ensures.frame.call.was_available available in
     let declared = c.loop-name.invariant.frame.call.laid_out before laid_out in
-    let Named : Records → Type 0 = λ r. IsChildNamed r.objects c.loop-name.here.id c.name-item.result None in
-    let none = subst Named (c.loop-name.invariant.frame.same before laid_out)
+    let none = rw (c.loop-name.invariant.frame.same before laid_out) at
     (rw c.in_default-2.is at (c.in_ok-next.ensures.value available declared)) in
-    let Below : Path → Type 0 = λ p. c.loop-name.name-index < length p in
-    let At : Path → Type 0 = λ p. c.name-item.result ≡ get_or p c.loop-name.name-index c.name-item.result in
     none_on_the_way (g.S.Shelf.view c.args.shelf.now).records.objects room stand
     c.args.path.now c.loop-name.name-index c.name-item.result c.loop-name.here.id
-    (subst Below c.loop-name.invariant.names c.loop-name-test.true)
-    (subst At c.loop-name.invariant.names c.name-item.is)
+    (rw (← c.loop-name.invariant.names) c.loop-name-test.true)
+    (rw (← c.loop-name.invariant.names) c.name-item.is)
     (c.loop-name.invariant.at before laid_out room stand) none
 
 pub loop-name-preserved : goal.loop-name-preserved
 loop-name-preserved g c =
-    let Named : Records → Type 0 =
-    λ r. IsChildNamed r.objects c.loop-name.here.id c.name-item.result (Some c.in-Some-2.next) in
-    let Below : Path → Type 0 = λ p. c.loop-name.name-index < length p in
-    let At : Path → Type 0 = λ p. c.name-item.result ≡ get_or p c.loop-name.name-index c.name-item.result in
     record {
       frame = read_then _ _ _ _ c.in_ok-next.ensures.frame c.loop-name.invariant.frame;
       there = c.in_ok-next.ensures.there;
@@ -36,26 +24,24 @@ loop-name-preserved g c =
       at = λ available laid_out room stand.
           let before = c.child.ensures.frame.call.was_available available in
           let declared = c.loop-name.invariant.frame.call.laid_out before laid_out in
-          let child = subst Named (c.loop-name.invariant.frame.same before laid_out)
+          let child = rw (c.loop-name.invariant.frame.same before laid_out) at
           (rw c.in-Some-2.is at (c.in_ok-next.ensures.value available declared)) in
           one_further (g.S.Shelf.view c.args.shelf.now).records.objects room stand c.args.path.now
           c.loop-name.name-index c.name-item.result c.loop-name.here.id c.in-Some-2.next
-          (subst Below c.loop-name.invariant.names c.loop-name-test.true)
-          (subst At c.loop-name.invariant.names c.name-item.is)
+          (rw (← c.loop-name.invariant.names) c.loop-name-test.true)
+          (rw (← c.loop-name.invariant.names) c.name-item.is)
           (c.loop-name.invariant.at before laid_out room stand) child;
       stands = λ available laid_out room stand.
           let before = c.child.ensures.frame.call.was_available available in
           let declared = c.loop-name.invariant.frame.call.laid_out before laid_out in
-          let child = subst Named (c.loop-name.invariant.frame.same before laid_out)
+          let child = rw (c.loop-name.invariant.frame.same before laid_out) at
           (rw c.in-Some-2.is at (c.in_ok-next.ensures.value available declared)) in
           child.0.stands;
     }
 
 pub returns-clause-value : goal.returns-clause-value
-returns-clause-value g c = λ available laid_out room stand.
-    let P : Path → Type 0 = λ p. HasPath (g.S.Shelf.view c.args.shelf.now).records.objects p c.loop-name.here.id in
-    let Above : Path → Type 0 = λ p. length p ≤ c.loop-name.name-index in (
-      subst P (take_all c.loop-name.name-index c.args.path.now (subst Above c.loop-name.invariant.names
-          c.loop-name-test.false)) (c.loop-name.invariant.at available laid_out room stand),
-      c.loop-name.invariant.stands available laid_out room stand,
-    )
+returns-clause-value g c = λ available laid_out room stand. (
+  rw (← take_all c.loop-name.name-index c.args.path.now (rw (← c.loop-name.invariant.names) c.loop-name-test.false))
+      (c.loop-name.invariant.at available laid_out room stand),
+  c.loop-name.invariant.stands available laid_out room stand,
+)

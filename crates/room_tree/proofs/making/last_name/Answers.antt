@@ -1,6 +1,5 @@
-use Rattle.std.proofs.Common.{◌≡◌, ◌-◌, ap, ◌∙◌, subst, arith, [], ◌∷◌, ◌++◌, length, get_or, Some}
+use Rattle.std.proofs.Common.{◌≡◌, ◌-◌, ap, ◌∙◌, arith, [], ◌∷◌, ◌++◌, length, Some}
 use Rattle.std.proofs.lemmas.List.{length_push, get_or_push}
-use Rattle.room_records.specs.Names.{Path}
 use Rattle.room_tree.proofs.making.last_name.Goals as goal
 
 pub returns : goal.returns
@@ -8,7 +7,5 @@ returns c = λ folder name is.
     let whole : c.names-names.result.now ≡ folder ++ name ∷ [] = c.names-names.ensures.value ∙ is in
     let at : length folder ≡ length c.names-names.result.now - 1 =
     omega (arith, ap length whole, length_push folder name) in
-    let Read : Path → Type 0 =
-    λ p. c.index-names-count.result ≡ get_or p (length c.names-names.result.now - 1) c.index-names-count.result in
-    ap Some (c.in_ok-name.ensures ∙ subst Read whole c.index-names-count.is
+    ap Some (c.in_ok-name.ensures ∙ rw (← whole) c.index-names-count.is
     ∙ get_or_push folder name c.index-names-count.result (length c.names-names.result.now - 1) at)

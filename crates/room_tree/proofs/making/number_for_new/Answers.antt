@@ -1,13 +1,25 @@
-use Rattle.std.proofs.Common.{ap, sym, ◌∙◌, [], ◌∷◌}
+use Rattle.std.proofs.Common.{◌≡◌, ℕ, ap, sym, ◌∙◌, arith, [], ◌∷◌, None}
 use Rattle.std.specs.Prelude.{nat_le, nat_lt}
 use Rattle.room_records.specs.Limits.{max_children, max_objects}
+use Rattle.room_records.specs.Names.{Path}
 use Rattle.room_records.specs.Records.{Records, ObjectRecords}
+use Rattle.room_records.specs.Representation.{RepresentsRoom}
+use Rattle.room_records.specs.Room.{Room}
 use Rattle.room_commands.specs.declared.reply.RefusalCode.TheVariants.{FolderFull, RoomFull}
-use Rattle.room_commands.specs.Checks.{refuse_if, check_folder_full, check_room_full}
+use Rattle.room_commands.specs.Checks.{first_refusal, refuse_if, check_folder_full, check_room_full}
 use Rattle.room_tree.proofs.Checking.{skip, stop, first_alone}
 use Rattle.room_tree.proofs.Made.{before_next}
 use Rattle.room_tree.proofs.Stops.{handed_on}
 use Rattle.room_tree.proofs.making.number_for_new.Goals as goal
+
+-- where the folder is not full, what refuses is that no number is left
+number_left : (t : ObjectRecords) (room : Room) → RepresentsRoom t room
+    → (folder : Path) (next : ℕ) → next ≡ t.next → check_folder_full room folder ≡ None
+    → first_refusal (check_folder_full room folder ∷ check_room_full room ∷ [])
+    ≡ refuse_if (nat_lt max_objects next) RoomFull
+number_left t room stand folder next is passed = skip (check_folder_full room folder) (check_room_full room ∷ []) passed
+    ∙ first_alone (check_room_full room) ∙ ap (λ b. refuse_if b RoomFull) (sym (before_next max_objects room.made))
+    ∙ ap (λ n. refuse_if (nat_lt max_objects n) RoomFull) (sym (is ∙ stand.next))
 
 pub returns-in_err-check_children-clause-value : goal.returns-in_err-check_children-clause-value
 returns-in_err-check_children-clause-value g c = λ available laid_out t e room stand folder found.
@@ -24,12 +36,23 @@ returns-in_err-check_number-clause-value g c = λ available laid_out t e room st
     let count = c.in_ok-count.ensures.value before laid_out t e room stand folder found in
     let next = c.in_ok-next.ensures.value available declared ∙ ap (λ (r : ObjectRecords). r.next) same in
     handed_on _ _ _ c.from_residual-in_err-check_number.result c.from_residual-in_err-check_number.ensures.1
-    (skip (check_folder_full room folder) (check_room_full room ∷ [])
+    (number_left t room stand folder c.in_ok-next.next next
     (ap (λ n. refuse_if (nat_le max_children n) FolderFull) (sym count) ∙ sym c.in_ok-check_children.ensures)
-    ∙ first_alone (check_room_full room)
-    ∙ ap (λ b. refuse_if b RoomFull) (sym (before_next max_objects room.made))
-    ∙ ap (λ n. refuse_if (nat_lt max_objects n) RoomFull) (sym (next ∙ stand.next))
     ∙ sym c.in_err-check_number.ensures)
+
+pub returns-in-Some-clause-value : goal.returns-in-Some-clause-value
+returns-in-Some-clause-value g c = λ available laid_out t e room stand folder found.
+    let numbered = c.node.ensures.frame.call.was_available available in
+    let before = c.next_id.ensures.frame.call.was_available numbered in
+    let declared = c.count_children.ensures.frame.call.laid_out before laid_out in
+    let same = ap (λ (r : Records). r.objects) (c.count_children.ensures.frame.same before laid_out) ∙ e in
+    let next = c.in_ok-next.ensures.value numbered declared ∙ ap (λ (r : ObjectRecords). r.next) same in
+    let asked = c.next_id.ensures.frame.call.laid_out numbered declared in
+    let stays = ap (λ (r : Records). r.objects) (c.next_id.ensures.frame.same numbered declared) ∙ same in
+    let taken = rw c.in-Some.is at (c.in_ok-node.ensures.value available asked) in
+    let told = stand.rules.numbered c.in_ok-next.next c.in-Some.field-0
+    (sym (taken ∙ ap (λ (r : ObjectRecords). r.node c.in_ok-next.next) stays)) in
+    absurd (omega (arith, told.2, next))
 
 pub returns-clause-value : goal.returns-clause-value
 returns-clause-value g c = λ available laid_out t e room stand folder found.
@@ -39,11 +62,8 @@ returns-clause-value g c = λ available laid_out t e room stand folder found.
     let same = ap (λ (r : Records). r.objects) (c.count_children.ensures.frame.same before laid_out) ∙ e in
     let count = c.in_ok-count.ensures.value before laid_out t e room stand folder found in
     let next = c.in_ok-next.ensures.value numbered declared ∙ ap (λ (r : ObjectRecords). r.next) same in (
-      skip (check_folder_full room folder) (check_room_full room ∷ [])
+      number_left t room stand folder c.in_ok-next.next next
           (ap (λ n. refuse_if (nat_le max_children n) FolderFull) (sym count) ∙ sym c.in_ok-check_children.ensures)
-          ∙ first_alone (check_room_full room)
-          ∙ ap (λ b. refuse_if b RoomFull) (sym (before_next max_objects room.made))
-          ∙ ap (λ n. refuse_if (nat_lt max_objects n) RoomFull) (sym (next ∙ stand.next))
           ∙ sym c.in_ok-check_number.ensures,
       next,
     )

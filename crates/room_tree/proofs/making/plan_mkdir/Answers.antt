@@ -1,48 +1,39 @@
-use Rattle.std.proofs.Common.{ap, ◌∙◌, List, [], ◌∷◌, refl}
+use Rattle.std.proofs.Common.{ap, ◌∙◌, refl}
 use Rattle.room_records.specs.Records.{Records}
 use Rattle.room_records.specs.Room.{parent_of}
-use Rattle.room_commands.specs.declared.reply.RefusalCode.TheVariants.{Exist}
-use Rattle.room_commands.specs.Checks.{refuse_if, is_root, walk, check_absent, check_right}
-use Rattle.room_commands.specs.Checks.{check_folder_full, check_room_full}
+use Rattle.room_records.proofs.Shelves.{read_then}
+use Rattle.room_tree.proofs.Checking.{limit_checks, new_checks}
 use Rattle.room_tree.proofs.Made.{mkdir_plans}
 use Rattle.room_tree.proofs.Stops.{handed_on, in_front, past_front}
+use Rattle.room_tree.proofs.Told.{both_tell}
 use Rattle.room_tree.proofs.making.plan_mkdir.Goals as goal
 
 pub returns-in_err-above-clause-effect : goal.returns-in_err-above-clause-effect
 returns-in_err-above-clause-effect g c = λ available laid_out t e room stand.
     let path = c.args.path.now in
     handed_on _ _ _ c.from_residual.result c.from_residual.ensures.1
-    (in_front (refuse_if (is_root path) Exist ∷ walk room c.args.subject.now path
-    ∷ check_absent room path ∷ check_right room c.args.subject.now (parent_of path) 0x4 ∷ [])
-    (check_folder_full room (parent_of path) ∷ check_room_full room ∷ [])
+    (in_front (new_checks room c.args.subject.now path 0x4) (limit_checks room path)
     _ (c.in_err-above.ensures.value available laid_out t e room stand))
 
 pub returns-in_err-id-clause-effect : goal.returns-in_err-id-clause-effect
 returns-in_err-id-clause-effect g c = λ available laid_out t e room stand.
     let path = c.args.path.now in
-    let before = c.number_for_new.ensures.frame.call.was_available available in
-    let reached = c.in_ok-above.ensures.value before laid_out t e room stand in
-    let declared = c.folder_for_new.ensures.frame.call.laid_out before laid_out in
-    let same = ap (λ (r : Records). r.objects) (c.folder_for_new.ensures.frame.same before laid_out) ∙ e in
+    let told = both_tell _ _ c.folder_for_new.ensures.frame c.number_for_new.ensures.frame
+    c.in_ok-above.ensures.value c.in_err-id.ensures.value available laid_out t e room stand in
     handed_on _ _ _ c.from_residual-in_err-id.result c.from_residual-in_err-id.ensures.1
-    (past_front (refuse_if (is_root path) Exist ∷ walk room c.args.subject.now path
-    ∷ check_absent room path ∷ check_right room c.args.subject.now (parent_of path) 0x4 ∷ [])
-    (check_folder_full room (parent_of path) ∷ check_room_full room ∷ []) _ reached.0
-    (c.in_err-id.ensures.value available declared t same room stand (parent_of path) reached.1))
+    (past_front (new_checks room c.args.subject.now path 0x4) (limit_checks room path) _ told.0.0
+    (told.1 (parent_of path) told.0.1))
 
 pub returns-clause-effect : goal.returns-clause-effect
 returns-clause-effect g c = λ available laid_out t e room stand.
     let path = c.args.path.now in
-    let numbered = c.list_for_new.ensures.frame.call.was_available available in
-    let before = c.number_for_new.ensures.frame.call.was_available numbered in
-    let reached = c.in_ok-above.ensures.value before laid_out t e room stand in
-    let declared = c.folder_for_new.ensures.frame.call.laid_out before laid_out in
-    let same = ap (λ (r : Records). r.objects) (c.folder_for_new.ensures.frame.same before laid_out) ∙ e in
-    let number = c.in_ok-id.ensures.value numbered declared t same room stand (parent_of path) reached.1 in
-    let listing = c.number_for_new.ensures.frame.call.laid_out numbered declared in
-    let same_then = ap (λ (r : Records). r.objects) (c.number_for_new.ensures.frame.same numbered declared) ∙ same in
-    let given = c.in_ok-list.ensures.value available listing t same_then room stand (parent_of path) reached.1 in
-    mkdir_plans t room c.args.subject.now path c.in_ok-above.above c.in_ok-id.id c.in_ok-node.node
-    c.in_ok-list.list _ stand c.in_ok-above.ensures.lawful reached.0 reached.1
+    let told = both_tell _ _ c.folder_for_new.ensures.frame
+    (read_then _ _ _ _ c.list_for_new.ensures.frame c.in_ok-id.ensures.frame) c.in_ok-above.ensures.value
+    (both_tell _ _ c.in_ok-id.ensures.frame c.list_for_new.ensures.frame c.in_ok-id.ensures.value
+    c.in_ok-list.ensures.value) available laid_out t e room stand in
+    let reached = told.0 in
+    let number = told.1.0 (parent_of path) reached.1 in
+    let given = told.1.1 (parent_of path) reached.1 in
+    mkdir_plans c.in_ok-list.list _ stand c.in_ok-above.ensures.lawful reached.0 reached.1
     number c.in_ok-node.ensures given
     c.in_ok-changes.ensures refl

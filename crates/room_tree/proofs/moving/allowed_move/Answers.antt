@@ -1,11 +1,11 @@
-use Rattle.std.proofs.Common.{ap, sym, ◌∙◌, ◌++◌, ◌||◌}
-use Rattle.room_records.specs.Records.{Records}
+use Rattle.std.proofs.Common.{sym, ◌∙◌, ◌++◌, ◌||◌}
 use Rattle.room_commands.specs.declared.reply.RefusalCode.TheVariants.{Inval}
 use Rattle.room_commands.specs.Checks.{refuse_if, is_root, is_at_or_below}
 use Rattle.room_tree.specs.Renames.{end_checks, move_rights}
 use Rattle.room_tree.proofs.Checking.{skip, stop, none_passes}
 use Rattle.room_tree.proofs.Renamed.{paths_pass}
 use Rattle.room_tree.proofs.Stops.{handed_on, past_head, in_front, past_front}
+use Rattle.room_tree.proofs.Told.{both_tell}
 use Rattle.room_tree.proofs.moving.allowed_move.Goals as goal
 
 pub returns-in_err-check_paths-clause-value : goal.returns-in_err-check_paths-clause-value
@@ -36,15 +36,14 @@ returns-in_err-check_rights-clause-value g c = λ available laid_out t e room st
     let caller = c.args.subject.now in
     let to = c.args.to.now in
     let passed = sym c.in_ok-check_paths.ensures.value in
-    let before = c.check_rights.ensures.frame.call.was_available available in
-    let ended = c.in_ok-ends.ensures.value before laid_out t e room stand (paths_pass path to passed).below_root in
-    let declared = c.ends_of_move.ensures.frame.call.laid_out before laid_out in
-    let same = ap (λ (r : Records). r.objects) (c.ends_of_move.ensures.frame.same before laid_out) ∙ e in
+    let told = both_tell _ _ c.ends_of_move.ensures.frame c.check_rights.ensures.frame
+    c.in_ok-ends.ensures.value c.in_err-check_rights.ensures.value available laid_out t e room stand in
+    let ended = told.0 (paths_pass path to passed).below_root in
     handed_on _ _ _ c.from_residual-in_err-check_rights.result c.from_residual-in_err-check_rights.ensures.1
     (past_head (refuse_if (is_root path || is_root to || is_at_or_below to path) Inval)
     (end_checks room caller path to ++ move_rights room caller path to) _ passed
     (past_front (end_checks room caller path to) (move_rights room caller path to)
-    _ ended.0 (c.in_err-check_rights.ensures.value available declared t same room stand ended.1)))
+    _ ended.0 (told.1 ended.1)))
 
 pub returns-clause-value : goal.returns-clause-value
 returns-clause-value g c = λ available laid_out t e room stand.
@@ -52,13 +51,12 @@ returns-clause-value g c = λ available laid_out t e room stand.
     let caller = c.args.subject.now in
     let to = c.args.to.now in
     let passed = sym c.in_ok-check_paths.ensures.value in
-    let before = c.check_rights.ensures.frame.call.was_available available in
-    let ended = c.in_ok-ends.ensures.value before laid_out t e room stand (paths_pass path to passed).below_root in
-    let declared = c.ends_of_move.ensures.frame.call.laid_out before laid_out in
-    let same = ap (λ (r : Records). r.objects) (c.ends_of_move.ensures.frame.same before laid_out) ∙ e in (
+    let told = both_tell _ _ c.ends_of_move.ensures.frame c.check_rights.ensures.frame
+    c.in_ok-ends.ensures.value c.in_ok-check_rights.ensures.value available laid_out t e room stand in
+    let ended = told.0 (paths_pass path to passed).below_root in (
       skip (refuse_if (is_root path || is_root to || is_at_or_below to path) Inval)
           (end_checks room caller path to ++ move_rights room caller path to) passed
           ∙ none_passes (end_checks room caller path to) (move_rights room caller path to) ended.0
-          ∙ (c.in_ok-check_rights.ensures.value available declared t same room stand ended.1).0,
+          ∙ (told.1 ended.1).0,
       ended.1,
     )

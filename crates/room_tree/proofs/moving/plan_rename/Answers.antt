@@ -1,16 +1,17 @@
-use Rattle.std.proofs.Common.{◌≡◌, ◌≢◌, refl, ap, ◌∙◌, subst, ◌∷◌, ◌++◌, ◌||◌, Some, MatchOption}
+use Rattle.std.proofs.Common.{◌≡◌, refl, ap, ◌∙◌, ◌∷◌, ◌++◌, ◌||◌, Some}
 use Rattle.room_records.specs.declared.node.Node.{Node}
 use Rattle.room_records.specs.Records.{Records}
-use Rattle.room_records.specs.Representation.{HasPath}
 use Rattle.room_records.specs.Room.{object_at, list_under}
 use Rattle.room_commands.specs.declared.reply.RefusalCode.TheVariants.{Inval}
 use Rattle.room_commands.specs.Checks.{refuse_if, is_root, is_at_or_below}
+use Rattle.room_records.proofs.Shelves.{read_then}
 use Rattle.room_tree.specs.LoadedObjects.{node_of}
 use Rattle.room_tree.specs.Renames.{end_checks, move_rights, move_limits}
 use Rattle.room_tree.proofs.Checking.{none_passes}
 use Rattle.room_tree.proofs.Renamed.{rename_plans}
 use Rattle.room_tree.proofs.Renewed.{is_change}
 use Rattle.room_tree.proofs.Stops.{handed_on, in_front, past_front}
+use Rattle.room_tree.proofs.Told.{both_tell}
 use Rattle.room_tree.proofs.moving.plan_rename.Goals as goal
 
 pub returns-in_err-moving-clause-effect : goal.returns-in_err-moving-clause-effect
@@ -30,13 +31,12 @@ returns-in_err-check_limits-clause-effect g c = λ available laid_out t e room s
     let to = c.args.to.now in
     let first = refuse_if (is_root path || is_root to || is_at_or_below to path) Inval
     ∷ (end_checks room caller path to ++ move_rights room caller path to) in
-    let before = c.check_limits.ensures.frame.call.was_available available in
-    let declared = c.allowed_move.ensures.frame.call.laid_out before laid_out in
-    let same = ap (λ (r : Records). r.objects) (c.allowed_move.ensures.frame.same before laid_out) ∙ e in
-    let allowed = c.in_ok-moving.ensures.value before laid_out t e room stand in
+    let told = both_tell _ _ c.allowed_move.ensures.frame c.check_limits.ensures.frame
+    c.in_ok-moving.ensures.value c.in_err-check_limits.ensures.value available laid_out t e room stand in
+    let allowed = told.0 in
     handed_on _ _ _ c.from_residual-in_err-check_limits.result c.from_residual-in_err-check_limits.ensures.1
     (past_front first (move_limits room path to) _ allowed.0
-    (c.in_err-check_limits.ensures.value available declared t same room stand path allowed.1))
+    (told.1 path allowed.1))
 
 pub returns-clause-effect : goal.returns-clause-effect
 returns-clause-effect g c = λ available laid_out t e room stand.
@@ -45,32 +45,23 @@ returns-clause-effect g c = λ available laid_out t e room stand.
     let to = c.args.to.now in
     let first = refuse_if (is_root path || is_root to || is_at_or_below to path) Inval
     ∷ (end_checks room caller path to ++ move_rights room caller path to) in
-    let listed = c.with_list.ensures.frame.call.was_available available in
-    let counted = c.moved_list.ensures.frame.call.was_available listed in
-    let before = c.check_limits.ensures.frame.call.was_available counted in
-    let declared = c.allowed_move.ensures.frame.call.laid_out before laid_out in
-    let same = ap (λ (r : Records). r.objects) (c.allowed_move.ensures.frame.same before laid_out) ∙ e in
-    let declared_then = c.check_limits.ensures.frame.call.laid_out counted declared in
-    let same_then = ap (λ (r : Records). r.objects) (c.check_limits.ensures.frame.same counted declared) ∙ same in
-    let declared_at_last = c.moved_list.ensures.frame.call.laid_out listed declared_then in
-    let same_at_last =
-    ap (λ (r : Records). r.objects) (c.moved_list.ensures.frame.same listed declared_then) ∙ same_then in
-    let allowed = c.in_ok-moving.ensures.value before laid_out t e room stand in
-    let limits = (c.in_ok-check_limits.ensures.value counted declared t same room stand path allowed.1).0 in
+    let after = read_then _ _ _ _ c.with_list.ensures.frame c.in_ok-list.ensures.frame in
+    let told = both_tell _ _ c.allowed_move.ensures.frame
+    (read_then _ _ _ _ after c.in_ok-check_limits.ensures.frame) c.in_ok-moving.ensures.value
+    (both_tell _ _ c.in_ok-check_limits.ensures.frame after c.in_ok-check_limits.ensures.value
+    (both_tell _ _ c.in_ok-list.ensures.frame c.with_list.ensures.frame c.in_ok-list.ensures.value
+    c.in_ok-changes.ensures.value)) available laid_out t e room stand in
+    let allowed = told.0 in
+    let limits = (told.1.0 path allowed.1).0 in
     let lawful = c.in_ok-moving.ensures.lawful in
     let move = c.in_ok-moving.moving in
     let there = allowed.1.loaded.is_there in
     let is : c.into_node-node.result ≡ node_of move.loaded = c.into_node-node.ensures in
     let given = list_under (object_at room path) (t.entries move.into.id) in
-    let Listed : Node → Type 0 = λ n. HasPath t path n.id → t.node n.id ≡ Some n → MatchOption c.in_ok-list.list
-    (t.entries n.id ≡ given) (λ list. (list.items ≡ given) × (list.items ≢ t.entries n.id)) in
-    let list =
-    subst Listed is (c.in_ok-list.ensures.value listed declared_then t same_then room stand path)
-    there.at there.node_stands in
-    rename_plans t room caller path to move c.in_ok-moved.moved _ stand lawful.0 lawful.1
+    let list = (rw is at (told.1.1.0 path)) there.at there.node_stands in
+    rename_plans caller c.in_ok-moved.moved _ stand lawful.0 lawful.1
     (none_passes first (move_limits room path to) allowed.0 ∙ limits) allowed.1
     (λ folder name last. c.in_ok-moved.ensures folder name last
     ∙ ap (λ (n : Node). record n { parent = Some move.into.id; name = Some name }) is)
     c.in_ok-list.list (is_change (t.entries move.loaded.id) given c.in_ok-list.list list)
-    (λ at stands kind. c.in_ok-changes.ensures.value available declared_at_last
-    t same_at_last room stand path (node_of move.loaded) at stands kind) refl
+    (λ at stands kind. told.1.1.1 path (node_of move.loaded) at stands kind) refl

@@ -1,7 +1,5 @@
-use Rattle.std.proofs.Common.{◌≡◌, ◌∷◌, ◌++◌, ◌+◌, [], List, ap, sym, ◌∙◌, subst, rules, take}
+use Rattle.std.proofs.Common.{◌≡◌, ◌∷◌, ◌++◌, ◌+◌, [], ap, sym, ◌∙◌, rules, take}
 use Rattle.std.proofs.lemmas.List.{take_more}
-use Rattle.room_records.specs.declared.change.Change.{Change}
-use Rattle.room_records.specs.Mem.{AreSameChanges}
 use Rattle.room_records.proofs.MemRecords.{same_push}
 use Rattle.room_tree.proofs.planning.copy_changes.Goals as goal
 
@@ -15,7 +13,5 @@ loop-change-preserved c =
     ≡ take now.change-index c.args.changes.now ++ change ∷ [] =
     take_more c.args.changes.now now.change-index change c.loop-change-test.true
     ∙ ap (λ x. take now.change-index c.args.changes.now ++ x ∷ []) (sym c.change-item.is) in
-    let P : List Change → Type 0 = λ steps. AreSameChanges steps (take (now.change-index + 1) c.args.changes.now) in
-    let Q : List Change → Type 0 = λ changes. AreSameChanges (now.copy.items ++ step ∷ []) changes in
-    subst P (sym items) (subst Q (sym front) (same_push now.copy.items
+    rw items (rw front (same_push now.copy.items
     (take now.change-index c.args.changes.now) step change now.invariant c.in_ok-step.ensures))

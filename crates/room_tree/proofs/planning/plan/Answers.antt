@@ -10,6 +10,5 @@ returns-in-Ok-clause-effect g c =
 pub returns-in-Refused-clause-effect : goal.returns-in-Refused-clause-effect
 returns-in-Refused-clause-effect g c = λ available laid_out room stand.
     let refused = rw c.in-Refused.is at (c.in-Err.ensures.effect available laid_out _ refl room stand) in
-    refusal_plans (g.S.Shelf.view c.args.shelf.now).records.objects room c.args.subject.now
-    (command_model c.args.command.now) c.refused.result stand c.in-Refused.refusal
+    refusal_plans c.args.subject.now (command_model c.args.command.now) c.refused.result stand c.in-Refused.refusal
     refused c.refused.ensures.reply c.refused.ensures.none

@@ -16,7 +16,7 @@ returns-in-Found-clause-value g c = λ available laid_out t e room stand.
     let ended = rw c.in-Found.is at (c.in_ok-walk_path.ensures.value available laid_out t e room stand) in
     refused_as c.of.result _ c.of.ensures
     (skip (walk room c.args.subject.now path) (check_absent room path ∷ []) ended.0
-    ∙ stop (check_absent room path) [] _ (not_absent t room path c.in-Found.field-0 ended.1.0))
+    ∙ stop (check_absent room path) [] _ (not_absent ended.1.0))
 
 pub returns-clause-value : goal.returns-clause-value
 returns-clause-value g c = λ available laid_out t e room stand.

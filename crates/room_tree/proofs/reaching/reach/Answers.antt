@@ -19,7 +19,6 @@ returns-in-Absent-clause-value g c = λ available laid_out t e room stand.
 pub returns-clause-value : goal.returns-clause-value
 returns-clause-value g c = λ available laid_out t e room stand.
     let ended = rw c.in-Found.is at (c.in_ok-walk_path.ensures.value available laid_out t e room stand) in (
-      passes_to t room c.args.path.now c.in-Found.loaded ended.1.0
-          (walk room c.args.subject.now c.args.path.now) ended.0,
+      passes_to ended.1.0 (walk room c.args.subject.now c.args.path.now) ended.0,
       ended.1.0,
     )

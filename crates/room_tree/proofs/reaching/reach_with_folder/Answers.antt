@@ -22,7 +22,7 @@ returns-in-Some-clause-value g c = λ available laid_out t e room stand off.
     let path = c.args.path.now in
     let ended = rw c.in-Found.is at (c.in_ok-walk_path.ensures.value available laid_out t e room stand) in
     let above = rw c.in-Some.is at ended.1.1 in (
-      passes_to t room path c.in-Found.loaded ended.1.0 (walk room c.args.subject.now path) ended.0,
+      passes_to ended.1.0 (walk room c.args.subject.now path) ended.0,
       (ended.1.0, above.1),
     )
 

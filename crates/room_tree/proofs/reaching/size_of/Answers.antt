@@ -7,7 +7,7 @@ use Rattle.room_tree.proofs.reaching.size_of.Goals as goal
 pub returns-in_ok-bytes-in-File-clause-value : goal.returns-in_ok-bytes-in-File-clause-value
 returns-in_ok-bytes-in-File-clause-value g c = λ available laid_out t e room stand path found.
     let bytes = c.in_ok-bytes-in-File.ensures.value available laid_out t e room stand path found in
-    let few = few_bytes t room stand path c.args.loaded.now found in
+    let few = few_bytes stand found in
     let fits : c.len.result < 2 ^ 32 = omega (arith, c.len.ensures, ap length bytes, few) in
     let long : c.len.result ≡ length (bytes_at room path) = omega (arith, c.len.ensures, ap length bytes) in
     c.as_size.ensures fits ∙ long ∙ ap (size_of room path) (sym c.in-File.is)

@@ -1,12 +1,12 @@
 use Rattle.std.proofs.Common.{refl, ap, ◌∙◌}
 use Rattle.std.specs.Prelude.{bit_and}
 use Rattle.room_acl.specs.Access.{allowed_mask}
-use Rattle.room_records.specs.Records.{Records}
 use Rattle.room_commands.specs.CommandModel as C
 use Rattle.room_tree.proofs.Outcomes.{reading_plans}
 use Rattle.room_tree.proofs.Replies.{access_reply}
 use Rattle.room_commands.specs.ReplyModel.{Allowed}
 use Rattle.room_tree.proofs.Stops.{handed_on}
+use Rattle.room_tree.proofs.Told.{both_tell}
 use Rattle.room_tree.proofs.reading.plan_access.Goals as goal
 
 pub returns-in_err-loaded-clause-effect : goal.returns-in_err-loaded-clause-effect
@@ -16,16 +16,13 @@ returns-in_err-loaded-clause-effect g c = λ available laid_out t e room stand.
 
 pub returns-clause-effect : goal.returns-clause-effect
 returns-clause-effect g c = λ available laid_out t e room stand.
-    let before = c.whole_list.ensures.frame.call.was_available available in
-    let reached = c.in_ok-loaded.ensures.value before laid_out t e room stand in
-    let declared = c.reach.ensures.frame.call.laid_out before laid_out in
-    let same = ap (λ (r : Records). r.objects) (c.reach.ensures.frame.same before laid_out) ∙ e in
-    let list = c.in_ok-list.ensures.value available declared t same room stand c.args.path.now reached.1 in
+    let told = both_tell _ _ c.reach.ensures.frame c.whole_list.ensures.frame
+    c.in_ok-loaded.ensures.value c.in_ok-list.ensures.value available laid_out t e room stand in
+    let list = told.1 c.args.path.now told.0.1 in
     let loaded = c.in_ok-loaded.loaded in
     let allowed = c.common_bits.ensures ∙ ap (bit_and c.args.mask) (c.allowed_bits-allowed.ensures.value
     ∙ ap (λ list. allowed_mask list c.args.subject.now loaded.standing) c.as_slice.ensures.value) in
-    reading_plans t room c.args.subject.now (C.Access c.args.mask c.args.path.now)
-    c.reading.result stand (λ path. refl) refl reached.0
+    reading_plans c.args.subject.now (C.Access c.args.mask c.args.path.now)
+    c.reading.result stand (λ path. refl) refl told.0.0
     (c.reading.ensures.reply ∙ ap Allowed allowed
-    ∙ access_reply t room c.args.path.now loaded reached.1 c.in_ok-list.list.items list c.args.subject.now c.args.mask)
-    c.reading.ensures.none
+    ∙ access_reply told.0.1 c.in_ok-list.list.items list c.args.subject.now c.args.mask) c.reading.ensures.none

@@ -1,9 +1,9 @@
-use Rattle.std.proofs.Common.{refl, ap, ◌∙◌}
-use Rattle.room_records.specs.Records.{Records}
+use Rattle.std.proofs.Common.{refl, ◌∙◌}
 use Rattle.room_commands.specs.CommandModel as C
 use Rattle.room_tree.proofs.Outcomes.{reading_plans}
 use Rattle.room_tree.proofs.Replies.{entries_reply}
 use Rattle.room_tree.proofs.Stops.{handed_on}
+use Rattle.room_tree.proofs.Told.{both_tell}
 use Rattle.room_tree.proofs.reading.plan_getlist.Goals as goal
 
 pub returns-in_err-loaded-clause-effect : goal.returns-in_err-loaded-clause-effect
@@ -13,13 +13,8 @@ returns-in_err-loaded-clause-effect g c = λ available laid_out t e room stand.
 
 pub returns-clause-effect : goal.returns-clause-effect
 returns-clause-effect g c = λ available laid_out t e room stand.
-    let before = c.whole_list.ensures.frame.call.was_available available in
-    let reached = c.in_ok-loaded.ensures.value before laid_out t e room stand in
-    let declared = c.reach_to_use.ensures.frame.call.laid_out before laid_out in
-    let same = ap (λ (r : Records). r.objects) (c.reach_to_use.ensures.frame.same before laid_out) ∙ e in
-    let list = c.in_ok-list.ensures.value available declared t same room stand c.args.path.now reached.1 in
-    reading_plans t room c.args.subject.now (C.GetList c.args.path.now)
-    c.reading.result stand (λ path. refl) refl reached.0
-    (c.reading.ensures.reply ∙ entries_reply t room c.args.path.now c.in_ok-loaded.loaded reached.1
-    c.in_ok-list.list.items list)
-    c.reading.ensures.none
+    let told = both_tell _ _ c.reach_to_use.ensures.frame c.whole_list.ensures.frame
+    c.in_ok-loaded.ensures.value c.in_ok-list.ensures.value available laid_out t e room stand in
+    let list = told.1 c.args.path.now told.0.1 in
+    reading_plans c.args.subject.now (C.GetList c.args.path.now) c.reading.result stand (λ path. refl) refl told.0.0
+    (c.reading.ensures.reply ∙ entries_reply told.0.1 c.in_ok-list.list.items list) c.reading.ensures.none

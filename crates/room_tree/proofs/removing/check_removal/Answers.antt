@@ -2,11 +2,11 @@ use Rattle.std.proofs.Common.{◌≡◌, refl, ap, sym, ◌∙◌, arith, take, 
 use Rattle.std.specs.Prelude.{not, is_some}
 use Rattle.std.proofs.lemmas.List.{take_all}
 use Rattle.room_records.specs.Names.{Path}
-use Rattle.room_records.specs.Records.{Records}
 use Rattle.room_records.specs.Room.{parent_of}
 use Rattle.room_commands.specs.ReplyModel.{Refusal}
 use Rattle.room_commands.specs.declared.reply.RefusalCode.TheVariants.{Access}
 use Rattle.room_commands.specs.Checks.{removal_refusal, check_right}
+use Rattle.room_tree.proofs.Told.{both_tell}
 use Rattle.room_tree.proofs.removing.check_removal.Goals as goal
 
 -- one of the rights is enough
@@ -40,27 +40,22 @@ returns-then-own-clause-value g c = λ available laid_out t e room stand here fo
 pub returns-then-by_folder-clause-value : goal.returns-then-by_folder-clause-value
 returns-then-by_folder-clause-value g c = λ available laid_out t e room stand here folder.
     let path = c.args.path.now in
-    let before = c.allows-2.ensures.frame.call.was_available available in
-    let declared = c.allows.ensures.frame.call.laid_out before laid_out in
-    let same = ap (λ (r : Records). r.objects) (c.allows.ensures.frame.same before laid_out) ∙ e in (
+    let told = both_tell _ _ c.allows.ensures.frame c.allows-2.ensures.frame
+    c.in_ok-own.ensures.value c.in_ok-by_folder.ensures.value available laid_out t e room stand in (
       by_above path (check_right room c.args.subject.now path 0x10000) (check_right room c.args.subject.now
-          (parent_of path) 0x40) (sym c.if-by_folder.true
-          ∙ c.in_ok-by_folder.ensures.value available declared t same room stand (parent_of path) folder),
+          (parent_of path) 0x40) (sym c.if-by_folder.true ∙ told.1 (parent_of path) folder),
       tt,
     )
 
 pub returns-clause-value : goal.returns-clause-value
 returns-clause-value g c = λ available laid_out t e room stand here folder.
     let path = c.args.path.now in
-    let before = c.allows-2.ensures.frame.call.was_available available in
-    let declared = c.allows.ensures.frame.call.laid_out before laid_out in
-    let same = ap (λ (r : Records). r.objects) (c.allows.ensures.frame.same before laid_out) ∙ e in
+    let told = both_tell _ _ c.allows.ensures.frame c.allows-2.ensures.frame
+    c.in_ok-own.ensures.value c.in_ok-by_folder.ensures.value available laid_out t e room stand in
     let whole : take (length c.names.result.now) path ≡ path =
     ap (λ (p : Path). take (length p) path) c.names.ensures.value ∙ take_all (length path) path (omega arith) in
     by_none path (check_right room c.args.subject.now path 0x10000)
     (check_right room c.args.subject.now (parent_of path) 0x40)
-    (sym c.if-own.false ∙ c.in_ok-own.ensures.value before laid_out t e room stand path here)
-    (sym c.if-by_folder.false
-    ∙ c.in_ok-by_folder.ensures.value available declared t same room stand (parent_of path) folder)
+    (sym c.if-own.false ∙ told.0 path here) (sym c.if-by_folder.false ∙ told.1 (parent_of path) folder)
     ∙ ap (λ (p : Path). Some (record { code = Access; place = Some (p, 0x10000) })) (sym (c.in_ok-at.ensures ∙ whole))
     ∙ ap (λ bits. Some (record { code = Access; place = Some (c.in_ok-at.at, bits) })) (sym c.bits.ensures.value)

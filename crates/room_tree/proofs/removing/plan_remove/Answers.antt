@@ -1,60 +1,52 @@
 use Rattle.std.proofs.Common.{◌≡◌, ◌≤◌, ap, sym, ◌∙◌, arith, [], ◌∷◌, None, length}
-use Rattle.room_records.specs.Records.{Records}
 use Rattle.room_records.specs.Room.{children}
 use Rattle.std.specs.Prelude.{nat_lt}
 use borrow.Author.Tests.{ltb-false}
 use Rattle.room_commands.specs.declared.reply.RefusalCode.TheVariants.{Inval, NotEmpty}
 use Rattle.room_commands.specs.ReplyModel.{reply_model}
-use Rattle.room_commands.specs.Checks.{refuse_if, is_root, walk, check_exists, check_removal}
-use Rattle.room_tree.proofs.Checking.{none_passes, first_alone}
+use Rattle.room_commands.specs.Checks.{refuse_if, is_root}
+use Rattle.room_tree.proofs.Checking.{none_passes, first_alone, removal_checks}
 use Rattle.room_commands.proofs.ChecksTell.{not_refused}
 use Rattle.room_commands.proofs.Rights.{all_none}
 use Rattle.room_tree.proofs.RowsRemoved.{remove_plans}
 use Rattle.room_tree.proofs.Stops.{handed_on, in_front}
+use Rattle.room_tree.proofs.Told.{both_tell}
 use Rattle.room_tree.proofs.removing.plan_remove.Goals as goal
 
 pub returns-in_err-loaded-clause-effect : goal.returns-in_err-loaded-clause-effect
 returns-in_err-loaded-clause-effect g c = λ available laid_out t e room stand.
     let path = c.args.path.now in
     handed_on _ _ _ c.from_residual.result c.from_residual.ensures.1
-    (in_front (refuse_if (is_root path) Inval ∷ walk room c.args.subject.now path
-    ∷ check_exists room path ∷ check_removal room c.args.subject.now path ∷ [])
+    (in_front (removal_checks room c.args.subject.now path)
     (refuse_if (nat_lt 0 (length (children room path))) NotEmpty ∷ []) _
     (c.in_err-loaded.ensures.value available laid_out t e room stand))
 
 pub returns-in_err-check_empty-clause-effect : goal.returns-in_err-check_empty-clause-effect
 returns-in_err-check_empty-clause-effect g c = λ available laid_out t e room stand.
     let path = c.args.path.now in
-    let before = c.count_children.ensures.frame.call.was_available available in
-    let reached = c.in_ok-loaded.ensures.value before laid_out t e room stand in
-    let declared = c.removable.ensures.frame.call.laid_out before laid_out in
-    let same = ap (λ (r : Records). r.objects) (c.removable.ensures.frame.same before laid_out) ∙ e in
-    let count = c.in_ok-count.ensures.value available declared t same room stand path reached.1 in
+    let told = both_tell _ _ c.removable.ensures.frame c.count_children.ensures.frame
+    c.in_ok-loaded.ensures.value c.in_ok-count.ensures.value available laid_out t e room stand in
+    let count = told.1 path told.0.1 in
     let empty = refuse_if (nat_lt 0 (length (children room path))) NotEmpty in
     handed_on _ _ _ c.from_residual-in_err-check_empty.result c.from_residual-in_err-check_empty.ensures.1
-    (none_passes (refuse_if (is_root path) Inval ∷ walk room c.args.subject.now path
-    ∷ check_exists room path ∷ check_removal room c.args.subject.now path ∷ []) (empty ∷ []) reached.0
+    (none_passes (removal_checks room c.args.subject.now path) (empty ∷ []) told.0.0
     ∙ first_alone empty ∙ ap (λ n. refuse_if (nat_lt 0 n) NotEmpty) (sym count) ∙ sym c.in_err-check_empty.ensures)
 
 pub returns-clause-effect : goal.returns-clause-effect
 returns-clause-effect g c = λ available laid_out t e room stand.
     let path = c.args.path.now in
     let caller = c.args.subject.now in
-    let before = c.count_children.ensures.frame.call.was_available available in
-    let reached = c.in_ok-loaded.ensures.value before laid_out t e room stand in
-    let declared = c.removable.ensures.frame.call.laid_out before laid_out in
-    let same = ap (λ (r : Records). r.objects) (c.removable.ensures.frame.same before laid_out) ∙ e in
-    let count = c.in_ok-count.ensures.value available declared t same room stand path reached.1 in
-    let first = refuse_if (is_root path) Inval ∷ walk room caller path
-    ∷ check_exists room path ∷ check_removal room caller path ∷ [] in
+    let told = both_tell _ _ c.removable.ensures.frame c.count_children.ensures.frame
+    c.in_ok-loaded.ensures.value c.in_ok-count.ensures.value available laid_out t e room stand in
+    let count = told.1 path told.0.1 in
+    let first = removal_checks room caller path in
     let empty = refuse_if (nat_lt 0 (length (children room path))) NotEmpty in
     let alone : empty ≡ None =
     ap (λ n. refuse_if (nat_lt 0 n) NotEmpty) (sym count) ∙ sym c.in_ok-check_empty.ensures in
-    let passed = none_passes first (empty ∷ []) reached.0 ∙ first_alone empty ∙ alone in
+    let passed = none_passes first (empty ∷ []) told.0.0 ∙ first_alone empty ∙ alone in
     let few : length (children room path) ≤ 0 = ltb-false 0 (length (children room path))
     (not_refused (nat_lt 0 (length (children room path))) NotEmpty alone) in
     let none : length (children room path) ≡ 0 = omega (arith, few) in
-    let root_off = not_refused (is_root path) Inval (all_none first reached.0).0 in
-    remove_plans t room caller path c.in_ok-loaded.loaded c.in_ok-outcome.outcome
-    stand reached.1 passed root_off c.in_ok-loaded.ensures.lawful none
+    let root_off = not_refused (is_root path) Inval (all_none first told.0.0).0 in
+    remove_plans caller c.in_ok-outcome.outcome stand told.0.1 passed root_off c.in_ok-loaded.ensures.lawful none
     c.in_ok-outcome.ensures.changes (ap reply_model c.in_ok-outcome.ensures.reply)

@@ -1,19 +1,16 @@
 use Rattle.std.proofs.Common.{◌≡◌, ℕ, ◌+◌, ◌-◌, ◌<◌, ◌≤◌, ap, sym, ◌∙◌, subst, arith, List, [], ◌∷◌, ◌++◌, length}
 use Rattle.std.proofs.Common.{append-nil, append_assoc, length-append, Some}
 use Rattle.room_acl.specs.declared.subject.Kind.TheVariants.{File}
-use Rattle.room_acl.specs.Entries.{EntryModel}
 use Rattle.room_records.specs.declared.change.Change.{Change}
 use Rattle.room_records.specs.declared.change.Change.TheVariants.{PutEntries}
 use Rattle.room_records.specs.declared.node.Node.{Node}
 use Rattle.room_records.specs.Limits.{max_names}
 use Rattle.room_records.specs.Names.{Name, Path}
 use Rattle.room_records.specs.Records.{ObjectRecords, Records, IsChild}
-use Rattle.room_records.specs.Rules.{ObjectRules}
-use Rattle.room_records.specs.Shelf.{AreChildren, name_of}
+use Rattle.room_records.specs.Shelf.{name_of}
 use Rattle.room_records.proofs.Lists.{all_at}
 use Rattle.room_records.proofs.Shelves.{read_then}
 use Rattle.room_records.proofs.RoomsMap.{some_is}
-use Rattle.room_tree.specs.Renewals.{RenewsBelow}
 use Rattle.room_tree.proofs.Depths.{child_path}
 use Rattle.room_tree.proofs.RenewingParts.{child_stays, renews_child}
 use Rattle.room_tree.proofs.RenewingChildren.{renews_lowest, renews_file, none_so_far, one_more_so_far, all_so_far}
@@ -31,32 +28,29 @@ pub returns-then-levels-eq0-clause-value : goal.returns-then-levels-eq0-clause-v
 returns-then-levels-eq0-clause-value g m c = λ available laid_out t e room stand path at file deep. record {
   added = [];
   goes_on = sym (append-nil c.args.out.now.items);
-  renews = renews_lowest t room stand path c.args.list.now (omega (arith, c.if-levels-eq0.true, deep));
+  renews = renews_lowest stand path c.args.list.now (omega (arith, c.if-levels-eq0.true, deep));
 }
 
 pub returns-in-File-clause-value : goal.returns-in-File-clause-value
 returns-in-File-clause-value g m c = λ available laid_out t e room stand path at file deep. record {
   added = [];
   goes_on = sym (append-nil c.args.out.now.items);
-  renews = renews_file t room stand path c.args.list.now c.args.id at (file c.in-File.is);
+  renews = renews_file stand path c.args.list.now c.args.id at (file c.in-File.is);
 }
 
 pub loop-node-init : goal.loop-node-init
 loop-node-init g m c = record {
   frame = c.in_ok-nodes.ensures.frame;
   children = λ available laid_out t e room stand.
-      let Rules : ObjectRecords → Type 0 = λ r. ObjectRules r in
-      let Are : ObjectRecords → Type 0 = λ r. AreChildren r c.args.id c.in_ok-nodes.nodes.items in
-      let Nodes : List Node → Type 0 = λ nodes. AreChildren t c.args.id nodes in
-      subst Nodes (sym c.deref-node-items.ensures.value)
-      (subst Are e (c.in_ok-nodes.ensures.value available laid_out (subst Rules (sym e) stand.rules)));
+      rw c.deref-node-items.ensures.value
+      (rw (← e) (c.in_ok-nodes.ensures.value available laid_out (rw e stand.rules)));
   renews = λ available laid_out t e room stand path at deep.
-      none_so_far t room stand path c.args.list.now c.args.out.now.items;
+      none_so_far stand path c.args.list.now c.args.out.now.items;
 }
 
 pub returns-clause-value : goal.returns-clause-value
 returns-clause-value g m c = λ available laid_out t e room stand path at file deep.
-    all_so_far t room stand path c.args.list.now c.args.out.now.items c.args.id
+    all_so_far stand path c.args.list.now c.args.out.now.items c.args.id
     c.deref-node-items.result.now c.loop-node.node-index c.loop-node.out.items at
     (c.loop-node.invariant.children available laid_out t e room stand) c.loop-node-test.false
     (c.loop-node.invariant.renews available laid_out t e room stand path at deep)
@@ -79,10 +73,10 @@ loop-node-preserved-in_default-2 g m c =
           let Child : Node → Type 0 = λ n. IsChild t c.args.id n in
           let is_child : Child child =
           subst Child (sym c.node-item.is) (all_at Child items i child are.each c.loop-node-test.true) in
-          let here = child_path t room stand path c.args.id child at is_child in
+          let here = child_path stand path c.args.id child at is_child in
           let told = c.in_ok-renewed.ensures.value available declared t same
           room stand (path ++ name_of child ∷ []) here is_child.stands in
-          one_more_so_far t room stand path c.args.list.now c.args.out.now.items
+          one_more_so_far stand path c.args.list.now c.args.out.now.items
           c.args.id items i child c.loop-node.out.items c.loop-node.out.items [] are
           c.loop-node-test.true c.node-item.is
           (c.loop-node.invariant.renews before laid_out t e room stand path at deep)
@@ -116,21 +110,20 @@ loop-node-preserved g m c =
           let is_child : Child child =
           subst Child (sym c.node-item.is) (all_at Child items i child are.each c.loop-node-test.true) in
           let name = name_of child in
-          let here = child_path t room stand path c.args.id child at is_child in
+          let here = child_path stand path c.args.id child at is_child in
           let told = rw c.in-Some.is at (c.in_ok-renewed.ensures.value then_there
           declared t same room stand (path ++ name ∷ []) here is_child.stands) in
           let below = c.in_ok-renew_within.ensures.value available
           then_declared t then_same room stand (path ++ name ∷ []) here
           (file_there t child is_child.stands)
           (fewer_levels path name c.args.levels (omega (arith, c.if-levels-eq0.false)) deep) in
-          let Below : List EntryModel → Type 0 = λ l. RenewsBelow t room (path ++ name ∷ []) l below.added in
           let put : List Change = PutEntries child.id renewed ∷ [] in
-          one_more_so_far t room stand path c.args.list.now c.args.out.now.items
+          one_more_so_far stand path c.args.list.now c.args.out.now.items
           c.args.id items i child c.loop-node.out.items _ (below.added ++ put) are
           c.loop-node-test.true c.node-item.is
           (c.loop-node.invariant.renews before laid_out t e room stand path at deep)
           (renews_child t room path c.args.list.now name stand.rules child.id here renewed
-          below.added told.0 told.1 (subst Below c.as_slice.ensures.value below.renews))
+          below.added told.0 told.1 (rw (← c.as_slice.ensures.value) below.renews))
           (c.in_ok-add_change.ensures ∙ ap (λ l. l ++ put) below.goes_on
           ∙ append_assoc c.loop-node.out.items below.added put);
     }

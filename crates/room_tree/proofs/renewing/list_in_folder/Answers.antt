@@ -1,8 +1,6 @@
-use Rattle.std.proofs.Common.{◌≡◌, ℕ, refl, ap, ◌∙◌, Bool, true, false, cond, List, [], ◌++◌}
-use Rattle.room_acl.specs.declared.subject.Kind.{Kind}
-use Rattle.room_acl.specs.Bits.{follows}
+use Rattle.std.proofs.Common.{ap, ◌∙◌, List}
 use Rattle.room_acl.specs.Entries.{EntryModel}
-use Rattle.room_acl.specs.Inheritance.{handed_down, with_inherited}
+use Rattle.room_acl.specs.Inheritance.{with_inherited}
 use Rattle.room_tree.proofs.ListsByRows.{inherited_alike}
 use Rattle.room_tree.proofs.renewing.list_in_folder.Goals as goal
 

@@ -1,9 +1,8 @@
-use Rattle.std.proofs.Common.{◌≡◌, ◌≢◌, ℕ, ap, sym, ◌∙◌, subst, true, eqb, List, Option, None, Some, IfOk, MatchOption}
+use Rattle.std.proofs.Common.{◌≡◌, ℕ, ap, sym, ◌∙◌, true, eqb, Option, None, Some}
 use Rattle.std.specs.Option.{option_eq}
 use Rattle.std.proofs.lemmas.Bool.{eqb-true}
-use Rattle.room_acl.specs.Entries.{EntryModel}
-use Rattle.room_records.specs.Records.{Records}
 use Rattle.room_tree.proofs.ListsByRows.{stays_in_folder, under_alike}
+use Rattle.room_tree.proofs.Told.{both_tell}
 use Rattle.room_tree.proofs.renewing.moved_list.Goals as goal
 
 is_in : (parent : Option ℕ) (folder : ℕ) → option_eq eqb parent (Some folder) ≡ true → parent ≡ Some folder
@@ -12,18 +11,13 @@ is_in (Some other) folder same = ap Some (eqb-true other folder same)
 
 pub returns-then-eq-clause-value : goal.returns-then-eq-clause-value
 returns-then-eq-clause-value g c = λ available laid_out t e room stand path at stands.
-    stays_in_folder t room stand path c.args.node.now at stands c.args.into
+    stays_in_folder stand path c.args.node.now at stands c.args.into
     (is_in c.args.node.now.parent c.args.into (sym c.eq.ensures ∙ c.if-eq.true))
 
 pub returns-clause-value : goal.returns-clause-value
 returns-clause-value g c = λ available laid_out t e room stand path at stands.
     let node = c.args.node.now in
-    let before = c.renewed_list.ensures.frame.call.was_available available in
-    let above = c.in_ok-above.ensures.value before laid_out t e room stand in
-    let declared = c.list_above.ensures.frame.call.laid_out before laid_out in
-    let same = ap (λ (r : Records). r.objects) (c.list_above.ensures.frame.same before laid_out) ∙ e in
-    let Told : List EntryModel → Type 0 = λ l. IfOk c.renewed_list.result (λ changed. MatchOption changed
-    (t.entries node.id ≡ l) (λ list. (list.items ≡ l) × (list.items ≢ t.entries node.id))) in
-    subst Told (under_alike t room stand path node at stands c.as_slice.result.now (t.entries c.args.into)
-    (λ on. c.as_slice.ensures.value ∙ above on))
-    (c.renewed_list.ensures.value available declared t same room stand path at stands)
+    let told = both_tell _ _ c.list_above.ensures.frame c.renewed_list.ensures.frame
+    c.in_ok-above.ensures.value c.renewed_list.ensures.value available laid_out t e room stand in
+    (rw (under_alike stand path node at stands c.as_slice.result.now (t.entries c.args.into)
+    (λ on. c.as_slice.ensures.value ∙ told.0 on)) at (told.1 path at stands))

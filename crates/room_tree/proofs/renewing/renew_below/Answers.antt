@@ -1,10 +1,6 @@
-use Rattle.std.proofs.Common.{ap, sym, ◌∙◌, subst, [], append-nil}
-use Rattle.std.specs.Prelude.{OnOk}
+use Rattle.std.proofs.Common.{ap, sym, ◌∙◌, [], append-nil}
 use Rattle.room_records.specs.declared.node.Node.{Node}
-use Rattle.room_records.specs.Records.{ObjectRecords}
-use Rattle.room_records.specs.Representation.{HasPath, RepresentsRoom}
 use Rattle.room_records.proofs.RoomsMap.{some_is}
-use Rattle.room_tree.specs.Renewals.{AddsRenewals}
 use Rattle.room_tree.proofs.RenewingChildren.{renews_file}
 use Rattle.room_tree.proofs.renewing.renew_below.Goals as goal
 
@@ -12,12 +8,10 @@ pub returns-in-File-clause-value : goal.returns-in-File-clause-value
 returns-in-File-clause-value g c = λ available laid_out t e room stand path node at stands kind. record {
   added = [];
   goes_on = sym (append-nil c.args.out.now.items);
-  renews = renews_file t room stand path c.args.list.now c.args.id at
+  renews = renews_file stand path c.args.list.now c.args.id at
       (λ found is. ap (λ (n : Node). n.kind) (some_is found node (sym is ∙ stands)) ∙ kind ∙ c.in-File.is);
 }
 
 pub returns-clause-value : goal.returns-clause-value
 returns-clause-value g c = λ available laid_out t e room stand path node at stands kind.
-    let Renewed : ObjectRecords → Type 0 = λ r. RepresentsRoom r room → HasPath r path c.args.id
-    → OnOk c.renew.result (AddsRenewals r room path c.args.list.now c.args.out.now.items c.renew.new.out.items) in
-    subst Renewed e (λ stood has. c.renew.ensures.value available laid_out room stood path has) stand at
+    rw (← e) (c.renew.ensures.value available laid_out room (rw e stand) path (rw e (at)))

@@ -1,5 +1,4 @@
-use Rattle.std.proofs.Common.{◌≡◌, ◌≢◌, ap, sym, ◌∙◌, List, Option}
-use Rattle.std.proofs.Common.{None, Some, MatchOption}
+use Rattle.std.proofs.Common.{◌≡◌, ◌≢◌, ap, sym, ◌∙◌, List, Option, None, Some, MatchOption}
 use Rattle.std.specs.Prelude.{Vec}
 use Rattle.std.specs.declared.alloc.Global.{Global}
 use Rattle.room_acl.specs.Entries.{EntryModel}
@@ -36,6 +35,5 @@ returns-clause-value g c = λ available laid_out t e room stand path at stands.
     changed_as c.if_changed.result c.in_ok-list.list.items c.as_slice-2.result.now
     (t.entries node.id) (list_under (object_at room path) c.args.above.now)
     (c.in_ok-list.ensures ∙ ap (λ (l : List EntryModel). with_inherited l node.aclflag node.kind c.args.above.now) own
-    ∙ list_by_rows t room stand path node at stands c.args.above.now)
-    (c.as_slice-2.ensures.value ∙ stored)
+    ∙ list_by_rows stand path node at stands c.args.above.now) (c.as_slice-2.ensures.value ∙ stored)
     c.if_changed.ensures

@@ -1,29 +1,20 @@
-use Rattle.std.proofs.Common.{ap, sym, ◌∙◌, subst, List, [], ◌∷◌, ◌++◌, Option}
-use Rattle.std.specs.Prelude.{Vec}
-use Rattle.std.specs.declared.alloc.Global.{Global}
-use Rattle.room_acl.specs.Entries.{EntryModel}
+use Rattle.std.proofs.Common.{ap, ◌∙◌, List, [], ◌∷◌, ◌++◌}
 use Rattle.room_records.specs.declared.change.Change.{Change}
 use Rattle.room_records.specs.declared.change.Change.TheVariants.{PutEntries, PutNode}
-use Rattle.room_tree.specs.Renewals.{PutsList, RenewsBelow}
 use Rattle.room_tree.proofs.renewing.with_list.Goals as goal
 
 pub returns-in_default-clause-value : goal.returns-in_default-clause-value
 returns-in_default-clause-value g c = λ available laid_out t e room stand path stored at stands kind.
-    let Puts : Option (Vec EntryModel Global) → Type 0 =
-    λ list. PutsList t room path c.args.node list c.add_change.new.changes.items in
-    subst Puts (sym c.in_default.is) (c.in_ok-add_change.ensures
+    rw c.in_default.is (c.in_ok-add_change.ensures
     ∙ ap (λ (l : List Change). l ++ PutNode c.args.node ∷ []) c.new-changes.ensures.items)
 
 pub returns-clause-value : goal.returns-clause-value
 returns-clause-value g c = λ available laid_out t e room stand path stored at stands kind.
-    let Puts : Option (Vec EntryModel Global) → Type 0 =
-    λ list. PutsList t room path c.args.node list c.add_change-2.new.changes.items in
     let below = c.in_ok-renew_below.ensures.value available laid_out t e room stand path stored at stands kind in
-    let Below : List EntryModel → Type 0 = λ l. RenewsBelow t room path l below.added in
     let put : List Change = PutEntries c.args.node.id c.in-Some.list ∷ [] in
-    subst Puts (sym c.in-Some.is) (
+    rw c.in-Some.is (
       below.added,
-      subst Below c.as_slice.ensures.value below.renews,
+      rw (← c.as_slice.ensures.value) below.renews,
       c.in_ok-add_change-2.ensures
           ∙ ap (λ (l : List Change). l ++ put) (below.goes_on ∙ ap (λ (l : List Change). l ++ below.added)
           (c.in_ok-add_change.ensures

@@ -1,21 +1,18 @@
-use Rattle.std.proofs.Common.{◌≡◌, ap, sym, ◌∙◌, subst, List, [], ◌∷◌, Some, refl}
+use Rattle.std.proofs.Common.{◌≡◌, ap, sym, ◌∙◌, [], ◌∷◌, refl}
 use Rattle.std.specs.List.{filter_map}
-use Rattle.room_acl.specs.Inheritance.{own_entries_fault}
-use Rattle.room_acl.specs.Entries.{EntryModel}
-use Rattle.room_acl.specs.Inheritance.{with_inherited}
+use Rattle.room_acl.specs.Inheritance.{own_entries_fault, with_inherited}
 use Rattle.room_records.specs.Records.{Records}
-use Rattle.room_records.specs.declared.node.Node.{Node}
-use Rattle.room_records.specs.Representation.{HasPath}
 use Rattle.room_records.specs.Room.{object_at}
 use Rattle.room_commands.specs.SetList.{own_entries_of_setlist}
+use Rattle.room_records.proofs.Shelves.{read_then}
 use Rattle.room_tree.specs.LoadedObjects.{node_of, kept_entry}
-use Rattle.room_tree.specs.Renewals.{PutsList, entries_of}
+use Rattle.room_tree.specs.Renewals.{entries_of}
 use Rattle.room_commands.specs.Checks.{walk, check_exists, check_right, check_lawful, kind_of}
 use Rattle.room_tree.proofs.Checking.{none_passes, first_alone, there}
 use Rattle.room_tree.proofs.Marks.{kept_is}
 use Rattle.room_tree.proofs.Relisted.{setlist_plans}
-use Rattle.room_tree.proofs.Renewed.{IsChangeOf}
 use Rattle.room_tree.proofs.Stops.{handed_on, in_front}
+use Rattle.room_tree.proofs.Told.{both_tell}
 use Rattle.room_tree.proofs.setlist.plan_setlist.Goals as goal
 
 pub returns-in_err-loaded-clause-effect : goal.returns-in_err-loaded-clause-effect
@@ -41,7 +38,7 @@ returns-in_err-check_lawful-clause-effect g c = λ available laid_out t e room s
     let own : c.in_ok-own.own.items ≡ own_entries_of_setlist path flag sent =
     c.in_ok-own.ensures ∙ ap (λ b. filter_map (kept_entry b) sent) c.follows_at.ensures ∙ kept_is path flag sent in
     let kind : loaded.kind ≡ kind_of (object_at room path) =
-    reached.1.is_there.shows.kind ∙ sym (ap kind_of (there t room path loaded reached.1)) in
+    reached.1.is_there.shows.kind ∙ sym (ap kind_of (there reached.1)) in
     let whole = none_passes (walk room caller path ∷ check_exists room path ∷ check_right room caller path 0x40000 ∷ [])
     ((check_lawful (own_entries_fault (own_entries_of_setlist path flag sent) (kind_of (object_at room path))))
     ∷ []) reached.0 ∙ first_alone
@@ -59,23 +56,18 @@ returns-clause-effect g c = λ available laid_out t e room stand.
     let sent = c.args.entries.now in
     let flag = c.args.aclflag in
     let loaded = c.in_ok-loaded.loaded in
-    let listing = c.with_list.ensures.frame.call.was_available available in
-    let storing = c.whole_list.ensures.frame.call.was_available listing in
-    let reaching = c.list_in_folder.ensures.frame.call.was_available storing in
-    let reached = c.in_ok-loaded.ensures.value reaching laid_out t e room stand in
-    let laid_out_then = c.reach_to_use.ensures.frame.call.laid_out reaching laid_out in
-    let same = ap (λ (r : Records). r.objects) (c.reach_to_use.ensures.frame.same reaching laid_out) ∙ e in
-    let laid_out_listed = c.list_in_folder.ensures.frame.call.laid_out storing laid_out_then in
-    let same_listed =
-    ap (λ (r : Records). r.objects) (c.list_in_folder.ensures.frame.same storing laid_out_then) ∙ same in
-    let stored = c.in_ok-stored.ensures.value listing laid_out_listed t same_listed room stand path reached.1 in
-    let laid_out_at_last = c.whole_list.ensures.frame.call.laid_out listing laid_out_listed in
-    let same_at_last =
-    ap (λ (r : Records). r.objects) (c.whole_list.ensures.frame.same listing laid_out_listed) ∙ same_listed in
+    let after = read_then _ _ _ _ c.with_list.ensures.frame c.in_ok-stored.ensures.frame in
+    let told = both_tell _ _ c.reach_to_use.ensures.frame
+    (read_then _ _ _ _ after c.in_ok-list.ensures.frame) c.in_ok-loaded.ensures.value
+    (both_tell _ _ c.in_ok-list.ensures.frame after c.in_ok-list.ensures.value
+    (both_tell _ _ c.in_ok-stored.ensures.frame c.with_list.ensures.frame c.in_ok-stored.ensures.value
+    c.in_ok-changes.ensures.value)) available laid_out t e room stand in
+    let reached = told.0 in
+    let stored = told.1.1.0 path reached.1 in
     let own : c.in_ok-own.own.items ≡ own_entries_of_setlist path flag sent =
     c.in_ok-own.ensures ∙ ap (λ b. filter_map (kept_entry b) sent) c.follows_at.ensures ∙ kept_is path flag sent in
     let kind : loaded.kind ≡ kind_of (object_at room path) =
-    reached.1.is_there.shows.kind ∙ sym (ap kind_of (there t room path loaded reached.1)) in
+    reached.1.is_there.shows.kind ∙ sym (ap kind_of (there reached.1)) in
     let whole = none_passes (walk room caller path ∷ check_exists room path ∷ check_right room caller path 0x40000 ∷ [])
     ((check_lawful (own_entries_fault (own_entries_of_setlist path flag sent) (kind_of (object_at room path))))
     ∷ []) reached.0 ∙ first_alone
@@ -84,21 +76,12 @@ returns-clause-effect g c = λ available laid_out t e room stand.
     ∙ ap (λ es. check_lawful (own_entries_fault es loaded.kind)) (sym own)
     ∙ ap (λ es. check_lawful (own_entries_fault es loaded.kind)) (sym c.as_slice.ensures.value) in
     let passed = whole ∙ sym c.in_ok-check_lawful.ensures in
-    let list = c.in_ok-list.ensures.value storing laid_out_then t same room stand
-    ∙ ap (λ es. with_inherited es flag loaded.kind (entries_of t loaded.parent)) own in
+    let list = told.1.0 ∙ ap (λ es. with_inherited es flag loaded.kind (entries_of t loaded.parent)) own in
     let node = node_of loaded in
     let now = record node { aclflag = flag } in
     let shows = reached.1.is_there in
     let is : c.with_flags-node.result ≡ now = c.with_flags-node.ensures in
-    let Here : Node → Type 0 = λ n. HasPath t path n.id in
-    let Stands : Node → Type 0 = λ n. t.node n.id ≡ Some node in
-    let Kind : Node → Type 0 = λ n. node.kind ≡ n.kind in
-    let Puts : Node → Type 0 = λ n. PutsList t room path n c.if_changed-list.result c.in_ok-changes.changes.items in
-    let planned =
-    subst Puts is (c.in_ok-changes.ensures.value available laid_out_at_last t same_at_last room stand path node
-    (subst Here (sym is) shows.at) (subst Stands (sym is) shows.node_stands) (subst Kind (sym is) refl)) in
-    let Changes : List EntryModel → Type 0 =
-    λ stored. IsChangeOf stored c.in_ok-list.list.items c.if_changed-list.result in
-    let changes = subst Changes (c.as_slice-2.ensures.value ∙ stored) c.if_changed-list.ensures in
-    setlist_plans t room stand path loaded reached.1 caller flag sent passed
+    let planned = rw is at (told.1.1.1 path node (rw is shows.at) (rw is shows.node_stands) (rw is refl)) in
+    let changes = rw (c.as_slice-2.ensures.value ∙ stored) at c.if_changed-list.ensures in
+    setlist_plans stand reached.1 caller flag sent passed
     c.in_ok-list.list.items list c.if_changed-list.result changes _ planned refl

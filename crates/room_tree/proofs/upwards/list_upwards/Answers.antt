@@ -1,6 +1,5 @@
-use Rattle.std.proofs.Common.{◌≡◌, ℕ, ap, sym, ◌∙◌, subst, Some}
+use Rattle.std.proofs.Common.{◌≡◌, ap, sym, ◌∙◌, Some}
 use Rattle.room_records.specs.Records.{Records}
-use Rattle.room_records.specs.Representation.{HasPath}
 use Rattle.room_records.proofs.Paths.{own_number}
 use Rattle.room_records.proofs.RoomsMap.{none_is_some}
 use Rattle.room_tree.proofs.ListsUpwards.{node_there, few_names}
@@ -9,8 +8,7 @@ use Rattle.room_tree.proofs.upwards.list_upwards.Goals as goal
 pub returns-in_default-clause-value : goal.returns-in_default-clause-value
 returns-in_default-clause-value g c = λ available laid_out room stand path at.
     let t = (g.S.Shelf.view c.args.shelf.now).records.objects in
-    absurd (node_there t room stand path c.args.id at
-    (sym (c.in_ok-node.ensures.value available laid_out) ∙ c.in_default.is))
+    absurd (node_there stand path c.args.id at (sym (c.in_ok-node.ensures.value available laid_out) ∙ c.in_default.is))
 
 pub returns-clause-value : goal.returns-clause-value
 returns-clause-value g c = λ available laid_out room stand path at.
@@ -21,10 +19,9 @@ returns-clause-value g c = λ available laid_out room stand path at.
     let same = ap (λ (r : Records). r.objects) (c.node.ensures.frame.same before laid_out) in
     let there : t.node c.args.id ≡ Some node = sym (c.in_ok-node.ensures.value before laid_out) ∙ c.in-Some.is in
     let number : node.id ≡ c.args.id = (stand.rules.numbered c.args.id node there).0 in
-    let At : ℕ → Type 0 = λ id. HasPath t path id in
     c.list_within.ensures.value available declared t same room stand path
-    (subst At (sym number) at) (own_number t stand.rules c.args.id node there)
-    (few_names t room stand path c.args.id node at there)
+    (rw number (at)) (own_number t stand.rules c.args.id node there)
+    (few_names stand path c.args.id node at there)
 
 pub returns-clause-absent : goal.returns-clause-absent
 returns-clause-absent g c = λ available laid_out none.

@@ -1,12 +1,12 @@
-use Rattle.std.proofs.Common.{◌≡◌, ℕ, ◌+◌, ◌<◌, ◌≤◌, refl, ap, ◌∙◌, subst, take, length, get_or, arith, []}
+use Rattle.std.proofs.Common.{◌≡◌, ℕ, refl, ap, ◌∙◌, subst, take, length, get_or, arith, []}
 use Rattle.std.proofs.lemmas.List.{get_or_default, take_all}
-use Rattle.room_records.specs.Names.{Path}
 use Rattle.room_records.specs.Records.{Records}
 use Rattle.room_records.proofs.Shelves.{read_then}
-use Rattle.room_tree.specs.LoadedObjects.{IsLoaded, IsAbove}
+use Rattle.room_tree.specs.LoadedObjects.{IsLoaded}
 use Rattle.room_tree.proofs.Walks.{walk_stopped, walk_goes_on, walk_ends, walk_is_cut, last_is_absent}
 use Rattle.room_tree.proofs.Walks.{next_is_there, last_folder, walk_done}
 use Rattle.room_tree.proofs.Stops.{handed_on, refused_as}
+use Rattle.room_tree.proofs.Told.{both_tell}
 use Rattle.room_tree.proofs.walking.walk_path.Goals as goal
 
 pub returns-in_default-clause-value : goal.returns-in_default-clause-value
@@ -25,68 +25,55 @@ pub returns-in_err-check_way-clause-value : goal.returns-in_err-check_way-clause
 returns-in_err-check_way-clause-value g c = λ available laid_out t e room stand.
     let path = c.args.path.now in
     let i = c.loop-index.index in
-    let before = c.check_way.ensures.frame.call.was_available available in
-    let declared = c.loop-index.invariant.frame.call.laid_out before laid_out in
-    let same = ap (λ (r : Records). r.objects) (c.loop-index.invariant.frame.same before laid_out) ∙ e in
-    let so = c.loop-index.invariant.walked before laid_out t e room stand in
-    let Below : Path → Type 0 = λ p. i < length p in
-    let below = subst Below c.names-names.ensures.value c.loop-index-test.true in
+    let told = both_tell _ _ c.loop-index.invariant.frame c.check_way.ensures.frame
+    c.loop-index.invariant.walked c.in_err-check_way.ensures.value available laid_out t e room stand in
+    let so = told.0 in
+    let below = rw c.names-names.ensures.value at c.loop-index-test.true in
     handed_on _ _ _ c.from_residual-in_err-check_way.result c.from_residual-in_err-check_way.ensures.1
     (walk_stopped room c.args.subject.now path i (get_or path i [])
     below (get_or_default path i [] (get_or path i []) below) _ so.0
-    (c.in_err-check_way.ensures.value available declared t same room stand (take i path) refl so.1))
+    (told.1 (take i path) refl so.1))
 
 pub returns-then-index-names-clause-value : goal.returns-then-index-names-clause-value
 returns-then-index-names-clause-value g c = λ available laid_out t e room stand.
     let path = c.args.path.now in
     let i = c.loop-index.index in
     let name = c.index-names-index.result in
-    let checked = c.load_child.ensures.frame.call.was_available available in
-    let before = c.check_way.ensures.frame.call.was_available checked in
-    let declared = c.loop-index.invariant.frame.call.laid_out before laid_out in
-    let same = ap (λ (r : Records). r.objects) (c.loop-index.invariant.frame.same before laid_out) ∙ e in
-    let allowed = c.check_way.ensures.frame.call.laid_out checked declared in
-    let stays = ap (λ (r : Records). r.objects) (c.check_way.ensures.frame.same checked declared) ∙ same in
-    let so = c.loop-index.invariant.walked before laid_out t e room stand in
-    let Below : Path → Type 0 = λ p. i < length p in
-    let More : Path → Type 0 = λ p. i + 1 < length p in
-    let At : Path → Type 0 = λ p. name ≡ get_or p i name in
-    let below = subst Below c.names-names.ensures.value c.loop-index-test.true in
+    let told = both_tell _ _ c.loop-index.invariant.frame
+    (read_then _ _ _ _ c.load_child.ensures.frame c.in_ok-check_way.ensures.frame) c.loop-index.invariant.walked
+    (both_tell _ _ c.in_ok-check_way.ensures.frame c.load_child.ensures.frame c.in_ok-check_way.ensures.value
+    c.in_ok-next.ensures.value) available laid_out t e room stand in
+    let so = told.0 in
+    let below = rw c.names-names.ensures.value at c.loop-index-test.true in
     refused_as c.of-then-index-names.result _ c.of-then-index-names.ensures
     (walk_is_cut room c.args.subject.now path i name below
-    (subst At c.names-names.ensures.value c.index-names-index.is) so.0
-    (c.in_ok-check_way.ensures.value checked declared t same room stand (take i path) refl so.1).0
-    (rw c.in_default-2.is at (c.in_ok-next.ensures.value available allowed
-    t stays room stand (take i path) so.1))
-    (subst More c.names-names.ensures.value c.if-index-names.true))
+    (rw (← c.names-names.ensures.value) c.index-names-index.is) so.0
+    (told.1.0 (take i path) refl so.1).0
+    (rw c.in_default-2.is at (told.1.1 (take i path) so.1))
+    (rw (← c.names-names.ensures.value) c.if-index-names.true))
 
 pub loop-index-preserved : goal.loop-index-preserved
 loop-index-preserved g c =
     let path = c.args.path.now in
     let i = c.loop-index.index in
     let name = c.index-names-index.result in
-    let Below : Path → Type 0 = λ p. i < length p in
-    let At : Path → Type 0 = λ p. name ≡ get_or p i name in
-    let below = subst Below c.names-names.ensures.value c.loop-index-test.true in
-    let is = subst At c.names-names.ensures.value c.index-names-index.is in
+    let below = rw c.names-names.ensures.value at c.loop-index-test.true in
+    let is = rw c.names-names.ensures.value at c.index-names-index.is in
     record {
       frame = read_then _ _ _ _ c.in_ok-next.ensures.frame
           (read_then _ _ _ _ c.in_ok-check_way.ensures.frame c.loop-index.invariant.frame);
       names = c.loop-index.invariant.names;
       walked = λ available laid_out t e room stand.
-          let checked = c.load_child.ensures.frame.call.was_available available in
-          let before = c.check_way.ensures.frame.call.was_available checked in
-          let declared = c.loop-index.invariant.frame.call.laid_out before laid_out in
-          let same = ap (λ (r : Records). r.objects) (c.loop-index.invariant.frame.same before laid_out) ∙ e in
-          let allowed = c.check_way.ensures.frame.call.laid_out checked declared in
-          let stays = ap (λ (r : Records). r.objects) (c.check_way.ensures.frame.same checked declared) ∙ same in
-          let so = c.loop-index.invariant.walked before laid_out t e room stand in
+          let told = both_tell _ _ c.loop-index.invariant.frame
+          (read_then _ _ _ _ c.load_child.ensures.frame c.in_ok-check_way.ensures.frame) c.loop-index.invariant.walked
+          (both_tell _ _ c.in_ok-check_way.ensures.frame c.load_child.ensures.frame c.in_ok-check_way.ensures.value
+          c.in_ok-next.ensures.value) available laid_out t e room stand in
+          let so = told.0 in
           let At : ℕ → Type 0 = λ n. IsLoaded t room (take n path) c.loop-index.here in (
             walk_goes_on room c.args.subject.now path i name below is so.0
-                (c.in_ok-check_way.ensures.value checked declared t same room stand (take i path) refl so.1).0,
+                (told.1.0 (take i path) refl so.1).0,
             next_is_there room c.args.subject.now path i name below is (λ p. IsLoaded t room p c.in-Some-2.next)
-                (rw c.in-Some-2.is at (c.in_ok-next.ensures.value available allowed
-                t stays room stand (take i path) so.1)),
+                (rw c.in-Some-2.is at (told.1.1 (take i path) so.1)),
             (omega arith, subst At (omega arith) so.1),
           );
     }
@@ -95,15 +82,11 @@ pub returns-clause-value : goal.returns-clause-value
 returns-clause-value g c = λ available laid_out t e room stand.
     let path = c.args.path.now in
     let so = c.loop-index.invariant.walked available laid_out t e room stand in
-    let Above : Path → Type 0 = λ p. length p ≤ c.loop-index.index in
-    let all = subst Above c.names-names.ensures.value c.loop-index-test.false in
-    let Within : Path → Type 0 = λ p. c.loop-index.index ≤ length p in
-    let within = subst Within c.names-names.ensures.value c.loop-index.auto.index-end in
-    let last : c.loop-index.index ≡ length path = omega (arith, all, within) in
-    let Here : Path → Type 0 = λ p. IsLoaded t room p c.loop-index.here in
-    let Count : ℕ → Type 0 = λ n. IsAbove t room path n c.loop-index.above in (
+    let all = rw c.names-names.ensures.value at c.loop-index-test.false in
+    let within = rw c.names-names.ensures.value at c.loop-index.auto.index-end in
+    let last : c.loop-index.index ≡ length path = omega (arith, all, within) in (
       walk_done room c.args.subject.now path c.loop-index.index so.0 all,
-      (subst Here (take_all c.loop-index.index path all) so.1, subst Count last so.2),
+      (rw (← take_all c.loop-index.index path all) so.1, rw (← last) so.2),
     )
 
 pub returns-in_default-2-clause-value : goal.returns-in_default-2-clause-value
@@ -111,26 +94,19 @@ returns-in_default-2-clause-value g c = λ available laid_out t e room stand.
     let path = c.args.path.now in
     let i = c.loop-index.index in
     let name = c.index-names-index.result in
-    let checked = c.load_child.ensures.frame.call.was_available available in
-    let before = c.check_way.ensures.frame.call.was_available checked in
-    let declared = c.loop-index.invariant.frame.call.laid_out before laid_out in
-    let same = ap (λ (r : Records). r.objects) (c.loop-index.invariant.frame.same before laid_out) ∙ e in
-    let allowed = c.check_way.ensures.frame.call.laid_out checked declared in
-    let stays = ap (λ (r : Records). r.objects) (c.check_way.ensures.frame.same checked declared) ∙ same in
-    let so = c.loop-index.invariant.walked before laid_out t e room stand in
-    let Below : Path → Type 0 = λ p. i < length p in
-    let Last : Path → Type 0 = λ p. length p ≤ i + 1 in
-    let At : Path → Type 0 = λ p. name ≡ get_or p i name in
-    let Here : Path → Type 0 = λ p. IsLoaded t room p c.loop-index.here in
-    let below = subst Below c.names-names.ensures.value c.loop-index-test.true in
-    let is = subst At c.names-names.ensures.value c.index-names-index.is in
-    let last = subst Last c.names-names.ensures.value c.if-index-names.false in
-    let nothing = rw c.in_default-2.is at (c.in_ok-next.ensures.value available allowed
-    t stays room stand (take i path) so.1) in (
+    let told = both_tell _ _ c.loop-index.invariant.frame
+    (read_then _ _ _ _ c.load_child.ensures.frame c.in_ok-check_way.ensures.frame) c.loop-index.invariant.walked
+    (both_tell _ _ c.in_ok-check_way.ensures.frame c.load_child.ensures.frame c.in_ok-check_way.ensures.value
+    c.in_ok-next.ensures.value) available laid_out t e room stand in
+    let so = told.0 in
+    let below = rw c.names-names.ensures.value at c.loop-index-test.true in
+    let is = rw c.names-names.ensures.value at c.index-names-index.is in
+    let last = rw c.names-names.ensures.value at c.if-index-names.false in
+    let nothing = rw c.in_default-2.is at (told.1.1 (take i path) so.1) in (
       walk_ends room c.args.subject.now path i name below is so.0
-          (c.in_ok-check_way.ensures.value checked declared t same room stand (take i path) refl so.1).0 last,
+          (told.1.0 (take i path) refl so.1).0 last,
       (
         last_is_absent room c.args.subject.now path i name below is nothing last,
-        subst Here (last_folder room c.args.subject.now path i name below is last) so.1,
+        rw (← last_folder room c.args.subject.now path i name below is last) so.1,
       ),
     )

@@ -8,13 +8,13 @@ pub returns-in_err-check_folder-clause-value : goal.returns-in_err-check_folder-
 returns-in_err-check_folder-clause-value g c = λ available laid_out t e room stand at is found.
     let right = check_right room c.args.subject.now at 0x20 in
     handed_on _ _ _ c.from_residual.result c.from_residual.ensures.1
-    (way_check t room at c.args.self.now found c.args.subject.now
+    (way_check found c.args.subject.now
     ∙ stop (check_folder room at) (right ∷ []) _ (sym (c.in_err-check_folder.ensures t room at found)))
 
 pub returns-clause-value : goal.returns-clause-value
 returns-clause-value g c = λ available laid_out t e room stand at is found.
     let right = check_right room c.args.subject.now at 0x20 in
     passes_by right (prefix_refusal room c.args.subject.now at) _ c.check_right.result
-    (way_check t room at c.args.self.now found c.args.subject.now
+    (way_check found c.args.subject.now
     ∙ skip (check_folder room at) (right ∷ []) (sym (c.in_ok-check_folder.ensures t room at found)) ∙ first_alone right)
     (c.check_right.ensures.value available laid_out t e room stand at is found)

@@ -13,6 +13,6 @@ returns-clause-value g c = λ available laid_out t e room stand at found.
     let by : ObjectRecords → Decision = λ r. decision (r.entries loaded.id) caller loaded.standing c.args.wanted in
     if_ok_map (λ d. d ≡ by (g.S.Shelf.view c.args.shelf.now).records.objects)
     (λ d. check_right room caller at c.args.wanted ≡ denied_at at d)
-    (λ d is. right_check t room at loaded found caller c.args.wanted
+    (λ d is. right_check found caller c.args.wanted
     ∙ ap (λ (r : ObjectRecords). denied_at at (by r)) (sym e) ∙ ap (denied_at at) (sym is))
     c.decide_at.result (c.decide_at.ensures.value available laid_out)

@@ -2,13 +2,13 @@ use Rattle.std.proofs.Common.{ap, sym, ◌∙◌, cond, [], ◌∷◌, None}
 use Rattle.std.specs.Prelude.{nat_le}
 use Rattle.room_records.specs.Limits.{max_children}
 use Rattle.room_records.specs.Names.{path_eq}
-use Rattle.room_records.specs.Records.{Records}
 use Rattle.room_records.specs.Room.{parent_of}
 use Rattle.room_commands.specs.declared.reply.RefusalCode.TheVariants.{FolderFull}
 use Rattle.room_commands.specs.Checks.{refuse_if, check_depth, check_folder_full}
 use Rattle.room_tree.proofs.Checking.{skip, first_alone}
 use Rattle.room_tree.proofs.Renamed.{same_folder, other_folder}
 use Rattle.room_tree.proofs.Stops.{handed_on, at_head}
+use Rattle.room_tree.proofs.Told.{both_tell}
 use Rattle.room_tree.proofs.moving.Move.check_limits.Goals as goal
 
 pub returns-in_err-check_depth-clause-value : goal.returns-in_err-check_depth-clause-value
@@ -24,8 +24,7 @@ returns-then-self-clause-value g c = λ available laid_out t e room stand path m
     let to = c.args.to.now in
     let depth = (c.in_ok-check_depth.ensures.value available laid_out t e room stand path move.loaded).0 in
     let full = cond (path_eq (parent_of path) (parent_of to)) None (check_folder_full room (parent_of to)) in
-    let one = same_folder t room stand (parent_of path) (parent_of to)
-    c.args.self.now.from c.args.self.now.into move.from move.into c.if-self.true in (
+    let one = same_folder stand move.from move.into c.if-self.true in (
       skip (check_depth room path to) (full ∷ []) depth ∙ first_alone full
           ∙ ap (λ b. cond b None (check_folder_full room (parent_of to))) one,
       tt,
@@ -34,14 +33,12 @@ returns-then-self-clause-value g c = λ available laid_out t e room stand path m
 pub returns-in_err-check_children-clause-value : goal.returns-in_err-check_children-clause-value
 returns-in_err-check_children-clause-value g c = λ available laid_out t e room stand path move.
     let to = c.args.to.now in
-    let before = c.count_children.ensures.frame.call.was_available available in
-    let declared = c.check_depth.ensures.frame.call.laid_out before laid_out in
-    let same = ap (λ (r : Records). r.objects) (c.check_depth.ensures.frame.same before laid_out) ∙ e in
-    let depth = (c.in_ok-check_depth.ensures.value before laid_out t e room stand path move.loaded).0 in
-    let count = c.in_ok-count.ensures.value available declared t same room stand (parent_of to) move.into in
+    let told = both_tell _ _ c.check_depth.ensures.frame c.count_children.ensures.frame
+    c.in_ok-check_depth.ensures.value c.in_ok-count.ensures.value available laid_out t e room stand in
+    let depth = (told.0 path move.loaded).0 in
+    let count = told.1 (parent_of to) move.into in
     let full = cond (path_eq (parent_of path) (parent_of to)) None (check_folder_full room (parent_of to)) in
-    let two = other_folder t room stand (parent_of path) (parent_of to)
-    c.args.self.now.from c.args.self.now.into move.from move.into c.if-self.false in
+    let two = other_folder stand move.from move.into c.if-self.false in
     handed_on _ _ _ c.from_residual-in_err-check_children.result c.from_residual-in_err-check_children.ensures.1
     (skip (check_depth room path to) (full ∷ []) depth ∙ first_alone full
     ∙ ap (λ b. cond b None (check_folder_full room (parent_of to))) two
@@ -50,14 +47,12 @@ returns-in_err-check_children-clause-value g c = λ available laid_out t e room 
 pub returns-clause-value : goal.returns-clause-value
 returns-clause-value g c = λ available laid_out t e room stand path move.
     let to = c.args.to.now in
-    let before = c.count_children.ensures.frame.call.was_available available in
-    let declared = c.check_depth.ensures.frame.call.laid_out before laid_out in
-    let same = ap (λ (r : Records). r.objects) (c.check_depth.ensures.frame.same before laid_out) ∙ e in
-    let depth = (c.in_ok-check_depth.ensures.value before laid_out t e room stand path move.loaded).0 in
-    let count = c.in_ok-count.ensures.value available declared t same room stand (parent_of to) move.into in
+    let told = both_tell _ _ c.check_depth.ensures.frame c.count_children.ensures.frame
+    c.in_ok-check_depth.ensures.value c.in_ok-count.ensures.value available laid_out t e room stand in
+    let depth = (told.0 path move.loaded).0 in
+    let count = told.1 (parent_of to) move.into in
     let full = cond (path_eq (parent_of path) (parent_of to)) None (check_folder_full room (parent_of to)) in
-    let two = other_folder t room stand (parent_of path) (parent_of to)
-    c.args.self.now.from c.args.self.now.into move.from move.into c.if-self.false in (
+    let two = other_folder stand move.from move.into c.if-self.false in (
       skip (check_depth room path to) (full ∷ []) depth ∙ first_alone full
           ∙ ap (λ b. cond b None (check_folder_full room (parent_of to))) two
           ∙ ap (λ n. refuse_if (nat_le max_children n) FolderFull) (sym count) ∙ sym c.in_ok-check_children.ensures,

@@ -2,12 +2,12 @@ use Rattle.std.proofs.Common.{◌≡◌, ℕ, ◌-◌, ap, sym, ◌∙◌, cond,
 use Rattle.room_acl.specs.Bits.{add_file, add_subdirectory}
 use Rattle.room_acl.specs.declared.subject.Kind.TheVariants.{Folder}
 use Rattle.room_records.specs.Names.{Path}
-use Rattle.room_records.specs.Records.{Records}
 use Rattle.room_records.specs.Room.{Object, parent_of}
 use Rattle.room_commands.specs.Checks.{first_refusal, check_removal, check_right, right_to_add, is_kind}
 use Rattle.room_tree.specs.Renames.{move_rights}
 use Rattle.room_tree.proofs.Checking.{skip, first_alone}
 use Rattle.room_tree.proofs.Stops.{handed_on, at_head, passes_by}
+use Rattle.room_tree.proofs.Told.{both_tell}
 use Rattle.room_tree.proofs.moving.Move.check_rights.Goals as goal
 
 pub returns-in_err-check_removal-clause-value : goal.returns-in_err-check_removal-clause-value
@@ -22,12 +22,11 @@ returns-in_err-check_removal-clause-value g c = λ available laid_out t e room s
 pub returns-clause-value : goal.returns-clause-value
 returns-clause-value g c = λ available laid_out t e room stand move.
     let path = c.args.path.now in
-    let before = c.check_right.ensures.frame.call.was_available available in
-    let declared = c.check_removal.ensures.frame.call.laid_out before laid_out in
-    let same = ap (λ (r : Records). r.objects) (c.check_removal.ensures.frame.same before laid_out) ∙ e in
+    let told = both_tell _ _ c.check_removal.ensures.frame c.check_right.ensures.frame
+    c.in_ok-check_removal.ensures.value c.check_right.ensures.value available laid_out t e room stand in
     let caller = c.args.subject.now in
     let to = c.args.to.now in
-    let removal = (c.in_ok-check_removal.ensures.value before laid_out t e room stand move.loaded move.from).0 in
+    let removal = (told.0 move.loaded move.from).0 in
     let there = move.loaded.is_there in
     let asks : c.right_to_add-wanted.result ≡ right_to_add room path =
     c.right_to_add-wanted.ensures.value move.loaded.object (sym there.shows.kind)
@@ -41,4 +40,4 @@ returns-clause-value g c = λ available laid_out t e room stand move.
     passes_by (check_right room caller (parent_of to) c.right_to_add-wanted.result)
     (first_refusal (move_rights room caller path to)) _ c.check_right.result
     (whole ∙ sym (ap (check_right room caller (parent_of to)) asks))
-    (c.check_right.ensures.value available declared t same room stand (parent_of to) front move.into)
+    (told.1 (parent_of to) front move.into)
