@@ -54,7 +54,7 @@ crash: build
 # Random streams against a plain model, forty clients and kills, and peers that neither send nor read. `make test` plays
 # 2,000 streams; here 50,000.
 hostile: build
-	STREAMS=50000 KILLS=60 PIECES=40 tests/hostile/run
+	STREAMS=50000 JOBS=2 KILLS=60 PIECES=40 tests/hostile/run
 
 # The client of client/ against a served room: commands, refusals, lost answers, and kills of both.
 client: build
