@@ -16,8 +16,8 @@ demo:
 build:
 	@RT='$(RT)' tools/build
 
-# Proves and tests everything from nothing, and then tries wrong bodies in rounds and plays scripts over the proved
-# program. It ends with a table of parts and times. Nothing else is a verdict.
+# Proves and tests everything from nothing, tries wrong bodies in rounds and plays scripts over the proved program. It
+# ends with a table of parts and times. Nothing else is a verdict.
 test:
 	@RT='$(RT)' tests/gate
 
