@@ -16,8 +16,8 @@ demo:
 build:
 	@RT='$(RT)' tools/build
 
-# Proves and tests everything from nothing, and then tries wrong bodies in rounds and plays scripts over the proved
-# program. It ends with a table of parts and times. Nothing else is a verdict.
+# Proves and tests everything from nothing, tries wrong bodies in rounds and plays scripts over the proved program. It
+# ends with a table of parts and times. Nothing else is a verdict.
 test:
 	@RT='$(RT)' tests/gate
 
@@ -54,7 +54,7 @@ crash: build
 # Random streams against a plain model, forty clients and kills, and peers that neither send nor read. `make test` plays
 # 2,000 streams; here 50,000.
 hostile: build
-	STREAMS=50000 KILLS=60 PIECES=40 tests/hostile/run
+	STREAMS=50000 JOBS=2 KILLS=60 PIECES=40 tests/hostile/run
 
 # The client of client/ against a served room: commands, refusals, lost answers, and kills of both.
 client: build

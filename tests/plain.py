@@ -40,8 +40,11 @@ class LeftOpen(Exception):
     """No rule says which answer is due."""
 
 
+COMPACT = json.JSONEncoder(separators=(",", ":"), sort_keys=True, ensure_ascii=False)
+
+
 def text(value):
-    return json.dumps(value, separators=(",", ":"), sort_keys=True, ensure_ascii=False).encode()
+    return COMPACT.encode(value).encode()
 
 
 def refusal(code):
@@ -74,7 +77,8 @@ def read_body(body):
     try:
         found = json.loads(body.decode(), object_pairs_hook=once, parse_int=natural, parse_float=no_number,
                            parse_constant=no_number)
-        json.dumps(found, ensure_ascii=False).encode()  # (half of a pair of surrogates is no text)
+        if b"\\u" in body:
+            json.dumps(found, ensure_ascii=False).encode()  # (half of a pair of surrogates is no text)
     except (ValueError, RecursionError):
         raise Refused(43) from None
     need(isinstance(found, dict))
