@@ -6,11 +6,12 @@ answer's whole bytes. A line that cannot be read ends the reading with a Fault, 
 import os
 import re
 
-WAYS = {"memory", "tables", "run", "stream", "bytes", "plain", "reopened", "tripped", "lost", "sockets"}
+WAYS = {"memory", "tables", "run", "stream", "bytes", "plain", "reopened", "tripped", "tripped_tables", "lost",
+        "sockets"}
 SESSIONS = {"S": "0123456789abcdef0123456789abcdef", "T": "f" * 32}
 PHRASES = {200: "OK", 400: "Bad Request", 403: "Forbidden", 404: "Not Found", 409: "Conflict",
            503: "Service Unavailable"}
-SCENE = re.compile(r"== ([a-z0-9_]+)(?: after ([a-z0-9_]+))?(?: not ([a-z]+(?: [a-z]+)*))?$")
+SCENE = re.compile(r"== ([a-z0-9_]+)(?: after ([a-z0-9_]+))?(?: not ([a-z_]+(?: [a-z_]+)*))?$")
 DUE = re.compile(r"  (?:(\d{3}) )?(close )?(\S.*)$")
 TIMES = re.compile(r"([1-9][0-9]*) times (.*)$")
 

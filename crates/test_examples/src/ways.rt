@@ -30,14 +30,16 @@ pub enum Way {
     Plain,
     /// Over files, which are closed and opened again behind each request.
     Reopened,
-    /// With each call of the shelf failing in turn.
+    /// With each call of the shelf failing in turn, over memory.
     Tripped,
+    /// The same over tables.
+    TrippedTables,
     /// With each answer lost behind each of its bytes.
     Lost,
 }
 
 /// The ways with their words.
-pub const WAYS: [(&str, Way); 9] = [
+pub const WAYS: [(&str, Way); 10] = [
     ("memory", Way::Memory),
     ("tables", Way::Tables),
     ("run", Way::Run),
@@ -46,6 +48,7 @@ pub const WAYS: [(&str, Way); 9] = [
     ("plain", Way::Plain),
     ("reopened", Way::Reopened),
     ("tripped", Way::Tripped),
+    ("tripped_tables", Way::TrippedTables),
     ("lost", Way::Lost),
 ];
 
@@ -73,7 +76,8 @@ impl Way {
             Way::Bytes => messages::play(play, in_tables(play.alloc)?, true, differences),
             Way::Plain => plain::play(play, differences),
             Way::Reopened => files::play(play, differences),
-            Way::Tripped => trips::play(play, differences),
+            Way::Tripped => trips::play(play, in_memory(play.alloc)?, differences),
+            Way::TrippedTables => trips::play(play, in_tables(play.alloc)?, differences),
             Way::Lost => losses::play(play, differences),
         }
     }

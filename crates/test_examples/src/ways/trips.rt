@@ -3,18 +3,17 @@ use crate::asking::{Asked, ask_of};
 use crate::differences::Differences;
 use crate::fault::Fault;
 use crate::playing::Play;
-use crate::rooms::in_memory;
 use crate::scenes::{Example, Step};
 use crate::shelves::{answered, do_step, expect_whole_lists, prepared};
 use room_desk::Answer;
-use room_records::{MemShelf, TripShelf};
+use room_records::{Shelf, TripShelf};
 use room_wire::{Code, refusal_text};
 
 /// The most calls of the shelf that a request makes.
 const MOST_CALLS: u64 = 100_000;
 
 /// What a message is answered where the k-th call of the shelf fails, whether one did, and the shelf then.
-fn answered_at(play: &Play<'_>, shelf: MemShelf, k: u64, sent: &[u8]) -> (Answer, bool, MemShelf) {
+fn answered_at<S: Shelf>(play: &Play<'_>, shelf: S, k: u64, sent: &[u8]) -> (Answer, bool, S) {
     let (answer, shelf) = answered(play, TripShelf::new(shelf, k), sent);
     let tripped = shelf.has_tripped();
     (answer, tripped, shelf.into_inner())
@@ -34,12 +33,12 @@ fn expect_trips(
     }
 }
 
-fn ask(
+fn ask<S: Shelf + Drop>(
     play: &Play<'_>,
-    shelf: MemShelf,
+    shelf: S,
     example: &Example,
     differences: &mut Differences<'_>,
-) -> Result<MemShelf, Fault> {
+) -> Result<S, Fault> {
     let mut shelf = shelf;
     for k in 1..MOST_CALLS {
         let (answer, tripped, left) = answered_at(play, shelf, k, example.sent.as_slice());
@@ -56,8 +55,12 @@ fn ask(
     Ok(shelf)
 }
 
-pub fn play(play: &Play<'_>, differences: &mut Differences<'_>) -> Result<(), Fault> {
-    let mut shelf = prepared(play, in_memory(play.alloc)?)?;
+pub fn play<S: Shelf + Drop>(
+    play: &Play<'_>,
+    fresh: S,
+    differences: &mut Differences<'_>,
+) -> Result<(), Fault> {
+    let mut shelf = prepared(play, fresh)?;
     for step in play.steps {
         match step {
             Step::Ask(example) => shelf = ask(play, shelf, example, differences)?,
