@@ -1,0 +1,7 @@
+use Rattle.std.proofs.Common.{◌≡◌, ◌*◌, take}
+use Rattle.base64.specs.Engines.{standard}
+use Rattle.base64.specs.GeneralPurpose.{encode_of}
+use Rattle.room_wire.proofs.forms.letters.fill_block.Given as goal
+
+abbrev pub invariant-loop-six : goal.invariant-loop-six
+invariant-loop-six l = take (8 * l.six) l.block ≡ encode_of standard (take (6 * l.six) l.bytes)

@@ -1,0 +1,13 @@
+use Rattle.std.proofs.Common.{◌∙◌, refl, Some}
+use Rattle.std.proofs.lemmas.Result.{IfOk-weaker}
+use Rattle.room_wire.specs.Forms.Texts.{refusal_data}
+use Rattle.room_wire.proofs.Lemmas.Forms.Written.{text_of_tokens}
+use Rattle.room_wire.proofs.forms.replies.refused_at_text.Goals as goal
+
+pub returns : goal.returns
+returns c =
+    IfOk-weaker c.ended.result _ _
+    (λ text is. is ∙ text_of_tokens (refusal_data c.args.code (Some (c.args.path.now, c.args.bit))) _ _
+    (c.in_ok-text_member-2.ensures.before ∙ c.in_ok-text_member.ensures.before ∙ c.in_ok-number_member-2.ensures.before ∙ c.in_ok-number_member.ensures.before ∙ c.in_ok-out.ensures.0)
+    (rw (c.in_ok-text_member-2.ensures.written, c.in_ok-text_member.ensures.written, c.in_ok-number_member-2.ensures.written, c.in_ok-number_member.ensures.written, c.in_ok-out.ensures.1) refl))
+    c.ended.ensures
