@@ -1,6 +1,6 @@
 //! Base64 with padding (RFC 4648), two letters at a time. The crate's own calls find one letter at a time, and were the
 //! larger half of the text of a long document.
-ghost use Rattle.std.specs.Prelude.{◌≡◌, ◌++◌, take, length, OnOk};
+ghost use Rattle.std.specs.Prelude.{◌≡◌, ◌/◌, ◌%◌, ◌<◌, [], ◌∷◌, ◌++◌, take, length, slice_index, OnOk};
 ghost use Rattle.base64.specs.Engines.{standard};
 ghost use Rattle.base64.specs.GeneralPurpose.{encode_of};
 
@@ -32,16 +32,26 @@ static PAIRS: [[u8; 2]; 4096] = pairs!(
     b'u' b'v' b'w' b'x' b'y' b'z' b'0' b'1' b'2' b'3' b'4' b'5' b'6' b'7' b'8' b'9' b'+' b'/'
 );
 
+/// The letters of a number of twelve bits.
+#[inline(always)]
+fn two_letters(number: u64) -> [u8; 2]
+    requires { number < 4096 }
+    ensures { result ≡ slice_index standard.encode_table (number / 64)
+        ∷ slice_index standard.encode_table (number % 64) ∷ [] }
+{
+    PAIRS[number as usize]
+}
+
 /// The letters of the first six bytes of eight, which are one load.
-#[inline]
+#[inline(always)]
 fn eight_letters(bytes: &[u8; 8]) -> [u8; 8]
     ensures { result ≡ encode_of standard (take 6 bytes.now) }
 {
     let word = u64::from_be_bytes(*bytes);
-    let first = PAIRS[(word >> 52) as usize];
-    let second = PAIRS[((word >> 40) % 4096) as usize];
-    let third = PAIRS[((word >> 28) % 4096) as usize];
-    let fourth = PAIRS[((word >> 16) % 4096) as usize];
+    let first = two_letters(word >> 52);
+    let second = two_letters((word >> 40) % 4096);
+    let third = two_letters((word >> 28) % 4096);
+    let fourth = two_letters((word >> 16) % 4096);
     [
         first[0], first[1], second[0], second[1], third[0], third[1], fourth[0], fourth[1],
     ]

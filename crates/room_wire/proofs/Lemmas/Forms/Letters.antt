@@ -1,12 +1,19 @@
 -- Letters of base64: none is escaped, and those of a long message are those of its pieces.
 use Rattle.std.proofs.Common.{◌≡◌, ◌+◌, ◌-◌, ◌*◌, ◌/◌, ◌%◌, ◌<◌, ◌≤◌, ◌==◌, ℕ, zero, suc, true, List, [], ◌∷◌, ◌++◌}
 use Rattle.std.proofs.Common.{length, take, drop, map, replicate, get_or, slice_index, refl, sym, ap, ◌∙◌, arith, inl, inr}
+use Rattle.std.proofs.Common.{append_assoc, codes, cond, Ok, Err}
+use Rattle.std.specs.Prelude.{Result, OnOk, is_ok}
 use Rattle.std.specs.Prelude.{flat_map}
 use Rattle.std.specs.List.{AllByRecursion}
 use Rattle.std.proofs.Math.Seq.{take-add}
 use Rattle.std.proofs.lemmas.Bool.{or_parts, not-true, eqb-false, ltb-false, cases_lt}
 use Rattle.std.proofs.lemmas.Grind.{flat_map-append}
-use Rattle.std.proofs.lemmas.List.{take-take, take-append-drop, length-take-le, length-map}
+use Rattle.std.proofs.lemmas.List.{take-take, take-append-drop, length-take-le, length-drop, length-map}
+use Rattle.std.proofs.lemmas.Slice.{take-put_mid}
+use borrow.Rule.Slice.PartMut.{put_mid}
+use Rattle.serde_json.specs.Data.{string}
+use Rattle.serde_json.specs.Written.{compact_text}
+use Rattle.room_wire.specs.Forms.Texts.{obj, ok, cmd, bytes}
 use Rattle.std.proofs.lemmas.List.{get_or_append_left, get_or-append_right, get_or-map}
 use Rattle.json.specs.Run.{is_plain, is_stop}
 use Rattle.json.specs.Print.{escape_byte, escape, quoted}
@@ -40,25 +47,25 @@ letter k small =
 symbols_unescaped : (m : List ℕ) → ((i : ℕ) → slice_index m i < 256)
     → AllByRecursion IsUnescaped (encode_symbols letters m)
 unfolding encode_symbols
-symbols_unescaped [] bytes = tt
-symbols_unescaped (a ∷ []) bytes =
-    let x = bytes 0 in (letter (a / 4) (omega arith), (letter (a % 4 * 16) (omega arith), tt))
-symbols_unescaped (a ∷ b ∷ []) bytes =
-    let x = bytes 0 in
-    let y = bytes 1 in (
+symbols_unescaped [] small = tt
+symbols_unescaped (a ∷ []) small =
+    let x = small 0 in (letter (a / 4) (omega arith), (letter (a % 4 * 16) (omega arith), tt))
+symbols_unescaped (a ∷ b ∷ []) small =
+    let x = small 0 in
+    let y = small 1 in (
       letter (a / 4) (omega arith),
       (letter (a % 4 * 16 + b / 16) (omega arith), (letter (b % 16 * 4) (omega arith), tt)),
     )
-symbols_unescaped (a ∷ b ∷ c ∷ rest) bytes =
-    let x = bytes 0 in
-    let y = bytes 1 in
-    let z = bytes 2 in (
+symbols_unescaped (a ∷ b ∷ c ∷ rest) small =
+    let x = small 0 in
+    let y = small 1 in
+    let z = small 2 in (
       letter (a / 4) (omega arith),
       (
         letter (a % 4 * 16 + b / 16) (omega arith),
         (
           letter (b % 16 * 4 + c / 64) (omega arith),
-          (letter (c % 64) (omega arith), symbols_unescaped rest (λ i. bytes (suc (suc (suc i))))),
+          (letter (c % 64) (omega arith), symbols_unescaped rest (λ i. small (suc (suc (suc i))))),
         ),
       ),
     )
@@ -76,9 +83,9 @@ escape_both xs ys e f = flat_map-append escape_byte xs ys ∙ (λ i. e i ++ f i)
 
 pub quoted_letters : (m : List ℕ) → ((i : ℕ) → slice_index m i < 256)
     → quoted (encode_of standard m) ≡ 34 ∷ (encode_of standard m ++ 34 ∷ [])
-quoted_letters m bytes =
+quoted_letters m small =
     ap (λ xs. 34 ∷ (xs ++ 34 ∷ [])) (escape_both (encode_symbols letters m) (replicate (padding_len (length m)) 61)
-    (escape_none _ (symbols_unescaped m bytes)) (escape_none _ (padding_unescaped (padding_len (length m)))))
+    (escape_none _ (symbols_unescaped m small)) (escape_none _ (padding_unescaped (padding_len (length m)))))
 
 -- ---- the table of pairs
 
@@ -164,3 +171,65 @@ pub places_second : (b c : ℕ) → b < 256 → c < 256
     → ((b % 16 * 256 + c) / 64 ≡ b % 16 * 4 + c / 64) × ((b % 16 * 256 + c) % 64 ≡ c % 64)
     × (b % 16 * 256 + c < 4096)
 places_second b c lb lc = (omega arith, omega arith, omega arith)
+
+-- six bytes more in the block
+pub six_written : (m block eight ys : List ℕ) (n w k : ℕ) → 6 * n + 8 ≤ length m → 8 * n ≤ length block → w ≡ 8
+    → eight ≡ take w (drop (6 * n) m) → ys ≡ encode_of standard (take 6 eight)
+    → take (8 * n) block ≡ encode_of standard (take (6 * n) m)
+    → take (8 * (n + 1)) (put_mid (8 * n) k block ys) ≡ encode_of standard (take (6 * (n + 1)) m)
+six_written m block eight ys n w k in_m in_block wide is letters_are so_far =
+    let eight_is : eight ≡ take 8 (drop (6 * n) m) = is ∙ ap (λ v. take v (drop (6 * n) m)) wide in
+    let long : length eight ≡ 8 = ap length eight_is
+    ∙ length-take-le 8 (drop (6 * n) m) (omega (arith, length-drop (6 * n) m)) in
+    let eight_long : length ys ≡ 8 = ap length (letters_are ∙ letters_of_six eight long) in
+    let next : 6 * n + 6 ≡ 6 * (n + 1) = omega arith in
+    take-put_mid (8 * n) k block ys (8 * (n + 1)) (omega arith) in_block
+    ∙ (λ i. so_far i ++ letters_are i)
+    ∙ ap (λ x. encode_of standard (take (6 * n) m) ++ encode_of standard (take 6 x)) eight_is
+    ∙ sym (piece_more m (6 * n) 6 8 (omega arith) (omega arith) (omega arith))
+    ∙ ap (λ s. encode_of standard (take s m)) next
+
+-- a block more in the text
+pub block_written : (m before now block new : List ℕ) (n w : ℕ) → 192 * n + 194 ≤ length m → w ≡ 194
+    → now ≡ before ++ encode_of standard (take (192 * n) m)
+    → block ≡ encode_of standard (take 192 (take w (drop (192 * n) m)))
+    → new ≡ now ++ block → new ≡ before ++ encode_of standard (take (192 * (n + 1)) m)
+block_written m before now block new n w in_m wide is block_is new_is =
+    let next : 192 * n + 192 ≡ 192 * (n + 1) = omega arith in
+    new_is ∙ (λ i. is i ++ block_is i) ∙ append_assoc before _ _
+    ∙ ap (λ x. before ++ x) (sym (piece_more m (192 * n) 192 w (omega arith) (omega arith) (omega arith))
+    ∙ ap (λ s. encode_of standard (take s m)) next)
+
+-- the rest behind the blocks
+pub rest_written : {E : Type 0} (r : Result (Unit {0}) E) (m before now rest new : List ℕ) (n : ℕ) → 192 * n ≤ length m
+    → now ≡ before ++ encode_of standard (take (192 * n) m) → rest ≡ encode_of standard (drop (192 * n) m)
+    → new ≡ cond (is_ok r) (now ++ rest) now → OnOk r (new ≡ before ++ encode_of standard m)
+rest_written (Ok u) m before now rest new n within is rest_is new_is =
+    new_is ∙ (λ i. is i ++ rest_is i) ∙ append_assoc before _ _
+    ∙ ap (λ x. before ++ x) (pieces_end m (192 * n) (omega arith) within)
+rest_written (Err e) m before now rest new n within is rest_is new_is = tt
+
+-- ---- the texts that carry a document
+
+pub read_text : (m : List ℕ) → ((i : ℕ) → slice_index m i < 256)
+    → (codes "{\"code\":0,\"data\":\"" ++ encode_of standard m) ++ codes "\"}"
+    ≡ compact_text (obj (ok ∷ (codes "data", bytes m) ∷ []))
+unfolding escape_byte
+read_text m are_bytes =
+    sym (ap (λ xs. codes "{\"code\":0,\"data\":" ++ (xs ++ codes "}")) (quoted_letters m are_bytes)
+    ∙ ap (λ xs. codes "{\"code\":0,\"data\":\"" ++ xs) (append_assoc (encode_of standard m) (34 ∷ []) (125 ∷ [])))
+
+pub bytes_text : (name m place : List ℕ) → ((i : ℕ) → slice_index m i < 256)
+    → (((((codes "{\"cmd\":" ++ quoted name) ++ codes ",\"data\":\"") ++ encode_of standard m)
+    ++ codes "\",\"path\":") ++ quoted place) ++ codes "}"
+    ≡ compact_text (obj (cmd name ∷ (codes "data", bytes m) ∷ (codes "path", string place) ∷ []))
+unfolding escape_byte
+bytes_text name m place are_bytes =
+    let e : List ℕ = encode_of standard m in
+    let q : List ℕ = quoted name in
+    let tail : List ℕ = codes ",\"path\":" ++ (quoted place ++ codes "}") in
+    let inner : (e ++ 34 ∷ []) ++ tail ≡ e ++ 34 ∷ tail = append_assoc e (34 ∷ []) tail in
+    let left : (((((codes "{\"cmd\":" ++ q) ++ codes ",\"data\":\"") ++ e) ++ codes "\",\"path\":") ++ quoted place)
+    ++ codes "}" ≡ codes "{\"cmd\":" ++ (q ++ (codes ",\"data\":\"" ++ (e ++ 34 ∷ tail))) = simp append_assoc in
+    left ∙ sym (ap (λ xs. codes "{\"cmd\":" ++ (q ++ (codes ",\"data\":" ++ (xs ++ tail)))) (quoted_letters m are_bytes)
+    ∙ ap (λ xs. codes "{\"cmd\":" ++ (q ++ (codes ",\"data\":\"" ++ xs))) inner)
