@@ -1,18 +1,19 @@
 -- Letters of base64: none is escaped, and those of a long message are those of its pieces.
 use Rattle.std.proofs.Common.{◌≡◌, ◌+◌, ◌-◌, ◌*◌, ◌/◌, ◌%◌, ◌<◌, ◌≤◌, ◌==◌, ℕ, zero, suc, true, List, [], ◌∷◌, ◌++◌}
 use Rattle.std.proofs.Common.{length, take, drop, map, replicate, get_or, slice_index, refl, sym, ap, ◌∙◌, arith, inl, inr}
-use Rattle.std.proofs.Common.{append_assoc, codes, cond, Ok, Err}
+use Rattle.std.proofs.Common.{append_assoc, codes, cond, Ok, Err, Fits, w8}
 use Rattle.std.specs.Prelude.{Result, OnOk, is_ok}
 use Rattle.std.specs.Prelude.{flat_map}
 use Rattle.std.specs.List.{AllByRecursion}
 use Rattle.std.proofs.Math.Seq.{take-add}
 use Rattle.std.proofs.lemmas.Bool.{or_parts, not-true, eqb-false, ltb-false, cases_lt}
 use Rattle.std.proofs.lemmas.Grind.{flat_map-append}
-use Rattle.std.proofs.lemmas.List.{take-take, take-append-drop, length-take-le, length-drop, length-map}
+use Rattle.std.proofs.lemmas.List.{take-take, take-append-drop, take_all, length-take-le, length-drop, length-map}
 use Rattle.std.proofs.lemmas.Slice.{take-put_mid}
 use borrow.Rule.Slice.PartMut.{put_mid}
 use Rattle.serde_json.specs.Data.{string}
 use Rattle.serde_json.specs.Written.{compact_text}
+use Rattle.std.proofs.lemmas.Fmt.{decimal_digit}
 use Rattle.room_wire.specs.Forms.Texts.{obj, ok, cmd, bytes}
 use Rattle.std.proofs.lemmas.List.{get_or_append_left, get_or-append_right, get_or-map}
 use Rattle.json.specs.Run.{is_plain, is_stop}
@@ -81,9 +82,10 @@ escape_none (x ∷ xs) h = (λ i. h.0 i ++ escape_none xs h.1 i)
 escape_both : (xs ys : List ℕ) → escape xs ≡ xs → escape ys ≡ ys → escape (xs ++ ys) ≡ xs ++ ys
 escape_both xs ys e f = flat_map-append escape_byte xs ys ∙ (λ i. e i ++ f i)
 
-pub quoted_letters : (m : List ℕ) → ((i : ℕ) → slice_index m i < 256)
+pub quoted_letters : (m : List ℕ) → ((i : ℕ) → Fits w8 (get_or m i 0))
     → quoted (encode_of standard m) ≡ 34 ∷ (encode_of standard m ++ 34 ∷ [])
-quoted_letters m small =
+quoted_letters m fits =
+    let small : (i : ℕ) → slice_index m i < 256 = λ i. let fit = fits i in omega (arith, fit) in
     ap (λ xs. 34 ∷ (xs ++ 34 ∷ [])) (escape_both (encode_symbols letters m) (replicate (padding_len (length m)) 61)
     (escape_none _ (symbols_unescaped m small)) (escape_none _ (padding_unescaped (padding_len (length m)))))
 
@@ -202,24 +204,29 @@ block_written m before now block new n w in_m wide is block_is new_is =
 
 -- the rest behind the blocks
 pub rest_written : {E : Type 0} (r : Result (Unit {0}) E) (m before now rest new : List ℕ) (n : ℕ) → 192 * n ≤ length m
-    → now ≡ before ++ encode_of standard (take (192 * n) m) → rest ≡ encode_of standard (drop (192 * n) m)
+    → now ≡ before ++ encode_of standard (take (192 * n) m)
+    → rest ≡ encode_of standard (take (length m - 192 * n) (drop (192 * n) m))
     → new ≡ cond (is_ok r) (now ++ rest) now → OnOk r (new ≡ before ++ encode_of standard m)
 rest_written (Ok u) m before now rest new n within is rest_is new_is =
-    new_is ∙ (λ i. is i ++ rest_is i) ∙ append_assoc before _ _
+    let left : length (drop (192 * n) m) ≤ length m - 192 * n = omega (arith, length-drop (192 * n) m) in
+    let all = take_all (length m - 192 * n) (drop (192 * n) m) left in
+    new_is ∙ (λ i. is i ++ (rest_is ∙ ap (encode_of standard) all) i) ∙ append_assoc before _ _
     ∙ ap (λ x. before ++ x) (pieces_end m (192 * n) (omega arith) within)
 rest_written (Err e) m before now rest new n within is rest_is new_is = tt
 
 -- ---- the texts that carry a document
 
-pub read_text : (m : List ℕ) → ((i : ℕ) → slice_index m i < 256)
+pub read_text : (m : List ℕ) → ((i : ℕ) → Fits w8 (get_or m i 0))
     → (codes "{\"code\":0,\"data\":\"" ++ encode_of standard m) ++ codes "\"}"
     ≡ compact_text (obj (ok ∷ (codes "data", bytes m) ∷ []))
 unfolding escape_byte
 read_text m are_bytes =
-    sym (ap (λ xs. codes "{\"code\":0,\"data\":" ++ (xs ++ codes "}")) (quoted_letters m are_bytes)
+    sym (ap (λ z. codes "{\"code\":" ++ (z ++ (codes ",\"data\":" ++ (quoted (encode_of standard m) ++ codes "}"))))
+    (decimal_digit 0 (omega arith))
+    ∙ ap (λ xs. codes "{\"code\":0,\"data\":" ++ (xs ++ codes "}")) (quoted_letters m are_bytes)
     ∙ ap (λ xs. codes "{\"code\":0,\"data\":\"" ++ xs) (append_assoc (encode_of standard m) (34 ∷ []) (125 ∷ [])))
 
-pub bytes_text : (name m place : List ℕ) → ((i : ℕ) → slice_index m i < 256)
+pub bytes_text : (name m place : List ℕ) → ((i : ℕ) → Fits w8 (get_or m i 0))
     → (((((codes "{\"cmd\":" ++ quoted name) ++ codes ",\"data\":\"") ++ encode_of standard m)
     ++ codes "\",\"path\":") ++ quoted place) ++ codes "}"
     ≡ compact_text (obj (cmd name ∷ (codes "data", bytes m) ∷ (codes "path", string place) ∷ []))
