@@ -2,3 +2,4 @@
 pub mod Commands
 pub mod Reading
 pub mod Texts
+pub mod Writing

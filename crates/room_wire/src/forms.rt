@@ -2,6 +2,7 @@
 pub(crate) mod command_texts;
 pub(crate) mod commands;
 pub(crate) mod laws;
+pub(crate) mod letters;
 pub(crate) mod reading;
 pub(crate) mod replies;
 pub(crate) mod writing;

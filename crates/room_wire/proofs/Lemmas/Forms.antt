@@ -7,6 +7,6 @@ pub mod CommandParts
 pub mod CommandPaths
 pub mod CommandTexts
 pub mod CommandUtf8
-pub mod Entries
-pub mod Floats
+pub mod Letters
 pub mod Objects
+pub mod Written

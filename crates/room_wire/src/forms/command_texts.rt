@@ -6,49 +6,76 @@ ghost use Rattle.room_acl.specs.Entries.{IsEntry};
 ghost use Rattle.room_acl.specs.Principals.{IsPrincipal};
 ghost use Rattle.room_records.specs.Names.{IsPath};
 ghost use Rattle.serde_json.specs.Data.{array, string};
-ghost use Rattle.serde_json.specs.View.{view};
+ghost use Rattle.serde_json.specs.Written.{compact_text};
 ghost use Rattle.room_commands.specs.CommandModel.{command_model};
 ghost use Rattle.room_commands.specs.Lawful.{AreBytes, IsLawful};
 ghost use Rattle.room_wire.specs.Forms.Commands.{command_of_body};
-ghost use Rattle.room_wire.specs.Forms.Texts.{num, obj, cmd, at, command_data, command_text};
+ghost use Rattle.room_wire.specs.Forms.Texts.{num, obj, cmd, at, command_text};
 ghost use Rattle.room_wire.specs.Forms.Texts as T;
 
-use crate::forms::writing::{array_value, entry_values};
-use base64::engine::general_purpose::STANDARD;
+use crate::forms::letters::append_letters;
+use crate::forms::writing::{
+    SHORT, begun, ended, entries_member, number_member, room_for, text_member, with_quoted,
+    with_room,
+};
 use room_acl::{Entry, ListFlags, Mask, Principal};
 use room_commands::Command;
 use room_records::Path;
-use serde_json::{Value, json};
 use std::alloc::{AllocError, Global};
 
 /// A command that has a path alone.
-fn path_command(alloc: Global, name: &str, path: &Path) -> Result<Value, AllocError>
-    ensures value { IfOk result (λ value. view value ≡ obj (cmd name.now ∷ at path.now ∷ [])) }
+fn path_command(alloc: Global, name: &str, path: &Path) -> Result<Vec<u8>, AllocError>
+    ensures value { IfOk result (λ text. text.items ≡ compact_text (obj (cmd name.now ∷ at path.now ∷ []))) }
     ensures lawful { IsPath path.now }
 {
     let text = path.text(alloc)?;
-    json!(in alloc; {"cmd": name, "path": text.as_str()})
+    let mut out = begun(alloc, text.len().saturating_add(SHORT))?;
+    text_member(&mut out, "cmd", name)?;
+    text_member(&mut out, "path", text.as_str())?;
+    ended(out)
 }
 
-/// A command that has bytes and a path. Bytes are base64 with padding (RFC 4648).
-fn bytes_command(alloc: Global, name: &str, bytes: &[u8], path: &Path) -> Result<Value, AllocError>
-    ensures value { IfOk result (λ value. view value
-        ≡ obj (cmd name.now ∷ (codes "data", T.bytes bytes.now) ∷ at path.now ∷ [])) }
+/// A command that has bytes and a path. Bytes are base64 with padding (RFC 4648), of which no letter is escaped.
+fn bytes_command(
+    alloc: Global,
+    name: &str,
+    bytes: &[u8],
+    path: &Path,
+) -> Result<Vec<u8>, AllocError>
+    ensures value { IfOk result (λ text. text.items
+        ≡ compact_text (obj (cmd name.now ∷ (codes "data", T.bytes bytes.now) ∷ at path.now ∷ []))) }
     ensures lawful { IfOk result (λ _. AreBytes bytes.now × IsPath path.now) }
 {
-    let data = STANDARD.encode(alloc, bytes)?;
-    let text = path.text(alloc)?;
-    json!(in alloc; {"cmd": name, "data": data.as_str(), "path": text.as_str()})
+    let place = path.text(alloc)?;
+    let mut start = with_room(alloc, bytes.len(), place.len().saturating_add(SHORT))?;
+    start.extend_from_slice(b"{\"cmd\":")?;
+    let mut text = with_quoted(start, name)?;
+    text.extend_from_slice(b",\"data\":\"")?;
+    append_letters(&mut text, bytes)?;
+    text.extend_from_slice(b"\",\"path\":")?;
+    let mut whole = with_quoted(text, place.as_str())?;
+    whole.extend_from_slice(b"}")?;
+    Ok(whole)
 }
 
-fn rename_command(alloc: Global, path: &Path, to: &Path) -> Result<Value, AllocError>
-    ensures value { IfOk result (λ value. view value
-        ≡ obj (cmd (codes "RENAME") ∷ at path.now ∷ (codes "to", T.path to.now) ∷ [])) }
+fn rename_command(alloc: Global, path: &Path, to: &Path) -> Result<Vec<u8>, AllocError>
+    ensures value { IfOk result (λ text. text.items
+        ≡ compact_text (obj (cmd (codes "RENAME") ∷ at path.now ∷ (codes "to", T.path to.now) ∷ []))) }
     ensures lawful { IfOk result (λ _. IsPath path.now × IsPath to.now) }
 {
     let from_text = path.text(alloc)?;
     let to_text = to.text(alloc)?;
-    json!(in alloc; {"cmd": "RENAME", "path": from_text.as_str(), "to": to_text.as_str()})
+    let mut out = begun(
+        alloc,
+        from_text
+            .len()
+            .saturating_add(to_text.len())
+            .saturating_add(SHORT),
+    )?;
+    text_member(&mut out, "cmd", "RENAME")?;
+    text_member(&mut out, "path", from_text.as_str())?;
+    text_member(&mut out, "to", to_text.as_str())?;
+    ended(out)
 }
 
 fn chown_command(
@@ -56,23 +83,32 @@ fn chown_command(
     group: &Principal,
     owner: &Principal,
     path: &Path,
-) -> Result<Value, AllocError>
+) -> Result<Vec<u8>, AllocError>
     ensures lawful { IfOk result (λ _. IsPrincipal group.now × IsPrincipal owner.now × IsPath path.now) }
-    ensures value { IfOk result (λ value. view value
-        ≡ obj (cmd (codes "CHOWN") ∷ (codes "group", string group.now)
-        ∷ (codes "owner", string owner.now) ∷ at path.now ∷ [])) }
+    ensures value { IfOk result (λ text. text.items
+        ≡ compact_text (obj (cmd (codes "CHOWN") ∷ (codes "group", string group.now)
+        ∷ (codes "owner", string owner.now) ∷ at path.now ∷ []))) }
 {
     let text = path.text(alloc)?;
-    json!(in alloc; {"cmd": "CHOWN", "group": group.text(), "owner": owner.text(), "path": text.as_str()})
+    let mut out = begun(alloc, text.len().saturating_add(SHORT))?;
+    text_member(&mut out, "cmd", "CHOWN")?;
+    text_member(&mut out, "group", group.text())?;
+    text_member(&mut out, "owner", owner.text())?;
+    text_member(&mut out, "path", text.as_str())?;
+    ended(out)
 }
 
-fn access_command(alloc: Global, mask: Mask, path: &Path) -> Result<Value, AllocError>
-    ensures value { IfOk result (λ value. view value
-        ≡ obj (cmd (codes "ACCESS") ∷ (codes "mask", num mask) ∷ at path.now ∷ [])) }
+fn access_command(alloc: Global, mask: Mask, path: &Path) -> Result<Vec<u8>, AllocError>
+    ensures value { IfOk result (λ text. text.items
+        ≡ compact_text (obj (cmd (codes "ACCESS") ∷ (codes "mask", num mask) ∷ at path.now ∷ []))) }
     ensures lawful { IfOk result (λ _. IsMask mask × IsPath path.now) }
 {
     let text = path.text(alloc)?;
-    json!(in alloc; {"cmd": "ACCESS", "mask": u64::from(mask.bits()), "path": text.as_str()})
+    let mut out = begun(alloc, text.len().saturating_add(SHORT))?;
+    text_member(&mut out, "cmd", "ACCESS")?;
+    number_member(&mut out, "mask", u64::from(mask.bits()))?;
+    text_member(&mut out, "path", text.as_str())?;
+    ended(out)
 }
 
 fn set_list_command(
@@ -80,20 +116,24 @@ fn set_list_command(
     aclflag: ListFlags,
     entries: &[Entry],
     path: &Path,
-) -> Result<Value, AllocError>
+) -> Result<Vec<u8>, AllocError>
     ensures lawful { IfOk result (λ _. IsListFlags aclflag × AllByRecursion IsEntry entries.now × IsPath path.now) }
-    ensures value { IfOk result (λ value. view value
-        ≡ obj ((codes "aclflag", num aclflag) ∷ cmd (codes "SETLIST")
-        ∷ (codes "entries", array (T.entries entries.now)) ∷ at path.now ∷ [])) }
+    ensures value { IfOk result (λ text. text.items
+        ≡ compact_text (obj ((codes "aclflag", num aclflag) ∷ cmd (codes "SETLIST")
+        ∷ (codes "entries", array (T.entries entries.now)) ∷ at path.now ∷ []))) }
 {
-    let items = array_value(entry_values(alloc, entries)?);
     let text = path.text(alloc)?;
-    json!(in alloc; {"aclflag": u64::from(aclflag.bits()), "cmd": "SETLIST", "entries": items, "path": text.as_str()})
+    let mut out = begun(alloc, room_for(entries.len()))?;
+    number_member(&mut out, "aclflag", u64::from(aclflag.bits()))?;
+    text_member(&mut out, "cmd", "SETLIST")?;
+    entries_member(&mut out, entries)?;
+    text_member(&mut out, "path", text.as_str())?;
+    ended(out)
 }
 
-/// The command as a JSON value.
-fn command_value(alloc: Global, command: &Command) -> Result<Value, AllocError>
-    ensures value { IfOk result (λ value. view value ≡ command_data (command_model command.now)) }
+/// The text of the command, which is lawful.
+fn lawful_text(alloc: Global, command: &Command) -> Result<Vec<u8>, AllocError>
+    ensures value { IfOk result (λ text. text.items ≡ command_text (command_model command.now)) }
     ensures lawful { IfOk result (λ _. IsLawful (command_model command.now)) }
 {
     match command {
@@ -126,6 +166,5 @@ pub fn command_text(alloc: Global, command: &Command) -> Result<Vec<u8>, AllocEr
     ensures value { IfOk result (λ text. text.items ≡ command_text (command_model command.now)) }
     ensures reads_back { IfOk result (λ text. command_of_body text.items ≡ Some (command_model command.now)) }
 {
-    let value = command_value(alloc, command)?;
-    value.to_vec(alloc)
+    lawful_text(alloc, command)
 }

@@ -1,18 +1,23 @@
 //! Replies as text: compact JSON, with members in byte order of their names.
 ghost use Rattle.std.specs.Prelude.{◌≡◌, [], ◌∷◌, IfOk, codes};
+ghost use Rattle.json.specs.Token.{Token as SpecToken};
+ghost use Rattle.json.specs.Tree.{json_tokens, items_tokens};
 ghost use Rattle.serde_json.specs.Data.{array, string};
-ghost use Rattle.serde_json.specs.View.{view, items_view};
+ghost use Rattle.serde_json.specs.Written.{outline, items_outline, compact_text};
 ghost use Rattle.room_commands.specs.ReplyModel.{reply_model};
-ghost use Rattle.room_wire.specs.Forms.Texts.{num, obj, ok, at, refusal_number, refusal_name, refusal_data};
-ghost use Rattle.room_wire.specs.Forms.Texts.{reply_data, reply_text};
+ghost use Rattle.room_wire.specs.Forms.Texts.{num, obj, ok, at, refusal_number, refusal_name};
+ghost use Rattle.room_wire.specs.Forms.Texts.{reply_text};
 ghost use Rattle.room_wire.specs.Forms.Texts as T;
+ghost use Rattle.room_wire.specs.Forms.Writing.{Adds};
 
-use crate::forms::writing::{array_value, entry_values};
-use base64::engine::general_purpose::STANDARD;
+use crate::forms::letters::append_letters;
+use crate::forms::writing::{
+    SHORT, begun, ended, entries_member, number_member, room_for, text_member, with_room,
+};
+use json::Writer;
 use room_acl::{Entry, Kind, ListFlags, Mask, Principal};
 use room_commands::{RefusalCode, Reply};
 use room_records::{FileName, Path};
-use serde_json::{Value, json};
 use std::alloc::{AllocError, Global};
 
 fn kind_text(kind: Kind) -> &'static str
@@ -64,143 +69,153 @@ fn refusal_name(code: RefusalCode) -> &'static str
     }
 }
 
-fn done_value(alloc: Global) -> Result<Value, AllocError>
-    ensures { IfOk result (λ value. view value ≡ obj (ok ∷ [])) }
+/// Room for a name with its kind.
+const A_NAME: usize = 48;
+
+fn done_text(alloc: Global) -> Result<Vec<u8>, AllocError>
+    ensures { IfOk result (λ text. text.items ≡ compact_text (obj (ok ∷ []))) }
 {
-    json!(in alloc; {"code": 0u64})
+    let mut out = begun(alloc, SHORT)?;
+    number_member(&mut out, "code", 0)?;
+    ended(out)
 }
 
-fn opened_value(alloc: Global, slots: u32) -> Result<Value, AllocError>
-    ensures { IfOk result (λ value. view value ≡ obj (ok ∷ (codes "slots", num slots) ∷ [])) }
+fn opened_text(alloc: Global, slots: u32) -> Result<Vec<u8>, AllocError>
+    ensures { IfOk result (λ text. text.items ≡ compact_text (obj (ok ∷ (codes "slots", num slots) ∷ []))) }
 {
-    json!(in alloc; {"code": 0u64, "slots": u64::from(slots)})
+    let mut out = begun(alloc, SHORT)?;
+    number_member(&mut out, "code", 0)?;
+    number_member(&mut out, "slots", u64::from(slots))?;
+    ended(out)
 }
 
-fn stat_value(
+fn stat_text(
     alloc: Global,
     aclflag: ListFlags,
     group: &Principal,
     kind: Kind,
     owner: &Principal,
     size: u32,
-) -> Result<Value, AllocError>
-    ensures { IfOk result (λ value. view value
-        ≡ obj ((codes "aclflag", num aclflag) ∷ ok ∷ (codes "group", string group.now) ∷ (codes "kind", T.kind kind)
-        ∷ (codes "owner", string owner.now) ∷ (codes "size", num size) ∷ [])) }
+) -> Result<Vec<u8>, AllocError>
+    ensures { IfOk result (λ text. text.items
+        ≡ compact_text (obj ((codes "aclflag", num aclflag) ∷ ok ∷ (codes "group", string group.now)
+        ∷ (codes "kind", T.kind kind) ∷ (codes "owner", string owner.now) ∷ (codes "size", num size) ∷ []))) }
 {
-    json!(in alloc; {
-        "aclflag": u64::from(aclflag.bits()),
-        "code": 0u64,
-        "group": group.text(),
-        "kind": kind_text(kind),
-        "owner": owner.text(),
-        "size": u64::from(size)
-    })
+    let mut out = begun(alloc, SHORT)?;
+    number_member(&mut out, "aclflag", u64::from(aclflag.bits()))?;
+    number_member(&mut out, "code", 0)?;
+    text_member(&mut out, "group", group.text())?;
+    text_member(&mut out, "kind", kind_text(kind))?;
+    text_member(&mut out, "owner", owner.text())?;
+    number_member(&mut out, "size", u64::from(size))?;
+    ended(out)
 }
 
-fn size_value(alloc: Global, size: u32) -> Result<Value, AllocError>
-    ensures { IfOk result (λ value. view value ≡ obj (ok ∷ (codes "size", num size) ∷ [])) }
+fn size_text(alloc: Global, size: u32) -> Result<Vec<u8>, AllocError>
+    ensures { IfOk result (λ text. text.items ≡ compact_text (obj (ok ∷ (codes "size", num size) ∷ []))) }
 {
-    json!(in alloc; {"code": 0u64, "size": u64::from(size)})
+    let mut out = begun(alloc, SHORT)?;
+    number_member(&mut out, "code", 0)?;
+    number_member(&mut out, "size", u64::from(size))?;
+    ended(out)
 }
 
-/// The bytes of a document, in base64 with padding (RFC 4648).
-fn bytes_value(alloc: Global, bytes: &[u8]) -> Result<Value, AllocError>
-    ensures { IfOk result (λ value. view value ≡ obj (ok ∷ (codes "data", T.bytes bytes.now) ∷ [])) }
+/// The bytes of a document, in base64 with padding (RFC 4648), of which no letter is escaped.
+fn bytes_text(alloc: Global, bytes: &[u8]) -> Result<Vec<u8>, AllocError>
+    ensures { IfOk result (λ text. text.items ≡ compact_text (obj (ok ∷ (codes "data", T.bytes bytes.now) ∷ []))) }
 {
-    let data = STANDARD.encode(alloc, bytes)?;
-    json!(in alloc; {"code": 0u64, "data": data.as_str()})
+    let mut text = with_room(alloc, bytes.len(), SHORT)?;
+    text.extend_from_slice(b"{\"code\":0,\"data\":\"")?;
+    append_letters(&mut text, bytes)?;
+    text.extend_from_slice(b"\"}")?;
+    Ok(text)
 }
 
-fn entries_value(alloc: Global, aclflag: ListFlags, entries: &[Entry]) -> Result<Value, AllocError>
-    ensures { IfOk result (λ value. view value
-        ≡ obj ((codes "aclflag", num aclflag) ∷ ok ∷ (codes "entries", array (T.entries entries.now)) ∷ [])) }
+fn entries_text(alloc: Global, aclflag: ListFlags, entries: &[Entry]) -> Result<Vec<u8>, AllocError>
+    ensures { IfOk result (λ text. text.items
+        ≡ compact_text (obj ((codes "aclflag", num aclflag) ∷ ok
+        ∷ (codes "entries", array (T.entries entries.now)) ∷ []))) }
 {
-    let items = array_value(entry_values(alloc, entries)?);
-    json!(in alloc; {"aclflag": u64::from(aclflag.bits()), "code": 0u64, "entries": items})
+    let mut out = begun(alloc, room_for(entries.len()))?;
+    number_member(&mut out, "aclflag", u64::from(aclflag.bits()))?;
+    number_member(&mut out, "code", 0)?;
+    entries_member(&mut out, entries)?;
+    ended(out)
 }
 
-fn allowed_value(alloc: Global, mask: Mask) -> Result<Value, AllocError>
-    ensures { IfOk result (λ value. view value ≡ obj ((codes "allowed", num mask) ∷ ok ∷ [])) }
+fn allowed_text(alloc: Global, mask: Mask) -> Result<Vec<u8>, AllocError>
+    ensures { IfOk result (λ text. text.items ≡ compact_text (obj ((codes "allowed", num mask) ∷ ok ∷ []))) }
 {
-    json!(in alloc; {"allowed": u64::from(mask.bits()), "code": 0u64})
+    let mut out = begun(alloc, SHORT)?;
+    number_member(&mut out, "allowed", u64::from(mask.bits()))?;
+    number_member(&mut out, "code", 0)?;
+    ended(out)
 }
 
-fn refused_value(alloc: Global, code: RefusalCode) -> Result<Value, AllocError>
-    ensures { IfOk result (λ value. view value
-        ≡ obj ((codes "code", num (refusal_number code)) ∷ (codes "error", string (refusal_name code)) ∷ [])) }
+fn refused_text(alloc: Global, code: RefusalCode) -> Result<Vec<u8>, AllocError>
+    ensures { IfOk result (λ text. text.items
+        ≡ compact_text (obj ((codes "code", num (refusal_number code))
+        ∷ (codes "error", string (refusal_name code)) ∷ []))) }
 {
-    json!(in alloc; {"code": refusal_number(code), "error": refusal_name(code)})
+    let mut out = begun(alloc, SHORT)?;
+    number_member(&mut out, "code", refusal_number(code))?;
+    text_member(&mut out, "error", refusal_name(code))?;
+    ended(out)
 }
 
 /// A refusal that names a place: the path and the bit of an access that was denied.
-fn refused_at_value(
+fn refused_at_text(
     alloc: Global,
     code: RefusalCode,
     path: &Path,
     bit: u32,
-) -> Result<Value, AllocError>
-    ensures { IfOk result (λ value. view value
-        ≡ obj ((codes "bit", num bit) ∷ (codes "code", num (refusal_number code))
-        ∷ (codes "error", string (refusal_name code)) ∷ at path.now ∷ [])) }
+) -> Result<Vec<u8>, AllocError>
+    ensures { IfOk result (λ text. text.items
+        ≡ compact_text (obj ((codes "bit", num bit) ∷ (codes "code", num (refusal_number code))
+        ∷ (codes "error", string (refusal_name code)) ∷ at path.now ∷ []))) }
 {
-    let text = path.text(alloc)?;
-    json!(in alloc; {
-        "bit": u64::from(bit),
-        "code": refusal_number(code),
-        "error": refusal_name(code),
-        "path": text.as_str()
-    })
+    let place = path.text(alloc)?;
+    let mut out = begun(alloc, place.len().saturating_add(SHORT))?;
+    number_member(&mut out, "bit", u64::from(bit))?;
+    number_member(&mut out, "code", refusal_number(code))?;
+    text_member(&mut out, "error", refusal_name(code))?;
+    text_member(&mut out, "path", place.as_str())?;
+    ended(out)
 }
 
-fn name_value(alloc: Global, name: &FileName, kind: Kind) -> Result<Value, AllocError>
-    ensures { IfOk result (λ value. view value ≡ T.named_child (name.now, kind)) }
+fn name_item(out: &mut Writer, name: &FileName, kind: Kind) -> Result<(), AllocError>
+    ensures { Adds result out.old out.new (json_tokens (outline (T.named_child (name.now, kind)))) }
 {
-    json!(in alloc; [name.text(), kind_text(kind)])
+    out.begin_array()?;
+    out.string(name.text())?;
+    out.string(kind_text(kind))?;
+    out.end_array()
 }
 
-/// The children of a folder as the items of an array.
-fn name_values(alloc: Global, names: &[(FileName, Kind)]) -> Result<Vec<Value>, AllocError>
-    ensures { IfOk result (λ values. items_view values.items ≡ T.named names.now) }
+/// The member `names`: the children of a folder in their order.
+fn names_member(out: &mut Writer, names: &[(FileName, Kind)]) -> Result<(), AllocError>
+    ensures { Adds result out.old out.new (SpecToken.key (codes "names")
+        ∷ SpecToken.begin_array ∷ items_tokens (items_outline (T.named names.now))) }
 {
-    let mut values = Vec::new(alloc);
+    out.key("names")?;
+    out.begin_array()?;
     for (name, kind) in names {
-        values.push(name_value(alloc, name, *kind)?)?;
+        name_item(out, name, *kind)?;
     }
-    Ok(values)
+    out.end_array()
 }
 
-fn names_value(alloc: Global, names: &[(FileName, Kind)]) -> Result<Value, AllocError>
-    ensures { IfOk result (λ value. view value ≡ obj (ok ∷ (codes "names", array (T.named names.now)) ∷ [])) }
+fn names_text(alloc: Global, names: &[(FileName, Kind)]) -> Result<Vec<u8>, AllocError>
+    ensures { IfOk result (λ text. text.items
+        ≡ compact_text (obj (ok ∷ (codes "names", array (T.named names.now)) ∷ []))) }
 {
-    let items = array_value(name_values(alloc, names)?);
-    json!(in alloc; {"code": 0u64, "names": items})
-}
-
-/// The reply as a JSON value.
-fn reply_value(alloc: Global, reply: &Reply) -> Result<Value, AllocError>
-    ensures { IfOk result (λ value. view value ≡ reply_data (reply_model reply.now)) }
-{
-    match reply {
-        Reply::Done => done_value(alloc),
-        Reply::Opened(slots) => opened_value(alloc, slots.get()),
-        Reply::Stat {
-            aclflag,
-            group,
-            kind,
-            owner,
-            size,
-        } => stat_value(alloc, *aclflag, group, *kind, owner, *size),
-        Reply::Names(names) => names_value(alloc, names),
-        Reply::Size(size) => size_value(alloc, *size),
-        Reply::Bytes(bytes) => bytes_value(alloc, bytes),
-        Reply::Entries { aclflag, entries } => entries_value(alloc, *aclflag, entries),
-        Reply::Allowed(mask) => allowed_value(alloc, *mask),
-        Reply::Refused { code, place } => match place {
-            Some((path, bit)) => refused_at_value(alloc, *code, path, *bit),
-            None => refused_value(alloc, *code),
-        },
-    }
+    let mut out = begun(
+        alloc,
+        names.len().saturating_mul(A_NAME).saturating_add(SHORT),
+    )?;
+    number_member(&mut out, "code", 0)?;
+    names_member(&mut out, names)?;
+    ended(out)
 }
 
 /// The reply as it is sent and kept.
@@ -211,6 +226,24 @@ fn reply_value(alloc: Global, reply: &Reply) -> Result<Value, AllocError>
 pub fn reply_text(alloc: Global, reply: &Reply) -> Result<Vec<u8>, AllocError>
     ensures { IfOk result (λ text. text.items ≡ reply_text (reply_model reply.now)) }
 {
-    let value = reply_value(alloc, reply)?;
-    value.to_vec(alloc)
+    match reply {
+        Reply::Done => done_text(alloc),
+        Reply::Opened(slots) => opened_text(alloc, slots.get()),
+        Reply::Stat {
+            aclflag,
+            group,
+            kind,
+            owner,
+            size,
+        } => stat_text(alloc, *aclflag, group, *kind, owner, *size),
+        Reply::Names(names) => names_text(alloc, names),
+        Reply::Size(size) => size_text(alloc, *size),
+        Reply::Bytes(bytes) => bytes_text(alloc, bytes),
+        Reply::Entries { aclflag, entries } => entries_text(alloc, *aclflag, entries),
+        Reply::Allowed(mask) => allowed_text(alloc, *mask),
+        Reply::Refused { code, place } => match place {
+            Some((path, bit)) => refused_at_text(alloc, *code, path, *bit),
+            None => refused_text(alloc, *code),
+        },
+    }
 }

@@ -1,31 +1,26 @@
 //! Answers to questions.
 ghost use Rattle.std.specs.Prelude.{◌≡◌, IfOk};
-ghost use Rattle.serde_json.specs.View.{view};
 ghost use Rattle.serde_json.specs.Written.{compact_text};
 ghost use Rattle.room_wire.specs.Questions.CheckAnswers.{allowed_data, entries_data, answer_text, list_text};
 ghost use Rattle.room_wire.specs.Questions.CheckAnswers.{child_text, fault_text, bit_of};
 ghost use Rattle.room_wire.specs.Questions.QuestionModel.{question_model};
 
-use crate::forms::writing::{array_value, entry_values};
+use crate::forms::writing::{SHORT, begun, ended, entries_member, number_member, room_for};
 use crate::questions::question::Question;
 use room_acl::{
     Decision, Entry, Kind, ListFault, Mask, Principal, Standing, Subject, allowed_bits, check_own,
     decide, hand_down,
 };
-use serde_json::{Value, json};
 use std::alloc::{AllocError, Global};
-
-fn allowed_value(alloc: Global, allowed: u32, bit: u32) -> Result<Value, AllocError>
-    ensures { IfOk result (λ value. view value ≡ allowed_data allowed bit) }
-{
-    json!(in alloc; {"allowed": u64::from(allowed), "bit": u64::from(bit), "code": 0u64})
-}
 
 fn allowed_text(alloc: Global, allowed: u32, bit: u32) -> Result<Vec<u8>, AllocError>
     ensures { IfOk result (λ text. text.items ≡ compact_text (allowed_data allowed bit)) }
 {
-    let value = allowed_value(alloc, allowed, bit)?;
-    value.to_vec(alloc)
+    let mut out = begun(alloc, SHORT)?;
+    number_member(&mut out, "allowed", u64::from(allowed))?;
+    number_member(&mut out, "bit", u64::from(bit))?;
+    number_member(&mut out, "code", 0)?;
+    ended(out)
 }
 
 fn bit_of(decision: Decision) -> u32
@@ -78,18 +73,13 @@ fn list_answer(
     allowed_text(alloc, allowed, bit)
 }
 
-fn entries_value(alloc: Global, entries: &[Entry]) -> Result<Value, AllocError>
-    ensures { IfOk result (λ value. view value ≡ entries_data entries.now) }
-{
-    let values = array_value(entry_values(alloc, entries)?);
-    json!(in alloc; {"code": 0u64, "entries": values})
-}
-
 fn entries_text(alloc: Global, entries: &[Entry]) -> Result<Vec<u8>, AllocError>
     ensures { IfOk result (λ text. text.items ≡ compact_text (entries_data entries.now)) }
 {
-    let value = entries_value(alloc, entries)?;
-    value.to_vec(alloc)
+    let mut out = begun(alloc, room_for(entries.len()))?;
+    number_member(&mut out, "code", 0)?;
+    entries_member(&mut out, entries)?;
+    ended(out)
 }
 
 fn fault_text(fault: ListFault) -> &'static str

@@ -1,0 +1,64 @@
+-- Objects that were written token by token, and the lists in them.
+use Rattle.std.proofs.Common.{◌≡◌, ◌+◌, ◌<◌, ◌≤◌, ℕ, List, [], ◌∷◌, ◌++◌, length, take, get_or, refl, sym, ap, ◌∙◌}
+use Rattle.std.proofs.Common.{append_assoc, append-nil}
+use Rattle.std.specs.Prelude.{flat_map}
+use Rattle.std.proofs.lemmas.Grind.{flat_map-append}
+use Rattle.std.proofs.lemmas.List.{take_more, take_all}
+use Rattle.json.specs.Token.{Token, end_array}
+use Rattle.json.specs.Print.{print}
+use Rattle.json.specs.Tree.{json_tokens, items_tokens}
+use Rattle.serde_json.specs.Data.{Data}
+use Rattle.serde_json.specs.Written.{outline, items_outline, compact_text}
+use Rattle.serde_json.proofs.Texts.{print-outline}
+use Rattle.room_acl.specs.declared.subject.Kind.{Kind}
+use Rattle.room_acl.specs.Entries.{EntryModel}
+use Rattle.room_records.specs.Names.{Name}
+use Rattle.room_wire.specs.Forms.Texts.{entry, entries, named_child, named}
+
+-- tokens that were written into an empty buffer
+pub text_of_tokens : (d : Data) (before : List ℕ) (ts : List Token) → before ≡ [] → ts ≡ json_tokens (outline d)
+    → before ++ print ts ≡ compact_text d
+text_of_tokens d before ts none same = (λ i. none i ++ print (same i)) ∙ print-outline d
+
+-- ---- items, one after another
+
+abbrev pub entry_tokens : EntryModel → List Token
+entry_tokens e = json_tokens (outline (entry e))
+
+abbrev pub name_tokens : Name × Kind → List Token
+name_tokens n = json_tokens (outline (named_child n))
+
+pub entries_tokens : (es : List EntryModel)
+    → flat_map entry_tokens es ++ end_array ∷ [] ≡ items_tokens (items_outline (entries es))
+entries_tokens [] = refl
+entries_tokens (e ∷ es) =
+    append_assoc (entry_tokens e) (flat_map entry_tokens es) (end_array ∷ [])
+    ∙ ap (λ ts. entry_tokens e ++ ts) (entries_tokens es)
+
+pub names_tokens : (ns : List (Name × Kind))
+    → flat_map name_tokens ns ++ end_array ∷ [] ≡ items_tokens (items_outline (named ns))
+names_tokens [] = refl
+names_tokens (n ∷ ns) =
+    append_assoc (name_tokens n) (flat_map name_tokens ns) (end_array ∷ [])
+    ∙ ap (λ ts. name_tokens n ++ ts) (names_tokens ns)
+
+-- one item more
+pub item_written : {X : Type 0} (f : X → List Token) (xs : List X) (i : ℕ) (d : X) (old front now new : List Token)
+    → i < length xs → now ≡ old ++ (front ++ flat_map f (take i xs)) → new ≡ now ++ f (get_or xs i d)
+    → new ≡ old ++ (front ++ flat_map f (take (i + 1) xs))
+item_written f xs i d old front now new within is more =
+    let item = f (get_or xs i d) in
+    let grown : flat_map f (take i xs) ++ item ≡ flat_map f (take (i + 1) xs) =
+    sym (ap (flat_map f) (take_more xs i d within) ∙ flat_map-append f (take i xs) (get_or xs i d ∷ [])
+    ∙ ap (λ ts. flat_map f (take i xs) ++ ts) (append-nil item)) in
+    more ∙ ap (λ ts. ts ++ item) is ∙ append_assoc old (front ++ flat_map f (take i xs)) item
+    ∙ ap (λ ts. old ++ ts) (append_assoc front (flat_map f (take i xs)) item ∙ ap (λ ts. front ++ ts) grown)
+
+-- the end of the list
+pub items_ended : {X : Type 0} (f : X → List Token) (xs : List X) (i : ℕ) (old front now new : List Token)
+    → length xs ≤ i → now ≡ old ++ (front ++ flat_map f (take i xs)) → new ≡ now ++ end_array ∷ []
+    → new ≡ old ++ (front ++ (flat_map f xs ++ end_array ∷ []))
+items_ended f xs i old front now new all is more =
+    more ∙ ap (λ ts. ts ++ end_array ∷ []) is ∙ append_assoc old (front ++ flat_map f (take i xs)) (end_array ∷ [])
+    ∙ ap (λ ts. old ++ ts) (append_assoc front (flat_map f (take i xs)) (end_array ∷ [])
+    ∙ ap (λ ys. front ++ (flat_map f ys ++ end_array ∷ [])) (take_all i xs all))

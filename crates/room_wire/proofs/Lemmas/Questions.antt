@@ -1,2 +1,0 @@
--- The two questions of `/v1/check`, their bodies and the texts of their answers.
-pub mod AnswerFloats
