@@ -2,6 +2,7 @@
 ghost use Rattle.std.specs.Prelude.{◌≡◌, false, IfOk};
 
 use crate::flaky::Flaky;
+use crate::halting::Halting;
 use sqlite::{Connection, FileStore, Options};
 use sqlite_disk::{Crash, Disk, Files, Fuse, Memory, Rot};
 use std::alloc::Global;
@@ -27,6 +28,12 @@ impl Kept for Fuse<Memory> {
 }
 
 impl Kept for Flaky<Memory> {
+    fn file_bytes(&self) -> &[u8] {
+        self.inner().bytes()
+    }
+}
+
+impl Kept for Halting<Memory> {
     fn file_bytes(&self) -> &[u8] {
         self.inner().bytes()
     }
@@ -72,7 +79,7 @@ pub fn held_by<D: Kept>(alloc: Global, files: &Files<D>) -> Result<Held, Fail> {
 }
 
 /// What the files hold after a crash that loses all that was not flushed.
-pub fn flushed(alloc: Global, files: Files<Fuse<Memory>>) -> Result<Held, Fail> {
+pub fn flushed<D: Kept + Crash + Drop>(alloc: Global, files: Files<D>) -> Result<Held, Fail> {
     let mut files = files;
     files.log.crash();
     files.db.crash();
