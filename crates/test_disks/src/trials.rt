@@ -103,6 +103,22 @@ struct Left {
     is_torn: bool,
 }
 
+/// What files hold after a stop, and how many requests were answered before it.
+type After = (Held, Answered);
+
+fn is_same(one: &Held, other: &Held) -> bool {
+    one.log.as_slice() == other.log.as_slice() && one.db.as_slice() == other.db.as_slice()
+}
+
+fn is_known(known: &[After], held: &Held, answered: Answered) -> bool {
+    for (other, before) in known {
+        if *before == answered && is_same(other, held) {
+            return true;
+        }
+    }
+    false
+}
+
 /// How many stops a trial met, and how many of them in the middle of a write.
 #[derive(Clone, Copy)]
 pub struct Met {
@@ -286,17 +302,24 @@ impl Trial {
         }
     }
 
-    fn follows(&self, held: &Held, answered: Answered) -> Result<(), Fail> {
-        self.follows_in(opened_again(self.alloc, held)?, answered)
+    /// What follows a stop, if no stop before left the same.
+    fn follows(&self, known: &mut Vec<After>, held: Held, answered: Answered) -> Result<(), Fail> {
+        if is_known(known.as_slice(), &held, answered) {
+            return Ok(());
+        }
+        self.follows_in(opened_again(self.alloc, &held)?, answered)?;
+        known.push((held, answered))?;
+        Ok(())
     }
 
     /// A file stops at each of its calls in turn, until a run ends without a stop.
     pub fn stops(&self, stop: Stop) -> Result<Met, Fail> {
+        let mut known = Vec::new(self.alloc);
         let mut torn = 0u64;
         for place in 0..2000u64 {
             let left = self.left(stop, place)?;
-            self.follows(&left.written, left.answered)?;
-            self.follows(&left.flushed, left.answered)?;
+            self.follows(&mut known, left.written, left.answered)?;
+            self.follows(&mut known, left.flushed, left.answered)?;
             if left.is_torn {
                 torn = torn.saturating_add(1);
             }
