@@ -115,12 +115,19 @@ pub fn opened_again(alloc: Global, held: &Held) -> Result<Connection<FileStore<M
     }
 }
 
-/// Options under which little stays in memory, so that requests read the disk, a large change goes to the log before
-/// it is committed, and the log is often copied into the database file.
-pub fn small() -> Options {
+/// Options under which a large change goes to the log before it is committed, and the log is often copied into the
+/// database file.
+pub fn spilling() -> Options {
     let mut options = Options::new(1);
+    options.spill_pages = 4;
+    options.checkpoint_frames = 12;
+    options
+}
+
+/// The same where little stays in memory, so that requests read the disk.
+pub fn small() -> Options {
+    let mut options = spilling();
     options.cache_pages = 1;
     options.spill_pages = 2;
-    options.checkpoint_frames = 12;
     options
 }

@@ -16,6 +16,10 @@ pub enum Part {
 }
 
 impl Part {
+    pub fn is_nothing(self) -> bool {
+        matches!(self, Part::Nothing)
+    }
+
     /// Of so many bytes.
     fn of(self, len: usize) -> usize
         ensures { result ≤ len }
@@ -29,15 +33,17 @@ impl Part {
     }
 }
 
-/// A disk that passes so many calls on, writes a part at the next one where that is a write, and fails each from it on.
+/// A disk that passes so many calls on, and fails each one after. Where a part is to be written of the write at which
+/// it stops, only writes are counted, so that it stops at one.
 #[derive(Drop)]
 pub struct Halting<D: Disk> {
     inner: D,
     calls_left: u64,
     part: Part,
+    has_stopped: bool,
+    is_torn: bool,
     refused: u64,
     sync_refused: bool,
-    is_torn: bool,
 }
 
 impl<D: Disk> Halting<D> {
@@ -49,9 +55,10 @@ impl<D: Disk> Halting<D> {
             inner,
             calls_left: calls,
             part,
+            has_stopped: false,
+            is_torn: false,
             refused: 0,
             sync_refused: false,
-            is_torn: false,
         }
     }
 
@@ -61,9 +68,8 @@ impl<D: Disk> Halting<D> {
         &self.inner
     }
 
-    /// Whether a call failed.
     pub fn has_stopped(&self) -> bool {
-        self.refused > 0
+        self.has_stopped
     }
 
     /// Whether it stopped in the middle of a write, behind its first byte and before its last.
@@ -72,16 +78,24 @@ impl<D: Disk> Halting<D> {
     }
 }
 
-/// Counts a call, and fails it where none is left.
-fn spend(calls_left: &mut u64, refused: &mut u64) -> io::Result<()>
+/// Fails a call where the disk has stopped, or stops at it.
+fn spend(
+    calls_left: &mut u64,
+    is_counted: bool,
+    has_stopped: &mut bool,
+    refused: &mut u64,
+) -> io::Result<()>
     ensures faults { CountsFault result refused.old refused.new }
     ensures kind { finds_no_room result ≡ false }
 {
-    if *calls_left == 0 {
+    if *has_stopped || (is_counted && *calls_left == 0) {
+        *has_stopped = true;
         *refused = refused.saturating_add(1);
         return Err(io::Error::other("the disk has stopped"));
     }
-    *calls_left -= 1;
+    if is_counted {
+        *calls_left = calls_left.saturating_sub(1);
+    }
     Ok(())
 }
 
@@ -126,25 +140,45 @@ impl<D: Disk> Disk for Halting<D> {
     }
 
     fn len(&mut self) -> io::Result<usize> {
-        spend(&mut self.calls_left, &mut self.refused)?;
+        spend(
+            &mut self.calls_left,
+            self.part.is_nothing(),
+            &mut self.has_stopped,
+            &mut self.refused,
+        )?;
         self.inner.len()
     }
 
     fn read_at(&mut self, at: usize, buf: &mut [u8]) -> io::Result<()> {
-        spend(&mut self.calls_left, &mut self.refused)?;
+        spend(
+            &mut self.calls_left,
+            self.part.is_nothing(),
+            &mut self.has_stopped,
+            &mut self.refused,
+        )?;
         self.inner.read_at(at, buf)
     }
 
     fn read_checked(&mut self, key: u64, want: u64, at: usize, buf: &mut [u8]) -> io::Result<()> {
-        spend(&mut self.calls_left, &mut self.refused)?;
+        spend(
+            &mut self.calls_left,
+            self.part.is_nothing(),
+            &mut self.has_stopped,
+            &mut self.refused,
+        )?;
         self.inner.read_checked(key, want, at, buf)
     }
 
     fn write_at(&mut self, at: usize, bytes: &[u8]) -> io::Result<()> {
-        let is_first = self.refused == 0;
-        if let Err(error) = spend(&mut self.calls_left, &mut self.refused) {
+        let had_stopped = self.has_stopped;
+        if let Err(error) = spend(
+            &mut self.calls_left,
+            true,
+            &mut self.has_stopped,
+            &mut self.refused,
+        ) {
             let count = self.part.of(bytes.len());
-            if is_first && 0 < count {
+            if !had_stopped && 0 < count {
                 self.is_torn = count < bytes.len();
                 self.inner.write_at(at, &bytes[..count])?;
             }
@@ -154,12 +188,22 @@ impl<D: Disk> Disk for Halting<D> {
     }
 
     fn set_len(&mut self, len: usize) -> io::Result<()> {
-        spend(&mut self.calls_left, &mut self.refused)?;
+        spend(
+            &mut self.calls_left,
+            self.part.is_nothing(),
+            &mut self.has_stopped,
+            &mut self.refused,
+        )?;
         self.inner.set_len(len)
     }
 
     fn sync(&mut self) -> io::Result<()> {
-        if let Err(error) = spend(&mut self.calls_left, &mut self.refused) {
+        if let Err(error) = spend(
+            &mut self.calls_left,
+            self.part.is_nothing(),
+            &mut self.has_stopped,
+            &mut self.refused,
+        ) {
             self.sync_refused = true;
             return Err(error);
         }
@@ -172,6 +216,7 @@ impl<D: Crash> Crash for Halting<D> {
     fn crash(&mut self) {
         self.inner.crash();
         self.calls_left = u64::MAX;
+        self.has_stopped = false;
         self.sync_refused = false;
     }
 }

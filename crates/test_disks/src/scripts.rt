@@ -1,5 +1,5 @@
 //! A script of requests while the log, or the database file, stops at each of its calls.
-use crate::disks::small;
+use crate::disks::{small, spilling};
 use crate::followers::{CHANGES_ALL, FOLLOWERS, room_of_followers};
 use crate::halting::Part;
 use crate::rooms::fresh_room;
@@ -10,12 +10,6 @@ use sqlite::Options;
 use std::alloc::Global;
 use std::test::Fail;
 use test_stores::Held;
-
-/// Nothing of a write at which a file stops is done.
-const NOTHING: [Part; 1] = [Part::Nothing];
-
-/// A part of it is.
-const PARTS: [Part; 3] = [Part::OneByte, Part::Half, Part::AllButOne];
 
 /// A room is made in new files, and the requests follow.
 fn of_a_new_room(alloc: Global, options: Options) -> Result<Trial, Fail> {
@@ -52,75 +46,127 @@ fn of_followers(alloc: Global, options: Options) -> Result<Trial, Fail> {
     Ok(trial)
 }
 
-/// So many stops at least, and so many of them in the middle of a write.
-fn is_met(met: Met, least: Met) -> Result<(), Fail> {
-    is_within(met.stops, least.stops, 2000, "stops")?;
-    is_within(met.torn, least.torn, 2000, "torn writes")
+/// A file stops so many times at least, and each time in the middle of a write where a part of it is to be done.
+fn stops(trial: &Trial, stop: Stop, least: u64) -> Result<(), Fail> {
+    let met = trial.stops(stop)?;
+    is_within(met.stops, least, 2000, "stops")?;
+    let due = if stop.part.is_nothing() { 0 } else { met.stops };
+    is_within(met.torn, due, due, "torn writes")
 }
 
-/// Each of the two files stops at each of its calls, while so much of a write is done.
-fn stops(trial: &Trial, parts: &[Part], log: Met, db: Met) -> Result<(), Fail> {
-    for part in parts {
-        is_met(
-            trial.stops(Stop {
-                in_log: true,
-                part: *part,
-            })?,
-            log,
-        )?;
-        is_met(
-            trial.stops(Stop {
-                in_log: false,
-                part: *part,
-            })?,
-            db,
-        )?;
-    }
-    Ok(())
-}
-
-const fn met(stops: u64, torn: u64) -> Met {
-    Met { stops, torn }
+/// The log stops, and the database file, each so many times at least.
+fn both_stop(trial: &Trial, part: Part, in_log: u64, in_db: u64) -> Result<(), Fail> {
+    stops(trial, Stop { in_log: true, part }, in_log)?;
+    stops(
+        trial,
+        Stop {
+            in_log: false,
+            part,
+        },
+        in_db,
+    )
 }
 
 #[test]
-fn a_new_room_stops(rt: HostRuntime) -> Result<(), Fail> {
+fn a_new_room(rt: HostRuntime) -> Result<(), Fail> {
     let trial = of_a_new_room(rt.alloc(), Options::new(1))?;
-    stops(&trial, &NOTHING, met(30, 0), met(6, 0))
+    both_stop(&trial, Part::Nothing, 40, 10)
 }
 
 #[test]
-fn a_busy_new_room_stops(rt: HostRuntime) -> Result<(), Fail> {
+fn a_new_room_with_a_busy_log(rt: HostRuntime) -> Result<(), Fail> {
     let trial = of_a_new_room(rt.alloc(), small())?;
-    stops(&trial, &NOTHING, met(100, 0), met(50, 0))
+    stops(
+        &trial,
+        Stop {
+            in_log: true,
+            part: Part::Nothing,
+        },
+        60,
+    )
 }
 
 #[test]
-fn a_fresh_room_stops(rt: HostRuntime) -> Result<(), Fail> {
+fn a_new_room_with_a_busy_database_file(rt: HostRuntime) -> Result<(), Fail> {
+    let trial = of_a_new_room(rt.alloc(), small())?;
+    stops(
+        &trial,
+        Stop {
+            in_log: false,
+            part: Part::Nothing,
+        },
+        20,
+    )
+}
+
+/// The room is in the database file, or in the log.
+#[test]
+fn a_fresh_room(rt: HostRuntime) -> Result<(), Fail> {
     for in_log in [false, true] {
         let trial = of_a_fresh_room(rt.alloc(), in_log, Options::new(1))?;
-        stops(&trial, &NOTHING, met(20, 0), met(6, 0))?;
+        both_stop(&trial, Part::Nothing, 25, 4)?;
     }
     Ok(())
 }
 
 #[test]
-fn a_busy_fresh_room_stops(rt: HostRuntime) -> Result<(), Fail> {
-    for in_log in [false, true] {
-        let trial = of_a_fresh_room(rt.alloc(), in_log, small())?;
-        stops(&trial, &NOTHING, met(80, 0), met(40, 0))?;
-    }
-    Ok(())
+fn a_fresh_room_with_a_busy_log(rt: HostRuntime) -> Result<(), Fail> {
+    let trial = of_a_fresh_room(rt.alloc(), true, small())?;
+    stops(
+        &trial,
+        Stop {
+            in_log: true,
+            part: Part::Nothing,
+        },
+        40,
+    )
 }
 
 #[test]
-fn a_list_stops(rt: HostRuntime) -> Result<(), Fail> {
+fn a_fresh_room_with_a_busy_database_file(rt: HostRuntime) -> Result<(), Fail> {
+    let trial = of_a_fresh_room(rt.alloc(), true, small())?;
+    stops(
+        &trial,
+        Stop {
+            in_log: false,
+            part: Part::Nothing,
+        },
+        20,
+    )
+}
+
+#[test]
+fn a_list_over_a_hundred(rt: HostRuntime) -> Result<(), Fail> {
     let trial = of_followers(rt.alloc(), Options::new(1))?;
-    stops(&trial, &NOTHING, met(20, 0), met(20, 0))
+    both_stop(&trial, Part::Nothing, 30, 10)
+}
+
+/// The list is in the log before it is committed, and then copied into the database file.
+#[test]
+fn a_list_over_a_hundred_that_spills(rt: HostRuntime) -> Result<(), Fail> {
+    let trial = of_followers(rt.alloc(), spilling())?;
+    both_stop(&trial, Part::Nothing, 40, 20)
+}
+
+/// Each file stops in the middle of each of its writes.
+fn is_torn(trial: &Trial, in_log: u64, in_db: u64) -> Result<(), Fail> {
+    for part in [Part::OneByte, Part::Half, Part::AllButOne] {
+        both_stop(trial, part, in_log, in_db)?;
+    }
+    Ok(())
 }
 
 #[test]
-fn a_busy_list_stops(rt: HostRuntime) -> Result<(), Fail> {
-    let trial = of_followers(rt.alloc(), small())?;
-    stops(&trial, &NOTHING, met(100, 0), met(100, 0))
+fn a_new_room_and_torn_writes(rt: HostRuntime) -> Result<(), Fail> {
+    is_torn(&of_a_new_room(rt.alloc(), Options::new(1))?, 10, 0)
+}
+
+#[test]
+fn a_busy_new_room_and_torn_writes(rt: HostRuntime) -> Result<(), Fail> {
+    is_torn(&of_a_new_room(rt.alloc(), spilling())?, 10, 1)
+}
+
+#[test]
+fn a_list_and_torn_writes(rt: HostRuntime) -> Result<(), Fail> {
+    is_torn(&of_followers(rt.alloc(), spilling())?, 10, 1)
 }
