@@ -1,0 +1,332 @@
+//! Requests over files of which one stops at one of its calls, and what follows when they are opened again.
+use crate::disks::{flushed, held_by, opened, opened_again};
+use crate::halting::{Halting, Part};
+use crate::rooms::{contents, is_at, stages_of};
+use crate::runs::{files_of, make, take};
+use crate::story::{Step, play_steps};
+use room_desk::Desk;
+use room_report::list_report;
+use room_sql::{OpenFault, SqlShelf};
+use sqlite::{Alter, Connection, Options};
+use sqlite_disk::{Disk, Files, Memory};
+use std::alloc::Global;
+use std::test::Fail;
+use test_stores::{Held, adopt, file_of, made, taken};
+
+/// More calls than are made.
+const NEVER: u64 = 1_000_000_000;
+
+/// Which of the two files stops, and how much is written of a write at which it does.
+#[derive(Clone, Copy)]
+pub struct Stop {
+    pub in_log: bool,
+    pub part: Part,
+}
+
+/// Where a trial begins.
+#[derive(Drop)]
+pub struct Start {
+    /// What the files hold: a room, or nothing.
+    pub held: Held,
+    /// A room is made first.
+    pub is_new: bool,
+}
+
+/// What requests leave where no file stops.
+#[derive(Drop)]
+struct Whole {
+    /// What is in the room before the first, and after each.
+    stages: Vec<String>,
+    /// The report of the lists after the last.
+    lists: Vec<u8>,
+}
+
+/// The room with all its lists in the end.
+fn lists_of<S: Alter + Drop>(alloc: Global, conn: Connection<S>) -> Result<Vec<u8>, Fail> {
+    let mut room = taken(alloc, conn)?;
+    let mut lists = Vec::new(alloc);
+    match list_report(alloc, &mut room, &mut lists) {
+        Ok(()) => Ok(lists),
+        Err(_) => Err(Fail::new("no report of the lists")),
+    }
+}
+
+fn whole_in<S: Alter + Drop>(
+    alloc: Global,
+    room: SqlShelf<S>,
+    steps: &[Step],
+) -> Result<Whole, Fail> {
+    let (stages, conn) = stages_of(alloc, room.into_connection(), steps)?;
+    Ok(Whole {
+        stages,
+        lists: lists_of(alloc, conn)?,
+    })
+}
+
+fn whole_over<S: Alter + Drop>(
+    alloc: Global,
+    conn: Connection<S>,
+    is_new: bool,
+    steps: &[Step],
+) -> Result<Whole, Fail> {
+    let room = if is_new {
+        made(alloc, conn)?
+    } else {
+        taken(alloc, conn)?
+    };
+    whole_in(alloc, room, steps)
+}
+
+/// The requests over a room from one of them on, up to the first that is answered DELAY: its place.
+fn play_in<S: Alter + Drop>(
+    alloc: Global,
+    room: SqlShelf<S>,
+    steps: &[Step],
+    from: usize,
+) -> Result<(usize, Connection<S>), Fail> {
+    let mut desk = Desk::new(alloc, room);
+    let at = play_steps(alloc, &mut desk, steps, from);
+    let conn = desk.into_shelf().into_connection();
+    Ok((at?, conn))
+}
+
+/// How many requests were answered, where a room was made or taken.
+type Answered = Option<usize>;
+
+/// What a stop left.
+#[derive(Drop)]
+struct Left {
+    written: Held,
+    flushed: Held,
+    answered: Answered,
+    has_stopped: bool,
+    is_torn: bool,
+}
+
+/// What files hold after a stop, and how many requests were answered before it.
+type After = (Held, Answered);
+
+fn is_same(one: &Held, other: &Held) -> bool {
+    one.log.as_slice() == other.log.as_slice() && one.db.as_slice() == other.db.as_slice()
+}
+
+fn is_known(known: &[After], held: &Held, answered: Answered) -> bool {
+    for (other, before) in known {
+        if *before == answered && is_same(other, held) {
+            return true;
+        }
+    }
+    false
+}
+
+/// How many stops a trial met, and how many of them in the middle of a write.
+#[derive(Clone, Copy)]
+pub struct Met {
+    pub stops: u64,
+    pub torn: u64,
+}
+
+/// Requests over the files of a room. All but the last are sent while a file stops at one of its calls; when the files
+/// are opened again, the others follow.
+#[derive(Drop)]
+pub struct Trial {
+    alloc: Global,
+    start: Start,
+    options: Options,
+    steps: &'static [Step],
+    whole: Whole,
+}
+
+impl Trial {
+    pub fn new(
+        alloc: Global,
+        start: Start,
+        options: Options,
+        steps: &'static [Step],
+    ) -> Result<Trial, Fail> {
+        let conn = opened_again(alloc, &start.held)?;
+        let whole = whole_over(alloc, conn, start.is_new, steps)?;
+        Ok(Trial {
+            alloc,
+            start,
+            options,
+            steps,
+            whole,
+        })
+    }
+
+    /// How many entries name a principal in the end.
+    pub fn count_entries(&self, who: &str) -> Result<u64, Fail> {
+        let mut count = 0u64;
+        for line in str::from_utf8(self.whole.lists.as_slice())?.lines() {
+            if line.ends_with(who) {
+                count = count.saturating_add(1);
+            }
+        }
+        Ok(count)
+    }
+
+    /// The place of the last request.
+    fn last(&self) -> usize {
+        self.steps.len().saturating_sub(1)
+    }
+
+    /// The files at the start, of which one stops at a call.
+    fn files(&self, stop: Stop, place: u64) -> Result<Files<Halting<Memory>>, Fail> {
+        let (in_log, in_db) = if stop.in_log {
+            (place, NEVER)
+        } else {
+            (NEVER, place)
+        };
+        let log = file_of(self.alloc, self.start.held.log.as_slice())?;
+        let db = file_of(self.alloc, self.start.held.db.as_slice())?;
+        Ok(Files {
+            log: Halting::new(log, in_log, stop.part),
+            db: Halting::new(db, in_db, stop.part),
+        })
+    }
+
+    /// All requests but the last over a database in which a room is made or taken first.
+    fn play<S: Alter + Drop>(
+        &self,
+        conn: Connection<S>,
+    ) -> Result<(Answered, Connection<S>), Fail> {
+        let begun = if self.start.is_new {
+            make(self.alloc, conn)?
+        } else {
+            take(self.alloc, conn)?
+        };
+        match begun {
+            Ok(room) => {
+                let (at, conn) = play_in(self.alloc, room, &self.steps[..self.last()], 0)?;
+                Ok((Some(at), conn))
+            },
+            Err(conn) => Ok((None, conn)),
+        }
+    }
+
+    /// The same over files.
+    fn play_over<D: Disk + Drop>(&self, files: Files<D>) -> Result<(Answered, Files<D>), Fail> {
+        match opened(self.alloc, files, self.options) {
+            Ok(conn) => {
+                let (answered, conn) = self.play(conn)?;
+                Ok((answered, files_of(conn)))
+            },
+            Err(files) => Ok((None, files)),
+        }
+    }
+
+    /// What a stop at a call leaves.
+    fn left(&self, stop: Stop, place: u64) -> Result<Left, Fail> {
+        let (answered, files) = self.play_over(self.files(stop, place)?)?;
+        let (has_stopped, is_torn) = if stop.in_log {
+            (files.log.has_stopped(), files.log.is_torn())
+        } else {
+            (files.db.has_stopped(), files.db.is_torn())
+        };
+        Ok(Left {
+            written: held_by(self.alloc, &files)?,
+            flushed: flushed(self.alloc, files)?,
+            answered,
+            has_stopped,
+            is_torn,
+        })
+    }
+
+    /// Whether a room is that of the requests that were answered, with or without the one in flight.
+    fn is_left(&self, answered: Answered, found: &str) -> bool {
+        let stages = self.whole.stages.as_slice();
+        match answered {
+            None => is_at(stages, 0, found),
+            Some(at) => {
+                let is_in_flight = at < self.last() && is_at(stages, at + 1, found);
+                is_at(stages, at, found) || is_in_flight
+            },
+        }
+    }
+
+    /// The requests follow in a room, from the first without a reply on. Then it is the very room that they leave
+    /// where no file stops.
+    fn ends<S: Alter + Drop>(&self, room: SqlShelf<S>, answered: Answered) -> Result<(), Fail> {
+        let (at, conn) = play_in(self.alloc, room, self.steps, answered.unwrap_or(0))?;
+        if at < self.steps.len() {
+            return Err(Fail::new(format_args!("request {at} is answered DELAY")));
+        }
+        let mut conn = conn;
+        let found = contents(self.alloc, &mut conn)?;
+        if !is_at(self.whole.stages.as_slice(), at, found.as_str()) {
+            return Err(Fail::new(format_args!("another room in the end: {found}")));
+        }
+        if lists_of(self.alloc, conn)?.as_slice() != self.whole.lists.as_slice() {
+            return Err(Fail::new("other lists in the end"));
+        }
+        Ok(())
+    }
+
+    /// A room that is there after a stop is the right one, and the requests follow.
+    fn goes_on_in<S: Alter + Drop>(
+        &self,
+        conn: Connection<S>,
+        answered: Answered,
+    ) -> Result<(), Fail> {
+        let mut conn = conn;
+        let found = contents(self.alloc, &mut conn)?;
+        if !self.is_left(answered, found.as_str()) {
+            return Err(Fail::new(format_args!("another room after {answered:?}: {found}")));
+        }
+        self.ends(taken(self.alloc, conn)?, answered)
+    }
+
+    /// Where there is no room after a stop, none was made or taken. One is made, and all requests follow.
+    fn begins_in<S: Alter + Drop>(
+        &self,
+        conn: Connection<S>,
+        answered: Answered,
+    ) -> Result<(), Fail> {
+        if !self.start.is_new || answered.is_some() {
+            return Err(Fail::new("a room is gone"));
+        }
+        self.ends(made(self.alloc, conn)?, None)
+    }
+
+    /// What follows a stop, over a database in the files that it left.
+    fn follows_in<S: Alter + Drop>(
+        &self,
+        conn: Connection<S>,
+        answered: Answered,
+    ) -> Result<(), Fail> {
+        match adopt(self.alloc, conn)? {
+            Ok(room) => self.goes_on_in(room.into_connection(), answered),
+            Err((OpenFault::NotARoom, conn)) => self.begins_in(conn, answered),
+            Err((fault, _)) => Err(Fail::new(format_args!("after a stop: {fault:?}"))),
+        }
+    }
+
+    /// What follows a stop, if no stop before left the same.
+    fn follows(&self, known: &mut Vec<After>, held: Held, answered: Answered) -> Result<(), Fail> {
+        if is_known(known.as_slice(), &held, answered) {
+            return Ok(());
+        }
+        self.follows_in(opened_again(self.alloc, &held)?, answered)?;
+        known.push((held, answered))?;
+        Ok(())
+    }
+
+    /// A file stops at each of its calls in turn, until a run ends without a stop.
+    pub fn stops(&self, stop: Stop) -> Result<Met, Fail> {
+        let mut known = Vec::new(self.alloc);
+        let mut torn = 0u64;
+        for place in 0..2000u64 {
+            let left = self.left(stop, place)?;
+            self.follows(&mut known, left.written, left.answered)?;
+            self.follows(&mut known, left.flushed, left.answered)?;
+            if left.is_torn {
+                torn = torn.saturating_add(1);
+            }
+            if !left.has_stopped {
+                return Ok(Met { stops: place, torn });
+            }
+        }
+        Err(Fail::new("each run stops"))
+    }
+}
