@@ -1,4 +1,3 @@
-use Rattle.std.proofs.Common.{◌≡◌, IsSome, Option, None}
 use Rattle.room_acl.specs.Bits.{IsMask}
 use Rattle.room_tree.proofs.Replies.{common_is_mask}
 use Rattle.room_records.proofs.Options.{none_is_not_some}
