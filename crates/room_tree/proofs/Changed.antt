@@ -1,5 +1,6 @@
 -- One object changed where it stands: what is planned is the effect.
-use Rattle.std.proofs.Common.{◌≡◌, ℕ, refl, ap, sym, ◌∙◌, inl, inr, List, [], Option, None, Some}
+use Rattle.std.proofs.lemmas.Grind.{common_steps}
+use Rattle.std.proofs.Common.{arith, ◌≡◌, ℕ, refl, ap, sym, ◌∙◌, inl, inr, List, [], Option, None, Some}
 use Rattle.std.proofs.Common.{IsSome, IsNone, unwrap_or}
 use Rattle.std.specs.Prelude.{Vec}
 use Rattle.std.specs.declared.alloc.Global.{Global}
@@ -28,24 +29,13 @@ use Rattle.room_tree.specs.Plans.{PlansEffect, place_after}
 use Rattle.room_tree.specs.Renewals.{ChangesFewRows}
 use Rattle.room_commands.specs.ReplyModel.{reply_model}
 use Rattle.room_tree.proofs.Checking.{file_check, there}
-use Rattle.room_tree.proofs.Outcomes.{success_plans}
+use Rattle.room_tree.proofs.Outcomes.{success_plans, none_and_some}
 use Rattle.room_commands.proofs.RoomsObject.{elsewhere_unchanged}
 use Rattle.room_tree.proofs.RowsReplaced.{Replaces, replaced, replaced_keeps, changed_at, path_same_or_other}
-use Rattle.room_tree.proofs.StoredLists.{stored_list, list_part, lists_alike, same_parts}
-
-pub none_and_some : {X : Type 0} (o : Option X) → IsNone o → IsSome o → ⊥
-none_and_some None a b = let f = b in cc
-none_and_some (Some x) a b = let f = a in cc
-
-is_present : {X : Type 0} (o : Option X) → IsSome o → (x : X) × (o ≡ Some x)
-is_present None h = let f = h in cc
-is_present (Some x) h = (x, refl)
+use Rattle.room_tree.proofs.StoredLists.{stored_list, list_part, lists_alike, same_parts, is_present}
 
 none_new : (t later : ObjectRecords) → SameShape t later → (id : ℕ) → IsNone (t.node id) → IsSome (later.node id) → ⊥
-none_new t later shape id absent present =
-    let now = is_present (later.node id) present in
-    let before = shape.back id now.0 now.1 in
-    none_and_some (t.node id) absent (rw before.1 refl)
+none_new t later shape id absent present = grind (arith, common_steps)
 
 file_by_kind : (kind : Kind) (o : Object)
     → refuse_if (is_kind Folder (Some (record o { kind = kind }))) IsDir ≡ None → kind ≡ File

@@ -1,4 +1,5 @@
 -- Checks at a found object.
+use Rattle.std.proofs.lemmas.Grind.{common_steps}
 use Rattle.std.proofs.Common.{◌≡◌, ℕ, false, ◌≤◌, arith, length, Result, Ok, Err, IfOk, refl, ap, sym, ◌∙◌}
 use Rattle.std.proofs.Common.{Option, None, Some, List, [], ◌∷◌, ◌++◌}
 use Rattle.std.specs.Prelude.{not, is_some, nat_lt}
@@ -72,20 +73,9 @@ module _ {t : ObjectRecords} {room : Room} {path : Path} {loaded : LoadedObject}
   pub not_absent : check_absent room path ≡ Some (refusal_without_place Exist)
   not_absent = ap (λ (o : Option Object). refuse_if (is_some o) Exist) there
 
-  pub kind_there : loaded.kind ≡ found.object.kind
-  kind_there = found.is_there.shows.kind
-
-  pub folder_check : check_folder room path
-      ≡ refuse_if (is_kind File (Some (record found.object { kind = loaded.kind }))) NotDir
-  folder_check =
-      ap (λ (o : Option Object). refuse_if (is_kind File o) NotDir) there
-      ∙ ap (λ (k : Kind). refuse_if (is_kind File (Some (record found.object { kind = k }))) NotDir) (sym kind_there)
-
   pub file_check : check_file room path
       ≡ refuse_if (is_kind Folder (Some (record found.object { kind = loaded.kind }))) IsDir
-  file_check =
-      ap (λ (o : Option Object). refuse_if (is_kind Folder o) IsDir) there
-      ∙ ap (λ (k : Kind). refuse_if (is_kind Folder (Some (record found.object { kind = k }))) IsDir) (sym kind_there)
+  file_check = grind (arith, common_steps)
 
   pub right_check : (caller : SubjectModel) (wanted : ℕ)
       → check_right room caller path wanted
@@ -127,9 +117,7 @@ none_passes (Some x ∷ done) others h = cc
 -- nothing is there
 pub missing : (room : Room) (path : Path) (way : Option Refusal) → way ≡ None → object_at room path ≡ None
     → first_refusal (way ∷ check_exists room path ∷ []) ≡ Some (refusal_without_place NoEnt)
-missing room path way none nothing =
-    ap (λ (o : Option Refusal). first_refusal (o ∷ check_exists room path ∷ [])) none
-    ∙ ap (λ (o : Option Object). first_refusal (refuse_if (not (is_some o)) NoEnt ∷ [])) nothing
+missing room path way none nothing = grind (arith, common_steps)
 
 pub if_ok_map : {T E : Type 0} (P Q : T → Type 0) → ((x : T) → P x → Q x) → (r : Result T E) → IfOk r P → IfOk r Q
 if_ok_map P Q weaker (Ok x) h = weaker x h
@@ -138,11 +126,7 @@ if_ok_map P Q weaker (Err e) h = tt
 module _ {t : ObjectRecords} {room : Room} (stand : RepresentsRoom t room) {path : Path} {loaded : LoadedObject}
     (found : IsLoaded t room path loaded) where
   pub bytes_there : bytes_at room path ≡ found.object.bytes
-  bytes_there = ap (λ (o : Option Object). bytes_in o) (there found)
-    where
-      bytes_in : Option Object → List ℕ
-      bytes_in None = []
-      bytes_in (Some o) = o.bytes
+  bytes_there = grind (arith, common_steps)
 
   pub few_bytes : length (bytes_at room path) ≤ max_document
   few_bytes =

@@ -1,4 +1,5 @@
 -- How far down a subtree reaches: by its nodes, and as RENAME checks it.
+use Rattle.std.proofs.lemmas.Grind.{common_steps}
 use Rattle.std.proofs.Common.{◌≡◌, ℕ, ◌+◌, ◌-◌, ◌<◌, ◌≤◌, refl, ap, sym, ◌∙◌, subst, arith, Bool, true, false, ◌&&◌}
 use Rattle.std.proofs.Common.{◌||◌, inl, inr, List, [], ◌∷◌, ◌++◌, take, drop, length, append-nil, append_assoc}
 use Rattle.std.proofs.Common.{length-append, Option, None, Some, nat_lt}
@@ -7,6 +8,7 @@ use Rattle.std.proofs.lemmas.List.{take-append-drop, length-take}
 use Rattle.std.proofs.lemmas.Bool.{ltb-true}
 use Rattle.std.proofs.lemmas.Bool.Decides.{nat_tests}
 use Rattle.std.specs.Prelude.{unwrap_or}
+use Rattle.std.proofs.Math.Bool.{or-true}
 use Rattle.room_acl.specs.declared.subject.Kind.TheVariants.{File, Folder}
 use Rattle.room_records.specs.declared.node.Node.{Node}
 use Rattle.room_records.specs.Limits.{max_names}
@@ -54,12 +56,7 @@ module _ (room : Room) (lawful : IsRoom room) where
 -- a level further up
 pub one_level_more : (room : Room) (path : Path) (name : Name) (levels : ℕ) → 0 < levels
     → StandsBelow room (path ++ name ∷ []) (levels - 1) → StandsBelow room path levels
-one_level_more room path name levels some below = record {
-  rest = name ∷ below.rest;
-  object = below.object;
-  stands = ap (object_at room) (sym (append_assoc path (name ∷ []) below.rest)) ∙ below.stands;
-  deep = omega (arith, some, below.deep);
-}
+one_level_more room path name levels some below = grind (arith, common_steps)
 
 -- something stands so many levels below no child
 abbrev pub NoneBelowEach : Room → Path → ℕ → List Node → Type 0
@@ -120,11 +117,8 @@ any_of test [] q o stands passes = absurd stands
 any_of test (e ∷ es) q o (inl here) passes =
     let same : e ≡ (q, o) = (λ i. (here.0 i, here.1 i)) in
     ap (λ b. b || list_any test es) (ap test same ∙ passes)
-any_of test (e ∷ es) q o (inr there) passes = either (test e) (list_any test es) (any_of test es q o there passes)
-  where
-    either : (a b : Bool) → b ≡ true → (a || b) ≡ true
-    either true b h = refl
-    either false b h = h
+any_of test (e ∷ es) q o (inr there) passes =
+    ap (λ b. test e || b) (any_of test es q o there passes) ∙ or-true (test e)
 
 none_if : (test : Path × Object → Bool) (es : List (Path × Object))
     → ((q : Path) (o : Object) → StandsIn es q o → test (q, o) ≡ false) → list_any test es ≡ false

@@ -1,5 +1,6 @@
 -- Lists in a room with a subtree moved.
-use Rattle.std.proofs.Common.{◌≡◌, ap, sym, ◌∙◌, false, [], ◌∷◌, ◌++◌, reverse, append-nil, None, Some}
+use Rattle.std.proofs.lemmas.Grind.{common_steps}
+use Rattle.std.proofs.Common.{arith, ◌≡◌, ap, sym, ◌∙◌, false, [], ◌∷◌, ◌++◌, reverse, append-nil, None, Some}
 use Rattle.room_acl.specs.Inheritance.{with_inherited}
 use Rattle.room_records.specs.Names.{Name, Path}
 use Rattle.room_records.specs.Room.{Object, Room, IsRoom, object_at, list_of}
@@ -32,9 +33,7 @@ module _ (room : Room) (lawful : IsRoom room) (path to : Path) (o : Object)
       → to ≡ folder ++ name ∷ [] → object_at room folder ≡ Some above
       → list_of after to ≡ with_inherited o.own o.aclflag o.kind (list_of room folder)
   list_of_moved folder name above is stands =
-      ap (list_of after) is ∙ list_of_child after folder name o (ap (object_at after) (sym is) ∙ moved_there)
-      ∙ ap (with_inherited o.own o.aclflag o.kind)
-      (list_of_stayed folder above stands (front_off to path folder (name ∷ []) is apart))
+      grind (arith, common_steps, list_of_child, moved_there, list_of_stayed, front_off)
 
   -- and what is below it the lists that follow
   pub lists_of_moved : (rest : Path)

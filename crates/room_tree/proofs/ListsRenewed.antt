@@ -1,4 +1,5 @@
 -- Lists in a room where the list of one object changed, or where it went elsewhere.
+use Rattle.std.proofs.lemmas.Grind.{common_steps}
 use Rattle.std.proofs.Common.{◌≡◌, ◌≢◌, ◌+◌, refl, ap, sym, ◌∙◌, arith, Bool, true, false, List, [], ◌∷◌, ◌++◌, length}
 use Rattle.std.proofs.Common.{length-append, reverse, append-nil, append_assoc}
 use Rattle.std.proofs.lemmas.List.{reverse-append, reverse-reverse}
@@ -43,12 +44,7 @@ lists_stay room path rest = sym (lists_renewed room room path path (λ below som
 -- a front of a path that is not below another is not below it either
 pub front_off : (q path front rest : Path) → q ≡ front ++ rest
     → is_at_or_below q path ≡ false → is_at_or_below front path ≡ false
-front_off q path front rest split off = by_test (is_at_or_below front path) refl
-  where
-    by_test : (b : Bool) → is_at_or_below front path ≡ b → b ≡ false
-    by_test false e = refl
-    by_test true below = absurd (not_both (is_at_or_below q path)
-        (ap (λ p. is_at_or_below p path) split ∙ below_more path front rest below) off)
+front_off q path front rest split off = grind (arith, common_steps)
 
 -- away from the path lists stay
 pub lists_away : (room after : Room) (path : Path)
@@ -69,7 +65,4 @@ lists_away_from_both room after path to same q off off_to =
 pub list_above_stays : (room after : Room) (path folder : Path) (name : Name) → path ≡ folder ++ name ∷ []
     → ((q : Path) → (q ≡ path → ⊥) → object_at after q ≡ object_at room q) → list_of after folder ≡ list_of room folder
 list_above_stays room after path folder name is same =
-    lists_by_objects_above after room folder (λ front rest split. same front (λ top.
-    let long : length folder ≡ length front + length rest = ap length split ∙ length-append front rest in
-    let longer : length path ≡ length folder + 1 = ap length is ∙ length-append folder (name ∷ []) in
-    omega (arith, long, longer, ap length top)))
+    grind (arith, common_steps, lists_by_objects_above, length-append)

@@ -1,4 +1,5 @@
 -- The list of an object by its rows and those of the folders above it.
+use Rattle.std.proofs.lemmas.Grind.{common_steps}
 use Rattle.std.proofs.Common.{◌≡◌, ℕ, ◌+◌, ◌≤◌, refl, ap, sym, ◌∙◌, arith, Bool, true, false, cond, inl, inr}
 use Rattle.std.proofs.Common.{List, [], ◌∷◌, ◌++◌, length, reverse, append-nil, Option, None, Some, IsSome}
 use Rattle.std.proofs.lemmas.List.{reverse-append, length_push}
@@ -14,6 +15,7 @@ use Rattle.room_records.proofs.Paths.{object_at_node, root_only}
 use Rattle.room_records.proofs.RoomsLists.{list_of_child, list_of_root}
 use Rattle.room_records.proofs.RoomsMap.{some_is, none_is_some, Ends, path_of_object}
 use Rattle.room_tree.proofs.OwnPart.{root_or_below, own_part_of_list}
+use Rattle.room_tree.proofs.StoredLists.{node_at_path}
 
 -- the folder above a node, on its path
 pub record IsUnder (t : ObjectRecords) (room : Room) (path : Path) (id : ℕ) (node : Node) (above : ℕ) : Type 0 where
@@ -23,22 +25,11 @@ pub record IsUnder (t : ObjectRecords) (room : Room) (path : Path) (id : ℕ) (n
   pub list : own_part (t.entries id)
       ++ cond (follows node.aclflag) (handed_down (list_of room folder) node.kind) [] ≡ list_of room path
 
-is_present : {X : Type 0} (o : Option X) → IsSome o → (x : X) × (o ≡ Some x)
-is_present None h = let f = h in cc
-is_present (Some x) h = (x, refl)
-
 -- a number that has a path is a node's
 pub node_there : {t : ObjectRecords} {room : Room} → RepresentsRoom t room → (path : Path) (id : ℕ) → HasPath t path id
     → t.node id ≡ None → ⊥
-node_there {t} stand path id at none = elim (root_or_below path) [
-  | inl root ↦ (
-      let one : id ≡ 1 = rw root at at in
-      let first = is_present (t.node 1) stand.rules.has_root in
-      none_is_some first.0 (sym none ∙ ap t.node one ∙ first.1))
-  | inr end ↦ (
-      let up = rw (ap reverse end.is ∙ reverse-append end.folder (end.name ∷ [])) at at in
-      none_is_some up.0 (sym none ∙ up.2))
-]
+node_there stand path id at none =
+    let node = node_at_path stand path id at in none_is_some node.0 (sym none ∙ node.1)
 
 module _ {t : ObjectRecords} {room : Room} (stand : RepresentsRoom t room) (path : Path) (id : ℕ) (node : Node)
     (at : HasPath t path id) (stands : t.node id ≡ Some node) where
@@ -84,20 +75,11 @@ module _ {t : ObjectRecords} {room : Room} (stand : RepresentsRoom t room) (path
 
   -- the root has its own entries alone
   pub list_in_none : node.parent ≡ None → own_part (t.entries id) ≡ list_of room path
-  list_in_none none = elim (root_or_below path) [
-    | inl root ↦ at_root root
-    | inr end ↦ absurd (let above = above_of end in none_is_some above.0 (sym none ∙ above.1))
-  ]
+  list_in_none none = grind (arith, common_steps, root_or_below, at_root, above_of, none_is_some)
 
   -- as has what does not follow
   pub list_of_its_own : follows node.aclflag ≡ false → own_part (t.entries id) ≡ list_of room path
-  list_of_its_own off = elim (root_or_below path) [
-    | inl root ↦ at_root root
-    | inr end ↦
-        sym (append-nil (own_part (t.entries id)))
-        ∙ ap (λ b. own_part (t.entries id) ++ cond b (handed_down (list_of room end.folder) node.kind) [])
-        (sym off) ∙ list_below end
-  ]
+  list_of_its_own off = grind (arith, common_steps, root_or_below, at_root, append-nil, list_below)
 
   -- another's goes on with what its folder hands down
   pub under : (above : ℕ) → node.parent ≡ Some above → IsUnder t room path id node above
@@ -118,17 +100,9 @@ module _ {t : ObjectRecords} {room : Room} (stand : RepresentsRoom t room) (path
 
   -- where the list goes on with no folder's, it ends
   pub list_ends : cond (follows node.aclflag) node.parent None ≡ None → own_part (t.entries id) ≡ list_of room path
-  list_ends none = by_test (follows node.aclflag) refl
-    where
-      by_test : (b : Bool) → follows node.aclflag ≡ b → own_part (t.entries id) ≡ list_of room path
-      by_test true is = list_in_none (ap (λ b. cond b node.parent None) (sym is) ∙ none)
-      by_test false is = list_of_its_own is
+  list_ends none = grind (arith, common_steps, list_in_none, list_of_its_own)
 
   -- and else the folder is the one above
   pub goes_on : (above : ℕ) → cond (follows node.aclflag) node.parent None ≡ Some above
       → IsUnder t room path id node above
-  goes_on above some = by_test (follows node.aclflag) refl
-    where
-      by_test : (b : Bool) → follows node.aclflag ≡ b → IsUnder t room path id node above
-      by_test true is = under above (ap (λ b. cond b node.parent None) (sym is) ∙ some)
-      by_test false is = absurd (none_is_some above (ap (λ b. cond b node.parent None) (sym is) ∙ some))
+  goes_on above some = grind (arith, common_steps, under, none_is_some)

@@ -1,5 +1,6 @@
 -- Found objects: the root, and a child of a found folder.
-use Rattle.std.proofs.Common.{◌≡◌, ap, sym, ◌∙◌, subst, [], ◌∷◌, ◌++◌, Some}
+use Rattle.std.proofs.lemmas.Grind.{common_steps}
+use Rattle.std.proofs.Common.{arith, ◌≡◌, ap, sym, ◌∙◌, subst, [], ◌∷◌, ◌++◌, Some}
 use Rattle.room_records.specs.declared.node.Node.{Node}
 use Rattle.room_records.specs.Names.{Name, Path}
 use Rattle.room_records.specs.Records.{ObjectRecords}
@@ -25,9 +26,7 @@ module _ {t : ObjectRecords} {room : Room} (stand : RepresentsRoom t room) where
 
   pub root_is_loaded : (node : Node) (loaded : LoadedObject) → t.node 1 ≡ Some node
       → node_of loaded ≡ node → IsLoaded t room [] loaded
-  root_is_loaded node loaded stands is =
-      let one : node.id ≡ 1 = (stand.rules.numbered 1 node stands).0 in
-      is_loaded [] node loaded one (ap t.node one ∙ stands) is
+  root_is_loaded node loaded stands is = grind (arith, common_steps)
 
   pub child_is_loaded : (path : Path) (name : Name) (above loaded : LoadedObject) (node : Node)
       → IsLoaded t room path above → IsChildNamed t above.id name (Some node)

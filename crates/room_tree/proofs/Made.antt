@@ -1,4 +1,5 @@
 -- A new object: what is planned is the effect.
+use Rattle.std.proofs.lemmas.Grind.{common_steps}
 use Rattle.std.proofs.Common.{◌≡◌, ◌≢◌, ℕ, ◌+◌, ◌<◌, ◌≤◌, refl, ap, sym, ◌∙◌, subst, arith, cond, false, inl, inr, List}
 use Rattle.std.proofs.Common.{[], ◌∷◌, ◌++◌, length, Option, None, Some, IsSome, IsNone, unwrap_or}
 use Rattle.std.specs.Prelude.{nat_lt, nat_le, Vec}
@@ -33,18 +34,17 @@ use Rattle.room_tree.specs.LoadedObjects.{IsLoaded, IsNewNode, node_of}
 use Rattle.room_tree.specs.Plans.{PlansEffect}
 use Rattle.room_tree.specs.Renewals.{puts_new}
 use Rattle.room_commands.specs.ReplyModel.{Done, Size, reply_model}
-use Rattle.room_tree.proofs.Changed.{none_and_some}
 use Rattle.room_tree.proofs.Checking.{none_passes, limit_checks, new_checks}
 use Rattle.room_commands.proofs.ChecksTell.{not_refused, none_there}
 use Rattle.room_commands.proofs.EffectIsRoom.{changed_is_room, created_is_room}
 use Rattle.room_tree.proofs.FewRows.{few_for_folder, few_for_document}
 use Rattle.room_tree.proofs.NewLists.{apply_append, rules_append, gives_list}
-use Rattle.room_tree.proofs.Outcomes.{success_plans}
+use Rattle.room_tree.proofs.Outcomes.{success_plans, none_and_some}
 use Rattle.room_tree.proofs.Replies.{object_is}
 use Rattle.room_commands.proofs.Rights.{all_none}
 use Rattle.room_commands.proofs.RoomsNew.{new_there, elsewhere_as_before, old_stays, new_or_old}
 use Rattle.room_tree.proofs.RowsAdded.{IsFree, rules_put_new, Adds, added, added_keeps, last_is_name}
-use Rattle.room_tree.proofs.StoredLists.{node_at_path, stored_list}
+use Rattle.room_tree.proofs.StoredLists.{node_at_path, stored_list, is_present}
 
 -- the group that a new object gets
 abbrev object_group : Room → Path → List ℕ
@@ -76,22 +76,14 @@ module _ {t : ObjectRecords} {room : Room} {caller : SubjectModel} {path : Path}
   numbered = new.number ∙ number
 
   fresh : t.node node.id ≡ None
-  fresh = elim (some_or_none (t.node node.id)) [
-    | inl none ↦ none
-    | inr some ↦ absurd (let below = (stand.rules.numbered node.id some.0 some.1).2 in omega (arith, below, numbered))
-  ]
+  fresh = grind (arith, common_steps)
 
   -- nothing is stored of it before
   pub no_entries : t.entries id ≡ []
   no_entries = ap t.entries (sym new.number) ∙ stand.rules.entries node.id fresh
 
   no_document : unwrap_or (t.document node.id) [] ≡ []
-  no_document = elim (some_or_none (t.document node.id)) [
-    | inl none ↦ ap (λ (d : Option (List ℕ)). unwrap_or d []) none
-    | inr some ↦ absurd (
-        let owner = stand.rules.documents node.id (rw some.1 refl) in
-        none_is_some owner.0 (sym fresh ∙ owner.1))
-  ]
+  no_document = grind (arith, common_steps)
 
   pub rules_bumped : ObjectRules (apply_to_objects (PutNext (id + 1)) t)
   rules_bumped = rules_put_next t stand.rules (id + 1) (omega (arith, number)) (omega (arith, number, few))
@@ -112,7 +104,7 @@ module _ {t : ObjectRecords} {room : Room} {caller : SubjectModel} {path : Path}
   free : IsFree (apply_to_objects (PutNext (id + 1)) t) node above.id end.name
   free = record {
     fresh = fresh;
-    positive = (let first = is_there (t.node 1) stand.rules.has_root in
+    positive = (let first = is_present (t.node 1) stand.rules.has_root in
         let one = stand.rules.numbered 1 first.0 first.1 in omega (arith, one.2, numbered));
     below = omega (arith, new.number);
     parent = node_of above;
@@ -127,10 +119,6 @@ module _ {t : ObjectRecords} {room : Room} {caller : SubjectModel} {path : Path}
         let there = object_at_node t room stand (end.folder ++ end.name ∷ []) other.id other at child.stands in
         none_is_some there.0 (sym absent ∙ ap (object_at room) end.is ∙ there.1);
   }
-    where
-      is_there : (found : Option Node) → IsSome found → (n : Node) × (found ≡ Some n)
-      is_there None h = let f = h in cc
-      is_there (Some n) h = (n, refl)
 
   pub rules_made : ObjectRules (apply_to_objects (PutNode node) (apply_to_objects (PutNext (id + 1)) t))
   rules_made = rules_put_new rules_bumped free
@@ -212,12 +200,7 @@ module _ {t : ObjectRecords} {room : Room} {caller : SubjectModel} {path : Path}
   pub only_next : (later : ObjectRecords)
       → later.node ≡ (apply_to_objects (PutNode node) (apply_to_objects (PutNext (id + 1)) t)).node
       → (k : ℕ) → IsNone (t.node k) → IsSome (later.node k) → k ≡ t.next
-  only_next later nodes k none some = elim (same_or_other k node.id) [
-    | inl same ↦ same ∙ numbered
-    | inr other ↦ absurd (
-        none_and_some (t.node k) none
-        (rw (← ap (λ (f : ℕ → Option Node). f k) nodes ∙ if_other k node.id (Some node) (t.node k) other) some))
-  ]
+  only_next later nodes k none some = grind (arith, common_steps)
 
 few_made : {t : ObjectRecords} {room : Room} → RepresentsRoom t room → check_room_full room ≡ None
     → t.next ≤ max_objects

@@ -55,7 +55,3 @@ kept_is path aclflag sent = by_test (follows_at path aclflag)
         ≡ cond b (filter (λ (entry : EntryModel). not (is_inherited entry.flags)) sent) (map clear_inherited sent)
     by_test true = following sent
     by_test false = cleared_all sent
-
-pub root_follows_not : (path : Path) (aclflag : ℕ) → length path ≡ 0 → follows_at path aclflag ≡ false
-root_follows_not [] aclflag h = refl
-root_follows_not (name ∷ path) aclflag h = absurd (omega (arith, h))

@@ -1,5 +1,6 @@
 -- Outcomes that plan the effect of a command.
-use Rattle.std.proofs.Common.{◌≡◌, ◌≢◌, Ok, Err, ℕ, ap, sym, ◌∙◌, subst, List, [], Option, None, Some, IsSome, IsNone}
+use Rattle.std.proofs.lemmas.Grind.{common_steps}
+use Rattle.std.proofs.Common.{arith, ◌≡◌, ℕ, ap, sym, ◌∙◌, subst, List, [], Option, None, Some, IsSome, IsNone}
 use Rattle.std.specs.List.{AllByRecursion}
 use Rattle.room_acl.specs.SubjectModel.{SubjectModel}
 use Rattle.room_records.specs.declared.change.Change.{Change}
@@ -19,13 +20,9 @@ use Rattle.room_tree.specs.Renewals.{ChangesFewRows}
 use Rattle.room_commands.proofs.Rights.{rights_of_success}
 use Rattle.room_tree.proofs.FewRows.{few_none}
 
--- an answer is no fault
-pub ok_not_err : {X E : Type 0} (x : X) (e : E) → Ok x ≢ Err e
-ok_not_err x e is = cc
-
-absent_present : {X : Type 0} (o : Option X) → IsNone o → IsSome o → ⊥
-absent_present None a b = let f = b in cc
-absent_present (Some x) a b = let f = a in cc
+pub none_and_some : {X : Type 0} (o : Option X) → IsNone o → IsSome o → ⊥
+none_and_some None a b = let f = b in cc
+none_and_some (Some x) a b = let f = a in cc
 
 module _ {t : ObjectRecords} {room : Room} (caller : SubjectModel) (command : CommandModel) (outcome : Outcome)
     (stand : RepresentsRoom t room) where
@@ -33,40 +30,11 @@ module _ {t : ObjectRecords} {room : Room} (caller : SubjectModel) (command : Co
   pub refusal_plans : (refusal : Refusal) → first_refusal (checks room caller command) ≡ Some refusal
       → reply_model outcome.reply ≡ Refused refusal → outcome.changes.items ≡ []
       → PlansEffect t room caller command outcome
-  refusal_plans refusal is replied none =
-      let Keeps : Option Refusal → Type 0 = λ found. (path : Path) (id : ℕ) → HasPath t path id → IsSome (t.node id)
-      → IsSome (object_at (effect_by room caller command found).room (place_after command found path))
-      → HasPath t (place_after command found path) id in
-      let kept : Keeps (Some refusal) = (λ path id at stands there. at) in
-      record {
-        reply = replied ∙ sym (ap (λ found. (effect_by room caller command found).reply) is);
-        of_tree = rw none tt;
-        rules = rw none tt;
-        leads = rw none (rw is stand);
-        numbers = rw none (record {
-          kept = subst Keeps (sym is) kept;
-          new = λ id absent present. absurd (absent_present (t.node id) absent present);
-        });
-        few = rw none (few_none t);
-        refusal = λ refused. none;
-        allowed = λ allowed. absurd (allowed (subst IsRefused (sym replied) tt));
-      }
+  refusal_plans refusal is replied none = grind (arith, common_steps)
 
   -- what succeeds is not refused
   not_refused : (asked : CommandModel) → IsRefused (reply room caller asked) → ⊥
-  not_refused (C.Stat path) h = h
-  not_refused (C.ListNames path) h = h
-  not_refused (C.Mkdir path) h = h
-  not_refused (C.Create bytes path) h = h
-  not_refused (C.Read path) h = h
-  not_refused (C.Write bytes path) h = h
-  not_refused (C.Append bytes path) h = h
-  not_refused (C.Remove path) h = h
-  not_refused (C.Rename path to) h = h
-  not_refused (C.GetList path) h = h
-  not_refused (C.SetList aclflag entries path) h = h
-  not_refused (C.Chown group owner path) h = h
-  not_refused (C.Access mask path) h = h
+  not_refused asked refused = grind (arith, common_steps)
 
   -- and what no check refuses plans what the command leaves
   pub success_plans : (changes : List Change) → first_refusal (checks room caller command) ≡ None
@@ -98,4 +66,4 @@ module _ {t : ObjectRecords} {room : Room} (caller : SubjectModel) (command : Co
   reading_plans stays same is replied none =
       success_plans [] is replied none tt tt (few_none t) (rw same stand)
       (λ path id at stands there. rw (stays path) (at))
-      (λ id absent present. absurd (absent_present (t.node id) absent present))
+      (λ id absent present. absurd (none_and_some (t.node id) absent present))

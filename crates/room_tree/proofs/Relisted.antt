@@ -1,5 +1,6 @@
 -- SETLIST: what is planned is the effect.
-use Rattle.std.proofs.Common.{◌≡◌, ℕ, ◌⊎◌, refl, ap, sym, ◌∙◌, Bool, true, false, cond, inl, inr, List, [], ◌∷◌}
+use Rattle.std.proofs.lemmas.Grind.{common_steps}
+use Rattle.std.proofs.Common.{arith, ◌≡◌, ℕ, ◌⊎◌, refl, ap, sym, ◌∙◌, Bool, true, false, cond, inl, inr, List, [], ◌∷◌}
 use Rattle.std.proofs.Common.{◌++◌, map, drop, length, reverse, append-nil, Option, None, Some, unwrap_or}
 use Rattle.std.specs.Prelude.{Vec}
 use Rattle.std.specs.declared.alloc.Global.{Global}
@@ -45,29 +46,16 @@ use Rattle.room_tree.proofs.RowsReplaced.{Replaces, changed_at}
 use Rattle.room_tree.proofs.StoredLists.{stored_list}
 
 nothing_handed_down : (own : List EntryModel) (aclflag : ℕ) (kind : Kind) → with_inherited own aclflag kind [] ≡ own
-nothing_handed_down own aclflag kind = by_test (follows aclflag)
-  where
-    by_test : (b : Bool) → own ++ cond b (handed_down [] kind) [] ≡ own
-    by_test true = append-nil own
-    by_test false = append-nil own
+nothing_handed_down own aclflag kind = grind (arith, common_steps)
 
 -- the same nodes at the same places
 shape_with : (t first later : ObjectRecords) → later.node ≡ first.node → SameShape t first → SameShape t later
-shape_with t first later same shape = record {
-  back = λ id now stands. shape.back id now (ap (λ (f : ℕ → Option Node). f id) (sym same) ∙ stands);
-  forth = λ id before stands.
-      let now = shape.forth id before stands in
-      (now.0, ap (λ (f : ℕ → Option Node). f id) same ∙ now.1, now.2);
-}
+shape_with t first later same shape = grind (arith, common_steps)
 
 module _ {t : ObjectRecords} {room : Room} (stand : RepresentsRoom t room) {path : Path} {loaded : LoadedObject}
     (found : IsLoaded t room path loaded) where
   none_above : path ≡ [] → loaded.parent ≡ None
-  none_above root =
-      let one : loaded.id ≡ 1 = rw root at found.is_there.at in
-      let is_root : IsRoot (node_of loaded) =
-      rw (ap t.node (sym one) ∙ found.is_there.node_stands) at stand.rules.root in
-      is_root.no_parent
+  none_above root = grind (arith, common_steps)
 
   folder_above : (folder : Path) (name : Name) → path ≡ folder ++ name ∷ []
       → entries_of t loaded.parent ≡ list_of room folder

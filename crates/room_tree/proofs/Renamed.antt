@@ -1,9 +1,10 @@
 -- RENAME: its checks by what was read, and what it plans.
-use Rattle.std.proofs.Common.{◌≡◌, ℕ, refl, ap, sym, ◌∙◌, Bool, true, false, not, ◌||◌, List, [], ◌∷◌, ◌++◌, map}
+use Rattle.std.proofs.lemmas.Grind.{common_steps}
+use Rattle.std.proofs.Common.{arith, ◌≡◌, ℕ, refl, ap, sym, ◌∙◌, Bool, true, false, not, ◌||◌, List, [], ◌∷◌, ◌++◌, map}
 use Rattle.std.proofs.Common.{drop, length, Option, None, Some, reverse}
 use Rattle.std.specs.Prelude.{Vec}
 use Rattle.std.specs.declared.alloc.Global.{Global}
-use Rattle.std.proofs.lemmas.Bool.{or_parts}
+use Rattle.std.proofs.lemmas.Bool.{or_parts, true_from_ne_false}
 use Rattle.room_acl.specs.Entries.{EntryModel}
 use Rattle.room_acl.specs.Inheritance.{with_inherited}
 use Rattle.room_acl.specs.SubjectModel.{SubjectModel}
@@ -53,11 +54,8 @@ other_names a b differ is so same =
     let no : true ≡ false = sym so ∙ is ∙ ap not one in cc
 
 pub same_names : (a b : Name) (differ : Bool) → differ ≡ not (name_eq a b) → differ ≡ false → a ≡ b
-same_names a b differ is so = same_name a b (by_test (name_eq a b) refl)
-  where
-    by_test : (t : Bool) → name_eq a b ≡ t → t ≡ true
-    by_test true e = refl
-    by_test false e = (let no : true ≡ false = sym (is ∙ ap not e) ∙ so in cc)
+same_names a b differ is so = same_name a b (true_from_ne_false (name_eq a b)
+    (λ e. let no : true ≡ false = sym (is ∙ ap not e) ∙ so in cc))
 
 pub root_is_short : (path : Path) → length path ≡ 0 → is_root path ≡ false → ⊥
 root_is_short [] none off = cc
@@ -71,19 +69,13 @@ pub record PathsPass (path to : Path) : Type 0 where
 
 pub paths_pass : (path to : Path)
     → refuse_if (is_root path || is_root to || is_at_or_below to path) Inval ≡ None → PathsPass path to
-paths_pass path to passed =
-    let apart = or_parts (is_root path || is_root to) (is_at_or_below to path) (not_refused _ Inval passed) in
-    let roots = or_parts (is_root path) (is_root to) apart.0 in
-    record { below_root = roots.0; to_below_root = roots.1; apart = apart.1 }
+paths_pass path to passed = grind (arith, common_steps)
 
 module _ {t : ObjectRecords} {room : Room} (stand : RepresentsRoom t room) {a b : Path} {here there : LoadedObject}
     (is_here : IsLoaded t room a here) (is_there : IsLoaded t room b there) where
   -- a folder is another one exactly where its number is
   pub same_folder : here.id ≡ there.id → path_eq a b ≡ true
-  same_folder same =
-      let one : a ≡ b =
-      path_of_node t stand.rules a b there.id (rw (← same) is_here.is_there.at) is_there.is_there.at in
-      ap (path_eq a) (sym one) ∙ path_itself a
+  same_folder same = grind (arith, common_steps, path_of_node, path_itself)
 
   pub other_folder : (here.id ≡ there.id → ⊥) → path_eq a b ≡ false
   other_folder other = other_path a b (λ same.

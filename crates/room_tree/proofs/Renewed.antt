@@ -1,4 +1,5 @@
 -- Rows after lists were put, that of one object and those below it.
+use Rattle.std.proofs.lemmas.Grind.{common_steps}
 use Rattle.std.proofs.Common.{◌≡◌, ◌≢◌, ℕ, ◌+◌, ◌≤◌, refl, ap, sym, ◌∙◌, arith, Bool, true, false, not, cond}
 use Rattle.std.proofs.Common.{eqb, ◌||◌, ◌⊎◌, inl, inr, List, [], ◌∷◌, ◌++◌, map, reverse, append-nil, Option, None}
 use Rattle.std.proofs.Common.{Some, IsTrue, count_by, MatchOption, eq-eqb}
@@ -9,6 +10,7 @@ use Rattle.std.proofs.lemmas.Bool.{eqb-true}
 use Rattle.std.proofs.lemmas.List.{map-append, append_cancel_left}
 use Rattle.std.proofs.lemmas.List.Sums.{sum_by-cons, sum_by-append}
 use Rattle.std.proofs.lemmas.List.Folds.{list_any-append}
+use Rattle.std.proofs.Math.Bool.{or-true}
 use Rattle.room_acl.specs.Entries.{EntryModel}
 use Rattle.room_records.specs.declared.node.Node.{Node}
 use Rattle.room_records.specs.declared.change.Change.{Change}
@@ -176,10 +178,6 @@ pub record Relists (t : ObjectRecords) (room : Room) (path : Path) (list : List 
       ⊎ IsTrue (list_any (puts_entries_of id) (map put puts))
   pub once : (id : ℕ) → count_by (puts_entries_of id) (map put puts) ≤ 1
 
-pub or_true : (b : Bool) → (b || true) ≡ true
-or_true true = refl
-or_true false = refl
-
 -- the list of an object from then on: what is put, or else what it was
 abbrev pub list_then : ObjectRecords → ℕ → Option (Vec EntryModel Global) → List EntryModel
 list_then t id None = t.entries id
@@ -233,10 +231,7 @@ module _ {t : ObjectRecords} {room : Room} (stand : RepresentsRoom t room) (path
     whole = below ++ (id, list) ∷ []
 
     not_here : EachPut (λ k entries. k ≢ id) below
-    not_here = each_weaker (IsRenewed t room path list.items) (λ k entries. k ≢ id) other below each
-      where
-        other : (k : ℕ) (entries : List EntryModel) → IsRenewed t room path list.items k entries → k ≢ id
-        other k entries new same = new.below (only_here new.rest (rw (← same) new.at))
+    not_here = grind (arith, common_steps, each_weaker, only_here)
 
     any_of_whole : (k : ℕ) → list_any (puts_entries_of k) (map put whole)
         ≡ (list_any (puts_entries_of k) (map put below) || (eqb k id || false))
@@ -245,22 +240,12 @@ module _ {t : ObjectRecords} {room : Room} (stand : RepresentsRoom t room) (path
 
     count_of_whole : (k : ℕ) → count_by (puts_entries_of k) (map put whole)
         ≡ count_by (puts_entries_of k) (map put below) + cond (eqb k id) 1 0
-    count_of_whole k =
-        let apart = sum_by-append (λ (change : Change). cond (puts_entries_of k change) 1 0)
-        (map put below) (PutEntries id list ∷ []) in
-        ap (count_by (puts_entries_of k)) (map-append put below ((id, list) ∷ [])) ∙ apart ∙ omega arith
+    count_of_whole k = grind (arith, common_steps)
 
     put_or_kept : (rest : Path) (k : ℕ) → HasPath t (path ++ rest) k
         → (t.entries k ≡ list_below room path list.items (reverse rest))
         ⊎ IsTrue (list_any (puts_entries_of k) (map put whole))
-    put_or_kept [] k at =
-        let same : k ≡ id = reads_one t stand.rules (reverse path) k id (rw (← append-nil path) (at)) here in
-        inr (any_of_whole k ∙ ap (λ b. list_any (puts_entries_of k) (map put below) || (b || false)) (eq-eqb k id same)
-        ∙ or_true (list_any (puts_entries_of k) (map put below)))
-    put_or_kept (name ∷ rest) k at = elim (renews.every (name ∷ rest) k (λ none. cc) at) [
-      | inl stays ↦ inl stays
-      | inr found ↦ inr (any_of_whole k ∙ ap (λ b. b || (eqb k id || false)) found)
-    ]
+    put_or_kept rest k at = grind (arith, common_steps, reads_one, append-nil, any_of_whole, eq-eqb, or-true)
 
     once_in_whole : (k : ℕ) → count_by (puts_entries_of k) (map put whole) ≤ 1
     once_in_whole k = elim (same_or_other k id) [

@@ -1,4 +1,5 @@
 -- Renewal below a folder, one child after the other; and below what has nothing below it.
+use Rattle.std.proofs.lemmas.Grind.{common_steps}
 use Rattle.std.proofs.Common.{◌≡◌, ◌≢◌, ℕ, zero, suc, ◌+◌, ◌<◌, ◌≤◌, refl, ap, sym, ◌∙◌, subst, arith, true, false, ◌⊎◌}
 use Rattle.std.proofs.Common.{inl, inr, List, [], ◌∷◌, ◌++◌, take, drop, get_or, length, append-nil, append_assoc}
 use Rattle.std.proofs.Common.{length-append, Option, None, Some, unwrap_or}
@@ -72,10 +73,7 @@ below_last (a ∷ b ∷ nodes) node order =
     (nat_list_cmp_total.trans (name_of a) (name_of b) (name_of node) order.0 rest.0, rest)
 
 not_below_itself : (a b : Name) → name_cmp a b ≡ Less → a ≡ b → ⊥
-not_below_itself a b less same =
-    let here : name_cmp a a ≡ Less = ap (name_cmp a) same ∙ less in
-    let turned : Less ≡ Greater = sym here ∙ nat_list_cmp_total.antisymm a a ∙ ap ordering_reverse here in
-    cc
+not_below_itself a b less same = grind (arith, common_steps, nat_list_cmp_total)
 
 apart : (nodes : List Node) (node : Node) (rest : Path)
     → AllByRecursion (λ n. name_cmp (name_of n) (name_of node) ≡ Less) nodes
@@ -92,22 +90,12 @@ apart (first ∷ nodes) node rest less (inr there) begins = apart nodes node res
 stands_above : (room : Room) → (front rest : Path) (o : Object) → object_at room (front ++ rest) ≡ Some o
     → ((object_at room front ≡ None) → object_at room (front ++ rest) ≡ None)
     → (above : Object) × (object_at room front ≡ Some above)
-stands_above room front rest o stands none_below = by_value (object_at room front) refl
-  where
-    by_value : (found : Option Object) → object_at room front ≡ found
-        → (above : Object) × (object_at room front ≡ Some above)
-    by_value None none = absurd (none_is_some o (sym (none_below none) ∙ stands))
-    by_value (Some above) is = (above, is)
+stands_above room front rest o stands none_below = grind (arith, common_steps)
 
 module _ {t : ObjectRecords} {room : Room} (stand : RepresentsRoom t room) (path : Path) (list : List EntryModel) where
   -- no child yet
   pub renews_none : Renews t room path list (UnderOne []) []
-  renews_none = record {
-    each = tt;
-    put_at = λ id found. absurd (let f : false ≡ true = found in cc);
-    every = λ rest id among at. absurd among;
-    once = λ id. omega arith;
-  }
+  renews_none = grind (arith, common_steps)
 
   -- one child more
   pub renews_more : (nodes : List Node) (node : Node) (xs ys : List Change) → InNameOrder (nodes ++ node ∷ [])
@@ -150,11 +138,7 @@ module _ {t : ObjectRecords} {room : Room} (stand : RepresentsRoom t room) (path
   -- where nothing is below, nothing is put
   renews_nothing : ((rest : Path) (id : ℕ) → rest ≢ [] → HasPath t (path ++ rest) id → ⊥)
       → RenewsBelow t room path list []
-  renews_nothing none = record {
-    each = tt;
-    every = λ rest id some at. absurd (none rest id some at);
-    once = λ id. omega arith;
-  }
+  renews_nothing none = grind (arith, common_steps)
 
   -- below as many names as a path may have
   pub renews_lowest : max_names ≤ length path → RenewsBelow t room path list []

@@ -8,6 +8,7 @@ use Rattle.std.proofs.lemmas.Bool.{eqb-true}
 use Rattle.std.proofs.lemmas.List.{append_cancel_left}
 use Rattle.std.proofs.lemmas.List.Sums.{sum_by-cons, sum_by-append}
 use Rattle.std.proofs.lemmas.List.Folds.{list_any-append}
+use Rattle.std.proofs.Math.Bool.{or-true}
 use Rattle.room_acl.specs.Entries.{EntryModel}
 use Rattle.room_records.specs.declared.change.Change.{Change}
 use Rattle.room_records.specs.declared.change.Change.TheVariants.{PutNode, DropNode, PutEntries, PutDoc, PutSession}
@@ -20,7 +21,7 @@ use Rattle.room_records.specs.Representation.{HasPath, RepresentsRoom}
 use Rattle.room_records.proofs.Lists.{all_append}
 use Rattle.room_records.proofs.Paths.{reads_one}
 use Rattle.room_tree.specs.Renewals.{list_below, IsRenewed, IsRenewal, RenewsBelow, puts_entries_of}
-use Rattle.room_tree.proofs.Renewed.{one_if, one_or_none, or_true, split_renewals, put_found}
+use Rattle.room_tree.proofs.Renewed.{one_if, one_or_none, split_renewals, put_found}
 use Rattle.room_tree.proofs.ListsRenewed.{lists_stay}
 use Rattle.room_tree.proofs.RenewingLists.{list_below_child}
 use Rattle.room_tree.proofs.RowsReplaced.{path_of_node}
@@ -97,7 +98,7 @@ renews_both t room path list a b c xs ys rules split left right apart first seco
     in_second rest id there at = elim (second.every rest id there at) [
       | inl stays ↦ inl stays
       | inr put ↦ inr (any_of id ∙ ap (λ found. list_any (puts_entries_of id) xs || found) put
-          ∙ or_true (list_any (puts_entries_of id) xs))
+          ∙ or-true (list_any (puts_entries_of id) xs))
     ]
 
     put_by : (id : ℕ) (test : Bool) → list_any (puts_entries_of id) xs ≡ test

@@ -1,5 +1,6 @@
 -- Replies that tell of a found object.
-use Rattle.std.proofs.Common.{◌≡◌, ℕ, refl, ap, sym, ◌∙◌, List, [], ◌∷◌, map, Option, None, Some}
+use Rattle.std.proofs.lemmas.Grind.{common_steps}
+use Rattle.std.proofs.Common.{arith, ◌≡◌, ℕ, refl, ap, sym, ◌∙◌, List, [], ◌∷◌, map, Option, None, Some}
 use Rattle.std.specs.Prelude.{bit_and}
 use Rattle.std.specs.List.{AllByRecursion, filter_map, cons_option}
 use Rattle.std.specs.Option.{option_map}
@@ -16,13 +17,9 @@ use Rattle.room_records.specs.Rules.{ObjectRules}
 use Rattle.room_records.proofs.Folders.{pair_of, child_named}
 use Rattle.room_tree.specs.declared.loaded.LoadedObject.{LoadedObject}
 use Rattle.room_commands.specs.ReplyModel.{ReplyModel, Stat, Entries, Allowed}
-use Rattle.room_commands.specs.Effect.{object_or_default, attributes_of, size_of, no_object}
+use Rattle.room_commands.specs.Effect.{object_or_default, attributes_of, size_of, or_no_object}
 use Rattle.room_tree.specs.LoadedObjects.{IsLoaded, node_of, listed}
 use Rattle.room_tree.proofs.Checking.{there}
-
-or_default : Option Object → Object
-or_default None = no_object
-or_default (Some o) = o
 
 abbrev pub stat_of : Node → ℕ → ReplyModel
 stat_of node size =
@@ -31,33 +28,15 @@ stat_of node size =
 module _ {t : ObjectRecords} {room : Room} {path : Path} {loaded : LoadedObject}
     (found : IsLoaded t room path loaded) where
   pub object_is : object_or_default room path ≡ found.object
-  object_is = ap (λ (o : Option Object). object_from o) (there found)
-    where
-      object_from : Option Object → Object
-      object_from None = no_object
-      object_from (Some o) = o
+  object_is = ap or_no_object (there found)
 
   pub stat_reply : (node : Node) (size : ℕ) → node ≡ node_of loaded → size ≡ size_of room path loaded.kind
       → stat_of node size ≡ Stat (attributes_of room path (object_or_default room path))
-  stat_reply node size is sized =
-      let shows = found.is_there.shows in
-      let size_is : size ≡ size_of room path found.object.kind = sized ∙ ap (size_of room path) shows.kind in
-      let shown : stat_of (node_of loaded) size ≡ Stat (attributes_of room path found.object) =
-      (λ i. Stat (record {
-        aclflag = shows.aclflag i;
-        group = shows.group i;
-        kind = shows.kind i;
-        owner = shows.owner i;
-        size = size_is i;
-      })) in
-      ap (λ n. stat_of n size) is ∙ shown ∙ ap (λ o. Stat (attributes_of room path o)) (sym object_is)
+  stat_reply node size is sized = grind (arith, common_steps)
 
   pub entries_reply : (list : List EntryModel) → list ≡ list_of room path → Entries loaded.aclflag list
       ≡ Entries (object_or_default room path).aclflag (list_of room path)
-  entries_reply list is =
-      let flags : loaded.aclflag ≡ (object_or_default room path).aclflag =
-      found.is_there.shows.aclflag ∙ ap (λ (o : Object). o.aclflag) (sym object_is) in
-      (λ i. Entries (flags i) (is i))
+  entries_reply list is = grind (arith, common_steps)
 
   pub access_reply : (list : List EntryModel) → list ≡ list_of room path → (caller : SubjectModel) (mask : ℕ)
       → Allowed (bit_and mask (allowed_mask list caller loaded.standing))
@@ -71,10 +50,7 @@ module _ {t : ObjectRecords} {room : Room} {path : Path} {loaded : LoadedObject}
       shown ∙ ap (λ o. Allowed (bit_and mask (allowed_mask (list_of room path) caller (standing_of o)))) (sym object_is)
 
 pub common_is_mask : (a b : ℕ) → IsMask a → IsMask (bit_and a b)
-common_is_mask a b mask =
-    let turned : bit_and (bit_and b a) 0x1F07FF ≡ bit_and b a = and_assoc 0x1F07FF b a ∙ ap (bit_and b) mask in
-    let P : ℕ → Type 0 = λ n. bit_and n 0x1F07FF ≡ n in
-    rw (and_comm a b) turned
+common_is_mask a b mask = grind (arith, common_steps, and_assoc, and_comm)
 
 -- the nodes in a folder have names
 pub all_listed : (t : ObjectRecords) (rules : ObjectRules t) (id : ℕ) (nodes : List Node)

@@ -1,4 +1,5 @@
 -- Rows with one object more stand for the room with it.
+use Rattle.std.proofs.lemmas.Grind.{common_steps}
 use Rattle.std.proofs.Common.{◌≡◌, ◌≢◌, ℕ, ◌+◌, ◌<◌, ◌≤◌, refl, ap, sym, ◌∙◌, arith, ◌⊎◌, inl, inr, List, []}
 use Rattle.std.proofs.Common.{◌∷◌, ◌++◌, reverse, Option, None, Some, unwrap_or}
 use Rattle.std.specs.List.{AllByRecursion}
@@ -35,16 +36,11 @@ module _ {t : ObjectRecords} (rules : ObjectRules t) {node : Node} {above : ℕ}
   later = apply_to_objects (PutNode node) t
 
   forth : (id : ℕ) (found : Node) → t.node id ≡ Some found → later.node id ≡ Some found
-  forth id found stands =
-      if_other id node.id (Some node) (t.node id)
-      (λ same. none_is_some found (sym free.fresh ∙ ap t.node (sym same) ∙ stands)) ∙ stands
+  forth id found stands = grind (arith, common_steps)
 
   back : (id : ℕ) (found : Node) → later.node id ≡ Some found
       → ((id ≡ node.id) × (node ≡ found)) ⊎ (t.node id ≡ Some found)
-  back id found stands = elim (same_or_other id node.id) [
-    | inl same ↦ inl (same, some_is node found (sym (if_same id node.id (Some node) (t.node id) same) ∙ stands))
-    | inr other ↦ inr (sym (if_other id node.id (Some node) (t.node id) other) ∙ stands)
-  ]
+  back id found stands = grind (arith, common_steps)
 
   in_folder : (other : Node) → t.node other.id ≡ Some other → other.parent ≡ node.parent → other.name ≡ node.name → ⊥
   in_folder other stands parent named =

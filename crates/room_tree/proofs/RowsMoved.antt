@@ -1,8 +1,10 @@
 -- Rows where one node has another folder and name stand for the room with its subtree moved.
+use Rattle.std.proofs.lemmas.Grind.{common_steps}
 use Rattle.std.proofs.Common.{◌≡◌, ◌≢◌, ℕ, ◌≤◌, refl, ap, sym, ◌∙◌, arith, Bool, true, false, cond, ◌⊎◌, inl}
 use Rattle.std.proofs.Common.{inr, List, [], ◌∷◌, ◌++◌, reverse, length, drop, append_assoc, append-nil, length-append}
 use Rattle.std.proofs.Common.{Option, None, Some, IsSome, IsNone, unwrap_or}
 use Rattle.std.proofs.lemmas.List.{reverse-append, reverse-reverse, drop-append-le, drop_all, same_from_push}
+use Rattle.std.proofs.lemmas.Bool.{false_from_ne_true}
 use Rattle.room_acl.specs.declared.subject.Kind.TheVariants.{Folder}
 use Rattle.room_records.specs.declared.node.Node.{Node}
 use Rattle.room_records.specs.declared.change.Change.TheVariants.{PutNode}
@@ -17,11 +19,11 @@ use Rattle.room_records.proofs.RoomsMap.{some_is, none_is_some, Ends, ends}
 use Rattle.room_records.proofs.RulesKept.{same_or_other, if_same, if_other, some_or_none, shape_itself, names_by_shape}
 use Rattle.room_commands.specs.Checks.{is_at_or_below}
 use Rattle.room_commands.specs.Effect.{renamed, moved}
-use Rattle.room_tree.proofs.Changed.{none_and_some}
 use Rattle.room_commands.proofs.Renaming.{at_behind}
 use Rattle.room_commands.proofs.RoomsRenamed.{rest_below, below_more, not_both, at_moved, Stands, Moved}
 use Rattle.room_commands.proofs.RoomsRenamed.{Stayed, stands_after}
 use Rattle.room_tree.proofs.RowsReplaced.{path_of_node, still_shows}
+use Rattle.room_tree.proofs.Outcomes.{none_and_some}
 
 -- an object below a path, but not at it, has its folder there too
 below_parent : (q path : Path) (name : Name) → is_at_or_below (q ++ name ∷ []) path ≡ true
@@ -41,14 +43,7 @@ below_parent q path name below other =
 -- an object in a moved folder moves with it
 moved_child : (q path to : Path) (name : Name) → is_at_or_below q path ≡ true
     → moved path to (q ++ name ∷ []) ≡ moved path to q ++ name ∷ []
-moved_child q path to name below =
-    let whole = below_more path q (name ∷ []) below in
-    let long : length path ≤ length q =
-    omega (arith, ap length (rest_below path q below) ∙ length-append path (drop (length path) q)) in
-    ap (λ b. cond b (to ++ drop (length path) (q ++ name ∷ [])) (q ++ name ∷ [])) whole
-    ∙ ap (λ r. to ++ r) (drop-append-le (length path) q (name ∷ []) long)
-    ∙ sym (append_assoc to (drop (length path) q) (name ∷ []))
-    ∙ ap (λ b. cond b (to ++ drop (length path) q) q ++ name ∷ []) (sym below)
+moved_child q path to name below = grind (arith, common_steps)
 
 pub moved_off : (q path to : Path) → is_at_or_below q path ≡ false → moved path to q ≡ q
 moved_off q path to off = ap (λ b. cond b (to ++ drop (length path) q) q) off
@@ -62,13 +57,7 @@ moved_top path to =
     ∙ ap (λ r. to ++ r) (drop_all (length path) path (omega arith)) ∙ append-nil to
 
 pub moved_rest : (path to rest : Path) → moved path to (path ++ rest) ≡ to ++ rest
-moved_rest path to rest = by_rest rest
-  where
-    by_rest : (r : Path) → moved path to (path ++ r) ≡ to ++ r
-    by_rest r =
-        ap (λ b. cond b (to ++ drop (length path) (path ++ r)) (path ++ r)) (at_behind path r)
-        ∙ ap (λ x. to ++ x) (drop-append-le (length path) path r (omega arith)
-        ∙ ap (λ x. x ++ r) (drop_all (length path) path (omega arith)))
+moved_rest path to rest = grind (arith, common_steps, at_behind, drop-append-le, drop_all)
 
 -- one node with another folder and name
 pub record MovesNode (t : ObjectRecords) (room : Room) (path up : Path)
@@ -115,12 +104,7 @@ module _ {t : ObjectRecords} {room : Room} (stand : RepresentsRoom t room) {path
   away id other = if_other id now.id (Some now) (t.node id) (λ same. other (same ∙ m.id))
 
   off_by : (q : Path) (name : Name) → is_at_or_below (q ++ name ∷ []) path ≡ false → is_at_or_below q path ≡ false
-  off_by q name off = by_test (is_at_or_below q path) refl
-    where
-      by_test : (b : Bool) → is_at_or_below q path ≡ b → b ≡ false
-      by_test false e = refl
-      by_test true below =
-          absurd (not_both (is_at_or_below (q ++ name ∷ []) path) (below_more path q (name ∷ []) below) off)
+  off_by q name off = grind (arith, common_steps)
 
   turned : (name : Name) (names : List Name) → reverse (name ∷ names) ≡ reverse names ++ name ∷ []
   turned name names = reverse-append (name ∷ []) names
@@ -194,9 +178,7 @@ module _ {t : ObjectRecords} {room : Room} (stand : RepresentsRoom t room) {path
   keeps_place q id at = rw (← reverse-reverse q) (names_moved (reverse q) id at)
 
   not_first : node.id ≢ 1
-  not_first same =
-      let up_names = rw (ap reverse m.end.is ∙ reverse-append m.end.folder (m.end.name ∷ [])) at m.is_there.at in
-      root_only t stand.rules up_names.0 up_names.1 (ap t.node (sym same) ∙ up_names.2) up_names.4
+  not_first = grind (arith, common_steps)
 
   forth : (id : ℕ) (found : Node) → t.node id ≡ Some found
       → (after : Node) × (later.node id ≡ Some after) × (after.kind ≡ found.kind)
@@ -212,16 +194,10 @@ module _ {t : ObjectRecords} {room : Room} (stand : RepresentsRoom t room) {path
 
   back : (id : ℕ) (found : Node) → later.node id ≡ Some found
       → ((id ≡ node.id) × (now ≡ found)) ⊎ ((id ≢ node.id) × (t.node id ≡ Some found))
-  back id found stands = elim (same_or_other id node.id) [
-    | inl same ↦ inl (same, some_is now found (sym (put id same) ∙ stands))
-    | inr other ↦ inr (other, sym (away id other) ∙ stands)
-  ]
+  back id found stands = grind (arith, common_steps)
 
   gone_before : (id : ℕ) → later.node id ≡ None → t.node id ≡ None
-  gone_before id gone = elim (some_or_none (t.node id)) [
-    | inl none ↦ none
-    | inr found ↦ absurd (let after = forth id found.0 found.1 in none_is_some after.0 (sym gone ∙ after.1))
-  ]
+  gone_before id gone = grind (arith, common_steps)
 
   -- nothing else is in the new folder under the new name
   alone : (other : Node) → t.node other.id ≡ Some other → other.parent ≡ now.parent → other.name ≡ now.name → ⊥
@@ -287,10 +263,7 @@ module _ {t : ObjectRecords} {room : Room} (stand : RepresentsRoom t room) {path
   }
 
   old_node : (id : ℕ) (found : Node) → later.node id ≡ Some found → (before : Node) × (t.node id ≡ Some before)
-  old_node id found stands = elim (back id found stands) [
-    | inl new ↦ (node, ap t.node new.0 ∙ m.is_there.node_stands)
-    | inr old ↦ (found, old.1)
-  ]
+  old_node id found stands = grind (arith, common_steps)
 
   -- with other entries, where each is the list of its object in the room after
   module _ {rows : ObjectRecords} (w : MovesLists t rows now room path to) where
@@ -374,7 +347,4 @@ module _ {t : ObjectRecords} {room : Room} (stand : RepresentsRoom t room) {path
         by_stand q p (Stayed _ _ off off_to stands) = rw (← moved_off q path to off) (there q p stands)
 
     pub none_new_moved : (id : ℕ) → IsNone (t.node id) → IsSome (rows.node id) → ⊥
-    none_new_moved id none some = elim (some_or_none (later.node id)) [
-      | inl gone ↦ (none_and_some {X = Node} None refl (rw (row_after id ∙ gone) at some))
-      | inr found ↦ (none_and_some (t.node id) none (rw ((old_node id found.0 found.1).1) refl))
-    ]
+    none_new_moved id none some = grind (arith, common_steps)

@@ -1,5 +1,6 @@
 -- Rows without one node stand for the room without its object.
-use Rattle.std.proofs.Common.{◌≡◌, ◌≢◌, ℕ, refl, ap, sym, ◌∙◌, inl, inr, List, [], ◌∷◌, ◌++◌, reverse, length}
+use Rattle.std.proofs.lemmas.Grind.{common_steps}
+use Rattle.std.proofs.Common.{arith, ◌≡◌, ◌≢◌, ℕ, refl, ap, sym, ◌∙◌, inl, inr, List, [], ◌∷◌, ◌++◌, reverse, length}
 use Rattle.std.proofs.Common.{Option, None, Some, IsSome, IsNone, false, unwrap_or, append-nil, append_assoc}
 use Rattle.std.proofs.lemmas.List.{reverse-append}
 use Rattle.room_records.specs.declared.node.Node.{Node}
@@ -26,11 +27,10 @@ use Rattle.room_tree.specs.LoadedObjects.{IsLoaded, node_of}
 use Rattle.room_tree.specs.Plans.{PlansEffect}
 use Rattle.room_commands.specs.ReplyModel.{Done, reply_model}
 use Rattle.room_acl.specs.SubjectModel.{SubjectModel}
-use Rattle.room_tree.proofs.Changed.{none_and_some}
 use Rattle.room_tree.proofs.FewRows.{few_dropped}
 use Rattle.room_commands.proofs.EffectIsRoom.{changed_is_room}
 use Rattle.room_tree.proofs.Made.{ends_of}
-use Rattle.room_tree.proofs.Outcomes.{success_plans}
+use Rattle.room_tree.proofs.Outcomes.{success_plans, none_and_some}
 use Rattle.room_commands.proofs.RoomsWithout.{at_removed, elsewhere_left, left_was_there}
 use Rattle.room_tree.proofs.RowsReplaced.{path_of_node, still_shows}
 
@@ -50,18 +50,13 @@ module _ {t : ObjectRecords} {room : Room} (stand : RepresentsRoom t room) {path
       none_is_some there.0 (sym (empty (name_of found)) ∙ there.1)
 
   not_first : id ≢ 1
-  not_first same =
-      let up = rw (ap reverse end.is ∙ reverse-append end.folder (end.name ∷ [])) at is.at in
-      root_only t stand.rules up.0 up.1 (ap t.node (sym same) ∙ up.2) up.4
+  not_first = grind (arith, common_steps)
 
   forth : (k : ℕ) (found : Node) → t.node k ≡ Some found → k ≢ id → later.node k ≡ Some found
   forth k found stands other = if_other k id None (t.node k) other ∙ stands
 
   back : (k : ℕ) (found : Node) → later.node k ≡ Some found → (k ≢ id) × (t.node k ≡ Some found)
-  back k found stands = elim (same_or_other k id) [
-    | inl same ↦ absurd (none_is_some found (sym (if_same k id None (t.node k) same) ∙ stands))
-    | inr other ↦ (other, sym (if_other k id None (t.node k) other) ∙ stands)
-  ]
+  back k found stands = grind (arith, common_steps, same_or_other, none_is_some, if_same, if_other)
 
   rules_dropped : ObjectRules (apply_to_objects (DropNode id) t)
   rules_dropped = record {
@@ -166,10 +161,7 @@ module _ {t : ObjectRecords} {room : Room} (stand : RepresentsRoom t room) {path
       (rw (ap (object_at (without room path)) here ∙ at_removed room path) at there))
 
   pub none_made : (k : ℕ) → IsNone (t.node k) → IsSome (later.node k) → ⊥
-  none_made k none some = elim (some_or_none (later.node k)) [
-    | inl gone ↦ (none_and_some {X = Node} None refl (rw gone at some))
-    | inr found ↦ (none_and_some (t.node k) none (rw ((back k found.0 found.1).1) refl))
-  ]
+  none_made k none some = grind (arith, common_steps, some_or_none, none_and_some, back)
 
 -- REMOVE
 pub remove_plans : {t : ObjectRecords} {room : Room} (caller : SubjectModel) {path : Path} {loaded : LoadedObject}

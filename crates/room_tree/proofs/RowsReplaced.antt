@@ -1,5 +1,6 @@
 -- Rows where one object changed stand for the room with that object changed.
-use Rattle.std.proofs.Common.{◌≡◌, ◌≢◌, ℕ, ◌+◌, refl, ap, sym, ◌∙◌, Bool, true, false, ◌⊎◌, inl, inr, List, []}
+use Rattle.std.proofs.lemmas.Grind.{common_steps}
+use Rattle.std.proofs.Common.{arith, ◌≡◌, ◌≢◌, ℕ, ◌+◌, refl, ap, sym, ◌∙◌, Bool, true, false, ◌⊎◌, inl, inr, List, []}
 use Rattle.std.proofs.Common.{reverse, Option, Some, option_map, unwrap_or}
 use Rattle.std.proofs.lemmas.List.{reverse-reverse}
 use Rattle.room_records.specs.declared.node.Node.{Node}
@@ -30,14 +31,7 @@ path_same_or_other a b = by_test (path_eq a b) refl
 pub still_shows : {t later : ObjectRecords} {room after : Room} {path to : Path} {node : Node} {o : Object}
     → RowsShowObject t node room path o → later.entries node.id ≡ list_of after to
     → later.document node.id ≡ t.document node.id → RowsShowObject later node after to o
-still_shows shows entries document = record {
-  kind = shows.kind;
-  owner = shows.owner;
-  group = shows.group;
-  aclflag = shows.aclflag;
-  entries = entries;
-  bytes = ap (λ (d : Option (List ℕ)). unwrap_or d []) document ∙ shows.bytes;
-}
+still_shows shows entries document = grind (arith, common_steps)
 
 -- one node of the rows changed, and stays where it is
 pub record Replaces (t later : ObjectRecords) (room after : Room)
@@ -58,15 +52,16 @@ pub record Replaces (t later : ObjectRecords) (room after : Room)
 
 module _ {t later : ObjectRecords} {room after : Room} {path : Path} {o now_is : Object} {node now : Node}
     (stand : RepresentsRoom t room) (r : Replaces t later room after path o now_is node now) where
-  stays_at : (q : Path) (id : ℕ) → HasPath t q id → HasPath later q id
-  stays_at q id at = names_by_shape t later r.shape (reverse q) id at
+  -- all keep their numbers, and none is new
+  pub replaced_keeps : (q : Path) (id : ℕ) → HasPath t q id → HasPath later q id
+  replaced_keeps q id at = names_by_shape t later r.shape (reverse q) id at
 
   here_is : (id : ℕ) → id ≡ node.id → (found : Node) → later.node id ≡ Some found
       → NodeIsObject later after id found path now_is
   here_is id same found stands =
       let is : now ≡ found = some_is now found (sym r.stands ∙ ap later.node (sym same) ∙ stands) in
       record {
-        at = rw same (stays_at path node.id r.is_there.at);
+        at = rw same (replaced_keeps path node.id r.is_there.at);
         node_stands = stands;
         object_stands = r.at_path;
         shows = rw (← is) r.shows;
@@ -80,7 +75,7 @@ module _ {t later : ObjectRecords} {room after : Room} {path : Path} {o now_is :
       let moved : q ≡ path → ⊥ =
       (λ same. other (reads_one t stand.rules (reverse path) id node.id (rw (← same) is.at) r.is_there.at)) in
       record {
-        at = stays_at q id is.at;
+        at = replaced_keeps q id is.at;
         node_stands = r.nodes_away id other ∙ is.node_stands;
         object_stands = r.away q moved ∙ is.object_stands;
         shows = still_shows is.shows (ap later.entries number ∙ r.lists_away q id is.at other)
@@ -110,10 +105,6 @@ module _ {t later : ObjectRecords} {room after : Room} {path : Path} {o now_is :
     ];
     next = r.next ∙ stand.next ∙ ap (λ (made : ℕ). made + 1) (sym r.made);
   }
-
-  -- all keep their numbers, and none is new
-  pub replaced_keeps : (q : Path) (id : ℕ) → HasPath t q id → HasPath later q id
-  replaced_keeps q id at = stays_at q id at
 
 -- the room with the object at one path changed
 pub changed_at : (room : Room) (path : Path) (change : Object → Object) (o : Object)

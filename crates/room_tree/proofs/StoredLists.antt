@@ -1,5 +1,6 @@
 -- The rows of entries of a node hold its list; and what a list does not depend on.
-use Rattle.std.proofs.Common.{◌≡◌, ℕ, refl, ap, sym, ◌∙◌, inl, inr, ◌⊎◌, List, [], ◌∷◌, reverse}
+use Rattle.std.proofs.lemmas.Grind.{common_steps}
+use Rattle.std.proofs.Common.{arith, ◌≡◌, ℕ, refl, ap, sym, ◌∙◌, inl, inr, ◌⊎◌, List, [], ◌∷◌, reverse}
 use Rattle.std.proofs.Common.{Option, None, Some, IsSome, option_map}
 use Rattle.std.proofs.lemmas.List.{reverse-append}
 use Rattle.room_acl.specs.declared.subject.Kind.{Kind}
@@ -12,12 +13,9 @@ use Rattle.room_records.specs.Room.{Object, Room, object_at, list_of, list_upwar
 use Rattle.room_records.specs.Representation.{HasPath, RepresentsRoom}
 use Rattle.room_records.proofs.Paths.{object_at_node}
 use Rattle.room_records.proofs.RoomsMap.{Ends, ends}
+use Rattle.room_tree.proofs.OwnPart.{root_or_below}
 
-root_or_below : (path : Path) → (path ≡ []) ⊎ Ends path
-root_or_below [] = inl refl
-root_or_below (first ∷ rest) = inr (ends first rest)
-
-is_present : {X : Type 0} (o : Option X) → IsSome o → (x : X) × (o ≡ Some x)
+pub is_present : {X : Type 0} (o : Option X) → IsSome o → (x : X) × (o ≡ Some x)
 is_present None h = let f = h in cc
 is_present (Some x) h = (x, refl)
 
@@ -80,8 +78,4 @@ lists_alike room other same path = upwards (reverse path)
 
 pub same_parts : (a b : Object) → a.own ≡ b.own → a.aclflag ≡ b.aclflag
     → a.kind ≡ b.kind → list_part (Some a) ≡ list_part (Some b)
-same_parts a b own aclflag kind =
-    let Part : Type 0 = List EntryModel × ℕ × Kind in
-    let part : List EntryModel → ℕ → Kind → Option Part = λ entries flag k. Some (entries, flag, k) in
-    ap (λ entries. part entries a.aclflag a.kind) own ∙ ap (λ flag. part b.own flag a.kind) aclflag
-    ∙ ap (λ k. part b.own b.aclflag k) kind
+same_parts a b own aclflag kind = grind (arith, common_steps)

@@ -1,4 +1,5 @@
 -- The walk of a path, one folder after another.
+use Rattle.std.proofs.lemmas.Grind.{common_steps}
 use Rattle.std.proofs.Common.{◌≡◌, ℕ, ◌+◌, ◌<◌, ◌≤◌, refl, ap, sym, ◌∙◌, subst, List, [], ◌∷◌, ◌++◌, map, take, drop}
 use Rattle.std.proofs.Common.{length, get_or, append_assoc, arith, Option, None, Some}
 use Rattle.std.specs.Prelude.{not, is_some}
@@ -13,6 +14,7 @@ use Rattle.room_tree.specs.declared.refusal.Stop.TheVariants.{Refused, Shelf}
 use Rattle.room_tree.specs.Stops.{Stopped}
 use Rattle.room_commands.specs.Checks.{refuse_if, refusal_without_place, first_refusal, check_folder, check_right}
 use Rattle.room_commands.specs.Checks.{prefix_refusal, proper_prefixes, walk}
+use Rattle.room_tree.proofs.Checking.{skip, stop}
 
 -- the first fault from this front on
 abbrev pub walk_from : Room → SubjectModel → Path → Path → Option Refusal
@@ -31,33 +33,18 @@ module _ (room : Room) (caller : SubjectModel) where
       let rest = shifted front name fronts in
       (λ i. head i ∷ rest i)
 
-  after_none : (o : Option Refusal) (others : List (Option Refusal))
-      → o ≡ None → first_refusal (o ∷ others) ≡ first_refusal others
-  after_none o others none = ap (λ first. first_refusal (first ∷ others)) none
-
-  after_some : (o : Option Refusal) (others : List (Option Refusal)) (r : Refusal)
-      → o ≡ Some r → first_refusal (o ∷ others) ≡ Some r
-  after_some o others r some = ap (λ first. first_refusal (first ∷ others)) some
-
   one_on : (front : Path) (name : Name) (rest : Path) → prefix_refusal room caller front ≡ None
       → walk_from room caller front (name ∷ rest) ≡ walk_from room caller (front ++ name ∷ []) rest
   one_on front name rest none =
       let others = map (λ (more : Path). prefix_refusal room caller (front ++ more))
       (map (λ (more : Path). name ∷ more) (proper_prefixes rest)) in
-      after_none (prefix_refusal room caller (front ++ [])) others
+      skip (prefix_refusal room caller (front ++ [])) others
       (ap (prefix_refusal room caller) (append-nil front) ∙ none)
       ∙ ap first_refusal (shifted front name (proper_prefixes rest))
 
   one_off : (front : Path) (name : Name) (rest : Path) (r : Refusal) → prefix_refusal room caller front ≡ Some r
       → walk_from room caller front (name ∷ rest) ≡ Some r
-  one_off front name rest r some =
-      after_some (prefix_refusal room caller (front ++ []))
-      (map (λ (more : Path). prefix_refusal room caller (front ++ more))
-      (map (λ (more : Path). name ∷ more) (proper_prefixes rest))) r
-      (ap (prefix_refusal room caller) (append-nil front) ∙ some)
-
-  pub walked_to_root : (path : Path) → walk room caller path ≡ walk_from room caller (take 0 path) (drop 0 path)
-  walked_to_root path = refl
+  one_off front name rest r some = grind (arith, common_steps)
 
   module _ (path : Path) (i : ℕ) (name : Name) (below : i < length path) (is : name ≡ get_or path i name) where
     here_on : drop i path ≡ name ∷ drop (i + 1) path
@@ -93,16 +80,7 @@ module _ (room : Room) (caller : SubjectModel) where
         → prefix_refusal room caller (take i path) ≡ None
         → object_at room (take i path ++ name ∷ []) ≡ None → i + 1 < length path
         → walk room caller path ≡ Some (refusal_without_place NoEnt)
-    walk_is_cut so none nothing more =
-        let front = take (i + 1) path in
-        let rest : drop (i + 1) path ≡ get_or path (i + 1) name ∷ drop (i + 1 + 1) path =
-        drop_more path (i + 1) name more in
-        let missing : prefix_refusal room caller front ≡ Some (refusal_without_place NoEnt) =
-        ap (λ (o : Option Object). first_refusal (refuse_if (not (is_some o)) NoEnt
-        ∷ check_folder room front ∷ check_right room caller front 0x20 ∷ []))
-        (ap (object_at room) next_front ∙ nothing) in
-        walk_goes_on so none ∙ ap (walk_from room caller front) rest
-        ∙ one_off front (get_or path (i + 1) name) (drop (i + 1 + 1) path) (refusal_without_place NoEnt) missing
+    walk_is_cut so none nothing more = grind (arith, common_steps, drop_more, next_front, walk_goes_on, one_off)
 
     pub last_is_absent : object_at room (take i path ++ name ∷ []) ≡ None
         → length path ≤ i + 1 → object_at room path ≡ None

@@ -26,13 +26,12 @@ returns-in_err-loaded-clause-effect g c = λ available laid_out t e room stand.
 pub returns-in_err-all-clause-effect : goal.returns-in_err-all-clause-effect
 returns-in_err-all-clause-effect g c = λ available laid_out t e room stand.
     let path = c.args.path.now in
-    let caller = c.args.subject.now in
     let bytes = c.args.bytes.now in
     let told = both_tell _ _ c.reach_to_use.ensures.frame c.bytes_of.ensures.frame
     c.in_ok-loaded.ensures.value c.in_ok-old.ensures.value available laid_out t e room stand in
     let old = told.1 path told.0.1 in
     handed_on _ _ _ c.from_residual-in_err-all.result c.from_residual-in_err-all.ensures.1
-    (past_front (file_checks room caller path 0x4)
+    (past_front (file_checks room c.args.subject.now path 0x4)
     (check_size (length (bytes_at room path) + length bytes) ∷ []) _ told.0.0
     (at_head (check_size (length (bytes_at room path) + length bytes)) [] _
     (stopped_by _ (check_size (length (bytes_at room path) + length bytes)) _

@@ -19,7 +19,6 @@ pub returns-clause-effect : goal.returns-clause-effect
 returns-clause-effect g c = λ available laid_out t e room stand.
     let path = c.args.path.now in
     let caller = c.args.subject.now in
-    let loaded = c.in_ok-loaded.loaded in
     let owner = c.args.owner.now in
     let group = c.args.group.now in
     let reached = c.in_ok-loaded.ensures.value available laid_out t e room stand in

@@ -14,19 +14,16 @@ use Rattle.room_tree.proofs.changing.plan_write.Goals as goal
 
 pub returns-in_err-loaded-clause-effect : goal.returns-in_err-loaded-clause-effect
 returns-in_err-loaded-clause-effect g c = λ available laid_out t e room stand.
-    let path = c.args.path.now in
-    let caller = c.args.subject.now in
     handed_on _ _ _ c.from_residual.result c.from_residual.ensures.1
-    (in_front (file_checks room caller path 0x2) (check_size (length c.args.bytes.now) ∷ []) _
+    (in_front (file_checks room c.args.subject.now c.args.path.now 0x2) (check_size (length c.args.bytes.now) ∷ []) _
     (c.in_err-loaded.ensures.value available laid_out t e room stand))
 
 pub returns-in_err-check_size-clause-effect : goal.returns-in_err-check_size-clause-effect
 returns-in_err-check_size-clause-effect g c = λ available laid_out t e room stand.
-    let path = c.args.path.now in
     let caller = c.args.subject.now in
     let reached = c.in_ok-loaded.ensures.value available laid_out t e room stand in
     handed_on _ _ _ c.from_residual-in_err-check_size.result c.from_residual-in_err-check_size.ensures.1
-    (none_passes (file_checks room caller path 0x2) (check_size (length c.args.bytes.now) ∷ []) reached.0
+    (none_passes (file_checks room caller c.args.path.now 0x2) (check_size (length c.args.bytes.now) ∷ []) reached.0
     ∙ first_alone (check_size (length c.args.bytes.now)) ∙ sym c.in_err-check_size.ensures)
 
 pub returns-clause-effect : goal.returns-clause-effect

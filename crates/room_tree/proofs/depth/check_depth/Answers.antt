@@ -9,11 +9,10 @@ use Rattle.room_tree.proofs.depth.check_depth.Goals as goal
 
 pub returns-then-deep-clause-value : goal.returns-then-deep-clause-value
 returns-then-deep-clause-value g c = λ available laid_out t e room stand path found.
-    let loaded = c.args.loaded.now in
     let levels : 17 - length c.names.result.now ≡ 17 - length c.args.to.now =
     ap (λ (p : Path). 17 - length p) c.names.ensures.value in
     let told = c.in_ok-deep.ensures.value available laid_out t e room stand path
-    (node_of loaded) found.is_there.at found.is_there.node_stands refl in
+    (node_of c.args.loaded.now) found.is_there.at found.is_there.node_stands refl in
     refused_as c.of.result _ c.of.ensures
     (depth_check room stand.lawful path c.args.to.now c.in_ok-deep.deep
     c.names.ensures.lawful.short (rw (← levels) told)
@@ -21,11 +20,10 @@ returns-then-deep-clause-value g c = λ available laid_out t e room stand path f
 
 pub returns-else-deep-clause-value : goal.returns-else-deep-clause-value
 returns-else-deep-clause-value g c = λ available laid_out t e room stand path found.
-    let loaded = c.args.loaded.now in
     let levels : 17 - length c.names.result.now ≡ 17 - length c.args.to.now =
     ap (λ (p : Path). 17 - length p) c.names.ensures.value in
     let told = c.in_ok-deep.ensures.value available laid_out t e room stand path
-    (node_of loaded) found.is_there.at found.is_there.node_stands refl in (
+    (node_of c.args.loaded.now) found.is_there.at found.is_there.node_stands refl in (
       depth_check room stand.lawful path c.args.to.now c.in_ok-deep.deep
           c.names.ensures.lawful.short (rw (← levels) told)
           ∙ ap (λ b. refuse_if b TooDeep) c.if-deep.false,

@@ -14,12 +14,11 @@ returns-then-ne c =
     let top = c.args.top.now in
     let i = c.loop-index.index in
     let n = c.index-names-index.result in
-    let m = c.index-top-index.result in
     sym (false_from_ne_true (is_at_or_below names top) (λ below.
     other_names c.text.result.now c.text-in-loop-index.result.now c.ne.result c.ne.ensures c.if-ne.true
     (c.text.ensures.value ∙ c.index-names-index.is ∙ ap (λ (p : Path). get_or p i n) (rest_below top names below)
     ∙ get_or_append_left top (drop (length top) names) n i c.loop-index-test.true
-    ∙ get_or_default top i n m c.loop-index-test.true
+    ∙ get_or_default top i n c.index-top-index.result c.loop-index-test.true
     ∙ sym c.index-top-index.is ∙ sym c.text-in-loop-index.ensures.value)))
 
 pub loop-index-preserved : goal.loop-index-preserved

@@ -7,11 +7,10 @@ use Rattle.room_tree.proofs.moving.ends_of_move.Goals as goal
 
 pub returns-in_err-found-clause-value : goal.returns-in_err-found-clause-value
 returns-in_err-found-clause-value g c = λ available laid_out t e room stand off.
-    let path = c.args.path.now in
     let caller = c.args.subject.now in
     let to = c.args.to.now in
     handed_on _ _ _ c.from_residual.result c.from_residual.ensures.1
-    (in_front (found_checks room caller path) (walk room caller to ∷ check_absent room to ∷ []) _
+    (in_front (found_checks room caller c.args.path.now) (walk room caller to ∷ check_absent room to ∷ []) _
     (c.in_err-found.ensures.value available laid_out t e room stand off))
 
 pub returns-in_err-into-clause-value : goal.returns-in_err-into-clause-value

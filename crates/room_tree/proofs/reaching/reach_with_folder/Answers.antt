@@ -19,15 +19,13 @@ returns-in-Absent-clause-value g c = λ available laid_out t e room stand off.
 
 pub returns-in-Some-clause-value : goal.returns-in-Some-clause-value
 returns-in-Some-clause-value g c = λ available laid_out t e room stand off.
-    let path = c.args.path.now in
     let ended = rw c.in-Found.is at (c.in_ok-walk_path.ensures.value available laid_out t e room stand) in
     let above = rw c.in-Some.is at ended.1.1 in (
-      passes_to ended.1.0 (walk room c.args.subject.now path) ended.0,
+      passes_to ended.1.0 (walk room c.args.subject.now c.args.path.now) ended.0,
       (ended.1.0, above.1),
     )
 
 pub returns-in-None-clause-value : goal.returns-in-None-clause-value
 returns-in-None-clause-value g c = λ available laid_out t e room stand off.
-    let path = c.args.path.now in
     let ended = rw c.in-Found.is at (c.in_ok-walk_path.ensures.value available laid_out t e room stand) in
-    absurd (root_is_short path (rw c.in-None.is at ended.1.1) off)
+    absurd (root_is_short c.args.path.now (rw c.in-None.is at ended.1.1) off)

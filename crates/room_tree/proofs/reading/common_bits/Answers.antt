@@ -1,12 +1,9 @@
-use Rattle.std.proofs.Common.{◌≡◌, IsSome, Option, None}
 use Rattle.room_acl.specs.Bits.{IsMask}
 use Rattle.room_tree.proofs.Replies.{common_is_mask}
+use Rattle.room_records.proofs.Options.{none_is_not_some}
 use Rattle.room_tree.proofs.reading.common_bits.Goals as goal
-
-not_some : {X : Type 0} (o : Option X) → o ≡ None → IsSome o → ⊥
-not_some o none some = let f = rw none at some in cc
 
 pub unreachable-requires : goal.unreachable-requires
 unreachable-requires c =
     let a : IsMask c.bits.result = rw c.bits.ensures.value c.bits.ensures.named in
-    not_some c.new.result c.in-None.is (c.new.ensures.named.1 (common_is_mask c.bits.result c.bits-2.result a))
+    none_is_not_some c.new.result c.in-None.is (c.new.ensures.named.1 (common_is_mask c.bits.result c.bits-2.result a))

@@ -19,9 +19,8 @@ returns-clause-effect g c = λ available laid_out t e room stand.
     let told = both_tell _ _ c.reach.ensures.frame c.whole_list.ensures.frame
     c.in_ok-loaded.ensures.value c.in_ok-list.ensures.value available laid_out t e room stand in
     let list = told.1 c.args.path.now told.0.1 in
-    let loaded = c.in_ok-loaded.loaded in
     let allowed = c.common_bits.ensures ∙ ap (bit_and c.args.mask) (c.allowed_bits-allowed.ensures.value
-    ∙ ap (λ list. allowed_mask list c.args.subject.now loaded.standing) c.as_slice.ensures.value) in
+    ∙ ap (λ list. allowed_mask list c.args.subject.now c.in_ok-loaded.loaded.standing) c.as_slice.ensures.value) in
     reading_plans c.args.subject.now (C.Access c.args.mask c.args.path.now)
     c.reading.result stand (λ path. refl) refl told.0.0
     (c.reading.ensures.reply ∙ ap Allowed allowed

@@ -16,8 +16,7 @@ returns-then-eq-clause-value g c = λ available laid_out t e room stand path at 
 
 pub returns-clause-value : goal.returns-clause-value
 returns-clause-value g c = λ available laid_out t e room stand path at stands.
-    let node = c.args.node.now in
     let told = both_tell _ _ c.list_above.ensures.frame c.renewed_list.ensures.frame
     c.in_ok-above.ensures.value c.renewed_list.ensures.value available laid_out t e room stand in
-    (rw (under_alike stand path node at stands c.as_slice.result.now (t.entries c.args.into)
+    (rw (under_alike stand path c.args.node.now at stands c.as_slice.result.now (t.entries c.args.into)
     (λ on. c.as_slice.ensures.value ∙ told.0 on)) at (told.1 path at stands))

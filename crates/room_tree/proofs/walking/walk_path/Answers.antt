@@ -38,7 +38,6 @@ pub returns-then-index-names-clause-value : goal.returns-then-index-names-clause
 returns-then-index-names-clause-value g c = λ available laid_out t e room stand.
     let path = c.args.path.now in
     let i = c.loop-index.index in
-    let name = c.index-names-index.result in
     let told = both_tell _ _ c.loop-index.invariant.frame
     (read_then _ _ _ _ c.load_child.ensures.frame c.in_ok-check_way.ensures.frame) c.loop-index.invariant.walked
     (both_tell _ _ c.in_ok-check_way.ensures.frame c.load_child.ensures.frame c.in_ok-check_way.ensures.value
@@ -46,7 +45,7 @@ returns-then-index-names-clause-value g c = λ available laid_out t e room stand
     let so = told.0 in
     let below = rw c.names-names.ensures.value at c.loop-index-test.true in
     refused_as c.of-then-index-names.result _ c.of-then-index-names.ensures
-    (walk_is_cut room c.args.subject.now path i name below
+    (walk_is_cut room c.args.subject.now path i c.index-names-index.result below
     (rw (← c.names-names.ensures.value) c.index-names-index.is) so.0
     (told.1.0 (take i path) refl so.1).0
     (rw c.in_default-2.is at (told.1.1 (take i path) so.1))

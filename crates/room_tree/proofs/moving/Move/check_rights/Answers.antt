@@ -13,10 +13,9 @@ use Rattle.room_tree.proofs.moving.Move.check_rights.Goals as goal
 pub returns-in_err-check_removal-clause-value : goal.returns-in_err-check_removal-clause-value
 returns-in_err-check_removal-clause-value g c = λ available laid_out t e room stand move.
     let path = c.args.path.now in
-    let to = c.args.to.now in
     handed_on _ _ _ c.from_residual.result c.from_residual.ensures.1
     (at_head (check_removal room c.args.subject.now path)
-    (check_right room c.args.subject.now (parent_of to) (right_to_add room path) ∷ []) _
+    (check_right room c.args.subject.now (parent_of c.args.to.now) (right_to_add room path) ∷ []) _
     (c.in_err-check_removal.ensures.value available laid_out t e room stand move.loaded move.from))
 
 pub returns-clause-value : goal.returns-clause-value
