@@ -22,7 +22,6 @@ use Rattle.json.proofs.Printed.Strings.{escape_byte_plain}
 use Rattle.base64.specs.Engines.{standard}
 use Rattle.base64.specs.GeneralPurpose.{encode_of}
 use Rattle.base64.specs.Rfc4648.{encode_group, encode_symbols, padding_len}
-use Rattle.base64.specs.Tables.{all_below}
 use Rattle.base64.proofs.Tables.{all_below_at}
 use Rattle.base64.proofs.EngineFacts.{encode_of-append}
 use Rattle.room_wire.specs.declared.forms.letters.TheConstants.{PAIRS}
