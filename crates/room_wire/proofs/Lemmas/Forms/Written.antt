@@ -79,7 +79,7 @@ pub set_list_tokens : (flags : ℕ) (es : List EntryModel) (p : Path)
     ++ end_object ∷ []
     ≡ json_tokens (outline (command_data (C.SetList flags es p)))
 set_list_tokens flags es p =
-    ap (λ ts. begin_object ∷ key (codes "aclflag") ∷ number (decimal flags) ∷ key (codes "cmd") ∷ string (codes "SETLIST")
-    ∷ key (codes "entries") ∷ begin_array ∷ ts)
+    ap (λ ts. begin_object ∷ key (codes "aclflag") ∷ number (decimal flags) ∷ key (codes "cmd") ∷ string
+    (codes "SETLIST") ∷ key (codes "entries") ∷ begin_array ∷ ts)
     (append_assoc (items_tokens (items_outline (entries es))) (key (codes "path") ∷ string (path_text p) ∷ [])
     (end_object ∷ []))

@@ -9,7 +9,8 @@ returns c =
     let front : List Token = key (codes "names") ∷ begin_array ∷ [] in
     record {
       written = IfOk-weaker c.end_array.result _ _
-          (λ _ more. items_ended name_tokens c.args.names.now c.loop-name.name-index c.args.out.now.tokens front c.loop-name.out.tokens
+          (λ _ more. items_ended name_tokens c.args.names.now c.loop-name.name-index c.args.out.now.tokens
+          front c.loop-name.out.tokens
           c.end_array.new.self.tokens (omega (arith, c.loop-name-test.false)) c.loop-name.invariant.tokens more
           ∙ ap (λ ts. c.args.out.now.tokens ++ (front ++ ts)) (names_tokens c.args.names.now))
           c.end_array.ensures.ok;

@@ -9,7 +9,8 @@ returns-clause-written c =
     let front : List Token = key (codes "entries") ∷ begin_array ∷ [] in
     record {
       written = IfOk-weaker c.end_array.result _ _
-          (λ _ more. items_ended entry_tokens c.args.entries.now c.loop-entry.entry-index c.args.out.now.tokens front c.loop-entry.out.tokens
+          (λ _ more. items_ended entry_tokens c.args.entries.now c.loop-entry.entry-index c.args.out.now.tokens
+          front c.loop-entry.out.tokens
           c.end_array.new.self.tokens (omega (arith, c.loop-entry-test.false)) c.loop-entry.invariant.tokens more
           ∙ ap (λ ts. c.args.out.now.tokens ++ (front ++ ts)) (entries_tokens c.args.entries.now))
           c.end_array.ensures.ok;
