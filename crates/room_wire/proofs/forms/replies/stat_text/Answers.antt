@@ -12,7 +12,8 @@ returns c =
     let is1 : c.text.result.now ≡ c.args.group.now = c.text.ensures.value in
     let is2 : c.text-2.result.now ≡ c.args.owner.now = c.text-2.ensures.value in
     let is3 : c.from-2.result ≡ c.args.size = search rules in
-    let of_kind : Data → Data = λ k. obj ((codes "aclflag", num c.args.aclflag) ∷ ok ∷ (codes "group", string c.args.group.now)
+    let of_kind : Data → Data = λ k. obj ((codes "aclflag", num c.args.aclflag) ∷ ok
+    ∷ (codes "group", string c.args.group.now)
     ∷ (codes "kind", k) ∷ (codes "owner", string c.args.owner.now)
     ∷ (codes "size", num c.args.size) ∷ []) in
     IfOk-weaker c.ended.result _ _
