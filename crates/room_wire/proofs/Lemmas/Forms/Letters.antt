@@ -1,6 +1,7 @@
 -- Letters of base64: none is escaped, and those of a long message are those of its pieces.
 use Rattle.std.proofs.Common.{◌≡◌, ◌+◌, ◌-◌, ◌*◌, ◌/◌, ◌%◌, ◌<◌, ◌≤◌, ◌==◌, ℕ, zero, suc, true, List, [], ◌∷◌, ◌++◌}
-use Rattle.std.proofs.Common.{length, take, drop, map, replicate, get_or, slice_index, refl, sym, ap, ◌∙◌, arith, inl, inr}
+use Rattle.std.proofs.Common.{length, take, drop, map, replicate, get_or, slice_index}
+use Rattle.std.proofs.Common.{refl, sym, ap, ◌∙◌, arith, inl, inr}
 use Rattle.std.proofs.Common.{append_assoc, codes, cond, Ok, Err, Fits, w8}
 use Rattle.std.specs.Prelude.{Result, OnOk, is_ok}
 use Rattle.std.specs.Prelude.{flat_map}
@@ -22,7 +23,6 @@ use Rattle.json.proofs.Printed.Strings.{escape_byte_plain}
 use Rattle.base64.specs.Engines.{standard}
 use Rattle.base64.specs.GeneralPurpose.{encode_of}
 use Rattle.base64.specs.Rfc4648.{encode_group, encode_symbols, padding_len}
-use Rattle.base64.specs.Tables.{all_below}
 use Rattle.base64.proofs.Tables.{all_below_at}
 use Rattle.base64.proofs.EngineFacts.{encode_of-append}
 use Rattle.room_wire.specs.declared.forms.letters.TheConstants.{PAIRS}

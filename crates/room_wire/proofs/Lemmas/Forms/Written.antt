@@ -1,10 +1,10 @@
 -- Objects that were written token by token, and the lists in them.
 use Rattle.std.proofs.Common.{◌≡◌, ◌+◌, ◌<◌, ◌≤◌, ℕ, List, [], ◌∷◌, ◌++◌, length, take, get_or, refl, sym, ap, ◌∙◌}
-use Rattle.std.proofs.Common.{append_assoc, append-nil}
-use Rattle.std.specs.Prelude.{flat_map}
+use Rattle.std.proofs.Common.{append_assoc, append-nil, codes, decimal}
+use Rattle.std.specs.Prelude.{flat_map, Result, Ok, Err, IfOk}
 use Rattle.std.proofs.lemmas.Grind.{flat_map-append}
 use Rattle.std.proofs.lemmas.List.{take_more, take_all}
-use Rattle.json.specs.Token.{Token, end_array}
+use Rattle.json.specs.Token.{Token, begin_object, end_object, begin_array, end_array, key, string, number}
 use Rattle.json.specs.Print.{print}
 use Rattle.json.specs.Tree.{json_tokens, items_tokens}
 use Rattle.serde_json.specs.Data.{Data}
@@ -12,8 +12,9 @@ use Rattle.serde_json.specs.Written.{outline, items_outline, compact_text}
 use Rattle.serde_json.proofs.Texts.{print-outline}
 use Rattle.room_acl.specs.declared.subject.Kind.{Kind}
 use Rattle.room_acl.specs.Entries.{EntryModel}
-use Rattle.room_records.specs.Names.{Name}
-use Rattle.room_wire.specs.Forms.Texts.{entry, entries, named_child, named}
+use Rattle.room_records.specs.Names.{Name, Path, path_text}
+use Rattle.room_commands.specs.CommandModel as C
+use Rattle.room_wire.specs.Forms.Texts.{entry, entries, named_child, named, command_data}
 
 -- tokens that were written into an empty buffer
 pub text_of_tokens : (d : Data) (before : List ℕ) (ts : List Token) → before ≡ [] → ts ≡ json_tokens (outline d)
@@ -62,3 +63,23 @@ items_ended f xs i old front now new all is more =
     more ∙ ap (λ ts. ts ++ end_array ∷ []) is ∙ append_assoc old (front ++ flat_map f (take i xs)) (end_array ∷ [])
     ∙ ap (λ ts. old ++ ts) (append_assoc front (flat_map f (take i xs)) (end_array ∷ [])
     ∙ ap (λ ys. front ++ (flat_map f ys ++ end_array ∷ [])) (take_all i xs all))
+
+-- what follows from two facts of an Ok
+pub both_ok : {T E : Type 0} (r : Result T E) (P Q R : T → Type 0) → ((t : T) → P t → Q t → R t)
+    → IfOk r P → IfOk r Q → IfOk r R
+both_ok (Ok t) P Q R f p q = f t p q
+both_ok (Err e) P Q R f p q = tt
+
+-- entries with a member behind them
+pub set_list_tokens : (flags : ℕ) (es : List EntryModel) (p : Path)
+    → (((((begin_object ∷ []) ++ (key (codes "aclflag") ∷ number (decimal flags) ∷ []))
+    ++ (key (codes "cmd") ∷ string (codes "SETLIST") ∷ []))
+    ++ (key (codes "entries") ∷ begin_array ∷ items_tokens (items_outline (entries es))))
+    ++ (key (codes "path") ∷ string (path_text p) ∷ []))
+    ++ end_object ∷ []
+    ≡ json_tokens (outline (command_data (C.SetList flags es p)))
+set_list_tokens flags es p =
+    ap (λ ts. begin_object ∷ key (codes "aclflag") ∷ number (decimal flags) ∷ key (codes "cmd") ∷ string
+    (codes "SETLIST") ∷ key (codes "entries") ∷ begin_array ∷ ts)
+    (append_assoc (items_tokens (items_outline (entries es))) (key (codes "path") ∷ string (path_text p) ∷ [])
+    (end_object ∷ []))

@@ -8,7 +8,8 @@ use Rattle.room_wire.proofs.forms.command_texts.bytes_command.Goals as goal
 
 pub returns-clause-value : goal.returns-clause-value
 returns-clause-value c =
-    let place : c.as_str.result.now ≡ path_text c.args.path.now = c.as_str.ensures.value ∙ c.in_ok-place.ensures.value in
+    let place : c.as_str.result.now ≡ path_text c.args.path.now =
+    c.as_str.ensures.value ∙ c.in_ok-place.ensures.value in
     let opened = c.in_ok-extend_from_slice.ensures.items ∙ ap (λ t. t ++ codes "{\"cmd\":") c.in_ok-start.ensures in
     let named = c.in_ok-text.ensures ∙ ap (λ t. t ++ quoted c.args.name.now) opened in
     let start = c.in_ok-extend_from_slice-2.ensures.items ∙ ap (λ t. t ++ codes ",\"data\":\"") named in

@@ -8,8 +8,8 @@ use Rattle.room_wire.proofs.forms.command_texts.chown_command.Goals as goal
 
 pub returns-clause-value : goal.returns-clause-value
 returns-clause-value c =
-    let is0 : c.text.result.now ≡ c.args.group.now = c.text.ensures.value in
-    let is1 : c.text-2.result.now ≡ c.args.owner.now = c.text-2.ensures.value in
+    let is0 : c.text-2.result.now ≡ c.args.group.now = c.text-2.ensures.value in
+    let is1 : c.text-3.result.now ≡ c.args.owner.now = c.text-3.ensures.value in
     let is2 : c.as_str.result.now ≡ path_text c.args.path.now = c.as_str.ensures.value ∙ c.in_ok-text.ensures.value in
     IfOk-weaker c.ended.result _ _
     (λ _ is. is ∙ text_of_tokens (command_data (C.Chown c.args.group.now c.args.owner.now c.args.path.now)) _ _

@@ -8,8 +8,10 @@ use Rattle.room_wire.proofs.forms.command_texts.rename_command.Goals as goal
 
 pub returns-clause-value : goal.returns-clause-value
 returns-clause-value c =
-    let is0 : c.as_str.result.now ≡ path_text c.args.path.now = c.as_str.ensures.value ∙ c.in_ok-from_text.ensures.value in
-    let is1 : c.as_str-2.result.now ≡ path_text c.args.to.now = c.as_str-2.ensures.value ∙ c.in_ok-to_text.ensures.value in
+    let is0 : c.as_str.result.now ≡ path_text c.args.path.now =
+    c.as_str.ensures.value ∙ c.in_ok-from_text.ensures.value in
+    let is1 : c.as_str-2.result.now ≡ path_text c.args.to.now =
+    c.as_str-2.ensures.value ∙ c.in_ok-to_text.ensures.value in
     IfOk-weaker c.ended.result _ _
     (λ _ is. is ∙ text_of_tokens (command_data (C.Rename c.args.path.now c.args.to.now)) _ _
     (c.in_ok-text_member-3.ensures.before

@@ -1,9 +1,9 @@
-use Rattle.std.proofs.Common.{refl, rules, ◌∙◌, ◌≡◌}
+use Rattle.std.proofs.Common.{rules, ◌∙◌, ◌≡◌}
 use Rattle.std.proofs.lemmas.Result.{IfOk-weaker}
 use Rattle.room_records.specs.Names.{path_text}
 use Rattle.room_commands.specs.CommandModel as C
 use Rattle.room_wire.specs.Forms.Texts.{command_data}
-use Rattle.room_wire.proofs.Lemmas.Forms.Written.{text_of_tokens}
+use Rattle.room_wire.proofs.Lemmas.Forms.Written.{set_list_tokens, text_of_tokens}
 use Rattle.room_wire.proofs.forms.command_texts.set_list_command.Goals as goal
 
 pub returns-clause-value : goal.returns-clause-value
@@ -25,5 +25,5 @@ returns-clause-value c =
       c.in_ok-out.ensures.1,
       is0,
       is1,
-    ) refl))
+    ) (set_list_tokens c.args.aclflag c.args.entries.now c.args.path.now)))
     c.ended.ensures

@@ -1,5 +1,6 @@
 use Rattle.std.proofs.Common.{◌≡◌, ◌≤◌, ℕ, ◌+◌, ◌-◌, ◌*◌, length, sym, arith, rules, ◌∙◌}
 use Rattle.std.proofs.lemmas.List.{take_all}
+use borrow.Rule.Slice.PartMut.{same_len_mid}
 use Rattle.base64.specs.Engines.{standard}
 use Rattle.base64.proofs.EngineFacts.{encode_of-nil}
 use Rattle.room_wire.proofs.Lemmas.Forms.Letters.{six_written}
@@ -12,10 +13,13 @@ pub loop-six-preserved : goal.loop-six-preserved
 loop-six-preserved c =
     let n : ℕ = c.loop-six.six in
     record {
-      letters = six_written c.args.bytes.now c.loop-six.block c.copy_from_slice.new.self c.copy_from_slice-in-loop-six.new.self
-      n (6 * n + 8 - 6 * n) (8 * n + 8 - 8 * n) (omega arith) (omega arith) (omega arith) c.copy_from_slice.ensures.after
-      (c.copy_from_slice-in-loop-six.ensures.after ∙ c.eight_letters.ensures) c.loop-six.invariant.letters;
-      long = search rules;
+      letters = six_written c.args.bytes.now c.loop-six.block c.copy_from_slice.new.self
+          c.copy_from_slice-in-loop-six.new.self
+          n (6 * n + 8 - 6 * n) (8 * n + 8 - 8 * n) (omega arith) (omega arith) (omega arith)
+          c.copy_from_slice.ensures.after
+          (c.copy_from_slice-in-loop-six.ensures.after ∙ c.eight_letters.ensures) c.loop-six.invariant.letters;
+      long = same_len_mid (8 * n) _ c.loop-six.block c.copy_from_slice-in-loop-six.new.self
+          c.copy_from_slice-in-loop-six.ensures.len ∙ c.loop-six.invariant.long;
     }
 
 pub returns : goal.returns

@@ -1,4 +1,4 @@
-use Rattle.std.proofs.Common.{ℕ, List, [], ◌∷◌, ◌++◌, codes, ap, ◌∙◌, arith}
+use Rattle.std.proofs.Common.{List, [], ◌∷◌, ◌++◌, codes, ap, ◌∙◌, arith}
 use Rattle.std.proofs.lemmas.Result.{IfOk-weaker}
 use Rattle.json.specs.Token.{Token, key, begin_array}
 use Rattle.room_wire.proofs.Lemmas.Forms.Written.{name_tokens, names_tokens, items_ended}
@@ -9,9 +9,10 @@ returns c =
     let front : List Token = key (codes "names") ∷ begin_array ∷ [] in
     record {
       written = IfOk-weaker c.end_array.result _ _
-      (λ _ more. items_ended name_tokens c.args.names.now c.loop-name.name-index c.args.out.now.tokens front c.loop-name.out.tokens
-      c.end_array.new.self.tokens (omega (arith, c.loop-name-test.false)) c.loop-name.invariant.tokens more
-      ∙ ap (λ ts. c.args.out.now.tokens ++ (front ++ ts)) (names_tokens c.args.names.now))
-      c.end_array.ensures.ok;
+          (λ _ more. items_ended name_tokens c.args.names.now c.loop-name.name-index c.args.out.now.tokens
+          front c.loop-name.out.tokens
+          c.end_array.new.self.tokens (omega (arith, c.loop-name-test.false)) c.loop-name.invariant.tokens more
+          ∙ ap (λ ts. c.args.out.now.tokens ++ (front ++ ts)) (names_tokens c.args.names.now))
+          c.end_array.ensures.ok;
       before = c.end_array.ensures.room.0 ∙ c.loop-name.invariant.before;
     }

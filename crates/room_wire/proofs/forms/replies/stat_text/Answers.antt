@@ -12,7 +12,10 @@ returns c =
     let is1 : c.text.result.now ≡ c.args.group.now = c.text.ensures.value in
     let is2 : c.text-2.result.now ≡ c.args.owner.now = c.text-2.ensures.value in
     let is3 : c.from-2.result ≡ c.args.size = search rules in
-    let of_kind : Data → Data = λ k. obj ((codes "aclflag", num c.args.aclflag) ∷ ok ∷ (codes "group", string c.args.group.now) ∷ (codes "kind", k) ∷ (codes "owner", string c.args.owner.now) ∷ (codes "size", num c.args.size) ∷ []) in
+    let of_kind : Data → Data = λ k. obj ((codes "aclflag", num c.args.aclflag) ∷ ok
+    ∷ (codes "group", string c.args.group.now)
+    ∷ (codes "kind", k) ∷ (codes "owner", string c.args.owner.now)
+    ∷ (codes "size", num c.args.size) ∷ []) in
     IfOk-weaker c.ended.result _ _
     (λ _ is. is ∙ text_of_tokens (of_kind (string c.kind_text.result.now)) _ _
     (c.in_ok-number_member-3.ensures.before

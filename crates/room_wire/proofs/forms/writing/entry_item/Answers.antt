@@ -8,17 +8,17 @@ returns c =
     let mask : c.from-2.result ≡ c.args.mask = search rules in
     record {
       written = IfOk-weaker c.end_object.result _ _
-      (λ _ more. more ∙ rw (
-        c.in_ok-text_member.ensures.written,
-        c.in_ok-number_member-3.ensures.written,
-        c.in_ok-number_member-2.ensures.written,
-        c.in_ok-number_member.ensures.written,
-        c.in_ok-begin_object.ensures.ok,
-        flags,
-        mask,
-      ) (simp append_assoc))
-      c.end_object.ensures.ok;
+          (λ _ more. more ∙ rw (
+            c.in_ok-text_member.ensures.written,
+            c.in_ok-number_member-3.ensures.written,
+            c.in_ok-number_member-2.ensures.written,
+            c.in_ok-number_member.ensures.written,
+            c.in_ok-begin_object.ensures.ok,
+            flags,
+            mask,
+          ) (simp append_assoc))
+          c.end_object.ensures.ok;
       before = c.end_object.ensures.room.0 ∙ c.in_ok-text_member.ensures.before
-      ∙ c.in_ok-number_member-3.ensures.before ∙ c.in_ok-number_member-2.ensures.before
-      ∙ c.in_ok-number_member.ensures.before ∙ c.in_ok-begin_object.ensures.room.0;
+          ∙ c.in_ok-number_member-3.ensures.before ∙ c.in_ok-number_member-2.ensures.before
+          ∙ c.in_ok-number_member.ensures.before ∙ c.in_ok-begin_object.ensures.room.0;
     }
