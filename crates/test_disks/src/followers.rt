@@ -19,7 +19,7 @@ pub static CHANGES_ALL: [Step; 4] = [
     Step(
         Ask::Run(
             4,
-            r#"{"aclflag":0,"cmd":"SETLIST","entries":[{"flag":3,"mask":1,"type":0,"who":"bob"}],"path":"/d"}"#,
+            r#"{"aclflag":1,"cmd":"SETLIST","entries":[{"flag":3,"mask":1,"type":0,"who":"bob"}],"path":"/d"}"#,
         ),
         r#"{"code":0}"#,
     ),

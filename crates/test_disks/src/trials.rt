@@ -166,9 +166,9 @@ impl Trial {
         Ok(count)
     }
 
-    /// The place of the last request.
-    fn last(&self) -> usize {
-        self.steps.len().saturating_sub(1)
+    /// All requests but the last.
+    fn sent(&self) -> &[Step] {
+        &self.steps[..self.steps.len().saturating_sub(1)]
     }
 
     /// The files at the start, of which one stops at a call.
@@ -198,7 +198,7 @@ impl Trial {
         };
         match begun {
             Ok(room) => {
-                let (at, conn) = play_in(self.alloc, room, &self.steps[..self.last()], 0)?;
+                let (at, conn) = play_in(self.alloc, room, self.sent(), 0)?;
                 Ok((Some(at), conn))
             },
             Err(conn) => Ok((None, conn)),
@@ -239,7 +239,7 @@ impl Trial {
         match answered {
             None => is_at(stages, 0, found),
             Some(at) => {
-                let is_in_flight = at < self.last() && is_at(stages, at + 1, found);
+                let is_in_flight = at < self.sent().len() && is_at(stages, at + 1, found);
                 is_at(stages, at, found) || is_in_flight
             },
         }
