@@ -14,7 +14,7 @@ use Rattle.room_tree.specs.declared.refusal.Stop.TheVariants.{Refused, Shelf}
 use Rattle.room_tree.specs.Stops.{Stopped}
 use Rattle.room_commands.specs.Checks.{refuse_if, refusal_without_place, first_refusal, check_folder, check_right}
 use Rattle.room_commands.specs.Checks.{prefix_refusal, proper_prefixes, walk}
-use Rattle.room_tree.proofs.Checking.{skip, stop}
+use Rattle.room_tree.proofs.Checking.{skip}
 
 -- the first fault from this front on
 abbrev pub walk_from : Room → SubjectModel → Path → Path → Option Refusal
