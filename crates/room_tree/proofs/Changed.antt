@@ -29,10 +29,10 @@ use Rattle.room_tree.specs.Plans.{PlansEffect, place_after}
 use Rattle.room_tree.specs.Renewals.{ChangesFewRows}
 use Rattle.room_commands.specs.ReplyModel.{reply_model}
 use Rattle.room_tree.proofs.Checking.{file_check, there}
-use Rattle.room_tree.proofs.Outcomes.{success_plans, none_and_some}
+use Rattle.room_tree.proofs.Outcomes.{success_plans}
 use Rattle.room_commands.proofs.RoomsObject.{elsewhere_unchanged}
 use Rattle.room_tree.proofs.RowsReplaced.{Replaces, replaced, replaced_keeps, changed_at, path_same_or_other}
-use Rattle.room_tree.proofs.StoredLists.{stored_list, list_part, lists_alike, same_parts, is_present}
+use Rattle.room_tree.proofs.StoredLists.{stored_list, list_part, lists_alike, same_parts}
 
 none_new : (t later : ObjectRecords) → SameShape t later → (id : ℕ) → IsNone (t.node id) → IsSome (later.node id) → ⊥
 none_new t later shape id absent present = grind (arith, common_steps)

@@ -5,8 +5,7 @@ use Rattle.std.proofs.Common.{Option, None, Some, List, [], ◌∷◌, ◌++◌}
 use Rattle.std.specs.Prelude.{not, is_some, nat_lt}
 use borrow.Author.Tests.{ltb-false}
 use Rattle.room_commands.proofs.ChecksTell.{not_refused}
-use Rattle.room_acl.specs.declared.subject.Kind.{Kind}
-use Rattle.room_acl.specs.declared.subject.Kind.TheVariants.{File, Folder}
+use Rattle.room_acl.specs.declared.subject.Kind.TheVariants.{Folder}
 use Rattle.room_acl.specs.SubjectModel.{SubjectModel}
 use Rattle.room_acl.specs.Access.{decision}
 use Rattle.room_records.specs.Names.{Path}
@@ -16,7 +15,7 @@ use Rattle.room_records.specs.Representation.{RepresentsRoom}
 use Rattle.room_records.proofs.RoomsMap.{object_there_is_lawful}
 use Rattle.room_records.specs.Room.{Object, Room, object_at, parent_of, standing_of}
 use Rattle.room_tree.specs.declared.loaded.LoadedObject.{LoadedObject}
-use Rattle.room_commands.specs.declared.reply.RefusalCode.TheVariants.{NoEnt, Exist, Inval, IsDir, NotDir, FBig}
+use Rattle.room_commands.specs.declared.reply.RefusalCode.TheVariants.{NoEnt, Exist, Inval, IsDir, FBig}
 use Rattle.room_commands.specs.ReplyModel.{Refusal}
 use Rattle.room_commands.specs.Checks.{refuse_if, refusal_without_place, is_kind, denied_at, right_on, check_exists}
 use Rattle.room_commands.specs.Checks.{check_absent, check_right, check_folder, check_file, prefix_refusal}

@@ -1,7 +1,6 @@
 -- The list of an object by its rows and those of the folders above it.
-use Rattle.std.proofs.lemmas.Grind.{common_steps}
 use Rattle.std.proofs.Common.{◌≡◌, ℕ, ◌+◌, ◌≤◌, refl, ap, sym, ◌∙◌, arith, Bool, true, false, cond, inl, inr}
-use Rattle.std.proofs.Common.{List, [], ◌∷◌, ◌++◌, length, reverse, append-nil, Option, None, Some, IsSome}
+use Rattle.std.proofs.Common.{List, [], ◌∷◌, ◌++◌, length, reverse, append-nil, None, Some}
 use Rattle.std.proofs.lemmas.List.{reverse-append, length_push}
 use Rattle.room_acl.specs.Entries.{EntryModel}
 use Rattle.room_acl.specs.Inheritance.{handed_down, own_part}
@@ -75,11 +74,20 @@ module _ {t : ObjectRecords} {room : Room} (stand : RepresentsRoom t room) (path
 
   -- the root has its own entries alone
   pub list_in_none : node.parent ≡ None → own_part (t.entries id) ≡ list_of room path
-  list_in_none none = grind (arith, common_steps, root_or_below, at_root, above_of, none_is_some)
+  list_in_none none = elim (root_or_below path) [
+    | inl root ↦ at_root root
+    | inr end ↦ absurd (let above = above_of end in none_is_some above.0 (sym none ∙ above.1))
+  ]
 
   -- as has what does not follow
   pub list_of_its_own : follows node.aclflag ≡ false → own_part (t.entries id) ≡ list_of room path
-  list_of_its_own off = grind (arith, common_steps, root_or_below, at_root, append-nil, list_below)
+  list_of_its_own off = elim (root_or_below path) [
+    | inl root ↦ at_root root
+    | inr end ↦
+        sym (append-nil (own_part (t.entries id)))
+        ∙ ap (λ b. own_part (t.entries id) ++ cond b (handed_down (list_of room end.folder) node.kind) [])
+        (sym off) ∙ list_below end
+  ]
 
   -- another's goes on with what its folder hands down
   pub under : (above : ℕ) → node.parent ≡ Some above → IsUnder t room path id node above
@@ -100,9 +108,17 @@ module _ {t : ObjectRecords} {room : Room} (stand : RepresentsRoom t room) (path
 
   -- where the list goes on with no folder's, it ends
   pub list_ends : cond (follows node.aclflag) node.parent None ≡ None → own_part (t.entries id) ≡ list_of room path
-  list_ends none = grind (arith, common_steps, list_in_none, list_of_its_own)
+  list_ends none = by_test (follows node.aclflag) refl
+    where
+      by_test : (b : Bool) → follows node.aclflag ≡ b → own_part (t.entries id) ≡ list_of room path
+      by_test true is = list_in_none (ap (λ b. cond b node.parent None) (sym is) ∙ none)
+      by_test false is = list_of_its_own is
 
   -- and else the folder is the one above
   pub goes_on : (above : ℕ) → cond (follows node.aclflag) node.parent None ≡ Some above
       → IsUnder t room path id node above
-  goes_on above some = grind (arith, common_steps, under, none_is_some)
+  goes_on above some = by_test (follows node.aclflag) refl
+    where
+      by_test : (b : Bool) → follows node.aclflag ≡ b → IsUnder t room path id node above
+      by_test true is = under above (ap (λ b. cond b node.parent None) (sym is) ∙ some)
+      by_test false is = absurd (none_is_some above (ap (λ b. cond b node.parent None) (sym is) ∙ some))

@@ -1,6 +1,6 @@
 -- A new object: what is planned is the effect.
 use Rattle.std.proofs.lemmas.Grind.{common_steps}
-use Rattle.std.proofs.Common.{◌≡◌, ◌≢◌, ℕ, ◌+◌, ◌<◌, ◌≤◌, refl, ap, sym, ◌∙◌, subst, arith, cond, false, inl, inr, List}
+use Rattle.std.proofs.Common.{◌≡◌, ◌≢◌, ℕ, ◌+◌, ◌<◌, ◌≤◌, refl, ap, sym, ◌∙◌, subst, arith, cond, false, List}
 use Rattle.std.proofs.Common.{[], ◌∷◌, ◌++◌, length, Option, None, Some, IsSome, IsNone, unwrap_or}
 use Rattle.std.specs.Prelude.{nat_lt, nat_le, Vec}
 use Rattle.std.specs.declared.alloc.Global.{Global}
@@ -21,7 +21,7 @@ use Rattle.room_records.proofs.Lists.{all_append}
 use Rattle.room_records.proofs.Paths.{object_at_node, child_is_at}
 use Rattle.room_records.proofs.RoomsMap.{some_is, none_is_some, Ends, ends, parent_of_end, nothing_below}
 use Rattle.room_records.proofs.RoomsLists.{list_of_child, lists_by_objects_above}
-use Rattle.room_records.proofs.RulesKept.{same_or_other, some_or_none, if_same, if_other, rules_put_next, rules_put_doc}
+use Rattle.room_records.proofs.RulesKept.{if_same, if_other, rules_put_next, rules_put_doc}
 use Rattle.room_commands.specs.CommandModel as C
 use Rattle.room_tree.specs.declared.loaded.LoadedObject.{LoadedObject}
 use Rattle.room_tree.specs.declared.planning.Outcome.{Outcome}
@@ -39,7 +39,7 @@ use Rattle.room_commands.proofs.ChecksTell.{not_refused, none_there}
 use Rattle.room_commands.proofs.EffectIsRoom.{changed_is_room, created_is_room}
 use Rattle.room_tree.proofs.FewRows.{few_for_folder, few_for_document}
 use Rattle.room_tree.proofs.NewLists.{apply_append, rules_append, gives_list}
-use Rattle.room_tree.proofs.Outcomes.{success_plans, none_and_some}
+use Rattle.room_tree.proofs.Outcomes.{success_plans}
 use Rattle.room_tree.proofs.Replies.{object_is}
 use Rattle.room_commands.proofs.Rights.{all_none}
 use Rattle.room_commands.proofs.RoomsNew.{new_there, elsewhere_as_before, old_stays, new_or_old}

@@ -1,6 +1,6 @@
 -- Entries that are sent, with the mark cleared.
 use Rattle.std.proofs.Common.{◌≡◌, ℕ, ◌-◌, ◌*◌, ◌<◌, refl, ap, sym, ◌∙◌, arith, Bool, true, false, not, cond, List, []}
-use Rattle.std.proofs.Common.{◌∷◌, map, filter, bit_and, ◌==◌, None, Some, length}
+use Rattle.std.proofs.Common.{◌∷◌, map, filter, bit_and, ◌==◌, None, Some}
 use Rattle.std.specs.List.{filter_map, cons_option}
 use Rattle.std.specs.Int.{bit_at}
 use Rattle.std.proofs.lemmas.Nat.Bits.{and_pow}

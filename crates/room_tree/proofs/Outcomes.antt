@@ -10,7 +10,6 @@ use Rattle.room_records.specs.Changes.{apply_all_to_objects, IsOfObjects, Object
 use Rattle.room_records.specs.Room.{Room, object_at}
 use Rattle.room_records.specs.Representation.{RepresentsRoom, HasPath}
 use Rattle.room_commands.specs.CommandModel.{CommandModel}
-use Rattle.room_commands.specs.CommandModel as C
 use Rattle.room_tree.specs.declared.planning.Outcome.{Outcome}
 use Rattle.room_commands.specs.Checks.{first_refusal, checks}
 use Rattle.room_commands.specs.ReplyModel.{Refused, reply_model, IsRefused, Refusal}

@@ -4,7 +4,7 @@ use Rattle.std.proofs.Common.{arith, ◌≡◌, ℕ, refl, ap, sym, ◌∙◌, B
 use Rattle.std.proofs.Common.{drop, length, Option, None, Some, reverse}
 use Rattle.std.specs.Prelude.{Vec}
 use Rattle.std.specs.declared.alloc.Global.{Global}
-use Rattle.std.proofs.lemmas.Bool.{or_parts, true_from_ne_false}
+use Rattle.std.proofs.lemmas.Bool.{true_from_ne_false}
 use Rattle.room_acl.specs.Entries.{EntryModel}
 use Rattle.room_acl.specs.Inheritance.{with_inherited}
 use Rattle.room_acl.specs.SubjectModel.{SubjectModel}
@@ -31,7 +31,7 @@ use Rattle.room_tree.specs.Plans.{PlansEffect}
 use Rattle.room_tree.specs.Renames.{IsMove}
 use Rattle.room_tree.specs.Renewals.{list_below, PutsList}
 use Rattle.room_commands.specs.ReplyModel.{Done, reply_model}
-use Rattle.room_commands.proofs.ChecksTell.{not_refused, absent_there, walk_ends_in_folder}
+use Rattle.room_commands.proofs.ChecksTell.{absent_there, walk_ends_in_folder}
 use Rattle.room_commands.proofs.EffectIsRoom.{changed_is_room}
 use Rattle.room_commands.proofs.RoomsRenamed.{rest_below}
 use Rattle.room_tree.proofs.ListsMoved.{list_of_stayed, list_of_moved, lists_of_moved}

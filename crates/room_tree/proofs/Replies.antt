@@ -1,6 +1,6 @@
 -- Replies that tell of a found object.
 use Rattle.std.proofs.lemmas.Grind.{common_steps}
-use Rattle.std.proofs.Common.{arith, ◌≡◌, ℕ, refl, ap, sym, ◌∙◌, List, [], ◌∷◌, map, Option, None, Some}
+use Rattle.std.proofs.Common.{arith, ◌≡◌, ℕ, refl, ap, sym, ◌∙◌, List, [], ◌∷◌, map}
 use Rattle.std.specs.Prelude.{bit_and}
 use Rattle.std.specs.List.{AllByRecursion, filter_map, cons_option}
 use Rattle.std.specs.Option.{option_map}
@@ -12,7 +12,7 @@ use Rattle.room_acl.specs.Access.{allowed_mask}
 use Rattle.room_records.specs.declared.node.Node.{Node}
 use Rattle.room_records.specs.Names.{Name, Path}
 use Rattle.room_records.specs.Records.{ObjectRecords, IsChild}
-use Rattle.room_records.specs.Room.{Object, Room, list_of, standing_of}
+use Rattle.room_records.specs.Room.{Room, list_of, standing_of}
 use Rattle.room_records.specs.Rules.{ObjectRules}
 use Rattle.room_records.proofs.Folders.{pair_of, child_named}
 use Rattle.room_tree.specs.declared.loaded.LoadedObject.{LoadedObject}

@@ -1,7 +1,7 @@
 -- Rows with one object more stand for the room with it.
 use Rattle.std.proofs.lemmas.Grind.{common_steps}
 use Rattle.std.proofs.Common.{◌≡◌, ◌≢◌, ℕ, ◌+◌, ◌<◌, ◌≤◌, refl, ap, sym, ◌∙◌, arith, ◌⊎◌, inl, inr, List, []}
-use Rattle.std.proofs.Common.{◌∷◌, ◌++◌, reverse, Option, None, Some, unwrap_or}
+use Rattle.std.proofs.Common.{◌∷◌, ◌++◌, reverse, None, Some}
 use Rattle.std.specs.List.{AllByRecursion}
 use Rattle.std.proofs.lemmas.List.{reverse-append}
 use Rattle.room_acl.specs.declared.subject.Kind.TheVariants.{Folder}
@@ -14,7 +14,7 @@ use Rattle.room_records.specs.Changes.{apply_to_objects}
 use Rattle.room_records.specs.Room.{Object, Room, IsRoom, object_at, list_of}
 use Rattle.room_records.specs.Representation.{RepresentsRoom, NodeIsObject, RowsShowObject, HasPath, NamesUpwards}
 use Rattle.room_records.proofs.RoomsMap.{some_is, none_is_some}
-use Rattle.room_records.proofs.RulesKept.{same_or_other, if_same, if_other, some_or_none}
+use Rattle.room_records.proofs.RulesKept.{same_or_other, some_or_none}
 use Rattle.room_tree.proofs.RowsReplaced.{still_shows}
 
 -- a row for a number that is free, in a folder that has not its name

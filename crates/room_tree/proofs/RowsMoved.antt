@@ -1,10 +1,9 @@
 -- Rows where one node has another folder and name stand for the room with its subtree moved.
 use Rattle.std.proofs.lemmas.Grind.{common_steps}
-use Rattle.std.proofs.Common.{◌≡◌, ◌≢◌, ℕ, ◌≤◌, refl, ap, sym, ◌∙◌, arith, Bool, true, false, cond, ◌⊎◌, inl}
-use Rattle.std.proofs.Common.{inr, List, [], ◌∷◌, ◌++◌, reverse, length, drop, append_assoc, append-nil, length-append}
+use Rattle.std.proofs.Common.{◌≡◌, ◌≢◌, ℕ, refl, ap, sym, ◌∙◌, arith, Bool, true, false, cond, ◌⊎◌, inl}
+use Rattle.std.proofs.Common.{inr, List, [], ◌∷◌, ◌++◌, reverse, length, drop, append_assoc, append-nil}
 use Rattle.std.proofs.Common.{Option, None, Some, IsSome, IsNone, unwrap_or}
 use Rattle.std.proofs.lemmas.List.{reverse-append, reverse-reverse, drop-append-le, drop_all, same_from_push}
-use Rattle.std.proofs.lemmas.Bool.{false_from_ne_true}
 use Rattle.room_acl.specs.declared.subject.Kind.TheVariants.{Folder}
 use Rattle.room_records.specs.declared.node.Node.{Node}
 use Rattle.room_records.specs.declared.change.Change.TheVariants.{PutNode}
@@ -14,16 +13,15 @@ use Rattle.room_records.specs.Rules.{ObjectRules}
 use Rattle.room_records.specs.Changes.{apply_to_objects}
 use Rattle.room_records.specs.Room.{Object, Room, IsRoom, object_at, list_of}
 use Rattle.room_records.specs.Representation.{RepresentsRoom, NodeIsObject, HasPath, NamesUpwards}
-use Rattle.room_records.proofs.Paths.{root_only, reads_one, child_is_at, object_at_node}
+use Rattle.room_records.proofs.Paths.{reads_one, child_is_at, object_at_node}
 use Rattle.room_records.proofs.RoomsMap.{some_is, none_is_some, Ends, ends}
-use Rattle.room_records.proofs.RulesKept.{same_or_other, if_same, if_other, some_or_none, shape_itself, names_by_shape}
+use Rattle.room_records.proofs.RulesKept.{same_or_other, if_same, if_other, shape_itself, names_by_shape}
 use Rattle.room_commands.specs.Checks.{is_at_or_below}
 use Rattle.room_commands.specs.Effect.{renamed, moved}
 use Rattle.room_commands.proofs.Renaming.{at_behind}
-use Rattle.room_commands.proofs.RoomsRenamed.{rest_below, below_more, not_both, at_moved, Stands, Moved}
+use Rattle.room_commands.proofs.RoomsRenamed.{rest_below, not_both, at_moved, Stands, Moved}
 use Rattle.room_commands.proofs.RoomsRenamed.{Stayed, stands_after}
 use Rattle.room_tree.proofs.RowsReplaced.{path_of_node, still_shows}
-use Rattle.room_tree.proofs.Outcomes.{none_and_some}
 
 -- an object below a path, but not at it, has its folder there too
 below_parent : (q path : Path) (name : Name) → is_at_or_below (q ++ name ∷ []) path ≡ true

@@ -1,8 +1,7 @@
 -- Rows without one node stand for the room without its object.
 use Rattle.std.proofs.lemmas.Grind.{common_steps}
 use Rattle.std.proofs.Common.{arith, ◌≡◌, ◌≢◌, ℕ, refl, ap, sym, ◌∙◌, inl, inr, List, [], ◌∷◌, ◌++◌, reverse, length}
-use Rattle.std.proofs.Common.{Option, None, Some, IsSome, IsNone, false, unwrap_or, append-nil, append_assoc}
-use Rattle.std.proofs.lemmas.List.{reverse-append}
+use Rattle.std.proofs.Common.{None, Some, IsSome, IsNone, false, append-nil, append_assoc}
 use Rattle.room_records.specs.declared.node.Node.{Node}
 use Rattle.room_records.specs.declared.change.Change.TheVariants.{DropNode}
 use Rattle.room_records.specs.Names.{Name, Path, IsPath}
@@ -13,7 +12,7 @@ use Rattle.room_records.specs.Shelf.{name_of}
 use Rattle.room_records.specs.Room.{Object, Room, IsRoom, object_at, children, list_of}
 use Rattle.room_records.specs.Representation.{RepresentsRoom, NodeIsObject, HasPath, NamesUpwards}
 use Rattle.room_records.proofs.Folders.{child_named}
-use Rattle.room_records.proofs.Paths.{root_only, reads_one, child_is_at, object_at_node}
+use Rattle.room_records.proofs.Paths.{reads_one, child_is_at, object_at_node}
 use Rattle.room_records.proofs.RoomsMap.{none_is_some, Ends, nothing_below}
 use Rattle.room_records.proofs.RoomsLists.{lists_by_objects_above}
 use Rattle.room_records.proofs.RoomsChildren.{nothing_in_empty}

@@ -1,7 +1,7 @@
 -- Rows where one object changed stand for the room with that object changed.
 use Rattle.std.proofs.lemmas.Grind.{common_steps}
-use Rattle.std.proofs.Common.{arith, ◌≡◌, ◌≢◌, ℕ, ◌+◌, refl, ap, sym, ◌∙◌, Bool, true, false, ◌⊎◌, inl, inr, List, []}
-use Rattle.std.proofs.Common.{reverse, Option, Some, option_map, unwrap_or}
+use Rattle.std.proofs.Common.{arith, ◌≡◌, ◌≢◌, ℕ, ◌+◌, refl, ap, sym, ◌∙◌, Bool, true, false, ◌⊎◌, inl, inr}
+use Rattle.std.proofs.Common.{reverse, Some, option_map}
 use Rattle.std.proofs.lemmas.List.{reverse-reverse}
 use Rattle.room_records.specs.declared.node.Node.{Node}
 use Rattle.room_records.specs.Names.{Path, path_eq}

@@ -1,6 +1,6 @@
 -- The rows of entries of a node hold its list; and what a list does not depend on.
 use Rattle.std.proofs.lemmas.Grind.{common_steps}
-use Rattle.std.proofs.Common.{arith, ◌≡◌, ℕ, refl, ap, sym, ◌∙◌, inl, inr, ◌⊎◌, List, [], ◌∷◌, reverse}
+use Rattle.std.proofs.Common.{arith, ◌≡◌, ℕ, refl, ap, sym, ◌∙◌, inl, inr, List, [], ◌∷◌, reverse}
 use Rattle.std.proofs.Common.{Option, None, Some, IsSome, option_map}
 use Rattle.std.proofs.lemmas.List.{reverse-append}
 use Rattle.room_acl.specs.declared.subject.Kind.{Kind}
@@ -12,7 +12,6 @@ use Rattle.room_records.specs.Records.{ObjectRecords}
 use Rattle.room_records.specs.Room.{Object, Room, object_at, list_of, list_upwards, list_under, root_list}
 use Rattle.room_records.specs.Representation.{HasPath, RepresentsRoom}
 use Rattle.room_records.proofs.Paths.{object_at_node}
-use Rattle.room_records.proofs.RoomsMap.{Ends, ends}
 use Rattle.room_tree.proofs.OwnPart.{root_or_below}
 
 pub is_present : {X : Type 0} (o : Option X) → IsSome o → (x : X) × (o ≡ Some x)

@@ -1,8 +1,8 @@
 -- What two reads tell of a room, one after the other.
 use Rattle.std.proofs.lemmas.Grind.{common_steps}
-use Rattle.std.proofs.Common.{arith, ap, ◌∙◌, Option}
+use Rattle.std.proofs.Common.{arith, Option}
 use Rattle.room_records.specs.declared.shelf.ShelfFault.{ShelfFault}
-use Rattle.room_records.specs.Records.{ObjectRecords, Records}
+use Rattle.room_records.specs.Records.{ObjectRecords}
 use Rattle.room_records.specs.Room.{Room}
 use Rattle.room_records.specs.Shelf.{View, ShelfRead}
 use Rattle.room_tree.specs.LoadedObjects.{OfRoom}

@@ -14,7 +14,7 @@ use Rattle.room_tree.specs.declared.refusal.Stop.TheVariants.{Refused, Shelf}
 use Rattle.room_tree.specs.Stops.{Stopped}
 use Rattle.room_commands.specs.Checks.{refuse_if, refusal_without_place, first_refusal, check_folder, check_right}
 use Rattle.room_commands.specs.Checks.{prefix_refusal, proper_prefixes, walk}
-use Rattle.room_tree.proofs.Checking.{skip, stop}
+use Rattle.room_tree.proofs.Checking.{skip}
 
 -- the first fault from this front on
 abbrev pub walk_from : Room → SubjectModel → Path → Path → Option Refusal
@@ -80,7 +80,16 @@ module _ (room : Room) (caller : SubjectModel) where
         → prefix_refusal room caller (take i path) ≡ None
         → object_at room (take i path ++ name ∷ []) ≡ None → i + 1 < length path
         → walk room caller path ≡ Some (refusal_without_place NoEnt)
-    walk_is_cut so none nothing more = grind (arith, common_steps, drop_more, next_front, walk_goes_on, one_off)
+    walk_is_cut so none nothing more =
+        let front = take (i + 1) path in
+        let rest : drop (i + 1) path ≡ get_or path (i + 1) name ∷ drop (i + 1 + 1) path =
+        drop_more path (i + 1) name more in
+        let missing : prefix_refusal room caller front ≡ Some (refusal_without_place NoEnt) =
+        ap (λ (o : Option Object). first_refusal (refuse_if (not (is_some o)) NoEnt
+        ∷ check_folder room front ∷ check_right room caller front 0x20 ∷ []))
+        (ap (object_at room) next_front ∙ nothing) in
+        walk_goes_on so none ∙ ap (walk_from room caller front) rest
+        ∙ one_off front (get_or path (i + 1) name) (drop (i + 1 + 1) path) (refusal_without_place NoEnt) missing
 
     pub last_is_absent : object_at room (take i path ++ name ∷ []) ≡ None
         → length path ≤ i + 1 → object_at room path ≡ None

@@ -1,5 +1,4 @@
 use Rattle.std.proofs.Common.{◌≡◌, ◌<◌, ◌^◌, arith, ap, sym, ◌∙◌, ◌∷◌, None, length}
-use Rattle.room_records.specs.Records.{Records}
 use Rattle.room_records.specs.Room.{parent_of}
 use Rattle.room_commands.specs.Checks.{check_size}
 use Rattle.room_commands.specs.ReplyModel.{Size}

@@ -1,5 +1,4 @@
-use Rattle.std.proofs.Common.{ap, ◌∙◌, refl}
-use Rattle.room_records.specs.Records.{Records}
+use Rattle.std.proofs.Common.{refl}
 use Rattle.room_records.specs.Room.{parent_of}
 use Rattle.room_records.proofs.Shelves.{read_then}
 use Rattle.room_tree.proofs.Checking.{limit_checks, new_checks}
