@@ -4,8 +4,8 @@ ghost use Rattle.std.specs.Prelude.{◌≡◌, [], IfOk};
 use crate::serving::input::Input;
 use std::alloc::{AllocError, Global};
 
-/// Room for a short answer. To put a longer one together would cost more than the second write that it takes.
-const ANSWER_ROOM: usize = 16_384;
+/// Room for the longest answer: a reply with a document of 65,536 bytes in base64, and its head.
+const ANSWER_ROOM: usize = 90_112;
 
 /// The buffers of serving, made once: no message makes them grow.
 #[derive(Drop)]
