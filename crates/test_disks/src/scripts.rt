@@ -146,7 +146,7 @@ fn a_list_over_a_hundred(rt: HostRuntime) -> Result<(), Fail> {
     both_stop(&trial, Part::Nothing, 30, 10)
 }
 
-/// The list is in the log before it is committed, and then copied into the database file.
+/// Parts of the list are in the log before it is committed.
 #[test]
 fn a_list_over_a_hundred_that_spills(rt: HostRuntime) -> Result<(), Fail> {
     let trial = of_followers(rt.alloc(), spilling())?;
@@ -171,7 +171,12 @@ fn a_busy_new_room_and_torn_writes(rt: HostRuntime) -> Result<(), Fail> {
     is_torn(&of_a_new_room(rt.alloc(), spilling())?, 40, 20)
 }
 
+/// The log alone: the database file is not written here.
 #[test]
 fn a_list_and_torn_writes(rt: HostRuntime) -> Result<(), Fail> {
-    is_torn(&of_followers(rt.alloc(), spilling())?, 10, 1)
+    let trial = of_followers(rt.alloc(), spilling())?;
+    for part in [Part::OneByte, Part::Half, Part::AllButOne] {
+        stops(&trial, Stop { in_log: true, part }, 10)?;
+    }
+    Ok(())
 }
