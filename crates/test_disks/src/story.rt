@@ -57,13 +57,17 @@ fn event(alloc: Global, ask: Ask) -> Result<Event, Fail> {
             sid,
             slots: SlotCount::new(slots).ok_or("no number of slots")?,
         }),
-        Ask::Run(seq, command) => Ok(Event::Slot {
-            subject,
-            sid,
-            slot: 0,
-            seq,
-            command: read_command(alloc, command.as_bytes())?,
-        }),
+        Ask::Run(seq, command) => {
+            let (command, keep) = read_command(alloc, command.as_bytes())?;
+            Ok(Event::Slot {
+                subject,
+                sid,
+                slot: 0,
+                seq,
+                command,
+                keep,
+            })
+        }
     }
 }
 

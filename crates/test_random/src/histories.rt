@@ -48,10 +48,11 @@ fn fresh(alloc: Global, dice: &mut Dice, past: &[Event]) -> Result<Draft, Fail> 
         user: user_of(dice, session),
         session,
         seed: dice.seed(),
+        keep: dice.roll(4) != 0,
     })
 }
 
-/// One of the latest events again, as it was or with another command, or a fresh one.
+/// One of the latest events again, with the same command or another and its reply to be kept or not, or a fresh one.
 fn next(alloc: Global, dice: &mut Dice, sent: &[Draft], past: &[Event]) -> Result<Draft, Fail> {
     let back = dice.roll(6) as usize + 1;
     let again = dice.roll(12);
@@ -63,7 +64,10 @@ fn next(alloc: Global, dice: &mut Dice, sent: &[Draft], past: &[Event]) -> Resul
             seed: dice.seed(),
             ..*draft
         }),
-        Some(draft) => Ok(*draft),
+        Some(draft) => Ok(Draft {
+            keep: dice.roll(4) != 0,
+            ..*draft
+        }),
         None => fresh(alloc, dice, past),
     }
 }
@@ -187,6 +191,7 @@ fn history_of_lists(alloc: Global, seed: u32) -> Result<Trio, Fail> {
         user: 0,
         session: 0,
         seed: 0,
+        keep: true,
     };
     let mut trio = Trio::new(alloc)?.answer(event(alloc, &draft)?)?;
     for number in 1..EVENTS {

@@ -58,7 +58,7 @@ const KEPT: [&str; 13] = [
 
 /// A body asks the command whose text is kept so.
 fn is_kept_as(alloc: Global, body: &[u8], wanted: &str) -> Result<(), Fail> {
-    let command = read_command(alloc, body)?;
+    let (command, _) = read_command(alloc, body)?;
     if command_text(alloc, &command)?.as_slice() != wanted.as_bytes() {
         return Err(Fail::new(format_args!("not kept as {wanted}")));
     }
