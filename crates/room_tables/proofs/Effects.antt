@@ -25,7 +25,7 @@ use Rattle.room_tables.specs.Layout.{IsNumbered, IsRoomDatabase, parent_value}
 use Rattle.room_tables.specs.Steps.{Steps, kind_number}
 use Rattle.room_tables.proofs.Changes.{executes_inside}
 use Rattle.room_tables.proofs.Puts.{stored_node, node_params, puts_node, puts_next, puts_doc}
-use Rattle.room_tables.proofs.Filters.{filter_put, keyed_after, still_room, still_numbered, version_stays}
+use Rattle.room_tables.proofs.Filters.{filter_put, keyed_after, still_room, still_numbered, still_slots, version_stays}
 
 -- two records that agree at each key are one
 pub same_records : (a b : Records) → ((q : ℕ) → a.objects.node q ≡ b.objects.node q)
@@ -97,7 +97,7 @@ pub steps_node : (old new : State) (node : Node) (name : List ℕ) (count : ℕ)
     old new (Ok count) → Steps old new (apply_change (PutNode node))
 steps_node old new node name count room named h =
     let ran = executes_inside put_node_text _ old new count h in
-    let done = puts_node old new node.id node.parent name (kind_number node.kind)
+    let done = puts_node room.layout old new node.id node.parent name (kind_number node.kind)
     node.owner node.group node.aclflag count room.schema room.keyed.node ran.0 in
     let it = done.put in
     let row = row_of_node node name in
@@ -106,7 +106,7 @@ steps_node old new node name count room named h =
     (record { id = node.id; has_id = refl; parent = node.parent; has_parent = refl }) in
     let o = it.others in
     record {
-      room = still_room 1 old.now new.now room done.schema o (keyed_after 1 _ _ _ _ it room.keyed.node)
+      room = still_room 1 old.now new.now room done.schema done.sound o (keyed_after 1 _ _ _ _ it room.keyed.node)
           (subst (AllByRecursion IsNumbered) (sym it.rows) (all-put_row IsNumbered it.row _ is_numbered
           (all-filter IsNumbered (λ r. not (has_rowid it.id r)) (old.now.trees 1) room.numbered)));
       version = version_stays _ _ (o.room (omega arith));
@@ -120,7 +120,8 @@ steps_node old new node name count room named h =
           (λ q. ap (λ rows. documents_in rows q) (o.doc (omega arith)))
           (ap next_in (o.room (omega arith)))
           (λ sid. ap (λ rows. sessions_in rows sid) (o.session (omega arith)))
-          (λ sid slot. ap (λ rows. slots_in rows sid slot) (o.slot (omega arith)));
+          (λ sid slot. ap (λ rows. slots_in rows sid slot)
+          (still_slots 1 old.now new.now room done.schema done.sound (omega arith) o));
     }
 
 -- ---- a document and the next number
@@ -130,12 +131,12 @@ pub steps_doc : (old new : State) (id : ℕ) (bytes : Vec ℕ Global) (count : �
     → Steps old new (apply_change (PutDoc id bytes))
 steps_doc old new id bytes count room h =
     let ran = executes_inside put_doc_text _ old new count h in
-    let done = puts_doc old new id bytes.items count room.schema room.keyed.doc ran.0 in
+    let done = puts_doc room.layout old new id bytes.items count room.schema room.keyed.doc ran.0 in
     let it = done.put in
     let is : it.id ≡ pos id = id_is (sym it.has_id ∙ ap rowid it.fits) in
     let o = it.others in
     record {
-      room = still_room 5 old.now new.now room done.schema o (keyed_after 5 _ _ _ _ it room.keyed.doc)
+      room = still_room 5 old.now new.now room done.schema done.sound o (keyed_after 5 _ _ _ _ it room.keyed.doc)
           (still_numbered 5 old.now new.now room (omega arith) o);
       version = version_stays _ _ (o.room (omega arith));
       records = same_records _ _
@@ -148,7 +149,8 @@ steps_doc old new id bytes count room h =
           (ap (λ r. doc_of (shown_doc r)) it.fits))
           (ap next_in (o.room (omega arith)))
           (λ sid. ap (λ rows. sessions_in rows sid) (o.session (omega arith)))
-          (λ sid slot. ap (λ rows. slots_in rows sid slot) (o.slot (omega arith)));
+          (λ sid slot. ap (λ rows. slots_in rows sid slot)
+          (still_slots 5 old.now new.now room done.schema done.sound (omega arith) o));
     }
 
 -- the next number is put into a row of version 1
@@ -156,7 +158,7 @@ pub version_put : (old new : State) (n count : ℕ) → IsRoomDatabase old.now
     → ExecutesInside 0 put_next_text (Int (pos n) ∷ []) old new (Ok count) → IsVersion1 (version_rows new.now.trees)
 version_put old new n count room h =
     let ran = executes_inside put_next_text _ old new count h in
-    let it = (puts_next old new n count room.schema room.keyed.room ran.0).put in
+    let it = (puts_next room.layout old new n count room.schema room.keyed.room ran.0).put in
     let is : it.id ≡ pos 1 = id_is (sym it.has_id ∙ ap rowid it.fits) in
     ap (λ rows. option_map (λ row. column row 0) (only (map shown_version rows))) (filter_put 0 1 1 _ _ _ _ it is)
     ∙ ap (λ r. Some (column (shown_version r) 0)) it.fits
@@ -165,12 +167,12 @@ pub steps_next : (old new : State) (n count : ℕ) → IsRoomDatabase old.now
     → ExecutesInside 0 put_next_text (Int (pos n) ∷ []) old new (Ok count) → Steps old new (apply_change (PutNext n))
 steps_next old new n count room h =
     let ran = executes_inside put_next_text _ old new count h in
-    let done = puts_next old new n count room.schema room.keyed.room ran.0 in
+    let done = puts_next room.layout old new n count room.schema room.keyed.room ran.0 in
     let it = done.put in
     let is : it.id ≡ pos 1 = id_is (sym it.has_id ∙ ap rowid it.fits) in
     let o = it.others in
     record {
-      room = still_room 0 old.now new.now room done.schema o (keyed_after 0 _ _ _ _ it room.keyed.room)
+      room = still_room 0 old.now new.now room done.schema done.sound o (keyed_after 0 _ _ _ _ it room.keyed.room)
           (still_numbered 0 old.now new.now room (omega arith) o);
       version = λ _. version_put old new n count room h;
       records = same_records _ _
@@ -180,7 +182,8 @@ steps_next old new n count room h =
           (ap (λ rows. unwrap_or (option_map (λ row. number_in (column row 0)) (only (map shown_next rows))) 0)
           (filter_put 0 1 1 _ _ _ _ it is) ∙ ap (λ r. number_in (column (shown_next r) 0)) it.fits)
           (λ sid. ap (λ rows. sessions_in rows sid) (o.session (omega arith)))
-          (λ sid slot. ap (λ rows. slots_in rows sid slot) (o.slot (omega arith)));
+          (λ sid slot. ap (λ rows. slots_in rows sid slot)
+          (still_slots 0 old.now new.now room done.schema done.sound (omega arith) o));
     }
 
 -- ---- changes in turn

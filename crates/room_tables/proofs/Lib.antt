@@ -3,6 +3,7 @@ pub mod Meaning
 pub mod Sorted
 pub mod Values
 pub mod Each
+pub mod Listed
 pub mod Removed
 pub mod Queries
 pub mod Changes

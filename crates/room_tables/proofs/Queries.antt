@@ -42,7 +42,6 @@ use Rattle.sqlite_ast.specs.declared.Statement.{Statement}
 use Rattle.sqlite_ast.specs.declared.Statement.TheVariants as written
 use Rattle.sqlite.specs.Listing as listing
 use Rattle.sqlite_schema.specs.declared.schema.Schema.{Schema}
-use Rattle.room_tables.specs.Tables.{room_schema}
 use Rattle.room_tables.specs.Texts.{over_table}
 use Rattle.room_tables.specs.Rows.{only}
 use Rattle.room_tables.proofs.Sorted.{all_permutation, sorted_answer}
@@ -90,15 +89,16 @@ and_true true = refl
 and_true false = refl
 
 -- what a text over one table answers
-pub picked : (old new : State) (sql : List ℕ) (params : Row) (tree : ℕ) (terms project : List Term)
-    (order : List (Term × Key)) (names : List (List ℕ)) (rows : List Row) → old.now.schema ≡ room_schema
-    → command_of (understood room_schema sql)
+pub picked : (schema : Schema) (old new : State) (sql : List ℕ) (params : Row) (tree : ℕ) (terms project : List Term)
+    (order : List (Term × Key)) (names : List (List ℕ)) (rows : List Row)
+    → old.now.schema ≡ schema
+    → command_of (understood schema sql)
     ≡ Select (record { lets = []; body = over_table tree terms project order }) names
-    → IsPlain (understood room_schema sql) × (reads_listing room_schema sql ≡ false)
+    → IsPlain (understood schema sql) × (reads_listing schema sql ≡ false)
     → overlay old.now.trees [] tree ≡ old.now.trees tree → Shown sql params old new rows
     → Picks (over_table tree terms project order) params (passing terms params (old.now.trees tree)) rows
-picked old new sql params tree terms project order names rows schema is plain here h =
-    let read = reads_as sql params old new room_schema schema _ is plain.0 plain.1 rows h in
+picked schema old new sql params tree terms project order names rows has is plain here h =
+    let read = reads_as sql params old new schema has _ is plain.0 plain.1 rows h in
     subst (λ all. Picks (over_table tree terms project order) params (passing terms params all) rows) here
     (answer_is tree terms project order (overlay old.now.trees []) params rows (read.answer Null))
 
@@ -241,15 +241,7 @@ pub query_keeps : (sql : List ℕ) (params : Row) (old new : State) → is_query
     → Survives old new (CommitsShowing sql params old) → Survives old new (λ _. ⊥)
 query_keeps sql params old new h = survives_weaker old new _ _ (λ _ db. query_commits_none sql params old db h)
 
--- a query that is plain leaves the connection as it was
-pub query_same : (sql : List ℕ) (params : Row) (old new : State) (rows : List Row) → old.now.schema ≡ room_schema
-    → IsPlain (understood room_schema sql) → Shown sql params old new rows → IsUnchanged old new
-unfolding Shown
-query_same sql params old new rows schema plain h =
-    let none = (subst IsPlain h.1.is (subst (λ s. IsPlain (understood s sql)) (sym schema) plain)).0 in
-    (subst (ShowsRows old new sql h.0 (timed params h.0.formats h.1.now) rows) none h.2).3
-
--- and so does any query, whatever the schema
+-- and leaves the connection as it was
 pub query_leaves : (sql : List ℕ) (params : Row) (old new : State) (rows : List Row)
     → is_query_text (first sql) ≡ true → Shown sql params old new rows → IsUnchanged old new
 unfolding Shown
@@ -313,15 +305,6 @@ pub query_open : {V : Type 0} (items : V → List Row) (sql : List ℕ)
     → new.is_open ≡ true → old.is_open ≡ true
 query_open items sql params old new (Ok rows) ok err is = shown_open sql params old new (items rows) ok
 query_open items sql params old new (Err e) ok err is = left_open old new (fails_leaves sql params old new e err) is
-
-pub query_now : {V : Type 0} (items : V → List Row) (sql : List ℕ) (params : Row) (old new : State) (r : Result V Error)
-    → old.now.schema ≡ room_schema → IsPlain (understood room_schema sql)
-    → IfOk r (λ rows. Shown sql params old new (items rows)) → IfErr r (FailsToQuery sql params old new)
-    → new.is_open ≡ true → old.now ≡ old.committed → new.now ≡ old.now
-query_now items sql params old new (Ok rows) schema plain ok err is settled =
-    (query_same sql params old new (items rows) schema plain ok).0.now_is
-query_now items sql params old new (Err e) schema plain ok err is settled =
-    left_now old new settled (fails_leaves sql params old new e err) is
 
 pub query_left : {V : Type 0} (items : V → List Row) (sql : List ℕ) (params : Row)
     (old new : State) (r : Result V Error) → is_query_text (first sql) ≡ true

@@ -5,7 +5,7 @@ use Rattle.std.specs.List.{AllByRecursion}
 use Rattle.sqlite_trees.specs.Tree.{Trees}
 use Rattle.sqlite.specs.Table.{Table}
 use Rattle.sqlite.specs.Schema.{Schema}
-use Rattle.sqlite.specs.Effect.{Database}
+use Rattle.sqlite.specs.Effect.{Database, IsDatabase}
 use Rattle.room_acl.specs.Entries.{EntryModel}
 use Rattle.room_records.specs.declared.node.Node.{Node}
 use Rattle.room_records.specs.Fresh.{no_records}
@@ -20,6 +20,7 @@ use Rattle.room_tables.specs.Rows.{records_of, version_rows, IsVersion1}
 -- the tables are there, and have no row
 pub record IsMade (wanted : Schema) (db : Database) : Type 0 where
   pub schema : db.schema ≡ wanted
+  pub sound : IsDatabase db
   pub empty : AllByRecursion (λ (t : Table). db.trees t.tree ≡ []) wanted.tables
 
 -- a room with its root alone, which has these entries, and no session

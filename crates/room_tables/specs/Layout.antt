@@ -9,9 +9,9 @@ use Rattle.sqlite_trees.specs.View.{is_int}
 use Rattle.sqlite.specs.Table.{Table}
 use Rattle.sqlite.specs.Values.{or_null}
 use Rattle.sqlite.specs.Effect.{Database}
-use Rattle.room_tables.specs.Tables.{room_schema, room_table, node_table, entry_table, doc_table}
-use Rattle.room_tables.specs.Tables.{session_table, slot_table}
-use Rattle.room_tables.specs.Rows.{version_rows, IsVersion1}
+use Rattle.room_tables.specs.Tables.{Layout, room_schema, room_table, node_table, entry_table, doc_table}
+use Rattle.room_tables.specs.Tables.{session_table, slots_table, slots_tree}
+use Rattle.room_tables.specs.Rows.{version_rows, IsVersion1, slots_of}
 
 -- the rowids are integers and rise, so none comes twice
 pub record IsKeyed (rows : List Row) : Type 0 where
@@ -29,19 +29,22 @@ pub record IsNumbered (row : Row) : Type 0 where
   pub parent : Option ℕ
   pub has_parent : column row 2 ≡ parent_value parent
 
--- a fact of each of the six tables
-pub record OfEachTable (P : Table → Type 0) : Type 0 where
+-- a fact of each table that a room is read from
+pub record OfEachTable (l : Layout) (P : Table → Type 0) : Type 0 where
   pub room : P room_table
   pub node : P node_table
   pub entry : P entry_table
   pub doc : P doc_table
   pub session : P session_table
-  pub slot : P slot_table
+  pub slots : P (slots_table l)
 
--- the six tables and their indexes, and nothing else
+-- the tables and their indexes, and nothing else
 pub record IsRoomDatabase (db : Database) : Type 0 where
-  pub schema : db.schema ≡ room_schema
-  pub keyed : OfEachTable (λ (t : Table). IsKeyed (db.trees t.tree))
+  pub layout : Layout
+  pub schema : db.schema ≡ room_schema layout
+  -- the list of objects names the table of what slots keep
+  pub listed : slots_of db.trees ≡ db.trees (slots_tree layout)
+  pub keyed : OfEachTable layout (λ (t : Table). IsKeyed (db.trees t.tree))
   pub numbered : AllByRecursion IsNumbered (db.trees 1)
 
 -- a database that `adopt` takes: laid out for the records of a room, and of version 1

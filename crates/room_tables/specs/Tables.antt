@@ -1,6 +1,6 @@
 -- The six tables of a room.
 use Rattle.std.specs.Prelude.{true, false, Bool, ◌||◌, ◌&&◌, is_some, [], ◌∷◌, Some, None, option_and_then}
-use Rattle.std.specs.Prelude.{slice_get, codes, List, ℕ, pos}
+use Rattle.std.specs.Prelude.{slice_get, codes, List, ℕ, ◌+◌, pos}
 use Rattle.std.specs.List.{list_all}
 use Rattle.sqlite_schema.specs.Names.{table_named, column_named}
 use Rattle.sqlite.specs.Collation.TheVariants.{Binary}
@@ -241,12 +241,41 @@ schema_5 = record {
   views = [];
 }
 
-abbrev pub room_schema : Schema
-room_schema = record {
-  tables = room_table ∷ node_table ∷ entry_table ∷ doc_table ∷ session_table ∷ slot_table ∷ [];
-  indexes = node_index ∷ entry_index ∷ session_index ∷ slot_index ∷ [];
+-- how the tables came to be there
+pub data Layout : Type 0 where
+  -- made by `init`
+  Fresh : Layout
+
+-- the five tables that every room has stand first, and these behind them
+abbrev pub with_last : List Table → List Index → Schema
+with_last tables indexes = record {
+  tables = room_table ∷ node_table ∷ entry_table ∷ doc_table ∷ session_table ∷ tables;
+  indexes = node_index ∷ entry_index ∷ session_index ∷ indexes;
   views = [];
 }
+
+abbrev pub last_tables : Layout → List Table
+last_tables Fresh = slot_table ∷ []
+
+abbrev pub last_indexes : Layout → List Index
+last_indexes Fresh = slot_index ∷ []
+
+abbrev pub room_schema : Layout → Schema
+room_schema l = with_last (last_tables l) (last_indexes l)
+
+-- the tree of the table of what slots keep
+abbrev pub slots_tree : Layout → ℕ
+slots_tree Fresh = 8
+
+-- and its place in the list
+abbrev pub slots_place : Layout → ℕ
+slots_place Fresh = 5
+
+abbrev pub slots_table : Layout → Table
+slots_table l = record slot_table { tree = slots_tree l }
+
+abbrev pub slots_index : Layout → Index
+slots_index l = record slot_index { tree = slots_tree l + 1; table = slots_tree l }
 
 abbrev pub has_table : Schema → List ℕ → Bool
 has_table schema name = is_some (table_named schema name)

@@ -1,4 +1,4 @@
--- The statements on the tables, and what they mean under `room_schema`.
+-- The statements on the tables, and what they mean under a `room_schema`.
 use Rattle.std.specs.Prelude.{ℕ, ◌+◌, List, [], ◌∷◌, ◌++◌, false, pos, negsuc, codes, Some, None}
 use Rattle.sqlite_value.specs.declared.value.Value.TheVariants.{Null, Int}
 use Rattle.sqlite_value.specs.declared.keys.Collation.TheVariants.{Binary}
@@ -97,9 +97,9 @@ find_session_query = over_table 6 (equals (col 1 1) (col 0 0) ∷ []) (col 1 2 �
 abbrev pub find_slot_text : List ℕ
 find_slot_text = codes "SELECT seq, request, reply FROM slot WHERE sid = ?1 AND slot = ?2"
 
-abbrev pub find_slot_query : Query
-find_slot_query =
-    over_table 8 (equals (col 1 1) (col 0 0) ∷ equals (col 1 2) (col 0 1) ∷ []) (col 1 3 ∷ col 1 4 ∷ col 1 5 ∷ []) ([])
+abbrev pub find_slot_query : ℕ → Query
+find_slot_query tree =
+    over_table tree (equals (col 1 1) (col 0 0) ∷ equals (col 1 2) (col 0 1) ∷ []) (col 1 3 ∷ col 1 4 ∷ col 1 5 ∷ []) ([])
 
 abbrev pub drop_node_text : List ℕ
 drop_node_text = codes "DELETE FROM node WHERE id = ?1"
@@ -116,8 +116,8 @@ drop_entries_query = over_table 3 (equals (col 1 1) (col 0 0) ∷ []) (col 1 0 �
 abbrev pub drop_slots_text : List ℕ
 drop_slots_text = codes "DELETE FROM slot WHERE sid = ?1"
 
-abbrev pub drop_slots_query : Query
-drop_slots_query = over_table 8 (equals (col 1 1) (col 0 0) ∷ []) (col 1 0 ∷ []) []
+abbrev pub drop_slots_query : ℕ → Query
+drop_slots_query tree = over_table tree (equals (col 1 1) (col 0 0) ∷ []) (col 1 0 ∷ []) []
 
 abbrev pub add_entry_text : List ℕ
 add_entry_text = codes "INSERT INTO entry (node, place, type, flag, mask, who) VALUES (?1, ?2, ?3, ?4, ?5, ?6)"
@@ -218,12 +218,13 @@ abbrev pub put_slot_terms : List Term
 put_slot_terms = lit Null ∷ col 0 0 ∷ col 0 1 ∷ col 0 2 ∷ col 0 3 ∷ col 0 4 ∷ []
 
 -- the update reads the parameters, then the rowid that is there in column 5, and the new row from column 6 on
-abbrev pub put_slot_query : Query
-put_slot_query = over_table 8 (equals (col 1 0) (col 0 5) ∷ [])
+abbrev pub put_slot_query : ℕ → Query
+put_slot_query tree = over_table tree (equals (col 1 0) (col 0 5) ∷ [])
     (col 1 0 ∷ col 1 0 ∷ col 1 1 ∷ col 1 2 ∷ col 0 9 ∷ col 0 10 ∷ col 0 11 ∷ []) []
 
-abbrev pub put_slot_clause : Upsert
-put_slot_clause = record { target = Some (1 ∷ 2 ∷ []); update = Some (record { lets = []; body = put_slot_query }) }
+abbrev pub put_slot_clause : ℕ → Upsert
+put_slot_clause tree =
+    record { target = Some (1 ∷ 2 ∷ []); update = Some (record { lets = []; body = put_slot_query tree }) }
 
 abbrev pub count_children_text : List ℕ
 count_children_text = codes "SELECT count(*) FROM node WHERE parent = ?1"
