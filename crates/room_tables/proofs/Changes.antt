@@ -210,7 +210,8 @@ pub record Inserted (l : Layout) (old new : Database) (table : Table) (params : 
       (numbered Chosen (old.trees table.tree) (map (λ row. cast_row table (drop 0 row)) given)) ≡ true
   pub rows_are : new.trees table.tree ≡ put_all (old.trees table.tree)
       (numbered Chosen (old.trees table.tree) (map (λ row. cast_row table (drop 0 row)) given))
-  pub others : Others l table.tree old.trees new.trees
+  pub tables : AllByRecursion (λ (t : Table). t.tree ≢ table.tree → new.trees t.tree ≡ old.trees t.tree)
+      (room_schema l).tables
 
 -- an INSERT from any source, where no foreign key acts
 pub inserted : (l : Layout) (old new : State) (at : ℕ) (table : Table) (sql : List ℕ) (params : Row) (from : Source)
@@ -241,7 +242,8 @@ inserted l old new at table sql params from count place schema uncounted is plai
       source = given.1;
       fresh = one.fresh;
       rows_are = ap (λ (t : Trees). t table.tree) to ∙ one.rows;
-      others = subst (λ t. Others l table.tree db t) (sym to) (others_of l table.tree db mid.0 one.tables);
+      tables = subst (λ (n : Trees). AllByRecursion (λ (t : Table). t.tree ≢ table.tree → n t.tree ≡ db t.tree)
+          (room_schema l).tables) (sym to) one.tables;
     }
 
 -- one table has these rows more
@@ -278,7 +280,7 @@ inserted_all l old new at table sql params tails terms width count place schema 
       sound = it.sound;
       rows = all_added (old.now.trees table.tree) (new.now.trees table.tree) tails _
           (ap (map (λ row. cast_row table (drop 0 row))) it.source.1 ∙ cast_are) it.fresh it.rows_are;
-      others = it.others;
+      others = others_of l table.tree old.now.trees new.now.trees it.tables;
     }
 
 pub upserts : (l : Layout) (old new : State) (at : ℕ) (table : Table) (from : Source) (clauses : List Upsert) (text : List ℕ)

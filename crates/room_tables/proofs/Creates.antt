@@ -20,8 +20,8 @@ use Rattle.sqlite.specs.Does.{Tally, Does, lacks_sequence}
 use Rattle.sqlite.specs.Effect.{Database, IsDatabase}
 use Rattle.sqlite.specs.State.{State, mode_of, Writes, ExecutesInside}
 use Rattle.sqlite.proofs.Callers.{runs_as}
-use Rattle.room_tables.specs.Tables.{room_text, node_text, entry_text, doc_text, session_text, slot_text, room_table}
-use Rattle.room_tables.specs.Tables.{node_table, entry_table, doc_table, session_table, slot_table, schema_0, schema_1}
+use Rattle.room_tables.specs.Tables.{room_text, node_text, entry_text, doc_text, session_text, kept_text, room_table}
+use Rattle.room_tables.specs.Tables.{node_table, entry_table, doc_table, session_table, kept_table, schema_0, schema_1}
 use Rattle.room_tables.specs.Tables.{schema_2, schema_3, schema_4, schema_5, Fresh, room_schema}
 use Rattle.room_tables.specs.Layout.{IsKeyed, IsNumbered, IsRoomDatabase}
 use Rattle.room_tables.specs.Fresh.{IsMade, IsFresh, filled}
@@ -32,7 +32,7 @@ use Rattle.room_tables.proofs.Each.{by_name, from_both}
 use Rattle.room_tables.proofs.Listed.{slots_listed}
 use Rattle.room_tables.proofs.Making.{room_is, room_plain, room_made, node_is, node_plain, node_made, entry_is}
 use Rattle.room_tables.proofs.Making.{entry_plain, entry_made, doc_is, doc_plain, doc_made, session_is, session_plain}
-use Rattle.room_tables.proofs.Making.{session_made, slot_is, slot_plain, slot_made}
+use Rattle.room_tables.proofs.Making.{session_made, kept_is, kept_plain, kept_made}
 use Rattle.room_tables.proofs.Effects.{same_records}
 use Rattle.room_tables.proofs.Changes.{went, same_value, executes_inside}
 
@@ -135,16 +135,16 @@ session_step old new count h was =
       sound = it.sound;
     }
 
-pub slot_step : (old new : State) (count : ℕ) → ExecutesInside 0 slot_text [] old new (Ok count)
+pub kept_step : (old new : State) (count : ℕ) → ExecutesInside 0 kept_text [] old new (Ok count)
     → IsMade schema_5 old.now → IsMade (room_schema Fresh) new.now
-slot_step old new count h was =
-    let w = runs_as slot_text [] old new schema_5 was.schema CreateTable slot_is.0
-    slot_plain count (executes_inside slot_text [] old new count h).0 in
-    let it = makes old new schema_5 (record slot_table { tree = 0 })
-    slot_text _ count was.schema slot_is.2 refl (rw slot_is.1 at w) in
+kept_step old new count h was =
+    let w = runs_as kept_text [] old new schema_5 was.schema CreateTable kept_is.0
+    kept_plain count (executes_inside kept_text [] old new count h).0 in
+    let it = makes old new schema_5 (kept_table 0)
+    kept_text _ count was.schema kept_is.2 refl (rw kept_is.1 at w) in
     record {
-      schema = it.after ∙ slot_made;
-      empty = all_empty schema_5.tables slot_table old.now.trees new.now.trees it.others was.empty it.empty;
+      schema = it.after ∙ kept_made;
+      empty = all_empty schema_5.tables (kept_table 8) old.now.trees new.now.trees it.others was.empty it.empty;
       sound = it.sound;
     }
 

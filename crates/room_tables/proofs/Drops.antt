@@ -40,7 +40,7 @@ use Rattle.sqlite.proofs.Callers.{runs_as, one_step, one_permutation}
 use Rattle.sqlite_tied.specs.Compute.{everything}
 use Rattle.room_records.specs.declared.change.Change.TheVariants.{DropNode}
 use Rattle.room_records.specs.Changes.{apply_change}
-use Rattle.room_tables.specs.Tables.{Layout, Fresh, room_schema, slots_tree, node_table, entry_table, doc_table, refers}
+use Rattle.room_tables.specs.Tables.{Layout, Fresh, Upgraded, room_schema, slots_tree, node_table, entry_table, doc_table, refers}
 use Rattle.room_tables.specs.Texts.{drop_node_text, drop_node_query}
 use Rattle.room_tables.specs.Rows.{has, only, shown_node, node_of, entry_of, in_order, shown_doc, doc_of}
 use Rattle.room_tables.specs.Rows.{next_in, sessions_in, slots_in}
@@ -89,14 +89,17 @@ set_off : (l : Layout) (there : Row) (id : ℕ) → rowid there ≡ Int (pos id)
     → works (room_schema l) Enforced 0 1 (there ∷ []) [] ≡ entry_work there ∷ doc_work there ∷ []
 unfolding everything
 set_off Fresh there id is = rw (loses_key there id is) refl
+set_off Upgraded there id is = rw (loses_key there id is) refl
 
 entries_last : (l : Layout) (olds : List Row) → works (room_schema l) Enforced 1 3 olds [] ≡ []
 unfolding everything
 entries_last Fresh olds = refl
+entries_last Upgraded olds = refl
 
 docs_last : (l : Layout) (olds : List Row) → works (room_schema l) Enforced 1 5 olds [] ≡ []
 unfolding everything
 docs_last Fresh olds = refl
+docs_last Upgraded olds = refl
 
 tidy : (b : Bool) → ((b && true) || false) ≡ b
 tidy true = refl
@@ -306,6 +309,7 @@ none_of l db ref table place id columns key fit none =
 none_taken : (l : Layout) → works (room_schema l) Enforced 0 1 [] [] ≡ []
 unfolding everything
 none_taken Fresh = refl
+none_taken Upgraded = refl
 
 -- no row has the number, or one has
 pub found_or_none : (rows : List Row) (id : ℕ) → IsKeyed rows

@@ -7,22 +7,26 @@ use Rattle.sqlite_schema.specs.Rules.{passes, Keeps}
 use Rattle.sqlite_schema.specs.declared.schema.Constraint.{Constraint}
 use Rattle.sqlite.specs.Table.{Table}
 use Rattle.sqlite.specs.Effect.{Database, IsDatabase}
-use Rattle.room_tables.specs.Tables.{Layout, Fresh, room_schema, room_table, node_table, entry_table, doc_table}
+use Rattle.room_tables.specs.Tables.{Layout, Fresh, Upgraded, room_schema, room_table, node_table, entry_table, doc_table}
 use Rattle.room_tables.specs.Tables.{session_table, slots_table, slots_tree, slots_place}
 use Rattle.room_tables.specs.Layout.{OfEachTable}
 
 slots_among : (l : Layout) (P : Table → Type 0) → AllByRecursion P (room_schema l).tables → P (slots_table l)
 slots_among Fresh P all = all.1.1.1.1.1.0
+slots_among Upgraded P all = all.1.1.1.1.1.1.0
 
 pub slots_placed : (l : Layout) → slice_get (room_schema l).tables (slots_place l) ≡ Some (slots_table l)
 slots_placed Fresh = refl
+slots_placed Upgraded = refl
 
 pub slots_seen : (l : Layout) (db : Trees) → overlay db [] (slots_tree l) ≡ db (slots_tree l)
 slots_seen Fresh db = refl
+slots_seen Upgraded db = refl
 
 -- the table of what slots keep stands behind the others
 pub above : (l : Layout) → 7 < slots_tree l
 above Fresh = omega arith
+above Upgraded = omega arith
 
 -- what is said of the tables of the schema in turn, by their names
 pub by_name : (l : Layout) (P : Table → Type 0) → AllByRecursion P (room_schema l).tables → OfEachTable l P

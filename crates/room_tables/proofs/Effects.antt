@@ -20,7 +20,7 @@ use Rattle.room_records.specs.Changes.{apply_change, apply_changes}
 use Rattle.room_tables.specs.Texts.{put_node_text, put_next_text, put_doc_text}
 use Rattle.room_tables.specs.Rows.{has, only, parent_in, name_of_text, kind_of, shown_node, node_of, nodes_in}
 use Rattle.room_tables.specs.Rows.{entries_in, shown_doc, doc_of, documents_in, number_in, shown_next, next_in}
-use Rattle.room_tables.specs.Rows.{shown_version, version_rows, IsVersion1, sessions_in, slots_in, records_of}
+use Rattle.room_tables.specs.Rows.{shown_version, version_rows, IsVersion, sessions_in, slots_in, records_of}
 use Rattle.room_tables.specs.Layout.{IsNumbered, IsRoomDatabase, parent_value}
 use Rattle.room_tables.specs.Steps.{Steps, kind_number}
 use Rattle.room_tables.proofs.Changes.{executes_inside}
@@ -153,9 +153,9 @@ steps_doc old new id bytes count room h =
           (still_slots 5 old.now new.now room done.schema done.sound (omega arith) o));
     }
 
--- the next number is put into a row of version 1
+-- the next number is put into a row of version 2
 pub version_put : (old new : State) (n count : ℕ) → IsRoomDatabase old.now
-    → ExecutesInside 0 put_next_text (Int (pos n) ∷ []) old new (Ok count) → IsVersion1 (version_rows new.now.trees)
+    → ExecutesInside 0 put_next_text (Int (pos n) ∷ []) old new (Ok count) → IsVersion 2 (version_rows new.now.trees)
 version_put old new n count room h =
     let ran = executes_inside put_next_text _ old new count h in
     let it = (puts_next room.layout old new n count room.schema room.keyed.room ran.0).put in

@@ -22,7 +22,7 @@ use Rattle.sqlite.proofs.Callers.{one_permutation}
 use Rattle.sqlite.specs.Table.{Table}
 use Rattle.sqlite.specs.Effect.{Database, IsDatabase}
 use Rattle.room_tables.specs.Tables.{Layout, room_schema}
-use Rattle.room_tables.specs.Rows.{has, versions_in, slots_of, IsVersion1}
+use Rattle.room_tables.specs.Rows.{has, versions_in, slots_of, IsVersion}
 use Rattle.room_tables.specs.Layout.{IsKeyed, IsNumbered, IsRoomDatabase}
 use Rattle.room_tables.proofs.Each.{from_both, above}
 use Rattle.room_tables.proofs.Listed.{slots_listed}
@@ -130,8 +130,8 @@ filter_put tree id q db next Fits Met it is = elim (cases_eq q id) [
 
 -- where the one row of room is as it was
 pub version_stays : (before after : List Row) → after ≡ before
-    → IsVersion1 (versions_in before) → IsVersion1 (versions_in after)
-version_stays before after same = subst (λ rows. IsVersion1 (versions_in rows)) (sym same)
+    → IsVersion 2 (versions_in before) → IsVersion 2 (versions_in after)
+version_stays before after same = subst (λ rows. IsVersion 2 (versions_in rows)) (sym same)
 
 -- ---- keys
 

@@ -1,7 +1,8 @@
 -- The list of objects names the trees as the schema does.
 use Rattle.std.proofs.Common.{◌≡◌, ℕ, ◌+◌, ◌-◌, Bool, true, false, cond, List, [], ◌∷◌, Option, Some, option_map, codes}
-use Rattle.std.proofs.Common.{unwrap_or, refl, ap, ◌∙◌, arith, is_eq}
+use Rattle.std.proofs.Common.{unwrap_or, refl, ap, ap₂, ◌∙◌, arith, is_eq}
 use Rattle.std.specs.List.{find, AllZip}
+use Rattle.std.specs.Option.{option_or}
 use Rattle.sqlite_value.specs.declared.value.Value.TheVariants.{Text}
 use Rattle.sqlite_value.specs.Order.{Row, value_cmp}
 use Rattle.sqlite_trees.specs.Tree.{Trees}
@@ -10,7 +11,7 @@ use Rattle.sqlite.specs.Table.{Table}
 use Rattle.sqlite.specs.Schema.{Schema}
 use Rattle.sqlite.specs.Effect.{Database, IsDatabase}
 use lib.Ieee.{is_nan, lt}
-use Rattle.room_tables.specs.Tables.{Layout, Fresh, room_schema, slots_tree}
+use Rattle.room_tables.specs.Tables.{Layout, Fresh, Upgraded, room_schema, first_schema, slots_tree}
 use Rattle.room_tables.specs.Rows.{number_in, is_named, tree_of, tree_named, slots_of}
 
 -- the tree of the table of this name
@@ -44,8 +45,10 @@ pub named_as : (db : Database) (name : List ℕ) → IsDatabase db → tree_name
 named_as db name sound = listed_as _ db.schema.tables name sound.lists.listed.tables
 
 slots_as : (db : Database) (schema : Schema) → IsDatabase db → db.schema ≡ schema
-    → slots_of db.trees ≡ unwrap_or (option_map db.trees (tree_in schema.tables (codes "slot"))) []
-slots_as db schema sound is = ap (λ t. unwrap_or (option_map db.trees t) [])
+    → slots_of db.trees ≡ unwrap_or (option_map db.trees
+    (option_or (tree_in schema.tables (codes "kept")) (tree_in schema.tables (codes "slot")))) []
+slots_as db schema sound is = ap₂ (λ a b. unwrap_or (option_map db.trees (option_or a b)) [])
+    (named_as db _ sound ∙ ap (λ (s : Schema). tree_in s.tables (codes "kept")) is)
     (named_as db _ sound ∙ ap (λ (s : Schema). tree_in s.tables (codes "slot")) is)
 
 -- what slots keep is in the table of the layout
@@ -53,3 +56,9 @@ pub slots_listed : (db : Database) (l : Layout) → IsDatabase db → db.schema 
     → slots_of db.trees ≡ db.trees (slots_tree l)
 unfolding value_cmp is_nan lt
 slots_listed db Fresh sound is = slots_as db _ sound is
+slots_listed db Upgraded sound is = slots_as db _ sound is
+
+-- and in version 1 in its own
+pub slot_listed : (db : Database) → IsDatabase db → db.schema ≡ first_schema → slots_of db.trees ≡ db.trees 8
+unfolding value_cmp is_nan lt
+slot_listed db sound is = slots_as db _ sound is

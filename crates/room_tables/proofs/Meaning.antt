@@ -2,7 +2,7 @@
 -- the first five tables needs no layout, but for the upserts, which count the tables.
 use Rattle.std.proofs.Common.{◌≡◌, List, [], ◌∷◌, true, false, codes, refl}
 use Rattle.sqlite_tied.specs.Compute.{everything}
-use Rattle.sqlite.specs.Source.TheVariants.{Values}
+use Rattle.sqlite.specs.Source.TheVariants.{Values, Query}
 use Rattle.sqlite.specs.Command.TheVariants.{InsertOr, Insert, Select, Delete}
 use Rattle.sqlite_schema.specs.declared.command.Conflict.TheVariants.{Abort}
 use Rattle.sqlite.specs.Listing.{understood, reads_listing}
@@ -10,7 +10,8 @@ use Rattle.sqlite.proofs.Callers.{IsPlain, command_of}
 use Rattle.sqlite.specs.Table.{Table}
 use Rattle.sqlite_schema.specs.declared.schema.Index.{Index}
 use Rattle.sqlite_schema.specs.Names.{same_name}
-use Rattle.room_tables.specs.Tables.{Layout, Fresh, room_schema, with_last, slots_tree, slots_place, has_room}
+use Rattle.room_tables.specs.Tables.{Layout, Fresh, Upgraded, room_schema, first_schema, with_last, slots_tree}
+use Rattle.room_tables.specs.Tables.{slots_place, has_room, has_first_room}
 use Rattle.room_tables.specs.Texts.{count_children_text, count_children_query, add_entry_terms, add_entry_text}
 use Rattle.room_tables.specs.Texts.{add_two_terms, add_two_text, add_three_terms, add_three_text, add_four_terms}
 use Rattle.room_tables.specs.Texts.{add_four_text, drop_entries_query, drop_entries_text}
@@ -23,7 +24,8 @@ use Rattle.room_tables.specs.Texts.{list_entries_query, list_entries_text, put_d
 use Rattle.room_tables.specs.Texts.{put_next_clause, put_next_terms, put_next_text, put_node_clause, put_node_terms}
 use Rattle.room_tables.specs.Texts.{put_node_text, put_session_clause, put_session_terms, put_session_text}
 use Rattle.room_tables.specs.Texts.{put_slot_clause, put_slot_terms, put_slot_text}
-use Rattle.room_tables.specs.Texts.{read_entries_query, read_entries_text}
+use Rattle.room_tables.specs.Texts.{read_entries_query, read_entries_text, copy_slots_query, copy_slots_text}
+use Rattle.room_tables.specs.Texts.{empty_slot_query, empty_slot_text}
 
 pub find_next_is : (more : List Table) (others : List Index)
     → command_of (understood (with_last more others) find_next_text)
@@ -127,11 +129,13 @@ pub find_slot_is : (l : Layout) → command_of (understood (room_schema l) find_
     ≡ Select (record { lets = []; body = find_slot_query (slots_tree l) }) (codes "seq" ∷ codes "request" ∷ codes "reply" ∷ [])
 unfolding understood everything
 find_slot_is Fresh = refl
+find_slot_is Upgraded = refl
 
 pub find_slot_plain : (l : Layout) → IsPlain (understood (room_schema l) find_slot_text)
     × (reads_listing (room_schema l) find_slot_text ≡ false)
 unfolding understood everything
 find_slot_plain Fresh = ((refl, refl), refl)
+find_slot_plain Upgraded = ((refl, refl), refl)
 
 pub drop_node_is : (l : Layout) → command_of (understood (room_schema l) drop_node_text)
     ≡ Delete 1 (record { lets = []; body = drop_node_query })
@@ -155,10 +159,12 @@ pub drop_slots_is : (l : Layout) → command_of (understood (room_schema l) drop
     ≡ Delete (slots_place l) (record { lets = []; body = drop_slots_query (slots_tree l) })
 unfolding understood everything
 drop_slots_is Fresh = refl
+drop_slots_is Upgraded = refl
 
 pub drop_slots_plain : (l : Layout) → IsPlain (understood (room_schema l) drop_slots_text)
 unfolding understood everything
 drop_slots_plain Fresh = (refl, refl)
+drop_slots_plain Upgraded = (refl, refl)
 
 pub add_entry_is : (l : Layout) → command_of (understood (room_schema l) add_entry_text) ≡ Insert 2 (Values add_entry_terms 7)
 unfolding understood everything
@@ -196,46 +202,56 @@ pub put_next_is : (l : Layout) → command_of (understood (room_schema l) put_ne
     ≡ InsertOr 0 Abort (Values put_next_terms 4) (put_next_clause ∷ [])
 unfolding understood everything
 put_next_is Fresh = refl
+put_next_is Upgraded = refl
 
 pub put_next_plain : (l : Layout) → IsPlain (understood (room_schema l) put_next_text)
 unfolding understood everything
 put_next_plain Fresh = (refl, refl)
+put_next_plain Upgraded = (refl, refl)
 
 pub put_node_is : (l : Layout) → command_of (understood (room_schema l) put_node_text)
     ≡ InsertOr 1 Abort (Values put_node_terms 8) (put_node_clause ∷ [])
 unfolding understood everything
 put_node_is Fresh = refl
+put_node_is Upgraded = refl
 
 pub put_node_plain : (l : Layout) → IsPlain (understood (room_schema l) put_node_text)
 unfolding understood everything
 put_node_plain Fresh = (refl, refl)
+put_node_plain Upgraded = (refl, refl)
 
 pub put_doc_is : (l : Layout) → command_of (understood (room_schema l) put_doc_text)
     ≡ InsertOr 3 Abort (Values put_doc_terms 3) (put_doc_clause ∷ [])
 unfolding understood everything
 put_doc_is Fresh = refl
+put_doc_is Upgraded = refl
 
 pub put_doc_plain : (l : Layout) → IsPlain (understood (room_schema l) put_doc_text)
 unfolding understood everything
 put_doc_plain Fresh = (refl, refl)
+put_doc_plain Upgraded = (refl, refl)
 
 pub put_session_is : (l : Layout) → command_of (understood (room_schema l) put_session_text)
     ≡ InsertOr 4 Abort (Values put_session_terms 5) (put_session_clause ∷ [])
 unfolding understood everything
 put_session_is Fresh = refl
+put_session_is Upgraded = refl
 
 pub put_session_plain : (l : Layout) → IsPlain (understood (room_schema l) put_session_text)
 unfolding understood everything
 put_session_plain Fresh = (refl, refl)
+put_session_plain Upgraded = (refl, refl)
 
 pub put_slot_is : (l : Layout) → command_of (understood (room_schema l) put_slot_text)
     ≡ InsertOr (slots_place l) Abort (Values put_slot_terms 6) (put_slot_clause (slots_tree l) ∷ [])
 unfolding understood everything
 put_slot_is Fresh = refl
+put_slot_is Upgraded = refl
 
 pub put_slot_plain : (l : Layout) → IsPlain (understood (room_schema l) put_slot_text)
 unfolding understood everything
 put_slot_plain Fresh = (refl, refl)
+put_slot_plain Upgraded = (refl, refl)
 
 pub count_children_is : (l : Layout) → command_of (understood (room_schema l) count_children_text)
     ≡ Select (record { lets = []; body = count_children_query }) (codes "count(*)" ∷ [])
@@ -247,6 +263,34 @@ pub count_children_plain : (l : Layout) → IsPlain (understood (room_schema l) 
 unfolding understood everything
 count_children_plain l = ((refl, refl), refl)
 
+pub copy_slots_is : command_of (understood (room_schema Upgraded) copy_slots_text)
+    ≡ Insert 6 (Query (record { lets = []; body = copy_slots_query }))
+unfolding understood everything
+copy_slots_is = refl
+
+pub copy_slots_plain : IsPlain (understood (room_schema Upgraded) copy_slots_text)
+unfolding understood everything
+copy_slots_plain = (refl, refl)
+
+pub empty_slot_is : command_of (understood (room_schema Upgraded) empty_slot_text)
+    ≡ Delete 5 (record { lets = []; body = empty_slot_query })
+unfolding understood everything
+empty_slot_is = refl
+
+pub empty_slot_plain : IsPlain (understood (room_schema Upgraded) empty_slot_text)
+unfolding understood everything
+empty_slot_plain = (refl, refl)
+
 pub room_has_room : (l : Layout) → has_room (room_schema l) ≡ true
 unfolding everything same_name
 room_has_room Fresh = refl
+room_has_room Upgraded = refl
+
+pub first_has_first : has_first_room first_schema ≡ true
+unfolding everything same_name
+first_has_first = refl
+
+-- so that a room of version 1 is none of version 2
+pub first_has_no_kept : has_room first_schema ≡ false
+unfolding everything same_name
+first_has_no_kept = refl

@@ -19,7 +19,7 @@ use Rattle.sqlite_rules.specs.Cast.{cast, cast_row}
 use Rattle.sqlite_schema.specs.declared.schema.Keys.TheVariants.{Enforced}
 use Rattle.sqlite.specs.Kind.TheVariants.{Integer}
 use Rattle.sqlite.specs.State.{State, Executes}
-use Rattle.room_tables.specs.Tables.{Layout, Fresh, room_schema, room_table, node_table, doc_table, session_table}
+use Rattle.room_tables.specs.Tables.{Layout, Fresh, Upgraded, room_schema, room_table, node_table, doc_table, session_table}
 use Rattle.room_tables.specs.Tables.{slots_table, slots_tree, slots_place}
 use Rattle.room_tables.proofs.Each.{slots_placed, slots_seen}
 use Rattle.room_tables.specs.Texts.{put_node_text, put_node_terms, put_node_query, put_doc_text, put_doc_terms}
@@ -60,17 +60,20 @@ cast_node id parent name kind owner group aclflag =
 node_quiet : (l : Layout) (row : Row) → works (room_schema l) Enforced 0 1 [] (row ∷ []) ≡ []
 unfolding everything
 node_quiet Fresh row = refl
+node_quiet Upgraded row = refl
 
 node_quiet_change : (l : Layout) (olds : List Row) (row : Row)
     → works (room_schema l) Enforced 0 1 olds (row ∷ []) ≡ []
 unfolding everything
 node_quiet_change Fresh olds row = refl
+node_quiet_change Upgraded olds row = refl
 
 node_conflict : (l : Layout) (id : ℕ) (parent : Option ℕ) (name : List ℕ) (kind : ℕ) (owner group : List ℕ) (aclflag : ℕ) (r : Row)
     → conflicts (Some (0 ∷ [])) (room_schema l).indexes node_table (stored_node id parent name kind owner group aclflag) r
     ≡ true → has 0 id r ≡ true
 unfolding first_key
 node_conflict Fresh id parent name kind owner group aclflag r h = with_truth (has 0 id r) h
+node_conflict Upgraded id parent name kind owner group aclflag r h = with_truth (has 0 id r) h
 
 abbrev pub node_params : ℕ → Option ℕ → List ℕ → ℕ → List ℕ → List ℕ → ℕ → Row
 node_params id parent name kind owner group aclflag =
@@ -121,16 +124,19 @@ stored_doc id bytes = Int (pos id) ∷ Null ∷ Blob bytes ∷ []
 doc_quiet : (l : Layout) (row : Row) → works (room_schema l) Enforced 0 5 [] (row ∷ []) ≡ []
 unfolding everything
 doc_quiet Fresh row = refl
+doc_quiet Upgraded row = refl
 
 doc_quiet_change : (l : Layout) (olds : List Row) (row : Row)
     → works (room_schema l) Enforced 0 5 olds (row ∷ []) ≡ []
 unfolding everything
 doc_quiet_change Fresh olds row = refl
+doc_quiet_change Upgraded olds row = refl
 
 doc_conflict : (l : Layout) (id : ℕ) (bytes : List ℕ) (r : Row)
     → conflicts (Some (0 ∷ [])) (room_schema l).indexes doc_table (stored_doc id bytes) r ≡ true → has 0 id r ≡ true
 unfolding first_key
 doc_conflict Fresh id bytes r h = with_truth (has 0 id r) h
+doc_conflict Upgraded id bytes r h = with_truth (has 0 id r) h
 
 cast_doc : (id : ℕ) (bytes : List ℕ) → cast_row doc_table (stored_doc id bytes) ≡ stored_doc id bytes
 cast_doc id bytes = rw (cast_int (pos id), cast_null)
@@ -167,26 +173,29 @@ puts_doc l old new id bytes count schema keyed h =
 
 -- ---- the one row of room
 
--- of version 1, with this next number
+-- of version 2, with this next number
 abbrev pub stored_next : ℕ → Row
-stored_next n = Int (pos 1) ∷ Null ∷ Int (pos 1) ∷ Int (pos n) ∷ []
+stored_next n = Int (pos 1) ∷ Null ∷ Int (pos 2) ∷ Int (pos n) ∷ []
 
 next_quiet : (l : Layout) (row : Row) → works (room_schema l) Enforced 0 0 [] (row ∷ []) ≡ []
 unfolding everything
 next_quiet Fresh row = refl
+next_quiet Upgraded row = refl
 
 next_quiet_change : (l : Layout) (olds : List Row) (row : Row)
     → works (room_schema l) Enforced 0 0 olds (row ∷ []) ≡ []
 unfolding everything
 next_quiet_change Fresh olds row = refl
+next_quiet_change Upgraded olds row = refl
 
 next_conflict : (l : Layout) (n : ℕ) (r : Row)
     → conflicts (Some (0 ∷ [])) (room_schema l).indexes room_table (stored_next n) r ≡ true → has 0 1 r ≡ true
 unfolding first_key
 next_conflict Fresh n r h = with_truth (has 0 1 r) h
+next_conflict Upgraded n r h = with_truth (has 0 1 r) h
 
 cast_next : (n : ℕ) → cast_row room_table (stored_next n) ≡ stored_next n
-cast_next n = rw (cast_int (pos 1), cast_null, cast_int (pos n))
+cast_next n = rw (cast_int (pos 1), cast_null, cast_int (pos 2), cast_int (pos n))
 
 next_upsert : (l : Layout) (n : ℕ) → IsUpsert l room_table (0 ∷ []) 1 put_next_query.project
     (Int (pos n) ∷ []) (stored_next n) (λ r. r ≡ stored_next n) (λ r. has 0 1 r ≡ true)
@@ -201,12 +210,12 @@ next_upsert l n = record {
   fits = refl;
   met = next_conflict l n;
   there_at = λ v. refl;
-  raw = λ there. rowid there ∷ Null ∷ Int (pos 1) ∷ Int (pos n) ∷ [];
+  raw = λ there. rowid there ∷ Null ∷ Int (pos 2) ∷ Int (pos n) ∷ [];
   reads = λ there. refl;
-  renewed = λ there. rowid there ∷ Null ∷ Int (pos 1) ∷ Int (pos n) ∷ [];
-  casts = λ there i is. rw (is, cast_int i, cast_null, cast_int (pos 1), cast_int (pos n));
+  renewed = λ there. rowid there ∷ Null ∷ Int (pos 2) ∷ Int (pos n) ∷ [];
+  casts = λ there i is. rw (is, cast_int i, cast_null, cast_int (pos 2), cast_int (pos n));
   same_id = λ there. refl;
-  refits = λ there i is met. ap (λ v. v ∷ Null ∷ Int (pos 1) ∷ Int (pos n) ∷ []) (its_number 1 there i is met);
+  refits = λ there i is met. ap (λ v. v ∷ Null ∷ Int (pos 2) ∷ Int (pos n) ∷ []) (its_number 1 there i is met);
 }
 
 pub puts_next : (l : Layout) (old new : State) (n count : ℕ) → old.now.schema ≡ room_schema l
@@ -231,17 +240,20 @@ IsSession sid owner slots open_flag r = (rowid : ℤ) × (r ≡ stored_session r
 session_quiet : (l : Layout) (row : Row) → works (room_schema l) Enforced 0 6 [] (row ∷ []) ≡ []
 unfolding everything
 session_quiet Fresh row = refl
+session_quiet Upgraded row = refl
 
 session_quiet_change : (l : Layout) (olds : List Row) (row : Row)
     → works (room_schema l) Enforced 0 6 olds (row ∷ []) ≡ []
 unfolding everything
 session_quiet_change Fresh olds row = refl
+session_quiet_change Upgraded olds row = refl
 
 session_conflict : (l : Layout) (rowid : ℤ) (sid owner : List ℕ) (slots open_flag : ℕ) (r : Row)
     → conflicts (Some (1 ∷ [])) (room_schema l).indexes session_table (stored_session rowid sid owner slots open_flag) r
     ≡ true → has_text 1 sid r ≡ true
 unfolding first_key
 session_conflict Fresh rowid sid owner slots open_flag r h = with_truth (has_text 1 sid r) h
+session_conflict Upgraded rowid sid owner slots open_flag r h = with_truth (has_text 1 sid r) h
 
 cast_session : (rowid : ℤ) (sid owner : List ℕ) (slots open_flag : ℕ) → cast_row session_table
     (stored_session rowid sid owner slots open_flag) ≡ stored_session rowid sid owner slots open_flag
@@ -303,11 +315,13 @@ pub record IsSlot (sid : List ℕ) (slot seq : ℕ) (request reply : List ℕ) (
 slot_quiet : (l : Layout) (row : Row) → works (room_schema l) Enforced 0 (slots_tree l) [] (row ∷ []) ≡ []
 unfolding everything
 slot_quiet Fresh row = refl
+slot_quiet Upgraded row = refl
 
 slot_quiet_change : (l : Layout) (olds : List Row) (row : Row)
     → works (room_schema l) Enforced 0 (slots_tree l) olds (row ∷ []) ≡ []
 unfolding everything
 slot_quiet_change Fresh olds row = refl
+slot_quiet_change Upgraded olds row = refl
 
 with_two_truths : (a b : Bool) → ((a && (b && true)) || false) ≡ true → (a && b) ≡ true
 with_two_truths true b h = with_truth b h
@@ -319,6 +333,7 @@ slot_conflict : (l : Layout) (rowid : ℤ) (sid : List ℕ) (slot seq : ℕ) (re
     ≡ true → is_slot sid slot r ≡ true
 unfolding first_key
 slot_conflict Fresh rowid sid slot seq request reply r h = with_two_truths (has_text 1 sid r) (has 2 slot r) h
+slot_conflict Upgraded rowid sid slot seq request reply r h = with_two_truths (has_text 1 sid r) (has 2 slot r) h
 
 cast_slot : (l : Layout) (rowid : ℤ) (sid : List ℕ) (slot seq : ℕ) (request reply : List ℕ)
     → cast_row (slots_table l) (Int rowid ∷ slot_values sid slot seq request reply)

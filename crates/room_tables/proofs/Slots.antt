@@ -21,7 +21,7 @@ use Rattle.room_slots.specs.KeptModel.{KeptModel}
 use Rattle.room_records.specs.declared.session.SlotRow.{SlotRow}
 use Rattle.room_records.specs.declared.change.Change.TheVariants.{PutSlot, DropSlots}
 use Rattle.room_records.specs.Changes.{apply_change}
-use Rattle.room_tables.specs.Tables.{Layout, Fresh, room_schema, slots_table, slots_tree, slots_index}
+use Rattle.room_tables.specs.Tables.{Layout, Fresh, Upgraded, room_schema, slots_table, slots_tree, slots_index}
 use Rattle.room_tables.specs.Texts.{drop_slots_text, put_slot_text}
 use Rattle.room_tables.specs.Rows.{has, has_text, is_slot, only, shown_slot, kept_of, slots_in, nodes_in, entries_in}
 use Rattle.room_tables.specs.Rows.{documents_in, next_in, sessions_in, slots_of}
@@ -120,6 +120,9 @@ unique_slot : (l : Layout) (db : Database) (row : Row)
 unique_slot Fresh db row h =
     not_false _ (test_has (λ i. not (guards i (slots_table Fresh) && clashes i.order i.columns (db.trees 8) row))
     (room_schema Fresh).indexes (slots_index Fresh) h (inr (inr (inr (inl refl)))))
+unique_slot Upgraded db row h =
+    not_false _ (test_has (λ i. not (guards i (slots_table Upgraded) && clashes i.order i.columns (db.trees 10) row))
+    (room_schema Upgraded).indexes (slots_index Upgraded) h (inr (inr (inr (inr (inl refl))))))
 
 agree_on : (sid : List ℕ) (slot : ℕ) (x y : Row) → is_slot sid slot x ≡ true
     → is_slot sid slot y ≡ true → agree plain (1 ∷ 2 ∷ []) x (1 ∷ 2 ∷ []) y ≡ true

@@ -10,7 +10,7 @@ use Rattle.sqlite_schema.specs.Rules.{parent_key}
 use Rattle.sqlite_rules.specs.Cast.{cast_row}
 use Rattle.sqlite_schema.specs.declared.schema.Keys.TheVariants.{Enforced}
 use Rattle.sqlite.specs.State.{State, Executes}
-use Rattle.room_tables.specs.Tables.{Layout, Fresh, room_schema, entry_table, slots_table, slots_tree, slots_place}
+use Rattle.room_tables.specs.Tables.{Layout, Fresh, Upgraded, room_schema, entry_table, slots_table, slots_tree, slots_place}
 use Rattle.room_tables.proofs.Each.{slots_placed, slots_seen}
 use Rattle.room_tables.specs.Texts.{drop_entries_text, drop_entries_query, drop_slots_text, drop_slots_query}
 use Rattle.room_tables.specs.Texts.{add_entry_text, add_entry_terms, add_two_text}
@@ -29,10 +29,12 @@ use Rattle.room_tables.proofs.Changes.{inserted_all, cast_null, cast_int}
 entries_quiet : (l : Layout) (olds : List Row) → works (room_schema l) Enforced 0 3 olds [] ≡ []
 unfolding everything
 entries_quiet Fresh olds = refl
+entries_quiet Upgraded olds = refl
 
 slots_quiet : (l : Layout) (olds : List Row) → works (room_schema l) Enforced 0 (slots_tree l) olds [] ≡ []
 unfolding everything
 slots_quiet Fresh olds = refl
+slots_quiet Upgraded olds = refl
 
 -- what new rows of a table set off
 abbrev set_off : Layout → ℕ → List (Row × Row) → Bool → List Work
@@ -43,6 +45,8 @@ entries_set_off : (l : Layout) (deletes : Bool) → set_off l 3 [] deletes ≡ [
 unfolding everything
 entries_set_off Fresh true = refl
 entries_set_off Fresh false = refl
+entries_set_off Upgraded true = refl
+entries_set_off Upgraded false = refl
 
 entry_quiet : (l : Layout) (news : List Row) → works (room_schema l) Enforced 0 3 [] news ≡ []
 entry_quiet l news = entries_set_off l (length news == 0)

@@ -15,7 +15,7 @@ use Rattle.room_records.specs.declared.change.Change.TheVariants.{PutNode, PutEn
 use Rattle.room_records.specs.Room.{fresh_room}
 use Rattle.room_records.specs.Representation.{RepresentsRoom}
 use Rattle.room_tables.specs.Tables.{schema_0}
-use Rattle.room_tables.specs.Rows.{records_of, version_rows, IsVersion1}
+use Rattle.room_tables.specs.Rows.{records_of, version_rows, IsVersion}
 
 -- the tables are there, and have no row
 pub record IsMade (wanted : Schema) (db : Database) : Type 0 where
@@ -34,16 +34,16 @@ abbrev pub filled : Node → Vec EntryModel Global → Records
 filled root entries =
     apply_change (PutNext 2) (apply_change (PutEntries 1 entries) (apply_change (PutNode root) (no_records 0)))
 
--- these are the records, in tables of version 1
+-- these are the records, in tables of version 2
 abbrev pub IsFilled : Node → Vec EntryModel Global → Trees → Type 0
-IsFilled root entries trees = (records_of trees ≡ filled root entries) × IsVersion1 (version_rows trees)
+IsFilled root entries trees = (records_of trees ≡ filled root entries) × IsVersion 2 (version_rows trees)
 
 abbrev pub MayBeFilled : Node → Vec EntryModel Global → Database → Trees → Type 0
 MayBeFilled root entries db trees = db.schema ≡ schema_0 → IsFilled root entries trees
 
--- a fresh room, in tables of version 1
+-- a fresh room, in tables of version 2
 abbrev pub IsFreshRoom : List ℕ → List ℕ → Trees → Type 0
-IsFreshRoom owner group trees = IsFresh owner group (records_of trees) × IsVersion1 (version_rows trees)
+IsFreshRoom owner group trees = IsFresh owner group (records_of trees) × IsVersion 2 (version_rows trees)
 
 -- a commit leaves such trees where there was no table before
 abbrev pub MayBeMade : List ℕ → List ℕ → Database → Trees → Type 0

@@ -9,9 +9,9 @@ use Rattle.sqlite_trees.specs.View.{is_int}
 use Rattle.sqlite.specs.Table.{Table}
 use Rattle.sqlite.specs.Values.{or_null}
 use Rattle.sqlite.specs.Effect.{Database}
-use Rattle.room_tables.specs.Tables.{Layout, room_schema, room_table, node_table, entry_table, doc_table}
+use Rattle.room_tables.specs.Tables.{Layout, room_schema, first_schema, room_table, node_table, entry_table, doc_table}
 use Rattle.room_tables.specs.Tables.{session_table, slots_table, slots_tree}
-use Rattle.room_tables.specs.Rows.{version_rows, IsVersion1, slots_of}
+use Rattle.room_tables.specs.Rows.{version_rows, IsVersion, slots_of}
 
 -- the rowids are integers and rise, so none comes twice
 pub record IsKeyed (rows : List Row) : Type 0 where
@@ -47,7 +47,14 @@ pub record IsRoomDatabase (db : Database) : Type 0 where
   pub keyed : OfEachTable layout (λ (t : Table). IsKeyed (db.trees t.tree))
   pub numbered : AllByRecursion IsNumbered (db.trees 1)
 
--- a database that `adopt` takes: laid out for the records of a room, and of version 1
-pub record IsRoomOfVersion1 (db : Database) : Type 0 where
+-- a room of version 2
+pub record IsRoomOfVersion2 (db : Database) : Type 0 where
   pub room : IsRoomDatabase db
-  pub version : IsVersion1 (version_rows db.trees)
+  pub version : IsVersion 2 (version_rows db.trees)
+
+-- a room of version 1, whose tables are in their order, and nothing else
+pub record IsRoomOfVersion1 (db : Database) : Type 0 where
+  pub schema : db.schema ≡ first_schema
+  pub keyed : AllByRecursion (λ (t : Table). IsKeyed (db.trees t.tree)) first_schema.tables
+  pub numbered : AllByRecursion IsNumbered (db.trees 1)
+  pub version : IsVersion 1 (version_rows db.trees)

@@ -1,8 +1,9 @@
--- The rows of the six tables, as records. A value of another type
+-- The rows of the tables, as records. A value of another type
 -- than its column's has a meaning too, so that each row has one.
 use Rattle.std.specs.Prelude.{◌≡◌, ℕ, pos, Bool, ◌&&◌, ◌==◌, List, [], ◌∷◌, map, filter, Option, Some, None}
 use Rattle.std.specs.Prelude.{◌-◌, option_map, unwrap_or, if◌then◌else◌, codes}
 use Rattle.std.specs.List.{find}
+use Rattle.std.specs.Option.{option_or}
 use Rattle.std.specs.Ordering.{is_eq}
 use Rattle.sqlite_value.specs.declared.keys.Collation.TheVariants.{Binary}
 use Rattle.sqlite_value.specs.declared.keys.Key.{Key}
@@ -177,9 +178,9 @@ tree_of row = number_in (rowid row) - 1
 abbrev pub tree_named : Trees → List ℕ → Option ℕ
 tree_named db name = option_map tree_of (find (is_named name) (filter is_table_row (db catalog_tree)))
 
--- the rows of what slots keep
+-- the rows of what slots keep: in `kept`, and where there is none in `slot`
 abbrev pub slots_of : Trees → List Row
-slots_of db = unwrap_or (option_map db (tree_named db (codes "slot"))) []
+slots_of db = unwrap_or (option_map db (option_or (tree_named db (codes "kept")) (tree_named db (codes "slot")))) []
 
 abbrev pub shown_slot : Row → Row
 shown_slot row = column row 3 ∷ column row 4 ∷ column row 5 ∷ []
@@ -218,9 +219,9 @@ versions_in rows = map shown_version (filter (has 0 1) rows)
 abbrev pub version_rows : Trees → List Row
 version_rows db = versions_in (db 0)
 
--- there is one row, and its version is 1
-abbrev pub IsVersion1 : List Row → Type 0
-IsVersion1 rows = option_map (λ row. column row 0) (only rows) ≡ Some (Int (pos 1))
+-- there is one row, and its version is this
+abbrev pub IsVersion : ℕ → List Row → Type 0
+IsVersion n rows = option_map (λ row. column row 0) (only rows) ≡ Some (Int (pos n))
 
 -- ---- all of them
 

@@ -12,7 +12,7 @@ use Rattle.room_acl.specs.Entries.{EntryModel, who_text}
 use Rattle.room_records.specs.declared.change.Change.{Change}
 use Rattle.room_records.specs.Records.{Records}
 use Rattle.room_records.specs.Changes.{apply_changes}
-use Rattle.room_tables.specs.Rows.{records_of, version_rows, IsVersion1, entry_rows, who_of}
+use Rattle.room_tables.specs.Rows.{records_of, version_rows, IsVersion, entry_rows, who_of}
 use Rattle.room_tables.specs.Layout.{IsRoomDatabase}
 
 -- ---- values as they are stored
@@ -43,11 +43,11 @@ placed at (e ∷ es) = shown_as at e ∷ placed (suc at) es
 
 -- ---- steps
 
--- inside a transaction the records were changed so, and a version 1 stayed
+-- inside a transaction the records were changed so, and a version 2 stayed
 pub record Steps (old new : State) (change : Records → Records) : Type 0 where
   pub room : IsRoomDatabase new.now
   pub records : records_of new.now.trees ≡ change (records_of old.now.trees)
-  pub version : IsVersion1 (version_rows old.now.trees) → IsVersion1 (version_rows new.now.trees)
+  pub version : IsVersion 2 (version_rows old.now.trees) → IsVersion 2 (version_rows new.now.trees)
 
 -- a commit of these changes leaves such trees, where there was a room before
 abbrev pub MayBecome : List Change → Database → Trees → Type 0

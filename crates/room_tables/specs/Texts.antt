@@ -95,7 +95,7 @@ abbrev pub find_session_query : Query
 find_session_query = over_table 6 (equals (col 1 1) (col 0 0) ∷ []) (col 1 2 ∷ col 1 3 ∷ col 1 4 ∷ []) ([])
 
 abbrev pub find_slot_text : List ℕ
-find_slot_text = codes "SELECT seq, request, reply FROM slot WHERE sid = ?1 AND slot = ?2"
+find_slot_text = codes "SELECT seq, request, reply FROM kept WHERE sid = ?1 AND slot = ?2"
 
 abbrev pub find_slot_query : ℕ → Query
 find_slot_query tree =
@@ -114,7 +114,7 @@ abbrev pub drop_entries_query : Query
 drop_entries_query = over_table 3 (equals (col 1 1) (col 0 0) ∷ []) (col 1 0 ∷ []) []
 
 abbrev pub drop_slots_text : List ℕ
-drop_slots_text = codes "DELETE FROM slot WHERE sid = ?1"
+drop_slots_text = codes "DELETE FROM kept WHERE sid = ?1"
 
 abbrev pub drop_slots_query : ℕ → Query
 drop_slots_query tree = over_table tree (equals (col 1 1) (col 0 0) ∷ []) (col 1 0 ∷ []) []
@@ -153,10 +153,10 @@ add_four_terms = entry_terms 1 ++ entry_terms 6 ++ entry_terms 11 ++ entry_terms
 
 abbrev pub put_next_text : List ℕ
 put_next_text = codes
-    "INSERT INTO room (one, version, next) VALUES (1, 1, ?1) ON CONFLICT (one) DO UPDATE SET version = excluded.version, next = excluded.next"
+    "INSERT INTO room (one, version, next) VALUES (1, 2, ?1) ON CONFLICT (one) DO UPDATE SET version = excluded.version, next = excluded.next"
 
 abbrev pub put_next_terms : List Term
-put_next_terms = lit (Int (pos 1)) ∷ lit Null ∷ lit (Int (pos 1)) ∷ col 0 0 ∷ []
+put_next_terms = lit (Int (pos 1)) ∷ lit Null ∷ lit (Int (pos 2)) ∷ col 0 0 ∷ []
 
 -- the update reads the parameters, then the rowid that is there in column 1, and the new row from column 2 on
 abbrev pub put_next_query : Query
@@ -212,7 +212,7 @@ put_session_clause = record { target = Some (1 ∷ []); update = Some (record { 
 
 abbrev pub put_slot_text : List ℕ
 put_slot_text = codes
-    "INSERT INTO slot (sid, slot, seq, request, reply) VALUES (?1, ?2, ?3, ?4, ?5) ON CONFLICT (sid, slot) DO UPDATE SET seq = excluded.seq, request = excluded.request, reply = excluded.reply"
+    "INSERT INTO kept (sid, slot, seq, request, reply) VALUES (?1, ?2, ?3, ?4, ?5) ON CONFLICT (sid, slot) DO UPDATE SET seq = excluded.seq, request = excluded.request, reply = excluded.reply"
 
 abbrev pub put_slot_terms : List Term
 put_slot_terms = lit Null ∷ col 0 0 ∷ col 0 1 ∷ col 0 2 ∷ col 0 3 ∷ col 0 4 ∷ []
@@ -225,6 +225,25 @@ put_slot_query tree = over_table tree (equals (col 1 0) (col 0 5) ∷ [])
 abbrev pub put_slot_clause : ℕ → Upsert
 put_slot_clause tree =
     record { target = Some (1 ∷ 2 ∷ []); update = Some (record { lets = []; body = put_slot_query tree }) }
+
+-- ---- the upgrade of a room of version 1
+
+abbrev pub copy_slots_text : List ℕ
+copy_slots_text = codes
+    "INSERT INTO kept (sid, slot, seq, request, reply) SELECT sid, slot, seq, request, reply FROM slot"
+
+-- what is copied of a row: all but its rowid
+abbrev pub copy_slots_query : Query
+copy_slots_query = record (over_table 8 [] (lit Null ∷ col 1 1 ∷ col 1 2 ∷ col 1 3 ∷ col 1 4 ∷ col 1 5 ∷ []) [])
+    { collations = Binary ∷ Binary ∷ Binary ∷ Binary ∷ Binary ∷ Binary ∷ [] }
+
+abbrev pub empty_slot_text : List ℕ
+empty_slot_text = codes "DELETE FROM slot"
+
+abbrev pub empty_slot_query : Query
+empty_slot_query = over_table 8 [] (col 1 0 ∷ []) []
+
+-- ---- a count
 
 abbrev pub count_children_text : List ℕ
 count_children_text = codes "SELECT count(*) FROM node WHERE parent = ?1"
