@@ -10,5 +10,6 @@ pub record TrialModel : Type 0 where
 -- what is answered to a piece
 pub data TrialAnswerModel : Type 0 where
   Reply : List ℕ → TrialAnswerModel
+  Uncached : TrialAnswerModel
   FalseRetry : TrialAnswerModel
   Misordered : TrialAnswerModel

@@ -1,7 +1,7 @@
 //! A trial slot: the smallest thing that shows why a retry must act once.
 ghost use Rattle.std.specs.Prelude.{◌≡◌, [], ◌++◌, map, IsSome, IfOk, OnOk, OnErr};
 ghost use Rattle.room_slots.specs.Slots.{verdict};
-ghost use Rattle.room_slots.specs.Trials.{answer_model, answer_by_verdict, appended, kept_reply};
+ghost use Rattle.room_slots.specs.Trials.{answer_model, answer_by_verdict, answer_again, appended, kept_reply};
 ghost use Rattle.room_slots.specs.Trials.{trial_after, trial_answer};
 ghost use Rattle.room_slots.specs.TrialModel.{Reply};
 ghost use Rattle.room_slots.specs.Accepted.{accepted, bytes_of};
@@ -36,6 +36,8 @@ impl Model for Trial {
 pub enum TrialAnswer {
     /// The whole document after the piece.
     Reply(Vec<u8>),
+    /// The last piece again, in a slot that was made without its reply: this type's own calls keep each one.
+    Uncached,
     /// The last number with another piece.
     FalseRetry,
     /// Neither the last number nor the next.
@@ -57,7 +59,7 @@ impl Trial {
     ///
     /// What the piece is to the slot, [`classify`] says. A new one is appended
     /// and kept, with the whole document as its reply. A repeat gets the reply
-    /// that is kept. A repeat, a false retry and a misordered piece change nothing.
+    /// that is kept. What is not new changes nothing.
     ///
     /// # Errors
     ///
@@ -71,6 +73,7 @@ impl Trial {
         match classify(self.kept.as_ref(), seq, bytes) {
             Verdict::New => self.append_new(seq, bytes),
             Verdict::Repeat => self.reply_again(),
+            Verdict::Uncached => Ok(TrialAnswer::Uncached),
             Verdict::FalseRetry => Ok(TrialAnswer::FalseRetry),
             Verdict::Misordered => Ok(TrialAnswer::Misordered),
         }
@@ -101,7 +104,7 @@ impl Trial {
         let kept = Kept {
             seq,
             request: bytes.to_vec(*self.doc.allocator())?,
-            reply: reply.clone()?,
+            reply: Some(reply.clone()?),
         };
         // The last growth that may be refused: up to here nothing has changed.
         self.doc.extend_from_slice(bytes)?;
@@ -111,13 +114,16 @@ impl Trial {
 
     // The reply that is kept, again.
     fn reply_again(&self) -> Result<TrialAnswer, AllocError>
-        requires { IsSome self.now.kept }
-        ensures { IfOk result (λ answer. answer_model answer ≡ Reply (kept_reply self.now.kept)) }
+        requires { IsSome (kept_reply self.now.kept) }
+        ensures { IfOk result (λ answer. answer_model answer ≡ answer_again (kept_reply self.now.kept)) }
     {
         let Some(kept) = &self.kept else {
             unreachable!();
         };
-        Ok(TrialAnswer::Reply(kept.reply.clone()?))
+        let Some(reply) = &kept.reply else {
+            unreachable!();
+        };
+        Ok(TrialAnswer::Reply(reply.clone()?))
     }
 }
 
@@ -128,6 +134,7 @@ impl TrialAnswer {
     {
         match self {
             TrialAnswer::Reply(bytes) => Ok(TrialAnswer::Reply(bytes.clone()?)),
+            TrialAnswer::Uncached => Ok(TrialAnswer::Uncached),
             TrialAnswer::FalseRetry => Ok(TrialAnswer::FalseRetry),
             TrialAnswer::Misordered => Ok(TrialAnswer::Misordered),
         }

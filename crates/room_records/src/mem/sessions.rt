@@ -9,7 +9,7 @@ ghost use Rattle.room_records.specs.Sessions.{slot_cmp, session_in, kept_in, Are
 
 use crate::limits::MAX_SLOTS;
 use crate::names::{Sid, SlotCount};
-use crate::session::{SessionRow, SlotRow, copy_kept};
+use crate::session::{SessionRow, SlotRow};
 use crate::table::Table;
 use room_acl::Principal;
 use room_slots::Kept;
@@ -64,7 +64,7 @@ impl Sessions {
     {
         let key = (sid.clone()?, slot);
         match self.kept.get(&key) {
-            Some(kept) => Ok(Some(copy_kept(kept)?)),
+            Some(kept) => Ok(Some(kept.clone()?)),
             None => Ok(None),
         }
     }
