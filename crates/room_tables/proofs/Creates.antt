@@ -36,15 +36,15 @@ use Rattle.room_tables.proofs.Making.{session_made, kept_is, kept_plain, kept_ma
 use Rattle.room_tables.proofs.Effects.{same_records}
 use Rattle.room_tables.proofs.Changes.{went, same_value, executes_inside}
 
-record Made (old new : State) (schema : Schema) (table : Table) : Type 0 where
+pub record Made (old new : State) (schema : Schema) (table : Table) : Type 0 where
   -- no table, index or view had the name
-  free : is_used schema table.name ≡ false
-  after : new.now.schema ≡ created schema table
-  sound : IsDatabase new.now
-  empty : new.now.trees (next_tree schema) ≡ []
-  others : KeepsRows schema.tables old.now.trees new.now.trees
+  pub free : is_used schema table.name ≡ false
+  pub after : new.now.schema ≡ created schema table
+  pub sound : IsDatabase new.now
+  pub empty : new.now.trees (next_tree schema) ≡ []
+  pub others : KeepsRows schema.tables old.now.trees new.now.trees
 
-makes : (old new : State) (schema : Schema) (table : Table) (sql text : List ℕ) (count : ℕ)
+pub makes : (old new : State) (schema : Schema) (table : Table) (sql text : List ℕ) (count : ℕ)
     → old.now.schema ≡ schema → table_defined_by text ≡ Ok table → lacks_sequence (created schema table) ≡ false
     → Writes old new None CreateTable text [] count → Made old new schema table
 makes old new schema table sql text count has defined plain w =
@@ -75,12 +75,12 @@ all_empty [] more old new same were is = (is, tt)
 all_empty (t ∷ tables) more old new same were is = (same.0 ∙ were.0, all_empty tables more old new same.1 were.1 is)
 
 pub room_step : (old new : State) (count : ℕ) → ExecutesInside 0 room_text [] old new (Ok count)
-    → IsMade schema_0 old.now → IsMade schema_1 new.now
+    → old.now.schema ≡ schema_0 → IsMade schema_1 new.now
 room_step old new count h was =
-    let w = runs_as room_text [] old new schema_0 was.schema CreateTable room_is.0
+    let w = runs_as room_text [] old new schema_0 was CreateTable room_is.0
     room_plain count (executes_inside room_text [] old new count h).0 in
     let it = makes old new schema_0 (record room_table { tree = 0 })
-    room_text _ count was.schema room_is.2 refl (rw room_is.1 at w) in
+    room_text _ count was room_is.2 refl (rw room_is.1 at w) in
     record { schema = it.after ∙ room_made; empty = (it.empty, tt); sound = it.sound }
 
 pub node_step : (old new : State) (count : ℕ) → ExecutesInside 0 node_text [] old new (Ok count)

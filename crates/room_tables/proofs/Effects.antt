@@ -21,7 +21,7 @@ use Rattle.room_tables.specs.Texts.{put_node_text, put_next_text, put_doc_text}
 use Rattle.room_tables.specs.Rows.{has, only, parent_in, name_of_text, kind_of, shown_node, node_of, nodes_in}
 use Rattle.room_tables.specs.Rows.{entries_in, shown_doc, doc_of, documents_in, number_in, shown_next, next_in}
 use Rattle.room_tables.specs.Rows.{shown_version, version_rows, IsVersion, sessions_in, slots_in, records_of}
-use Rattle.room_tables.specs.Layout.{IsNumbered, IsRoomDatabase, parent_value}
+use Rattle.room_tables.specs.Layout.{IsNumbered, IsRoomDatabase, parent_value, reply_value}
 use Rattle.room_tables.specs.Steps.{Steps, kind_number}
 use Rattle.room_tables.proofs.Changes.{executes_inside}
 use Rattle.room_tables.proofs.Puts.{stored_node, node_params, puts_node, puts_next, puts_doc}
@@ -216,3 +216,8 @@ steps_node_at old new node name text params count room named text_is params_are 
 pub bound_parent : (p : Option ℕ) → bound_value (parent_value p) ≡ parent_value p
 bound_parent None = refl
 bound_parent (Some n) = refl
+
+-- and so is a reply
+pub bound_reply : (r : Option (List ℕ)) → bound_value (reply_value r) ≡ reply_value r
+bound_reply None = refl
+bound_reply (Some bytes) = refl

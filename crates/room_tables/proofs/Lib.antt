@@ -20,5 +20,7 @@ pub mod Asks
 pub mod Selects
 pub mod Children
 pub mod Creates
+pub mod Copies
+pub mod Moves
 pub mod Reading
 pub mod Onward

@@ -26,7 +26,7 @@ use Rattle.room_tables.specs.Texts.{put_node_text, put_node_terms, put_node_quer
 use Rattle.room_tables.specs.Texts.{put_doc_query, put_next_text, put_next_terms, put_next_query, put_session_text}
 use Rattle.room_tables.specs.Texts.{put_session_terms, put_session_query, put_slot_text, put_slot_terms, put_slot_query}
 use Rattle.room_tables.specs.Rows.{has, has_text, is_slot}
-use Rattle.room_tables.specs.Layout.{IsKeyed, parent_value}
+use Rattle.room_tables.specs.Layout.{IsKeyed, parent_value, reply_value}
 use Rattle.room_tables.proofs.Meaning.{put_node_is, put_node_plain, put_doc_is, put_doc_plain, put_next_is}
 use Rattle.room_tables.proofs.Meaning.{put_next_plain, put_session_is, put_session_plain, put_slot_is, put_slot_plain}
 use Rattle.room_tables.proofs.Values.{has_int, has_text_value, has_value, cast_tied}
@@ -302,15 +302,16 @@ puts_session l old new sid owner slots open_flag count schema keyed h =
 
 -- ---- slot
 
-abbrev pub slot_values : List ℕ → ℕ → ℕ → List ℕ → List ℕ → Row
-slot_values sid slot seq request reply = Text sid ∷ Int (pos slot) ∷ Int (pos seq) ∷ Blob request ∷ Blob reply ∷ []
+abbrev pub slot_values : List ℕ → ℕ → ℕ → List ℕ → Option (List ℕ) → Row
+slot_values sid slot seq request reply =
+    Text sid ∷ Int (pos slot) ∷ Int (pos seq) ∷ Blob request ∷ reply_value reply ∷ []
 
 -- the row of this slot, under some rowid, with a value that ties with the slot's number
-pub record IsSlot (sid : List ℕ) (slot seq : ℕ) (request reply : List ℕ) (r : Row) : Type 0 where
+pub record IsSlot (sid : List ℕ) (slot seq : ℕ) (request : List ℕ) (reply : Option (List ℕ)) (r : Row) : Type 0 where
   pub rowid : ℤ
   pub number : Value
   pub tied : value_cmp number (Int (pos slot)) ≡ Equal
-  pub is : r ≡ Int rowid ∷ Text sid ∷ number ∷ Int (pos seq) ∷ Blob request ∷ Blob reply ∷ []
+  pub is : r ≡ Int rowid ∷ Text sid ∷ number ∷ Int (pos seq) ∷ Blob request ∷ reply_value reply ∷ []
 
 slot_quiet : (l : Layout) (row : Row) → works (room_schema l) Enforced 0 (slots_tree l) [] (row ∷ []) ≡ []
 unfolding everything
@@ -327,7 +328,7 @@ with_two_truths : (a b : Bool) → ((a && (b && true)) || false) ≡ true → (a
 with_two_truths true b h = with_truth b h
 with_two_truths false b h = h
 
-slot_conflict : (l : Layout) (rowid : ℤ) (sid : List ℕ) (slot seq : ℕ) (request reply : List ℕ) (r : Row)
+slot_conflict : (l : Layout) (rowid : ℤ) (sid : List ℕ) (slot seq : ℕ) (request : List ℕ) (reply : Option (List ℕ)) (r : Row)
     → conflicts (Some (1 ∷ 2 ∷ [])) (room_schema l).indexes (slots_table l)
     (Int rowid ∷ slot_values sid slot seq request reply) r
     ≡ true → is_slot sid slot r ≡ true
@@ -335,12 +336,12 @@ unfolding first_key
 slot_conflict Fresh rowid sid slot seq request reply r h = with_two_truths (has_text 1 sid r) (has 2 slot r) h
 slot_conflict Upgraded rowid sid slot seq request reply r h = with_two_truths (has_text 1 sid r) (has 2 slot r) h
 
-cast_slot : (l : Layout) (rowid : ℤ) (sid : List ℕ) (slot seq : ℕ) (request reply : List ℕ)
+cast_slot : (l : Layout) (rowid : ℤ) (sid : List ℕ) (slot seq : ℕ) (request : List ℕ) (reply : Option (List ℕ))
     → cast_row (slots_table l) (Int rowid ∷ slot_values sid slot seq request reply)
     ≡ Int rowid ∷ slot_values sid slot seq request reply
 cast_slot l rowid sid slot seq request reply = rw (cast_int rowid, cast_int (pos slot), cast_int (pos seq))
 
-slot_upsert : (l : Layout) (rowid : ℤ) (sid : List ℕ) (slot seq : ℕ) (request reply : List ℕ)
+slot_upsert : (l : Layout) (rowid : ℤ) (sid : List ℕ) (slot seq : ℕ) (request : List ℕ) (reply : Option (List ℕ))
     → IsUpsert l (slots_table l) (1 ∷ 2 ∷ []) 5 (put_slot_query 8).project (slot_values sid slot seq request reply)
     (Int rowid ∷ slot_values sid slot seq request reply)
     (IsSlot sid slot seq request reply) (λ r. is_slot sid slot r ≡ true)
@@ -355,22 +356,22 @@ slot_upsert l id sid slot seq request reply = record {
   fits = record { rowid = id; number = Int (pos slot); tied = tied_itself value_cmp_total (Int (pos slot)); is = refl };
   met = slot_conflict l id sid slot seq request reply;
   there_at = λ v. refl;
-  raw = λ there. rowid there ∷ column there 1 ∷ column there 2 ∷ Int (pos seq) ∷ Blob request ∷ Blob reply ∷ [];
+  raw = λ there. rowid there ∷ column there 1 ∷ column there 2 ∷ Int (pos seq) ∷ Blob request ∷ reply_value reply ∷ [];
   reads = λ there. refl;
   renewed = λ there. rowid there ∷ cast Rattle.sqlite.specs.Kind.TheVariants.Text (column there 1)
-      ∷ cast Integer (column there 2) ∷ Int (pos seq) ∷ Blob request ∷ Blob reply ∷ [];
+      ∷ cast Integer (column there 2) ∷ Int (pos seq) ∷ Blob request ∷ reply_value reply ∷ [];
   casts = λ there i is. rw (is, cast_int i, cast_int (pos seq));
   same_id = λ there. refl;
   refits = λ there i is met. record {
     rowid = i;
     number = cast Integer (column there 2);
     tied = cast_tied (column there 2) (pos slot) (has_value 2 slot there (second_of_both _ _ met));
-    is = ap₂ (λ v t. v ∷ t ∷ cast Integer (column there 2) ∷ Int (pos seq) ∷ Blob request ∷ Blob reply ∷ [])
+    is = ap₂ (λ v t. v ∷ t ∷ cast Integer (column there 2) ∷ Int (pos seq) ∷ Blob request ∷ reply_value reply ∷ [])
         is (ap (cast Rattle.sqlite.specs.Kind.TheVariants.Text) (has_text_value 1 sid there (first_of_both _ _ met)));
   };
 }
 
-pub puts_slot : (l : Layout) (old new : State) (sid : List ℕ) (slot seq : ℕ) (request reply : List ℕ) (count : ℕ)
+pub puts_slot : (l : Layout) (old new : State) (sid : List ℕ) (slot seq : ℕ) (request : List ℕ) (reply : Option (List ℕ)) (count : ℕ)
     → old.now.schema ≡ room_schema l → IsKeyed (old.now.trees (slots_tree l))
     → Executes put_slot_text (slot_values sid slot seq request reply) old new (Ok count)
     → PutInto l old.now new.now (slots_tree l) (IsSlot sid slot seq request reply) (λ r. is_slot sid slot r ≡ true)

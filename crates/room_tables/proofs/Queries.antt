@@ -7,6 +7,7 @@ use Rattle.std.specs.List.{list_all}
 use Rattle.std.proofs.lemmas.List.Sorted.{IsPermutation-map, length_permutation}
 use Rattle.sqlite_value.specs.declared.value.Value.TheVariants.{Null}
 use Rattle.sqlite_value.specs.declared.keys.Key.{Key}
+use Rattle.sqlite_value.specs.declared.keys.Collation.{Collation}
 use Rattle.sqlite_value.specs.Order.{Row}
 use Rattle.sqlite_trees.specs.Tree.{Trees}
 use Rattle.sqlite_sql.specs.Term.{Term, holds}
@@ -68,12 +69,14 @@ pub record Picks (q : Query) (params : Row) (rows : List Row) (shown : List Row)
   pub sorted : IsSorted (output_cmp q) ordered
   pub is : shown ≡ map (λ (o : Output). o.1) ordered
 
-pub answer_is : (tree : ℕ) (terms project : List Term)
-    (order : List (Term × Key)) (db : Trees) (params : Row) (rows : List Row)
-    → IsAnswer (over_table tree terms project order) db params rows
-    → Picks (over_table tree terms project order) params (passing terms params (db tree)) rows
-answer_is tree terms project order db params rows a =
-    let q = over_table tree terms project order in
+-- what a query over one table shows, whatever collations its columns have
+pub answer_of : (tree : ℕ) (terms project : List Term) (order : List (Term × Key)) (how : List Collation) (db : Trees)
+    (params : Row) (rows : List Row)
+    → IsAnswer (record (over_table tree terms project order) { collations = how }) db params rows
+    → Picks (record (over_table tree terms project order) { collations = how }) params
+    (passing terms params (db tree)) rows
+answer_of tree terms project order how db params rows a =
+    let q : Query = record (over_table tree terms project order) { collations = how } in
     let kept : a.kept ≡ map (λ r. output q (params ∷ r ∷ [])) (passing terms params (db tree)) =
     a.distinct ∙ ap (map (output q)) (a.grouped ∙ envs_are terms params (db tree))
     ∙ map-map (output q) (λ r. params ∷ r ∷ []) (passing terms params (db tree)) in
@@ -83,6 +86,12 @@ answer_is tree terms project order db params rows a =
       sorted = a.sorted;
       is = a.shown;
     }
+
+pub answer_is : (tree : ℕ) (terms project : List Term)
+    (order : List (Term × Key)) (db : Trees) (params : Row) (rows : List Row)
+    → IsAnswer (over_table tree terms project order) db params rows
+    → Picks (over_table tree terms project order) params (passing terms params (db tree)) rows
+answer_is tree terms project order = answer_of tree terms project order []
 
 pub and_true : (b : Bool) → (b && true) ≡ b
 and_true true = refl

@@ -24,8 +24,8 @@ use Rattle.room_records.specs.Changes.{apply_change}
 use Rattle.room_tables.specs.Tables.{Layout, Fresh, Upgraded, room_schema, slots_table, slots_tree, slots_index}
 use Rattle.room_tables.specs.Texts.{drop_slots_text, put_slot_text}
 use Rattle.room_tables.specs.Rows.{has, has_text, is_slot, only, shown_slot, kept_of, slots_in, nodes_in, entries_in}
-use Rattle.room_tables.specs.Rows.{documents_in, next_in, sessions_in, slots_of}
-use Rattle.room_tables.specs.Layout.{IsKeyed, IsRoomDatabase}
+use Rattle.room_tables.specs.Rows.{documents_in, next_in, sessions_in, slots_of, reply_in}
+use Rattle.room_tables.specs.Layout.{IsKeyed, IsRoomDatabase, reply_value}
 use Rattle.room_tables.specs.Steps.{Steps}
 use Rattle.room_tables.proofs.Each.{rows_pass, above}
 use Rattle.room_tables.proofs.Listed.{slots_listed}
@@ -178,6 +178,10 @@ filter_slot l sid q slot n old new Fits it mine schema sound keyed =
       | inr left ↦ left
     ]
 
+reply_back : (reply : Option (List ℕ)) → reply_in (reply_value reply) ≡ reply
+reply_back None = refl
+reply_back (Some bytes) = refl
+
 pub steps_put_slot : (old new : State) (row : SlotRow) (count : ℕ) → IsRoomDatabase old.now
     → ExecutesInside 0 put_slot_text (slot_values row.sid row.slot row.kept.seq row.kept.request row.kept.reply)
     old new (Ok count) → Steps old new (apply_change (PutSlot row))
@@ -210,7 +214,9 @@ steps_put_slot old new row count room h =
           ∙ through kept_in (bytes_eq q row.sid && (n == row.slot)) (it.row ∷ [])
           (filter (is_slot q n) (old.now.trees (slots_tree l)))
           ∙ ap (λ kept. cond (bytes_eq q row.sid && (n == row.slot)) (Some kept)
-          (slots_in (old.now.trees (slots_tree l)) q n)) (ap (λ r. kept_of (shown_slot r)) it.fits.is)
+          (slots_in (old.now.trees (slots_tree l)) q n)) (ap (λ r. kept_of (shown_slot r)) it.fits.is
+          ∙ ap (λ reply. record { seq = row.kept.seq; request = row.kept.request; reply = reply })
+          (reply_back row.kept.reply))
           ∙ ap (λ rows. cond (bytes_eq q row.sid && (n == row.slot)) (Some row.kept) (slots_in rows q n))
           (sym room.listed));
     }

@@ -2,7 +2,7 @@
 use Rattle.std.specs.Prelude.{◌≡◌, ℕ, pos, true, List, Option}
 use Rattle.std.specs.List.{AllByRecursion}
 use Rattle.sqlite_value.specs.declared.value.Value.{Value}
-use Rattle.sqlite_value.specs.declared.value.Value.TheVariants.{Int}
+use Rattle.sqlite_value.specs.declared.value.Value.TheVariants.{Int, Blob}
 use Rattle.sqlite_value.specs.Order.{Row, column}
 use Rattle.sqlite_trees.specs.Tree.{rowid, IsTable}
 use Rattle.sqlite_trees.specs.View.{is_int}
@@ -21,6 +21,10 @@ pub record IsKeyed (rows : List Row) : Type 0 where
 -- a parent's number as it is stored
 abbrev pub parent_value : Option ℕ → Value
 parent_value = or_null (λ n. Int (pos n))
+
+-- a reply as it is stored
+abbrev pub reply_value : Option (List ℕ) → Value
+reply_value = or_null Blob
 
 -- the number of a node and that of its parent are natural numbers
 pub record IsNumbered (row : Row) : Type 0 where

@@ -41,6 +41,11 @@ abbrev pub bytes_in : Value → List ℕ
 bytes_in (Blob b) = b
 bytes_in _ = []
 
+-- NULL is a reply that is not kept
+abbrev pub reply_in : Value → Option (List ℕ)
+reply_in (Blob b) = Some b
+reply_in _ = None
+
 -- NULL is no parent
 abbrev pub parent_in : Value → Option ℕ
 parent_in (Int (pos n)) = Some n
@@ -187,7 +192,7 @@ shown_slot row = column row 3 ∷ column row 4 ∷ column row 5 ∷ []
 
 abbrev pub kept_of : Row → KeptModel
 kept_of row =
-    record { seq = number_in (column row 0); request = bytes_in (column row 1); reply = bytes_in (column row 2) }
+    record { seq = number_in (column row 0); request = bytes_in (column row 1); reply = reply_in (column row 2) }
 
 abbrev pub is_slot : List ℕ → ℕ → Row → Bool
 is_slot sid slot row = has_text 1 sid row && has 2 slot row
