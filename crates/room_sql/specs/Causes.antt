@@ -15,7 +15,7 @@ use Rattle.room_records.specs.declared.session.SlotRow.{SlotRow}
 use Rattle.room_records.specs.declared.change.Change.{Change}
 use Rattle.room_records.specs.declared.change.Change.TheVariants.{PutNode, DropNode, PutEntries, PutDoc, PutSession}
 use Rattle.room_records.specs.declared.change.Change.TheVariants.{PutSlot, DropSlots, PutNext}
-use Rattle.room_tables.specs.Layout.{parent_value}
+use Rattle.room_tables.specs.Layout.{parent_value, reply_value}
 use Rattle.room_tables.specs.Steps.{kind_number, flag_of, shown_as}
 use Rattle.room_tables.specs.Texts.{put_node_text, drop_node_text, drop_entries_text, add_entry_text, add_two_text}
 use Rattle.room_tables.specs.Texts.{add_three_text, add_four_text, put_doc_text, put_session_text, put_slot_text}
@@ -61,7 +61,8 @@ session_write row = statement put_session_text
 
 abbrev pub slot_write : SlotRow → Statement
 slot_write row = statement put_slot_text
-    (Text row.sid ∷ Int (pos row.slot) ∷ Int (pos row.kept.seq) ∷ Blob row.kept.request ∷ Blob row.kept.reply ∷ [])
+    (Text row.sid ∷ Int (pos row.slot) ∷ Int (pos row.kept.seq) ∷ Blob row.kept.request
+    ∷ reply_value row.kept.reply ∷ [])
 
 abbrev pub writes_of : Change → List Statement
 writes_of (PutNode node) = node_write node ∷ []

@@ -10,7 +10,7 @@ ghost use Rattle.sqlite_trees.specs.Tree.{Trees};
 ghost use Rattle.room_records.specs.Changes.{apply_change, apply_changes};
 ghost use Rattle.room_records.specs.declared.change.Change.TheVariants.{PutNode, DropNode, PutEntries, PutDoc};
 ghost use Rattle.room_records.specs.declared.change.Change.TheVariants.{PutSession, PutSlot, DropSlots, PutNext};
-ghost use Rattle.room_tables.specs.Rows.{version_rows, IsVersion1};
+ghost use Rattle.room_tables.specs.Rows.{version_rows, IsVersion};
 ghost use Rattle.room_tables.specs.Layout.{IsRoomDatabase};
 ghost use Rattle.room_tables.specs.Steps.{Steps, Lists, MayBecome};
 ghost use Rattle.room_sql.specs.Causes.{statement, RunInTurn, writes_of, writes_of_all, entry_writes, entries_drop};
@@ -387,7 +387,7 @@ fn put_slot<S: Alter>(tx: &mut Transaction<'_, S>, row: &SlotRow) -> Result<(), 
     let reply = kept_reply(&row.kept);
     run(
         tx,
-        "INSERT INTO slot (sid, slot, seq, request, reply) VALUES (?1, ?2, ?3, ?4, ?5) ON CONFLICT (sid, slot) \
+        "INSERT INTO kept (sid, slot, seq, request, reply) VALUES (?1, ?2, ?3, ?4, ?5) ON CONFLICT (sid, slot) \
          DO UPDATE SET seq = excluded.seq, request = excluded.request, reply = excluded.reply",
         params![sid, slot, seq, request, reply],
     )
@@ -403,22 +403,22 @@ fn drop_slots<S: Alter>(tx: &mut Transaction<'_, S>, sid: &Sid) -> Result<(), Er
         → RunInTurn S.Store (writes_of (DropSlots sid.now)) tx.old.conn.now tx.new.conn.now result }
 {
     let sid = sid.text();
-    run(tx, "DELETE FROM slot WHERE sid = ?1", params![sid])
+    run(tx, "DELETE FROM kept WHERE sid = ?1", params![sid])
 }
 
-/// Sets the next number, in a row of version 1.
+/// Sets the next number, in a row of version 2.
 pub(crate) fn put_next<S: Alter>(tx: &mut Transaction<'_, S>, next: u32) -> Result<(), Error>
     ensures frame { InsideFrame S.Store tx.old tx.new result }
     ensures ok { HasCleanDisk (state S.Store tx.new.conn.now)
         → OnOk result (IsRoomDatabase (state S.Store tx.old.conn.now).now →
         Steps (state S.Store tx.old.conn.now) (state S.Store tx.new.conn.now) (apply_change (PutNext next))
-        × IsVersion1 (version_rows (state S.Store tx.new.conn.now).now.trees)) }
+        × IsVersion 2 (version_rows (state S.Store tx.new.conn.now).now.trees)) }
     ensures ran { HasCleanDisk (state S.Store tx.new.conn.now) → tx.old.conn.now.in_transaction ≡ true
         → RunInTurn S.Store (writes_of (PutNext next)) tx.old.conn.now tx.new.conn.now result }
 {
     run(
         tx,
-        "INSERT INTO room (one, version, next) VALUES (1, 1, ?1) ON CONFLICT (one) DO UPDATE SET version = \
+        "INSERT INTO room (one, version, next) VALUES (1, 2, ?1) ON CONFLICT (one) DO UPDATE SET version = \
          excluded.version, next = excluded.next",
         params![next],
     )
@@ -474,8 +474,8 @@ pub(crate) fn commit<S: Alter>(conn: &mut Connection<S>, changes: &[Change]) -> 
     ensures nodes { HasCleanDisk (state S.Store conn.new) → OnOk result (IsRoomDatabase (state S.Store conn.old).now
         → AfterAll changes.now ((state S.Store conn.old).now.trees 1) ((state S.Store conn.new).now.trees 1)) }
     ensures version { HasCleanDisk (state S.Store conn.new) → OnOk result (IsRoomDatabase (state S.Store conn.old).now
-        → IsVersion1 (version_rows (state S.Store conn.old).now.trees) →
-        IsVersion1 (version_rows (state S.Store conn.new).now.trees)) }
+        → IsVersion 2 (version_rows (state S.Store conn.old).now.trees) →
+        IsVersion 2 (version_rows (state S.Store conn.new).now.trees)) }
     ensures failed { HasCleanDisk (state S.Store conn.new) → AllByRecursion IsShort changes.now
         → IfErr result (CommitFails S.Store changes.now conn.old conn.new) }
     ensures err { HasCleanDisk (state S.Store conn.new) → IsTrue (state S.Store conn.new).is_open

@@ -1,4 +1,5 @@
 use Rattle.sqlite.specs.Held.{state}
+use Rattle.room_tables.proofs.Effects.{bound_reply}
 use Rattle.room_tables.proofs.Slots.{steps_put_slot}
 use Rattle.room_sql.proofs.Turns.{ok_then}
 use Rattle.room_sql.proofs.writes.put_slot.Goals as goal
@@ -18,6 +19,7 @@ returns-clause-ok g c clean =
       c.kept_number-seq.ensures,
       c.kept_request-request.ensures,
       c.kept_reply-reply.ensures,
+      bound_reply c.args.row.now.kept.reply,
     )
     at ran.1))
 
@@ -32,4 +34,5 @@ returns-clause-ran g c clean inside = rw (
   c.kept_number-seq.ensures,
   c.kept_request-request.ensures,
   c.kept_reply-reply.ensures,
+  bound_reply c.args.row.now.kept.reply,
 ) at (c.run.ensures.ran clean inside)

@@ -7,5 +7,5 @@ pub returns-in-Ok-first_node-clause-value : goal.returns-in-Ok-first_node-clause
 returns-in-Ok-first_node-clause-value g c available laid_out =
     let name = c.text.ensures.lawful in
     named_found _ c.args.parent c.args.name.now _ _ laid_out.0.room name.some
-    (rw c.text.ensures.value at (c.in-Ok.ensures.rows available.0 laid_out.0.room.schema))
+    (rw c.text.ensures.value at (c.in-Ok.ensures.rows available.0 laid_out.0.room))
     (c.in-Ok-first_node.ensures.value ∙ ap (λ l. option_map node_of (slice_get l 0)) c.as_slice.ensures.value)

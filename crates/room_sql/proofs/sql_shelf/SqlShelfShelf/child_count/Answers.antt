@@ -21,7 +21,7 @@ returns-in-Err-clause-frame g c =
 
 pub returns-in-Ok-one_count-clause-value : goal.returns-in-Ok-one_count-clause-value
 returns-in-Ok-one_count-clause-value g c available laid_out rules =
-    let read = c.in-Ok.ensures.rows available.0 laid_out.0.room.schema in
+    let read = c.in-Ok.ensures.rows available.0 laid_out.0.room in
     subst (IsChildCount _ c.args.parent) (sym (c.in-Ok-one_count.ensures.value _ (c.as_slice.ensures.value ∙ read)))
     (count_children _ c.args.parent laid_out.0.room rules)
 
@@ -29,5 +29,5 @@ pub returns-in-Ok-one_count-clause-frame : goal.returns-in-Ok-one_count-clause-f
 returns-in-Ok-one_count-clause-frame g c =
     read_ok g.S.Store c.args.self.now.conn c.count_rows.new.conn c.args.self.now.failures c.args.self.now.known _ _
     c.in-Ok.ensures.answered.frame (λ clean room right. c.with_count-self.ensures _ right
-    (c.in-Ok-one_count.ensures.value _ (c.as_slice.ensures.value ∙ c.in-Ok.ensures.rows clean room.room.schema)
+    (c.in-Ok-one_count.ensures.value _ (c.as_slice.ensures.value ∙ c.in-Ok.ensures.rows clean room.room)
     ∙ length-map _ shown_node))

@@ -1,5 +1,6 @@
 use Rattle.std.proofs.Common.{◌∙◌, ap, option_map, unwrap_or}
 use Rattle.sqlite_value.specs.Order.{column}
+use Rattle.room_tables.specs.Tables.{last_tables, last_indexes}
 use Rattle.room_tables.specs.Rows.{only, number_in}
 use Rattle.room_tables.proofs.Queries.{only_permuted}
 use Rattle.room_sql.proofs.sql_shelf.SqlShelfShelf.next_id.Goals as goal
@@ -7,4 +8,5 @@ use Rattle.room_sql.proofs.sql_shelf.SqlShelfShelf.next_id.Goals as goal
 pub returns-in-Ok-one_number-clause-value : goal.returns-in-Ok-one_number-clause-value
 returns-in-Ok-one_number-clause-value g c available laid_out =
     c.in-Ok-one_number.ensures.value ∙ ap (λ o. unwrap_or (option_map (λ row. number_in (column row 0)) o) 0)
-    (ap only c.as_slice.ensures.value ∙ only_permuted _ _ (c.in-Ok.ensures.rows available.0 laid_out.0.room.schema))
+    (ap only c.as_slice.ensures.value ∙ only_permuted _ _ (c.in-Ok.ensures.rows available.0
+    (last_tables laid_out.0.room.layout) (last_indexes laid_out.0.room.layout) laid_out.0.room.schema))

@@ -7,12 +7,12 @@ use Rattle.room_sql.proofs.sql_shelf.SqlShelfShelf.node.Goals as goal
 pub returns-in-Ok-one_node-clause-value : goal.returns-in-Ok-one_node-clause-value
 returns-in-Ok-one_node-clause-value g c available laid_out =
     c.in-Ok-one_node.ensures.value ∙ ap (option_map node_of)
-    (ap only c.as_slice.ensures.value ∙ only_permuted _ _ (c.in-Ok.ensures.rows available.0 laid_out.0.room.schema))
+    (ap only c.as_slice.ensures.value ∙ only_permuted _ _ (c.in-Ok.ensures.rows available.0 laid_out.0.room))
 
 -- no row was read: none has the number
 pub returns-in-Ok-one_node-clause-frame : goal.returns-in-Ok-one_node-clause-frame
 returns-in-Ok-one_node-clause-frame g c =
     read_ok g.S.Store c.args.self.now.conn c.node_rows.new.conn c.args.self.now.failures c.args.self.now.known _ _
     c.in-Ok.ensures.answered.frame (λ clean room right. c.with_free-self.ensures.right _ right
-    (λ none. none_found _ _ _ (c.in-Ok.ensures.rows clean room.room.schema)
+    (λ none. none_found _ _ _ (c.in-Ok.ensures.rows clean room.room)
     (sym (ap length c.as_slice.ensures.value) ∙ c.as_slice.ensures.len) (sym c.is_empty.ensures ∙ none)))

@@ -6,4 +6,4 @@ use Rattle.room_sql.proofs.sql_shelf.SqlShelfShelf.session.Goals as goal
 pub returns-in-Ok-one_session-clause-value : goal.returns-in-Ok-one_session-clause-value
 returns-in-Ok-one_session-clause-value g c available laid_out =
     c.in-Ok-one_session.ensures.value ∙ ap (option_map (session_of c.args.sid.now)) (ap only c.as_slice.ensures.value
-    ∙ only_permuted _ _ (rw c.text.ensures.value at (c.in-Ok.ensures.rows available.0 laid_out.0.room.schema)))
+    ∙ only_permuted _ _ (rw c.text.ensures.value at (c.in-Ok.ensures.rows available.0 laid_out.0.room)))
