@@ -4,3 +4,4 @@ pub mod Decisions
 pub mod Turns
 pub mod NodeRows
 pub mod Calls
+pub mod Unread
