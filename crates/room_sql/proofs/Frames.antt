@@ -1,5 +1,5 @@
 -- The frames of calls.
-use Rattle.std.proofs.Common.{◌≡◌, ◌∙◌, true, false, Vec, Result, Ok, Err, IfOk, IfErr, IsErr, OnOk, ap, arith}
+use Rattle.std.proofs.Common.{◌≡◌, ◌∙◌, true, false, Vec, Result, Ok, Err, IfOk, IfErr, IsErr, OnOk, IsTrue, ap, arith}
 use Rattle.std.specs.declared.alloc.Global.{Global}
 use Rattle.std.specs.Prelude.{List, ℕ}
 use Rattle.sqlite_value.specs.Order.{Row}
@@ -7,15 +7,17 @@ use Rattle.sqlite_trees.specs.declared.store.Store.{Ghosts}
 use Rattle.sqlite_resolve.specs.Compile.{first}
 use Rattle.sqlite.specs.State.{State, HasCleanDisk, Survives, Shown, FailsToQuery, CommitsShowing}
 use Rattle.sqlite.specs.State.{ExecutesInside}
-use Rattle.sqlite.specs.Held.{state}
+use Rattle.sqlite.specs.Held.{Held, state}
 use Rattle.sqlite.specs.declared.error.Error.{Error}
 use Rattle.sqlite.specs.declared.rows.Row.{Row as Answer}
 use Rattle.sqlite.specs.declared.transaction.Transaction.{Transaction}
-use Rattle.sqlite.proofs.StateLemmas.{survives_then}
+use Rattle.sqlite_trees.specs.Tree.{Trees}
+use Rattle.sqlite.specs.Effect.{Database}
+use Rattle.sqlite.proofs.StateLemmas.{survives_then, survives_weaker}
 use Rattle.sqlite.proofs.InsideLemmas.{keeps_then}
 use Rattle.room_tables.proofs.Changes.{keeps_all}
 use Rattle.room_tables.proofs.Queries.{is_query_text, query_keeps, query_left, query_answered, query_open}
-use Rattle.room_sql.specs.Frames.{QueryFrame, InsideFrame}
+use Rattle.room_sql.specs.Frames.{QueryFrame, InsideFrame, CommitFrame}
 
 -- a text that only asks has the frame of a query
 pub query_frame : (text : List ℕ) (args : Row) (old new : State) (r : Result (Vec Answer Global) Error)
@@ -34,6 +36,10 @@ query_frame text args old new r selects ok err mode survives =
       same = λ clean is settled. query_left items text args old new r selects (ok clean) (err clean) is settled;
       crash = query_keeps text args old new selects survives;
     }
+
+on_no : {V E : Type 0} (r : Result V E) (P : Type 0) → IsErr r → OnOk r P
+on_no (Ok x) P err = absurd cc
+on_no (Err e) P err = tt
 
 module _ {S : Type 0} (store : Ghosts S) where
   -- one statement that failed
@@ -74,7 +80,31 @@ module _ {S : Type 0} (store : Ghosts S) where
     kept = frame.kept;
     crash = frame.crash;
   }
-    where
-      on_no : {V : Type 0} (r : Result V Error) (P : Type 0) → IsErr r → OnOk r P
-      on_no (Ok x) P err = absurd cc
-      on_no (Err e) P err = tt
+
+module _ {S : Type 0} (store : Ghosts S) (Commits : Database → Trees → Type 0) where
+  -- a query, after which nothing was committed
+  pub not_committed : {T U : Type 0} (a b : Held S) (q : Result T Error) (r : Result U Error)
+      → QueryFrame (state store a) (state store b) q → a.in_transaction ≡ false → IsErr r → CommitFrame store Commits a b r
+  not_committed a b q r frame outside err = record {
+    mode = frame.mode outside;
+    settled = λ clean. on_no r _ err;
+    was_open = frame.was_open;
+    crash = survives_weaker (state store a) (state store b) (λ _. ⊥) (Commits (state store a).now)
+        (λ clean db none. absurd none) frame.crash;
+  }
+
+  -- a query, and then a call that makes a transaction and ends it
+  pub committed_then : {T U : Type 0} (a b d : Held S) (q : Result T Error) (r : Result U Error) (P : Trees → Type 0)
+      → QueryFrame (state store a) (state store b) q → d.in_transaction ≡ false
+      → (HasCleanDisk (state store d) → OnOk r ((state store d).committed ≡ (state store d).now))
+      → (HasCleanDisk (state store d) → IsTrue (state store d).is_open → IsTrue (state store b).is_open)
+      → Survives (state store b) (state store d) P
+      → (HasCleanDisk (state store d) → (db : Trees) → P db → Commits (state store a).now db)
+      → CommitFrame store Commits a d r
+  committed_then a b d q r P frame mode settled was_open survives may = record {
+    mode = mode;
+    settled = settled;
+    was_open = λ clean is. frame.was_open (omega (arith, survives.clean)) (was_open clean is);
+    crash = survives_then (state store a) (state store b) (state store d) _ _ (Commits (state store a).now)
+        (λ clean db none. absurd none) may frame.crash survives;
+  }

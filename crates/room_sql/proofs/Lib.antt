@@ -4,4 +4,5 @@ pub mod Decisions
 pub mod Turns
 pub mod NodeRows
 pub mod Calls
+pub mod Taken
 pub mod Unread

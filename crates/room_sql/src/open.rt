@@ -6,11 +6,12 @@ ghost use Rattle.sqlite.specs.Table.{Table};
 ghost use Rattle.sqlite_schema.specs.declared.schema.Index.{Index};
 ghost use Rattle.sqlite.specs.State.{HasCleanDisk, Survives, FailsToQuery};
 ghost use Rattle.sqlite.specs.Held.{state};
-ghost use Rattle.room_tables.specs.Tables.{Layout, schema_0, room_schema, with_last, has_table, has_a_table, has_column};
-ghost use Rattle.room_tables.specs.Tables.{has_columns, has_five, has_slots, has_room};
+ghost use Rattle.room_tables.specs.Tables.{schema_0, with_last, has_table, has_a_table, has_column};
+ghost use Rattle.room_tables.specs.Tables.{has_columns, has_five, has_slots, has_room, has_first_room};
 ghost use Rattle.room_tables.specs.Rows.{version_rows, IsVersion};
 ghost use Rattle.room_tables.specs.Texts.{find_version_text};
-ghost use Rattle.room_tables.specs.Versions.{TellsVersion};
+ghost use Rattle.room_tables.specs.Versions.{SaysVersion};
+ghost use Rattle.room_sql.specs.Taken.{IsTaken, SaysFirst, MayBeTaken};
 ghost use Rattle.room_tables.specs.Layout.{IsRoomDatabase};
 ghost use Rattle.room_tables.specs.Fresh.{IsFreshRoom, MayBeMade};
 ghost use Rattle.room_sql.specs.Frames.{QueryFrame, QueryAnswered};
@@ -18,6 +19,7 @@ ghost use Rattle.room_sql.specs.Known.{KnowsNothing};
 
 use crate::sql_shelf::SqlShelf;
 use crate::tables::make;
+use crate::upgrade::upgrade;
 use room_acl::Principal;
 use sqlite::{Alter, Connection, Error, ErrorCode, Row};
 use sqlite_value::value::ValueRef;
@@ -32,7 +34,7 @@ pub enum OpenFault {
     Store,
     /// One of the seven tables is there. Nothing was changed.
     RoomExists,
-    /// One of the six tables, or a column of theirs, is not there, or the version is not 2.
+    /// It is a room of neither version: a table, or a column of theirs, is not there, or the version is another.
     NotARoom,
 }
 
@@ -122,6 +124,13 @@ fn has_room<S: Alter>(conn: &Connection<S>) -> bool
     has_five(conn) && has_slots(conn, "kept")
 }
 
+/// Whether the tables of version 1 are there.
+fn has_first_room<S: Alter>(conn: &Connection<S>) -> bool
+    ensures { result ≡ has_first_room conn.now.schema }
+{
+    has_five(conn) && has_slots(conn, "slot")
+}
+
 fn version_rows<S: Alter>(conn: &mut Connection<S>) -> Result<Vec<Row>, Error>
     ensures answered { QueryAnswered find_version_text [] (state S.Store conn.old) (state S.Store conn.new) result }
     ensures asked { HasCleanDisk (state S.Store conn.new) → (more : List Table) (others : List Index)
@@ -141,18 +150,14 @@ fn is_version_2(rows: &[Row]) -> bool
     }
 }
 
-/// Whether the database says of itself that it is a room of version 2.
-fn is_room<S: Alter>(conn: &mut Connection<S>) -> Result<bool, Error>
-    ensures frame { QueryFrame (state S.Store conn.old) (state S.Store conn.new) result }
-    ensures told { HasCleanDisk (state S.Store conn.new) → IfOk result
-        (λ is. TellsVersion (state S.Store conn.old) (state S.Store conn.new) (λ rows. IsTrue is ↔ IsVersion 2 rows)) }
-    ensures asked { HasCleanDisk (state S.Store conn.new) → (more : List Table) (others : List Index)
-        → conn.old.schema ≡ with_last more others → IfOk result (λ is. IsTrue is ↔ IsVersion 2 (version_rows (state S.Store conn.old).now.trees)) }
-    ensures failed { HasCleanDisk (state S.Store conn.new)
-        → IfErr result (FailsToQuery find_version_text [] (state S.Store conn.old) (state S.Store conn.new)) }
+/// Whether there is one row, and its version is 1.
+fn is_version_1(rows: &[Row]) -> bool
+    ensures { IsTrue result ↔ IsVersion 1 rows.now }
 {
-    let rows = version_rows(conn)?;
-    Ok(is_version_2(rows.as_slice()))
+    match rows {
+        [row] => matches!(row.get_ref(0), Ok(ValueRef::Int(1))),
+        _ => false,
+    }
 }
 
 impl<S: Alter> SqlShelf<S> {
@@ -204,34 +209,34 @@ impl<S: Alter> SqlShelf<S> {
         }
     }
 
-    /// Takes a room that is there. It looks for the six tables and their columns by their names, and for the version 2,
-    /// and for nothing else. A refusal hands the connection back: `NotARoom` where one of these is missing, `Memory`
-    /// where memory was refused, `Store` where a call of `sqlite` answered another fault.
+    /// Takes a room that is there, of version 2 as it is, and one of version 1 after it made one of version 2 of it, in
+    /// one transaction: `kept` takes the rows of `slot`, which stays, empty. It looks for the tables and their columns by
+    /// their names, and for the version, and for nothing else: a room that has `kept` is of version 2.
+    /// A refusal hands the connection back: `NotARoom` where it is a room of neither version, `Memory` where memory was
+    /// refused, `Store` where a call of `sqlite` answered another fault.
     ///
-    /// What a shelf promises of its records is promised here of one schema alone: the six tables as `init` makes them
-    /// in an empty database, STRICT, with their keys, CHECKs and references, in that order, and nothing else in the
-    /// database. One with other keys or further tables is taken as well, and nothing is promised of its records.
+    /// What a shelf promises of its records is promised here of two schemas alone: the tables as `init` makes them in an
+    /// empty database, STRICT, with their keys, CHECKs and references, in that order, and nothing else in the database;
+    /// and those of version 1, with `slot` in the place of `kept`. One with other keys or further tables is taken as
+    /// well, and nothing is promised of its records.
     pub fn adopt(
         alloc: Global,
         connection: Connection<S>,
     ) -> Result<SqlShelf<S>, (OpenFault, Connection<S>)>
         requires { connection.in_transaction ≡ false }
-        ensures same { IfOk result (λ shelf. HasCleanDisk (state S.Store shelf.conn) → IsTrue
-            (state S.Store shelf.conn).is_open × ((state S.Store shelf.conn).now ≡ (state S.Store connection).now)) }
-        ensures room { IfOk result
-            (λ shelf. IsTrue (has_room connection.schema) × (HasCleanDisk (state S.Store shelf.conn)
-            → TellsVersion (state S.Store connection) (state S.Store shelf.conn) (IsVersion 2))) }
-        ensures missing { has_room connection.schema ≡ false
+        ensures taken { IfOk result (λ shelf. HasCleanDisk (state S.Store shelf.conn)
+            → IsTrue (state S.Store shelf.conn).is_open
+            × IsTaken (state S.Store connection) (state S.Store shelf.conn)) }
+        ensures missing { has_room connection.schema ≡ false → has_first_room connection.schema ≡ false
             → IsErrAnd result (λ e. (e.0 ≡ OpenFault.NotARoom) × (e.1 ≡ connection)) }
-        ensures no_room { IfErr result (λ e. e.0 ≡ OpenFault.NotARoom
-            → IsTrue (has_room connection.schema) → HasCleanDisk (state S.Store e.1) →
-            TellsVersion (state S.Store connection) (state S.Store e.1) (λ rows. ¬ IsVersion 2 rows)) }
-        ensures version { IfOk result (λ shelf. HasCleanDisk (state S.Store shelf.conn)
-            → (l : Layout) → connection.schema ≡ room_schema l → IsVersion 2 (version_rows (state S.Store connection).now.trees)) }
-        ensures no_version { IfErr result (λ e. e.0 ≡ OpenFault.NotARoom → HasCleanDisk (state S.Store e.1)
-            → (l : Layout) → connection.schema ≡ room_schema l → ¬ IsVersion 2 (version_rows (state S.Store connection).now.trees)) }
+        ensures no_second { IfErr result (λ e. e.0 ≡ OpenFault.NotARoom → IsTrue (has_room connection.schema)
+            → HasCleanDisk (state S.Store e.1) → SaysVersion (state S.Store connection) (λ rows. ¬ IsVersion 2 rows)) }
+        ensures no_first { IfErr result (λ e. e.0 ≡ OpenFault.NotARoom → has_room connection.schema ≡ false
+            → IsTrue (has_first_room connection.schema) → HasCleanDisk (state S.Store e.1)
+            → SaysVersion (state S.Store connection) (λ rows. ¬ IsVersion 1 rows)) }
         ensures failed { IfErr result (λ e. e.0 ≢ OpenFault.NotARoom → HasCleanDisk (state S.Store e.1)
-            → (error : Error) × FailsToQuery find_version_text [] (state S.Store connection) (state S.Store e.1) error
+            → (error : Error) × (FailsToQuery find_version_text [] (state S.Store connection) (state S.Store e.1) error
+            ⊎ SaysFirst (state S.Store connection))
             × (((e.0 ≡ OpenFault.Memory) × (error ≡ Error.SqliteFailure ErrorCode.OutOfMemory))
             ⊎ ((e.0 ≡ OpenFault.Store) × (error ≢ Error.SqliteFailure ErrorCode.OutOfMemory)))) }
         ensures unchanged { IfErr result (λ e. HasCleanDisk (state S.Store e.1)
@@ -239,17 +244,33 @@ impl<S: Alter> SqlShelf<S> {
         ensures started { IfOk result (λ shelf. shelf.failures ≡ 0) }
         ensures known { IfOk result (λ shelf. KnowsNothing shelf.known) }
         ensures outside { IfErr result (λ e. e.1.in_transaction ≡ false) }
-        ensures kept { IfOk result (λ shelf. Survives (state S.Store connection) (state S.Store shelf.conn) (λ _. ⊥)) }
-        ensures refused { IfErr result (λ e. Survives (state S.Store connection) (state S.Store e.1) (λ _. ⊥)) }
+        ensures kept { IfOk result (λ shelf. Survives (state S.Store connection) (state S.Store shelf.conn)
+            (MayBeTaken (state S.Store connection))) }
+        ensures refused { IfErr result (λ e. Survives (state S.Store connection) (state S.Store e.1)
+            (MayBeTaken (state S.Store connection))) }
     {
         let mut conn = connection;
+        // Outside a transaction what is seen is what was committed.
         let _outside = conn.is_autocommit();
-        if !has_room(&conn) {
+        let has_kept = has_room(&conn);
+        if !has_kept && !has_first_room(&conn) {
             return Err((OpenFault::NotARoom, conn));
         }
-        match is_room(&mut conn) {
-            Ok(true) => Ok(SqlShelf::over(alloc, conn)),
-            Ok(false) => Err((OpenFault::NotARoom, conn)),
+        let rows = match version_rows(&mut conn) {
+            Ok(rows) => rows,
+            Err(error) => return Err((open_fault(error), conn)),
+        };
+        if has_kept {
+            if is_version_2(rows.as_slice()) {
+                return Ok(SqlShelf::over(alloc, conn));
+            }
+            return Err((OpenFault::NotARoom, conn));
+        }
+        if !is_version_1(rows.as_slice()) {
+            return Err((OpenFault::NotARoom, conn));
+        }
+        match upgrade(&mut conn) {
+            Ok(()) => Ok(SqlShelf::over(alloc, conn)),
             Err(error) => Err((open_fault(error), conn)),
         }
     }

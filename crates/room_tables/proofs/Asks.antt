@@ -1,6 +1,6 @@
 -- What the queries answer.
 use Rattle.std.proofs.Common.{◌≡◌, ℕ, pos, Bool, true, ◌&&◌, List, [], ◌∷◌, length, map, filter}
-use Rattle.std.proofs.Common.{Some, refl, sym, ap, subst, ◌∙◌, IsPermutation}
+use Rattle.std.proofs.Common.{Some, option_map, refl, sym, ap, subst, ◌∙◌, IsPermutation}
 use Rattle.std.proofs.Common.{IsSorted}
 use Rattle.std.specs.List.{AllByRecursion, list_all, AllZip}
 use Rattle.std.proofs.lemmas.List.Sorted.{length_permutation}
@@ -30,7 +30,8 @@ use Rattle.room_tables.specs.Texts.{find_version_query}
 use Rattle.room_tables.specs.Rows.{has, has_text, is_child_named, is_slot, shown_node, node_rows, named_rows}
 use Rattle.room_tables.specs.Rows.{child_rows, shown_entry, entry_rows, IsEntryRow, HasEntryColumns, shown_doc}
 use Rattle.room_tables.specs.Rows.{doc_rows, shown_session, session_rows, shown_slot, slot_rows, shown_next, next_rows}
-use Rattle.room_tables.specs.Rows.{shown_version, version_rows}
+use Rattle.room_tables.specs.Rows.{shown_version, version_rows, IsVersion}
+use Rattle.room_tables.specs.Versions.{TellsVersion}
 use Rattle.room_tables.proofs.Meaning.{find_node_is, find_node_plain, find_child_is, find_child_plain, list_children_is}
 use Rattle.room_tables.proofs.Meaning.{list_children_plain, count_children_is, count_children_plain, list_entries_is}
 use Rattle.room_tables.proofs.Meaning.{list_entries_plain, find_doc_is, find_doc_plain, find_session_is}
@@ -38,6 +39,7 @@ use Rattle.room_tables.proofs.Meaning.{find_session_plain, find_slot_is, find_sl
 use Rattle.room_tables.proofs.Meaning.{find_version_is, find_version_plain}
 use Rattle.room_tables.specs.Names.{name_keys, name_key, ByName, counted_row}
 use Rattle.room_tables.proofs.Queries.{passing, and_true, picked, found, listed, envs_are, sorted_keys}
+use Rattle.room_tables.proofs.Queries.{only_permuted}
 use Rattle.sqlite_rules.proofs.ListLemmas.{all_has, all_from}
 use Rattle.sqlite_rules.proofs.ProbeLemmas.{has_mapped}
 use Rattle.room_tables.proofs.Removed.{has_permuted}
@@ -160,6 +162,17 @@ pub asks_version : (more : List Table) (others : List Index) (old new : State) (
 asks_version more others old new rows schema h =
     found find_version_query [] (old.now.trees 0) rows (has 0 1) shown_version (λ r. and_true (has 0 1 r)) (λ r. refl)
     (picked (with_last more others) old new find_version_text _ 0 _ _ [] _ rows schema (find_version_is more others) (find_version_plain more others) refl h)
+
+-- a version that was told is that of the rows
+pub told_version : (more : List Table) (others : List Index) (old new : State) (n : ℕ)
+    → old.now.schema ≡ with_last more others → TellsVersion old new (IsVersion n)
+    → IsVersion n (version_rows old.now.trees)
+told_version more others old new n schema told =
+    subst (λ o. option_map (λ row. column row 0) o ≡ Some (Int (pos n)))
+    (only_permuted _ _ (asks_version more others old new told.0 schema told.1)) told.2
+
+pub one_version : (rows : List Row) → IsVersion 1 rows → ¬ IsVersion 2 rows
+one_version rows first second = let bad = sym first ∙ second in cc
 
 -- ---- the count
 

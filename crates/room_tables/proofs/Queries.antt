@@ -25,7 +25,7 @@ use Rattle.sqlite.specs.declared.error.Error.{Error}
 use Rattle.sqlite_schema.specs.declared.command.Returning.{Returning}
 use Rattle.sqlite.specs.Clock.{timed}
 use Rattle.sqlite.specs.Listing.{understood}
-use Rattle.sqlite.proofs.StateLemmas.{survives_weaker}
+use Rattle.sqlite.proofs.StateLemmas.{survives_weaker, unchanged}
 use Rattle.sqlite.proofs.Callers.{IsPlain, reads_as, one_permutation}
 use Rattle.sqlite.proofs.Callers.{command_of}
 use Rattle.sqlite_schema.specs.declared.command.Command.TheVariants.{Select}
@@ -257,6 +257,16 @@ unfolding Shown
 query_leaves sql params old new rows text h =
     let none = subst IsUnreturned h.1.is (unreturned old.now.schema sql text) in
     (subst (ShowsRows old new sql h.0 (timed params h.0.formats h.1.now) rows) none h.2).3
+
+-- so that what it shows can be said of the first state alone
+pub shown_still : (text : List ℕ) (params : Row) (old new : State) (rows : List Row)
+    → is_query_text (first text) ≡ true → Shown text params old new rows → Shown text params old old rows
+unfolding Shown
+shown_still text params old new rows selects h =
+    let none = subst IsUnreturned h.1.is (unreturned old.now.schema text selects) in
+    let it = subst (ShowsRows old new text h.0 (timed params h.0.formats h.1.now) rows) none h.2 in
+    (h.0, h.1, subst (ShowsRows old old text h.0 (timed params h.0.formats h.1.now) rows) (sym none)
+    (it.0, it.1, it.2, unchanged old it.3.0.was_open))
 
 -- a query that failed outside a transaction
 pub fails_leaves : (sql : List ℕ) (params : Row) (old new : State) (e : Error)

@@ -51,3 +51,7 @@ pub record IsUpgraded (old new : Database) : Type 0 where
 abbrev pub MayBeUpgraded : Database → Trees → Type 0
 MayBeUpgraded db trees =
     IsRoomOfVersion1 db → (records_of trees ≡ records_of db.trees) × IsVersion 2 (version_rows trees)
+
+-- the same where this is the number that is next
+abbrev pub MayBeMovedWith : ℕ → Database → Trees → Type 0
+MayBeMovedWith next db trees = (records_of db.trees).objects.next ≡ next → MayBeUpgraded db trees
