@@ -269,6 +269,7 @@ impl<S: Alter> SqlShelf<S> {
         if !is_version_1(rows.as_slice()) {
             return Err((OpenFault::NotARoom, conn));
         }
+        let _still_outside = conn.is_autocommit();
         match upgrade(&mut conn) {
             Ok(()) => Ok(SqlShelf::over(alloc, conn)),
             Err(error) => Err((open_fault(error), conn)),

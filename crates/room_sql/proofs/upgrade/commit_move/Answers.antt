@@ -19,11 +19,11 @@ returns-clause-crash g c =
     let whole = survives_then (state g.S.Store old) (state g.S.Store last) (state g.S.Store c.commit.new.self.0) _ _ P
     (λ _ db none. absurd none)
     (λ clean db is next room.
-        let it = ran (omega (arith, c.commit.ensures.survives.clean)) in
-        let done = it.1 room (c.schema-live.ensures.live it.0).0 next in (
-          ap records_of is ∙ done.records,
-          subst (λ t. IsVersion 2 (version_rows t)) (sym is) done.room.version,
-        ))
+    let it = ran (omega (arith, c.commit.ensures.survives.clean)) in
+    let done = it.1 room (c.schema-live.ensures.live it.0).0 next in (
+      ap records_of is ∙ done.records,
+      subst (λ t. IsVersion 2 (version_rows t)) (sym is) done.room.version,
+    ))
     (survives_begin g.S.Store old (state g.S.Store last) _ (rw begun at c.move_room.ensures.frame.crash))
     c.commit.ensures.survives in
     let same : c.commit.new.self.0 ≡ c.conn-2-1.given.0 = search rules in

@@ -16,11 +16,11 @@ returns-clause-frame g c =
     (MayBeMovedWith c.in_ok-next.next (state g.S.Store b).now) frame
     c.commit_move.ensures.mode c.commit_move.ensures.settled c.commit_move.ensures.was_open c.commit_move.ensures.crash
     (λ clean db may.
-        let early : HasCleanDisk (state g.S.Store b) = omega (arith, c.commit_move.ensures.crash.clean) in
-        let now = (frame.answered early).1 in
-        let is = next_is (state g.S.Store a).now (state g.S.Store b).now c.as_slice.result.now c.in_ok-next.next now
-        (rw c.as_slice.ensures.value (c.in_ok-rows.ensures.rows early)) c.in_ok-next.ensures.value in
-        may_be (state g.S.Store a).now (state g.S.Store b).now c.in_ok-next.next db now is may)
+    let early : HasCleanDisk (state g.S.Store b) = omega (arith, c.commit_move.ensures.crash.clean) in
+    let now = (frame.answered early).1 in
+    let is = next_is (state g.S.Store a).now (state g.S.Store b).now c.as_slice.result.now c.in_ok-next.next now
+    (rw c.as_slice.ensures.value (c.in_ok-rows.ensures.rows early)) c.in_ok-next.ensures.value in
+    may_be (state g.S.Store a).now (state g.S.Store b).now c.in_ok-next.next db now is may)
 
 pub returns-clause-ok : goal.returns-clause-ok
 returns-clause-ok g c clean =

@@ -68,8 +68,14 @@ returns-in-Ok-upgrade-clause-taken g c clean =
       version = says old mid c.in-Ok.rows.items (IsVersion 1) (c.in-Ok.ensures.answered.shown early)
           (subst (IsVersion 1) c.as_slice-2.ensures.value (c.is_version_1.ensures.0 c.if-not-is_version_1.false));
     }) in
-    rw same (done.0, inr (first, λ room. subst (λ d. IsUpgraded d end.now) now
-    (done.1 (subst IsRoomOfVersion1 (sym now) room))))
+    rw same (
+      done.0,
+      inr (
+        first,
+        λ room. subst (λ d. IsUpgraded d end.now) now
+            (done.1 (subst IsRoomOfVersion1 (sym now) room)),
+      ),
+    )
 
 pub returns-in-Ok-upgrade-clause-kept : goal.returns-in-Ok-upgrade-clause-kept
 returns-in-Ok-upgrade-clause-kept g c =
@@ -132,3 +138,12 @@ returns-clause-failed g c other clean =
           (subst (IsVersion 1) c.as_slice-2.ensures.value (c.is_version_1.ensures.0 c.if-not-is_version_1.false));
     }) in
     (c.in-Err-upgrade.error, inr first, c.open_fault-in-Err-upgrade.ensures)
+
+pub returns-clause-unchanged : goal.returns-clause-unchanged
+returns-clause-unchanged g c clean is =
+    let mid = state g.S.Store c.version_rows.new.conn in
+    let early : HasCleanDisk mid = omega (arith, c.upgrade.ensures.frame.crash.clean, clean) in
+    let frame = c.in-Ok.ensures.answered.frame in
+    let outside = c.is_autocommit-still_outside.ensures.value ∙ ap not (frame.mode c.requires) in
+    let settled = c.is_autocommit-still_outside.ensures.settled outside (c.upgrade.ensures.frame.was_open clean is) in
+    c.in-Err-upgrade.ensures.err clean is settled ∙ (frame.answered early).1
