@@ -1,6 +1,6 @@
 //! Sessions by name, and what their slots keep.
 ghost use Rattle.std.specs.Prelude.{◌≡◌, ◌==◌, ◌&&◌, ◌<◌, ℕ, List, None, Some, OnOk, IfOk, IsSome};
-ghost use Rattle.std.specs.Prelude.{nat_lt, if◌then◌else◌};
+ghost use Rattle.std.specs.Prelude.{◌≤◌, nat_lt, if◌then◌else◌};
 ghost use Rattle.std.specs.Str.{bytes_eq};
 ghost use Rattle.room_records.specs.Limits.{max_slots};
 ghost use Rattle.room_records.specs.Table.{HasSpace};
@@ -130,6 +130,7 @@ impl Sessions {
         ensures slots { row.slot < max_slots → (sid : List ℕ) (slot : ℕ)
             → kept_in self.new.kept.slots sid slot ≡ (if bytes_eq sid row.sid && (slot == row.slot)
             then Some row.kept else kept_in self.old.kept.slots sid slot) }
+        ensures high { max_slots ≤ row.slot → self.new.kept.slots ≡ self.old.kept.slots }
         ensures sessions { self.new.rows.slots ≡ self.old.rows.slots }
         ensures kept { (sid : List ℕ) (slot : ℕ) → HasSpace slot_cmp self.old.kept.slots (sid, slot)
             → HasSpace slot_cmp self.new.kept.slots (sid, slot) }
