@@ -1,0 +1,8 @@
+//! A shelf around a shelf, which remembers rows.
+#![tactic(auto)]
+
+mod cached;
+mod known;
+mod rows;
+
+pub use cached::CachedShelf;
