@@ -15,7 +15,7 @@ use Rattle.room_cache.specs.declared.known.Known.{Known}
 
 -- a list that is remembered whole is the object's. That one is too long says nothing
 abbrev pub IsListOf : ObjectRecords → ℕ → KnownList → Type 0
-IsListOf t id (Whole entries) = t.entries id ≡ entries.items
+IsListOf t id (Whole entries) = t.entries id ≡ entries
 IsListOf t id TooLong = Unit {0}
 
 -- what is remembered is what the records are. A place is only a hint where to look

@@ -8,6 +8,10 @@ use Rattle.std.specs.declared.cmp.Ordering.{Ordering}
 abbrev pub max_rows : ℕ
 max_rows = 256
 
+-- entries of a list
+abbrev pub max_entries : ℕ
+max_entries = 64
+
 -- the row at a key
 abbrev pub row_at : {K V : Type 0} → (K → K → Ordering) → List (K × V) → K → Option V
 row_at cmp rows key = lookup (is_at (cmp key)) rows

@@ -156,6 +156,7 @@ impl<S: Shelf> Shelf for CachedShelf<S> {
         ensures frame { ShelfRead (cached_view S.view self.old) (cached_view S.view self.new) (fault_in result) }
     {
         if let Some(KnownList::Whole(list)) = self.known.list(id) {
+            let list = list.entries();
             return Ok(copy_entries(*list.allocator(), list.as_slice())?);
         }
         match self.inner.entries(id) {
@@ -187,7 +188,7 @@ impl<S: Shelf> Shelf for CachedShelf<S> {
     {
         match self.known.list(id) {
             Some(KnownList::Whole(list)) => {
-                return Ok(decide(list.as_slice(), subject, standing, wanted));
+                return Ok(decide(list.entries().as_slice(), subject, standing, wanted));
             }
             Some(KnownList::TooLong) => {}
             None => return self.decide_whole(id, subject, standing, wanted),

@@ -5,18 +5,16 @@ ghost use Rattle.room_records.specs.Changes.{Untouched};
 ghost use Rattle.room_records.specs.Shelf.{IsChildNamed};
 ghost use Rattle.room_cache.specs.Known.{IsListOf, Fits, IsLeft};
 
+use crate::list::ShortList;
 use crate::rows::Rows;
 use room_acl::Entry;
 use room_records::{Change, FileName, Node, SessionRow, Sid};
 use std::alloc::Global;
 
-/// Entries of a list that is remembered.
-const MAX_ENTRIES: usize = 64;
-
 /// The list of an object, or that it is too long to be remembered.
 #[derive(Drop)]
 pub(crate) enum KnownList {
-    Whole(Vec<Entry>),
+    Whole(ShortList),
     TooLong,
 }
 
@@ -150,10 +148,9 @@ impl Known {
     pub(crate) fn keep_list(&mut self, id: u32, list: Vec<Entry>)
         ensures { (r : Records) → r.objects.entries id ≡ list.items → Fits r self.old → Fits r self.new }
     {
-        let list = if list.len() > MAX_ENTRIES {
-            KnownList::TooLong
-        } else {
-            KnownList::Whole(list)
+        let list = match ShortList::new(list) {
+            Some(list) => KnownList::Whole(list),
+            None => KnownList::TooLong,
         };
         self.lists.keep(id, list);
         self.is_heard = true;

@@ -3,6 +3,7 @@
 
 mod cached;
 mod known;
+mod list;
 mod rows;
 
 pub use cached::CachedShelf;
