@@ -157,7 +157,10 @@ fn commands_over_a_shelf_that_remembers(rt: HostRuntime) -> Result<(), Fail> {
     for (what, path, to) in COMMANDS {
         let command = command(alloc, what, path, to)?;
         let wanted = run(&asker, &mut plain, &command)?;
-        must(run(&asker, &mut shelf, &command)? == wanted, wanted.as_str())?;
+        must(
+            run(&asker, &mut shelf, &command)? == wanted,
+            wanted.as_str(),
+        )?;
         agree(&asker, &mut shelf, &mut plain)?;
     }
     Ok(())
