@@ -16,8 +16,8 @@ use std::marker::Model;
 /// number of the next object, and does not ask for them again. A commit makes it forget the rows that it changes, and
 /// a fault makes it forget all: memory answers only while the store is known to be there.
 ///
-/// It remembers at most 256 rows of each kind, and lists of up to 64 entries: by the sizes of the types some 200 kB, and
-/// lists of 1.5 MB at worst. Where memory is refused, a row is not remembered and the call is answered still.
+/// It remembers at most 256 rows of each kind, and lists of up to 64 entries: by the sizes of the types some 200 kB,
+/// and lists of 1.5 MB at worst. Where memory is refused, a row is not remembered and the call is answered still.
 #[derive(Drop)]
 pub struct CachedShelf<S: Shelf> {
     inner: S,
