@@ -2,7 +2,6 @@
 ghost use Rattle.std.specs.Prelude.{◌≡◌, false, IfOk};
 
 use crate::flaky::Flaky;
-use crate::halting::Halting;
 use sqlite::{Connection, FileStore, Options};
 use sqlite_disk::{Crash, Disk, Files, Fuse, Memory, Rot};
 use std::alloc::Global;
@@ -28,12 +27,6 @@ impl Kept for Fuse<Memory> {
 }
 
 impl Kept for Flaky<Memory> {
-    fn file_bytes(&self) -> &[u8] {
-        self.inner().bytes()
-    }
-}
-
-impl Kept for Halting<Memory> {
     fn file_bytes(&self) -> &[u8] {
         self.inner().bytes()
     }
@@ -79,7 +72,7 @@ pub fn held_by<D: Kept>(alloc: Global, files: &Files<D>) -> Result<Held, Fail> {
 }
 
 /// What the files hold after a crash that loses all that was not flushed.
-pub fn flushed<D: Kept + Crash + Drop>(alloc: Global, files: Files<D>) -> Result<Held, Fail> {
+pub fn flushed(alloc: Global, files: Files<Fuse<Memory>>) -> Result<Held, Fail> {
     let mut files = files;
     files.log.crash();
     files.db.crash();
@@ -115,19 +108,12 @@ pub fn opened_again(alloc: Global, held: &Held) -> Result<Connection<FileStore<M
     }
 }
 
-/// Options under which a large change goes to the log before it is committed, and the log is often copied into the
-/// database file.
-pub fn spilling() -> Options {
-    let mut options = Options::new(1);
-    options.spill_pages = 4;
-    options.checkpoint_frames = 12;
-    options
-}
-
-/// The same where little stays in memory, so that requests read the disk.
+/// Options under which little stays in memory, so that requests read the disk, a large change goes to the log before
+/// it is committed, and the log is often copied into the database file.
 pub fn small() -> Options {
-    let mut options = spilling();
+    let mut options = Options::new(1);
     options.cache_pages = 1;
     options.spill_pages = 2;
+    options.checkpoint_frames = 12;
     options
 }

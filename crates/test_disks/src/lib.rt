@@ -6,10 +6,6 @@ mod disks;
 #[cfg(test)]
 mod flaky;
 #[cfg(test)]
-mod followers;
-#[cfg(test)]
-mod halting;
-#[cfg(test)]
 mod healing;
 #[cfg(test)]
 mod making;
@@ -24,12 +20,8 @@ mod runs;
 #[cfg(test)]
 mod scenes;
 #[cfg(test)]
-mod scripts;
-#[cfg(test)]
 mod stopped;
 #[cfg(test)]
 mod story;
 #[cfg(test)]
 mod taking;
-#[cfg(test)]
-mod trials;

@@ -1,14 +1,14 @@
 //! A disk that fails from one of its calls on, while a room is made in new files.
 use crate::disks::{flushed, held_by, opened, opened_again, small};
 use crate::rooms::{contents, stages};
-use crate::runs::{files_of, make};
+use crate::runs::files_of;
 use crate::scenes::is_within;
 use room_sql::{OpenFault, SqlShelf};
 use sqlite::{Alter, Connection, Options};
 use sqlite_disk::{Disk, Files, Fuse, Memory};
 use std::alloc::Global;
 use std::test::Fail;
-use test_stores::{Held, adopt, made};
+use test_stores::{Held, adopt, init, made};
 
 /// More calls than are made.
 const NEVER: u64 = 1_000_000;
@@ -26,9 +26,10 @@ fn made_in<S: Alter + Drop>(
     alloc: Global,
     conn: Connection<S>,
 ) -> Result<(Connection<S>, bool), Fail> {
-    match make(alloc, conn)? {
+    match init(alloc, conn)? {
         Ok(shelf) => Ok((shelf.into_connection(), true)),
-        Err(conn) => Ok((conn, false)),
+        Err((OpenFault::Store, conn)) => Ok((conn, false)),
+        Err((fault, _)) => Err(Fail::new(format_args!("another fault: {fault:?}"))),
     }
 }
 

@@ -1,10 +1,10 @@
 //! Rooms in tables, and all that is in them after each step of the story.
 use crate::disks::{held_by, opened_again};
 use crate::runs::files_of;
-use crate::story::{STEPS, STORY, Step, has_answer, is_answered, play_to_end};
+use crate::story::{STEPS, is_answered, play_to_end};
 use room_desk::Desk;
 use room_records::Shelf;
-use sqlite::{Alter, Connection, FileStore};
+use sqlite::{Alter, Connection, FileStore, MemStore};
 use sqlite_disk::Memory;
 use std::alloc::Global;
 use std::fmt::Write;
@@ -46,21 +46,18 @@ fn with_room<S: Alter + Drop>(alloc: Global, conn: Connection<S>) -> Result<Conn
     Ok(made(alloc, conn)?.into_connection())
 }
 
-/// A database in new files.
-pub fn new_files(alloc: Global) -> Result<Connection<FileStore<Memory>>, Fail> {
-    let nothing = Held {
+/// A fresh room in new files.
+fn room_in_files(alloc: Global) -> Result<Connection<FileStore<Memory>>, Fail> {
+    let files = Held {
         log: Vec::new(alloc),
         db: Vec::new(alloc),
     };
-    opened_again(alloc, &nothing)
+    with_room(alloc, opened_again(alloc, &files)?)
 }
 
-/// What the files of a room hold: the room is in the log, or copied into the database file.
-pub fn left_in(
-    alloc: Global,
-    conn: Connection<FileStore<Memory>>,
-    in_log: bool,
-) -> Result<Held, Fail> {
+/// What the files of a fresh room hold: the room is in the log, or copied into the database file.
+pub fn fresh_room(alloc: Global, in_log: bool) -> Result<Held, Fail> {
+    let conn = room_in_files(alloc)?;
     if in_log {
         held_by(alloc, &files_of(conn))
     } else {
@@ -68,50 +65,35 @@ pub fn left_in(
     }
 }
 
-/// What the files of a fresh room hold.
-pub fn fresh_room(alloc: Global, in_log: bool) -> Result<Held, Fail> {
-    left_in(alloc, with_room(alloc, new_files(alloc)?)?, in_log)
-}
-
-/// A step over a room whose files do not fail is answered.
-fn after_step<S: Alter + Drop>(
+/// A step over a room in memory is answered.
+fn after_step(
     alloc: Global,
-    conn: Connection<S>,
-    step: &Step,
-) -> Result<Connection<S>, Fail> {
+    conn: Connection<MemStore>,
+    at: usize,
+) -> Result<Connection<MemStore>, Fail> {
     let mut desk = Desk::new(alloc, taken(alloc, conn)?);
-    let end = has_answer(alloc, &mut desk, step);
+    let end = is_answered(alloc, &mut desk, at);
     let conn = desk.into_shelf().into_connection();
     if !end? {
-        return Err(Fail::new("DELAY where nothing fails"));
+        return Err(Fail::new("DELAY over memory"));
     }
     Ok(conn)
 }
 
-/// What a room is after no step, after one, and so on.
-pub fn stages_of<S: Alter + Drop>(
-    alloc: Global,
-    conn: Connection<S>,
-    steps: &[Step],
-) -> Result<(Vec<String>, Connection<S>), Fail> {
+/// What a fresh room is after no step, after one, and so on.
+pub fn stages(alloc: Global) -> Result<Vec<String>, Fail> {
     let mut stages = Vec::new(alloc);
-    let mut conn = conn;
-    for step in steps {
+    let mut conn = in_tables(alloc)?.into_connection();
+    for at in 0..STEPS {
         stages.push(contents(alloc, &mut conn)?)?;
-        conn = after_step(alloc, conn, step)?;
+        conn = after_step(alloc, conn, at)?;
     }
     stages.push(contents(alloc, &mut conn)?)?;
-    Ok((stages, conn))
-}
-
-/// What a fresh room is after no step of the story, after one, and so on.
-pub fn stages(alloc: Global) -> Result<Vec<String>, Fail> {
-    let (stages, _) = stages_of(alloc, in_tables(alloc)?.into_connection(), &STORY)?;
     Ok(stages)
 }
 
 /// Whether the room is as after so many steps.
-pub fn is_at(stages: &[String], at: usize, found: &str) -> bool {
+fn is_at(stages: &[String], at: usize, found: &str) -> bool {
     match stages.get(at) {
         Some(stage) => stage.as_str() == found,
         None => false,

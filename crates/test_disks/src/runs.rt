@@ -7,7 +7,7 @@ use sqlite::{Alter, Connection, FileStore, Options};
 use sqlite_disk::{Disk, Files};
 use std::alloc::Global;
 use std::test::Fail;
-use test_stores::{adopt, init};
+use test_stores::adopt;
 
 /// The files after a run, and how far it came.
 #[derive(Drop)]
@@ -61,31 +61,16 @@ fn play_in<S: Alter + Drop>(
     Ok((end?, shelf.into_connection()))
 }
 
-/// The room, or the database where the store failed.
-fn unless_failed<S: Alter + Drop>(
-    begun: Result<SqlShelf<S>, (OpenFault, Connection<S>)>,
+/// What `adopt` answers: a room, or that the store failed.
+fn take<S: Alter + Drop>(
+    alloc: Global,
+    conn: Connection<S>,
 ) -> Result<Result<SqlShelf<S>, Connection<S>>, Fail> {
-    match begun {
+    match adopt(alloc, conn)? {
         Ok(shelf) => Ok(Ok(shelf)),
         Err((OpenFault::Store, conn)) => Ok(Err(conn)),
-        Err((fault, _)) => Err(Fail::new(format_args!("another fault: {fault:?}"))),
+        Err((fault, _)) => Err(Fail::new(format_args!("not taken: {fault:?}"))),
     }
-}
-
-/// What `adopt` answers: a room, or that the store failed.
-pub fn take<S: Alter + Drop>(
-    alloc: Global,
-    conn: Connection<S>,
-) -> Result<Result<SqlShelf<S>, Connection<S>>, Fail> {
-    unless_failed(adopt(alloc, conn)?)
-}
-
-/// What `init` answers: a room, or that the store failed.
-pub fn make<S: Alter + Drop>(
-    alloc: Global,
-    conn: Connection<S>,
-) -> Result<Result<SqlShelf<S>, Connection<S>>, Fail> {
-    unless_failed(init(alloc, conn)?)
 }
 
 /// What `adopt` answers over the files of a room, or what is left of them and how far it came.

@@ -17,37 +17,24 @@ pub enum Ask {
 #[derive(Clone, Copy)]
 pub struct Step(pub Ask, pub &'static str);
 
-const OPEN: Step = Step(Ask::Open(2), r#"{"code":0,"slots":2}"#);
-
-const MKDIR: Step = Step(
-    Ask::Run(1, r#"{"cmd":"MKDIR","path":"/d"}"#),
-    r#"{"code":0}"#,
-);
-
-pub const CREATE: Step = Step(
-    Ask::Run(2, r#"{"cmd":"CREATE","data":"aGk=","path":"/d/a"}"#),
-    r#"{"code":0,"size":2}"#,
-);
-
-pub const APPEND: Step = Step(
-    Ask::Run(3, r#"{"cmd":"APPEND","data":"IQ==","path":"/d/a"}"#),
-    r#"{"code":0,"size":3}"#,
-);
-
-const READ: Step = Step(
-    Ask::Run(4, r#"{"cmd":"READ","path":"/d/a"}"#),
-    r#"{"code":0,"data":"aGkh"}"#,
-);
-
-/// A session, a folder, and a file in it in two pieces.
-pub static TWO_PIECES: [Step; 5] = [OPEN, MKDIR, CREATE, APPEND, READ];
-
-pub static STORY: [Step; 7] = [
-    OPEN,
-    MKDIR,
-    CREATE,
-    APPEND,
-    READ,
+static STORY: [Step; 7] = [
+    Step(Ask::Open(2), r#"{"code":0,"slots":2}"#),
+    Step(
+        Ask::Run(1, r#"{"cmd":"MKDIR","path":"/d"}"#),
+        r#"{"code":0}"#,
+    ),
+    Step(
+        Ask::Run(2, r#"{"cmd":"CREATE","data":"aGk=","path":"/d/a"}"#),
+        r#"{"code":0,"size":2}"#,
+    ),
+    Step(
+        Ask::Run(3, r#"{"cmd":"APPEND","data":"IQ==","path":"/d/a"}"#),
+        r#"{"code":0,"size":3}"#,
+    ),
+    Step(
+        Ask::Run(4, r#"{"cmd":"READ","path":"/d/a"}"#),
+        r#"{"code":0,"data":"aGkh"}"#,
+    ),
     Step(
         Ask::Run(5, r#"{"cmd":"RENAME","path":"/d/a","to":"/a"}"#),
         r#"{"code":0}"#,
@@ -61,25 +48,22 @@ pub static STORY: [Step; 7] = [
 /// How many steps there are.
 pub const STEPS: usize = 7;
 
-/// A request of `ann` in the session.
-pub fn request(alloc: Global, slot: u32, seq: u32, command: &str) -> Result<Event, Fail> {
-    Ok(Event::Slot {
-        subject: subject(alloc, "ann")?,
-        sid: session_name(alloc, SID)?,
-        slot,
-        seq,
-        command: read_command(alloc, command.as_bytes())?,
-    })
-}
-
 fn event(alloc: Global, ask: Ask) -> Result<Event, Fail> {
+    let subject = subject(alloc, "ann")?;
+    let sid = session_name(alloc, SID)?;
     match ask {
         Ask::Open(slots) => Ok(Event::Open {
-            subject: subject(alloc, "ann")?,
-            sid: session_name(alloc, SID)?,
+            subject,
+            sid,
             slots: SlotCount::new(slots).ok_or("no number of slots")?,
         }),
-        Ask::Run(seq, command) => request(alloc, 0, seq, command),
+        Ask::Run(seq, command) => Ok(Event::Slot {
+            subject,
+            sid,
+            slot: 0,
+            seq,
+            command: read_command(alloc, command.as_bytes())?,
+        }),
     }
 }
 
@@ -87,9 +71,11 @@ fn answer<P: Shelf>(alloc: Global, desk: &mut Desk<P>, ask: Ask) -> Result<Answe
     Ok(desk.handle(&event(alloc, ask)?))
 }
 
-/// Whether an answer is the wanted one; else it is DELAY. Another is an error.
-pub fn is_wanted(answer: &Answer, wanted: &str) -> Result<bool, Fail> {
-    if matches!(answer, Answer::Refused(Code::Delay)) {
+/// Whether a step has its answer; else it is answered DELAY. Another answer is an error.
+pub fn has_answer<P: Shelf>(alloc: Global, desk: &mut Desk<P>, step: &Step) -> Result<bool, Fail> {
+    let Step(ask, wanted) = *step;
+    let answer = answer(alloc, desk, ask)?;
+    if matches!(&answer, Answer::Refused(Code::Delay)) {
         return Ok(false);
     }
     if answer.body() == wanted.as_bytes() {
@@ -101,35 +87,19 @@ pub fn is_wanted(answer: &Answer, wanted: &str) -> Result<bool, Fail> {
     }
 }
 
-/// Whether a step has its answer; else it is answered DELAY. Another answer is an error.
-pub fn has_answer<P: Shelf>(alloc: Global, desk: &mut Desk<P>, step: &Step) -> Result<bool, Fail> {
-    let Step(ask, wanted) = *step;
-    is_wanted(&answer(alloc, desk, ask)?, wanted)
-}
-
 /// Whether a step is answered as in the story; else it is answered DELAY.
 pub fn is_answered<P: Shelf>(alloc: Global, desk: &mut Desk<P>, at: usize) -> Result<bool, Fail> {
     has_answer(alloc, desk, STORY.get(at).ok_or("no step")?)
 }
 
-/// Plays steps from a place on, up to the first that is answered DELAY: its place.
-pub fn play_steps<P: Shelf>(
-    alloc: Global,
-    desk: &mut Desk<P>,
-    steps: &[Step],
-    from: usize,
-) -> Result<usize, Fail> {
-    for at in from..steps.len() {
-        if !has_answer(alloc, desk, &steps[at])? {
+/// Plays the steps from a place on, up to the first that is answered DELAY: its place.
+pub fn play_from<P: Shelf>(alloc: Global, desk: &mut Desk<P>, from: usize) -> Result<usize, Fail> {
+    for at in from..STEPS {
+        if !is_answered(alloc, desk, at)? {
             return Ok(at);
         }
     }
-    Ok(steps.len())
-}
-
-/// Plays the story from a place on, up to the first step that is answered DELAY: its place.
-pub fn play_from<P: Shelf>(alloc: Global, desk: &mut Desk<P>, from: usize) -> Result<usize, Fail> {
-    play_steps(alloc, desk, &STORY, from)
+    Ok(STEPS)
 }
 
 /// Whether a step that comes too early is refused as that, or answered DELAY.
