@@ -2,7 +2,7 @@
 # Only `make test` is a verdict.
 RT ?= rt
 
-.PHONY: demo build test wrong growth failing full wire tables crash hostile front soak client page bench install uninstall service firstday
+.PHONY: demo build test wrong growth failing full wire tables upgrade crash hostile front soak client page bench install uninstall service firstday
 
 # Answers the questions of examples/, and walks through a served room with curl: with build/fileroom where `make build`
 # made it, and else with the toolchain's quick build, which proves nothing.
@@ -47,6 +47,10 @@ wire: build
 tables: build
 	tests/tables/run
 
+# Has a room of version 1 taken over, and kills the program while it does, or leaves it no room. Needs sqlite3.
+upgrade: build
+	tests/upgrade/run
+
 # Kills the server in the middle of writes, 240 times (`make test` 100 times): each request acts once.
 crash: build
 	tests/crash/run
@@ -79,7 +83,8 @@ page: build
 	tests/page/run
 
 # Times `check`, a room in memory, a served room, its tables, SETLIST over many followers, `replay` and the reports; then
-# the program beside a server in C over libsqlite3, and counts the instructions of both; then many rooms behind a front.
+# the program beside a server in C over libsqlite3, and counts the instructions of both; then the upgrade of large rooms
+# of version 1, and many rooms behind a front.
 # Needs sqlite3, strace, valgrind, gcc, libsqlite3-dev and nginx.
 bench: build
 	bench/check
@@ -90,6 +95,7 @@ bench: build
 	bench/report
 	bench/side
 	bench/instructions
+	bench/upgrade
 	bench/many
 
 # Puts the proved program that `make build` made below PREFIX, with its man pages, the client, the page, units, the backup

@@ -22,6 +22,7 @@ const REFUSALS = {
   22: ["The number of the request is not the next one.", "Reload this page."],
   23: ["The number of the request was used for another one.", "Reload this page."],
   24: ["The name of the session is taken.", "Reload this page."],
+  25: ["This was run before, and its answer was not kept.", "Reload this page, and look at what is there."],
   41: ["The room knows no such request.", "Ask who runs the room: this page and the room may not fit."],
   42: ["You are no user of this room.", "Ask who keeps the room's roster to put you in it."],
   43: ["The room does not take this request: a name or a path in it is not well formed.", "Change it."],

@@ -7,7 +7,7 @@
 import { untilAnswered } from "./wire.js";
 
 const NUMBERS = 2 ** 32;
-const OWN_REFUSALS = new Set([20, 21, 22, 23, 24]); // of the session, slot or number, and not of the request
+const OWN_REFUSALS = new Set([20, 21, 22, 23, 24, 25]); // of the session, slot or number, and not of the request
 
 /** A request that was sent before, and whose session is gone: whether it acted is not known. */
 export class Unknown extends Error {

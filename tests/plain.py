@@ -1,7 +1,7 @@
 """A plain model of a room, written from docs/ alone: what each message is answered, in bytes.
 
-It keeps own entries alone and computes each list from the root down, and it keeps every reply of a slot's last request
-as bytes. It knows no shelf and no table, is slow, and shares nothing with the program.
+It keeps own entries alone and computes each list from the root down, and it keeps the reply of a slot's last request as
+bytes, where that asked so. It knows no shelf and no table, is slow, and shares nothing with the program.
 """
 import base64
 import binascii
@@ -19,9 +19,9 @@ DELETE, READ_ACL, WRITE_ACL, WRITE_OWNER = 0x10000, 0x20000, 0x40000, 0x80000
 OWNER_RIGHTS = READ_ACL | WRITE_ACL
 NAMES = {1: "NOENT", 2: "NOTDIR", 3: "ISDIR", 4: "EXIST", 6: "NOTEMPTY", 7: "INVAL", 8: "ATTRNOTSUPP", 9: "FBIG",
          10: "TOO_DEEP", 11: "FOLDER_FULL", 12: "ROOM_FULL", 20: "BADSESSION", 21: "BADSLOT", 22: "SEQ_MISORDERED",
-         23: "SEQ_FALSE_RETRY", 24: "SESSION_TAKEN", 30: "DELAY", 40: "BAD_HTTP", 41: "BAD_ROUTE",
-         42: "UNKNOWN_USER", 43: "BAD_REQUEST"}
-STATUS = {20: 409, 21: 409, 22: 409, 23: 409, 24: 409, 30: 503, 40: 400, 41: 404, 42: 403, 43: 400}
+         23: "SEQ_FALSE_RETRY", 24: "SESSION_TAKEN", 25: "RETRY_UNCACHED", 30: "DELAY", 40: "BAD_HTTP",
+         41: "BAD_ROUTE", 42: "UNKNOWN_USER", 43: "BAD_REQUEST"}
+STATUS = {20: 409, 21: 409, 22: 409, 23: 409, 24: 409, 25: 409, 30: 503, 40: 400, 41: 404, 42: 403, 43: 400}
 # by FILE_INHERIT, DIRECTORY_INHERIT and NO_PROPAGATE: the flags that come to a file, and those that come to a folder
 HANDED_DOWN = {(0, 0, 0): (None, None), (0, 0, 1): (None, None), (0, 1, 0): (None, 0x82), (0, 1, 1): (None, 0x80),
                (1, 0, 0): (0x80, 0x89), (1, 0, 1): (0x80, None), (1, 1, 0): (0x80, 0x83), (1, 1, 1): (0x80, 0x80)}
@@ -154,15 +154,17 @@ def need_mask(found):
 
 
 def read_command(body):
-    """The command of a body: its parts, and its text, by which it is compared."""
+    """The command of a body: its parts, its text, by which it is compared, and whether its reply is to be kept."""
     found = read_body(body)
+    keep = found.pop("keep", True)
+    need(type(keep) is bool)
     cmd = one_of(found.get("cmd"), *PARTS)
     parts = PARTS[cmd]
     members(found, "cmd", "path", *parts)
     read = {"cmd": cmd, "path": path(found["path"])}
     for name, form in parts.items():
         read[name] = form(found[name])
-    return read, text(found)
+    return read, text(found), keep
 
 
 # Lists.
@@ -413,7 +415,7 @@ class PlainRoom:
         session[2] = False
         return text({"code": 0})
 
-    def request(self, caller, sid, slot, seq, command, asked):
+    def request(self, caller, sid, slot, seq, command, asked, keep):
         session = self.sessions.get(sid)
         if not session or not session[2] or session[0] != caller.user:
             raise Refused(20)
@@ -425,12 +427,14 @@ class PlainRoom:
                 reply = text(self.do(caller, command))
             except Refused as refused:
                 reply = refused.body
-            self.slots[sid, slot] = (seq, asked, reply)
+            self.slots[sid, slot] = (seq, asked, reply if keep else None)
             return reply
         if seq != last[0] or last[1] is None:
             raise Refused(22)
         if asked != last[1]:
             raise Refused(23)
+        if last[2] is None:
+            raise Refused(25)
         return last[2]
 
     # Messages.

@@ -6,7 +6,7 @@ from .words import FILE, FOLDER, right_words, shown
 
 ACCESS = 5
 FBIG = {"code": 9, "error": "FBIG"}
-SESSION_CODES = range(20, 25)
+SESSION_CODES = range(20, 26)
 
 REFUSALS = {
     1: ("nothing is there, or a folder above it is missing", "look with: room ls"),
@@ -30,6 +30,8 @@ REFUSALS = {
     23: ("the number was used for another command: the room or the state file was set back to a copy",
          "begin another: room session new"),
     24: ("the session's name is another user's", "begin another: room session new"),
+    25: ("it was run before, and its reply was not kept: something else uses this session",
+         "look at what is there, and begin another: room session new"),
     40: ("the room read no message", "is something else in between? ask who runs the room"),
     41: ("the room has no such route", "mend the URL"),
     42: ("you are no user of the room", "ask who keeps its roster"),

@@ -72,5 +72,5 @@ class Words(unittest.TestCase):
         for code, name in names.items():
             fault = refused({"code": code, "error": name, "path": "/\n", "bit": 2}, {"cmd": "WRITE", "path": "/\n"})
             self.assertRegex(str(fault), rf"^{name} \({code}\) at /\\n: [^\n]+: [^\n]+$")
-            self.assertEqual(fault.status, 4 if 20 <= code <= 24 else 1)
-            self.assertIs(type(fault), SessionLost if 20 <= code <= 24 else Refused)
+            self.assertEqual(fault.status, 4 if 20 <= code <= 25 else 1)
+            self.assertIs(type(fault), SessionLost if 20 <= code <= 25 else Refused)

@@ -19,7 +19,7 @@ use Rattle.room_records.specs.Representation.{RepresentsRoom}
 use Rattle.room_wire.specs.Asks.EventModel.{Request, Slot}
 use Rattle.room_wire.specs.Forms.Texts.{command_text}
 use Rattle.room_desk.specs.History.{History, Session, session_of, is_open_for, is_open, slots_of, accepted, accepts}
-use Rattle.room_desk.specs.History.{is_accepted, is_for, state_after, original_reply}
+use Rattle.room_desk.specs.History.{is_accepted, is_for, state_after, kept_reply}
 use Rattle.room_desk.specs.Representation.{RepresentsHistory, is_open_session, slot_row_of, kept_after}
 use Rattle.room_desk.proofs.Refusals.{row_after_request, open_after_request}
 
@@ -28,7 +28,7 @@ abbrev pub kept_for : Room → History → Request → KeptModel
 kept_for start past q = record {
   seq = q.seq;
   request = command_text q.command;
-  reply = original_reply start (record { request = q; before = past });
+  reply = kept_reply start (record { request = q; before = past });
 }
 
 abbrev pub slot_row : Room → History → Request → SlotRow
@@ -65,7 +65,7 @@ module _ (start : Room) (past : History) (q : Request) (yes : is_accepted past q
       ∙ ap (λ n. Some (record {
         seq = n;
         request = command_text q.command;
-        reply = original_reply start (record { request = q; before = past });
+        reply = kept_reply start (record { request = q; before = past });
       })) (sym number)
 
   pub slot_elsewhere : (sid : List ℕ) (slot : ℕ) → is_for sid slot q ≡ false

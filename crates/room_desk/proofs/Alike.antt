@@ -14,7 +14,16 @@ use Rattle.room_commands.specs.Effect.{effect}
 use Rattle.room_wire.specs.Asks.EventModel.{EventModel, Request, Open, Close, Slot}
 use Rattle.room_wire.specs.Forms.Texts.{command_text, reply_text}
 use Rattle.room_desk.specs.History.{History, Session, session_of, with_event, opened_by, closes, is_open_for}
-use Rattle.room_desk.specs.History.{slots_of, accepts, is_for, accepted, is_accepted, state_after, changes_rows}
+use Rattle.room_desk.specs.History.{
+  if_kept,
+  slots_of,
+  accepts,
+  is_for,
+  accepted,
+  is_accepted,
+  state_after,
+  changes_rows,
+}
 use Rattle.room_desk.specs.Representation.{RepresentsHistory, session_row_of, kept_after}
 use Rattle.room_desk.proofs.Idle.{open_in_row, state_after_idle, rows_after_idle, accepted_after_idle}
 
@@ -161,7 +170,7 @@ module _ (start : Room) (a b : History) (alike : Alike start a b) where
       by_test true is = rw is (λ i. Some (record {
         seq = suc (alike.counts sid slot i) % 2 ^ 32;
         request = command_text q.command;
-        reply = reply_text (effect (alike.state i) q.caller q.command).reply;
+        reply = if_kept q.keep (reply_text (effect (alike.state i) q.caller q.command).reply);
       }))
       by_test false is = rw is (alike.kept sid slot)
 

@@ -1,5 +1,5 @@
 -- Worked examples, computed by the definitions: sessions, repeats and numbers.
-use Rattle.std.proofs.Common.{◌≡◌, ℕ, refl, List, [], ◌∷◌, length}
+use Rattle.std.proofs.Common.{◌≡◌, ℕ, refl, Bool, true, false, List, [], ◌∷◌, length}
 use Rattle.std.specs.Prelude.{codes}
 use Rattle.serde_json.proofs.OnLiterals.{serde_json_on_literals}
 use Rattle.std.specs.Fmt.{digits}
@@ -8,7 +8,7 @@ use Rattle.room_commands.specs.CommandModel as C
 use Rattle.room_commands.specs.CommandModel.{CommandModel}
 use Rattle.room_records.specs.Room.{Room, fresh_room}
 use Rattle.room_wire.specs.declared.answers.code.Code.TheVariants.{BadSession, BadSlot, SeqMisordered, SeqFalseRetry}
-use Rattle.room_wire.specs.declared.answers.code.Code.TheVariants.{SessionTaken}
+use Rattle.room_wire.specs.declared.answers.code.Code.TheVariants.{SessionTaken, RetryUncached}
 use Rattle.room_wire.specs.Asks.EventModel.{EventModel, Open, Close, Slot}
 use Rattle.room_desk.specs.AnswerModel.{Reply, Refused}
 use Rattle.room_desk.specs.History.{History, answer_to, accepted}
@@ -26,8 +26,12 @@ start = fresh_room (codes "ann") (codes "eng")
 abbrev s : List ℕ
 s = codes "a"
 
+abbrev keeping : Bool → ℕ → ℕ → CommandModel → EventModel
+keeping keep slot seq command =
+    Slot (record { caller = ann; sid = s; slot = slot; seq = seq; command = command; keep = keep })
+
 abbrev by_ann : ℕ → ℕ → CommandModel → EventModel
-by_ann slot seq command = Slot (record { caller = ann; sid = s; slot = slot; seq = seq; command = command })
+by_ann = keeping true
 
 abbrev stat_root : CommandModel
 stat_root = C.Stat []
@@ -89,3 +93,29 @@ repeated : answer_to start once (by_ann 2 1 stat_root)
     ≡ Reply (codes "{\"aclflag\":0,\"code\":0,\"group\":\"eng\",\"kind\":\"folder\",\"owner\":\"ann\",\"size\":0}")
 unfolding serde_json_on_literals digits
 repeated = refl
+
+-- a reply that need not be kept: the same number with the same command, however it is sent again, and with another
+abbrev dropped : History
+dropped = keeping false 0 1 stat_root ∷ opened
+
+first_is_answered : answer_to start opened (keeping false 0 1 stat_root) ≡ answer_to start opened (by_ann 0 1 stat_root)
+first_is_answered = refl
+
+repeat_is_uncached : answer_to start dropped (keeping false 0 1 stat_root) ≡ Refused RetryUncached
+unfolding serde_json_on_literals digits
+repeat_is_uncached = refl
+
+keeping_repeat_is_uncached : answer_to start dropped (by_ann 0 1 stat_root) ≡ Refused RetryUncached
+unfolding serde_json_on_literals digits
+keeping_repeat_is_uncached = refl
+
+other_command_is_a_false_retry : answer_to start dropped (by_ann 0 1 (C.ListNames [])) ≡ Refused SeqFalseRetry
+unfolding serde_json_on_literals digits
+other_command_is_a_false_retry = refl
+
+dropped_is_counted : length (accepted (keeping false 0 1 stat_root ∷ dropped) s 0) ≡ 1
+dropped_is_counted = refl
+
+-- the accepted request decides, and not its repeat
+kept_for_a_repeat : answer_to start once (keeping false 2 1 stat_root) ≡ answer_to start once (by_ann 2 1 stat_root)
+kept_for_a_repeat = refl

@@ -1,22 +1,26 @@
 -- The slot test by the row that is kept answers as the history does.
 use Rattle.std.proofs.Common.{◌≡◌, ℕ, ◌+◌, ◌%◌, ◌^◌, refl, ap, sym, ◌∙◌, subst, arith, Bool, true, false, cond}
-use Rattle.std.proofs.Common.{List, [], ◌∷◌, length, None, nat_lt, ◌↔◌}
+use Rattle.std.proofs.Common.{List, [], ◌∷◌, length, Option, None, Some, nat_lt, ◌↔◌}
 use Rattle.std.specs.Prelude.{◌&&◌, ◌==◌, if◌then◌else◌}
 use Rattle.std.specs.Str.{bytes_eq}
 use Rattle.std.proofs.lemmas.Bool.{eqb-true}
-use Rattle.room_slots.specs.Slots.{next_number, verdict}
-use Rattle.room_slots.specs.declared.verdict.Verdict.TheVariants.{New, Repeat, FalseRetry, Misordered}
+use Rattle.room_slots.specs.Slots.{next_number, sent_again, verdict}
+use Rattle.room_slots.specs.declared.verdict.Verdict.TheVariants.{New, FalseRetry, Misordered}
 use Rattle.room_records.specs.Room.{Room}
 use Rattle.room_wire.specs.declared.answers.code.Code.TheVariants.{SeqMisordered, SeqFalseRetry}
 use Rattle.room_wire.specs.Asks.EventModel.{Request, Slot}
 use Rattle.room_wire.specs.Forms.Texts.{command_text}
 use Rattle.room_desk.specs.AnswerModel.{Reply, Refused}
 use Rattle.room_desk.specs.History.{History, session_of, is_open_for, slots_of, Accepted, accepted, is_accepted}
-use Rattle.room_desk.specs.History.{original_reply, answer_unaccepted, answer_to}
+use Rattle.room_desk.specs.History.{original_reply, kept_reply, answer_again, replay, answer_unaccepted, answer_to}
 use Rattle.room_desk.specs.Representation.{slot_row_of, kept_after}
 use Rattle.room_desk.specs.Verdicts.{answer_by}
 use Rattle.room_desk.proofs.Acceptance.{open_if_used}
 use Rattle.room_desk.proofs.Idle.{slot_answer}
+
+never_new : (reply : Option (List ℕ)) → sent_again reply ≡ New → ⊥
+never_new None e = cc
+never_new (Some reply) e = cc
 
 -- the number after a count, taken of the kept number
 next_of_kept : (count : ℕ) → next_number (count % 2 ^ 32) ≡ next_number count
@@ -43,18 +47,28 @@ module _ (start : Room) (q : Request) (fresh : List ℕ) where
       (bytes_eq (command_text q.command) (command_text last.request.command))
       (not_both_numbers q.seq (length (last ∷ earlier)))
       ∙ ap (λ n. answer_by (if q.seq == length (last ∷ earlier) % 2 ^ 32
-      then (if bytes_eq (command_text q.command) (command_text last.request.command) then Repeat else FalseRetry)
+      then (if bytes_eq (command_text q.command) (command_text last.request.command) then sent_again
+      (kept_reply start last) else FalseRetry)
       else (if q.seq == n then New else Misordered)) fresh (kept_after start (last ∷ earlier)))
       (sym (next_of_kept (length (last ∷ earlier))))
     where
+      by_reply : (reply : Option (List ℕ)) → answer_again reply ≡ answer_by (sent_again reply) fresh (Some (record {
+        seq = length (last ∷ earlier) % 2 ^ 32;
+        request = command_text last.request.command;
+        reply = reply;
+      }))
+      by_reply None = refl
+      by_reply (Some reply) = refl
+
       by_tests : (next same text : Bool) → (same ≡ true → next ≡ true → ⊥)
           → (if next then Reply fresh else (if same then
-          (if text then Reply (original_reply start last) else Refused SeqFalseRetry) else Refused SeqMisordered))
-          ≡ answer_by (if same then (if text then Repeat else FalseRetry) else (if next then New else Misordered))
+          (if text then replay start last else Refused SeqFalseRetry) else Refused SeqMisordered))
+          ≡ answer_by (if same then (if text then sent_again (kept_reply start last) else FalseRetry)
+          else (if next then New else Misordered))
           fresh (kept_after start (last ∷ earlier))
       by_tests true true text apart = absurd (apart refl refl)
       by_tests true false text apart = refl
-      by_tests false true true apart = refl
+      by_tests false true true apart = by_reply (kept_reply start last)
       by_tests false true false apart = refl
       by_tests false false text apart = refl
 
@@ -67,7 +81,8 @@ module _ (start : Room) (q : Request) (fresh : List ℕ) where
       by_test false = (λ h. absurd cc, λ h. absurd cc)
   new_by_kept (last ∷ earlier) =
       let P : ℕ → Type 0 = λ n. ((if q.seq == length (last ∷ earlier) % 2 ^ 32
-      then (if bytes_eq (command_text q.command) (command_text last.request.command) then Repeat else FalseRetry)
+      then (if bytes_eq (command_text q.command) (command_text last.request.command) then sent_again
+      (kept_reply start last) else FalseRetry)
       else (if q.seq == n then New else Misordered)) ≡ New)
       ↔ ((q.seq == next_number (length (last ∷ earlier))) ≡ true) in
       subst P (sym (next_of_kept (length (last ∷ earlier))))
@@ -76,11 +91,12 @@ module _ (start : Room) (q : Request) (fresh : List ℕ) where
       (not_both_numbers q.seq (length (last ∷ earlier))))
     where
       by_tests : (next same text : Bool) → (same ≡ true → next ≡ true → ⊥)
-          → ((if same then (if text then Repeat else FalseRetry) else (if next then New else Misordered)) ≡ New)
+          → ((if same then (if text then sent_again (kept_reply start last) else FalseRetry)
+          else (if next then New else Misordered)) ≡ New)
           ↔ (next ≡ true)
       by_tests true true text apart = absurd (apart refl refl)
       by_tests true false text apart = (λ h. refl, λ h. refl)
-      by_tests false true true apart = (λ h. absurd cc, λ h. absurd cc)
+      by_tests false true true apart = (λ h. absurd (never_new (kept_reply start last) h), λ h. absurd cc)
       by_tests false true false apart = (λ h. absurd cc, λ h. absurd cc)
       by_tests false false text apart = (λ h. absurd cc, λ h. absurd cc)
 

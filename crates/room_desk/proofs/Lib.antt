@@ -18,6 +18,7 @@ pub mod Numbers
 pub mod Repeats
 pub mod KeptRows
 pub mod Retries
+pub mod OwnRequests
 pub mod Beginnings
 mod Examples
 pub mod Calls

@@ -4,18 +4,18 @@ use Rattle.std.proofs.Common.{List, [], ◌∷◌, length, Option, None, Some, i
 use Rattle.std.specs.Prelude.{◌&&◌, ◌==◌, if◌then◌else◌}
 use Rattle.std.specs.List.{list_any}
 use Rattle.std.specs.Str.{bytes_eq}
-use Rattle.std.proofs.lemmas.Bool.{and_parts, and_right, eqb-true, eq-eqb, ne_eqb}
+use Rattle.std.proofs.lemmas.Bool.{and_parts, and_right, eqb-true, eq-eqb, ne_eqb, true≢false}
 use Rattle.room_slots.specs.Slots.{next_number}
 use Rattle.room_records.specs.Room.{Room}
 use Rattle.room_commands.specs.ReplyModel.{Opened}
 use Rattle.room_wire.specs.declared.answers.code.Code.TheVariants.{BadSession, BadSlot, SeqMisordered, SeqFalseRetry}
-use Rattle.room_wire.specs.declared.answers.code.Code.TheVariants.{SessionTaken}
+use Rattle.room_wire.specs.declared.answers.code.Code.TheVariants.{SessionTaken, RetryUncached}
 use Rattle.room_wire.specs.Asks.EventModel.{EventModel, Request, Open, Close, Slot}
 use Rattle.room_wire.specs.Forms.Texts.{command_text, reply_text}
 use Rattle.room_desk.specs.AnswerModel.{Reply, Refused}
 use Rattle.room_desk.specs.History.{History, Session, session_of, with_event, opened_by, closes, is_open_for, slots_of}
 use Rattle.room_desk.specs.History.{accepted, accepts, is_accepted, original_reply, replay, answer_open, answer_close}
-use Rattle.room_desk.specs.History.{answer_unaccepted, answer_to, changes_rows}
+use Rattle.room_desk.specs.History.{if_kept, answer_again, answer_unaccepted, answer_to, changes_rows, leaves_no_reply}
 use Rattle.room_desk.proofs.Refusals.{accepted_after}
 use Rattle.room_desk.proofs.Acceptance.{for_itself, number}
 use Rattle.room_desk.proofs.Idle.{itself, slot_answer}
@@ -91,7 +91,7 @@ again_is_idle past (Slot q) = not_accepted_again past q
 -- the last accepted request of a slot, sent again
 answer_to_last : (start : Room) (past : History) (q : Request) → is_accepted past q ≡ true
     → answer_unaccepted start q (record { request = q; before = past } ∷ accepted past q.sid q.slot)
-    ≡ Reply (original_reply start (record { request = q; before = past }))
+    ≡ replay start (record { request = q; before = past })
 answer_to_last start past q taken =
     ap (λ b. if b then (if bytes_eq (command_text q.command) (command_text q.command) then replay start
     (record { request = q; before = past }) else Refused SeqFalseRetry) else Refused SeqMisordered)
@@ -100,10 +100,43 @@ answer_to_last start past q taken =
     ∙ ap (λ b. if b then replay start (record { request = q; before = past }) else Refused SeqFalseRetry)
     (itself (command_text q.command))
 
--- the same event again gets the same answer
+-- what an accepted request is answered, and what it is answered when it is sent again
+module _ (start : Room) (past : History) (q : Request) (taken : is_accepted past q ≡ true) where
+  usable : is_open_for q.sid q.caller (session_of past q.sid) ≡ true
+  usable = (and_parts (is_open_for q.sid q.caller (session_of past q.sid)) _ taken).0
+
+  below : nat_lt q.slot (slots_of (session_of past q.sid)) ≡ true
+  below = (and_parts (nat_lt q.slot (slots_of (session_of past q.sid))) _
+      (and_parts (is_open_for q.sid q.caller (session_of past q.sid)) _ taken).1).0
+
+  first_answer : answer_to start past (Slot q) ≡ Reply (original_reply start (record { request = q; before = past }))
+  first_answer = (λ i. slot_answer start past q (usable i) (below i) (taken i))
+
+  answer_again_is : answer_to start (Slot q ∷ past) (Slot q) ≡ replay start (record { request = q; before = past })
+  answer_again_is =
+      (λ i. slot_answer start (Slot q ∷ past) q ((usable_after q.sid q q (session_of past q.sid) ∙ usable) i)
+      ((ap (nat_lt q.slot) (slots_after q (session_of past q.sid)) ∙ below) i) (not_accepted_again past q i))
+      ∙ ap (answer_unaccepted start q) (accepted_first past q taken)
+      ∙ answer_to_last start past q taken
+
+  by_keep : (keep : Bool) → q.keep ≡ keep → answer_to start (Slot q ∷ past) (Slot q)
+      ≡ answer_again (if_kept keep (original_reply start (record { request = q; before = past })))
+  by_keep keep is = answer_again_is
+      ∙ ap (λ b. answer_again (if_kept b (original_reply start (record { request = q; before = past })))) is
+
+kept_by_tests : (taken keep : Bool) → taken ≡ true → (taken && not keep) ≡ false → keep ≡ true
+kept_by_tests true true is none = refl
+kept_by_tests true false is none = absurd (true≢false none)
+kept_by_tests false keep is none = absurd (true≢false (sym is))
+
+not_by_test : (keep : Bool) → not keep ≡ true → keep ≡ false
+not_by_test true e = absurd (true≢false (sym e))
+not_by_test false e = refl
+
+-- the same event again gets the same answer, where a reply is left for it
 pub same_answer_again : (start : Room) (past : History) (event : EventModel)
-    → answer_to start (event ∷ past) event ≡ answer_to start past event
-same_answer_again start past (Open caller sid slots) = by_session (session_of past sid)
+    → leaves_no_reply past event ≡ false → answer_to start (event ∷ past) event ≡ answer_to start past event
+same_answer_again start past (Open caller sid slots) left = by_session (session_of past sid)
   where
     by_session : (o : Option Session) → answer_open caller sid slots
         (with_event o (opened_by sid (Open caller sid slots)) (Open caller sid slots)) ≡ answer_open caller sid slots o
@@ -114,38 +147,33 @@ same_answer_again start past (Open caller sid slots) = by_session (session_of pa
         else Refused SessionTaken) (itself caller.name)
         ∙ ap (λ b. if b then Reply (reply_text (Opened slots)) else Refused SessionTaken) (eq-eqb slots slots refl)
     by_session (Some session) = refl
-same_answer_again start past (Close caller sid) = by_session (session_of past sid)
+same_answer_again start past (Close caller sid) left = by_session (session_of past sid)
   where
     by_session : (o : Option Session)
         → answer_close caller (with_event o None (Close caller sid)) ≡ answer_close caller o
     by_session None = refl
     by_session (Some session) = refl
-same_answer_again start past (Slot q) = by_test (is_accepted past q) refl
+same_answer_again start past (Slot q) left = by_test (is_accepted past q) refl
   where
-    usable : is_open_for q.sid q.caller (session_of (Slot q ∷ past) q.sid)
-        ≡ is_open_for q.sid q.caller (session_of past q.sid)
-    usable = usable_after q.sid q q (session_of past q.sid)
-
-    below : nat_lt q.slot (slots_of (session_of (Slot q ∷ past) q.sid))
-        ≡ nat_lt q.slot (slots_of (session_of past q.sid))
-    below = ap (nat_lt q.slot) (slots_after q (session_of past q.sid))
-
     by_test : (b : Bool) → is_accepted past q ≡ b
         → answer_to start (Slot q ∷ past) (Slot q) ≡ answer_to start past (Slot q)
     by_test true taken =
-        (λ i. slot_answer start (Slot q ∷ past) q (usable i) (below i) (not_accepted_again past q i))
-        ∙ ap (λ a. if not (is_open_for q.sid q.caller (session_of past q.sid)) then Refused BadSession
-        else (if not (nat_lt q.slot (slots_of (session_of past q.sid))) then Refused BadSlot
-        else answer_unaccepted start q a)) (accepted_first past q taken)
-        ∙ ap (λ a. if not (is_open_for q.sid q.caller (session_of past q.sid)) then Refused BadSession
-        else (if not (nat_lt q.slot (slots_of (session_of past q.sid))) then Refused BadSlot else a))
-        (answer_to_last start past q taken)
-        ∙ ap (slot_answer start past q (is_open_for q.sid q.caller (session_of past q.sid))
-        (nat_lt q.slot (slots_of (session_of past q.sid)))) (sym taken)
+        by_keep start past q taken true (kept_by_tests (is_accepted past q) q.keep taken left)
+        ∙ sym (first_answer start past q taken)
     by_test false refused =
-        (λ i. slot_answer start (Slot q ∷ past) q (usable i) (below i) (not_accepted_again past q i))
+        (λ i. slot_answer start (Slot q ∷ past) q (usable_after q.sid q q (session_of past q.sid) i)
+        (nat_lt q.slot (slots_after q (session_of past q.sid) i)) (not_accepted_again past q i))
         ∙ ap (λ a. if not (is_open_for q.sid q.caller (session_of past q.sid)) then Refused BadSession
         else (if not (nat_lt q.slot (slots_of (session_of past q.sid))) then Refused BadSlot
         else answer_unaccepted start q a)) (accepted_after past q refused q.sid q.slot)
         ∙ ap (slot_answer start past q (is_open_for q.sid q.caller (session_of past q.sid))
         (nat_lt q.slot (slots_of (session_of past q.sid)))) (sym refused)
+
+-- and where none is left, it is refused
+pub uncached_again : (start : Room) (past : History) (event : EventModel)
+    → leaves_no_reply past event ≡ true → answer_to start (event ∷ past) event ≡ Refused RetryUncached
+uncached_again start past (Open caller sid slots) none = absurd (true≢false (sym none))
+uncached_again start past (Close caller sid) none = absurd (true≢false (sym none))
+uncached_again start past (Slot q) none =
+    let parts = and_parts (is_accepted past q) (not q.keep) none in
+    by_keep start past q parts.0 false (not_by_test q.keep parts.1)

@@ -8,12 +8,12 @@ use Rattle.std.specs.Cmp.Lexicographic.{bytes_decides}
 use Rattle.std.proofs.lemmas.Bool.{false_from_ne_true}
 use Rattle.room_slots.specs.Slots.{next_number}
 use Rattle.room_records.specs.Room.{Room}
-use Rattle.room_wire.specs.declared.answers.code.Code.TheVariants.{SeqMisordered, SeqFalseRetry}
+use Rattle.room_wire.specs.declared.answers.code.Code.TheVariants.{SeqMisordered, SeqFalseRetry, RetryUncached}
 use Rattle.room_wire.specs.Asks.EventModel.{Request, Slot}
 use Rattle.room_wire.specs.Forms.Texts.{command_text}
 use Rattle.room_desk.specs.AnswerModel.{Reply, Refused}
 use Rattle.room_desk.specs.History.{History, session_of, is_open_for, slots_of, Accepted, accepted, is_accepted}
-use Rattle.room_desk.specs.History.{original_reply, replay, answer_unaccepted, answer_to}
+use Rattle.room_desk.specs.History.{original_reply, if_kept, answer_again, replay, answer_unaccepted, answer_to}
 use Rattle.room_desk.proofs.Idle.{slot_answer}
 use Rattle.room_desk.proofs.Numbers.{AreNumbered, accepted_are_numbered}
 use Rattle.room_desk.proofs.Repeats.{next_differs}
@@ -45,14 +45,25 @@ module _ (start : Room) (past : History) (q : Request) (last : Accepted) (earlie
       (same ∙ last_number ∙ ap (λ n. n % 2 ^ 32) (add-one (length earlier)))
 
   -- the last number with the same command is a repeat
-  pub repeat_answer : q.seq ≡ last.request.seq → command_text q.command ≡ command_text last.request.command
-      → answer_to start past (Slot q) ≡ Reply (original_reply start last)
-  repeat_answer same text =
+  replay_answer : q.seq ≡ last.request.seq → command_text q.command ≡ command_text last.request.command
+      → answer_to start past (Slot q) ≡ replay start last
+  replay_answer same text =
       answer_if_not_next (same_is_not_next same)
       ∙ ap (λ b. if b then (if bytes_eq (command_text q.command) (command_text last.request.command)
       then replay start last else Refused SeqFalseRetry) else Refused SeqMisordered) (same_is_count same)
       ∙ ap (λ b. if b then replay start last else Refused SeqFalseRetry)
       ((bytes_decides (command_text q.command) (command_text last.request.command)).1 text)
+
+  -- it gets its first reply where that is kept, and is refused where it is not
+  pub repeat_answer : q.seq ≡ last.request.seq → command_text q.command ≡ command_text last.request.command
+      → last.request.keep ≡ true → answer_to start past (Slot q) ≡ Reply (original_reply start last)
+  repeat_answer same text keep =
+      replay_answer same text ∙ ap (λ b. answer_again (if_kept b (original_reply start last))) keep
+
+  pub uncached_answer : q.seq ≡ last.request.seq → command_text q.command ≡ command_text last.request.command
+      → last.request.keep ≡ false → answer_to start past (Slot q) ≡ Refused RetryUncached
+  uncached_answer same text keep =
+      replay_answer same text ∙ ap (λ b. answer_again (if_kept b (original_reply start last))) keep
 
   -- with another command it is a false retry
   pub false_retry_answer : q.seq ≡ last.request.seq → command_text q.command ≢ command_text last.request.command

@@ -25,6 +25,7 @@ use Rattle.room_tree.specs.declared.planning.Outcome.{Outcome}
 use Rattle.room_wire.specs.Asks.EventModel.{Request}
 use Rattle.room_wire.specs.Forms.Texts.{command_text, reply_text}
 use Rattle.room_desk.specs.AnswerModel.{AnswerModel, Reply}
+use Rattle.room_desk.specs.History.{if_kept}
 use Rattle.room_desk.specs.RowAnswers.{HasSlot, Ran, RanTo, ran_row}
 
 pub objects_of_changes : (changes : List Change) (r : Records)
@@ -126,7 +127,11 @@ module _ (r : Records) (room : Room) (q : Request) (outcome : Outcome)
   planned_row = record {
     sid = q.sid;
     slot = q.slot;
-    kept = record { seq = q.seq; request = command_text q.command; reply = reply_text (reply_model outcome.reply) };
+    kept = record {
+      seq = q.seq;
+      request = command_text q.command;
+      reply = if_kept q.keep (reply_text (reply_model outcome.reply));
+    };
   }
 
   abbrev pub all_changes : List Change
@@ -139,7 +144,7 @@ module _ (r : Records) (room : Room) (q : Request) (outcome : Outcome)
   same_row = ap (λ reply. record {
     sid = q.sid;
     slot = q.slot;
-    kept = record { seq = q.seq; request = command_text q.command; reply = reply_text reply };
+    kept = record { seq = q.seq; request = command_text q.command; reply = if_kept q.keep (reply_text reply) };
   }) plans.reply
 
   abbrev changed : Records

@@ -1,11 +1,11 @@
 -- What a slot keeps decides a request as the count of its accepted requests does.
 use Rattle.std.proofs.Common.{◌≡◌, ◌<◌, ◌%◌, ◌^◌, ℕ, refl, ap, sym, ◌∙◌, subst, Bool, true, false, List, [], ◌∷◌}
-use Rattle.std.proofs.Common.{length, None, arith}
+use Rattle.std.proofs.Common.{length, Option, None, Some, arith}
 use Rattle.std.specs.Prelude.{cond, ◌==◌, nat_lt}
 use Rattle.std.specs.Str.{bytes_eq}
 use Rattle.std.proofs.lemmas.Bool.{eq-eqb, eqb-true}
 use Rattle.std.proofs.lemmas.Bool.Decides.{nat_tests}
-use Rattle.room_slots.specs.Slots.{next_number, verdict}
+use Rattle.room_slots.specs.Slots.{next_number, sent_again, verdict}
 use Rattle.room_slots.specs.declared.verdict.Verdict.{Verdict}
 use Rattle.room_slots.specs.declared.verdict.Verdict.TheVariants.{New}
 use Rattle.room_slots.proofs.Counts.{KeepsCount, verdict_unaccepted, verdict_by_count, accepted_if_new, new_if_accepted}
@@ -16,7 +16,7 @@ use Rattle.room_wire.specs.Forms.Texts.{command_text, reply_text}
 use Rattle.room_commands.specs.Effect.{effect}
 use Rattle.room_desk.specs.AnswerModel.{AnswerModel, Reply}
 use Rattle.room_desk.specs.History.{History, session_of, is_open_for, slots_of, accepted, Accepted}
-use Rattle.room_desk.specs.History.{is_accepted, answer_to, answer_unaccepted, state_after}
+use Rattle.room_desk.specs.History.{kept_reply, answer_again, is_accepted, answer_to, answer_unaccepted, state_after}
 use Rattle.room_desk.specs.Representation.{RepresentsHistory, kept_after}
 use Rattle.room_desk.specs.RowAnswers.{HasSlot, Ran, answer_kept}
 use Rattle.room_desk.proofs.Answers.{as_many}
@@ -30,6 +30,12 @@ keeps_count start (last ∷ earlier) = refl
 below_test : (a b : ℕ) → a < b → nat_lt a b ≡ true
 below_test a b h = grind (arith, nat_tests)
 
+-- a repeat, by the reply that is kept
+again_is : (seq : ℕ) (request : List ℕ) (reply : Option (List ℕ)) → answer_again reply
+    ≡ answer_kept (sent_again reply) (Some (record { seq = seq; request = request; reply = reply }))
+again_is seq request None = refl
+again_is seq request (Some reply) = refl
+
 unaccepted_is : (start : Room) (q : Request) (requests : List Accepted)
     → answer_unaccepted start q requests ≡ answer_kept
     (verdict_unaccepted (kept_after start requests) q.seq (command_text q.command)) (kept_after start requests)
@@ -42,7 +48,8 @@ unaccepted_is start q (last ∷ earlier) = by_tests (q.seq == length (last ∷ e
         → answer_unaccepted start q (last ∷ earlier)
         ≡ answer_kept (verdict_unaccepted (kept_after start (last ∷ earlier)) q.seq (command_text q.command))
         (kept_after start (last ∷ earlier))
-    by_tests true e true f = rw (e, f) refl
+    by_tests true e true f = rw (e, f) (again_is (length (last ∷ earlier) % 2 ^ 32)
+        (command_text last.request.command) (kept_reply start last))
     by_tests true e false f = rw (e, f) refl
     by_tests false e b f = rw e refl
 

@@ -1,5 +1,5 @@
 -- What a stop may leave after several events, and an event that is sent again after it.
-use Rattle.std.proofs.Common.{◌≡◌, ◌≢◌, suc, refl, ap, sym, ◌∙◌, subst, arith, ◌⊎◌, inl, inr, Ok}
+use Rattle.std.proofs.Common.{◌≡◌, ◌≢◌, ℕ, suc, refl, ap, sym, ◌∙◌, subst, arith, ◌⊎◌, inl, inr, Ok}
 use Rattle.std.proofs.Common.{Bool, true, false, not, cond, List, [], ◌∷◌, length, Option, None, Some, nat_lt}
 use Rattle.std.specs.Prelude.{◌%◌, ◌^◌, ◌==◌, if◌then◌else◌}
 use Rattle.std.specs.Str.{bytes_eq}
@@ -9,20 +9,20 @@ use Rattle.room_records.specs.Room.{Room}
 use Rattle.room_records.specs.Shelf.{View}
 use Rattle.room_commands.specs.ReplyModel.{Done, Opened}
 use Rattle.room_wire.specs.declared.answers.code.Code.TheVariants.{Delay, BadSession, BadSlot, SeqMisordered}
-use Rattle.room_wire.specs.declared.answers.code.Code.TheVariants.{SeqFalseRetry, SessionTaken}
+use Rattle.room_wire.specs.declared.answers.code.Code.TheVariants.{SeqFalseRetry, SessionTaken, RetryUncached}
 use Rattle.room_wire.specs.Asks.AskOf.{Event}
 use Rattle.room_wire.specs.Asks.EventModel.{EventModel, Open, Close, Slot}
 use Rattle.room_wire.specs.Forms.Texts.{command_text, reply_text}
 use Rattle.room_desk.specs.AnswerModel.{AnswerModel, Reply, Refused}
 use Rattle.room_desk.specs.Crashes.{LeavesNew}
 use Rattle.room_desk.specs.History.{History, Session, session_of, is_open, is_open_for, slots_of, Accepted, accepted}
-use Rattle.room_desk.specs.History.{is_accepted, replay, original_reply, answer_open, answer_close, answer_unaccepted}
-use Rattle.room_desk.specs.History.{answer_to, changes_rows}
+use Rattle.room_desk.specs.History.{is_accepted, kept_reply, answer_again, replay, original_reply, answer_open}
+use Rattle.room_desk.specs.History.{answer_close, answer_unaccepted, answer_to, changes_rows, leaves_no_reply}
 use Rattle.room_desk.specs.Representation.{StandsFor, StandsWith, InTurn, Run, Step}
 use Rattle.room_desk.specs.Serving.{Answered, EventAnswered}
 use Rattle.room_desk.specs.Stops.{is_delay, in_doubt, StandsInDoubt}
 use Rattle.room_desk.proofs.Idle.{stand_after_idle}
-use Rattle.room_desk.proofs.Repeats.{again_is_idle, same_answer_again}
+use Rattle.room_desk.proofs.Repeats.{again_is_idle, same_answer_again, uncached_again}
 use Rattle.room_desk.proofs.Alike.{alike_after_idle, alike_swapped, alike_then, stand_alike, changes_alike}
 
 -- the answer by a history is never DELAY
@@ -54,9 +54,13 @@ never_delay start past (Slot q) =
     by_tests (is_open_for q.sid q.caller (session_of past q.sid))
     (nat_lt q.slot (slots_of (session_of past q.sid))) (is_accepted past q)
   where
+    by_reply : (reply : Option (List ℕ)) → is_delay (answer_again reply) ≡ false
+    by_reply None = refl
+    by_reply (Some reply) = refl
+
     by_texts : (number text : Bool) (last : Accepted) → is_delay (if number
         then (if text then replay start last else Refused SeqFalseRetry) else Refused SeqMisordered) ≡ false
-    by_texts true true last = refl
+    by_texts true true last = by_reply (kept_reply start last)
     by_texts true false last = refl
     by_texts false text last = refl
 
@@ -222,50 +226,85 @@ module _ {S : Type 0} (view : S → View) where
       (intact_before mid after events answers run intact) stands changes other in
       left_in_doubt mid after events answers start (event ∷ past) [] run intact settled.0 settled.1
 
-  -- an event that is sent again, where the rows stand for the history with it or without
-  pub sent_again : (found after : S) (event : EventModel) (answered : AnswerModel) (start : Room) (past : History)
-      → EventAnswered view found event answered after → (view after).is_intact
-      → StandsFor start past (view found) ⊎ StandsFor start (event ∷ past) (view found)
-      → ((answered ≡ answer_to start past event) × StandsFor start (event ∷ past) (view after))
-      ⊎ ((answered ≡ Refused Delay)
-      × (StandsFor start past (view after) ⊎ StandsFor start (event ∷ past) (view after)))
-  sent_again found after event answered start past call intact (inl without) =
-      by_step step.0 step.1 step.2
-    where
-      step : (next : History) × Step start past event answered next × StandsFor start next (view after)
-      step = call.step intact start past without
+  -- an event that is sent again after a stop
+  module _ (found after : S) (event : EventModel) (answered : AnswerModel) (start : Room) (past : History)
+      (call : EventAnswered view found event answered after) (intact : (view after).is_intact) where
+    abbrev Delays : Type 0
+    Delays = (answered ≡ Refused Delay)
+        × (StandsFor start past (view after) ⊎ StandsFor start (event ∷ past) (view after))
 
-      by_step : (next : History) → Step start past event answered next → StandsFor start next (view after)
-          → ((answered ≡ answer_to start past event) × StandsFor start (event ∷ past) (view after))
-          ⊎ ((answered ≡ Refused Delay)
-          × (StandsFor start past (view after) ⊎ StandsFor start (event ∷ past) (view after)))
-      by_step next (inl (is, longer)) stand =
-          let Stands : History → Type 0 = λ h. StandsFor start h (view after) in inl (is, subst Stands longer stand)
-      by_step next (inr (is, same)) stand =
-          let Stands : History → Type 0 = λ h. StandsFor start h (view after) in inr (is, inl (subst Stands same stand))
-  sent_again found after event answered start past call intact (inr with_it) =
-      by_step step.0 step.1 step.2
-    where
-      step : (next : History) × Step start (event ∷ past) event answered next × StandsFor start next (view after)
-      step = call.step intact start (event ∷ past) with_it
+    -- where the rows stand for the history without it
+    sent_without : StandsFor start past (view found)
+        → ((answered ≡ answer_to start past event) × StandsFor start (event ∷ past) (view after)) ⊎ Delays
+    sent_without without = by_step step.0 step.1 step.2
+      where
+        step : (next : History) × Step start past event answered next × StandsFor start next (view after)
+        step = call.step intact start past without
 
-      -- rows that stand for the history with the event twice stand for it with the event once
-      once : StandsFor start (event ∷ event ∷ past) (view after) → StandsFor start (event ∷ past) (view after)
-      once twice = λ there.
-          let alike = alike_after_idle start (event ∷ past) event (again_is_idle past event) in (
-            (twice there).0,
-            stand_alike start (event ∷ event ∷ past) (event ∷ past) alike (view after).records (twice there).1,
-          )
+        by_step : (next : History) → Step start past event answered next → StandsFor start next (view after)
+            → ((answered ≡ answer_to start past event) × StandsFor start (event ∷ past) (view after)) ⊎ Delays
+        by_step next (inl (is, longer)) stand =
+            let Stands : History → Type 0 = λ h. StandsFor start h (view after) in inl (is, subst Stands longer stand)
+        by_step next (inr (is, same)) stand =
+            let Stands : History → Type 0 = λ h. StandsFor start h (view after) in
+            inr (is, inl (subst Stands same stand))
 
-      by_step : (next : History) → Step start (event ∷ past) event answered next → StandsFor start next (view after)
-          → ((answered ≡ answer_to start past event) × StandsFor start (event ∷ past) (view after))
-          ⊎ ((answered ≡ Refused Delay)
-          × (StandsFor start past (view after) ⊎ StandsFor start (event ∷ past) (view after)))
-      by_step next (inl (is, longer)) stand =
-          let Stands : History → Type 0 = λ h. StandsFor start h (view after) in
-          inl (is ∙ same_answer_again start past event, once (subst Stands longer stand))
-      by_step next (inr (is, same)) stand =
-          let Stands : History → Type 0 = λ h. StandsFor start h (view after) in inr (is, inr (subst Stands same stand))
+    -- where they stand for it with the event: rows that stand for it twice stand for it once
+    sent_with : StandsFor start (event ∷ past) (view found)
+        → ((answered ≡ answer_to start (event ∷ past) event) × StandsFor start (event ∷ past) (view after)) ⊎ Delays
+    sent_with with_it = by_step step.0 step.1 step.2
+      where
+        step : (next : History) × Step start (event ∷ past) event answered next × StandsFor start next (view after)
+        step = call.step intact start (event ∷ past) with_it
+
+        once : StandsFor start (event ∷ event ∷ past) (view after) → StandsFor start (event ∷ past) (view after)
+        once twice = λ there.
+            let alike = alike_after_idle start (event ∷ past) event (again_is_idle past event) in (
+              (twice there).0,
+              stand_alike start (event ∷ event ∷ past) (event ∷ past) alike (view after).records (twice there).1,
+            )
+
+        by_step : (next : History) → Step start (event ∷ past) event answered next → StandsFor start next (view after)
+            → ((answered ≡ answer_to start (event ∷ past) event) × StandsFor start (event ∷ past) (view after)) ⊎ Delays
+        by_step next (inl (is, longer)) stand =
+            let Stands : History → Type 0 = λ h. StandsFor start h (view after) in
+            inl (is, once (subst Stands longer stand))
+        by_step next (inr (is, same)) stand =
+            let Stands : History → Type 0 = λ h. StandsFor start h (view after) in
+            inr (is, inr (subst Stands same stand))
+
+    pub sent_again : leaves_no_reply past event ≡ false
+        → StandsFor start past (view found) ⊎ StandsFor start (event ∷ past) (view found)
+        → ((answered ≡ answer_to start past event) × StandsFor start (event ∷ past) (view after)) ⊎ Delays
+    sent_again left (inl without) = sent_without without
+    sent_again left (inr with_it) = by_answer (sent_with with_it)
+      where
+        by_answer : ((answered ≡ answer_to start (event ∷ past) event)
+            × StandsFor start (event ∷ past) (view after)) ⊎ Delays
+            → ((answered ≡ answer_to start past event) × StandsFor start (event ∷ past) (view after)) ⊎ Delays
+        by_answer (inl (is, stand)) = inl (is ∙ same_answer_again start past event left, stand)
+        by_answer (inr delays) = inr delays
+
+    -- a request whose reply is not kept
+    abbrev Uncached : Type 0
+    Uncached = ((answered ≡ answer_to start past event) × StandsFor start (event ∷ past) (view after))
+        ⊎ (((answered ≡ Refused RetryUncached) × StandsFor start (event ∷ past) (view found)
+        × StandsFor start (event ∷ past) (view after)) ⊎ Delays)
+
+    pub uncached_sent_again : leaves_no_reply past event ≡ true
+        → StandsFor start past (view found) ⊎ StandsFor start (event ∷ past) (view found) → Uncached
+    uncached_sent_again none (inl without) = by_answer (sent_without without)
+      where
+        by_answer : ((answered ≡ answer_to start past event) × StandsFor start (event ∷ past) (view after)) ⊎ Delays
+            → Uncached
+        by_answer (inl runs) = inl runs
+        by_answer (inr delays) = inr (inr delays)
+    uncached_sent_again none (inr with_it) = by_answer (sent_with with_it)
+      where
+        by_answer : ((answered ≡ answer_to start (event ∷ past) event)
+            × StandsFor start (event ∷ past) (view after)) ⊎ Delays → Uncached
+        by_answer (inl (is, stand)) = inr (inl (is ∙ uncached_again start past event none, with_it, stand))
+        by_answer (inr delays) = inr (inr delays)
 
 -- a run goes to one history
 pub one_history : (start : Room) (past a b : History) (events : List EventModel) (answers : List AnswerModel)

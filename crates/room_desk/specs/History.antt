@@ -12,7 +12,7 @@ use Rattle.room_commands.specs.ReplyModel.{Done, Opened}
 use Rattle.room_commands.specs.Lawful.{IsLawful}
 use Rattle.room_commands.specs.Effect.{effect}
 use Rattle.room_wire.specs.declared.answers.code.Code.TheVariants.{BadSession, BadSlot, SeqMisordered, SeqFalseRetry}
-use Rattle.room_wire.specs.declared.answers.code.Code.TheVariants.{SessionTaken}
+use Rattle.room_wire.specs.declared.answers.code.Code.TheVariants.{SessionTaken, RetryUncached}
 use Rattle.room_wire.specs.Asks.EventModel.{EventModel, Request, Open, Close, Slot}
 use Rattle.room_wire.specs.Forms.Texts.{command_text, reply_text}
 use Rattle.room_desk.specs.AnswerModel.{AnswerModel, Reply, Refused}
@@ -113,9 +113,23 @@ AreLawful (Slot q ∷ past) = IsLawful q.command × AreLawful past
 abbrev pub original_reply : Room → Accepted → List ℕ
 original_reply start a = reply_text (effect (state_after start a.before) a.request.caller a.request.command).reply
 
--- what a repeat of an accepted request is answered: its original reply (RFC 8881, section 2.10.6.1)
+-- a reply, where it is to be kept for a repeat
+abbrev pub if_kept : Bool → List ℕ → Option (List ℕ)
+if_kept true reply = Some reply
+if_kept false reply = None
+
+-- the reply of an accepted request, where the request asked that it be kept
+abbrev pub kept_reply : Room → Accepted → Option (List ℕ)
+kept_reply start a = if_kept a.request.keep (original_reply start a)
+
+-- a repeat by the reply that is kept: where none is, it is refused (RFC 8881, section 2.10.6.1.3)
+abbrev pub answer_again : Option (List ℕ) → AnswerModel
+answer_again None = Refused RetryUncached
+answer_again (Some reply) = Reply reply
+
+-- what a repeat of an accepted request is answered: its original reply, where that is kept (RFC 8881, section 2.10.6.1)
 abbrev pub replay : Room → Accepted → AnswerModel
-replay start a = Reply (original_reply start a)
+replay start a = answer_again (kept_reply start a)
 
 -- a request that is not accepted, in a session that its caller may use:
 -- a repeat, a false retry (RFC 8881, section 2.10.6.1.3.1) or misordered
@@ -158,6 +172,12 @@ abbrev pub changes_rows : History → EventModel → Bool
 changes_rows past (Open caller sid slots) = not (is_some (session_of past sid))
 changes_rows past (Close caller sid) = is_open_for sid caller (session_of past sid)
 changes_rows past (Slot q) = is_accepted past q
+
+-- the event leaves no reply for a repeat: it is a request that is accepted and asks so
+abbrev pub leaves_no_reply : History → EventModel → Bool
+leaves_no_reply past (Open caller sid slots) = false
+leaves_no_reply past (Close caller sid) = false
+leaves_no_reply past (Slot q) = is_accepted past q && not q.keep
 
 -- the answer tells the caller that something has changed
 abbrev pub ReportsChange : History → EventModel → AnswerModel → Type 0

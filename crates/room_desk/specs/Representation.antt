@@ -17,7 +17,7 @@ use Rattle.room_wire.specs.Asks.EventModel.{EventModel, Open, Close, Slot}
 use Rattle.room_wire.specs.Forms.Texts.{command_text}
 use Rattle.room_desk.specs.AnswerModel.{AnswerModel, Refused}
 use Rattle.room_desk.specs.History.{History, Session, session_of, is_open, Accepted, accepted, is_accepted, state_after}
-use Rattle.room_desk.specs.History.{original_reply, answer_to, changes_rows}
+use Rattle.room_desk.specs.History.{kept_reply, answer_to, changes_rows}
 
 -- the row of a session
 abbrev pub session_row_of : List ℕ → Session → SessionRow
@@ -29,11 +29,7 @@ abbrev pub is_open_session : List ℕ → Option Session → Bool
 is_open_session sid None = false
 is_open_session sid (Some session) = is_open sid session
 
--- the reply that is kept of an accepted request
-abbrev pub kept_reply : Room → Accepted → List ℕ
-kept_reply start a = original_reply start a
-
--- what a slot keeps: the count of its accepted requests, the last one and its reply
+-- what a slot keeps: the count of its accepted requests, the last one, and its reply where that one asked so
 abbrev pub kept_after : Room → List Accepted → Option KeptModel
 kept_after start [] = None
 kept_after start (last ∷ earlier) = Some (record {

@@ -4,7 +4,7 @@ use Rattle.std.specs.Str.{bytes_eq}
 use Rattle.room_acl.specs.SubjectModel.{SubjectModel}
 use Rattle.room_slots.specs.KeptModel.{KeptModel}
 use Rattle.room_slots.specs.declared.verdict.Verdict.{Verdict}
-use Rattle.room_slots.specs.declared.verdict.Verdict.TheVariants.{New, Repeat, FalseRetry, Misordered}
+use Rattle.room_slots.specs.declared.verdict.Verdict.TheVariants.{New, Repeat, Uncached, FalseRetry, Misordered}
 use Rattle.room_records.specs.declared.session.SessionRow.{SessionRow}
 use Rattle.room_records.specs.declared.session.SlotRow.{SlotRow}
 use Rattle.room_records.specs.declared.change.Change.TheVariants.{PutSlot}
@@ -16,10 +16,11 @@ use Rattle.room_records.specs.Representation.{RepresentsRoom}
 use Rattle.room_commands.specs.Effect.{effect}
 use Rattle.room_commands.specs.ReplyModel.{Opened}
 use Rattle.room_wire.specs.declared.answers.code.Code.TheVariants.{BadSession, SeqMisordered, SeqFalseRetry}
-use Rattle.room_wire.specs.declared.answers.code.Code.TheVariants.{SessionTaken}
+use Rattle.room_wire.specs.declared.answers.code.Code.TheVariants.{SessionTaken, RetryUncached}
 use Rattle.room_wire.specs.Asks.EventModel.{Request}
 use Rattle.room_wire.specs.Forms.Texts.{command_text, reply_text}
 use Rattle.room_desk.specs.AnswerModel.{AnswerModel, Reply, Refused}
+use Rattle.room_desk.specs.History.{if_kept, answer_again}
 
 -- an OPEN of a name that was opened before
 abbrev pub answer_open_again : SubjectModel → ℕ → SessionRow → AnswerModel
@@ -47,7 +48,7 @@ ran_row room q = record {
   kept = record {
     seq = q.seq;
     request = command_text q.command;
-    reply = reply_text (effect room q.caller q.command).reply;
+    reply = if_kept q.keep (reply_text (effect room q.caller q.command).reply);
   };
 }
 
@@ -67,8 +68,9 @@ RanTo r room q new = Ran r room q (Reply (reply_text (effect room q.caller q.com
 
 -- what a request is answered that is not new to its slot
 abbrev pub answer_kept : Verdict → Option KeptModel → AnswerModel
-answer_kept Repeat (Some kept) = Reply kept.reply
+answer_kept Repeat (Some kept) = answer_again kept.reply
 answer_kept Repeat None = Refused SeqMisordered
+answer_kept Uncached kept = Refused RetryUncached
 answer_kept FalseRetry kept = Refused SeqFalseRetry
 answer_kept Misordered kept = Refused SeqMisordered
 answer_kept New kept = Refused SeqMisordered

@@ -78,6 +78,7 @@ impl<S: Shelf> Desk<S> {
                 slot,
                 seq,
                 command,
+                keep,
             } => {
                 let asked = SlotRequest {
                     subject,
@@ -85,6 +86,7 @@ impl<S: Shelf> Desk<S> {
                     slot: *slot,
                     seq: *seq,
                     command,
+                    keep: *keep,
                 };
                 request(self.alloc, &mut self.shelf, &asked)
             }

@@ -11,18 +11,23 @@ ghost use Rattle.room_records.specs.Room.{Room, IsRoom};
 ghost use Rattle.room_records.specs.Representation.{RepresentsRoom};
 ghost use Rattle.room_wire.specs.Asks.EventModel.{EventModel, Request, Open, Close, Slot};
 ghost use Rattle.room_wire.specs.declared.answers.code.Code.TheVariants.{SeqFalseRetry, SeqMisordered};
+ghost use Rattle.room_wire.specs.declared.answers.code.Code.TheVariants.{RetryUncached};
 ghost use Rattle.room_wire.specs.Forms.Texts.{command_text};
 ghost use Rattle.room_desk.specs.AnswerModel.{Reply, Refused, IsTurnedAway};
 ghost use Rattle.room_desk.specs.History.{History, Accepted, session_of, is_open_for, slots_of, accepted, is_accepted};
 ghost use Rattle.room_desk.specs.History.{is_for, AreLawful, state_after, original_reply, answer_to, changes_rows};
+ghost use Rattle.room_desk.specs.History.{leaves_no_reply};
 ghost use Rattle.room_desk.specs.Representation.{RepresentsHistory, WasAllowed, slot_row_of};
 ghost use Rattle.room_desk.specs.Verdicts.{answer_by};
 
-/// An event that is sent again at once gets its first answer, byte for byte, and changes nothing: not
-/// the room, and no row that stands for the history.
+/// An event that is sent again at once changes nothing: not the room, and no row that stands for the history. It gets
+/// its first answer, byte for byte, unless it is an accepted request whose reply is not kept: that is answered
+/// RETRY_UNCACHED.
 pub fn a_repeated_event_changes_nothing()
-    ensures answer { (start : Room) (past : History) (event : EventModel)
-        → answer_to start (event ∷ past) event ≡ answer_to start past event }
+    ensures answer { (start : Room) (past : History) (event : EventModel) → leaves_no_reply past event ≡ false →
+        answer_to start (event ∷ past) event ≡ answer_to start past event }
+    ensures uncached { (start : Room) (past : History) (event : EventModel) → leaves_no_reply past event ≡ true →
+        answer_to start (event ∷ past) event ≡ Refused RetryUncached }
     ensures room { (start : Room) (past : History) (event : EventModel)
         → state_after start (event ∷ event ∷ past) ≡ state_after start (event ∷ past) }
     ensures rows { (start : Room) (r : Records) (past : History) (event : EventModel) →
@@ -66,15 +71,22 @@ pub fn no_number_is_accepted_twice()
 {}
 
 /// In an open session of the caller, and a slot of it in which a request was accepted: the last number with the same
-/// command gets the original reply of the last accepted request, byte for byte, however much came in between; with
-/// another command it is a false retry; and a number that is neither the last nor the next is misordered.
+/// command gets the original reply of the last accepted request, byte for byte, however much came in between, where
+/// that request asked that it be kept, and RETRY_UNCACHED where it did not; what the repeat asks of its reply does not
+/// count. With another command it is a false retry; and a number that is neither the last nor the next is misordered.
 pub fn a_repeat_gets_its_first_reply()
     ensures repeat { (start : Room) (past : History) (q : Request) (last : Accepted) (earlier : List Accepted) →
         is_open_for q.sid q.caller (session_of past q.sid) ≡ true
         → nat_lt q.slot (slots_of (session_of past q.sid)) ≡ true →
         accepted past q.sid q.slot ≡ last ∷ earlier →
         q.seq ≡ last.request.seq → command_text q.command ≡ command_text last.request.command →
-        answer_to start past (Slot q) ≡ Reply (original_reply start last) }
+        last.request.keep ≡ true → answer_to start past (Slot q) ≡ Reply (original_reply start last) }
+    ensures uncached { (start : Room) (past : History) (q : Request) (last : Accepted) (earlier : List Accepted) →
+        is_open_for q.sid q.caller (session_of past q.sid) ≡ true
+        → nat_lt q.slot (slots_of (session_of past q.sid)) ≡ true →
+        accepted past q.sid q.slot ≡ last ∷ earlier →
+        q.seq ≡ last.request.seq → command_text q.command ≡ command_text last.request.command →
+        last.request.keep ≡ false → answer_to start past (Slot q) ≡ Refused RetryUncached }
     ensures false_retry { (start : Room) (past : History) (q : Request) (last : Accepted) (earlier : List Accepted) →
         is_open_for q.sid q.caller (session_of past q.sid) ≡ true
         → nat_lt q.slot (slots_of (session_of past q.sid)) ≡ true →
@@ -87,6 +99,19 @@ pub fn a_repeat_gets_its_first_reply()
         accepted past q.sid q.slot ≡ last ∷ earlier →
         q.seq ≢ last.request.seq → q.seq ≢ next_number (length (last ∷ earlier)) →
         answer_to start past (Slot q) ≡ Refused SeqMisordered }
+{}
+
+/// RETRY_UNCACHED tells nobody of another user's request: the session is open and the caller's own, the last accepted
+/// request of the slot is the caller's own too, and what was sent is that request again, with its number and its
+/// command. No reply of it is kept, as it asked.
+pub fn retry_uncached_tells_of_an_own_request()
+    ensures { (start : Room) (past : History) (event : EventModel) →
+        answer_to start past event ≡ Refused RetryUncached →
+        (q : Request) × (last : Accepted) × (earlier : List Accepted) × (event ≡ Slot q)
+        × (is_open_for q.sid q.caller (session_of past q.sid) ≡ true)
+        × (accepted past q.sid q.slot ≡ last ∷ earlier)
+        × (last.request.caller.name ≡ q.caller.name) × (q.seq ≡ last.request.seq)
+        × (command_text q.command ≡ command_text last.request.command) × (last.request.keep ≡ false) }
 {}
 
 /// OPEN and CLOSE that were answered with a reply get that reply again, however much came in between: OPEN while its

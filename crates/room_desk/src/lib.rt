@@ -15,7 +15,8 @@ pub use laws::{
     a_history_begins_with_a_room, a_history_keeps_a_room, a_refused_event_changes_nothing,
     a_repeat_gets_its_first_reply, a_repeated_event_changes_nothing, a_request_leaves_other_slots,
     an_accepted_request_was_allowed, an_idle_event_changes_nothing, no_number_is_accepted_twice,
-    open_and_close_sent_again_get_their_first_reply, the_kept_row_tells_the_answer,
+    open_and_close_sent_again_get_their_first_reply, retry_uncached_tells_of_an_own_request,
+    the_kept_row_tells_the_answer,
 };
 pub use requests::SlotRequest;
 pub use room_wire::Answer;

@@ -1,5 +1,5 @@
 //! Requests in a slot.
-ghost use Rattle.std.specs.Prelude.{◌≡◌, IfOk, OnOk, Err, ◌∷◌, true, false};
+ghost use Rattle.std.specs.Prelude.{◌≡◌, IfOk, OnOk, Err, ◌∷◌, true, false, option_map};
 ghost use Rattle.room_slots.specs.Slots.{verdict};
 ghost use Rattle.room_slots.specs.declared.verdict.Verdict.TheVariants.{New};
 ghost use Rattle.room_records.specs.Rules.{SlotRules};
@@ -11,6 +11,7 @@ ghost use Rattle.room_wire.specs.Forms.Texts.{command_text};
 ghost use Rattle.room_desk.specs.AnswerModel.{answer_model, IsTurnedAway};
 ghost use Rattle.room_desk.specs.Crashes.{LeavesOldOrNew, LeavesNew};
 ghost use Rattle.room_desk.specs.History.{History, session_of, is_open_for, answer_to, changes_rows, ReportsChange};
+ghost use Rattle.room_desk.specs.History.{if_kept, answer_again};
 ghost use Rattle.room_desk.specs.Representation.{RepresentsHistory, StandsFor, StandsWith};
 ghost use Rattle.room_desk.specs.RowAnswers.{HasSlot, Ran, RanTo, answer_kept};
 
@@ -37,6 +38,8 @@ pub struct SlotRequest<'a> {
     pub seq: u32,
     /// What is asked for.
     pub command: &'a Command,
+    /// Whether the reply is kept for a repeat.
+    pub keep: bool,
 }
 
 impl<'a> Model for SlotRequest<'a> {
@@ -51,24 +54,30 @@ impl<'a> Model for SlotRequest<'a> {
       slot = q.slot;
       seq = q.seq;
       command = command_model q.command.now;
+      keep = q.keep;
     } };
 }
 
-/// The row that a request leaves in its slot: its number, its command text and its reply.
+/// The row that a request leaves in its slot: its number, its command text, and its reply where that is to be kept.
 fn slot_row(asked: &SlotRequest, request: Vec<u8>, reply: &Vec<u8>) -> Result<SlotRow, AllocError>
     ensures { IfOk result (λ row. row ≡ record {
       sid = asked.now.sid;
       slot = asked.now.slot;
-      kept = record { seq = asked.now.seq; request = request.items; reply = reply.now.items };
+      kept = record { seq = asked.now.seq; request = request.items; reply = if_kept asked.now.keep reply.now.items };
     }) }
 {
+    let reply = if asked.keep {
+        Some(reply.clone()?)
+    } else {
+        None
+    };
     Ok(SlotRow {
         sid: asked.sid.clone()?,
         slot: asked.slot,
         kept: Kept {
             seq: asked.seq,
             request,
-            reply: reply.clone()?,
+            reply,
         },
     })
 }
@@ -123,19 +132,30 @@ fn is_new(verdict: Verdict) -> bool
 {
     match verdict {
         Verdict::New => true,
-        Verdict::Repeat | Verdict::FalseRetry | Verdict::Misordered => false,
+        Verdict::Repeat | Verdict::Uncached | Verdict::FalseRetry | Verdict::Misordered => false,
     }
 }
 
-/// What a request is answered that is not new to its slot: a repeat gets the kept reply.
+/// What a repeat is answered by the reply that is kept: where none is, it is refused.
+fn answer_again(reply: Option<Vec<u8>>) -> Answer
+    ensures { answer_model result ≡ answer_again (option_map (λ r. r.items) reply) }
+{
+    match reply {
+        Some(reply) => Answer::Reply(reply),
+        None => Answer::Refused(Code::RetryUncached),
+    }
+}
+
+/// What a request is answered that is not new to its slot: a repeat gets the kept reply, if one is kept.
 fn answer_kept(verdict: Verdict, kept: Option<Kept>) -> Answer
     ensures { answer_model result ≡ answer_kept verdict kept }
 {
     match verdict {
         Verdict::Repeat => match kept {
-            Some(kept) => Answer::Reply(kept.reply),
+            Some(kept) => answer_again(kept.reply),
             None => Answer::Refused(Code::SeqMisordered),
         },
+        Verdict::Uncached => Answer::Refused(Code::RetryUncached),
         Verdict::FalseRetry => Answer::Refused(Code::SeqFalseRetry),
         Verdict::Misordered | Verdict::New => Answer::Refused(Code::SeqMisordered),
     }

@@ -1,15 +1,15 @@
 //! Laws of what a stop leaves after several events, and of an event that is sent again after it.
-ghost use Rattle.std.specs.Prelude.{◌≡◌, ◌≢◌, ◌⊎◌, ℕ, true, List, [], ◌∷◌, Ok};
+ghost use Rattle.std.specs.Prelude.{◌≡◌, ◌≢◌, ◌⊎◌, ℕ, true, false, List, [], ◌∷◌, Ok};
 ghost use Rattle.room_acl.specs.SubjectModel.{SubjectModel};
 ghost use Rattle.room_records.specs.Room.{Room};
 ghost use Rattle.room_wire.specs.Asks.AskOf.{Event, ask_of};
 ghost use Rattle.room_wire.specs.Asks.EventModel.{EventModel};
-ghost use Rattle.room_wire.specs.declared.answers.code.Code.TheVariants.{Delay};
+ghost use Rattle.room_wire.specs.declared.answers.code.Code.TheVariants.{Delay, RetryUncached};
 ghost use Rattle.room_wire.specs.Messages.MessageModel.{MessageModel};
 ghost use Rattle.room_wire.specs.Serving.Outputs.{Outputs};
 ghost use Rattle.room_desk.specs.AnswerModel.{AnswerModel, Refused};
 ghost use Rattle.room_desk.specs.Crashes.{LeavesNew};
-ghost use Rattle.room_desk.specs.History.{History, answer_to, changes_rows};
+ghost use Rattle.room_desk.specs.History.{History, answer_to, changes_rows, leaves_no_reply};
 ghost use Rattle.room_desk.specs.Representation.{StandsFor, InTurn, Run};
 ghost use Rattle.room_desk.specs.Serving.{EventAnswered, MayAnswer};
 ghost use Rattle.room_desk.specs.Stops.{StandsInDoubt, in_doubt, Doubt, no_doubt, AnswersInDoubt};
@@ -62,12 +62,25 @@ pub fn a_run_goes_to_one_history()
 
 /// An event is sent again after a stop, where the rows that were found stand for the history without it or with it. It
 /// is answered as it would have been, and the rows then stand for the history with it once; or it is answered DELAY,
-/// and the rows stand for either as before.
+/// and the rows stand for either as before (`kept`). A request whose reply is not kept may also be answered
+/// RETRY_UNCACHED, where the rows that were found stand for the history with it: they stand for it after as well, and
+/// so the caller knows that it was run (`uncached`).
 pub fn a_request_sent_again_after_a_stop_acts_once<S: Shelf>()
-    ensures { (found after : S) (event : EventModel) (answered : AnswerModel) (start : Room) (past : History) →
+    ensures kept { (found after : S) (event : EventModel) (answered : AnswerModel) (start : Room) (past : History) →
         EventAnswered S.view found event answered after → (S.view after).is_intact →
+        leaves_no_reply past event ≡ false →
         StandsFor start past (S.view found) ⊎ StandsFor start (event ∷ past) (S.view found) →
         ((answered ≡ answer_to start past event) × StandsFor start (event ∷ past) (S.view after))
         ⊎ ((answered ≡ Refused Delay)
         × (StandsFor start past (S.view after) ⊎ StandsFor start (event ∷ past) (S.view after))) }
+    ensures uncached { (found after : S) (event : EventModel) (answered : AnswerModel)
+        (start : Room) (past : History) →
+        EventAnswered S.view found event answered after → (S.view after).is_intact →
+        leaves_no_reply past event ≡ true →
+        StandsFor start past (S.view found) ⊎ StandsFor start (event ∷ past) (S.view found) →
+        ((answered ≡ answer_to start past event) × StandsFor start (event ∷ past) (S.view after))
+        ⊎ (((answered ≡ Refused RetryUncached) × StandsFor start (event ∷ past) (S.view found)
+        × StandsFor start (event ∷ past) (S.view after))
+        ⊎ ((answered ≡ Refused Delay)
+        × (StandsFor start past (S.view after) ⊎ StandsFor start (event ∷ past) (S.view after)))) }
 {}

@@ -49,6 +49,7 @@ fn is_counted(past: &[Event], count: usize, event: &Event, sid: &Sid, slot: u32)
             slot: at,
             seq,
             command,
+            keep,
         } => {
             let asked = SlotRequest {
                 subject,
@@ -56,6 +57,7 @@ fn is_counted(past: &[Event], count: usize, event: &Event, sid: &Sid, slot: u32)
                 slot: *at,
                 seq: *seq,
                 command,
+                keep: *keep,
             };
             is_for(&asked, sid, slot) && accepts(past, count, &asked)
         }

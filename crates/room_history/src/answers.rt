@@ -86,7 +86,8 @@ fn is_same_command(alloc: Global, a: &Command, b: &Command) -> Result<bool, Allo
     Ok(a.as_slice() == b.as_slice())
 }
 
-/// The last number of a slot again: the original reply of the last accepted request, or a false retry.
+/// The last number of a slot again: the original reply of the last accepted request, where that asked that it be kept,
+/// or a false retry.
 fn answer_again(
     alloc: Global,
     start: &PlainRoom,
@@ -105,14 +106,17 @@ fn answer_again(
                     slot: _,
                     seq: _,
                     command: accepted,
+                    keep,
                 },
                 before,
             ),
         ) => {
-            if is_same_command(alloc, command, accepted)? {
+            if !is_same_command(alloc, command, accepted)? {
+                Ok(Answer::Refused(Code::SeqFalseRetry))
+            } else if *keep {
                 Ok(Answer::Reply(original_reply(alloc, start, before, subject, accepted)?))
             } else {
-                Ok(Answer::Refused(Code::SeqFalseRetry))
+                Ok(Answer::Refused(Code::RetryUncached))
             }
         }
         _ => Ok(Answer::Refused(Code::SeqMisordered)),
@@ -191,6 +195,7 @@ pub fn answer_to(
             slot,
             seq,
             command,
+            keep,
         } => {
             let asked = SlotRequest {
                 subject,
@@ -198,6 +203,7 @@ pub fn answer_to(
                 slot: *slot,
                 seq: *seq,
                 command,
+                keep: *keep,
             };
             answer_request(alloc, start, past, &asked)
         }

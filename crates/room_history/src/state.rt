@@ -47,6 +47,7 @@ pub fn state_after(
             slot,
             seq,
             command,
+            keep,
         } => {
             let asked = SlotRequest {
                 subject,
@@ -54,6 +55,7 @@ pub fn state_after(
                 slot: *slot,
                 seq: *seq,
                 command,
+                keep: *keep,
             };
             if is_accepted(earlier, &asked) {
                 room_left(alloc, &room, subject, command)

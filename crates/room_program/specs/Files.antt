@@ -4,11 +4,14 @@ use Rattle.sqlite_trees.specs.declared.store.Store.{Ghosts}
 use Rattle.sqlite.specs.State.{HasCleanDisk, Survives}
 use Rattle.sqlite.specs.Held.{Held, state}
 use Rattle.room_acl.specs.SubjectModel.{SubjectModel}
-use Rattle.room_tables.specs.Tables.{schema_0, has_a_table, has_room}
-use Rattle.room_tables.specs.Layout.{IsRoomDatabase}
+use Rattle.room_records.specs.Records.{Records}
+use Rattle.room_cache.specs.declared.known.Known.{Known}
+use Rattle.room_cache.specs.Known.{Fits}
+use Rattle.room_tables.specs.Tables.{schema_0, has_a_table, has_room, has_first_room}
 use Rattle.room_tables.specs.Fresh.{IsFreshRoom, MayBeMade}
 use Rattle.room_sql.specs.declared.sql_shelf.SqlShelf.{SqlShelf}
 use Rattle.room_sql.specs.Known.{KnowsNothing}
+use Rattle.room_sql.specs.Taken as adoption
 use Rattle.room_roster.specs.Rosters.{IsRosterText}
 use Rattle.room_program.specs.declared.fault.Fault.{Fault}
 use Rattle.room_program.specs.declared.fault.Fault.TheVariants.{CannotReadRoster, BadRoster, RoomExists, NotARoom}
@@ -70,18 +73,21 @@ TakesRoom {M} does adopts path old new taken =
     ((begun : Option Bool) × does old (looks path begun) new × IsUnopened begun taken)
     ⊎ ((seen : M) × does old (looks path (Some true)) seen × OpensRoom does adopts path seen new taken)
 
--- a store that was opened has the tables and columns of a room, and is taken as it was, by a shelf that knows nothing
-abbrev pub Adopted : {S : Type 0} (g : Ghosts S) → (opened : Held S) → (taken : SqlShelf S g) → Type 0
-Adopted g opened taken = IsTrue (has_room opened.schema)
-    × (HasCleanDisk (state g taken.conn) → IsTrue (state g taken.conn).is_open
-    × ((state g taken.conn).now ≡ (state g opened).now))
-    × Survives (state g opened) (state g taken.conn) (λ _. ⊥) × KnowsNothing taken.known
+-- a store that was opened has the tables and columns of a room of version 2 or 1, and is taken by a shelf that knows
+-- nothing, as `SqlShelf::adopt` has it: the one as it was, and the other as the room of version 2 that it became. What
+-- is remembered around it fits any rows: it is nothing
+abbrev pub Adopted : {S : Type 0} (g : Ghosts S) → (opened : Held S) → (taken : SqlShelf S g × Known) → Type 0
+Adopted g opened taken = (IsTrue (has_room opened.schema) ⊎ IsTrue (has_first_room opened.schema))
+    × (HasCleanDisk (state g taken.0.conn) → IsTrue (state g taken.0.conn).is_open
+    × adoption.IsTaken (state g opened) (state g taken.0.conn))
+    × Survives (state g opened) (state g taken.0.conn) (adoption.MayBeTaken (state g opened))
+    × KnowsNothing taken.0.known × ((r : Records) → Fits r taken.1)
 
 -- a store that was opened had no table of a room, and a fresh room was made in it, as `SqlShelf::init` has it
 abbrev pub Made : {S : Type 0} → Ghosts S → (owner group : List ℕ) → (opened made : Held S) → Type 0
 Made g owner group opened made = (has_a_table opened.schema ≡ false)
     × (HasCleanDisk (state g made) → IsTrue (state g made).is_open
-    × (opened.schema ≡ schema_0 → IsRoomDatabase (state g made).now × IsFreshRoom owner group (state g made).now.trees))
+    × (opened.schema ≡ schema_0 → IsFreshRoom owner group (state g made).now))
     × Survives (state g opened) (state g made) (MayBeMade owner group (state g opened).now)
 
 -- a store that was opened had a table of a room

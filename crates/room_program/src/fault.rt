@@ -16,7 +16,7 @@ pub enum Fault {
     BadRoster,
     /// A room is to be made where a table of a room is.
     RoomExists,
-    /// The file is no room of version 1, or is not there.
+    /// The file is no room of version 1 or 2, or is not there.
     NotARoom,
     /// Another fault of the store.
     StoreFailed,

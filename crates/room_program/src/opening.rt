@@ -4,6 +4,7 @@ ghost use Rattle.room_program.specs.Files.{Adopted, Adopts, OpensRoom, OpensStor
 
 use crate::fault::Fault;
 use crate::machine::Machine;
+use room_cache::CachedShelf;
 use room_sql::{OpenFault, SqlShelf};
 use sqlite::{Alter, Connection, Error, ErrorCode};
 use std::alloc::Global;
@@ -26,13 +27,13 @@ pub(crate) fn open<S: Alter + Drop, M: Machine<Connection<S>>>(
     }
 }
 
-/// The shelf over a store that was opened.
-fn adopt<S: Alter + Drop>(alloc: Global, connection: Connection<S>) -> Result<SqlShelf<S>, Fault>
+/// The shelf over a store that was opened, which remembers rows.
+fn adopt<S: Alter + Drop>(alloc: Global, connection: Connection<S>) -> Result<CachedShelf<SqlShelf<S>>, Fault>
     requires { connection.in_transaction ≡ false }
     ensures { Adopts (λ opened shelf. Adopted S.Store opened shelf) connection result }
 {
     match SqlShelf::adopt(alloc, connection) {
-        Ok(shelf) => Ok(shelf),
+        Ok(shelf) => Ok(CachedShelf::new(alloc, shelf)),
         Err((OpenFault::NotARoom, _)) => Err(Fault::NotARoom),
         Err((OpenFault::Memory, _)) => Err(Fault::Memory),
         Err(_) => Err(Fault::StoreFailed),
@@ -44,7 +45,7 @@ fn open_room<S: Alter + Drop, M: Machine<Connection<S>>>(
     alloc: Global,
     machine: &mut M,
     path: &str,
-) -> Result<SqlShelf<S>, Fault>
+) -> Result<CachedShelf<SqlShelf<S>>, Fault>
     ensures { OpensRoom M.does (λ opened shelf. Adopted S.Store opened shelf)
         path.now machine.old machine.new result }
 {
@@ -60,7 +61,7 @@ pub(crate) fn take_room<S: Alter + Drop, M: Machine<Connection<S>>>(
     alloc: Global,
     machine: &mut M,
     path: &str,
-) -> Result<SqlShelf<S>, Fault>
+) -> Result<CachedShelf<SqlShelf<S>>, Fault>
     ensures { TakesRoom M.does (λ opened shelf. Adopted S.Store opened shelf)
         path.now machine.old machine.new result }
 {

@@ -7,6 +7,7 @@ use crate::fault::Fault;
 use crate::machine::Machine;
 use crate::opening::take_room;
 use crate::rosters::roster_at;
+use room_cache::CachedShelf;
 use room_records::{Roster, Shelf};
 use room_report::{ReportFault, access_report, list_report};
 use room_sql::SqlShelf;
@@ -81,8 +82,8 @@ pub(crate) fn report<S: Alter + Drop, M: Machine<Connection<S>>, W: Write>(
     kind: ReportKind,
     writer: &mut W,
 ) -> Result<(), Fault>
-    ensures { Reports M.does (λ opened shelf. Adopted S.Store opened shelf) (λ shelf. shelf.conn)
-        ⟦<SqlShelf<S> as Shelf>⟧.view db.now roster.now kind
+    ensures { Reports M.does (λ opened shelf. Adopted S.Store opened shelf) (λ shelf. shelf.0.conn)
+        ⟦<CachedShelf<SqlShelf<S>> as Shelf>⟧.view db.now roster.now kind
         machine.old machine.new (W.contents writer.old) (W.contents writer.new) result }
 {
     let roster = match roster_at(alloc, machine, roster) {
@@ -94,6 +95,6 @@ pub(crate) fn report<S: Alter + Drop, M: Machine<Connection<S>>, W: Write>(
         Err(fault) => return Err(fault),
     };
     let done = write_report(alloc, &mut shelf, &roster, kind, writer);
-    machine.leave(shelf.into_connection());
+    machine.leave(shelf.into_inner().into_connection());
     done
 }

@@ -18,6 +18,7 @@ use crate::replaying::replay;
 use crate::reporting::report;
 use crate::selftest::selftest;
 use crate::serving::serve;
+use room_cache::CachedShelf;
 use room_records::Shelf;
 use room_sql::SqlShelf;
 use room_wire::serve_checks;
@@ -139,8 +140,8 @@ fn run_report<S: Alter + Drop, M: Machine<Connection<S>>, W: Write, E: Write>(
     output: &mut W,
     errors: &mut E,
 ) -> u8
-    ensures { Ends (Reports M.does (λ opened shelf. Adopted S.Store opened shelf) (λ shelf. shelf.conn)
-        ⟦<SqlShelf<S> as Shelf>⟧.view db.now roster.now kind
+    ensures { Ends (Reports M.does (λ opened shelf. Adopted S.Store opened shelf) (λ shelf. shelf.0.conn)
+        ⟦<CachedShelf<SqlShelf<S>> as Shelf>⟧.view db.now roster.now kind
         machine.old machine.new (W.contents output.old) (W.contents output.new))
         (E.contents errors.old) (E.contents errors.new) result }
 {
@@ -178,8 +179,8 @@ fn run_serve<S: Alter + Drop, M: Machine<Connection<S>> + Listener, E: Write>(
     errors: &mut E,
 ) -> u8
     ensures { Ends (ServesRoom M.does M.accepts M.fails
-        (λ opened shelf. Adopted S.Store opened shelf) (λ shelf. shelf.conn) ⟦<SqlShelf<S> as Shelf>⟧.view
-        db.now roster.now port count machine.old machine.new)
+        (λ opened shelf. Adopted S.Store opened shelf) (λ shelf. shelf.0.conn)
+        ⟦<CachedShelf<SqlShelf<S>> as Shelf>⟧.view db.now roster.now port count machine.old machine.new)
         (E.contents errors.old) (E.contents errors.new) result }
 {
     let done = serve(alloc, machine, db, roster, port, count);
@@ -196,7 +197,7 @@ fn run_job<S: Alter + Drop, M: Machine<Connection<S>> + Listener, R: Read, W: Wr
     errors: &mut E,
 ) -> u8
     ensures { RunsJob (means M.does M.accepts M.fails (λ opened shelf. Adopted S.Store opened shelf)
-        (λ shelf. shelf.conn) (Made S.Store) IsTaken ⟦<SqlShelf<S> as Shelf>⟧.view)
+        (λ shelf. shelf.0.conn) (Made S.Store) IsTaken ⟦<CachedShelf<SqlShelf<S>> as Shelf>⟧.view)
         machine.old machine.new job.now
         (streams (R.remaining input.old) (W.contents output.old) (E.contents errors.old))
         (streams (R.remaining input.new) (W.contents output.new) (E.contents errors.new)) result }
@@ -291,7 +292,7 @@ pub fn run_machine<
     errors: &mut E,
 ) -> u8
     ensures { Runs (means M.does M.accepts M.fails (λ opened shelf. Adopted S.Store opened shelf)
-        (λ shelf. shelf.conn) (Made S.Store) IsTaken ⟦<SqlShelf<S> as Shelf>⟧.view)
+        (λ shelf. shelf.0.conn) (Made S.Store) IsTaken ⟦<CachedShelf<SqlShelf<S>> as Shelf>⟧.view)
         machine.old machine.new (texts_of words.now)
         (streams (R.remaining input.old) (W.contents output.old) (E.contents errors.old))
         (streams (R.remaining input.new) (W.contents output.new) (E.contents errors.new)) result }
@@ -315,8 +316,8 @@ pub fn run_program<R: Read, W: Write, E: Write>(
     ensures { (before later : _) × Runs (means ⟦<Host<'static> as Machine<FileConnection>>⟧.does
         ⟦<Host<'static> as Listener>⟧.accepts ⟦<Host<'static> as Listener>⟧.fails
         (λ opened shelf. Adopted ⟦<FileStore<File> as Store>⟧ opened shelf)
-        (λ shelf. shelf.conn) (Made ⟦<FileStore<File> as Store>⟧)
-        IsTaken ⟦<SqlShelf<FileStore<File>> as Shelf>⟧.view)
+        (λ shelf. shelf.0.conn) (Made ⟦<FileStore<File> as Store>⟧)
+        IsTaken ⟦<CachedShelf<SqlShelf<FileStore<File>>> as Shelf>⟧.view)
         before later (texts_of words.now)
         (streams (R.remaining input.old) (W.contents output.old) (E.contents errors.old))
         (streams (R.remaining input.new) (W.contents output.new) (E.contents errors.new)) result }

@@ -9,6 +9,7 @@ use crate::machine::Machine;
 use crate::network::serve_listener;
 use crate::opening::take_room;
 use crate::rosters::roster_at;
+use room_cache::CachedShelf;
 use room_desk::Desk;
 use room_records::{Roster, Shelf};
 use room_sql::SqlShelf;
@@ -65,8 +66,8 @@ pub(crate) fn serve<S: Alter + Drop, M: Machine<Connection<S>> + Listener>(
     count: u32,
 ) -> Result<(), Fault>
     ensures { ServesRoom M.does M.accepts M.fails
-        (λ opened shelf. Adopted S.Store opened shelf) (λ shelf. shelf.conn) ⟦<SqlShelf<S> as Shelf>⟧.view
-        db.now roster.now port count machine.old machine.new result }
+        (λ opened shelf. Adopted S.Store opened shelf) (λ shelf. shelf.0.conn)
+        ⟦<CachedShelf<SqlShelf<S>> as Shelf>⟧.view db.now roster.now port count machine.old machine.new result }
 {
     let roster = match roster_at(alloc, machine, roster) {
         Ok(roster) => roster,
@@ -78,6 +79,6 @@ pub(crate) fn serve<S: Alter + Drop, M: Machine<Connection<S>> + Listener>(
     };
     let mut desk = Desk::new(alloc, shelf);
     let done = listen(machine, &mut desk, &roster, port, count);
-    machine.close(desk.into_shelf().into_connection());
+    machine.close(desk.into_shelf().into_inner().into_connection());
     done
 }

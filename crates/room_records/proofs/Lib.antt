@@ -6,6 +6,7 @@ pub mod Children
 pub mod Lists
 pub mod Options
 pub mod Paths
+pub mod Untouched
 pub mod Shelves
 pub mod Rosters
 pub mod PathTexts

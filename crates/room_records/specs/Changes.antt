@@ -1,5 +1,6 @@
 -- What a change does to the rows.
-use Rattle.std.specs.Prelude.{ℕ, ◌==◌, ◌&&◌, List, [], ◌∷◌, Option, None, Some, if◌then◌else◌}
+use Rattle.std.specs.Prelude.{◌≡◌, ℕ, ◌==◌, ◌&&◌, List, [], ◌∷◌, Option, None, Some, if◌then◌else◌}
+use Rattle.std.specs.List.{AllByRecursion}
 use Rattle.std.specs.Str.{bytes_eq}
 use Rattle.room_slots.specs.KeptModel.{KeptModel}
 use Rattle.room_records.specs.declared.change.Change.{Change}
@@ -77,6 +78,20 @@ abbrev pub ObjectRulesHoldAfterEach : List Change → ObjectRecords → Type 0
 ObjectRulesHoldAfterEach [] t = Unit {0}
 ObjectRulesHoldAfterEach (change ∷ changes) t =
     ObjectRules (apply_to_objects change t) × ObjectRulesHoldAfterEach changes (apply_to_objects change t)
+
+-- changes that leave this reading of the records as it is, whatever the records are
+abbrev pub Leave : {R : Type 0} → (Records → R) → List Change → Type 0
+Leave read changes = AllByRecursion (λ change. (r : Records) → read (apply_change change r) ≡ read r) changes
+
+-- each row that all the changes leave is as it was
+pub record Untouched (changes : List Change) (old new : Records) : Type 0 where
+  pub node : (id : ℕ) → Leave (λ r. r.objects.node id) changes → new.objects.node id ≡ old.objects.node id
+  pub entries : (id : ℕ) → Leave (λ r. r.objects.entries id) changes → new.objects.entries id ≡ old.objects.entries id
+  pub document : (id : ℕ) → Leave (λ r. r.objects.document id) changes
+      → new.objects.document id ≡ old.objects.document id
+  pub next : Leave (λ r. r.objects.next) changes → new.objects.next ≡ old.objects.next
+  pub session : (sid : List ℕ) → Leave (λ r. r.session sid) changes → new.session sid ≡ old.session sid
+  pub slot : (sid : List ℕ) (slot : ℕ) → Leave (λ r. r.slot sid slot) changes → new.slot sid slot ≡ old.slot sid slot
 
 -- a change of no session and no slot row
 abbrev pub IsOfObjects : Change → Type 0

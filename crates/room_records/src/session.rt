@@ -43,23 +43,11 @@ impl SlotRow {
         ensures { IfOk result (λ copy. copy ≡ self.now) }
     {
         let sid = self.sid.clone()?;
-        let kept = copy_kept(&self.kept)?;
+        let kept = self.kept.clone()?;
         Ok(SlotRow {
             sid,
             slot: self.slot,
             kept,
         })
     }
-}
-
-pub(crate) fn copy_kept(kept: &Kept) -> Result<Kept, AllocError>
-    ensures { IfOk result (λ copy. copy ≡ kept.now) }
-{
-    let request = kept.request.clone()?;
-    let reply = kept.reply.clone()?;
-    Ok(Kept {
-        seq: kept.seq,
-        request,
-        reply,
-    })
 }

@@ -3,7 +3,7 @@ ghost use Rattle.std.specs.Prelude.{◌≡◌, ◌⊎◌, [], unwrap_or, OnOk};
 ghost use Rattle.room_acl.specs.Access.{decision};
 ghost use Rattle.room_records.specs.Records.{Records};
 ghost use Rattle.room_records.specs.Rules.{ObjectRules};
-ghost use Rattle.room_records.specs.Changes.{apply_changes, RulesHoldAfterEach};
+ghost use Rattle.room_records.specs.Changes.{apply_changes, RulesHoldAfterEach, Untouched};
 ghost use Rattle.room_records.specs.Shelf.{View, ShelfCall, ShelfRead, Tells, fault_in, AreChildren};
 ghost use Rattle.room_records.specs.Shelf.{IsChildCount, IsChildNamed};
 
@@ -123,7 +123,7 @@ pub trait Shelf {
         ensures there { (view self.new).is_intact → OnOk result (view self.new).is_available }
         ensures frame { ShelfRead (view self.old) (view self.new) (fault_in result) };
 
-    /// All the changes in order, or none of them.
+    /// All the changes in order, or none of them. A row that they do not touch stays, whatever rules the records keep.
     fn commit(&mut self, changes: &[Change]) -> Result<(), ShelfFault>
         ensures there { (view self.new).is_intact → OnOk result (view self.new).is_available }
         ensures frame { ShelfCall (view self.old) (view self.new) (fault_in result) }
@@ -136,7 +136,9 @@ pub trait Shelf {
             → left ≡ apply_changes changes.now (view self.old).records) }
         ensures crash { (view self.old).is_laid_out → RulesHoldAfterEach changes.now (view self.old).records →
             (left : Records) → (view self.new).crash_may_leave left →
-            (view self.old).crash_may_leave left ⊎ (left ≡ apply_changes changes.now (view self.old).records) };
+            (view self.old).crash_may_leave left ⊎ (left ≡ apply_changes changes.now (view self.old).records) }
+        ensures untouched { (view self.new).is_intact → (view self.old).is_laid_out →
+            OnOk result (Untouched changes.now (view self.old).records (view self.new).records) };
 
     /// An available store is intact.
     ghost available_is_intact: { (s : Self) → (view s).is_available → (view s).is_intact };

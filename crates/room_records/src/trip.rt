@@ -75,7 +75,7 @@ impl<S: Shelf> Shelf for TripShelf<S> {
     ghost use Rattle.room_acl.specs.Access.{decision};
     ghost use Rattle.room_records.specs.Records.{Records};
     ghost use Rattle.room_records.specs.Rules.{ObjectRules};
-    ghost use Rattle.room_records.specs.Changes.{apply_changes, RulesHoldAfterEach};
+    ghost use Rattle.room_records.specs.Changes.{apply_changes, RulesHoldAfterEach, Untouched};
     ghost use Rattle.room_records.specs.Shelf.{ShelfCall, ShelfRead, Tells, fault_in, AreChildren};
     ghost use Rattle.room_records.specs.Shelf.{IsChildCount, IsChildNamed};
     ghost use Rattle.room_records.specs.Trip.{TripCall, trip_view};
@@ -236,6 +236,9 @@ impl<S: Shelf> Shelf for TripShelf<S> {
             (left : Records) → (trip_view S.view self.new).crash_may_leave left →
             (trip_view S.view self.old).crash_may_leave left
             ⊎ (left ≡ apply_changes changes.now (trip_view S.view self.old).records) }
+        ensures untouched { (trip_view S.view self.new).is_intact → (trip_view S.view self.old).is_laid_out →
+            OnOk result (Untouched changes.now (trip_view S.view self.old).records
+            (trip_view S.view self.new).records) }
         ensures trips { TripCall S.view self.old self.new result }
     {
         if self.trips() {

@@ -6,9 +6,9 @@ use Rattle.std.proofs.Math.Nat.{mod-add-mod}
 use Rattle.std.proofs.lemmas.Bool.{cond-true, eq-eqb, eqb-true}
 use Rattle.std.proofs.lemmas.Bool.Decides.{nat_tests}
 use Rattle.room_slots.specs.KeptModel.{KeptModel}
-use Rattle.room_slots.specs.Slots.{next_number, verdict}
+use Rattle.room_slots.specs.Slots.{next_number, sent_again, verdict}
 use Rattle.room_slots.specs.declared.verdict.Verdict.{Verdict}
-use Rattle.room_slots.specs.declared.verdict.Verdict.TheVariants.{New, Repeat, FalseRetry, Misordered}
+use Rattle.room_slots.specs.declared.verdict.Verdict.TheVariants.{New, FalseRetry, Misordered}
 
 -- the number after the one that is kept is the number after the count
 pub next_number_of_count : (count : ℕ) → next_number (count % 2 ^ 32) ≡ next_number count
@@ -32,7 +32,8 @@ KeepsCount (Some last) count = last.seq ≡ count % 2 ^ 32
 abbrev pub verdict_unaccepted : Option KeptModel → ℕ → List ℕ → Verdict
 verdict_unaccepted None seq request = Misordered
 verdict_unaccepted (Some last) seq request =
-    if seq == last.seq then (if bytes_eq request last.request then Repeat else FalseRetry) else Misordered
+    if seq == last.seq then (if bytes_eq request last.request then sent_again last.reply else FalseRetry) else
+    Misordered
 
 -- the slot test by the count: new is asked first
 pub verdict_by_count : (kept : Option KeptModel) (count seq : ℕ) (request : List ℕ) → KeepsCount kept count
@@ -48,17 +49,19 @@ pub new_if_accepted : (kept : Option KeptModel) (count seq : ℕ) (request : Lis
 new_if_accepted kept count seq request h e =
     verdict_by_count kept count seq request h ∙ cond-true _ _ _ (eq-eqb seq (next_number count) e)
 
-not_new_by_tests : (a b : Bool) → (if a then (if b then Repeat else FalseRetry) else Misordered) ≡ New → ⊥
-not_new_by_tests true true e = cc
-not_new_by_tests true false e = cc
-not_new_by_tests false b e = cc
+not_new_by_tests : (a b : Bool) (reply : Option (List ℕ))
+    → (if a then (if b then sent_again reply else FalseRetry) else Misordered) ≡ New → ⊥
+not_new_by_tests true true None e = cc
+not_new_by_tests true true (Some reply) e = cc
+not_new_by_tests true false reply e = cc
+not_new_by_tests false b reply e = cc
 
 -- what is not accepted is not new
 pub unaccepted_is_not_new : (kept : Option KeptModel) (seq : ℕ) (request : List ℕ)
     → verdict_unaccepted kept seq request ≡ New → ⊥
 unaccepted_is_not_new None seq request e = cc
 unaccepted_is_not_new (Some last) seq request e =
-    not_new_by_tests (seq == last.seq) (bytes_eq request last.request) e
+    not_new_by_tests (seq == last.seq) (bytes_eq request last.request) last.reply e
 
 true_if_new : (test : Bool) (other : Verdict) → (other ≡ New → ⊥) → (if test then New else other) ≡ New → test ≡ true
 true_if_new true other not_new e = refl

@@ -9,7 +9,7 @@ use Rattle.room_slots.specs.Accepted.{Piece, accepted, bytes_of}
 
 -- wrapped_number
 abbrev last : KeptModel
-last = record { seq = 4294967295; request = 97 ∷ []; reply = [] }
+last = record { seq = 4294967295; request = 97 ∷ []; reply = Some [] }
 
 wrapped_new : verdict (Some last) 0 (97 ∷ []) ≡ V.New
 wrapped_new = refl
@@ -23,6 +23,19 @@ wrapped_false_retry = refl
 wrapped_misordered : verdict (Some last) 1 (97 ∷ []) ≡ V.Misordered
 wrapped_misordered = refl
 
+-- a reply that was not kept
+abbrev reply_dropped : KeptModel
+reply_dropped = record { seq = 7; request = 97 ∷ []; reply = None }
+
+dropped_is_uncached : verdict (Some reply_dropped) 7 (97 ∷ []) ≡ V.Uncached
+dropped_is_uncached = refl
+
+other_on_dropped_is_a_false_retry : verdict (Some reply_dropped) 7 (99 ∷ []) ≡ V.FalseRetry
+other_on_dropped_is_a_false_retry = refl
+
+dropped_is_followed : verdict (Some reply_dropped) 8 (99 ∷ []) ≡ V.New
+dropped_is_followed = refl
+
 first_is_one : verdict None 1 [] ≡ V.New
 first_is_one = refl
 
@@ -31,7 +44,7 @@ first_is_not_zero = refl
 
 -- a kept number 0 is a kept number
 abbrev zero_kept : KeptModel
-zero_kept = record { seq = 0; request = 97 ∷ []; reply = [] }
+zero_kept = record { seq = 0; request = 97 ∷ []; reply = Some [] }
 
 zero_repeats : verdict (Some zero_kept) 0 (97 ∷ []) ≡ V.Repeat
 zero_repeats = refl

@@ -5,12 +5,12 @@ use Rattle.std.proofs.lemmas.Grind.{common_steps}
 use Rattle.std.proofs.lemmas.Bool.{eqb-true}
 use Rattle.std.specs.Str.{bytes_eq}
 use Rattle.room_slots.specs.KeptModel.{KeptModel}
-use Rattle.room_slots.specs.Slots.{next_number}
+use Rattle.room_slots.specs.Slots.{next_number, sent_again}
 use Rattle.room_slots.specs.TrialModel.{TrialModel}
 use Rattle.room_slots.specs.Trials.{trial_after, after_verdict, appended}
 use Rattle.room_slots.specs.Accepted.{Piece, accepted_with, bytes_of}
 use Rattle.room_slots.specs.declared.verdict.Verdict.{Verdict}
-use Rattle.room_slots.specs.declared.verdict.Verdict.TheVariants.{New, Repeat, FalseRetry, Misordered}
+use Rattle.room_slots.specs.declared.verdict.Verdict.TheVariants.{New, FalseRetry, Misordered}
 use Rattle.room_slots.proofs.Counts.{KeepsCount, verdict_by_count, verdict_unaccepted}
 
 -- the document is the bytes of the accepted pieces, and the number kept is their count
@@ -18,18 +18,19 @@ pub record Holds (trial : TrialModel) (pieces : List Piece) : Type 0 where
   pub doc : trial.doc ≡ bytes_of pieces
   pub count : KeepsCount trial.kept (length pieces)
 
-unchanged_by_tests : (a b : Bool) (trial : TrialModel) (seq : ℕ) (bytes : List ℕ)
-    → after_verdict (if a then (if b then Repeat else FalseRetry) else Misordered) trial seq bytes ≡ trial
-unchanged_by_tests true true trial seq bytes = refl
-unchanged_by_tests true false trial seq bytes = refl
-unchanged_by_tests false b trial seq bytes = refl
+unchanged_by_tests : (a b : Bool) (reply : Option (List ℕ)) (trial : TrialModel) (seq : ℕ) (bytes : List ℕ)
+    → after_verdict (if a then (if b then sent_again reply else FalseRetry) else Misordered) trial seq bytes ≡ trial
+unchanged_by_tests true true None trial seq bytes = refl
+unchanged_by_tests true true (Some reply) trial seq bytes = refl
+unchanged_by_tests true false reply trial seq bytes = refl
+unchanged_by_tests false b reply trial seq bytes = refl
 
 -- what is not accepted changes nothing
 pub unaccepted_changes_nothing : (kept : Option KeptModel) (trial : TrialModel) (seq : ℕ) (bytes : List ℕ)
     → after_verdict (verdict_unaccepted kept seq bytes) trial seq bytes ≡ trial
 unaccepted_changes_nothing None trial seq bytes = refl
 unaccepted_changes_nothing (Some last) trial seq bytes =
-    unchanged_by_tests (seq == last.seq) (bytes_eq bytes last.request) trial seq bytes
+    unchanged_by_tests (seq == last.seq) (bytes_eq bytes last.request) last.reply trial seq bytes
 
 -- an accepted piece is held with the others
 Holds-appended : (trial : TrialModel) (pieces : List Piece) (piece : Piece) → Holds trial pieces

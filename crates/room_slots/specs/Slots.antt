@@ -3,15 +3,20 @@ use Rattle.std.specs.Prelude.{ℕ, ◌+◌, ◌%◌, ◌^◌, ◌==◌, List, Op
 use Rattle.std.specs.Str.{bytes_eq}
 use Rattle.room_slots.specs.KeptModel.{KeptModel}
 use Rattle.room_slots.specs.declared.verdict.Verdict.{Verdict}
-use Rattle.room_slots.specs.declared.verdict.Verdict.TheVariants.{New, Repeat, FalseRetry, Misordered}
+use Rattle.room_slots.specs.declared.verdict.Verdict.TheVariants.{New, Repeat, Uncached, FalseRetry, Misordered}
 
 -- the number after this one
 abbrev pub next_number : ℕ → ℕ
 next_number seq = (seq + 1) % 2 ^ 32
 
+-- what the last request is when it is sent again, by what is kept of its reply
+abbrev pub sent_again : Option (List ℕ) → Verdict
+sent_again None = Uncached
+sent_again (Some reply) = Repeat
+
 -- what a request with this number is to a slot
 abbrev pub verdict : Option KeptModel → ℕ → List ℕ → Verdict
 verdict None seq request = if seq == 1 then New else Misordered
 verdict (Some last) seq request =
-    if seq == last.seq then (if bytes_eq request last.request then Repeat else FalseRetry)
+    if seq == last.seq then (if bytes_eq request last.request then sent_again last.reply else FalseRetry)
     else (if seq == next_number last.seq then New else Misordered)

@@ -1,5 +1,5 @@
 -- A trial slot: a document to which pieces are appended, each once.
-use Rattle.std.specs.Prelude.{ℕ, List, [], ◌++◌, Option, None, Some}
+use Rattle.std.specs.Prelude.{ℕ, List, ◌++◌, Option, None, Some, unwrap_or}
 use Rattle.room_slots.specs.KeptModel.{KeptModel}
 use Rattle.room_slots.specs.Slots.{verdict}
 use Rattle.room_slots.specs.TrialModel.{TrialModel, TrialAnswerModel, Reply, FalseRetry, Misordered}
@@ -17,7 +17,7 @@ answer_model T.Misordered = Misordered
 -- the slot after a new piece: its reply, the whole document, is kept
 abbrev pub appended : TrialModel → ℕ → List ℕ → TrialModel
 appended trial seq bytes = let doc = trial.doc ++ bytes in record {
-  kept = Some (record { seq = seq; request = bytes; reply = doc });
+  kept = Some (record { seq = seq; request = bytes; reply = Some doc });
   doc = doc;
 }
 
@@ -25,6 +25,7 @@ appended trial seq bytes = let doc = trial.doc ++ bytes in record {
 abbrev pub after_verdict : Verdict → TrialModel → ℕ → List ℕ → TrialModel
 after_verdict V.New trial seq bytes = appended trial seq bytes
 after_verdict V.Repeat trial seq bytes = trial
+after_verdict V.Uncached trial seq bytes = trial
 after_verdict V.FalseRetry trial seq bytes = trial
 after_verdict V.Misordered trial seq bytes = trial
 
@@ -32,15 +33,20 @@ after_verdict V.Misordered trial seq bytes = trial
 abbrev pub trial_after : TrialModel → ℕ → List ℕ → TrialModel
 trial_after trial seq bytes = after_verdict (verdict trial.kept seq bytes) trial seq bytes
 
--- the reply that is kept; where there is none, nothing is a repeat
-abbrev pub kept_reply : Option KeptModel → List ℕ
-kept_reply None = []
-kept_reply (Some last) = last.reply
+-- the reply that is kept; without one it is the document
+abbrev pub kept_reply : Option KeptModel → List ℕ → List ℕ
+kept_reply None doc = doc
+kept_reply (Some last) doc = unwrap_or last.reply doc
+
+-- the answer to the last piece when it is sent again
+abbrev pub answer_again : TrialModel → TrialAnswerModel
+answer_again trial = Reply (kept_reply trial.kept trial.doc)
 
 -- the answer to a piece that is this to the slot
 abbrev pub answer_by_verdict : Verdict → TrialModel → List ℕ → TrialAnswerModel
 answer_by_verdict V.New trial bytes = Reply (trial.doc ++ bytes)
-answer_by_verdict V.Repeat trial bytes = Reply (kept_reply trial.kept)
+answer_by_verdict V.Repeat trial bytes = answer_again trial
+answer_by_verdict V.Uncached trial bytes = answer_again trial
 answer_by_verdict V.FalseRetry trial bytes = FalseRetry
 answer_by_verdict V.Misordered trial bytes = Misordered
 

@@ -1,7 +1,7 @@
 //! A trial slot: the smallest thing that shows why a retry must act once.
-ghost use Rattle.std.specs.Prelude.{◌≡◌, [], ◌++◌, map, IsSome, IfOk, OnOk, OnErr};
+ghost use Rattle.std.specs.Prelude.{◌≡◌, [], ◌++◌, map, IfOk, OnOk, OnErr};
 ghost use Rattle.room_slots.specs.Slots.{verdict};
-ghost use Rattle.room_slots.specs.Trials.{answer_model, answer_by_verdict, appended, kept_reply};
+ghost use Rattle.room_slots.specs.Trials.{answer_model, answer_again, appended};
 ghost use Rattle.room_slots.specs.Trials.{trial_after, trial_answer};
 ghost use Rattle.room_slots.specs.TrialModel.{Reply};
 ghost use Rattle.room_slots.specs.Accepted.{accepted, bytes_of};
@@ -57,7 +57,7 @@ impl Trial {
     ///
     /// What the piece is to the slot, [`classify`] says. A new one is appended
     /// and kept, with the whole document as its reply. A repeat gets the reply
-    /// that is kept. A repeat, a false retry and a misordered piece change nothing.
+    /// that is kept. What is not new changes nothing.
     ///
     /// # Errors
     ///
@@ -70,7 +70,7 @@ impl Trial {
     {
         match classify(self.kept.as_ref(), seq, bytes) {
             Verdict::New => self.append_new(seq, bytes),
-            Verdict::Repeat => self.reply_again(),
+            Verdict::Repeat | Verdict::Uncached => self.reply_again(),
             Verdict::FalseRetry => Ok(TrialAnswer::FalseRetry),
             Verdict::Misordered => Ok(TrialAnswer::Misordered),
         }
@@ -101,7 +101,7 @@ impl Trial {
         let kept = Kept {
             seq,
             request: bytes.to_vec(*self.doc.allocator())?,
-            reply: reply.clone()?,
+            reply: Some(reply.clone()?),
         };
         // The last growth that may be refused: up to here nothing has changed.
         self.doc.extend_from_slice(bytes)?;
@@ -109,15 +109,20 @@ impl Trial {
         Ok(TrialAnswer::Reply(reply))
     }
 
-    // The reply that is kept, again.
+    // The reply that is kept, again. `append` keeps each one; in a slot made without it, it is the document.
     fn reply_again(&self) -> Result<TrialAnswer, AllocError>
-        requires { IsSome self.now.kept }
-        ensures { IfOk result (λ answer. answer_model answer ≡ Reply (kept_reply self.now.kept)) }
+        ensures { IfOk result (λ answer. answer_model answer ≡ answer_again self.now) }
     {
-        let Some(kept) = &self.kept else {
-            unreachable!();
+        let reply = match &self.kept {
+            Some(
+                Kept {
+                    reply: Some(reply),
+                    ..
+                },
+            ) => reply,
+            _ => &self.doc,
         };
-        Ok(TrialAnswer::Reply(kept.reply.clone()?))
+        Ok(TrialAnswer::Reply(reply.clone()?))
     }
 }
 

@@ -6,7 +6,7 @@ ghost use Rattle.room_slots.specs.Slots.{verdict};
 use std::alloc::AllocError;
 use std::marker::Model;
 
-/// What a slot keeps: the last request that was new to it, and its reply.
+/// What a slot keeps: the last request that was new to it, and its reply, where that is to be kept.
 ///
 /// One is enough (RFC 8881, section 2.10.6): a client that sends the next number has
 /// the reply to the last one. A slot that has run nothing keeps no `Kept`; a kept
@@ -17,16 +17,17 @@ pub struct Kept {
     pub seq: u32,
     /// The request, as bytes that are equal where the requests are the same.
     pub request: Vec<u8>,
-    /// The reply that it was given, byte for byte.
-    pub reply: Vec<u8>,
+    /// The reply that it was given, byte for byte; `None` where the reply need not be kept.
+    pub reply: Option<Vec<u8>>,
 }
 
 impl Model for Kept {
+    ghost use Rattle.std.specs.Option.{option_map};
     ghost use Rattle.room_slots.specs.KeptModel.{KeptModel};
 
     ghost Value = { KeptModel };
 
-    ghost view = { λ k. record { seq = k.seq; request = k.request.items; reply = k.reply.items } };
+    ghost view = { λ k. record { seq = k.seq; request = k.request.items; reply = option_map (λ r. r.items) k.reply } };
 }
 
 impl Kept {
@@ -38,10 +39,14 @@ impl Kept {
     pub fn clone(&self) -> Result<Kept, AllocError>
         ensures { IfOk result (λ copy. copy ≡ self.now) }
     {
+        let reply = match &self.reply {
+            Some(reply) => Some(reply.clone()?),
+            None => None,
+        };
         Ok(Kept {
             seq: self.seq,
             request: self.request.clone()?,
-            reply: self.reply.clone()?,
+            reply,
         })
     }
 }
@@ -53,6 +58,8 @@ pub enum Verdict {
     New,
     /// It is the last request again, and is to get the reply that is kept.
     Repeat,
+    /// It is the last request again, and its reply was not kept (RETRY_UNCACHED_REP).
+    Uncached,
     /// It has the last number, and is another request (SEQ_FALSE_RETRY).
     FalseRetry,
     /// It has another number than the last and the next (SEQ_MISORDERED).
@@ -77,7 +84,10 @@ pub fn classify(kept: Option<&Kept>, seq: u32, request: &[u8]) -> Verdict
     };
     if seq == kept.seq {
         if request == kept.request.as_slice() {
-            Verdict::Repeat
+            match &kept.reply {
+                Some(_) => Verdict::Repeat,
+                None => Verdict::Uncached,
+            }
         } else {
             Verdict::FalseRetry
         }

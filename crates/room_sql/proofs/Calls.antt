@@ -16,8 +16,8 @@ use Rattle.room_records.specs.declared.change.Change.{Change}
 use Rattle.room_records.specs.declared.shelf.ShelfFault.{ShelfFault}
 use Rattle.room_records.specs.declared.shelf.ShelfFault.TheVariants.{Store}
 use Rattle.room_records.specs.Shelf.{View, ShelfCall, ShelfRead, FailureCounted}
-use Rattle.room_tables.specs.Rows.{records_of, shown_node, version_rows, IsVersion1}
-use Rattle.room_tables.specs.Layout.{IsRoomDatabase, IsRoomOfVersion1}
+use Rattle.room_tables.specs.Rows.{records_of, shown_node, version_rows, IsVersion}
+use Rattle.room_tables.specs.Layout.{IsRoomDatabase, IsRoomOfVersion2}
 use Rattle.room_tables.specs.Steps.{MayBecome}
 use Rattle.room_sql.specs.declared.known.Known.{Known}
 use Rattle.room_sql.specs.Known.{IsRight, KnowsNothing}
@@ -33,7 +33,7 @@ module _ {S : Type 0} (store : Ghosts S) where
     failures = failures;
     is_intact = HasCleanDisk (state store conn);
     is_available = HasCleanDisk (state store conn) × IsTrue (state store conn).is_open;
-    is_laid_out = IsRoomOfVersion1 (state store conn).now × IsRight known ((state store conn).now.trees 1);
+    is_laid_out = IsRoomOfVersion2 (state store conn).now × IsRight known ((state store conn).now.trees 1);
     crash_may_leave = λ left. HasCleanDisk (state store conn)
         × ((trees : Trees) × (state store conn).may_leave trees × (left ≡ records_of trees));
   }
@@ -60,7 +60,7 @@ module _ {S : Type 0} (store : Ghosts S) where
   -- a query that answered, after which the shelf knows something that is right
   pub read_ok : {T : Type 0} (old new : Held S) (failures : ℕ) (known after : Known) (x : T)
       → QueryFrame {T = T} (state store old) (state store new) (Ok x)
-      → (HasCleanDisk (state store new) → IsRoomOfVersion1 (state store old).now
+      → (HasCleanDisk (state store new) → IsRoomOfVersion2 (state store old).now
       → IsRight known ((state store old).now.trees 1) → IsRight after ((state store old).now.trees 1))
       → ShelfRead (view_of old failures known) (view_of new failures after) None
   read_ok old new failures known after x frame right = record {
@@ -68,7 +68,7 @@ module _ {S : Type 0} (store : Ghosts S) where
       was_intact = frame.clean;
       was_available = λ there. (frame.clean there.0, frame.was_open there.0 there.1);
       laid_out = λ there laid. (
-        subst IsRoomOfVersion1 (sym (frame.answered there.0).1) laid.0,
+        subst IsRoomOfVersion2 (sym (frame.answered there.0).1) laid.0,
         subst (λ (d : Database). IsRight after (d.trees 1)) (sym (frame.answered there.0).1)
             (right there.0 laid.0 laid.1),
       );
@@ -97,7 +97,7 @@ module _ {S : Type 0} (store : Ghosts S) where
       was_intact = frame.clean;
       was_available = λ there. (frame.clean there.0, frame.was_open there.0 there.1);
       laid_out = λ there laid. (
-        subst IsRoomOfVersion1 (sym (kept there)) laid.0,
+        subst IsRoomOfVersion2 (sym (kept there)) laid.0,
         nothing ((state store new).now.trees 1),
       );
       alive = λ clean was. tt;
@@ -123,7 +123,7 @@ module _ {S : Type 0} (store : Ghosts S) where
       → (HasCleanDisk (state store new) → IsTrue (state store new).is_open × (IsRoomDatabase (state store old).now →
       IsRoomDatabase (state store new).now × MayBecome changes (state store old).now (state store new).now.trees))
       → (HasCleanDisk (state store new) → IsRoomDatabase (state store old).now
-      → IsVersion1 (version_rows (state store old).now.trees) → IsVersion1 (version_rows (state store new).now.trees))
+      → IsVersion 2 (version_rows (state store old).now.trees) → IsVersion 2 (version_rows (state store new).now.trees))
       → (HasCleanDisk (state store new) → IsRoomDatabase (state store old).now
       → AfterAll changes ((state store old).now.trees 1) ((state store new).now.trees 1))
       → ((rows next : List Row) → IsRight known rows → AfterAll changes rows next → IsRight after next)

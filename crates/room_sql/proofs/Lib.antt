@@ -2,5 +2,8 @@ pub mod Bound
 pub mod Frames
 pub mod Decisions
 pub mod Turns
+pub mod SlotWrites
 pub mod NodeRows
 pub mod Calls
+pub mod Taken
+pub mod Unread

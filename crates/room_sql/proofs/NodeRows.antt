@@ -19,22 +19,23 @@ use Rattle.room_acl.specs.Entries.{EntryModel}
 use Rattle.room_records.specs.declared.change.Change.{Change}
 use Rattle.room_records.specs.declared.change.Change.TheVariants.{PutNode, DropNode, PutEntries, PutDoc, PutSession}
 use Rattle.room_records.specs.declared.change.Change.TheVariants.{PutSlot, DropSlots, PutNext}
-use Rattle.room_tables.specs.Tables.{room_schema}
+use Rattle.room_tables.specs.Tables.{Layout, room_schema}
 use Rattle.room_tables.specs.Rows.{has}
 use Rattle.room_tables.specs.Layout.{IsRoomDatabase, parent_value}
 use Rattle.room_tables.specs.Steps.{kind_number, flag_of}
 use Rattle.room_tables.specs.Texts.{put_node_text, drop_entries_text, add_entry_text, add_two_text, add_three_text}
-use Rattle.room_tables.specs.Texts.{add_four_text, put_doc_text, put_session_text, put_slot_text, drop_slots_text}
+use Rattle.room_tables.specs.Texts.{add_four_text, put_doc_text, put_session_text, drop_slots_text}
 use Rattle.room_tables.specs.Texts.{put_next_text}
+use Rattle.room_tables.proofs.Each.{above}
 use Rattle.room_tables.proofs.Changes.{executes_inside}
 use Rattle.room_tables.proofs.Upserts.{Put}
-use Rattle.room_tables.proofs.Puts.{stored_node, node_params, slot_values, puts_node, puts_doc, puts_next, puts_session}
-use Rattle.room_tables.proofs.Puts.{puts_slot}
+use Rattle.room_tables.proofs.Puts.{stored_node, node_params, puts_node, puts_doc, puts_next, puts_session}
 use Rattle.room_tables.proofs.Takes.{drops_entries, drops_slots, AddsEntries, bound_entries, adds_one, adds_two}
 use Rattle.room_tables.proofs.Takes.{adds_three, adds_four}
 use Rattle.room_tables.proofs.Filters.{put_is_one_more, others_left_on, not_both}
 use Rattle.room_tables.proofs.Values.{int_has, has_is}
 use Rattle.room_sql.specs.Causes.{statement, RunInTurn, writes_of, entry_writes}
+use Rattle.room_sql.proofs.SlotWrites.{slot_leaves_nodes}
 use Rattle.room_sql.specs.NodeRows.{HasNone, HasOneMore, is_parent, After, AfterAll}
 
 -- ---- a node where no row has its number
@@ -56,8 +57,8 @@ one_counted : (p : Row → Bool) (r : Row) (rows : List Row) (b : Bool) → p r 
 one_counted p r rows true is = rw is (omega arith)
 one_counted p r rows false is = rw is (omega arith)
 
-one_more : (id : ℕ) (parent : Option ℕ) (row : Row) (db next : Trees) → column row 2 ≡ parent_value parent
-    → Put 1 db next (λ r. r ≡ row) (λ r. has 0 id r ≡ true) → HasNone id (db 1) → HasOneMore parent (db 1) (next 1)
+one_more : {l : Layout} (id : ℕ) (parent : Option ℕ) (row : Row) (db next : Trees) → column row 2 ≡ parent_value parent
+    → Put l 1 db next (λ r. r ≡ row) (λ r. has 0 id r ≡ true) → HasNone id (db 1) → HasOneMore parent (db 1) (next 1)
 one_more id parent row db next is it none folder =
     ap (λ l. length (filter (has 2 folder) l)) it.rows
     ∙ sym (length_permutation _ _ (IsPermutation-filter (has 2 folder) _ _ (put_is_one_more it.row left it.free)))
@@ -90,30 +91,31 @@ module _ {S : Type 0} (store : Ghosts S) where
     subst (λ h. ExecutesInside 0 text args (state store a) (state store h) (Ok on.1)) (sym on.3.1) on.2.runs,
   )
 
-  one_added : (text : List ℕ) (id place : ℕ) (batch : List EntryModel) (a b : Held S)
-      → AddsEntries text id place batch → (state store a).now.schema ≡ room_schema
+  one_added : (l : Layout) (text : List ℕ) (id place : ℕ) (batch : List EntryModel) (a b : Held S)
+      → AddsEntries l text id place batch → (state store a).now.schema ≡ room_schema l
       → RunInTurn store (statement text (Int (pos id) ∷ bound_entries place batch) ∷ []) a b (Ok tt)
       → nodes b ≡ nodes a
-  one_added text id place batch a b adds schema ran =
+  one_added l text id place batch a b adds schema ran =
       let one = one_ran text (Int (pos id) ∷ bound_entries place batch) a b ran in
       (adds (state store a) (state store b) one.0 schema (executes_inside text _ (state store a) (state store b)
       one.0 one.1).0).others.node (omega arith)
 
-  all_added : (id place : ℕ) (entries : List EntryModel) (a b : Held S) → (state store a).now.schema ≡ room_schema
+  all_added : (l : Layout) (id place : ℕ) (entries : List EntryModel) (a b : Held S)
+      → (state store a).now.schema ≡ room_schema l
       → RunInTurn store (entry_writes id place entries) a b (Ok tt) → nodes b ≡ nodes a
   unfolding RunInTurn
-  all_added id place [] a b schema ran = ap nodes ran.1
-  all_added id place (x ∷ []) a b schema ran =
-      one_added add_entry_text id place (x ∷ []) a b (adds_one id place x) schema ran
-  all_added id place (x ∷ y ∷ []) a b schema ran =
-      one_added add_two_text id place (x ∷ y ∷ []) a b (adds_two id place x y) schema ran
-  all_added id place (x ∷ y ∷ z ∷ []) a b schema ran =
-      one_added add_three_text id place (x ∷ y ∷ z ∷ []) a b (adds_three id place x y z) schema ran
-  all_added id place (x ∷ y ∷ z ∷ w ∷ more) a b schema (inl failed) = absurd (let bad = failed.1 in cc)
-  all_added id place (x ∷ y ∷ z ∷ w ∷ more) a b schema (inr on) =
-      let it = adds_four id place x y z w (state store a) (state store on.0) on.1 schema
+  all_added l id place [] a b schema ran = ap nodes ran.1
+  all_added l id place (x ∷ []) a b schema ran =
+      one_added l add_entry_text id place (x ∷ []) a b (adds_one l id place x) schema ran
+  all_added l id place (x ∷ y ∷ []) a b schema ran =
+      one_added l add_two_text id place (x ∷ y ∷ []) a b (adds_two l id place x y) schema ran
+  all_added l id place (x ∷ y ∷ z ∷ []) a b schema ran =
+      one_added l add_three_text id place (x ∷ y ∷ z ∷ []) a b (adds_three l id place x y z) schema ran
+  all_added l id place (x ∷ y ∷ z ∷ w ∷ more) a b schema (inl failed) = absurd (let bad = failed.1 in cc)
+  all_added l id place (x ∷ y ∷ z ∷ w ∷ more) a b schema (inr on) =
+      let it = adds_four l id place x y z w (state store a) (state store on.0) on.1 schema
       (executes_inside add_four_text _ (state store a) (state store on.0) on.1 on.2.runs).0 in
-      all_added id (place + 4) more on.0 b it.schema on.3 ∙ it.others.node (omega arith)
+      all_added l id (place + 4) more on.0 b it.schema on.3 ∙ it.others.node (omega arith)
 
   -- what the statements of a change do to the rows of nodes
   pub nodes_after : (change : Change) (a b : Held S) → IsRoomDatabase (state store a).now
@@ -124,38 +126,34 @@ module _ {S : Type 0} (store : Ghosts S) where
       let kind = kind_number node.kind in
       let one = one_ran put_node_text (node_params node.id node.parent name kind node.owner node.group node.aclflag)
       a b ran in
-      let it = puts_node (state store a) (state store b) node.id node.parent name kind node.owner node.group
+      let it = puts_node room.layout (state store a) (state store b) node.id node.parent name kind node.owner node.group
       node.aclflag one.0 room.schema room.keyed.node (executes_inside put_node_text _ _ _ one.0 one.1).0 in
       one_more node.id node.parent (stored_node node.id node.parent name kind node.owner node.group node.aclflag)
       (state store a).now.trees (state store b).now.trees refl it.put none
   nodes_after (DropNode id) a b room ran = tt
   nodes_after (PutEntries id entries) a b room (inl failed) = absurd (let bad = failed.1 in cc)
   nodes_after (PutEntries id entries) a b room (inr on) =
-      let it = drops_entries (state store a) (state store on.0) id on.1 room.schema room.keyed.entry
+      let it = drops_entries room.layout (state store a) (state store on.0) id on.1 room.schema room.keyed.entry
       (executes_inside drop_entries_text _ _ _ on.1 on.2.runs).0 in
-      all_added id 0 entries.items on.0 b it.schema on.3 ∙ it.others.node (omega arith)
+      all_added room.layout id 0 entries.items on.0 b it.schema on.3 ∙ it.others.node (omega arith)
   nodes_after (PutDoc id bytes) a b room ran =
       let one = one_ran put_doc_text (Int (pos id) ∷ Blob bytes.items ∷ []) a b ran in
-      (puts_doc (state store a) (state store b) id bytes.items one.0 room.schema room.keyed.doc
+      (puts_doc room.layout (state store a) (state store b) id bytes.items one.0 room.schema room.keyed.doc
       (executes_inside put_doc_text _ _ _ one.0 one.1).0).put.others.node (omega arith)
   nodes_after (PutSession row) a b room ran =
       let one = one_ran put_session_text
       (Text row.sid ∷ Text row.owner ∷ Int (pos row.slots) ∷ Int (pos (flag_of row.is_open)) ∷ []) a b ran in
-      (puts_session (state store a) (state store b) row.sid row.owner row.slots (flag_of row.is_open) one.0
+      (puts_session room.layout (state store a) (state store b) row.sid row.owner row.slots (flag_of row.is_open) one.0
       room.schema room.keyed.session (executes_inside put_session_text _ _ _ one.0 one.1).0).put.others.node
       (omega arith)
-  nodes_after (PutSlot row) a b room ran =
-      let one = one_ran put_slot_text
-      (slot_values row.sid row.slot row.kept.seq row.kept.request row.kept.reply) a b ran in
-      (puts_slot (state store a) (state store b) row.sid row.slot row.kept.seq row.kept.request row.kept.reply one.0
-      room.schema room.keyed.slot (executes_inside put_slot_text _ _ _ one.0 one.1).0).put.others.node (omega arith)
+  nodes_after (PutSlot row) a b room ran = slot_leaves_nodes store row a b room ran
   nodes_after (DropSlots sid) a b room ran =
       let one = one_ran drop_slots_text (Text sid ∷ []) a b ran in
-      (drops_slots (state store a) (state store b) sid one.0 room.schema room.keyed.slot
-      (executes_inside drop_slots_text _ _ _ one.0 one.1).0).others.node (omega arith)
+      (drops_slots room.layout (state store a) (state store b) sid one.0 room.schema room.keyed.slots
+      (executes_inside drop_slots_text _ _ _ one.0 one.1).0).others.node (omega (arith, above room.layout))
   nodes_after (PutNext next) a b room ran =
       let one = one_ran put_next_text (Int (pos next) ∷ []) a b ran in
-      (puts_next (state store a) (state store b) next one.0 room.schema room.keyed.room
+      (puts_next room.layout (state store a) (state store b) next one.0 room.schema room.keyed.room
       (executes_inside put_next_text _ _ _ one.0 one.1).0).put.others.node (omega arith)
 
 -- ---- changes in turn

@@ -1,11 +1,12 @@
 -- Statements in turn.
-use Rattle.std.proofs.Common.{◌≡◌, ◌⊎◌, ◌∙◌, ◌+◌, ◌<◌, ◌≤◌, ℕ, suc, List, [], ◌∷◌, ◌++◌, length, get_or, min, drop}
+use Rattle.std.proofs.Common.{◌≡◌, ◌⊎◌, ◌∙◌, ◌+◌, ◌<◌, ◌≤◌, ℕ, ℤ, suc, List, [], ◌∷◌, ◌++◌, length, get_or, min, drop}
 use Rattle.std.proofs.Common.{unwrap_or, Result, Ok, Err, OnOk, IfErr, IsErr, IsErrAnd, inl, inr, refl, sym, ap, subst}
-use Rattle.std.proofs.Common.{arith}
+use Rattle.std.proofs.Common.{Bool, arith}
 use Rattle.std.proofs.Math.Seq.{drop-cons}
 use Rattle.std.proofs.Math.Nat.{min-eq_left, min-eq_right, min-le_left}
 use Rattle.std.proofs.lemmas.Bool.{cases_lt}
-use Rattle.std.proofs.lemmas.List.{length-append}
+use Rattle.std.proofs.lemmas.List.{append-nil, length-append}
+use Rattle.sqlite_value.specs.declared.value.Value.TheVariants.{Int}
 use Rattle.sqlite_value.specs.Order.{Row}
 use Rattle.sqlite_trees.specs.declared.store.Store.{Ghosts}
 use Rattle.sqlite.specs.State.{Survives, IsRolledBack, ExecutesInside}
@@ -13,14 +14,29 @@ use Rattle.sqlite.specs.Held.{Held, state}
 use Rattle.sqlite.specs.Steps.{FailsToCommit}
 use Rattle.sqlite.specs.declared.error.Error.{Error}
 use Rattle.room_acl.specs.Entries.{EntryModel}
-use Rattle.room_records.specs.declared.change.Change.{Change}
 use Rattle.room_tables.specs.Rows.{name_of_text}
-use Rattle.room_sql.specs.Causes.{Statement, statement, RunInTurn, entry_writes, writes_of_all, begun, CommitFails}
+use Rattle.room_tables.specs.Texts.{copy_row_text, take_row_text}
+use Rattle.room_sql.specs.Causes.{Statement, statement, statement_or, RanText, RunInTurn, entry_writes, row_moves}
+use Rattle.room_sql.specs.Causes.{all_moves, MovesRow, begun, MovesInTurn, FailsBy}
 
 -- what holds after an Ok
 pub ok_then : {X E : Type 0} (r : Result X E) (P Q : Type 0) → OnOk r P → (P → Q) → OnOk r Q
 ok_then (Ok x) P Q h f = f h
 ok_then (Err e) P Q h f = h
+
+-- what holds of a result, if that is an Ok
+pub of_ok : {E : Type 0} (r : Result (Unit {0}) E) (P : Result (Unit {0}) E → Type 0) → P r → OnOk r (P (Ok tt))
+of_ok (Ok x) P h = h
+of_ok (Err e) P h = tt
+
+pub both : {X E : Type 0} (r : Result X E) (P Q : Type 0) → OnOk r P → OnOk r Q → OnOk r (P × Q)
+both (Ok x) P Q p q = (p, q)
+both (Err e) P Q p q = tt
+
+-- an error that was passed on
+pub err_is : {X : Type 0} (e : Error) (r : Result X Error) → IsErr r → IsErrAnd r (λ f. f ≡ e) → r ≡ Err e
+err_is e (Ok x) err is = absurd cc
+err_is e (Err f) err is = ap Err is
 
 -- the text of a name, and the empty text for none
 pub name_back : (text : List ℕ) → unwrap_or (name_of_text text) [] ≡ text
@@ -43,6 +59,27 @@ module _ {S : Type 0} (store : Ghosts S) where
       → Survives (state store a) (state store b) (λ _. ⊥) → RunInTurn store (statement text args ∷ []) a b (Err e)
   unfolding RunInTurn
   turn_fails text args a b e runs survives = inl (e, refl, record { runs = runs; survives = survives })
+
+  -- a statement that changed rows, so that the other does not run
+  pub turn_changed : (text other : List ℕ) (args : Row) (a b : Held S) (count : ℕ) → ¬ (count ≡ 0)
+      → RanText store text args a b (Ok count) → RunInTurn store (statement_or text other args ∷ []) a b (Ok tt)
+  unfolding RunInTurn
+  turn_changed text other args a b count some ran =
+      inr (b, count, inl (ran, λ none. some (let e = none in cc)), (refl, refl))
+
+  -- one that failed
+  pub turn_unchanged : (text other : List ℕ) (args : Row) (a b : Held S) (e : Error)
+      → RanText store text args a b (Err e) → RunInTurn store (statement_or text other args ∷ []) a b (Err e)
+  unfolding RunInTurn
+  turn_unchanged text other args a b e ran = inl (e, refl, inl (ran, λ none. let bad = none in cc))
+
+  -- and one that changed none, with the other behind it
+  pub turn_or : (text other : List ℕ) (args : Row) (a b c : Held S) (out : Result (Unit {0}) Error)
+      → RanText store text args a b (Ok 0) → RunInTurn store (statement other args ∷ []) b c out
+      → RunInTurn store (statement_or text other args ∷ []) a c out
+  unfolding RunInTurn
+  turn_or text other args a b c out none (inl failed) = inl (failed.0, failed.1, inr (b, none, failed.2))
+  turn_or text other args a b c out none (inr on) = inr (on.0, on.1, inr (b, none, on.2), on.3)
 
   -- the same parameters in other words
   pub turn_as : (text : List ℕ) (args other : Row) (a b : Held S) (out : Result (Unit {0}) Error) → args ≡ other
@@ -72,27 +109,104 @@ module _ {S : Type 0} (store : Ghosts S) where
   turn_passed xs ys a b e (Err f) err is ran =
       subst (λ g. RunInTurn store (xs ++ ys) a b (Err g)) (sym is) (turn_stops xs ys a b e ran)
 
-  -- a commit whose statement failed, and one whose end failed
-  pub write_failed : (changes : List Change) (old tx last new : Held S) (e : Error)
-      → tx ≡ begun store old → RunInTurn store (writes_of_all changes) tx last (Err e)
+  -- ---- rows that are moved
+
+  -- after more moves of rows
+  moves_append : (ids more : List ℤ) → row_moves (ids ++ more) ≡ row_moves ids ++ row_moves more
+  moves_append [] more = refl
+  moves_append (id ∷ ids) more =
+      ap (λ l. statement copy_row_text [] ∷ statement take_row_text (Int id ∷ []) ∷ l) (moves_append ids more)
+
+  pub one_more : (ids : List ℤ) (id : ℤ) (a b c : Held S) (out : Result (Unit {0}) Error)
+      → RunInTurn store (row_moves ids) a b (Ok tt) → RunInTurn store (row_moves (id ∷ [])) b c out
+      → RunInTurn store (row_moves (ids ++ id ∷ [])) a c out
+  one_more ids id a b c out first second =
+      subst (λ l. RunInTurn store l a c out) (sym (moves_append ids (id ∷ [])))
+      (turn_then (row_moves ids) (row_moves (id ∷ [])) a b c out first second)
+
+  -- a row's move whose statement failed, by an error that was passed on
+  pub row_fails : (id : ℤ) (a b : Held S) (e : Error) (r : Result Bool Error)
+      → IsErr r → IsErrAnd r (λ f. f ≡ e) → RunInTurn store (row_moves (id ∷ [])) a b (Err e) → MovesRow store a b r
+  row_fails id a b e r err is ran = subst (MovesRow store a b) (sym (err_is e r err is)) (id, inl ran)
+
+  -- a row's move that failed after others
+  pub move_fails : (ids : List ℤ) (a b c : Held S) (e : Error)
+      → RunInTurn store (row_moves ids) a b (Ok tt) → MovesRow store b c (Err e) → MovesInTurn store [] [] a c (Err e)
+  move_fails ids a b c e first (id, inl ran) =
+      let all = ids ++ id ∷ [] in (
+        all,
+        inl
+            (subst (λ l. RunInTurn store l a c (Err e)) (sym (append-nil (all_moves all)))
+            (turn_stops (row_moves all) (statement copy_row_text [] ∷ []) a c e
+            (one_more ids id a b c (Err e) first ran))),
+      )
+  move_fails ids a b c e first (id, inr other) =
+      (ids ++ id ∷ [], inr (inr (other.0, other.1), one_more ids id a b c (Ok tt) first other.2))
+
+  -- none was left
+  pub moves_end : (ids : List ℤ) (a b c : Held S) → RunInTurn store (row_moves ids) a b (Ok tt)
+      → RunInTurn store (all_moves []) b c (Ok tt) → MovesInTurn store [] [] a c (Ok tt)
+  moves_end ids a b c first second = (
+    ids,
+    inl
+        (subst (λ l. RunInTurn store l a c (Ok tt)) (sym (append-nil (all_moves ids)))
+        (turn_then (row_moves ids) (all_moves []) a b c (Ok tt) first second)),
+  )
+
+  -- a statement before
+  pub moves_after : (s : Statement) (after : List Statement) (a b c : Held S) (out : Result (Unit {0}) Error)
+      → RunInTurn store (s ∷ []) a b (Ok tt) → MovesInTurn store [] after b c out
+      → MovesInTurn store (s ∷ []) after a c out
+  moves_after s after a b c out first (ids, inl ran) =
+      (ids, inl (turn_then (s ∷ []) (all_moves ids ++ after) a b c out first ran))
+  moves_after s after a b c out first (ids, inr stops) =
+      (ids, inr (stops.0, turn_then (s ∷ []) (row_moves ids) a b c (Ok tt) first stops.1))
+
+  pub moves_stop : (s : Statement) (after : List Statement) (a b : Held S) (e : Error) (r : Result (Unit {0}) Error)
+      → IsErr r → IsErrAnd r (λ f. f ≡ e) → RunInTurn store (s ∷ []) a b (Err e)
+      → MovesInTurn store (s ∷ []) after a b r
+  moves_stop s after a b e r err is ran =
+      ([], inl (turn_passed (s ∷ []) (all_moves [] ++ after) a b e r err is ran))
+
+  -- statements behind
+  pub moves_then : (s : Statement) (after : List Statement) (a b c : Held S) (out : Result (Unit {0}) Error)
+      → MovesInTurn store (s ∷ []) [] a b (Ok tt) → RunInTurn store after b c out
+      → MovesInTurn store (s ∷ []) after a c out
+  moves_then s after a b c out (ids, inl ran) second =
+      let first = subst (λ l. RunInTurn store (s ∷ l) a b (Ok tt)) (append-nil (all_moves ids)) ran in
+      (ids, inl (turn_then (s ∷ all_moves ids) after a b c out first second))
+  moves_then s after a b c out (ids, inr stops) second = absurd stops.0
+
+  pub moves_passed : (s : Statement) (after : List Statement) (a b : Held S) (e : Error)
+      → MovesInTurn store (s ∷ []) [] a b (Err e) → MovesInTurn store (s ∷ []) after a b (Err e)
+  moves_passed s after a b e (ids, inl ran) =
+      let first = subst (λ l. RunInTurn store (s ∷ l) a b (Err e)) (append-nil (all_moves ids)) ran in
+      (ids, inl (turn_stops (s ∷ all_moves ids) after a b e first))
+  moves_passed s after a b e (ids, inr stops) = (ids, inr stops)
+
+  -- ---- transactions
+
+  -- one that was undone on the way, and one whose end failed
+  pub write_failed : (InTurn : Held S → Held S → Result (Unit {0}) Error → Type 0)
+      (old tx last new : Held S) (e : Error) → tx ≡ begun store old → InTurn tx last (Err e)
       → IsRolledBack (state store last) (state store new)
-      → Survives (state store last) (state store new) (λ _. ⊥) → CommitFails store changes old new e
-  write_failed changes old tx last new e is ran undone survives = record {
+      → Survives (state store last) (state store new) (λ _. ⊥) → FailsBy store InTurn old new e
+  write_failed InTurn old tx last new e is ran undone survives = record {
     last = last;
     outcome = Err e;
-    ran = subst (λ h. RunInTurn store (writes_of_all changes) h last (Err e)) is ran;
+    ran = subst (λ h. InTurn h last (Err e)) is ran;
     counts = survives.counts;
     cause = inl (refl, undone);
   }
 
-  pub end_failed : (changes : List Change) (old tx last new : Held S) (e : Error)
-      → tx ≡ begun store old → RunInTurn store (writes_of_all changes) tx last (Ok tt)
+  pub end_failed : (InTurn : Held S → Held S → Result (Unit {0}) Error → Type 0) (old tx last new : Held S) (e : Error)
+      → tx ≡ begun store old → InTurn tx last (Ok tt)
       → FailsToCommit (state store last) (state store new) e
-      → (state store last).faults ≤ (state store new).faults → CommitFails store changes old new e
-  end_failed changes old tx last new e is ran failed counts = record {
+      → (state store last).faults ≤ (state store new).faults → FailsBy store InTurn old new e
+  end_failed InTurn old tx last new e is ran failed counts = record {
     last = last;
     outcome = Ok tt;
-    ran = subst (λ h. RunInTurn store (writes_of_all changes) h last (Ok tt)) is ran;
+    ran = subst (λ h. InTurn h last (Ok tt)) is ran;
     counts = counts;
     cause = inr (refl, failed);
   }

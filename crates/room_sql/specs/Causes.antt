@@ -1,13 +1,15 @@
--- The statements that a commit runs, and how it fails.
-use Rattle.std.specs.Prelude.{◌≡◌, ◌⊎◌, ◌<◌, ◌≤◌, ◌+◌, ◌^◌, ℕ, suc, pos, true, List, [], ◌∷◌, ◌++◌, length}
-use Rattle.std.specs.Prelude.{unwrap_or, Result, Ok, Err}
+-- The statements that a commit and the upgrade run, and how these fail.
+use Rattle.std.specs.Prelude.{◌≡◌, ◌≢◌, ◌⊎◌, ◌<◌, ◌≤◌, ◌+◌, ◌-◌, ◌^◌, ℕ, ℤ, suc, pos, Bool, true, false, List, [], ◌∷◌}
+use Rattle.std.specs.Prelude.{◌++◌, length, Option, None, Some, unwrap_or, option_map, Result, Ok, Err, IsErrAnd}
 use Rattle.sqlite_value.specs.declared.value.Value.TheVariants.{Int, Text, Blob}
-use Rattle.sqlite_value.specs.Order.{Row}
+use Rattle.sqlite_value.specs.Order.{Row, column}
 use Rattle.sqlite_trees.specs.declared.store.Store.{Ghosts}
-use Rattle.sqlite.specs.State.{Survives, IsRolledBack, ExecutesInside}
+use Rattle.sqlite.specs.State.{Survives, IsRolledBack, ExecutesInside, Shown, FailsToQuery}
 use Rattle.sqlite.specs.Held.{Held, state}
 use Rattle.sqlite.specs.Steps.{FailsToCommit}
 use Rattle.sqlite.specs.declared.error.Error.{Error}
+use Rattle.sqlite.specs.declared.error.Error.TheVariants.{SqliteFailure}
+use Rattle.sqlite.specs.declared.error.ErrorCode.TheVariants.{TooBig, NotADatabase}
 use Rattle.room_acl.specs.Entries.{EntryModel}
 use Rattle.room_records.specs.declared.node.Node.{Node}
 use Rattle.room_records.specs.declared.session.SessionRow.{SessionRow}
@@ -15,19 +17,30 @@ use Rattle.room_records.specs.declared.session.SlotRow.{SlotRow}
 use Rattle.room_records.specs.declared.change.Change.{Change}
 use Rattle.room_records.specs.declared.change.Change.TheVariants.{PutNode, DropNode, PutEntries, PutDoc, PutSession}
 use Rattle.room_records.specs.declared.change.Change.TheVariants.{PutSlot, DropSlots, PutNext}
-use Rattle.room_tables.specs.Layout.{parent_value}
+use Rattle.room_tables.specs.Layout.{parent_value, reply_value}
 use Rattle.room_tables.specs.Steps.{kind_number, flag_of, shown_as}
 use Rattle.room_tables.specs.Texts.{put_node_text, drop_node_text, drop_entries_text, add_entry_text, add_two_text}
-use Rattle.room_tables.specs.Texts.{add_three_text, add_four_text, put_doc_text, put_session_text, put_slot_text}
-use Rattle.room_tables.specs.Texts.{drop_slots_text, put_next_text}
+use Rattle.room_tables.specs.Texts.{add_three_text, add_four_text, put_doc_text, put_session_text, change_slot_text}
+use Rattle.room_tables.specs.Texts.{add_slot_text}
+use Rattle.room_tables.specs.Texts.{drop_slots_text, put_next_text, copy_row_text, take_row_text, find_next_text}
+use Rattle.room_tables.specs.Texts.{find_version_text}
+use Rattle.room_tables.specs.Tables.{kept_text}
+use Rattle.room_tables.specs.Rows.{number_in, only}
+use Rattle.room_sql.specs.Columns.{IsFault, IsOneNumber}
+use Rattle.room_sql.specs.Taken.{SaysFirst}
 
--- a statement: its text and its parameters
+-- a statement: its text and its parameters, and for some the text of another, which runs behind it with the same
+-- parameters where it changed no row
 pub record Statement : Type 0 where
   pub text : List ℕ
   pub args : Row
+  pub otherwise : Option (List ℕ)
 
 abbrev pub statement : List ℕ → Row → Statement
-statement text args = record { text = text; args = args }
+statement text args = record { text = text; args = args; otherwise = None }
+
+abbrev pub statement_or : List ℕ → List ℕ → Row → Statement
+statement_or text other args = record { text = text; args = args; otherwise = Some other }
 
 -- ---- the statements of a change, in their order
 
@@ -60,8 +73,9 @@ session_write row = statement put_session_text
     (Text row.sid ∷ Text row.owner ∷ Int (pos row.slots) ∷ Int (pos (flag_of row.is_open)) ∷ [])
 
 abbrev pub slot_write : SlotRow → Statement
-slot_write row = statement put_slot_text
-    (Text row.sid ∷ Int (pos row.slot) ∷ Int (pos row.kept.seq) ∷ Blob row.kept.request ∷ Blob row.kept.reply ∷ [])
+slot_write row = statement_or change_slot_text add_slot_text
+    (Text row.sid ∷ Int (pos row.slot) ∷ Int (pos row.kept.seq) ∷ Blob row.kept.request
+    ∷ reply_value row.kept.reply ∷ [])
 
 abbrev pub writes_of : Change → List Statement
 writes_of (PutNode node) = node_write node ∷ []
@@ -77,6 +91,28 @@ abbrev pub writes_of_all : List Change → List Statement
 writes_of_all [] = []
 writes_of_all (change ∷ changes) = writes_of change ++ writes_of_all changes
 
+-- ---- those of the upgrade
+
+-- the rows with these rowids are moved, one after another
+abbrev pub row_moves : List ℤ → List Statement
+row_moves [] = []
+row_moves (id ∷ ids) = statement copy_row_text [] ∷ statement take_row_text (Int id ∷ []) ∷ row_moves ids
+
+-- until there is none to be copied
+abbrev pub all_moves : List ℤ → List Statement
+all_moves ids = row_moves ids ++ statement copy_row_text [] ∷ []
+
+-- at most so many
+abbrev pub most_moves : ℕ
+most_moves = 2 ^ 64 - 1
+
+abbrev pub make_writes : List Statement
+make_writes = statement kept_text [] ∷ []
+
+-- the number of the one row
+abbrev pub number_of_rows : List Row → ℕ
+number_of_rows rows = unwrap_or (option_map (λ row. number_in (column row 0)) (only rows)) 0
+
 -- a list of 2^32 entries or more is not written: its places have 32 bits
 abbrev pub IsShort : Change → Type 0
 IsShort (PutEntries id entries) = length entries.items < 2 ^ 32
@@ -85,10 +121,21 @@ IsShort _ = Unit {0}
 -- ---- what they do
 
 module _ {S : Type 0} (store : Ghosts S) where
-  -- one statement ran inside a transaction
-  pub record Ran (s : Statement) (old new : Held S) (outcome : Result ℕ Error) : Type 0 where
-    pub runs : ExecutesInside 0 s.text s.args (state store old) (state store new) outcome
+  -- one text ran inside a transaction
+  pub record RanText (text : List ℕ) (args : Row) (old new : Held S) (outcome : Result ℕ Error) : Type 0 where
+    pub runs : ExecutesInside 0 text args (state store old) (state store new) outcome
     pub survives : Survives (state store old) (state store new) (λ _. ⊥)
+
+  -- A text ran. Where there is another, the first changed rows or failed, or it changed none, and the other ran behind
+  abbrev pub RanOr : Option (List ℕ) → List ℕ → Row → Held S → Held S → Result ℕ Error → Type 0
+  RanOr None text args old new outcome = RanText text args old new outcome
+  RanOr (Some other) text args old new outcome =
+      (RanText text args old new outcome × (outcome ≢ Ok 0))
+      ⊎ ((mid : Held S) × RanText text args old mid (Ok 0) × RanText other args mid new outcome)
+
+  -- one statement ran
+  abbrev pub Ran : Statement → Held S → Held S → Result ℕ Error → Type 0
+  Ran s old new outcome = RanOr s.otherwise s.text s.args old new outcome
 
   -- the statements ran in turn inside a transaction, up to the first that failed
   unfoldable pub RunInTurn : List Statement → Held S → Held S → Result (Unit {0}) Error → Type 0
@@ -101,12 +148,66 @@ module _ {S : Type 0} (store : Ghosts S) where
   abbrev pub begun : Held S → Held S
   begun old = record old { in_transaction = true }
 
-  -- The commit answered a fault: one of its statements answered it, and the transaction was undone, or all of them ran,
-  -- and the end of the transaction answered it. No fault of the disk is forgotten on the way.
-  pub record CommitFails (changes : List Change) (old new : Held S) (e : Error) : Type 0 where
+  -- so many rows were moved as may be, or a move took away no row or several
+  abbrev pub StopsMoving : List ℤ → Held S → Error → Type 0
+  StopsMoving ids new e = ((length ids ≡ most_moves) × (e ≡ SqliteFailure TooBig))
+      ⊎ (((state store new).changes ≢ 1) × (e ≡ SqliteFailure NotADatabase))
+
+  -- After some statements, rows were moved until none was left, and others ran, up to the first statement that failed;
+  -- or moving rows was given up.
+  abbrev pub MovesInTurn : List Statement → List Statement → Held S → Held S → Result (Unit {0}) Error → Type 0
+  MovesInTurn before after old new outcome = (ids : List ℤ)
+      × (RunInTurn (before ++ all_moves ids ++ after) old new outcome
+      ⊎ (IsErrAnd outcome (StopsMoving ids new) × RunInTurn (before ++ row_moves ids) old new (Ok tt)))
+
+  -- what one row's move ran; the rowid is of no matter where it did not come to it
+  abbrev pub MovesRow : Held S → Held S → Result Bool Error → Type 0
+  MovesRow old new (Ok true) = (id : ℤ) × RunInTurn (row_moves (id ∷ [])) old new (Ok tt)
+  MovesRow old new (Ok false) = RunInTurn (all_moves []) old new (Ok tt)
+  MovesRow old new (Err e) = (id : ℤ) × (RunInTurn (row_moves (id ∷ [])) old new (Err e)
+      ⊎ (((state store new).changes ≢ 1) × (e ≡ SqliteFailure NotADatabase)
+      × RunInTurn (row_moves (id ∷ [])) old new (Ok tt)))
+
+  -- A transaction of what is to run answered a fault: on the way, and the transaction was undone, or all of it ran, and
+  -- its end answered it. No fault of the disk is forgotten on the way.
+  pub record FailsBy (InTurn : Held S → Held S → Result (Unit {0}) Error → Type 0) (old new : Held S) (e : Error)
+      : Type 0 where
     pub last : Held S
     pub outcome : Result (Unit {0}) Error
-    pub ran : RunInTurn (writes_of_all changes) (begun old) last outcome
+    pub ran : InTurn (begun old) last outcome
     pub counts : (state store last).faults ≤ (state store new).faults
     pub cause : ((outcome ≡ Err e) × IsRolledBack (state store last) (state store new))
         ⊎ ((outcome ≡ Ok tt) × FailsToCommit (state store last) (state store new) e)
+
+  -- the same of these statements
+  abbrev pub FailsInTurn : List Statement → Held S → Held S → Error → Type 0
+  FailsInTurn statements = FailsBy (RunInTurn statements)
+
+  -- of a commit
+  abbrev pub CommitFails : List Change → Held S → Held S → Error → Type 0
+  CommitFails changes = FailsInTurn (writes_of_all changes)
+
+  -- and of the upgrade: `kept` is made, the rows are moved, and the version is set
+  abbrev pub UpgradeFails : ℕ → Held S → Held S → Error → Type 0
+  UpgradeFails next = FailsBy (MovesInTurn make_writes (writes_of (PutNext next)))
+
+  -- a query without parameters answered these rows
+  pub record Asks (text : List ℕ) (old new : Held S) (rows : List Row) : Type 0 where
+    pub shown : Shown text [] (state store old) (state store new) rows
+    pub survives : Survives (state store old) (state store new) (λ _. ⊥)
+
+  -- A room of version 1 was not made one of version 2, by this error: its next number could not be asked for, or what
+  -- was answered is not one number, or the statements answered it. Of a want of memory it is not told what was read.
+  abbrev pub CannotUpgrade : Held S → Held S → Error → Type 0
+  CannotUpgrade old new e =
+      FailsToQuery find_next_text [] (state store old) (state store new) e
+      ⊎ ((mid : Held S) × (rows : List Row) × Asks find_next_text old mid rows
+      × (((IsFault e → ¬ IsOneNumber rows) × (new ≡ mid))
+      ⊎ UpgradeFails (number_of_rows rows) mid new e))
+
+  -- and a database was not taken: its version could not be asked for, or it is told to be 1, and the upgrade failed
+  abbrev pub CannotTake : Held S → Held S → Error → Type 0
+  CannotTake old new e =
+      FailsToQuery find_version_text [] (state store old) (state store new) e
+      ⊎ (SaysFirst (state store old) × (mid : Held S) × (rows : List Row)
+      × Asks find_version_text old mid rows × CannotUpgrade mid new e)

@@ -27,6 +27,10 @@ HasText at row = (at < length row) × (t : List ℕ) × (column row at ≡ Text 
 abbrev pub HasBytes : ℕ → Row → Type 0
 HasBytes at row = (at < length row) × (b : List ℕ) × (column row at ≡ Blob b)
 
+-- NULL is a reply that is not kept
+abbrev pub HasReply : ℕ → Row → Type 0
+HasReply at row = (at < length row) × ((column row at ≡ Null) ⊎ ((b : List ℕ) × (column row at ≡ Blob b)))
+
 -- NULL is no parent
 abbrev pub HasParent : ℕ → Row → Type 0
 HasParent at row = (at < length row)
@@ -88,11 +92,11 @@ pub record IsSessionRow (sid : List ℕ) (row : Row) : Type 0 where
   pub is_open : HasFlag 2 row
   pub named : IsTrue (is_sid sid)
 
--- what a slot keeps: number, request and reply
+-- what a slot keeps: number, request, and a reply or none
 pub record IsKeptRow (row : Row) : Type 0 where
   pub seq : HasNumber 0 row
   pub request : HasBytes 1 row
-  pub reply : HasBytes 2 row
+  pub reply : HasReply 2 row
 
 -- one row, with a number
 abbrev pub IsOneNumber : List Row → Type 0

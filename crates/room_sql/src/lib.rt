@@ -1,4 +1,4 @@
-//! A room in the six tables of a database.
+//! A room in the tables of a database.
 #![tactic(auto)]
 
 mod deciding;
@@ -8,6 +8,7 @@ mod reads;
 mod rows;
 mod sql_shelf;
 mod tables;
+mod upgrade;
 mod values;
 mod writes;
 

@@ -1,21 +1,25 @@
 //! Making a room in a database, and taking one that is there.
 
 ghost use Rattle.std.specs.Prelude.{◌≡◌, ◌≢◌, ◌⊎◌, ◌↔◌, [], map, true, false, IfOk, IfErr, IsErrAnd};
-ghost use Rattle.std.specs.Prelude.{IsTrue, IsPermutation, codes};
-ghost use Rattle.sqlite.specs.State.{HasCleanDisk, Survives, FailsToQuery};
+ghost use Rattle.std.specs.Prelude.{IsTrue, IsPermutation, List, codes};
+ghost use Rattle.sqlite.specs.Table.{Table};
+ghost use Rattle.sqlite_schema.specs.declared.schema.Index.{Index};
+ghost use Rattle.sqlite.specs.State.{HasCleanDisk, Survives};
 ghost use Rattle.sqlite.specs.Held.{state};
-ghost use Rattle.room_tables.specs.Tables.{schema_0, room_schema, has_table, has_a_table, has_column};
-ghost use Rattle.room_tables.specs.Tables.{has_columns, has_room};
-ghost use Rattle.room_tables.specs.Rows.{version_rows, IsVersion1};
+ghost use Rattle.room_tables.specs.Tables.{schema_0, with_last, has_table, has_a_table, has_column};
+ghost use Rattle.room_tables.specs.Tables.{has_columns, has_five, has_slots, has_room, has_first_room};
+ghost use Rattle.room_tables.specs.Rows.{version_rows, IsVersion};
 ghost use Rattle.room_tables.specs.Texts.{find_version_text};
 ghost use Rattle.room_tables.specs.Versions.{TellsVersion};
-ghost use Rattle.room_tables.specs.Layout.{IsRoomDatabase};
+ghost use Rattle.room_sql.specs.Taken.{IsTaken, MayBeTaken, IsLeft, HasItsVersion, HasAnotherVersion};
+ghost use Rattle.room_sql.specs.Causes.{CannotTake};
 ghost use Rattle.room_tables.specs.Fresh.{IsFreshRoom, MayBeMade};
 ghost use Rattle.room_sql.specs.Frames.{QueryFrame, QueryAnswered};
 ghost use Rattle.room_sql.specs.Known.{KnowsNothing};
 
 use crate::sql_shelf::SqlShelf;
 use crate::tables::make;
+use crate::upgrade::upgrade;
 use room_acl::Principal;
 use sqlite::{Alter, Connection, Error, ErrorCode, Row};
 use sqlite_value::value::ValueRef;
@@ -28,9 +32,9 @@ pub enum OpenFault {
     Memory,
     /// A call of `sqlite` answered a fault.
     Store,
-    /// One of the six tables is there. Nothing was changed.
+    /// One of the seven tables is there. Nothing was changed.
     RoomExists,
-    /// One of the six tables, or a column of theirs, is not there, or the version is not 1.
+    /// It is a room of neither version: a table, or a column of theirs, is not there, or the version is another.
     NotARoom,
 }
 
@@ -50,7 +54,7 @@ fn has_table<S: Alter>(conn: &Connection<S>, name: &str) -> bool
     conn.schema().table_named(name.as_bytes()).is_some()
 }
 
-/// Whether one of the six tables is there.
+/// Whether one of the seven tables is there.
 fn has_a_table<S: Alter>(conn: &Connection<S>) -> bool
     ensures { result ≡ has_a_table conn.now.schema }
 {
@@ -60,6 +64,7 @@ fn has_a_table<S: Alter>(conn: &Connection<S>) -> bool
         || has_table(conn, "doc")
         || has_table(conn, "session")
         || has_table(conn, "slot")
+        || has_table(conn, "kept")
 }
 
 fn has_column<S: Alter>(conn: &Connection<S>, table: &str, column: &str) -> bool
@@ -86,9 +91,9 @@ fn has_columns<S: Alter>(conn: &Connection<S>, table: &str, columns: &[&str]) ->
     true
 }
 
-/// Whether the six tables are there with each of their columns.
-fn has_room<S: Alter>(conn: &Connection<S>) -> bool
-    ensures { result ≡ has_room conn.now.schema }
+/// Whether the five tables that every room has are there, with each of their columns.
+fn has_five<S: Alter>(conn: &Connection<S>) -> bool
+    ensures { result ≡ has_five conn.now.schema }
 {
     has_columns(conn, "room", &["one", "version", "next"])
         && has_columns(
@@ -103,20 +108,51 @@ fn has_room<S: Alter>(conn: &Connection<S>) -> bool
         )
         && has_columns(conn, "doc", &["node", "bytes"])
         && has_columns(conn, "session", &["sid", "owner", "slots", "open"])
-        && has_columns(conn, "slot", &["sid", "slot", "seq", "request", "reply"])
+}
+
+/// Whether a table of this name is there that can hold what slots keep.
+fn has_slots<S: Alter>(conn: &Connection<S>, table: &str) -> bool
+    ensures { result ≡ has_slots conn.now.schema table.now }
+{
+    has_columns(conn, table, &["sid", "slot", "seq", "request", "reply"])
+}
+
+/// Whether the tables of version 2 are there.
+fn has_room<S: Alter>(conn: &Connection<S>) -> bool
+    ensures { result ≡ has_room conn.now.schema }
+{
+    has_five(conn) && has_slots(conn, "kept")
+}
+
+/// Whether the tables of version 1 are there.
+fn has_first_room<S: Alter>(conn: &Connection<S>) -> bool
+    ensures { result ≡ has_first_room conn.now.schema }
+{
+    has_five(conn) && has_slots(conn, "slot")
 }
 
 fn version_rows<S: Alter>(conn: &mut Connection<S>) -> Result<Vec<Row>, Error>
     ensures answered { QueryAnswered find_version_text [] (state S.Store conn.old) (state S.Store conn.new) result }
-    ensures asked { HasCleanDisk (state S.Store conn.new) → conn.old.schema ≡ room_schema
+    ensures asked { HasCleanDisk (state S.Store conn.new) → (more : List Table) (others : List Index)
+        → conn.old.schema ≡ with_last more others
         → IfOk result (λ rows. IsPermutation (version_rows (state S.Store conn.old).now.trees) rows.items) }
 {
     conn.query_all("SELECT version FROM room WHERE one = 1", &[])
 }
 
+/// Whether there is one row, and its version is 2.
+fn is_version_2(rows: &[Row]) -> bool
+    ensures { IsTrue result ↔ IsVersion 2 rows.now }
+{
+    match rows {
+        [row] => matches!(row.get_ref(0), Ok(ValueRef::Int(2))),
+        _ => false,
+    }
+}
+
 /// Whether there is one row, and its version is 1.
 fn is_version_1(rows: &[Row]) -> bool
-    ensures { IsTrue result ↔ IsVersion1 rows.now }
+    ensures { IsTrue result ↔ IsVersion 1 rows.now }
 {
     match rows {
         [row] => matches!(row.get_ref(0), Ok(ValueRef::Int(1))),
@@ -124,29 +160,15 @@ fn is_version_1(rows: &[Row]) -> bool
     }
 }
 
-/// Whether the database says of itself that it is a room of version 1.
-fn is_room<S: Alter>(conn: &mut Connection<S>) -> Result<bool, Error>
-    ensures frame { QueryFrame (state S.Store conn.old) (state S.Store conn.new) result }
-    ensures told { HasCleanDisk (state S.Store conn.new) → IfOk result
-        (λ is. TellsVersion (state S.Store conn.old) (state S.Store conn.new) (λ rows. IsTrue is ↔ IsVersion1 rows)) }
-    ensures asked { HasCleanDisk (state S.Store conn.new) → conn.old.schema ≡ room_schema
-        → IfOk result (λ is. IsTrue is ↔ IsVersion1 (version_rows (state S.Store conn.old).now.trees)) }
-    ensures failed { HasCleanDisk (state S.Store conn.new)
-        → IfErr result (FailsToQuery find_version_text [] (state S.Store conn.old) (state S.Store conn.new)) }
-{
-    let rows = version_rows(conn)?;
-    Ok(is_version_1(rows.as_slice()))
-}
-
 impl<S: Alter> SqlShelf<S> {
     /// Makes the tables and a fresh room of this owner and group, in one transaction. A refusal hands the connection
-    /// back: `RoomExists` where a table has the name of one of the six (`ROOM` is the name `room`), else `Memory` where
-    /// memory was refused, and `Store` where a call of `sqlite` answered another fault; that these two come nowhere
-    /// else no clause says. The form of the tables is our own.
+    /// back: `RoomExists` where a table has the name of one of the seven (`ROOM` is the name `room`), else `Memory`
+    /// where memory was refused, and `Store` where a call of `sqlite` answered another fault; that these two come
+    /// nowhere else no clause says. The form of the tables is our own.
     ///
     /// The room, and what a crash leaves of it, are promised of a database without any table,
     /// index or view. It works in others too, beside what is there; of them it is promised that
-    /// no table had one of the six names, and after a refusal that the database is as it was,
+    /// no table had one of the seven names, and after a refusal that the database is as it was,
     /// and no more: not that its rows stand for a room, nor what became of the other tables.
     pub fn init(
         alloc: Global,
@@ -157,8 +179,7 @@ impl<S: Alter> SqlShelf<S> {
         requires { connection.in_transaction ≡ false }
         ensures fresh { IfOk result (λ shelf. HasCleanDisk (state S.Store shelf.conn)
             → IsTrue (state S.Store shelf.conn).is_open × (connection.schema ≡ schema_0 →
-            IsRoomDatabase (state S.Store shelf.conn).now
-            × IsFreshRoom owner.now group.now (state S.Store shelf.conn).now.trees)) }
+            IsFreshRoom owner.now group.now (state S.Store shelf.conn).now)) }
         ensures absent { IfOk result (λ shelf. has_a_table connection.schema ≡ false) }
         ensures started { IfOk result (λ shelf. shelf.failures ≡ 0) }
         ensures known { IfOk result (λ shelf. KnowsNothing shelf.known) }
@@ -187,52 +208,79 @@ impl<S: Alter> SqlShelf<S> {
         }
     }
 
-    /// Takes a room that is there. It looks for the six tables and their columns by their names, and for the version 1,
-    /// and for nothing else. A refusal hands the connection back: `NotARoom` where one of these is missing, `Memory`
-    /// where memory was refused, `Store` where a call of `sqlite` answered another fault.
+    /// Takes a room that is there: one of version 2 as it is, and one of version 1 after it made one of version 2 of
+    /// it, in one transaction: `kept` takes the rows of `slot`, which stays, empty. It looks for the tables and their
+    /// columns by their names, and for the version, and for nothing else: a room that has `kept` is of version 2. So a
+    /// second `adopt` changes nothing (`again`). A refusal hands the connection back: `NotARoom` where it is a room of
+    /// neither version, `Memory` where memory was refused, `Store` where a call of `sqlite` answered another fault.
     ///
-    /// What a shelf promises of its records is promised here of one schema alone: the six tables as `init` makes them
-    /// in an empty database, STRICT, with their keys, CHECKs and references, in that order, and nothing else in the
-    /// database. One with other keys or further tables is taken as well, and nothing is promised of its records.
+    /// What a shelf promises of its records is promised here of two schemas alone: the tables as `init` makes them in
+    /// an empty database, STRICT, with their keys, CHECKs and references, in that order, and nothing else in the
+    /// database; and those of version 1, with `slot` in the place of `kept` (an upgraded room has both, in this order).
+    /// One with other keys or further tables is taken as well, and nothing is promised of its records.
     pub fn adopt(
         alloc: Global,
         connection: Connection<S>,
     ) -> Result<SqlShelf<S>, (OpenFault, Connection<S>)>
         requires { connection.in_transaction ≡ false }
-        ensures same { IfOk result (λ shelf. HasCleanDisk (state S.Store shelf.conn) → IsTrue
-            (state S.Store shelf.conn).is_open × ((state S.Store shelf.conn).now ≡ (state S.Store connection).now)) }
-        ensures room { IfOk result
-            (λ shelf. IsTrue (has_room connection.schema) × (HasCleanDisk (state S.Store shelf.conn)
-            → TellsVersion (state S.Store connection) (state S.Store shelf.conn) IsVersion1)) }
-        ensures missing { has_room connection.schema ≡ false
+        ensures taken { IfOk result (λ shelf. HasCleanDisk (state S.Store shelf.conn)
+            → IsTrue (state S.Store shelf.conn).is_open
+            × IsTaken (state S.Store connection) (state S.Store shelf.conn)) }
+        ensures tables { IfOk result
+            (λ shelf. IsTrue (has_room connection.schema) ⊎ IsTrue (has_first_room connection.schema)) }
+        ensures missing { has_room connection.schema ≡ false → has_first_room connection.schema ≡ false
             → IsErrAnd result (λ e. (e.0 ≡ OpenFault.NotARoom) × (e.1 ≡ connection)) }
-        ensures no_room { IfErr result (λ e. e.0 ≡ OpenFault.NotARoom
+        ensures no_second { IfErr result (λ e. e.0 ≡ OpenFault.NotARoom
             → IsTrue (has_room connection.schema) → HasCleanDisk (state S.Store e.1) →
-            TellsVersion (state S.Store connection) (state S.Store e.1) (λ rows. ¬ IsVersion1 rows)) }
-        ensures version { IfOk result (λ shelf. HasCleanDisk (state S.Store shelf.conn)
-            → connection.schema ≡ room_schema → IsVersion1 (version_rows (state S.Store connection).now.trees)) }
+            TellsVersion (state S.Store connection) (state S.Store e.1) (λ rows. ¬ IsVersion 2 rows)) }
+        ensures no_first { IfErr result (λ e. e.0 ≡ OpenFault.NotARoom → has_room connection.schema ≡ false
+            → IsTrue (has_first_room connection.schema) → HasCleanDisk (state S.Store e.1) →
+            TellsVersion (state S.Store connection) (state S.Store e.1) (λ rows. ¬ IsVersion 1 rows)) }
+        ensures version { IfOk result
+            (λ shelf. HasCleanDisk (state S.Store shelf.conn) → HasItsVersion (state S.Store connection)) }
         ensures no_version { IfErr result (λ e. e.0 ≡ OpenFault.NotARoom → HasCleanDisk (state S.Store e.1)
-            → connection.schema ≡ room_schema → ¬ IsVersion1 (version_rows (state S.Store connection).now.trees)) }
+            → HasAnotherVersion (state S.Store connection)) }
         ensures failed { IfErr result (λ e. e.0 ≢ OpenFault.NotARoom → HasCleanDisk (state S.Store e.1)
-            → (error : Error) × FailsToQuery find_version_text [] (state S.Store connection) (state S.Store e.1) error
+            → (error : Error) × CannotTake S.Store connection e.1 error
             × (((e.0 ≡ OpenFault.Memory) × (error ≡ Error.SqliteFailure ErrorCode.OutOfMemory))
             ⊎ ((e.0 ≡ OpenFault.Store) × (error ≢ Error.SqliteFailure ErrorCode.OutOfMemory)))) }
+        ensures again { IsTrue (has_room connection.schema)
+            → IfOk result (λ shelf. IsLeft (state S.Store connection) (state S.Store shelf.conn)) }
+        ensures left { IfErr result (λ e. IsTrue (has_room connection.schema) ⊎ (e.0 ≡ OpenFault.NotARoom)
+            → IsLeft (state S.Store connection) (state S.Store e.1)) }
         ensures unchanged { IfErr result (λ e. HasCleanDisk (state S.Store e.1)
             → IsTrue (state S.Store e.1).is_open → (state S.Store e.1).now ≡ (state S.Store connection).now) }
         ensures started { IfOk result (λ shelf. shelf.failures ≡ 0) }
         ensures known { IfOk result (λ shelf. KnowsNothing shelf.known) }
         ensures outside { IfErr result (λ e. e.1.in_transaction ≡ false) }
-        ensures kept { IfOk result (λ shelf. Survives (state S.Store connection) (state S.Store shelf.conn) (λ _. ⊥)) }
-        ensures refused { IfErr result (λ e. Survives (state S.Store connection) (state S.Store e.1) (λ _. ⊥)) }
+        ensures kept { IfOk result (λ shelf. Survives (state S.Store connection) (state S.Store shelf.conn)
+            (MayBeTaken (state S.Store connection))) }
+        ensures refused { IfErr result (λ e. Survives (state S.Store connection) (state S.Store e.1)
+            (MayBeTaken (state S.Store connection))) }
     {
         let mut conn = connection;
+        // Outside a transaction what is seen is what was committed.
         let _outside = conn.is_autocommit();
-        if !has_room(&conn) {
+        let has_kept = has_room(&conn);
+        if !has_kept && !has_first_room(&conn) {
             return Err((OpenFault::NotARoom, conn));
         }
-        match is_room(&mut conn) {
-            Ok(true) => Ok(SqlShelf::over(alloc, conn)),
-            Ok(false) => Err((OpenFault::NotARoom, conn)),
+        let rows = match version_rows(&mut conn) {
+            Ok(rows) => rows,
+            Err(error) => return Err((open_fault(error), conn)),
+        };
+        if has_kept {
+            if is_version_2(rows.as_slice()) {
+                return Ok(SqlShelf::over(alloc, conn));
+            }
+            return Err((OpenFault::NotARoom, conn));
+        }
+        if !is_version_1(rows.as_slice()) {
+            return Err((OpenFault::NotARoom, conn));
+        }
+        let _still_outside = conn.is_autocommit();
+        match upgrade(&mut conn) {
+            Ok(()) => Ok(SqlShelf::over(alloc, conn)),
             Err(error) => Err((open_fault(error), conn)),
         }
     }

@@ -1,12 +1,15 @@
 //! The queries, outside a transaction.
 
-ghost use Rattle.std.specs.Prelude.{◌≡◌, [], ◌∷◌, length, pos, IfOk, IsPermutation};
+ghost use Rattle.std.specs.Prelude.{◌≡◌, List, [], ◌∷◌, length, pos, IfOk, IsPermutation};
 ghost use Rattle.std.specs.List.{AllByRecursion};
 ghost use Rattle.sqlite_trees.specs.Tree.{IsAscending};
 ghost use Rattle.sqlite_value.specs.declared.value.Value.TheVariants.{Int, Text};
 ghost use Rattle.sqlite.specs.State.{HasCleanDisk};
 ghost use Rattle.sqlite.specs.Held.{state};
-ghost use Rattle.room_tables.specs.Tables.{room_schema};
+ghost use Rattle.sqlite.specs.Table.{Table};
+ghost use Rattle.sqlite_schema.specs.declared.schema.Index.{Index};
+ghost use Rattle.room_tables.specs.Tables.{with_last};
+ghost use Rattle.room_tables.specs.Layout.{IsRoomDatabase};
 ghost use Rattle.room_tables.specs.Rows.{node_rows, named_rows, child_rows, entry_rows, doc_rows, session_rows};
 ghost use Rattle.room_tables.specs.Rows.{slot_rows, next_rows, HasEntryColumns};
 ghost use Rattle.room_tables.specs.Names.{ByName, counted_row};
@@ -21,7 +24,7 @@ use sqlite::{Alter, Connection, Error, Row, params};
 pub(crate) fn node_rows<S: Alter>(conn: &mut Connection<S>, id: u32) -> Result<Vec<Row>, Error>
     ensures answered { QueryAnswered find_node_text (Int (pos id) ∷ [])
         (state S.Store conn.old) (state S.Store conn.new) result }
-    ensures rows { HasCleanDisk (state S.Store conn.new) → conn.old.schema ≡ room_schema
+    ensures rows { HasCleanDisk (state S.Store conn.new) → IsRoomDatabase (state S.Store conn.old).now
         → IfOk result (λ rows. IsPermutation (node_rows (state S.Store conn.old).now.trees id) rows.items) }
 {
     conn.query_all(
@@ -38,7 +41,7 @@ pub(crate) fn named_rows<S: Alter>(
 ) -> Result<Vec<Row>, Error>
     ensures answered { QueryAnswered find_child_text (Int (pos parent) ∷ Text name.now ∷ [])
         (state S.Store conn.old) (state S.Store conn.new) result }
-    ensures rows { HasCleanDisk (state S.Store conn.new) → conn.old.schema ≡ room_schema →
+    ensures rows { HasCleanDisk (state S.Store conn.new) → IsRoomDatabase (state S.Store conn.old).now →
         IfOk result (λ rows. IsPermutation (named_rows (state S.Store conn.old).now.trees parent name.now) rows.items) }
 {
     conn.query_all(
@@ -51,7 +54,7 @@ pub(crate) fn named_rows<S: Alter>(
 pub(crate) fn child_rows<S: Alter>(conn: &mut Connection<S>, parent: u32) -> Result<Vec<Row>, Error>
     ensures answered { QueryAnswered list_children_text (Int (pos parent) ∷ [])
         (state S.Store conn.old) (state S.Store conn.new) result }
-    ensures rows { HasCleanDisk (state S.Store conn.new) → conn.old.schema ≡ room_schema
+    ensures rows { HasCleanDisk (state S.Store conn.new) → IsRoomDatabase (state S.Store conn.old).now
         → IfOk result (λ rows. IsPermutation (child_rows (state S.Store conn.old).now.trees parent) rows.items
         × IsAscending ByName rows.items) }
 {
@@ -65,7 +68,7 @@ pub(crate) fn child_rows<S: Alter>(conn: &mut Connection<S>, parent: u32) -> Res
 pub(crate) fn count_rows<S: Alter>(conn: &mut Connection<S>, parent: u32) -> Result<Vec<Row>, Error>
     ensures answered { QueryAnswered count_children_text (Int (pos parent) ∷ [])
         (state S.Store conn.old) (state S.Store conn.new) result }
-    ensures rows { HasCleanDisk (state S.Store conn.new) → conn.old.schema ≡ room_schema → IfOk result
+    ensures rows { HasCleanDisk (state S.Store conn.new) → IsRoomDatabase (state S.Store conn.old).now → IfOk result
         (λ rows. rows.items ≡ counted_row (length (child_rows (state S.Store conn.old).now.trees parent)) ∷ []) }
 {
     conn.query_all(
@@ -78,7 +81,8 @@ pub(crate) fn count_rows<S: Alter>(conn: &mut Connection<S>, parent: u32) -> Res
 pub(crate) fn entry_rows<S: Alter>(conn: &mut Connection<S>, id: u32) -> Result<Vec<Row>, Error>
     ensures answered { QueryAnswered list_entries_text (Int (pos id) ∷ [])
         (state S.Store conn.old) (state S.Store conn.new) result }
-    ensures rows { HasCleanDisk (state S.Store conn.new) → conn.old.schema ≡ room_schema → IfOk result (λ rows.
+    ensures rows { HasCleanDisk (state S.Store conn.new) → IsRoomDatabase (state S.Store conn.old).now
+        → IfOk result (λ rows.
         AllByRecursion HasEntryColumns rows.items → rows.items ≡ entry_rows (state S.Store conn.old).now.trees id) }
 {
     conn.query_all(
@@ -91,7 +95,7 @@ pub(crate) fn entry_rows<S: Alter>(conn: &mut Connection<S>, id: u32) -> Result<
 pub(crate) fn doc_rows<S: Alter>(conn: &mut Connection<S>, id: u32) -> Result<Vec<Row>, Error>
     ensures answered { QueryAnswered find_doc_text (Int (pos id) ∷ [])
         (state S.Store conn.old) (state S.Store conn.new) result }
-    ensures rows { HasCleanDisk (state S.Store conn.new) → conn.old.schema ≡ room_schema
+    ensures rows { HasCleanDisk (state S.Store conn.new) → IsRoomDatabase (state S.Store conn.old).now
         → IfOk result (λ rows. IsPermutation (doc_rows (state S.Store conn.old).now.trees id) rows.items) }
 {
     conn.query_all("SELECT bytes FROM doc WHERE node = ?1", params![id])
@@ -101,7 +105,7 @@ pub(crate) fn doc_rows<S: Alter>(conn: &mut Connection<S>, id: u32) -> Result<Ve
 pub(crate) fn session_rows<S: Alter>(conn: &mut Connection<S>, sid: &str) -> Result<Vec<Row>, Error>
     ensures answered { QueryAnswered find_session_text (Text sid.now ∷ [])
         (state S.Store conn.old) (state S.Store conn.new) result }
-    ensures rows { HasCleanDisk (state S.Store conn.new) → conn.old.schema ≡ room_schema
+    ensures rows { HasCleanDisk (state S.Store conn.new) → IsRoomDatabase (state S.Store conn.old).now
         → IfOk result (λ rows. IsPermutation (session_rows (state S.Store conn.old).now.trees sid.now) rows.items) }
 {
     conn.query_all(
@@ -118,11 +122,11 @@ pub(crate) fn slot_rows<S: Alter>(
 ) -> Result<Vec<Row>, Error>
     ensures answered { QueryAnswered find_slot_text (Text sid.now ∷ Int (pos slot) ∷ [])
         (state S.Store conn.old) (state S.Store conn.new) result }
-    ensures rows { HasCleanDisk (state S.Store conn.new) → conn.old.schema ≡ room_schema
+    ensures rows { HasCleanDisk (state S.Store conn.new) → IsRoomDatabase (state S.Store conn.old).now
         → IfOk result (λ rows. IsPermutation (slot_rows (state S.Store conn.old).now.trees sid.now slot) rows.items) }
 {
     conn.query_all(
-        "SELECT seq, request, reply FROM slot WHERE sid = ?1 AND slot = ?2",
+        "SELECT seq, request, reply FROM kept WHERE sid = ?1 AND slot = ?2",
         params![sid, slot],
     )
 }
@@ -130,8 +134,9 @@ pub(crate) fn slot_rows<S: Alter>(
 /// The row with the next number.
 pub(crate) fn next_rows<S: Alter>(conn: &mut Connection<S>) -> Result<Vec<Row>, Error>
     ensures answered { QueryAnswered find_next_text [] (state S.Store conn.old) (state S.Store conn.new) result }
-    ensures rows { HasCleanDisk (state S.Store conn.new) → conn.old.schema ≡ room_schema
-        → IfOk result (λ rows. IsPermutation (next_rows (state S.Store conn.old).now.trees) rows.items) }
+    ensures rows { HasCleanDisk (state S.Store conn.new) → (more : List Table) (others : List Index)
+        → conn.old.schema ≡ with_last more others → IfOk result
+        (λ rows. IsPermutation (next_rows (state S.Store conn.old).now.trees) rows.items) }
 {
     conn.query_all("SELECT next FROM room WHERE one = 1", &[])
 }

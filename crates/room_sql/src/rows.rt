@@ -6,10 +6,12 @@ ghost use Rattle.std.specs.List.{AllByRecursion};
 ghost use Rattle.sqlite_value.specs.Order.{column};
 ghost use Rattle.sqlite_value.specs.declared.value.Value.TheVariants.{Int, Text};
 ghost use Rattle.room_acl.specs.Entries.{who_from};
-ghost use Rattle.room_tables.specs.Rows.{number_in, text_in, name_of_text, name_in, parent_in, bytes_in, kind_of};
-ghost use Rattle.room_tables.specs.Rows.{who_of, only, node_of, entry_of, doc_of, session_of, kept_of, HasEntryColumns};
+ghost use Rattle.room_tables.specs.Rows.{number_in, text_in, name_of_text, name_in, parent_in, bytes_in, reply_in};
+ghost use Rattle.room_tables.specs.Rows.{kind_of, who_of, only, node_of, entry_of, doc_of, session_of, kept_of};
+ghost use Rattle.room_tables.specs.Rows.{HasEntryColumns};
 ghost use Rattle.room_tables.specs.Names.{counted_row};
-ghost use Rattle.room_sql.specs.Columns.{IsFault, HasNumber, HasText, HasBytes, HasParent, HasFlag, HasListFlags};
+ghost use Rattle.room_sql.specs.Columns.{IsFault, HasNumber, HasText, HasBytes, HasReply, HasParent, HasFlag};
+ghost use Rattle.room_sql.specs.Columns.{HasListFlags};
 ghost use Rattle.room_sql.specs.Columns.{HasSlots, HasPrincipal, IsNameText, HasName, HasFlags, HasMask, IsNodeRow};
 ghost use Rattle.room_sql.specs.Columns.{IsLawfulEntryRow, IsSessionRow, IsKeptRow, IsOneNumber, IsOneCount};
 ghost use Rattle.room_records.specs.Names.{is_sid};
@@ -357,6 +359,14 @@ fn bytes_at(row: &Row, at: usize) -> Result<Vec<u8>, Error>
     row.get(at)
 }
 
+/// A reply, none where it is not kept.
+fn reply_at(row: &Row, at: usize) -> Result<Option<Vec<u8>>, Error>
+    ensures value { IfOk result (λ reply. option_map (λ r. r.items) reply ≡ reply_in (column row.now at)) }
+    ensures refused { IfErr result (λ e. IsFault e → ¬ HasReply at row.now) }
+{
+    row.get(at)
+}
+
 /// What a slot keeps, of a row that shows number, request and reply.
 fn kept_of(row: &Row) -> Result<Kept, Error>
     ensures value { IfOk result (λ kept. kept ≡ kept_of row.now) }
@@ -364,7 +374,7 @@ fn kept_of(row: &Row) -> Result<Kept, Error>
 {
     let seq = number_at(row, 0)?;
     let request = bytes_at(row, 1)?;
-    let reply = bytes_at(row, 2)?;
+    let reply = reply_at(row, 2)?;
     Ok(Kept {
         seq,
         request,

@@ -90,7 +90,7 @@ impl<S: Alter> Shelf for SqlShelf<S> {
     ghost use Rattle.room_acl.specs.Access.{decision};
     ghost use Rattle.room_records.specs.Records.{Records};
     ghost use Rattle.room_records.specs.Rules.{ObjectRules};
-    ghost use Rattle.room_records.specs.Changes.{apply_changes, RulesHoldAfterEach};
+    ghost use Rattle.room_records.specs.Changes.{apply_changes, RulesHoldAfterEach, Untouched};
     ghost use Rattle.room_records.specs.Shelf.{ShelfCall, ShelfRead, Tells, fault_in, AreChildren};
     ghost use Rattle.room_records.specs.Shelf.{IsChildCount, IsChildNamed};
     ghost use Rattle.room_tables.specs.Texts.{find_node_text, find_child_text, list_children_text, count_children_text};
@@ -98,6 +98,8 @@ impl<S: Alter> Shelf for SqlShelf<S> {
     ghost use Rattle.room_tables.specs.Texts.{find_next_text};
     ghost use Rattle.room_sql.specs.Columns.{HasBytes, IsNodeRow, IsLawfulEntryRow, IsSessionRow, IsKeptRow};
     ghost use Rattle.room_sql.specs.Columns.{IsOneNumber, IsOneCount};
+    ghost use Rattle.sqlite.specs.State.{Survives};
+    ghost use Rattle.room_tables.specs.Steps.{StaysRoom};
     ghost use Rattle.room_sql.specs.SqlView.{sql_view, ReadCause, DecisionCause, CommitCause};
 
     ghost view = { sql_view S.Store };
@@ -317,6 +319,13 @@ impl<S: Alter> Shelf for SqlShelf<S> {
             (left : Records) → (sql_view S.Store self.new).crash_may_leave left →
             (sql_view S.Store self.old).crash_may_leave left
             ⊎ (left ≡ apply_changes changes.now (sql_view S.Store self.old).records) }
+        ensures untouched { (sql_view S.Store self.new).is_intact → (sql_view S.Store self.old).is_laid_out →
+            OnOk result (Untouched changes.now (sql_view S.Store self.old).records
+            (sql_view S.Store self.new).records) }
+        ensures stays { Survives (state S.Store self.old.conn) (state S.Store self.new.conn)
+            (StaysRoom (state S.Store self.old.conn).now) }
+        ensures tables { (sql_view S.Store self.new).is_intact → (sql_view S.Store self.old).is_laid_out → OnOk result
+            ((state S.Store self.new.conn).now.schema ≡ (state S.Store self.old.conn).now.schema) }
         ensures cause { CommitCause S.Store self.old self.new result changes.now }
     {
         let _outside = self.conn.is_autocommit();

@@ -1,18 +1,23 @@
 //! The tables, and a fresh room in them.
 
-ghost use Rattle.std.specs.Prelude.{◌≡◌, OnOk, OnErr, false, IsTrue};
+ghost use Rattle.std.specs.Prelude.{◌≡◌, [], ◌∷◌, OnOk, OnErr, true, false, IsTrue};
+ghost use Rattle.sqlite.specs.Effect.{IsDatabase};
 ghost use Rattle.sqlite.specs.State.{HasCleanDisk};
 ghost use Rattle.sqlite.specs.Held.{state};
 ghost use Rattle.room_records.specs.Changes.{apply_change};
 ghost use Rattle.room_records.specs.declared.change.Change.TheVariants.{PutNode, PutEntries, PutNext};
-ghost use Rattle.room_tables.specs.Tables.{schema_0, schema_1, schema_2, schema_3, schema_4, schema_5, room_schema};
-ghost use Rattle.room_tables.specs.Rows.{version_rows, IsVersion1};
+ghost use Rattle.room_tables.specs.Tables.{schema_0, schema_1, schema_2, schema_3, schema_4, schema_5};
+ghost use Rattle.room_tables.specs.Tables.{kept_text};
+ghost use Rattle.room_tables.specs.Tables.{Fresh, room_schema, first_schema};
+ghost use Rattle.room_tables.specs.Upgrade.{IsWidened};
+ghost use Rattle.room_tables.specs.Rows.{version_rows, IsVersion};
 ghost use Rattle.room_tables.specs.Layout.{IsRoomDatabase};
 ghost use Rattle.room_tables.specs.Steps.{Steps};
 ghost use Rattle.room_tables.specs.Fresh.{IsMade, IsFilled, IsFreshRoom, MayBeFilled, MayBeMade};
+ghost use Rattle.room_sql.specs.Causes.{statement, RunInTurn};
 ghost use Rattle.room_sql.specs.Frames.{InsideFrame, CommitFrame};
 
-use crate::writes::{put_entries, put_next, put_node};
+use crate::writes::{put_entries, put_next, put_node, run};
 use room_acl::{Entry, Principal};
 use room_records::{Node, fresh_entries, fresh_root};
 use sqlite::{Alter, Connection, Error, Transaction};
@@ -84,17 +89,24 @@ fn make_session<S: Alter>(tx: &mut Transaction<'_, S>) -> Result<(), Error>
     Ok(())
 }
 
-fn make_slot<S: Alter>(tx: &mut Transaction<'_, S>) -> Result<(), Error>
+/// Makes `kept`, in a fresh room or beside the tables of version 1.
+pub(crate) fn make_kept<S: Alter>(tx: &mut Transaction<'_, S>) -> Result<(), Error>
     ensures frame { InsideFrame S.Store tx.old tx.new result }
-    ensures ok { HasCleanDisk (state S.Store tx.new.conn.now) → OnOk result
-        (IsMade schema_5 (state S.Store tx.old.conn.now).now → IsMade room_schema (state S.Store tx.new.conn.now).now) }
+    ensures ok { HasCleanDisk (state S.Store tx.new.conn.now)
+        → OnOk result (IsMade schema_5 (state S.Store tx.old.conn.now).now →
+        IsMade (room_schema Fresh) (state S.Store tx.new.conn.now).now) }
+    ensures beside { HasCleanDisk (state S.Store tx.new.conn.now) → OnOk result
+        (IsTrue (state S.Store tx.old.conn.now).is_open × (tx.old.conn.now.schema ≡ first_schema →
+        IsWidened (state S.Store tx.old.conn.now).now (state S.Store tx.new.conn.now).now)) }
+    ensures ran { HasCleanDisk (state S.Store tx.new.conn.now) → tx.old.conn.now.in_transaction ≡ true
+        → RunInTurn S.Store (statement kept_text [] ∷ []) tx.old.conn.now tx.new.conn.now result }
 {
-    tx.execute(
-        "CREATE TABLE slot (sid TEXT NOT NULL REFERENCES session(sid), slot INTEGER NOT NULL, \
-         seq INTEGER NOT NULL, request BLOB NOT NULL, reply BLOB NOT NULL, PRIMARY KEY (sid, slot)) STRICT",
+    run(
+        tx,
+        "CREATE TABLE kept (sid TEXT NOT NULL REFERENCES session(sid), slot INTEGER NOT NULL, \
+         seq INTEGER NOT NULL, request BLOB NOT NULL, reply BLOB, PRIMARY KEY (sid, slot)) STRICT",
         &[],
-    )?;
-    Ok(())
+    )
 }
 
 fn make_half<S: Alter>(tx: &mut Transaction<'_, S>) -> Result<(), Error>
@@ -110,12 +122,13 @@ fn make_half<S: Alter>(tx: &mut Transaction<'_, S>) -> Result<(), Error>
 fn make_tables<S: Alter>(tx: &mut Transaction<'_, S>) -> Result<(), Error>
     ensures frame { InsideFrame S.Store tx.old tx.new result }
     ensures ok { HasCleanDisk (state S.Store tx.new.conn.now)
-        → OnOk result (tx.old.conn.now.schema ≡ schema_0 → IsMade room_schema (state S.Store tx.new.conn.now).now) }
+        → OnOk result (tx.old.conn.now.schema ≡ schema_0
+        → IsMade (room_schema Fresh) (state S.Store tx.new.conn.now).now) }
 {
     make_half(tx)?;
     make_doc(tx)?;
     make_session(tx)?;
-    make_slot(tx)
+    make_kept(tx)
 }
 
 /// Fills tables that were just made.
@@ -129,7 +142,8 @@ fn fill<S: Alter>(
         → OnOk result (IsRoomDatabase (state S.Store tx.old.conn.now).now →
         Steps (state S.Store tx.old.conn.now) (state S.Store tx.new.conn.now) (λ r.
         apply_change (PutNext 2) (apply_change (PutEntries 1 entries.now) (apply_change (PutNode root.now) r)))
-        × IsVersion1 (version_rows (state S.Store tx.new.conn.now).now.trees)) }
+        × IsVersion 2 (version_rows (state S.Store tx.new.conn.now).now.trees)
+        × IsDatabase (state S.Store tx.new.conn.now).now) }
 {
     put_node(tx, root)?;
     put_entries(tx, 1, entries)?;
@@ -143,8 +157,8 @@ fn make_fresh<S: Alter>(
 ) -> Result<(), Error>
     ensures frame { InsideFrame S.Store tx.old tx.new result }
     ensures ok { HasCleanDisk (state S.Store tx.new.conn.now)
-        → OnOk result (tx.old.conn.now.schema ≡ schema_0 → IsRoomDatabase (state S.Store tx.new.conn.now).now ×
-        IsFilled root.now entries.now (state S.Store tx.new.conn.now).now.trees) }
+        → OnOk result (tx.old.conn.now.schema ≡ schema_0 →
+        IsFilled root.now entries.now (state S.Store tx.new.conn.now).now) }
 {
     make_tables(tx)?;
     fill(tx, root, entries)
@@ -159,8 +173,7 @@ fn commit_fresh<S: Alter>(
     ensures frame { CommitFrame S.Store (MayBeFilled root.now entries.now) conn.old conn.new result }
     ensures ok { HasCleanDisk (state S.Store conn.new)
         → OnOk result (IsTrue (state S.Store conn.new).is_open × (conn.old.schema ≡ schema_0 →
-        IsRoomDatabase (state S.Store conn.new).now
-        × IsFilled root.now entries.now (state S.Store conn.new).now.trees)) }
+        IsFilled root.now entries.now (state S.Store conn.new).now)) }
     ensures err { HasCleanDisk (state S.Store conn.new) → IsTrue (state S.Store conn.new).is_open
         → OnErr result ((state S.Store conn.new).now ≡ (state S.Store conn.old).committed) }
 {
@@ -180,8 +193,7 @@ pub(crate) fn make<S: Alter>(
     ensures frame { CommitFrame S.Store (MayBeMade owner.now group.now) conn.old conn.new result }
     ensures ok { HasCleanDisk (state S.Store conn.new)
         → OnOk result (IsTrue (state S.Store conn.new).is_open × (conn.old.schema ≡ schema_0 →
-        IsRoomDatabase (state S.Store conn.new).now
-        × IsFreshRoom owner.now group.now (state S.Store conn.new).now.trees)) }
+        IsFreshRoom owner.now group.now (state S.Store conn.new).now)) }
     ensures err { HasCleanDisk (state S.Store conn.new) → IsTrue (state S.Store conn.new).is_open
         → (state S.Store conn.old).now ≡ (state S.Store conn.old).committed
         → OnErr result ((state S.Store conn.new).now ≡ (state S.Store conn.old).now) }

@@ -1,10 +1,11 @@
 //! Values of a room as the tables hold them.
 
 ghost use Rattle.std.specs.Prelude.{◌≡◌, [], ◌∷◌};
-ghost use Rattle.sqlite.specs.Values.{bound};
+ghost use Rattle.sqlite_value.specs.declared.value.Value.TheVariants.{Blob};
+ghost use Rattle.sqlite.specs.Values.{bound, or_null};
 ghost use Rattle.room_acl.specs.Entries.{who_text};
 ghost use Rattle.room_tables.specs.Rows.{name_of_text, who_of};
-ghost use Rattle.room_tables.specs.Layout.{parent_value};
+ghost use Rattle.room_tables.specs.Layout.{parent_value, reply_value};
 ghost use Rattle.room_tables.specs.Steps.{kind_number, flag_of, type_of, shown_as, IsReadBack};
 
 use room_acl::{Entry, Kind, Who};
@@ -84,10 +85,14 @@ pub(crate) fn kept_request(kept: &Kept) -> &[u8]
     kept.request.as_slice()
 }
 
-pub(crate) fn kept_reply(kept: &Kept) -> &[u8]
-    ensures { result.now ≡ kept.now.reply }
+/// The reply, and NULL where it is not kept.
+pub(crate) fn kept_reply(kept: &Kept) -> Option<&[u8]>
+    ensures { or_null (λ r. Blob r.now) result ≡ reply_value kept.now.reply }
 {
-    kept.reply.as_slice()
+    match &kept.reply {
+        Some(reply) => Some(reply.as_slice()),
+        None => None,
+    }
 }
 
 /// 0 is ALLOW and 1 is DENY.

@@ -3,18 +3,19 @@
 ghost use Rattle.std.specs.Prelude.{◌≡◌, ◌+◌, ◌^◌, ◌<◌, ◌≤◌, ℕ, [], ◌∷◌, ◌++◌, length, Ok, IfErr, OnOk};
 ghost use Rattle.std.specs.Prelude.{OnErr, true, false, IsTrue};
 ghost use Rattle.std.specs.List.{AllByRecursion};
-ghost use Rattle.sqlite.specs.State.{HasCleanDisk, ExecutesInside};
+ghost use Rattle.sqlite.specs.State.{HasCleanDisk, ExecutesInside, Survives};
 ghost use Rattle.sqlite.specs.Held.{state};
 ghost use Rattle.sqlite.specs.Values.{bound};
-ghost use Rattle.sqlite_trees.specs.Tree.{Trees};
+ghost use Rattle.sqlite.specs.Effect.{Database, IsDatabase};
 ghost use Rattle.room_records.specs.Changes.{apply_change, apply_changes};
 ghost use Rattle.room_records.specs.declared.change.Change.TheVariants.{PutNode, DropNode, PutEntries, PutDoc};
 ghost use Rattle.room_records.specs.declared.change.Change.TheVariants.{PutSession, PutSlot, DropSlots, PutNext};
-ghost use Rattle.room_tables.specs.Rows.{version_rows, IsVersion1};
+ghost use Rattle.room_tables.specs.Tables.{Upgraded, room_schema};
+ghost use Rattle.room_tables.specs.Rows.{version_rows, IsVersion};
 ghost use Rattle.room_tables.specs.Layout.{IsRoomDatabase};
-ghost use Rattle.room_tables.specs.Steps.{Steps, Lists, MayBecome};
-ghost use Rattle.room_sql.specs.Causes.{statement, RunInTurn, writes_of, writes_of_all, entry_writes, entries_drop};
-ghost use Rattle.room_sql.specs.Causes.{IsShort, CommitFails};
+ghost use Rattle.room_tables.specs.Steps.{Steps, Lists, MayBecome, StaysRoom};
+ghost use Rattle.room_sql.specs.Causes.{statement, statement_or, RanText, RunInTurn, writes_of, writes_of_all};
+ghost use Rattle.room_sql.specs.Causes.{entry_writes, entries_drop, IsShort, CommitFails};
 ghost use Rattle.room_sql.specs.Frames.{InsideFrame, CommitFrame};
 ghost use Rattle.room_sql.specs.NodeRows.{AfterAll};
 
@@ -28,7 +29,7 @@ use sqlite::types::{ToSql, ValueRef};
 use sqlite::{Alter, Connection, Error, ErrorCode, Transaction, params};
 
 /// Runs one statement.
-fn run<S: Alter>(
+pub(crate) fn run<S: Alter>(
     tx: &mut Transaction<'_, S>,
     text: &str,
     args: &[ValueRef<'_>],
@@ -42,6 +43,41 @@ fn run<S: Alter>(
     match tx.execute(text, args) {
         Ok(_) => Ok(()),
         Err(error) => Err(error),
+    }
+}
+
+/// Runs one statement, and tells how many rows it changed.
+fn changed<S: Alter>(
+    tx: &mut Transaction<'_, S>,
+    text: &str,
+    args: &[ValueRef<'_>],
+) -> Result<usize, Error>
+    ensures frame { InsideFrame S.Store tx.old tx.new result }
+    ensures inside { HasCleanDisk (state S.Store tx.new.conn.now)
+        → OnOk result (tx.old.conn.now.in_transaction ≡ true) }
+    ensures ran { HasCleanDisk (state S.Store tx.new.conn.now) → tx.old.conn.now.in_transaction ≡ true
+        → RanText S.Store text.now (bound args.now) tx.old.conn.now tx.new.conn.now result }
+{
+    tx.execute(text, args)
+}
+
+/// Runs one statement, and behind it another with the same values, where the first changed no row.
+fn run_or<S: Alter>(
+    tx: &mut Transaction<'_, S>,
+    text: &str,
+    other: &str,
+    args: &[ValueRef<'_>],
+) -> Result<(), Error>
+    ensures frame { InsideFrame S.Store tx.old tx.new result }
+    ensures done { HasCleanDisk (state S.Store tx.new.conn.now) → OnOk result (RunInTurn S.Store
+        (statement_or text.now other.now (bound args.now) ∷ []) tx.old.conn.now tx.new.conn.now (Ok tt)) }
+    ensures ran { HasCleanDisk (state S.Store tx.new.conn.now) → tx.old.conn.now.in_transaction ≡ true → RunInTurn
+        S.Store (statement_or text.now other.now (bound args.now) ∷ []) tx.old.conn.now tx.new.conn.now result }
+{
+    if changed(tx, text, args)? == 0 {
+        run(tx, other, args)
+    } else {
+        Ok(())
     }
 }
 
@@ -87,7 +123,7 @@ fn clear_entries<S: Alter>(tx: &mut Transaction<'_, S>, id: u32) -> Result<(), E
     ensures frame { InsideFrame S.Store tx.old tx.new result }
     ensures ok { HasCleanDisk (state S.Store tx.new.conn.now)
         → OnOk result (IsRoomDatabase (state S.Store tx.old.conn.now).now →
-        Lists (state S.Store tx.old.conn.now).now.trees id [] (state S.Store tx.new.conn.now).now) }
+        Lists (state S.Store tx.old.conn.now).now id [] (state S.Store tx.new.conn.now).now) }
     ensures ran { HasCleanDisk (state S.Store tx.new.conn.now) → tx.old.conn.now.in_transaction ≡ true
         → RunInTurn S.Store (entries_drop id ∷ []) tx.old.conn.now tx.new.conn.now result }
 {
@@ -103,7 +139,7 @@ fn add_one<S: Alter>(
 ) -> Result<(), Error>
     ensures frame { InsideFrame S.Store tx.old tx.new result }
     ensures ok { HasCleanDisk (state S.Store tx.new.conn.now)
-        → OnOk result ((was : Trees) (before : _) → length before ≡ place →
+        → OnOk result ((was : Database) (before : _) → length before ≡ place →
         Lists was id before (state S.Store tx.old.conn.now).now
         → Lists was id (before ++ a.now ∷ []) (state S.Store tx.new.conn.now).now) }
     ensures ran { HasCleanDisk (state S.Store tx.new.conn.now) → tx.old.conn.now.in_transaction ≡ true
@@ -128,7 +164,7 @@ fn add_two<S: Alter>(
     requires { place + 1 < 2 ^ 32 }
     ensures frame { InsideFrame S.Store tx.old tx.new result }
     ensures ok { HasCleanDisk (state S.Store tx.new.conn.now)
-        → OnOk result ((was : Trees) (before : _) → length before ≡ place →
+        → OnOk result ((was : Database) (before : _) → length before ≡ place →
         Lists was id before (state S.Store tx.old.conn.now).now
         → Lists was id (before ++ a.now ∷ b.now ∷ []) (state S.Store tx.new.conn.now).now) }
     ensures ran { HasCleanDisk (state S.Store tx.new.conn.now) → tx.old.conn.now.in_transaction ≡ true
@@ -168,7 +204,7 @@ fn add_three<S: Alter>(
     requires { place + 2 < 2 ^ 32 }
     ensures frame { InsideFrame S.Store tx.old tx.new result }
     ensures ok { HasCleanDisk (state S.Store tx.new.conn.now)
-        → OnOk result ((was : Trees) (before : _) → length before ≡ place →
+        → OnOk result ((was : Database) (before : _) → length before ≡ place →
         Lists was id before (state S.Store tx.old.conn.now).now
         → Lists was id (before ++ a.now ∷ b.now ∷ c.now ∷ []) (state S.Store tx.new.conn.now).now) }
     ensures ran { HasCleanDisk (state S.Store tx.new.conn.now) → tx.old.conn.now.in_transaction ≡ true →
@@ -215,7 +251,7 @@ fn add_four<S: Alter>(
     requires { place + 3 < 2 ^ 32 }
     ensures frame { InsideFrame S.Store tx.old tx.new result }
     ensures ok { HasCleanDisk (state S.Store tx.new.conn.now)
-        → OnOk result ((was : Trees) (before : _) → length before ≡ place →
+        → OnOk result ((was : Database) (before : _) → length before ≡ place →
         Lists was id before (state S.Store tx.old.conn.now).now
         → Lists was id (before ++ a.now ∷ b.now ∷ c.now ∷ d.now ∷ []) (state S.Store tx.new.conn.now).now) }
     ensures ran { HasCleanDisk (state S.Store tx.new.conn.now) → tx.old.conn.now.in_transaction ≡ true → RunInTurn
@@ -271,7 +307,7 @@ fn add_batch<S: Alter>(
     requires small { place + length batch.now < 2 ^ 32 }
     ensures frame { InsideFrame S.Store tx.old tx.new result }
     ensures ok { HasCleanDisk (state S.Store tx.new.conn.now)
-        → OnOk result ((was : Trees) (before : _) → length before ≡ place →
+        → OnOk result ((was : Database) (before : _) → length before ≡ place →
         Lists was id before (state S.Store tx.old.conn.now).now
         → Lists was id (before ++ batch.now) (state S.Store tx.new.conn.now).now) }
     ensures ran { HasCleanDisk (state S.Store tx.new.conn.now) → tx.old.conn.now.in_transaction ≡ true
@@ -296,7 +332,7 @@ fn add_entries<S: Alter>(
     requires { HasCleanDisk (state S.Store tx.old.conn.now) → tx.old.conn.now.in_transaction ≡ true }
     ensures frame { InsideFrame S.Store tx.old tx.new result }
     ensures ok { HasCleanDisk (state S.Store tx.new.conn.now)
-        → OnOk result ((was : Trees) → Lists was id [] (state S.Store tx.old.conn.now).now →
+        → OnOk result ((was : Database) → Lists was id [] (state S.Store tx.old.conn.now).now →
         Lists was id entries.now (state S.Store tx.new.conn.now).now) }
     ensures ran { HasCleanDisk (state S.Store tx.new.conn.now)
         → tx.old.conn.now.in_transaction ≡ true → length entries.now < 2 ^ 32
@@ -371,7 +407,7 @@ fn put_session<S: Alter>(tx: &mut Transaction<'_, S>, row: &SessionRow) -> Resul
     )
 }
 
-/// Adds or replaces what a slot keeps.
+/// Replaces what a slot keeps, and adds it where there was none.
 fn put_slot<S: Alter>(tx: &mut Transaction<'_, S>, row: &SlotRow) -> Result<(), Error>
     ensures frame { InsideFrame S.Store tx.old tx.new result }
     ensures ok { HasCleanDisk (state S.Store tx.new.conn.now)
@@ -385,10 +421,10 @@ fn put_slot<S: Alter>(tx: &mut Transaction<'_, S>, row: &SlotRow) -> Result<(), 
     let seq = kept_number(&row.kept);
     let request = kept_request(&row.kept);
     let reply = kept_reply(&row.kept);
-    run(
+    run_or(
         tx,
-        "INSERT INTO slot (sid, slot, seq, request, reply) VALUES (?1, ?2, ?3, ?4, ?5) ON CONFLICT (sid, slot) \
-         DO UPDATE SET seq = excluded.seq, request = excluded.request, reply = excluded.reply",
+        "UPDATE kept SET seq = ?3, request = ?4, reply = ?5 WHERE sid = ?1 AND slot = ?2",
+        "INSERT INTO kept (sid, slot, seq, request, reply) VALUES (?1, ?2, ?3, ?4, ?5)",
         params![sid, slot, seq, request, reply],
     )
 }
@@ -403,22 +439,27 @@ fn drop_slots<S: Alter>(tx: &mut Transaction<'_, S>, sid: &Sid) -> Result<(), Er
         → RunInTurn S.Store (writes_of (DropSlots sid.now)) tx.old.conn.now tx.new.conn.now result }
 {
     let sid = sid.text();
-    run(tx, "DELETE FROM slot WHERE sid = ?1", params![sid])
+    run(tx, "DELETE FROM kept WHERE sid = ?1", params![sid])
 }
 
-/// Sets the next number, in a row of version 1.
+/// Sets the next number, in a row of version 2. A table `slot` beside stays as it is.
 pub(crate) fn put_next<S: Alter>(tx: &mut Transaction<'_, S>, next: u32) -> Result<(), Error>
     ensures frame { InsideFrame S.Store tx.old tx.new result }
     ensures ok { HasCleanDisk (state S.Store tx.new.conn.now)
         → OnOk result (IsRoomDatabase (state S.Store tx.old.conn.now).now →
         Steps (state S.Store tx.old.conn.now) (state S.Store tx.new.conn.now) (apply_change (PutNext next))
-        × IsVersion1 (version_rows (state S.Store tx.new.conn.now).now.trees)) }
+        × IsVersion 2 (version_rows (state S.Store tx.new.conn.now).now.trees)) }
+    ensures beside { HasCleanDisk (state S.Store tx.new.conn.now)
+        → OnOk result (IsRoomDatabase (state S.Store tx.old.conn.now).now →
+        IsDatabase (state S.Store tx.new.conn.now).now
+        × ((state S.Store tx.old.conn.now).now.schema ≡ room_schema Upgraded →
+        (state S.Store tx.new.conn.now).now.trees 8 ≡ (state S.Store tx.old.conn.now).now.trees 8)) }
     ensures ran { HasCleanDisk (state S.Store tx.new.conn.now) → tx.old.conn.now.in_transaction ≡ true
         → RunInTurn S.Store (writes_of (PutNext next)) tx.old.conn.now tx.new.conn.now result }
 {
     run(
         tx,
-        "INSERT INTO room (one, version, next) VALUES (1, 1, ?1) ON CONFLICT (one) DO UPDATE SET version = \
+        "INSERT INTO room (one, version, next) VALUES (1, 2, ?1) ON CONFLICT (one) DO UPDATE SET version = \
          excluded.version, next = excluded.next",
         params![next],
     )
@@ -474,8 +515,12 @@ pub(crate) fn commit<S: Alter>(conn: &mut Connection<S>, changes: &[Change]) -> 
     ensures nodes { HasCleanDisk (state S.Store conn.new) → OnOk result (IsRoomDatabase (state S.Store conn.old).now
         → AfterAll changes.now ((state S.Store conn.old).now.trees 1) ((state S.Store conn.new).now.trees 1)) }
     ensures version { HasCleanDisk (state S.Store conn.new) → OnOk result (IsRoomDatabase (state S.Store conn.old).now
-        → IsVersion1 (version_rows (state S.Store conn.old).now.trees) →
-        IsVersion1 (version_rows (state S.Store conn.new).now.trees)) }
+        → IsVersion 2 (version_rows (state S.Store conn.old).now.trees) →
+        IsVersion 2 (version_rows (state S.Store conn.new).now.trees)) }
+    ensures schema { HasCleanDisk (state S.Store conn.new) → OnOk result (IsRoomDatabase (state S.Store conn.old).now
+        → (state S.Store conn.new).now.schema ≡ (state S.Store conn.old).now.schema) }
+    ensures stays { Survives (state S.Store conn.old) (state S.Store conn.new)
+        (StaysRoom (state S.Store conn.old).now) }
     ensures failed { HasCleanDisk (state S.Store conn.new) → AllByRecursion IsShort changes.now
         → IfErr result (CommitFails S.Store changes.now conn.old conn.new) }
     ensures err { HasCleanDisk (state S.Store conn.new) → IsTrue (state S.Store conn.new).is_open

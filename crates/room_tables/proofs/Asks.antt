@@ -1,6 +1,6 @@
 -- What the queries answer.
 use Rattle.std.proofs.Common.{◌≡◌, ℕ, pos, Bool, true, ◌&&◌, List, [], ◌∷◌, length, map, filter}
-use Rattle.std.proofs.Common.{Some, refl, sym, ap, subst, ◌∙◌, IsPermutation}
+use Rattle.std.proofs.Common.{Some, option_map, refl, sym, ap, subst, ◌∙◌, IsPermutation}
 use Rattle.std.proofs.Common.{IsSorted}
 use Rattle.std.specs.List.{AllByRecursion, list_all, AllZip}
 use Rattle.std.proofs.lemmas.List.Sorted.{length_permutation}
@@ -16,7 +16,11 @@ use Rattle.sqlite_sql.specs.Program.{overlay}
 use Rattle.sqlite_keyed.proofs.ListLemmas.{filter_same, ascending_from_map}
 use Rattle.sqlite.specs.State.{State, Shown}
 use Rattle.sqlite.proofs.Callers.{reads_as, one_permutation}
-use Rattle.room_tables.specs.Tables.{room_schema}
+use Rattle.sqlite.specs.Table.{Table}
+use Rattle.sqlite_schema.specs.declared.schema.Index.{Index}
+use Rattle.room_tables.specs.Tables.{room_schema, with_last, slots_tree}
+use Rattle.room_tables.specs.Layout.{IsRoomDatabase}
+use Rattle.room_tables.proofs.Each.{slots_seen}
 use Rattle.room_tables.specs.Texts.{find_node_text, find_node_query, find_child_text, find_child_query}
 use Rattle.room_tables.specs.Texts.{list_children_text, list_children_query, count_children_text, count_children_query}
 use Rattle.room_tables.specs.Texts.{counted, all_rows, list_entries_text, list_entries_query, find_doc_text}
@@ -26,7 +30,8 @@ use Rattle.room_tables.specs.Texts.{find_version_query}
 use Rattle.room_tables.specs.Rows.{has, has_text, is_child_named, is_slot, shown_node, node_rows, named_rows}
 use Rattle.room_tables.specs.Rows.{child_rows, shown_entry, entry_rows, IsEntryRow, HasEntryColumns, shown_doc}
 use Rattle.room_tables.specs.Rows.{doc_rows, shown_session, session_rows, shown_slot, slot_rows, shown_next, next_rows}
-use Rattle.room_tables.specs.Rows.{shown_version, version_rows}
+use Rattle.room_tables.specs.Rows.{shown_version, version_rows, IsVersion}
+use Rattle.room_tables.specs.Versions.{TellsVersion}
 use Rattle.room_tables.proofs.Meaning.{find_node_is, find_node_plain, find_child_is, find_child_plain, list_children_is}
 use Rattle.room_tables.proofs.Meaning.{list_children_plain, count_children_is, count_children_plain, list_entries_is}
 use Rattle.room_tables.proofs.Meaning.{list_entries_plain, find_doc_is, find_doc_plain, find_session_is}
@@ -34,26 +39,29 @@ use Rattle.room_tables.proofs.Meaning.{find_session_plain, find_slot_is, find_sl
 use Rattle.room_tables.proofs.Meaning.{find_version_is, find_version_plain}
 use Rattle.room_tables.specs.Names.{name_keys, name_key, ByName, counted_row}
 use Rattle.room_tables.proofs.Queries.{passing, and_true, picked, found, listed, envs_are, sorted_keys}
+use Rattle.room_tables.proofs.Queries.{only_permuted}
 use Rattle.sqlite_rules.proofs.ListLemmas.{all_has, all_from}
 use Rattle.sqlite_rules.proofs.ProbeLemmas.{has_mapped}
 use Rattle.room_tables.proofs.Removed.{has_permuted}
 use Rattle.room_tables.proofs.Sorted.{ascending_from_sorted, all_permutation}
 use Rattle.room_tables.proofs.Placed.{exact_entries}
 
-pub asks_node : (old new : State) (id : ℕ) (rows : List Row) → old.now.schema ≡ room_schema
+pub asks_node : (old new : State) (id : ℕ) (rows : List Row) → IsRoomDatabase old.now
     → Shown find_node_text (Int (pos id) ∷ []) old new rows → IsPermutation (node_rows old.now.trees id) rows
-asks_node old new id rows schema h =
+asks_node old new id rows room h =
     found find_node_query (Int (pos id) ∷ []) (old.now.trees 1) rows
     (has 0 id) shown_node (λ r. and_true (has 0 id r)) (λ r. refl)
-    (picked old new find_node_text _ 1 _ _ [] _ rows schema find_node_is find_node_plain refl h)
+    (picked (room_schema room.layout) old new find_node_text _ 1 _ _ [] _ rows room.schema (find_node_is room.layout)
+    (find_node_plain room.layout) refl h)
 
 pub asks_child : (old new : State) (parent : ℕ) (name : List ℕ) (rows : List Row)
-    → old.now.schema ≡ room_schema → Shown find_child_text (Int (pos parent) ∷ Text name ∷ []) old new rows
+    → IsRoomDatabase old.now → Shown find_child_text (Int (pos parent) ∷ Text name ∷ []) old new rows
     → IsPermutation (named_rows old.now.trees parent name) rows
-asks_child old new parent name rows schema h =
+asks_child old new parent name rows room h =
     found find_child_query (Int (pos parent) ∷ Text name ∷ []) (old.now.trees 1) rows (is_child_named parent name)
     shown_node (λ r. ap (λ b. has 2 parent r && b) (and_true (has_text 3 name r))) (λ r. refl)
-    (picked old new find_child_text _ 1 _ _ [] _ rows schema find_child_is find_child_plain refl h)
+    (picked (room_schema room.layout) old new find_child_text _ 1 _ _ [] _ rows room.schema (find_child_is room.layout)
+    (find_child_plain room.layout) refl h)
 
 abbrev named_output : Row → Output
 named_output r = (column r 3 ∷ [], shown_node r)
@@ -68,12 +76,12 @@ named_parts [] = tt
 named_parts (r ∷ rows) = (refl, named_parts rows)
 
 pub asks_children : (old new : State) (parent : ℕ) (rows : List Row)
-    → old.now.schema ≡ room_schema → Shown list_children_text (Int (pos parent) ∷ []) old new rows
+    → IsRoomDatabase old.now → Shown list_children_text (Int (pos parent) ∷ []) old new rows
     → IsPermutation (child_rows old.now.trees parent) rows × IsAscending ByName rows
-asks_children old new parent rows schema h =
+asks_children old new parent rows room h =
     let params = Int (pos parent) ∷ [] in
-    let k = picked old new list_children_text params 1 _ _ list_children_query.order
-    _ rows schema list_children_is list_children_plain refl h in
+    let k = picked (room_schema room.layout) old new list_children_text params 1 _ _ list_children_query.order
+    _ rows room.schema (list_children_is room.layout) (list_children_plain room.layout) refl h in
     let passed : passing list_children_query.filter params (old.now.trees 1) ≡ filter (has 2 parent) (old.now.trees 1) =
     filter_same _ (has 2 parent) (λ r. and_true (has 2 parent r)) (old.now.trees 1) in
     let same : IsPermutation (map named_output (filter (has 2 parent) (old.now.trees 1))) k.ordered =
@@ -108,49 +116,74 @@ entry_typed found rows same typed = all_from IsEntryRow rows (λ r h.
     five s c = rw (c.has_place, c.has_kind, c.has_flags, c.has_mask, c.has_who) refl
 
 pub asks_entries : (old new : State) (id : ℕ) (rows : List Row)
-    → old.now.schema ≡ room_schema → AllByRecursion HasEntryColumns rows
+    → IsRoomDatabase old.now → AllByRecursion HasEntryColumns rows
     → Shown list_entries_text (Int (pos id) ∷ []) old new rows → rows ≡ entry_rows old.now.trees id
-asks_entries old new id rows schema typed h =
-    let k = picked old new list_entries_text (Int (pos id) ∷ []) 3 _ _
-    list_entries_query.order _ rows schema list_entries_is list_entries_plain refl h in
+asks_entries old new id rows room typed h =
+    let k = picked (room_schema room.layout) old new list_entries_text (Int (pos id) ∷ []) 3 _ _
+    list_entries_query.order _ rows room.schema (list_entries_is room.layout) (list_entries_plain room.layout) refl h in
     let same = found list_entries_query (Int (pos id) ∷ []) (old.now.trees 3)
     rows (has 1 id) shown_entry (λ r. and_true (has 1 id r)) (λ r. refl) k in
     listed list_entries_query (Int (pos id) ∷ []) (old.now.trees 3) rows (has 1 id) shown_entry IsEntryRow
     (λ r. and_true (has 1 id r)) (λ r. refl) exact_entries (entry_typed _ rows same typed) k
 
-pub asks_doc : (old new : State) (id : ℕ) (rows : List Row) → old.now.schema ≡ room_schema
+pub asks_doc : (old new : State) (id : ℕ) (rows : List Row) → IsRoomDatabase old.now
     → Shown find_doc_text (Int (pos id) ∷ []) old new rows → IsPermutation (doc_rows old.now.trees id) rows
-asks_doc old new id rows schema h =
+asks_doc old new id rows room h =
     found find_doc_query (Int (pos id) ∷ []) (old.now.trees 5) rows
     (has 0 id) shown_doc (λ r. and_true (has 0 id r)) (λ r. refl)
-    (picked old new find_doc_text _ 5 _ _ [] _ rows schema find_doc_is find_doc_plain refl h)
+    (picked (room_schema room.layout) old new find_doc_text _ 5 _ _ [] _ rows room.schema (find_doc_is room.layout)
+    (find_doc_plain room.layout) refl h)
 
-pub asks_session : (old new : State) (sid : List ℕ) (rows : List Row) → old.now.schema ≡ room_schema
+pub asks_session : (old new : State) (sid : List ℕ) (rows : List Row) → IsRoomDatabase old.now
     → Shown find_session_text (Text sid ∷ []) old new rows → IsPermutation (session_rows old.now.trees sid) rows
-asks_session old new sid rows schema h =
+asks_session old new sid rows room h =
     found find_session_query (Text sid ∷ []) (old.now.trees 6) rows (has_text 1 sid)
     shown_session (λ r. and_true (has_text 1 sid r)) (λ r. refl)
-    (picked old new find_session_text _ 6 _ _ [] _ rows schema find_session_is find_session_plain refl h)
+    (picked (room_schema room.layout) old new find_session_text _ 6 _ _ [] _ rows room.schema
+    (find_session_is room.layout) (find_session_plain room.layout) refl h)
 
 pub asks_slot : (old new : State) (sid : List ℕ) (slot : ℕ) (rows : List Row)
-    → old.now.schema ≡ room_schema → Shown find_slot_text (Text sid ∷ Int (pos slot) ∷ []) old new rows
+    → IsRoomDatabase old.now → Shown find_slot_text (Text sid ∷ Int (pos slot) ∷ []) old new rows
     → IsPermutation (slot_rows old.now.trees sid slot) rows
-asks_slot old new sid slot rows schema h =
-    found find_slot_query (Text sid ∷ Int (pos slot) ∷ []) (old.now.trees 8) rows (is_slot sid slot)
+asks_slot old new sid slot rows room h =
+    subst (λ all. IsPermutation (map shown_slot (filter (is_slot sid slot) all)) rows) (sym room.listed)
+    (found (find_slot_query (slots_tree room.layout)) (Text sid ∷ Int (pos slot) ∷ [])
+    (old.now.trees (slots_tree room.layout)) rows (is_slot sid slot)
     shown_slot (λ r. ap (λ b. has_text 1 sid r && b) (and_true (has 2 slot r))) (λ r. refl)
-    (picked old new find_slot_text _ 8 _ _ [] _ rows schema find_slot_is find_slot_plain refl h)
+    (picked (room_schema room.layout) old new find_slot_text _ (slots_tree room.layout) _ _ [] _ rows room.schema
+    (find_slot_is room.layout) (find_slot_plain room.layout) (slots_seen room.layout old.now.trees) h))
 
-pub asks_next : (old new : State) (rows : List Row) → old.now.schema ≡ room_schema
+pub asks_next : (more : List Table) (others : List Index) (old new : State) (rows : List Row)
+    → old.now.schema ≡ with_last more others
     → Shown find_next_text [] old new rows → IsPermutation (next_rows old.now.trees) rows
-asks_next old new rows schema h =
+asks_next more others old new rows schema h =
     found find_next_query [] (old.now.trees 0) rows (has 0 1) shown_next (λ r. and_true (has 0 1 r)) (λ r. refl)
-    (picked old new find_next_text _ 0 _ _ [] _ rows schema find_next_is find_next_plain refl h)
+    (picked (with_last more others) old new find_next_text _ 0 _ _ [] _ rows schema (find_next_is more others)
+    (find_next_plain more others) refl h)
 
-pub asks_version : (old new : State) (rows : List Row) → old.now.schema ≡ room_schema
+pub asks_version : (more : List Table) (others : List Index) (old new : State) (rows : List Row)
+    → old.now.schema ≡ with_last more others
     → Shown find_version_text [] old new rows → IsPermutation (version_rows old.now.trees) rows
-asks_version old new rows schema h =
+asks_version more others old new rows schema h =
     found find_version_query [] (old.now.trees 0) rows (has 0 1) shown_version (λ r. and_true (has 0 1 r)) (λ r. refl)
-    (picked old new find_version_text _ 0 _ _ [] _ rows schema find_version_is find_version_plain refl h)
+    (picked (with_last more others) old new find_version_text _ 0 _ _ [] _ rows schema (find_version_is more others)
+    (find_version_plain more others) refl h)
+
+-- a version that was told is that of the rows
+pub told_version : (more : List Table) (others : List Index) (old new : State) (n : ℕ)
+    → old.now.schema ≡ with_last more others → TellsVersion old new (IsVersion n)
+    → IsVersion n (version_rows old.now.trees)
+told_version more others old new n schema told =
+    subst (λ o. option_map (λ row. column row 0) o ≡ Some (Int (pos n)))
+    (only_permuted _ _ (asks_version more others old new told.0 schema told.1)) told.2
+
+-- and so it is with another that was told
+pub told_another : (more : List Table) (others : List Index) (old new : State) (n : ℕ)
+    → old.now.schema ≡ with_last more others → TellsVersion old new (λ rows. ¬ IsVersion n rows)
+    → ¬ IsVersion n (version_rows old.now.trees)
+told_another more others old new n schema told is =
+    told.2 (subst (λ o. option_map (λ row. column row 0) o ≡ Some (Int (pos n)))
+    (sym (only_permuted _ _ (asks_version more others old new told.0 schema told.1))) is)
 
 -- ---- the count
 
@@ -194,13 +227,13 @@ count_answer params db rows p test a =
     let ordered = one_permutation _ a.ordered (subst (λ l. IsPermutation l a.ordered) kept a.same) in
     a.shown ∙ ap (map (λ (o : Output). o.1)) ordered ∙ ap (λ n. counted_row n ∷ []) all
 
-pub asks_count : (old new : State) (parent : ℕ) (rows : List Row) → old.now.schema ≡ room_schema
+pub asks_count : (old new : State) (parent : ℕ) (rows : List Row) → IsRoomDatabase old.now
     → Shown count_children_text (Int (pos parent) ∷ []) old new rows
     → rows ≡ counted_row (length (child_rows old.now.trees parent)) ∷ []
-asks_count old new parent rows schema h =
+asks_count old new parent rows room h =
     let params = Int (pos parent) ∷ [] in
-    let read = reads_as count_children_text params old new room_schema schema _
-    count_children_is count_children_plain.0 count_children_plain.1 rows h in
+    let read = reads_as count_children_text params old new (room_schema room.layout) room.schema _
+    (count_children_is room.layout) (count_children_plain room.layout).0 (count_children_plain room.layout).1 rows h in
     count_answer params (overlay old.now.trees []) rows (has 2 parent)
     (λ r. and_true (has 2 parent r)) (read.answer Null)
     ∙ ap (λ n. counted_row n ∷ []) (sym (length-map (filter (has 2 parent) (old.now.trees 1)) shown_node))

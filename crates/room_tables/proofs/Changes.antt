@@ -1,7 +1,7 @@
 -- What the statements that write do to the tables.
 use Rattle.std.proofs.Common.{◌≡◌, ◌≢◌, ◌⊎◌, length, ◌/◌, MatchBool, is_lt, int_cmp, inl, inr, ℕ, ℤ, Bool, true, false}
 use Rattle.std.proofs.Common.{not, cond, List, [], ◌∷◌, map, drop, filter, slice_get, Option, None, Some, Ok, Err}
-use Rattle.std.proofs.Common.{Result, IfErr, OnErr, refl, sym, ap, subst, true≢false, ◌∙◌}
+use Rattle.std.proofs.Common.{Result, IfErr, OnErr, refl, sym, ap, subst, true≢false, ◌∙◌, unwrap_or}
 use Rattle.std.proofs.lemmas.Bool.{cases_Bool}
 use Rattle.sqlite_value.specs.declared.value.Value.TheVariants.{Null, Int}
 use Rattle.sqlite_value.specs.Order.{Row}
@@ -14,7 +14,7 @@ use Rattle.sqlite_rules.specs.Calls.{ids_of}
 use Rattle.sqlite_rules.specs.Action.{works}
 use Rattle.sqlite.specs.Rowids.TheVariants.{Chosen, Given, Above}
 use Rattle.sqlite_schema.specs.declared.schema.Keys.TheVariants.{Enforced}
-use Rattle.sqlite.specs.Command.TheVariants.{Insert, InsertOr, Delete}
+use Rattle.sqlite.specs.Command.TheVariants.{Insert, InsertOr, Update, Delete}
 use Rattle.sqlite_schema.specs.declared.command.Conflict.TheVariants.{Abort}
 use Rattle.sqlite_schema.specs.declared.command.Upsert.{Upsert}
 use Rattle.sqlite.specs.Source.{Source}
@@ -25,6 +25,7 @@ use Rattle.sqlite.specs.Ops.{unary}
 use Rattle.sqlite_value.specs.declared.value.Value.{Value}
 use Rattle.sqlite.specs.Effect.{Database}
 use Rattle.sqlite.specs.Rows.{Edited, Counts, CountsIn, Gives, sequence, Written, Task, count_of}
+use Rattle.sqlite.specs.Rows.{rowids_for, last_id}
 use Rattle.sqlite.specs.Does.{Tally, Does, Concludes, WritesRows}
 use Rattle.sqlite.specs.declared.run.Mode.{Mode}
 use Rattle.sqlite.specs.Table.{Table}
@@ -38,10 +39,10 @@ use Rattle.sqlite.proofs.Callers.{runs_as, one_step}
 use Rattle.std.specs.List.{AllByRecursion, list_all}
 use Rattle.sqlite_sql.specs.Term.{Term, col, holds}
 use Rattle.sqlite.specs.Rows.{stamped}
-use Rattle.sqlite.specs.Effect.{value_rows}
+use Rattle.sqlite.specs.Effect.{value_rows, IsDatabase, IsSource}
 use Rattle.sqlite.specs.Listing.{understood}
 use Rattle.sqlite.proofs.Callers.{IsPlain, command_of}
-use Rattle.room_tables.specs.Tables.{room_schema}
+use Rattle.room_tables.specs.Tables.{Layout, room_schema}
 use Rattle.room_tables.specs.Texts.{over_table}
 use Rattle.room_tables.proofs.Queries.{Picks, passing, answer_is, found}
 use Rattle.room_tables.specs.Layout.{IsKeyed, OfEachTable}
@@ -64,41 +65,95 @@ concludes task mode w tally new h =
     let returned = went tested.2 in
     ap (λ (p : Tally × Database). p.1) (same_value returned.2)
 
-abbrev pub task_on : State → Table → Row → Task
-task_on old table params =
-    record { limit = old.step_limit; keys = Enforced; schema = room_schema; table = table; params = params }
+-- and how many rows it tells of
+tells : (task : Task) (mode : Mode) (w : Written) (tally : Tally) (new : Database)
+    → Concludes task mode None w (Ok (tally, new)) → unwrap_or tally.rows 0 ≡ length w.rows
+tells task mode w tally new h =
+    let tested = went h in
+    let returned = went tested.2 in
+    ap (λ (p : Tally × Database). unwrap_or p.0.rows 0) (same_value returned.2)
 
--- the command ran on the rows of the table at this place
-pub record Wrote (old new : State) (table : Table) (params : Row) (command : Command) : Type 0 where
+abbrev pub task_on : Layout → State → Table → Row → Task
+task_on l old table params =
+    record { limit = old.step_limit; keys = Enforced; schema = room_schema l; table = table; params = params }
+
+-- and what is counted is told of its rows
+concludes_with : (task : Task) (mode : Mode) (w : Written) (tally : Tally) (new : Database)
+    → Concludes task mode None w (Ok (tally, new)) → (tally.rows ≡ Some (length w.rows)) × (tally.last ≡ w.last)
+concludes_with task mode w tally new h =
+    let tested = went h in
+    let returned = went tested.2 in
+    let same = same_value returned.2 in (
+      ap (λ (p : Tally × Database). p.0.rows) same,
+      ap (λ (p : Tally × Database). p.0.last) same,
+    )
+
+-- the command ran on the rows of the table at this place, and what it left is sound
+pub record Wrote (l : Layout) (old new : State) (table : Table) (params : Row) (command : Command) : Type 0 where
   pub rows : Written
-  pub written : WritesRows (task_on old table params) old.now.trees command (Ok rows)
-  pub now : new.now ≡ record { schema = room_schema; trees = rows.trees }
+  pub written : WritesRows (task_on l old table params) old.now.trees command (Ok rows)
+  pub now : new.now ≡ record { schema = room_schema l; trees = rows.trees }
+  pub sound : IsDatabase new.now
 
-pub deletes : (old new : State) (at : ℕ) (table : Table) (q : Program) (text : List ℕ) (params : Row) (count : ℕ)
-    → slice_get room_schema.tables at ≡ Some table → old.now.schema ≡ room_schema
-    → Runs old new None (Delete at q) text params count → Wrote old new table params (Delete at q)
-deletes old new at table q text params count place schema w =
+pub deletes : (l : Layout) (old new : State) (at : ℕ) (table : Table) (q : Program) (text : List ℕ) (params : Row)
+    (count : ℕ)
+    → slice_get (room_schema l).tables at ≡ Some table → old.now.schema ≡ room_schema l
+    → Runs old new None (Delete at q) text params count → Wrote l old new table params (Delete at q)
+deletes l old new at table q text params count place schema w =
     let all = subst (λ s. Does old.step_limit (mode_of old) params (record old.now { schema = s })
     text None (Delete at q) (Ok (w.tally, new.now))) schema w.changed in
     let done = went (rw place at all) in
     record {
       rows = done.0;
       written = done.1;
-      now = concludes (task_on old table params) (mode_of old) done.0 w.tally new.now done.2;
+      now = concludes (task_on l old table params) (mode_of old) done.0 w.tally new.now done.2;
+      sound = w.sound;
     }
 
-pub inserts : (old new : State) (at : ℕ) (table : Table) (from : Source) (text : List ℕ) (params : Row) (count : ℕ)
-    → slice_get room_schema.tables at ≡ Some table → old.now.schema ≡ room_schema
-    → Runs old new None (Insert at from) text params count → Wrote old new table params (Insert at from)
-inserts old new at table from text params count place schema w =
+pub updates : (l : Layout) (old new : State) (at : ℕ) (table : Table) (q : Program) (text : List ℕ) (params : Row)
+    (count : ℕ)
+    → slice_get (room_schema l).tables at ≡ Some table → old.now.schema ≡ room_schema l
+    → Runs old new None (Update at q) text params count
+    → (w : Wrote l old new table params (Update at q)) × (count ≡ length w.rows.rows)
+updates l old new at table q text params count place schema w =
+    let all = subst (λ s. Does old.step_limit (mode_of old) params (record old.now { schema = s })
+    text None (Update at q) (Ok (w.tally, new.now))) schema w.changed in
+    let done = went (rw place at all) in (
+      record {
+        rows = done.0;
+        written = done.1;
+        now = concludes (task_on l old table params) (mode_of old) done.0 w.tally new.now done.2;
+        sound = w.sound;
+      },
+      w.counted ∙ tells (task_on l old table params) (mode_of old) done.0 w.tally new.now done.2,
+    )
+
+-- how many rows an INSERT put, and which rowid it put last
+record Counted (old new : State) (rows : Written) : Type 0 where
+  changes : new.changes ≡ length rows.rows
+  last : new.last_rowid ≡ unwrap_or rows.last old.last_rowid
+
+inserts : (l : Layout) (old new : State) (at : ℕ) (table : Table) (from : Source) (text : List ℕ) (params : Row)
+    (count : ℕ)
+    → slice_get (room_schema l).tables at ≡ Some table → old.now.schema ≡ room_schema l
+    → Runs old new None (Insert at from) text params count
+    → (w : Wrote l old new table params (Insert at from)) × Counted old new w.rows
+inserts l old new at table from text params count place schema w =
     let all = subst (λ s. Does old.step_limit (mode_of old) params (record old.now { schema = s })
     text None (Insert at from) (Ok (w.tally, new.now))) schema w.changed in
     let done = went (rw place at all) in
-    record {
-      rows = done.0;
-      written = done.1;
-      now = concludes (task_on old table params) (mode_of old) done.0 w.tally new.now done.2;
-    }
+    let told = concludes_with (task_on l old table params) (mode_of old) done.0 w.tally new.now done.2 in (
+      record {
+        rows = done.0;
+        written = done.1;
+        now = concludes (task_on l old table params) (mode_of old) done.0 w.tally new.now done.2;
+        sound = w.sound;
+      },
+      record {
+        changes = w.changes ∙ ap (λ n. unwrap_or n old.changes) told.0;
+        last = w.last_rowid ∙ ap (λ i. unwrap_or i old.last_rowid) told.1;
+      },
+    )
 
 either : (b : Bool) (x : Value) → cond b x x ≡ x
 either true x = refl
@@ -117,54 +172,58 @@ not_true true h = sym h
 not_true false h = refl
 
 -- the other tables are as they were
-abbrev pub Others : ℕ → Trees → Trees → Type 0
-Others tree db next = OfEachTable (λ (t : Table). t.tree ≢ tree → next t.tree ≡ db t.tree)
+abbrev pub Others : Layout → ℕ → Trees → Trees → Type 0
+Others l tree db next = OfEachTable l (λ (t : Table). t.tree ≢ tree → next t.tree ≡ db t.tree)
 
-pub others_of : (tree : ℕ) (db next : Trees)
-    → AllByRecursion (λ (t : Table). t.tree ≢ tree → next t.tree ≡ db t.tree) room_schema.tables → Others tree db next
-others_of tree db next = by_name (λ (t : Table). t.tree ≢ tree → next t.tree ≡ db t.tree)
+pub others_of : (l : Layout) (tree : ℕ) (db next : Trees)
+    → AllByRecursion (λ (t : Table). t.tree ≢ tree → next t.tree ≡ db t.tree) (room_schema l).tables
+    → Others l tree db next
+others_of l tree db next = by_name l (λ (t : Table). t.tree ≢ tree → next t.tree ≡ db t.tree)
 
 -- one table has these rows now
-pub record Leaves (old new : Database) (tree : ℕ) (rows : List Row) : Type 0 where
-  pub schema : new.schema ≡ room_schema
+pub record Leaves (l : Layout) (old new : Database) (tree : ℕ) (rows : List Row) : Type 0 where
+  pub schema : new.schema ≡ room_schema l
+  pub sound : IsDatabase new
   pub rows_are : new.trees tree ≡ rows
-  pub others : Others tree old.trees new.trees
+  pub others : Others l tree old.trees new.trees
 
 -- the rows of a table that a DELETE leaves
 abbrev pub without : (Row → Bool) → List Row → List Row
 without p = filter (λ r. not (p r))
 
 -- a DELETE by a test, where no foreign key acts
-pub cleared : (old new : State) (at : ℕ) (table : Table) (sql : List ℕ)
+pub cleared : (l : Layout) (old new : State) (at : ℕ) (table : Table) (sql : List ℕ)
     (params : Row) (terms : List Term) (count : ℕ) (p : Row → Bool)
-    → slice_get room_schema.tables at ≡ Some table → old.now.schema ≡ room_schema → IsKeyed (old.now.trees table.tree)
-    → command_of (understood room_schema sql)
+    → slice_get (room_schema l).tables at ≡ Some table → old.now.schema ≡ room_schema l
+    → IsKeyed (old.now.trees table.tree)
+    → command_of (understood (room_schema l) sql)
     ≡ Delete at (record { lets = []; body = over_table table.tree terms (col 1 0 ∷ []) [] })
-    → IsPlain (understood room_schema sql)
+    → IsPlain (understood (room_schema l) sql)
     → overlay old.now.trees [] table.tree ≡ old.now.trees table.tree
-    → ((olds : List Row) → works room_schema Enforced 0 table.tree olds [] ≡ [])
+    → ((olds : List Row) → works (room_schema l) Enforced 0 table.tree olds [] ≡ [])
     → ((r : Row) → list_all (holds (params ∷ r ∷ [])) terms ≡ p r) → Executes sql params old new (Ok count)
-    → Leaves old.now new.now table.tree (without p (old.now.trees table.tree))
-cleared old new at table sql params terms count p place schema keyed is plain here quiet test h =
+    → Leaves l old.now new.now table.tree (without p (old.now.trees table.tree))
+cleared l old new at table sql params terms count p place schema keyed is plain here quiet test h =
     let db = old.now.trees in
     let q = over_table table.tree terms (col 1 0 ∷ []) [] in
     let command = Delete at (record { lets = []; body = q }) in
-    let w = deletes old new at table _ _ params count place schema
-    (runs_as sql params old new room_schema schema command is plain count h) in
+    let w = deletes l old new at table _ _ params count place schema
+    (runs_as sql params old new (room_schema l) schema command is plain count h) in
     let given = went w.written in
     let edited_to = went given.2 in
     let trees : w.rows.trees ≡ edited_to.0 = ap (λ (it : Written). it.trees) (same_value edited_to.2) in
-    let one = one_step room_schema Enforced db edited_to.0
+    let one = one_step (room_schema l) Enforced db edited_to.0
     (edit_of db table (ids_of given.0) Given 0 []) (quiet _) edited_to.1 in
     let k = subst (λ all. Picks q params (passing terms params all) given.0) here
     (answer_is table.tree terms (col 1 0 ∷ []) [] (overlay db []) params given.0 (given.1.answer Null)) in
     let same = found q params (db table.tree) given.0 p (λ r. rowid r ∷ []) test (λ r. refl) k in
     record {
       schema = ap (λ (d : Database). d.schema) w.now;
+      sound = w.sound;
       rows_are = ap (λ (d : Database). d.trees table.tree) w.now ∙ ap (λ (t : Trees). t table.tree) trees
           ∙ one.rows ∙ removed p (db table.tree) given.0 keyed same;
-      others = subst (λ t. Others table.tree db t) (sym (ap (λ (d : Database). d.trees) w.now ∙ trees))
-          (others_of table.tree db edited_to.0 one.tables);
+      others = subst (λ t. Others l table.tree db t) (sym (ap (λ (d : Database). d.trees) w.now ∙ trees))
+          (others_of l table.tree db edited_to.0 one.tables);
     }
 
 -- a table without AUTOINCREMENT counts nothing
@@ -194,62 +253,117 @@ all_chosen rows (tail ∷ tails) fresh =
       all_chosen (put_row (Int id ∷ tail) rows) tails (second_of_both _ _ fresh),
     )
 
--- one table has these rows more
-pub record Added (old new : Database) (tree : ℕ) (tails : List Row) : Type 0 where
-  pub schema : new.schema ≡ room_schema
-  pub rows : HasAll (old.trees tree) (new.trees tree) tails
-  pub others : Others tree old.trees new.trees
+-- the rows of a source as they go into a table: cast, and at rowids that were chosen where none was given
+abbrev pub new_rows : Trees → Table → List Row → List Row
+new_rows db table given = numbered Chosen (db table.tree) (map (λ row. cast_row table (drop 0 row)) given)
 
--- an INSERT of some rows whose rowids are chosen
-pub inserted_all : (old new : State) (at : ℕ) (table : Table) (sql : List ℕ)
-    (params : Row) (tails : List Row) (terms : List Term) (width count : ℕ)
-    → slice_get room_schema.tables at ≡ Some table → old.now.schema ≡ room_schema → table.is_counted ≡ false
-    → command_of (understood room_schema sql) ≡ Insert at (Values terms width) → IsPlain (understood room_schema sql)
-    → ((news : List Row) → works room_schema Enforced 0 table.tree [] news ≡ [])
-    → map (λ row. cast_row table (drop 0 row))
-    (value_rows (stamped table params) width (length terms / width) terms) ≡ unnumbered tails
-    → Executes sql params old new (Ok count)
-    → Added old.now new.now table.tree tails
-inserted_all old new at table sql params tails terms width count place schema uncounted is plain quiet cast_are h =
+-- rows of a source went into a table
+pub record Inserted (l : Layout) (old new : State) (table : Table) (params : Row) (from : Source) : Type 0 where
+  pub schema : new.now.schema ≡ room_schema l
+  pub sound : IsDatabase new.now
+  pub given : List Row
+  pub source : IsSource (record { schema = room_schema l; trees = old.now.trees }) (stamped table params) from given
+  pub fresh : are_fresh (old.now.trees table.tree) (new_rows old.now.trees table given) ≡ true
+  pub rows_are : new.now.trees table.tree ≡ put_all (old.now.trees table.tree) (new_rows old.now.trees table given)
+  pub tables : AllByRecursion (λ (t : Table). t.tree ≢ table.tree → new.now.trees t.tree ≡ old.now.trees t.tree)
+      (room_schema l).tables
+  -- how many they are, and the rowid of the last, as the connection tells it
+  pub changes : new.changes ≡ length (new_rows old.now.trees table given)
+  pub last : new.last_rowid ≡ unwrap_or (last_id (new_rows old.now.trees table given)) old.last_rowid
+
+-- an INSERT from any source, where no foreign key acts
+pub inserted : (l : Layout) (old new : State) (at : ℕ) (table : Table) (sql : List ℕ) (params : Row) (from : Source)
+    (count : ℕ) → slice_get (room_schema l).tables at ≡ Some table → old.now.schema ≡ room_schema l
+    → table.is_counted ≡ false → command_of (understood (room_schema l) sql) ≡ Insert at from
+    → IsPlain (understood (room_schema l) sql)
+    → ((news : List Row) → works (room_schema l) Enforced 0 table.tree [] news ≡ [])
+    → Executes sql params old new (Ok count) → Inserted l old new table params from
+inserted l old new at table sql params from count place schema uncounted is plain quiet h =
     let db = old.now.trees in
-    let w = inserts old new at table (Values terms width) _ params count place
-    schema (runs_as sql params old new room_schema schema _ is plain count h) in
+    let both = inserts l old new at table from _ params count place
+    schema (runs_as sql params old new (room_schema l) schema _ is plain count h) in
+    let w = both.0 in
     let given = went w.written in
     let counter = went given.2 in
     let by_choice = λ (top : ℤ). ap (λ b. cond b (Above top) Chosen) uncounted in
     let mid = went counter.2 in
     let counted = went mid.2 in
     let edit = edit_of db table [] Chosen 0 given.0 in
-    let trees : w.rows.trees ≡ mid.0 = ap (λ (it : Written). it.trees) (same_value counted.2)
-    ∙ not_counted (task_on old table params) mid.0 counted.0 counter.0 _ uncounted counted.1 in
-    let rows : map (λ row. cast_row table (drop 0 row)) given.0 ≡ unnumbered tails =
-    ap (map (λ row. cast_row table (drop 0 row))) given.1.1 ∙ cast_are in
-    let news : edit.news ≡ numbered Chosen (db table.tree) (unnumbered tails) =
-    ap (numbered Chosen (db table.tree)) rows in
-    let one = one_step room_schema Enforced db mid.0 edit (quiet edit.news) (subst (λ c. Edited room_schema
+    let chosen = edit_of db table [] (rowids_for table (count_of counter.0)) 0 given.0 in
+    let written = same_value counted.2 in
+    let news : chosen.news ≡ edit.news =
+    ap (λ c. (edit_of db table [] c 0 given.0).news) (by_choice (count_of counter.0)) in
+    let rows : w.rows.rows ≡ edit.news = ap (λ (it : Written). it.rows) written ∙ news in
+    let trees : w.rows.trees ≡ mid.0 = ap (λ (it : Written). it.trees) written
+    ∙ not_counted (task_on l old table params) mid.0 counted.0 counter.0 _ uncounted counted.1 in
+    let one = one_step (room_schema l) Enforced db mid.0 edit (quiet edit.news) (subst (λ c. Edited (room_schema l)
     Enforced db (edit_of db table [] c 0 given.0) (Ok mid.0)) (by_choice (count_of counter.0)) mid.1) in
     let to = ap (λ (d : Database). d.trees) w.now ∙ trees in
-    let is : new.now.trees table.tree ≡ put_all (db table.tree) (numbered Chosen (db table.tree) (unnumbered tails)) =
-    ap (λ (t : Trees). t table.tree) to ∙ one.rows ∙ ap (put_all (db table.tree)) news in
     record {
       schema = ap (λ (d : Database). d.schema) w.now;
-      rows = subst (λ l. HasAll (db table.tree) l tails) (sym is)
-          (all_chosen (db table.tree) tails (subst (λ n. are_fresh (db table.tree) n ≡ true) news one.fresh));
-      others = subst (λ t. Others table.tree db t) (sym to) (others_of table.tree db mid.0 one.tables);
+      sound = w.sound;
+      given = given.0;
+      source = given.1;
+      fresh = one.fresh;
+      rows_are = ap (λ (t : Trees). t table.tree) to ∙ one.rows;
+      tables = subst (λ (n : Trees). AllByRecursion (λ (t : Table). t.tree ≢ table.tree → n t.tree ≡ db t.tree)
+          (room_schema l).tables) (sym to) one.tables;
+      changes = both.1.changes ∙ ap length rows;
+      last = both.1.last ∙ ap (λ i. unwrap_or i old.last_rowid)
+          (ap (λ (it : Written). it.last) written ∙ ap last_id news);
     }
 
-pub upserts : (old new : State) (at : ℕ) (table : Table) (from : Source) (clauses : List Upsert) (text : List ℕ)
-    (params : Row) (count : ℕ) → slice_get room_schema.tables at ≡ Some table → old.now.schema ≡ room_schema
+-- one table has these rows more
+pub record Added (l : Layout) (old new : Database) (tree : ℕ) (tails : List Row) : Type 0 where
+  pub schema : new.schema ≡ room_schema l
+  pub sound : IsDatabase new
+  pub rows : HasAll (old.trees tree) (new.trees tree) tails
+  pub others : Others l tree old.trees new.trees
+
+-- where rows went in that were cast to these
+pub all_added : (rows new tails casts : List Row) → casts ≡ unnumbered tails
+    → are_fresh rows (numbered Chosen rows casts) ≡ true → new ≡ put_all rows (numbered Chosen rows casts)
+    → HasAll rows new tails
+all_added rows new tails casts are fresh is =
+    subst (λ l. HasAll rows l tails) (sym (is ∙ ap (λ c. put_all rows (numbered Chosen rows c)) are))
+    (all_chosen rows tails (subst (λ c. are_fresh rows (numbered Chosen rows c) ≡ true) are fresh))
+
+-- an INSERT of some rows whose rowids are chosen
+pub inserted_all : (l : Layout) (old new : State) (at : ℕ) (table : Table) (sql : List ℕ)
+    (params : Row) (tails : List Row) (terms : List Term) (width count : ℕ)
+    → slice_get (room_schema l).tables at ≡ Some table → old.now.schema ≡ room_schema l → table.is_counted ≡ false
+    → command_of (understood (room_schema l) sql) ≡ Insert at (Values terms width)
+    → IsPlain (understood (room_schema l) sql)
+    → ((news : List Row) → works (room_schema l) Enforced 0 table.tree [] news ≡ [])
+    → map (λ row. cast_row table (drop 0 row))
+    (value_rows (stamped table params) width (length terms / width) terms) ≡ unnumbered tails
+    → Executes sql params old new (Ok count)
+    → Added l old.now new.now table.tree tails
+inserted_all l old new at table sql params tails terms width count place schema uncounted is plain quiet cast_are h =
+    let it = inserted l old new at table sql params (Values terms width)
+    count place schema uncounted is plain quiet h in
+    record {
+      schema = it.schema;
+      sound = it.sound;
+      rows = all_added (old.now.trees table.tree) (new.now.trees table.tree) tails _
+          (ap (map (λ row. cast_row table (drop 0 row))) it.source.1 ∙ cast_are) it.fresh it.rows_are;
+      others = others_of l table.tree old.now.trees new.now.trees it.tables;
+    }
+
+pub upserts : (l : Layout) (old new : State) (at : ℕ) (table : Table) (from : Source) (clauses : List Upsert)
+    (text : List ℕ)
+    (params : Row) (count : ℕ) → slice_get (room_schema l).tables at ≡ Some table → old.now.schema ≡ room_schema l
     → Runs old new None (InsertOr at Abort from clauses) text params count
-    → Wrote old new table params (InsertOr at Abort from clauses)
-upserts old new at table from clauses text params count place schema w =
+    → Wrote l old new table params (InsertOr at Abort from clauses)
+upserts l old new at table from clauses text params count place schema w =
     let all = subst (λ s. Does old.step_limit (mode_of old) params (record old.now { schema = s })
     text None (InsertOr at Abort from clauses) (Ok (w.tally, new.now))) schema w.changed in
     let done = went (rw place at all) in
     record {
       rows = done.0;
       written = done.1;
-      now = concludes (task_on old table params) (mode_of old) done.0 w.tally new.now done.2;
+      now = concludes (task_on l old table params) (mode_of old) done.0 w.tally new.now done.2;
+      sound = w.sound;
     }
 
 -- ---- what an execute inside a transaction leaves

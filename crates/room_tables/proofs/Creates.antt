@@ -17,32 +17,36 @@ use Rattle.sqlite.specs.Command.TheVariants.{CreateTable}
 use Rattle.sqlite.specs.Compile.{table_defined_by}
 use Rattle.sqlite.specs.Change.{created, next_tree, is_used, KeepsRows}
 use Rattle.sqlite.specs.Does.{Tally, Does, lacks_sequence}
-use Rattle.sqlite.specs.Effect.{Database}
+use Rattle.sqlite.specs.Effect.{Database, IsDatabase}
 use Rattle.sqlite.specs.State.{State, mode_of, Writes, ExecutesInside}
 use Rattle.sqlite.proofs.Callers.{runs_as}
-use Rattle.room_tables.specs.Tables.{room_text, node_text, entry_text, doc_text, session_text, slot_text, room_table}
-use Rattle.room_tables.specs.Tables.{node_table, entry_table, doc_table, session_table, slot_table, schema_0, schema_1}
-use Rattle.room_tables.specs.Tables.{schema_2, schema_3, schema_4, schema_5, room_schema}
+use Rattle.room_tables.specs.Tables.{room_text, node_text, entry_text, doc_text, session_text, kept_text, room_table}
+use Rattle.room_tables.specs.Tables.{node_table, entry_table, doc_table, session_table, kept_table, schema_0, schema_1}
+use Rattle.room_tables.specs.Tables.{schema_2, schema_3, schema_4, schema_5, Fresh, room_schema}
 use Rattle.room_tables.specs.Layout.{IsKeyed, IsNumbered, IsRoomDatabase}
-use Rattle.room_tables.specs.Fresh.{IsMade, IsFresh, filled}
+use Rattle.room_tables.specs.Fresh.{IsMade, IsFresh, IsFilled, filled}
+use Rattle.room_tables.specs.Steps.{Steps}
 use Rattle.room_records.specs.declared.node.Node.{Node}
 use Rattle.room_records.specs.Records.{Records}
 use Rattle.room_tables.specs.Rows.{nodes_in, entries_in, documents_in, next_in, sessions_in, slots_in, records_of}
+use Rattle.room_tables.specs.Rows.{version_rows, IsVersion}
 use Rattle.room_tables.proofs.Each.{by_name, from_both}
+use Rattle.room_tables.proofs.Listed.{slots_listed}
 use Rattle.room_tables.proofs.Making.{room_is, room_plain, room_made, node_is, node_plain, node_made, entry_is}
 use Rattle.room_tables.proofs.Making.{entry_plain, entry_made, doc_is, doc_plain, doc_made, session_is, session_plain}
-use Rattle.room_tables.proofs.Making.{session_made, slot_is, slot_plain, slot_made}
+use Rattle.room_tables.proofs.Making.{session_made, kept_is, kept_plain, kept_made}
 use Rattle.room_tables.proofs.Effects.{same_records}
 use Rattle.room_tables.proofs.Changes.{went, same_value, executes_inside}
 
-record Made (old new : State) (schema : Schema) (table : Table) : Type 0 where
+pub record Made (old new : State) (schema : Schema) (table : Table) : Type 0 where
   -- no table, index or view had the name
-  free : is_used schema table.name ≡ false
-  after : new.now.schema ≡ created schema table
-  empty : new.now.trees (next_tree schema) ≡ []
-  others : KeepsRows schema.tables old.now.trees new.now.trees
+  pub free : is_used schema table.name ≡ false
+  pub after : new.now.schema ≡ created schema table
+  pub sound : IsDatabase new.now
+  pub empty : new.now.trees (next_tree schema) ≡ []
+  pub others : KeepsRows schema.tables old.now.trees new.now.trees
 
-makes : (old new : State) (schema : Schema) (table : Table) (sql text : List ℕ) (count : ℕ)
+pub makes : (old new : State) (schema : Schema) (table : Table) (sql text : List ℕ) (count : ℕ)
     → old.now.schema ≡ schema → table_defined_by text ≡ Ok table → lacks_sequence (created schema table) ≡ false
     → Writes old new None CreateTable text [] count → Made old new schema table
 makes old new schema table sql text count has defined plain w =
@@ -60,6 +64,7 @@ makes old new schema table sql text count has defined plain w =
     record {
       free = ap (λ (t : Table). is_used schema t.name) (sym same) ∙ made.free;
       after = ap (λ (d : Database). d.schema) now ∙ is;
+      sound = w.sound;
       empty = ap (λ (d : Database). d.trees (next_tree schema)) now ∙ made.empty;
       others = subst (λ (d : Database). KeepsRows schema.tables old.now.trees d.trees) (sym now) made.others;
     }
@@ -72,13 +77,13 @@ all_empty [] more old new same were is = (is, tt)
 all_empty (t ∷ tables) more old new same were is = (same.0 ∙ were.0, all_empty tables more old new same.1 were.1 is)
 
 pub room_step : (old new : State) (count : ℕ) → ExecutesInside 0 room_text [] old new (Ok count)
-    → IsMade schema_0 old.now → IsMade schema_1 new.now
+    → old.now.schema ≡ schema_0 → IsMade schema_1 new.now
 room_step old new count h was =
-    let w = runs_as room_text [] old new schema_0 was.schema CreateTable room_is.0
+    let w = runs_as room_text [] old new schema_0 was CreateTable room_is.0
     room_plain count (executes_inside room_text [] old new count h).0 in
     let it = makes old new schema_0 (record room_table { tree = 0 })
-    room_text _ count was.schema room_is.2 refl (rw room_is.1 at w) in
-    record { schema = it.after ∙ room_made; empty = (it.empty, tt) }
+    room_text _ count was room_is.2 refl (rw room_is.1 at w) in
+    record { schema = it.after ∙ room_made; empty = (it.empty, tt); sound = it.sound }
 
 pub node_step : (old new : State) (count : ℕ) → ExecutesInside 0 node_text [] old new (Ok count)
     → IsMade schema_1 old.now → IsMade schema_2 new.now
@@ -90,6 +95,7 @@ node_step old new count h was =
     record {
       schema = it.after ∙ node_made;
       empty = all_empty schema_1.tables node_table old.now.trees new.now.trees it.others was.empty it.empty;
+      sound = it.sound;
     }
 
 pub entry_step : (old new : State) (count : ℕ) → ExecutesInside 0 entry_text [] old new (Ok count)
@@ -102,6 +108,7 @@ entry_step old new count h was =
     record {
       schema = it.after ∙ entry_made;
       empty = all_empty schema_2.tables entry_table old.now.trees new.now.trees it.others was.empty it.empty;
+      sound = it.sound;
     }
 
 pub doc_step : (old new : State) (count : ℕ) → ExecutesInside 0 doc_text [] old new (Ok count)
@@ -114,6 +121,7 @@ doc_step old new count h was =
     record {
       schema = it.after ∙ doc_made;
       empty = all_empty schema_3.tables doc_table old.now.trees new.now.trees it.others was.empty it.empty;
+      sound = it.sound;
     }
 
 pub session_step : (old new : State) (count : ℕ) → ExecutesInside 0 session_text [] old new (Ok count)
@@ -126,28 +134,34 @@ session_step old new count h was =
     record {
       schema = it.after ∙ session_made;
       empty = all_empty schema_4.tables session_table old.now.trees new.now.trees it.others was.empty it.empty;
+      sound = it.sound;
     }
 
-pub slot_step : (old new : State) (count : ℕ) → ExecutesInside 0 slot_text [] old new (Ok count)
-    → IsMade schema_5 old.now → IsMade room_schema new.now
-slot_step old new count h was =
-    let w = runs_as slot_text [] old new schema_5 was.schema CreateTable slot_is.0
-    slot_plain count (executes_inside slot_text [] old new count h).0 in
-    let it = makes old new schema_5 (record slot_table { tree = 0 })
-    slot_text _ count was.schema slot_is.2 refl (rw slot_is.1 at w) in
+pub kept_step : (old new : State) (count : ℕ) → ExecutesInside 0 kept_text [] old new (Ok count)
+    → IsMade schema_5 old.now → IsMade (room_schema Fresh) new.now
+kept_step old new count h was =
+    let w = runs_as kept_text [] old new schema_5 was.schema CreateTable kept_is.0
+    kept_plain count (executes_inside kept_text [] old new count h).0 in
+    let it = makes old new schema_5 (kept_table 0)
+    kept_text _ count was.schema kept_is.2 refl (rw kept_is.1 at w) in
     record {
-      schema = it.after ∙ slot_made;
-      empty = all_empty schema_5.tables slot_table old.now.trees new.now.trees it.others was.empty it.empty;
+      schema = it.after ∙ kept_made;
+      empty = all_empty schema_5.tables (kept_table 8) old.now.trees new.now.trees it.others was.empty it.empty;
+      sound = it.sound;
     }
 
 -- tables that were just made
-pub made_room : (db : Database) → IsMade room_schema db → IsRoomDatabase db × (records_of db.trees ≡ no_records 0)
+pub made_room : (db : Database) → IsMade (room_schema Fresh) db
+    → IsRoomDatabase db × (records_of db.trees ≡ no_records 0)
 made_room db it =
-    let e = by_name (λ (t : Table). db.trees t.tree ≡ []) it.empty in
+    let e = by_name Fresh (λ (t : Table). db.trees t.tree ≡ []) it.empty in
+    let listed = slots_listed db Fresh it.sound it.schema in
     let none : IsKeyed [] = record { table = tt; ints = tt } in (
       record {
+        layout = Fresh;
         schema = it.schema;
-        keyed = from_both _ _ _ (λ t is _. subst IsKeyed (sym is) none) e e;
+        listed = listed;
+        keyed = from_both Fresh _ _ _ (λ t is _. subst IsKeyed (sym is) none) e e;
         numbered = subst (AllByRecursion IsNumbered) (sym e.node) tt;
       },
       same_records _ _
@@ -156,8 +170,21 @@ made_room db it =
           (λ q. ap (λ rows. documents_in rows q) e.doc)
           (ap next_in e.room)
           (λ q. ap (λ rows. sessions_in rows q) e.session)
-          (λ q n. ap (λ rows. slots_in rows q n) e.slot),
+          (λ q n. ap (λ rows. slots_in rows q n) (listed ∙ e.slots)),
     )
+
+-- and then filled
+pub filled_six : (a b : State) (root : Node) (entries : Vec EntryModel Global) (change : Records → Records)
+    → IsMade (room_schema Fresh) a.now → Steps a b change → change (no_records 0) ≡ filled root entries
+    → IsVersion 2 (version_rows b.now.trees) → IsDatabase b.now → IsFilled root entries b.now
+filled_six a b root entries change made steps is version sound = (
+  record {
+    room = record { room = steps.room; version = version };
+    schema = steps.schema ∙ made.schema;
+    sound = sound;
+  },
+  steps.records ∙ ap change (made_room a.now made).1 ∙ is,
+)
 
 -- what a fresh room's rows stand for
 pub fresh_is : (owner group : List ℕ) (entries : Vec EntryModel Global) → entries.items ≡ fresh_entries

@@ -32,7 +32,7 @@ use Rattle.sqlite_keyed.proofs.RuleLemmas.{first_of_both}
 use Rattle.sqlite_keyed.proofs.ListLemmas.{filter_all, all_weaker, all-filter}
 use Rattle.sqlite.specs.Rowids.TheVariants.{Given}
 use Rattle.sqlite.specs.Table.{Table}
-use Rattle.sqlite.specs.Effect.{Database}
+use Rattle.sqlite.specs.Effect.{Database, IsDatabase}
 use Rattle.sqlite.specs.Command.TheVariants as command
 use Rattle.sqlite.specs.Rows.{Written}
 use Rattle.sqlite.specs.State.{State, Executes, ExecutesInside}
@@ -40,13 +40,15 @@ use Rattle.sqlite.proofs.Callers.{runs_as, one_step, one_permutation}
 use Rattle.sqlite_tied.specs.Compute.{everything}
 use Rattle.room_records.specs.declared.change.Change.TheVariants.{DropNode}
 use Rattle.room_records.specs.Changes.{apply_change}
-use Rattle.room_tables.specs.Tables.{room_schema, node_table, entry_table, doc_table, refers}
+use Rattle.room_tables.specs.Tables.{Layout, Fresh, Upgraded, room_schema, slots_tree, node_table, entry_table}
+use Rattle.room_tables.specs.Tables.{doc_table, refers}
 use Rattle.room_tables.specs.Texts.{drop_node_text, drop_node_query}
 use Rattle.room_tables.specs.Rows.{has, only, shown_node, node_of, entry_of, in_order, shown_doc, doc_of}
 use Rattle.room_tables.specs.Rows.{next_in, sessions_in, slots_in}
 use Rattle.room_tables.specs.Layout.{IsKeyed, IsNumbered, IsRoomDatabase}
 use Rattle.room_tables.specs.Steps.{Steps}
-use Rattle.room_tables.proofs.Each.{of_any, rows_pass}
+use Rattle.room_tables.proofs.Each.{of_any, rows_pass, above}
+use Rattle.room_tables.proofs.Listed.{slots_listed}
 use Rattle.room_tables.proofs.Meaning.{drop_node_is, drop_node_plain}
 use Rattle.room_tables.proofs.Queries.{answer_is, found, and_true}
 use Rattle.room_tables.proofs.Values.{has_is, has_int, has_value, has_tied, has_not_null, equal_tied}
@@ -84,18 +86,21 @@ loses_key : (there : Row) (id : ℕ) → rowid there ≡ Int (pos id) → loses 
 unfolding first_key binary
 loses_key there id is = rw is (rw (ap is_eq (tied_itself value_cmp_total (Int (pos id)))) refl)
 
-set_off : (there : Row) (id : ℕ) → rowid there ≡ Int (pos id)
-    → works room_schema Enforced 0 1 (there ∷ []) [] ≡ entry_work there ∷ doc_work there ∷ []
+set_off : (l : Layout) (there : Row) (id : ℕ) → rowid there ≡ Int (pos id)
+    → works (room_schema l) Enforced 0 1 (there ∷ []) [] ≡ entry_work there ∷ doc_work there ∷ []
 unfolding everything
-set_off there id is = rw (loses_key there id is) refl
+set_off Fresh there id is = rw (loses_key there id is) refl
+set_off Upgraded there id is = rw (loses_key there id is) refl
 
-entries_last : (olds : List Row) → works room_schema Enforced 1 3 olds [] ≡ []
+entries_last : (l : Layout) (olds : List Row) → works (room_schema l) Enforced 1 3 olds [] ≡ []
 unfolding everything
-entries_last olds = refl
+entries_last Fresh olds = refl
+entries_last Upgraded olds = refl
 
-docs_last : (olds : List Row) → works room_schema Enforced 1 5 olds [] ≡ []
+docs_last : (l : Layout) (olds : List Row) → works (room_schema l) Enforced 1 5 olds [] ≡ []
 unfolding everything
-docs_last olds = refl
+docs_last Fresh olds = refl
+docs_last Upgraded olds = refl
 
 tidy : (b : Bool) → ((b && true) || false) ≡ b
 tidy true = refl
@@ -112,9 +117,9 @@ doc_is_child : (there r : Row) (id : ℕ) → rowid there ≡ Int (pos id)
 unfolding first_key
 doc_is_child there r id is = rw (loses_key there id is, is) (tidy (has 0 id r))
 
-settled : (n : ℕ) (db next : Trees) → Leads room_schema Enforced n db [] (Ok next) → next ≡ db
-settled zero db next h = let e = h.1 in cc
-settled (suc n) db next h = absurd (omega (arith, ap length h.2, length-append h.0 (h.1 ∷ [])))
+settled : (l : Layout) (n : ℕ) (db next : Trees) → Leads (room_schema l) Enforced n db [] (Ok next) → next ≡ db
+settled l zero db next h = let e = h.1 in cc
+settled l (suc n) db next h = absurd (omega (arith, ap length h.2, length-append h.0 (h.1 ∷ [])))
 
 last_of : {X : Type 0} (front below : List X) (w v : X) → front ++ v ∷ [] ≡ below ++ w ∷ [] → (below ≡ front) × (w ≡ v)
 last_of [] [] w v e = (refl, let f : w ≡ v = cc in f)
@@ -127,25 +132,26 @@ last_of (a ∷ front) (b ∷ below) w v e =
     (let p = more.0 in cc, more.1)
 
 -- the trees after one action, and the actions that are left
-record Acted (n : ℕ) (db next : Trees) (w : Work) (below : List Work) : Type 0 where
+record Acted (l : Layout) (n : ℕ) (db next : Trees) (w : Work) (below : List Work) : Type 0 where
   mid : Trees
   ids : List ℤ
   children : AreChildren db w ids
   rows : mid w.child.tree ≡ without_all (db w.child.tree) ids
-  others : Others w.child.tree db mid
-  rest : Leads room_schema Enforced n mid below (Ok next)
+  others : Others l w.child.tree db mid
+  rest : Leads (room_schema l) Enforced n mid below (Ok next)
 
-acts : (n : ℕ) (db next : Trees) (table : Table) (ref : Reference) (there : Row) (below : List Work)
-    → ((olds : List Row) → works room_schema Enforced 1 table.tree olds [] ≡ [])
-    → Acts room_schema Enforced (Leads room_schema Enforced n) db (work_on table ref there) below (Ok next)
-    → Acted n db next (work_on table ref there) below
-acts n db next table ref there below quiet h = go h.0 h.1 h.2
+acts : (l : Layout) (n : ℕ) (db next : Trees) (table : Table) (ref : Reference) (there : Row) (below : List Work)
+    → ((olds : List Row) → works (room_schema l) Enforced 1 table.tree olds [] ≡ [])
+    → Acts (room_schema l) Enforced (Leads (room_schema l) Enforced n) db (work_on table ref there) below (Ok next)
+    → Acted l n db next (work_on table ref there) below
+acts l n db next table ref there below quiet h = go h.0 h.1 h.2
   where
     go : (ids : List ℤ) → AreChildren db (work_on table ref there) ids
-        → ActsOn room_schema Enforced (Leads room_schema Enforced n) db (work_on table ref there) below (Ok next) ids
-        → Acted n db next (work_on table ref there) below
+        → ActsOn (room_schema l) Enforced (Leads (room_schema l) Enforced n) db (work_on table ref there) below
+        (Ok next) ids
+        → Acted l n db next (work_on table ref there) below
     go [] children h =
-        record { mid = db; ids = []; children = children; rows = refl; others = of_any _ (λ t _. refl); rest = h }
+        record { mid = db; ids = []; children = children; rows = refl; others = of_any l _ (λ t _. refl); rest = h }
     go (i ∷ ids) children (inl refused) = absurd (let e = refused.2 in cc)
     go (i ∷ ids) children (inr (inl big)) = absurd (let e = big.3 in cc)
     go (i ∷ ids) children (inr (inr step)) =
@@ -155,43 +161,44 @@ acts n db next table ref there below quiet h = go h.0 h.1 h.2
           ids = i ∷ ids;
           children = children;
           rows = step.1.rows;
-          others = others_of table.tree db step.0 step.1.tables;
-          rest = subst (λ s. Leads room_schema Enforced n step.0 s (Ok next))
-              (ap (λ l. below ++ l) none ∙ append-nil below) step.2;
+          others = others_of l table.tree db step.0 step.1.tables;
+          rest = subst (λ s. Leads (room_schema l) Enforced n step.0 s (Ok next))
+              (ap (λ works. below ++ works) none ∙ append-nil below) step.2;
         }
 
-led : (n : ℕ) (db next : Trees) (table : Table) (ref : Reference) (there : Row) (front : List Work)
-    → ((olds : List Row) → works room_schema Enforced 1 table.tree olds [] ≡ [])
-    → Leads room_schema Enforced n db (front ++ work_on table ref there ∷ []) (Ok next)
-    → (m : ℕ) × Acted m db next (work_on table ref there) front
-led zero db next table ref there front quiet h =
+led : (l : Layout) (n : ℕ) (db next : Trees) (table : Table) (ref : Reference) (there : Row) (front : List Work)
+    → ((olds : List Row) → works (room_schema l) Enforced 1 table.tree olds [] ≡ [])
+    → Leads (room_schema l) Enforced n db (front ++ work_on table ref there ∷ []) (Ok next)
+    → (m : ℕ) × Acted l m db next (work_on table ref there) front
+led l zero db next table ref there front quiet h =
     absurd (omega (arith, ap length h.0, length-append front (work_on table ref there ∷ [])))
-led (suc n) db next table ref there front quiet h =
+led l (suc n) db next table ref there front quiet h =
     let one = last_of front h.0 h.1 (work_on table ref there) h.2 in (
       n,
-      acts n db next table ref there front quiet
-          (subst₂ (λ b w. Acts room_schema Enforced (Leads room_schema Enforced n) db w b (Ok next)) one.0 one.1 h.3),
+      acts l n db next table ref there front quiet
+          (subst₂ (λ b w. Acts (room_schema l) Enforced (Leads (room_schema l) Enforced n) db w b (Ok next))
+          one.0 one.1 h.3),
     )
 
 -- the trees after the two actions
-record Cascaded (db next : Trees) (id : ℕ) : Type 0 where
+record Cascaded (l : Layout) (db next : Trees) (id : ℕ) : Type 0 where
   entries : next 3 ≡ without (has 1 id) (db 3)
   docs : next 5 ≡ without (has 0 id) (db 5)
   nodes : next 1 ≡ db 1
   room : next 0 ≡ db 0
   sessions : next 6 ≡ db 6
-  slots : next 8 ≡ db 8
+  slots : next (slots_tree l) ≡ db (slots_tree l)
 
-cascaded : (n : ℕ) (db next : Trees) (there : Row) (id : ℕ)
+cascaded : (l : Layout) (n : ℕ) (db next : Trees) (there : Row) (id : ℕ)
     → rowid there ≡ Int (pos id) → IsKeyed (db 3) → IsKeyed (db 5)
-    → Leads room_schema Enforced n db (entry_work there ∷ doc_work there ∷ []) (Ok next) → Cascaded db next id
-cascaded n db next there id is entries docs h =
-    let first = (led n db next doc_table doc_ref there (entry_work there ∷ []) docs_last h).1 in
+    → Leads (room_schema l) Enforced n db (entry_work there ∷ doc_work there ∷ []) (Ok next) → Cascaded l db next id
+cascaded l n db next there id is entries docs h =
+    let first = (led l n db next doc_table doc_ref there (entry_work there ∷ []) (docs_last l) h).1 in
     let o = first.others in
     let same_entries : first.mid 3 ≡ db 3 = o.entry (omega arith) in
-    let second = (led _ first.mid next entry_table entry_ref there [] entries_last first.rest).1 in
+    let second = (led l _ first.mid next entry_table entry_ref there [] (entries_last l) first.rest).1 in
     let p = second.others in
-    let end = settled _ second.mid next second.rest in
+    let end = settled l _ second.mid next second.rest in
     let doc_test = λ (r : Row). doc_is_child there r id is in
     let entry_test = λ (r : Row). entry_is_child there r id is in
     record {
@@ -207,61 +214,65 @@ cascaded n db next there id is entries docs h =
       nodes = ap (λ (t : Trees). t 1) end ∙ p.node (omega arith) ∙ o.node (omega arith);
       room = ap (λ (t : Trees). t 0) end ∙ p.room (omega arith) ∙ o.room (omega arith);
       sessions = ap (λ (t : Trees). t 6) end ∙ p.session (omega arith) ∙ o.session (omega arith);
-      slots = ap (λ (t : Trees). t 8) end ∙ p.slot (omega arith) ∙ o.slot (omega arith);
+      slots = ap (λ (t : Trees). t (slots_tree l)) end ∙ p.slots (omega (arith, above l))
+          ∙ o.slots (omega (arith, above l));
     }
 
 -- the database without the node, its entries and its document
-record Dropped (db next : Trees) (id : ℕ) : Type 0 where
+record Dropped (l : Layout) (db next : Trees) (id : ℕ) : Type 0 where
   nodes : next 1 ≡ without (has 0 id) (db 1)
   entries : next 3 ≡ without (has 1 id) (db 3)
   docs : next 5 ≡ without (has 0 id) (db 5)
   room : next 0 ≡ db 0
   sessions : next 6 ≡ db 6
-  slots : next 8 ≡ db 8
+  slots : next (slots_tree l) ≡ db (slots_tree l)
 
 without_number : (id : ℕ) (rows : List Row) → without_rowid (pos id) rows ≡ without (has 0 id) rows
 without_number id rows = Rattle.sqlite_keyed.proofs.ListLemmas.filter_same _ _ (λ r. ap not (sym (has_is 0 id r))) rows
 
 -- a node with the number is there, and goes with what belongs to it
-drops_there : (db next : Trees) (id : ℕ) (there : Row) (rows : List Row) → IsKeyed (db 1) → IsKeyed (db 3)
+drops_there : (l : Layout) (db next : Trees) (id : ℕ) (there : Row) (rows : List Row) → IsKeyed (db 1) → IsKeyed (db 3)
     → IsKeyed (db 5) → filter (has 0 id) (db 1) ≡ there ∷ [] → rows ≡ (Int (pos id) ∷ []) ∷ []
-    → Writes room_schema Enforced db (edit_of db node_table (ids_of rows) Given 0 []) (Ok next) → Dropped db next id
-drops_there db next id there rows nodes entries docs only is h =
-    go (subst (λ l. Writes room_schema Enforced db (edit_of db node_table (ids_of l) Given 0 []) (Ok next)) is h)
+    → Writes (room_schema l) Enforced db (edit_of db node_table (ids_of rows) Given 0 []) (Ok next)
+    → Dropped l db next id
+drops_there l db next id there rows nodes entries docs only is h =
+    go (subst (λ found. Writes (room_schema l) Enforced db (edit_of db node_table (ids_of found) Given 0 [])
+    (Ok next)) is h)
   where
-    go : Writes room_schema Enforced db (edit_of db node_table (pos id ∷ []) Given 0 []) (Ok next) → Dropped db next id
+    go : Writes (room_schema l) Enforced db (edit_of db node_table (pos id ∷ []) Given 0 []) (Ok next)
+        → Dropped l db next id
     go (inl refused) = absurd (let e = refused.2 in cc)
     go (inr (inl big)) = absurd (let e = big.3 in cc)
     go (inr (inr step)) =
         let kept = has_filtered (has 0 id) (db 1) there (subst (λ l. Has l there) (sym only) (inl refl)) in
         let key = has_int id there (all_has _ (db 1) there nodes.ints kept.0) kept.1 in
         let at = row_at_is (db 1) (pos id) there nodes.table kept.0 (sym (has_is 0 id there) ∙ kept.1) in
-        let stack = subst (λ r. works room_schema Enforced 0 1 (r ∷ []) [] ≡ entry_work there ∷ doc_work there ∷ [])
-        (sym at) (set_off there id key) in
-        let o = others_of 1 db step.0 step.1.tables in
+        let stack = subst (λ r. works (room_schema l) Enforced 0 1 (r ∷ []) [] ≡ entry_work there ∷ doc_work there ∷ [])
+        (sym at) (set_off l there id key) in
+        let o = others_of l 1 db step.0 step.1.tables in
         let same_entries : step.0 3 ≡ db 3 = o.entry (omega arith) in
         let same_docs : step.0 5 ≡ db 5 = o.doc (omega arith) in
-        let c = cascaded step.2.0 step.0 next there id key
+        let c = cascaded l step.2.0 step.0 next there id key
         (subst IsKeyed (sym same_entries) entries) (subst IsKeyed (sym same_docs) docs)
-        (subst (λ s. Leads room_schema Enforced step.2.0 step.0 s (Ok next)) stack step.2.1) in
+        (subst (λ s. Leads (room_schema l) Enforced step.2.0 step.0 s (Ok next)) stack step.2.1) in
         record {
           nodes = c.nodes ∙ step.1.rows ∙ without_number id (db 1);
           entries = c.entries ∙ ap (without (has 1 id)) same_entries;
           docs = c.docs ∙ ap (without (has 0 id)) same_docs;
           room = c.room ∙ o.room (omega arith);
           sessions = c.sessions ∙ o.session (omega arith);
-          slots = c.slots ∙ o.slot (omega arith);
+          slots = c.slots ∙ o.slots (omega (arith, above l));
         }
 
 -- ---- with no such node there is nothing that belongs to it
 
-entry_parent : parent_key room_schema.tables entry_ref ≡ Some (1, 0 ∷ [], plain)
+entry_parent : (l : Layout) → parent_key (room_schema l).tables entry_ref ≡ Some (1, 0 ∷ [], plain)
 unfolding everything
-entry_parent = refl
+entry_parent l = refl
 
-doc_parent : parent_key room_schema.tables doc_ref ≡ Some (1, 0 ∷ [], plain)
+doc_parent : (l : Layout) → parent_key (room_schema l).tables doc_ref ≡ Some (1, 0 ∷ [], plain)
 unfolding everything
-doc_parent = refl
+doc_parent l = refl
 
 held_by : (a b : Bool) → (a || b) ≡ true → a ≡ false → b ≡ true
 held_by true b h fails = absurd (true≢false fails)
@@ -272,12 +283,12 @@ not_null true h = absurd (true≢false h)
 not_null false h = refl
 
 -- a row that refers to the node has it
-has_its_node : (db : Trees) (ref : Reference) (place : ℕ) (row : Row) (id : ℕ)
-    → ref.columns ≡ place ∷ [] → parent_key room_schema.tables ref ≡ Some (1, 0 ∷ [], plain)
-    → has_parent room_schema.tables db row ref ≡ true → has place id row ≡ true
+has_its_node : (l : Layout) (db : Trees) (ref : Reference) (place : ℕ) (row : Row) (id : ℕ)
+    → ref.columns ≡ place ∷ [] → parent_key (room_schema l).tables ref ≡ Some (1, 0 ∷ [], plain)
+    → has_parent (room_schema l).tables db row ref ≡ true → has place id row ≡ true
     → (p : Row) × Has (db 1) p × (has 0 id p ≡ true)
 unfolding first_key
-has_its_node db ref place row id columns key fits mine =
+has_its_node l db ref place row id columns key fits mine =
     let there = subst₂ (λ c k. (has_null c row || is_held db c row k) ≡ true) columns key fits in
     let held = held_by _ _ there (not_null _ (has_not_null place id row mine)) in
     let p = some_has (λ parent. agree plain (0 ∷ []) parent (place ∷ []) row) (db 1) held in
@@ -287,22 +298,23 @@ has_its_node db ref place row id columns key fits mine =
     ∙ tie in
     (p.0, p.1, has_is 0 id p.0 ∙ ap is_eq same)
 
-none_of : (db : Trees) (ref : Reference) (table : Table) (place id : ℕ)
-    → ref.columns ≡ place ∷ [] → parent_key room_schema.tables ref ≡ Some (1, 0 ∷ [], plain)
-    → AllByRecursion (λ r. has_parent room_schema.tables db r ref ≡ true) (db table.tree)
+none_of : (l : Layout) (db : Trees) (ref : Reference) (table : Table) (place id : ℕ)
+    → ref.columns ≡ place ∷ [] → parent_key (room_schema l).tables ref ≡ Some (1, 0 ∷ [], plain)
+    → AllByRecursion (λ r. has_parent (room_schema l).tables db r ref ≡ true) (db table.tree)
     → filter (has 0 id) (db 1) ≡ [] → without (has place id) (db table.tree) ≡ db table.tree
-none_of db ref table place id columns key fit none =
+none_of l db ref table place id columns key fit none =
     filter_all _ (db table.tree)
     (all_from (λ r. not (has place id r) ≡ true) (db table.tree) (λ r h. elim (cases_Bool (has place id r)) [
       | inl mine ↦
-          let p = has_its_node db ref place r id columns key (all_has _ (db table.tree) r fit h) mine in
+          let p = has_its_node l db ref place r id columns key (all_has _ (db table.tree) r fit h) mine in
           absurd (subst (λ l. Has l p.0) none (has_kept (has 0 id) (db 1) p.0 p.1 p.2))
       | inr other ↦ ap not other
     ]))
 
-none_taken : works room_schema Enforced 0 1 [] [] ≡ []
+none_taken : (l : Layout) → works (room_schema l) Enforced 0 1 [] [] ≡ []
 unfolding everything
-none_taken = refl
+none_taken Fresh = refl
+none_taken Upgraded = refl
 
 -- no row has the number, or one has
 pub found_or_none : (rows : List Row) (id : ℕ) → IsKeyed rows
@@ -315,14 +327,17 @@ found_or_none rows id keyed = go (filter (has 0 id) rows) refl
         let h = has_filtered (has 0 id) rows x (subst (λ l. Has l x) (sym e) (inl refl)) in
         inr (x, sym e ∙ one_row (has 0 id) rows x keyed.table h.0 h.1 (λ a b _ _ p q. has_tied 0 id a b p q))
 
-drops : (old new : State) (id count : ℕ) → IsRoomDatabase old.now → Executes drop_node_text (Int (pos id) ∷ [])
-    old new (Ok count) → (new.now.schema ≡ room_schema) × Dropped old.now.trees new.now.trees id
+drops : (old new : State) (id count : ℕ) (room : IsRoomDatabase old.now) → Executes drop_node_text (Int (pos id) ∷ [])
+    old new (Ok count)
+    → (new.now.schema ≡ room_schema room.layout) × IsDatabase new.now
+    × Dropped room.layout old.now.trees new.now.trees id
 drops old new id count room h =
+    let l = room.layout in
     let params = Int (pos id) ∷ [] in
     let db = old.now.trees in
-    let ran = runs_as drop_node_text params old new room_schema room.schema
-    (command.Delete 1 (record { lets = []; body = drop_node_query })) drop_node_is drop_node_plain count h in
-    let w = deletes old new 1 node_table _ _ params count refl room.schema ran in
+    let ran = runs_as drop_node_text params old new (room_schema l) room.schema
+    (command.Delete 1 (record { lets = []; body = drop_node_query })) (drop_node_is l) (drop_node_plain l) count h in
+    let w = deletes l old new 1 node_table _ _ params count refl room.schema ran in
     let given = went w.written in
     let edited_to = went given.2 in
     let trees : w.rows.trees ≡ edited_to.0 = ap (λ (it : Written). it.trees) (same_value edited_to.2) in
@@ -332,24 +347,25 @@ drops old new id count room h =
     let same = found drop_node_query params (db 1) given.0 (has 0 id)
     (λ r. rowid r ∷ []) (λ r. and_true (has 0 id r)) (λ r. refl) k in (
       schema,
+      w.sound,
       elim (found_or_none (db 1) id room.keyed.node) [
         | inl none ↦
             let rows : given.0 ≡ [] =
             nothing _ (subst (λ l. IsPermutation (map (λ r. rowid r ∷ []) l) given.0) none same) in
             let edit = edit_of db node_table (ids_of given.0) Given 0 [] in
-            let quiet = subst (λ l. works room_schema Enforced 0 1
-            (taken_by db (edit_of db node_table (ids_of l) Given 0 [])) [] ≡ []) (sym rows) none_taken in
-            let one = one_step room_schema Enforced db edited_to.0 edit quiet edited_to.1 in
-            let o = others_of 1 db edited_to.0 one.tables in
+            let quiet = subst (λ found. works (room_schema l) Enforced 0 1
+            (taken_by db (edit_of db node_table (ids_of found) Given 0 [])) [] ≡ []) (sym rows) (none_taken l) in
+            let one = one_step (room_schema l) Enforced db edited_to.0 edit quiet edited_to.1 in
+            let o = others_of l 1 db edited_to.0 one.tables in
             let nodes : new.now.trees 1 ≡ db 1 =
             ap (λ (t : Trees). t 1) now ∙ one.rows ∙ ap (λ l. without_all (db 1) (ids_of l)) rows in
             let entries : new.now.trees 3 ≡ db 3 = ap (λ (t : Trees). t 3) now ∙ o.entry (omega arith) in
             let docs : new.now.trees 5 ≡ db 5 = ap (λ (t : Trees). t 5) now ∙ o.doc (omega arith) in
-            let keeps = rows_pass ForeignKey new.now schema ran.sound in
+            let keeps = rows_pass ForeignKey new.now l schema ran.sound in
             let none_now : filter (has 0 id) (new.now.trees 1) ≡ [] = ap (filter (has 0 id)) nodes ∙ none in
-            let no_entry = none_of new.now.trees entry_ref entry_table 1 id refl entry_parent
+            let no_entry = none_of l new.now.trees entry_ref entry_table 1 id refl (entry_parent l)
             (all_weaker _ _ (λ r e. first_of_both _ _ e) (new.now.trees 3) keeps.entry) none_now in
-            let no_doc = none_of new.now.trees doc_ref doc_table 0 id refl doc_parent
+            let no_doc = none_of l new.now.trees doc_ref doc_table 0 id refl (doc_parent l)
             (all_weaker _ _ (λ r e. first_of_both _ _ e) (new.now.trees 5) keeps.doc) none_now in
             record {
               nodes = nodes ∙ sym (filter_all _ (db 1)
@@ -358,13 +374,13 @@ drops old new id count room h =
               docs = sym no_doc ∙ ap (without (has 0 id)) docs;
               room = ap (λ (t : Trees). t 0) now ∙ o.room (omega arith);
               sessions = ap (λ (t : Trees). t 6) now ∙ o.session (omega arith);
-              slots = ap (λ (t : Trees). t 8) now ∙ o.slot (omega arith);
+              slots = ap (λ (t : Trees). t (slots_tree l)) now ∙ o.slots (omega (arith, above l));
             }
         | inr there ↦
             let key = keyed_there there.0 there.1 in
             let rows = one_permutation (Int (pos id) ∷ []) given.0 (subst (λ l. IsPermutation l given.0)
             (ap (map (λ r. rowid r ∷ [])) there.1 ∙ ap (λ v. (v ∷ []) ∷ []) key) same) in
-            subst (λ t. Dropped db t id) (sym now) (drops_there db edited_to.0 id there.0
+            subst (λ t. Dropped l db t id) (sym now) (drops_there l db edited_to.0 id there.0
             given.0 room.keyed.node room.keyed.entry room.keyed.doc there.1 rows edited_to.1)
       ],
     )
@@ -408,22 +424,26 @@ pub steps_drop : (old new : State) (id count : ℕ) → IsRoomDatabase old.now �
     ExecutesInside 0 drop_node_text (Int (pos id) ∷ []) old new (Ok count) → Steps old new (apply_change (DropNode id))
 steps_drop old new id count room h =
     let done = drops old new id count room (executes_inside drop_node_text _ old new count h).0 in
-    let it = done.1 in
+    let it = done.2 in
+    let listed = slots_listed new.now room.layout done.1 done.0 in
     let db = old.now.trees in
     record {
       room = record {
+        layout = room.layout;
         schema = done.0;
+        listed = listed;
         keyed = record {
           room = subst IsKeyed (sym it.room) room.keyed.room;
           node = subst IsKeyed (sym it.nodes) (keyed_filter (λ r. not (has 0 id r)) (db 1) room.keyed.node);
           entry = subst IsKeyed (sym it.entries) (keyed_filter (λ r. not (has 1 id r)) (db 3) room.keyed.entry);
           doc = subst IsKeyed (sym it.docs) (keyed_filter (λ r. not (has 0 id r)) (db 5) room.keyed.doc);
           session = subst IsKeyed (sym it.sessions) room.keyed.session;
-          slot = subst IsKeyed (sym it.slots) room.keyed.slot;
+          slots = subst IsKeyed (sym it.slots) room.keyed.slots;
         };
         numbered = subst (AllByRecursion IsNumbered) (sym it.nodes)
             (all-filter IsNumbered (λ r. not (has 0 id r)) (db 1) room.numbered);
       };
+      schema = done.0 ∙ sym room.schema;
       version = version_stays _ _ it.room;
       records = same_records _ _
           (λ q. ap (λ rows. option_map node_of (only (map shown_node rows)))
@@ -436,5 +456,5 @@ steps_drop old new id count room h =
           ∙ through (λ rows. option_map doc_of (only (map shown_doc rows))) (q == id) [] (filter (has 0 q) (db 5)))
           (ap next_in it.room)
           (λ q. ap (λ rows. sessions_in rows q) it.sessions)
-          (λ q n. ap (λ rows. slots_in rows q n) it.slots);
+          (λ q n. ap (λ rows. slots_in rows q n) (listed ∙ it.slots ∙ sym room.listed));
     }

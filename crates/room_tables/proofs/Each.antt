@@ -1,51 +1,72 @@
--- Facts of each of the six tables.
-use Rattle.std.proofs.Common.{◌≡◌, true, subst}
+-- Facts of each table that a room is read from.
+use Rattle.std.proofs.Common.{◌≡◌, ◌<◌, true, [], slice_get, Some, refl, subst, arith}
 use Rattle.std.specs.List.{AllByRecursion}
+use Rattle.sqlite_trees.specs.Tree.{Trees}
+use Rattle.sqlite_sql.specs.Program.{overlay}
 use Rattle.sqlite_schema.specs.Rules.{passes, Keeps}
 use Rattle.sqlite_schema.specs.declared.schema.Constraint.{Constraint}
 use Rattle.sqlite.specs.Table.{Table}
 use Rattle.sqlite.specs.Effect.{Database, IsDatabase}
-use Rattle.room_tables.specs.Tables.{room_schema, room_table, node_table, entry_table, doc_table}
-use Rattle.room_tables.specs.Tables.{session_table, slot_table}
+use Rattle.room_tables.specs.Tables.{Layout, Fresh, Upgraded, room_schema, room_table, node_table, entry_table}
+use Rattle.room_tables.specs.Tables.{doc_table}
+use Rattle.room_tables.specs.Tables.{session_table, slots_table, slots_tree, slots_place}
 use Rattle.room_tables.specs.Layout.{OfEachTable}
 
+slots_among : (l : Layout) (P : Table → Type 0) → AllByRecursion P (room_schema l).tables → P (slots_table l)
+slots_among Fresh P all = all.1.1.1.1.1.0
+slots_among Upgraded P all = all.1.1.1.1.1.1.0
+
+pub slots_placed : (l : Layout) → slice_get (room_schema l).tables (slots_place l) ≡ Some (slots_table l)
+slots_placed Fresh = refl
+slots_placed Upgraded = refl
+
+pub slots_seen : (l : Layout) (db : Trees) → overlay db [] (slots_tree l) ≡ db (slots_tree l)
+slots_seen Fresh db = refl
+slots_seen Upgraded db = refl
+
+-- the table of what slots keep stands behind the others
+pub above : (l : Layout) → 7 < slots_tree l
+above Fresh = omega arith
+above Upgraded = omega arith
+
 -- what is said of the tables of the schema in turn, by their names
-pub by_name : (P : Table → Type 0) → AllByRecursion P room_schema.tables → OfEachTable P
-by_name P all = record {
+pub by_name : (l : Layout) (P : Table → Type 0) → AllByRecursion P (room_schema l).tables → OfEachTable l P
+by_name l P all = record {
   room = all.0;
   node = all.1.0;
   entry = all.1.1.0;
   doc = all.1.1.1.0;
   session = all.1.1.1.1.0;
-  slot = all.1.1.1.1.1.0;
+  slots = slots_among l P all;
 }
 
 -- what is so of any table
-pub of_any : (P : Table → Type 0) → ((t : Table) → P t) → OfEachTable P
-of_any P f = record {
+pub of_any : (l : Layout) (P : Table → Type 0) → ((t : Table) → P t) → OfEachTable l P
+of_any l P f = record {
   room = f room_table;
   node = f node_table;
   entry = f entry_table;
   doc = f doc_table;
   session = f session_table;
-  slot = f slot_table;
+  slots = f (slots_table l);
 }
 
 -- and what is so where two facts of a table are
-pub from_both : (P Q R : Table → Type 0) → ((t : Table) → P t → Q t → R t)
-    → OfEachTable P → OfEachTable Q → OfEachTable R
-from_both P Q R f p q = record {
+pub from_both : (l : Layout) (P Q R : Table → Type 0) → ((t : Table) → P t → Q t → R t)
+    → OfEachTable l P → OfEachTable l Q → OfEachTable l R
+from_both l P Q R f p q = record {
   room = f room_table p.room q.room;
   node = f node_table p.node q.node;
   entry = f entry_table p.entry q.entry;
   doc = f doc_table p.doc q.doc;
   session = f session_table p.session q.session;
-  slot = f slot_table p.slot q.slot;
+  slots = f (slots_table l) p.slots q.slots;
 }
 
 -- each row passes a rule of its table
-pub rows_pass : (rule : Constraint) (db : Database) → db.schema ≡ room_schema → IsDatabase db →
-    OfEachTable (λ (t : Table). AllByRecursion (λ row. passes rule room_schema db.trees t row ≡ true) (db.trees t.tree))
-rows_pass rule db schema sound =
-    by_name (λ (t : Table). AllByRecursion (λ row. passes rule room_schema db.trees t row ≡ true) (db.trees t.tree))
-    (subst (λ s. Keeps rule s db.trees) schema (sound.obeys.rules rule))
+pub rows_pass : (rule : Constraint) (db : Database) (l : Layout) → db.schema ≡ room_schema l → IsDatabase db →
+    OfEachTable l
+    (λ (t : Table). AllByRecursion (λ row. passes rule (room_schema l) db.trees t row ≡ true) (db.trees t.tree))
+rows_pass rule db l schema sound =
+    by_name l (λ (t : Table). AllByRecursion (λ row. passes rule (room_schema l) db.trees t row ≡ true)
+    (db.trees t.tree)) (subst (λ s. Keeps rule s db.trees) schema (sound.obeys.rules rule))

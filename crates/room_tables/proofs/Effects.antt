@@ -17,15 +17,17 @@ use Rattle.room_records.specs.declared.change.Change.{Change}
 use Rattle.room_records.specs.declared.change.Change.TheVariants.{PutNode, PutNext, PutDoc}
 use Rattle.room_records.specs.Records.{Records}
 use Rattle.room_records.specs.Changes.{apply_change, apply_changes}
+use Rattle.sqlite.specs.Effect.{IsDatabase}
+use Rattle.room_tables.specs.Tables.{Upgraded, room_schema}
 use Rattle.room_tables.specs.Texts.{put_node_text, put_next_text, put_doc_text}
 use Rattle.room_tables.specs.Rows.{has, only, parent_in, name_of_text, kind_of, shown_node, node_of, nodes_in}
 use Rattle.room_tables.specs.Rows.{entries_in, shown_doc, doc_of, documents_in, number_in, shown_next, next_in}
-use Rattle.room_tables.specs.Rows.{shown_version, version_rows, IsVersion1, sessions_in, slots_in, records_of}
-use Rattle.room_tables.specs.Layout.{IsNumbered, IsRoomDatabase, parent_value}
+use Rattle.room_tables.specs.Rows.{shown_version, version_rows, IsVersion, sessions_in, slots_in, records_of}
+use Rattle.room_tables.specs.Layout.{IsNumbered, IsRoomDatabase, parent_value, reply_value}
 use Rattle.room_tables.specs.Steps.{Steps, kind_number}
 use Rattle.room_tables.proofs.Changes.{executes_inside}
 use Rattle.room_tables.proofs.Puts.{stored_node, node_params, puts_node, puts_next, puts_doc}
-use Rattle.room_tables.proofs.Filters.{filter_put, keyed_after, still_room, still_numbered, version_stays}
+use Rattle.room_tables.proofs.Filters.{filter_put, keyed_after, still_room, still_numbered, still_slots, version_stays}
 
 -- two records that agree at each key are one
 pub same_records : (a b : Records) → ((q : ℕ) → a.objects.node q ≡ b.objects.node q)
@@ -97,7 +99,7 @@ pub steps_node : (old new : State) (node : Node) (name : List ℕ) (count : ℕ)
     old new (Ok count) → Steps old new (apply_change (PutNode node))
 steps_node old new node name count room named h =
     let ran = executes_inside put_node_text _ old new count h in
-    let done = puts_node old new node.id node.parent name (kind_number node.kind)
+    let done = puts_node room.layout old new node.id node.parent name (kind_number node.kind)
     node.owner node.group node.aclflag count room.schema room.keyed.node ran.0 in
     let it = done.put in
     let row = row_of_node node name in
@@ -106,9 +108,10 @@ steps_node old new node name count room named h =
     (record { id = node.id; has_id = refl; parent = node.parent; has_parent = refl }) in
     let o = it.others in
     record {
-      room = still_room 1 old.now new.now room done.schema o (keyed_after 1 _ _ _ _ it room.keyed.node)
+      room = still_room 1 old.now new.now room done.schema done.sound o (keyed_after 1 _ _ _ _ it room.keyed.node)
           (subst (AllByRecursion IsNumbered) (sym it.rows) (all-put_row IsNumbered it.row _ is_numbered
           (all-filter IsNumbered (λ r. not (has_rowid it.id r)) (old.now.trees 1) room.numbered)));
+      schema = done.schema ∙ sym room.schema;
       version = version_stays _ _ (o.room (omega arith));
       records = same_records _ _
           (λ q. ap (λ rows. option_map node_of (only (map shown_node rows))) (filter_put 1 node.id q _ _ _ _ it id)
@@ -120,7 +123,8 @@ steps_node old new node name count room named h =
           (λ q. ap (λ rows. documents_in rows q) (o.doc (omega arith)))
           (ap next_in (o.room (omega arith)))
           (λ sid. ap (λ rows. sessions_in rows sid) (o.session (omega arith)))
-          (λ sid slot. ap (λ rows. slots_in rows sid slot) (o.slot (omega arith)));
+          (λ sid slot. ap (λ rows. slots_in rows sid slot)
+          (still_slots 1 old.now new.now room done.schema done.sound (omega arith) o));
     }
 
 -- ---- a document and the next number
@@ -130,13 +134,14 @@ pub steps_doc : (old new : State) (id : ℕ) (bytes : Vec ℕ Global) (count : �
     → Steps old new (apply_change (PutDoc id bytes))
 steps_doc old new id bytes count room h =
     let ran = executes_inside put_doc_text _ old new count h in
-    let done = puts_doc old new id bytes.items count room.schema room.keyed.doc ran.0 in
+    let done = puts_doc room.layout old new id bytes.items count room.schema room.keyed.doc ran.0 in
     let it = done.put in
     let is : it.id ≡ pos id = id_is (sym it.has_id ∙ ap rowid it.fits) in
     let o = it.others in
     record {
-      room = still_room 5 old.now new.now room done.schema o (keyed_after 5 _ _ _ _ it room.keyed.doc)
+      room = still_room 5 old.now new.now room done.schema done.sound o (keyed_after 5 _ _ _ _ it room.keyed.doc)
           (still_numbered 5 old.now new.now room (omega arith) o);
+      schema = done.schema ∙ sym room.schema;
       version = version_stays _ _ (o.room (omega arith));
       records = same_records _ _
           (λ q. ap (λ rows. nodes_in rows q) (o.node (omega arith)))
@@ -148,15 +153,16 @@ steps_doc old new id bytes count room h =
           (ap (λ r. doc_of (shown_doc r)) it.fits))
           (ap next_in (o.room (omega arith)))
           (λ sid. ap (λ rows. sessions_in rows sid) (o.session (omega arith)))
-          (λ sid slot. ap (λ rows. slots_in rows sid slot) (o.slot (omega arith)));
+          (λ sid slot. ap (λ rows. slots_in rows sid slot)
+          (still_slots 5 old.now new.now room done.schema done.sound (omega arith) o));
     }
 
--- the next number is put into a row of version 1
+-- the next number is put into a row of version 2
 pub version_put : (old new : State) (n count : ℕ) → IsRoomDatabase old.now
-    → ExecutesInside 0 put_next_text (Int (pos n) ∷ []) old new (Ok count) → IsVersion1 (version_rows new.now.trees)
+    → ExecutesInside 0 put_next_text (Int (pos n) ∷ []) old new (Ok count) → IsVersion 2 (version_rows new.now.trees)
 version_put old new n count room h =
     let ran = executes_inside put_next_text _ old new count h in
-    let it = (puts_next old new n count room.schema room.keyed.room ran.0).put in
+    let it = (puts_next room.layout old new n count room.schema room.keyed.room ran.0).put in
     let is : it.id ≡ pos 1 = id_is (sym it.has_id ∙ ap rowid it.fits) in
     ap (λ rows. option_map (λ row. column row 0) (only (map shown_version rows))) (filter_put 0 1 1 _ _ _ _ it is)
     ∙ ap (λ r. Some (column (shown_version r) 0)) it.fits
@@ -165,13 +171,14 @@ pub steps_next : (old new : State) (n count : ℕ) → IsRoomDatabase old.now
     → ExecutesInside 0 put_next_text (Int (pos n) ∷ []) old new (Ok count) → Steps old new (apply_change (PutNext n))
 steps_next old new n count room h =
     let ran = executes_inside put_next_text _ old new count h in
-    let done = puts_next old new n count room.schema room.keyed.room ran.0 in
+    let done = puts_next room.layout old new n count room.schema room.keyed.room ran.0 in
     let it = done.put in
     let is : it.id ≡ pos 1 = id_is (sym it.has_id ∙ ap rowid it.fits) in
     let o = it.others in
     record {
-      room = still_room 0 old.now new.now room done.schema o (keyed_after 0 _ _ _ _ it room.keyed.room)
+      room = still_room 0 old.now new.now room done.schema done.sound o (keyed_after 0 _ _ _ _ it room.keyed.room)
           (still_numbered 0 old.now new.now room (omega arith) o);
+      schema = done.schema ∙ sym room.schema;
       version = λ _. version_put old new n count room h;
       records = same_records _ _
           (λ q. ap (λ rows. nodes_in rows q) (o.node (omega arith)))
@@ -180,8 +187,19 @@ steps_next old new n count room h =
           (ap (λ rows. unwrap_or (option_map (λ row. number_in (column row 0)) (only (map shown_next rows))) 0)
           (filter_put 0 1 1 _ _ _ _ it is) ∙ ap (λ r. number_in (column (shown_next r) 0)) it.fits)
           (λ sid. ap (λ rows. sessions_in rows sid) (o.session (omega arith)))
-          (λ sid slot. ap (λ rows. slots_in rows sid slot) (o.slot (omega arith)));
+          (λ sid slot. ap (λ rows. slots_in rows sid slot)
+          (still_slots 0 old.now new.now room done.schema done.sound (omega arith) o));
     }
+
+-- the database is sound then, and a table `slot` is as it was
+pub next_beside : (old new : State) (n count : ℕ) → IsRoomDatabase old.now
+    → ExecutesInside 0 put_next_text (Int (pos n) ∷ []) old new (Ok count)
+    → IsDatabase new.now × (old.now.schema ≡ room_schema Upgraded → new.now.trees 8 ≡ old.now.trees 8)
+next_beside old new n count room h =
+    let ran = executes_inside put_next_text _ old new count h in (
+      (puts_next room.layout old new n count room.schema room.keyed.room ran.0).sound,
+      λ is. (puts_next Upgraded old new n count is room.keyed.room ran.0).put.tables.1.1.1.1.1.0 (omega arith),
+    )
 
 -- ---- changes in turn
 
@@ -195,6 +213,7 @@ pub steps_more : (old mid new : State) (changes more : List Change) (change : Ch
     → Steps old mid (apply_changes changes) → Steps mid new (apply_change change) → Steps old new (apply_changes more)
 steps_more old mid new changes more change is a b = record {
   room = b.room;
+  schema = b.schema ∙ a.schema;
   records = b.records ∙ ap (apply_change change) a.records ∙ sym (all_pushed changes change (records_of old.now.trees))
       ∙ ap (λ cs. apply_changes cs (records_of old.now.trees)) (sym is);
   version = λ v. b.version (a.version v);
@@ -213,3 +232,8 @@ steps_node_at old new node name text params count room named text_is params_are 
 pub bound_parent : (p : Option ℕ) → bound_value (parent_value p) ≡ parent_value p
 bound_parent None = refl
 bound_parent (Some n) = refl
+
+-- and so is a reply
+pub bound_reply : (r : Option (List ℕ)) → bound_value (reply_value r) ≡ reply_value r
+bound_reply None = refl
+bound_reply (Some bytes) = refl

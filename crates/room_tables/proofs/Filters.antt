@@ -1,5 +1,6 @@
 -- Which rows pass a test after a row was put in or rows were taken out.
-use Rattle.std.proofs.Common.{◌≡◌, ◌≢◌, ℕ, pos, Bool, true, false, not, ◌||◌, ◌==◌, cond, List, [], ◌∷◌, filter, inl}
+use Rattle.std.proofs.Common.{◌≡◌, ◌≢◌, ◌≤◌, ℕ, pos, Bool, true, false, not, ◌||◌, ◌==◌, cond, List, [], ◌∷◌, filter}
+use Rattle.std.proofs.Common.{inl}
 use Rattle.std.proofs.Common.{inr, refl, sym, ap, subst, ◌∙◌, true≢false, Less, Equal, Greater, Ordering, is_eq, arith}
 use Rattle.std.proofs.Common.{eq-eqb, IsPermutation}
 use Rattle.std.specs.List.{AllByRecursion}
@@ -20,11 +21,12 @@ use Rattle.sqlite_keyed.proofs.ListLemmas.{ascending-filter, all-filter}
 use Rattle.sqlite_rules.proofs.ListLemmas.{all_from, has_filtered}
 use Rattle.sqlite.proofs.Callers.{one_permutation}
 use Rattle.sqlite.specs.Table.{Table}
-use Rattle.sqlite.specs.Effect.{Database}
-use Rattle.room_tables.specs.Tables.{room_schema}
-use Rattle.room_tables.specs.Rows.{has, versions_in, IsVersion1}
+use Rattle.sqlite.specs.Effect.{Database, IsDatabase}
+use Rattle.room_tables.specs.Tables.{Layout, room_schema}
+use Rattle.room_tables.specs.Rows.{has, versions_in, slots_of, IsVersion}
 use Rattle.room_tables.specs.Layout.{IsKeyed, IsNumbered, IsRoomDatabase}
-use Rattle.room_tables.proofs.Each.{from_both}
+use Rattle.room_tables.proofs.Each.{from_both, above}
+use Rattle.room_tables.proofs.Listed.{slots_listed}
 use Rattle.room_tables.proofs.Values.{has_is, has_one, int_has}
 use Rattle.room_tables.proofs.Changes.{not_true, without, Others}
 use Rattle.room_tables.proofs.Upserts.{Put}
@@ -99,7 +101,8 @@ not_both place id q r apart h =
 
 -- ---- a row in the place of the one with its number
 
-pub filter_put : (tree id q : ℕ) (db next : Trees) (Fits Met : Row → Type 0) (it : Put tree db next Fits Met)
+pub filter_put : {l : Layout} (tree id q : ℕ) (db next : Trees) (Fits Met : Row → Type 0)
+    (it : Put l tree db next Fits Met)
     → it.id ≡ pos id
     → filter (has 0 q) (next tree) ≡ cond (q == id) (it.row ∷ []) (filter (has 0 q) (db tree))
 filter_put tree id q db next Fits Met it is = elim (cases_eq q id) [
@@ -129,8 +132,8 @@ filter_put tree id q db next Fits Met it is = elim (cases_eq q id) [
 
 -- where the one row of room is as it was
 pub version_stays : (before after : List Row) → after ≡ before
-    → IsVersion1 (versions_in before) → IsVersion1 (versions_in after)
-version_stays before after same = subst (λ rows. IsVersion1 (versions_in rows)) (sym same)
+    → IsVersion 2 (versions_in before) → IsVersion 2 (versions_in after)
+version_stays before after same = subst (λ rows. IsVersion 2 (versions_in rows)) (sym same)
 
 -- ---- keys
 
@@ -142,8 +145,8 @@ pub keyed_filter : (p : Row → Bool) (rows : List Row) → IsKeyed rows → IsK
 keyed_filter p rows keyed =
     record { table = ascending-filter _ p rows keyed.table; ints = all-filter _ p rows keyed.ints }
 
-pub keyed_after : (tree : ℕ) (db next : Trees) (Fits Met : Row → Type 0)
-    → Put tree db next Fits Met → IsKeyed (db tree) → IsKeyed (next tree)
+pub keyed_after : {l : Layout} (tree : ℕ) (db next : Trees) (Fits Met : Row → Type 0)
+    → Put l tree db next Fits Met → IsKeyed (db tree) → IsKeyed (next tree)
 keyed_after tree db next Fits Met it keyed =
     subst IsKeyed (sym it.rows) (keyed_put it.row _ (subst (λ v. is_int v ≡ true) (sym it.has_id) refl)
     (keyed_filter (λ r. not (has_rowid it.id r)) (db tree) keyed))
@@ -156,17 +159,26 @@ still_keyed tree db next mine t keyed other = elim (cases_eq t.tree tree) [
   | inr apart ↦ subst IsKeyed (sym (other apart)) keyed
 ]
 
--- the tables are laid out as before
-pub still_room : (tree : ℕ) (old new : Database) → IsRoomDatabase old → new.schema ≡ room_schema → Others tree
-    old.trees new.trees → IsKeyed (new.trees tree) → AllByRecursion IsNumbered (new.trees 1) → IsRoomDatabase new
-still_room tree old new room schema others mine numbered = record {
+-- the tables are laid out as before, and the list of objects names them as before, since the database is sound
+pub still_room : (tree : ℕ) (old new : Database) (room : IsRoomDatabase old) → new.schema ≡ room_schema room.layout
+    → IsDatabase new → Others room.layout tree old.trees new.trees → IsKeyed (new.trees tree)
+    → AllByRecursion IsNumbered (new.trees 1) → IsRoomDatabase new
+still_room tree old new room schema sound others mine numbered = record {
+  layout = room.layout;
   schema = schema;
-  keyed = from_both _ _ _ (still_keyed tree old.trees new.trees mine) room.keyed others;
+  listed = slots_listed new room.layout sound schema;
+  keyed = from_both room.layout _ _ _ (still_keyed tree old.trees new.trees mine) room.keyed others;
   numbered = numbered;
 }
 
 -- and the nodes are where another table changed
-pub still_numbered : (tree : ℕ) (old new : Database) → IsRoomDatabase old → 1 ≢ tree
-    → Others tree old.trees new.trees → AllByRecursion IsNumbered (new.trees 1)
+pub still_numbered : (tree : ℕ) (old new : Database) (room : IsRoomDatabase old) → 1 ≢ tree
+    → Others room.layout tree old.trees new.trees → AllByRecursion IsNumbered (new.trees 1)
 still_numbered tree old new room apart others =
     subst (AllByRecursion IsNumbered) (sym (others.node apart)) room.numbered
+
+-- and so are the rows of what slots keep
+pub still_slots : (tree : ℕ) (old new : Database) (room : IsRoomDatabase old) → new.schema ≡ room_schema room.layout
+    → IsDatabase new → tree ≤ 7 → Others room.layout tree old.trees new.trees → slots_of new.trees ≡ slots_of old.trees
+still_slots tree old new room schema sound low others = let high = above room.layout in
+    slots_listed new room.layout sound schema ∙ others.slots (omega (arith, low, high)) ∙ sym room.listed

@@ -3,6 +3,7 @@ pub mod Meaning
 pub mod Sorted
 pub mod Values
 pub mod Each
+pub mod Listed
 pub mod Removed
 pub mod Queries
 pub mod Changes
@@ -11,6 +12,7 @@ pub mod Puts
 pub mod Takes
 pub mod Filters
 pub mod Effects
+pub mod Kept
 pub mod Sessions
 pub mod Slots
 pub mod Placed
@@ -19,5 +21,7 @@ pub mod Asks
 pub mod Selects
 pub mod Children
 pub mod Creates
+pub mod Copies
+pub mod Moves
 pub mod Reading
 pub mod Onward

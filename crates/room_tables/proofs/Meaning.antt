@@ -1,13 +1,17 @@
--- What the statements mean under the schema of the six tables, by running the resolver on their texts.
-use Rattle.std.proofs.Common.{◌≡◌, [], ◌∷◌, true, false, codes, refl}
+-- What the statements mean under the schema of a room, by running the resolver on their texts. What is said of
+-- the first five tables needs no layout, but for the upserts, which count the tables.
+use Rattle.std.proofs.Common.{◌≡◌, List, [], ◌∷◌, true, false, codes, refl}
 use Rattle.sqlite_tied.specs.Compute.{everything}
-use Rattle.sqlite.specs.Source.TheVariants.{Values}
-use Rattle.sqlite.specs.Command.TheVariants.{InsertOr, Insert, Select, Delete}
+use Rattle.sqlite.specs.Source.TheVariants.{Values, Query}
+use Rattle.sqlite.specs.Command.TheVariants.{InsertOr, Insert, Select, Update, Delete}
 use Rattle.sqlite_schema.specs.declared.command.Conflict.TheVariants.{Abort}
 use Rattle.sqlite.specs.Listing.{understood, reads_listing}
 use Rattle.sqlite.proofs.Callers.{IsPlain, command_of}
+use Rattle.sqlite.specs.Table.{Table}
+use Rattle.sqlite_schema.specs.declared.schema.Index.{Index}
 use Rattle.sqlite_schema.specs.Names.{same_name}
-use Rattle.room_tables.specs.Tables.{room_schema, has_room}
+use Rattle.room_tables.specs.Tables.{Layout, Fresh, Upgraded, room_schema, first_schema, with_last, slots_tree}
+use Rattle.room_tables.specs.Tables.{slots_place, has_room, has_first_room}
 use Rattle.room_tables.specs.Texts.{count_children_text, count_children_query, add_entry_terms, add_entry_text}
 use Rattle.room_tables.specs.Texts.{add_two_terms, add_two_text, add_three_terms, add_three_text, add_four_terms}
 use Rattle.room_tables.specs.Texts.{add_four_text, drop_entries_query, drop_entries_text}
@@ -19,227 +23,290 @@ use Rattle.room_tables.specs.Texts.{find_version_query, find_version_text, list_
 use Rattle.room_tables.specs.Texts.{list_entries_query, list_entries_text, put_doc_clause, put_doc_terms, put_doc_text}
 use Rattle.room_tables.specs.Texts.{put_next_clause, put_next_terms, put_next_text, put_node_clause, put_node_terms}
 use Rattle.room_tables.specs.Texts.{put_node_text, put_session_clause, put_session_terms, put_session_text}
-use Rattle.room_tables.specs.Texts.{put_slot_clause, put_slot_terms, put_slot_text}
-use Rattle.room_tables.specs.Texts.{read_entries_query, read_entries_text}
+use Rattle.room_tables.specs.Texts.{change_slot_query, change_slot_text, add_slot_terms, add_slot_text}
+use Rattle.room_tables.specs.Texts.{read_entries_query, read_entries_text, copy_row_query, copy_row_text}
+use Rattle.room_tables.specs.Texts.{take_row_query, take_row_text}
 
-pub find_next_is : command_of (understood room_schema find_next_text)
+pub find_next_is : (more : List Table) (others : List Index)
+    → command_of (understood (with_last more others) find_next_text)
     ≡ Select (record { lets = []; body = find_next_query }) (codes "next" ∷ [])
 unfolding understood everything
-find_next_is = refl
+find_next_is more others = refl
 
-pub find_next_plain : IsPlain (understood room_schema find_next_text)
-    × (reads_listing room_schema find_next_text ≡ false)
+pub find_next_plain : (more : List Table) (others : List Index)
+    → IsPlain (understood (with_last more others) find_next_text)
+    × (reads_listing (with_last more others) find_next_text ≡ false)
 unfolding understood everything
-find_next_plain = ((refl, refl), refl)
+find_next_plain more others = ((refl, refl), refl)
 
-pub find_version_is : command_of (understood room_schema find_version_text)
+pub find_version_is : (more : List Table) (others : List Index)
+    → command_of (understood (with_last more others) find_version_text)
     ≡ Select (record { lets = []; body = find_version_query }) (codes "version" ∷ [])
 unfolding understood everything
-find_version_is = refl
+find_version_is more others = refl
 
-pub find_version_plain : IsPlain (understood room_schema find_version_text)
-    × (reads_listing room_schema find_version_text ≡ false)
+pub find_version_plain : (more : List Table) (others : List Index)
+    → IsPlain (understood (with_last more others) find_version_text)
+    × (reads_listing (with_last more others) find_version_text ≡ false)
 unfolding understood everything
-find_version_plain = ((refl, refl), refl)
+find_version_plain more others = ((refl, refl), refl)
 
-pub find_node_is : command_of (understood room_schema find_node_text)
+pub find_node_is : (l : Layout) → command_of (understood (room_schema l) find_node_text)
     ≡ Select (record { lets = []; body = find_node_query })
     (codes "id" ∷ codes "parent" ∷ codes "name" ∷ codes "kind" ∷ codes "owner" ∷ codes "grp" ∷ codes "aclflag" ∷ [])
 unfolding understood everything
-find_node_is = refl
+find_node_is l = refl
 
-pub find_node_plain : IsPlain (understood room_schema find_node_text)
-    × (reads_listing room_schema find_node_text ≡ false)
+pub find_node_plain : (l : Layout) → IsPlain (understood (room_schema l) find_node_text)
+    × (reads_listing (room_schema l) find_node_text ≡ false)
 unfolding understood everything
-find_node_plain = ((refl, refl), refl)
+find_node_plain l = ((refl, refl), refl)
 
-pub find_child_is : command_of (understood room_schema find_child_text)
+pub find_child_is : (l : Layout) → command_of (understood (room_schema l) find_child_text)
     ≡ Select (record { lets = []; body = find_child_query })
     (codes "id" ∷ codes "parent" ∷ codes "name" ∷ codes "kind" ∷ codes "owner" ∷ codes "grp" ∷ codes "aclflag" ∷ [])
 unfolding understood everything
-find_child_is = refl
+find_child_is l = refl
 
-pub find_child_plain : IsPlain (understood room_schema find_child_text)
-    × (reads_listing room_schema find_child_text ≡ false)
+pub find_child_plain : (l : Layout) → IsPlain (understood (room_schema l) find_child_text)
+    × (reads_listing (room_schema l) find_child_text ≡ false)
 unfolding understood everything
-find_child_plain = ((refl, refl), refl)
+find_child_plain l = ((refl, refl), refl)
 
-pub list_children_is : command_of (understood room_schema list_children_text)
+pub list_children_is : (l : Layout) → command_of (understood (room_schema l) list_children_text)
     ≡ Select (record { lets = []; body = list_children_query })
     (codes "id" ∷ codes "parent" ∷ codes "name" ∷ codes "kind" ∷ codes "owner" ∷ codes "grp" ∷ codes "aclflag" ∷ [])
 unfolding understood everything
-list_children_is = refl
+list_children_is l = refl
 
-pub list_children_plain : IsPlain (understood room_schema list_children_text)
-    × (reads_listing room_schema list_children_text ≡ false)
+pub list_children_plain : (l : Layout) → IsPlain (understood (room_schema l) list_children_text)
+    × (reads_listing (room_schema l) list_children_text ≡ false)
 unfolding understood everything
-list_children_plain = ((refl, refl), refl)
+list_children_plain l = ((refl, refl), refl)
 
-pub list_entries_is : command_of (understood room_schema list_entries_text)
+pub list_entries_is : (l : Layout) → command_of (understood (room_schema l) list_entries_text)
     ≡ Select (record { lets = []; body = list_entries_query })
     (codes "place" ∷ codes "type" ∷ codes "flag" ∷ codes "mask" ∷ codes "who" ∷ [])
 unfolding understood everything
-list_entries_is = refl
+list_entries_is l = refl
 
-pub list_entries_plain : IsPlain (understood room_schema list_entries_text)
-    × (reads_listing room_schema list_entries_text ≡ false)
+pub list_entries_plain : (l : Layout) → IsPlain (understood (room_schema l) list_entries_text)
+    × (reads_listing (room_schema l) list_entries_text ≡ false)
 unfolding understood everything
-list_entries_plain = ((refl, refl), refl)
+list_entries_plain l = ((refl, refl), refl)
 
-pub read_entries_is : command_of (understood room_schema read_entries_text)
+pub read_entries_is : (l : Layout) → command_of (understood (room_schema l) read_entries_text)
     ≡ Select (record { lets = []; body = read_entries_query })
     (codes "place" ∷ codes "type" ∷ codes "flag" ∷ codes "mask" ∷ codes "who" ∷ [])
 unfolding understood everything
-read_entries_is = refl
+read_entries_is l = refl
 
-pub read_entries_plain : IsPlain (understood room_schema read_entries_text)
-    × (reads_listing room_schema read_entries_text ≡ false)
+pub read_entries_plain : (l : Layout) → IsPlain (understood (room_schema l) read_entries_text)
+    × (reads_listing (room_schema l) read_entries_text ≡ false)
 unfolding understood everything
-read_entries_plain = ((refl, refl), refl)
+read_entries_plain l = ((refl, refl), refl)
 
-pub find_doc_is : command_of (understood room_schema find_doc_text)
+pub find_doc_is : (l : Layout) → command_of (understood (room_schema l) find_doc_text)
     ≡ Select (record { lets = []; body = find_doc_query }) (codes "bytes" ∷ [])
 unfolding understood everything
-find_doc_is = refl
+find_doc_is l = refl
 
-pub find_doc_plain : IsPlain (understood room_schema find_doc_text) × (reads_listing room_schema find_doc_text ≡ false)
+pub find_doc_plain : (l : Layout) → IsPlain (understood (room_schema l) find_doc_text)
+    × (reads_listing (room_schema l) find_doc_text ≡ false)
 unfolding understood everything
-find_doc_plain = ((refl, refl), refl)
+find_doc_plain l = ((refl, refl), refl)
 
-pub find_session_is : command_of (understood room_schema find_session_text)
+pub find_session_is : (l : Layout) → command_of (understood (room_schema l) find_session_text)
     ≡ Select (record { lets = []; body = find_session_query }) (codes "owner" ∷ codes "slots" ∷ codes "open" ∷ [])
 unfolding understood everything
-find_session_is = refl
+find_session_is l = refl
 
-pub find_session_plain : IsPlain (understood room_schema find_session_text)
-    × (reads_listing room_schema find_session_text ≡ false)
+pub find_session_plain : (l : Layout) → IsPlain (understood (room_schema l) find_session_text)
+    × (reads_listing (room_schema l) find_session_text ≡ false)
 unfolding understood everything
-find_session_plain = ((refl, refl), refl)
+find_session_plain l = ((refl, refl), refl)
 
-pub find_slot_is : command_of (understood room_schema find_slot_text)
-    ≡ Select (record { lets = []; body = find_slot_query }) (codes "seq" ∷ codes "request" ∷ codes "reply" ∷ [])
+pub find_slot_is : (l : Layout) → command_of (understood (room_schema l) find_slot_text)
+    ≡ Select (record { lets = []; body = find_slot_query (slots_tree l) })
+    (codes "seq" ∷ codes "request" ∷ codes "reply" ∷ [])
 unfolding understood everything
-find_slot_is = refl
+find_slot_is Fresh = refl
+find_slot_is Upgraded = refl
 
-pub find_slot_plain : IsPlain (understood room_schema find_slot_text)
-    × (reads_listing room_schema find_slot_text ≡ false)
+pub find_slot_plain : (l : Layout) → IsPlain (understood (room_schema l) find_slot_text)
+    × (reads_listing (room_schema l) find_slot_text ≡ false)
 unfolding understood everything
-find_slot_plain = ((refl, refl), refl)
+find_slot_plain Fresh = ((refl, refl), refl)
+find_slot_plain Upgraded = ((refl, refl), refl)
 
-pub drop_node_is : command_of (understood room_schema drop_node_text)
+pub drop_node_is : (l : Layout) → command_of (understood (room_schema l) drop_node_text)
     ≡ Delete 1 (record { lets = []; body = drop_node_query })
 unfolding understood everything
-drop_node_is = refl
+drop_node_is l = refl
 
-pub drop_node_plain : IsPlain (understood room_schema drop_node_text)
+pub drop_node_plain : (l : Layout) → IsPlain (understood (room_schema l) drop_node_text)
 unfolding understood everything
-drop_node_plain = (refl, refl)
+drop_node_plain l = (refl, refl)
 
-pub drop_entries_is : command_of (understood room_schema drop_entries_text)
+pub drop_entries_is : (l : Layout) → command_of (understood (room_schema l) drop_entries_text)
     ≡ Delete 2 (record { lets = []; body = drop_entries_query })
 unfolding understood everything
-drop_entries_is = refl
+drop_entries_is l = refl
 
-pub drop_entries_plain : IsPlain (understood room_schema drop_entries_text)
+pub drop_entries_plain : (l : Layout) → IsPlain (understood (room_schema l) drop_entries_text)
 unfolding understood everything
-drop_entries_plain = (refl, refl)
+drop_entries_plain l = (refl, refl)
 
-pub drop_slots_is : command_of (understood room_schema drop_slots_text)
-    ≡ Delete 5 (record { lets = []; body = drop_slots_query })
+pub drop_slots_is : (l : Layout) → command_of (understood (room_schema l) drop_slots_text)
+    ≡ Delete (slots_place l) (record { lets = []; body = drop_slots_query (slots_tree l) })
 unfolding understood everything
-drop_slots_is = refl
+drop_slots_is Fresh = refl
+drop_slots_is Upgraded = refl
 
-pub drop_slots_plain : IsPlain (understood room_schema drop_slots_text)
+pub drop_slots_plain : (l : Layout) → IsPlain (understood (room_schema l) drop_slots_text)
 unfolding understood everything
-drop_slots_plain = (refl, refl)
+drop_slots_plain Fresh = (refl, refl)
+drop_slots_plain Upgraded = (refl, refl)
 
-pub add_entry_is : command_of (understood room_schema add_entry_text) ≡ Insert 2 (Values add_entry_terms 7)
+pub add_entry_is : (l : Layout) → command_of (understood (room_schema l) add_entry_text) ≡ Insert 2
+    (Values add_entry_terms 7)
 unfolding understood everything
-add_entry_is = refl
+add_entry_is l = refl
 
-pub add_entry_plain : IsPlain (understood room_schema add_entry_text)
+pub add_entry_plain : (l : Layout) → IsPlain (understood (room_schema l) add_entry_text)
 unfolding understood everything
-add_entry_plain = (refl, refl)
+add_entry_plain l = (refl, refl)
 
-pub add_two_is : command_of (understood room_schema add_two_text) ≡ Insert 2 (Values add_two_terms 7)
+pub add_two_is : (l : Layout) → command_of (understood (room_schema l) add_two_text) ≡ Insert 2 (Values add_two_terms 7)
 unfolding understood everything
-add_two_is = refl
+add_two_is l = refl
 
-pub add_two_plain : IsPlain (understood room_schema add_two_text)
+pub add_two_plain : (l : Layout) → IsPlain (understood (room_schema l) add_two_text)
 unfolding understood everything
-add_two_plain = (refl, refl)
+add_two_plain l = (refl, refl)
 
-pub add_three_is : command_of (understood room_schema add_three_text) ≡ Insert 2 (Values add_three_terms 7)
+pub add_three_is : (l : Layout) → command_of (understood (room_schema l) add_three_text) ≡ Insert 2
+    (Values add_three_terms 7)
 unfolding understood everything
-add_three_is = refl
+add_three_is l = refl
 
-pub add_three_plain : IsPlain (understood room_schema add_three_text)
+pub add_three_plain : (l : Layout) → IsPlain (understood (room_schema l) add_three_text)
 unfolding understood everything
-add_three_plain = (refl, refl)
+add_three_plain l = (refl, refl)
 
-pub add_four_is : command_of (understood room_schema add_four_text) ≡ Insert 2 (Values add_four_terms 7)
+pub add_four_is : (l : Layout) → command_of (understood (room_schema l) add_four_text) ≡ Insert 2
+    (Values add_four_terms 7)
 unfolding understood everything
-add_four_is = refl
+add_four_is l = refl
 
-pub add_four_plain : IsPlain (understood room_schema add_four_text)
+pub add_four_plain : (l : Layout) → IsPlain (understood (room_schema l) add_four_text)
 unfolding understood everything
-add_four_plain = (refl, refl)
+add_four_plain l = (refl, refl)
 
-pub put_next_is : command_of (understood room_schema put_next_text)
+pub put_next_is : (l : Layout) → command_of (understood (room_schema l) put_next_text)
     ≡ InsertOr 0 Abort (Values put_next_terms 4) (put_next_clause ∷ [])
 unfolding understood everything
-put_next_is = refl
+put_next_is Fresh = refl
+put_next_is Upgraded = refl
 
-pub put_next_plain : IsPlain (understood room_schema put_next_text)
+pub put_next_plain : (l : Layout) → IsPlain (understood (room_schema l) put_next_text)
 unfolding understood everything
-put_next_plain = (refl, refl)
+put_next_plain Fresh = (refl, refl)
+put_next_plain Upgraded = (refl, refl)
 
-pub put_node_is : command_of (understood room_schema put_node_text)
+pub put_node_is : (l : Layout) → command_of (understood (room_schema l) put_node_text)
     ≡ InsertOr 1 Abort (Values put_node_terms 8) (put_node_clause ∷ [])
 unfolding understood everything
-put_node_is = refl
+put_node_is Fresh = refl
+put_node_is Upgraded = refl
 
-pub put_node_plain : IsPlain (understood room_schema put_node_text)
+pub put_node_plain : (l : Layout) → IsPlain (understood (room_schema l) put_node_text)
 unfolding understood everything
-put_node_plain = (refl, refl)
+put_node_plain Fresh = (refl, refl)
+put_node_plain Upgraded = (refl, refl)
 
-pub put_doc_is : command_of (understood room_schema put_doc_text)
+pub put_doc_is : (l : Layout) → command_of (understood (room_schema l) put_doc_text)
     ≡ InsertOr 3 Abort (Values put_doc_terms 3) (put_doc_clause ∷ [])
 unfolding understood everything
-put_doc_is = refl
+put_doc_is Fresh = refl
+put_doc_is Upgraded = refl
 
-pub put_doc_plain : IsPlain (understood room_schema put_doc_text)
+pub put_doc_plain : (l : Layout) → IsPlain (understood (room_schema l) put_doc_text)
 unfolding understood everything
-put_doc_plain = (refl, refl)
+put_doc_plain Fresh = (refl, refl)
+put_doc_plain Upgraded = (refl, refl)
 
-pub put_session_is : command_of (understood room_schema put_session_text)
+pub put_session_is : (l : Layout) → command_of (understood (room_schema l) put_session_text)
     ≡ InsertOr 4 Abort (Values put_session_terms 5) (put_session_clause ∷ [])
 unfolding understood everything
-put_session_is = refl
+put_session_is Fresh = refl
+put_session_is Upgraded = refl
 
-pub put_session_plain : IsPlain (understood room_schema put_session_text)
+pub put_session_plain : (l : Layout) → IsPlain (understood (room_schema l) put_session_text)
 unfolding understood everything
-put_session_plain = (refl, refl)
+put_session_plain Fresh = (refl, refl)
+put_session_plain Upgraded = (refl, refl)
 
-pub put_slot_is : command_of (understood room_schema put_slot_text)
-    ≡ InsertOr 5 Abort (Values put_slot_terms 6) (put_slot_clause ∷ [])
+pub change_slot_is : (l : Layout) → command_of (understood (room_schema l) change_slot_text)
+    ≡ Update (slots_place l) (record { lets = []; body = change_slot_query (slots_tree l) })
 unfolding understood everything
-put_slot_is = refl
+change_slot_is Fresh = refl
+change_slot_is Upgraded = refl
 
-pub put_slot_plain : IsPlain (understood room_schema put_slot_text)
+pub change_slot_plain : (l : Layout) → IsPlain (understood (room_schema l) change_slot_text)
 unfolding understood everything
-put_slot_plain = (refl, refl)
+change_slot_plain Fresh = (refl, refl)
+change_slot_plain Upgraded = (refl, refl)
 
-pub count_children_is : command_of (understood room_schema count_children_text)
+pub add_slot_is : (l : Layout) → command_of (understood (room_schema l) add_slot_text)
+    ≡ Insert (slots_place l) (Values add_slot_terms 6)
+unfolding understood everything
+add_slot_is Fresh = refl
+add_slot_is Upgraded = refl
+
+pub add_slot_plain : (l : Layout) → IsPlain (understood (room_schema l) add_slot_text)
+unfolding understood everything
+add_slot_plain Fresh = (refl, refl)
+add_slot_plain Upgraded = (refl, refl)
+
+pub count_children_is : (l : Layout) → command_of (understood (room_schema l) count_children_text)
     ≡ Select (record { lets = []; body = count_children_query }) (codes "count(*)" ∷ [])
 unfolding understood everything
-count_children_is = refl
+count_children_is l = refl
 
-pub count_children_plain : IsPlain (understood room_schema count_children_text)
-    × (reads_listing room_schema count_children_text ≡ false)
+pub count_children_plain : (l : Layout) → IsPlain (understood (room_schema l) count_children_text)
+    × (reads_listing (room_schema l) count_children_text ≡ false)
 unfolding understood everything
-count_children_plain = ((refl, refl), refl)
+count_children_plain l = ((refl, refl), refl)
 
-pub room_has_room : has_room room_schema ≡ true
+pub copy_row_is : command_of (understood (room_schema Upgraded) copy_row_text)
+    ≡ Insert 6 (Query (record { lets = []; body = copy_row_query }))
+unfolding understood everything
+copy_row_is = refl
+
+pub copy_row_plain : IsPlain (understood (room_schema Upgraded) copy_row_text)
+unfolding understood everything
+copy_row_plain = (refl, refl)
+
+pub take_row_is : command_of (understood (room_schema Upgraded) take_row_text)
+    ≡ Delete 5 (record { lets = []; body = take_row_query })
+unfolding understood everything
+take_row_is = refl
+
+pub take_row_plain : IsPlain (understood (room_schema Upgraded) take_row_text)
+unfolding understood everything
+take_row_plain = (refl, refl)
+
+pub room_has_room : (l : Layout) → has_room (room_schema l) ≡ true
 unfolding everything same_name
-room_has_room = refl
+room_has_room Fresh = refl
+room_has_room Upgraded = refl
+
+pub first_has_first : has_first_room first_schema ≡ true
+unfolding everything same_name
+first_has_first = refl
+
+-- so that a room of version 1 is none of version 2
+pub first_has_no_kept : has_room first_schema ≡ false
+unfolding everything same_name
+first_has_no_kept = refl

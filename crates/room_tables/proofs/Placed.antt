@@ -23,6 +23,7 @@ use Rattle.sqlite_rules.specs.Edit.{is_taken}
 use Rattle.sqlite.specs.Effect.{Database}
 use Rattle.sqlite.specs.State.{State, ExecutesInside}
 use Rattle.room_acl.specs.Entries.{EntryModel, who_text}
+use Rattle.room_tables.specs.Tables.{Layout}
 use Rattle.room_tables.specs.Texts.{drop_entries_text}
 use Rattle.room_tables.specs.Rows.{has, shown_entry, entry_of, entry_keys, in_order, nodes_in, documents_in, next_in}
 use Rattle.room_tables.specs.Rows.{sessions_in, slots_in, records_of, versions_in, IsEntryRow}
@@ -34,7 +35,7 @@ use Rattle.room_tables.proofs.Values.{int_has}
 use Rattle.room_tables.proofs.Changes.{HasAll, executes_inside, without}
 use Rattle.room_tables.proofs.Takes.{stored, bound_entries, AddsEntries, drops_entries}
 use Rattle.room_tables.proofs.Filters.{put_is_one_more, put_passed_over, none_left, others_left, not_both, keyed_put}
-use Rattle.room_tables.proofs.Filters.{keyed_filter, still_room, still_numbered}
+use Rattle.room_tables.proofs.Filters.{keyed_filter, still_room, still_numbered, still_slots}
 use Rattle.room_tables.proofs.Effects.{same_records}
 
 -- two rows of entries that tie are one
@@ -145,17 +146,18 @@ cleared_rows db next id q is = elim (cases_eq q id) [
 
 -- no entry of the object is left, and all else is as it was
 pub lists_none : (old new : State) (id count : ℕ) → IsRoomDatabase old.now
-    → ExecutesInside 0 drop_entries_text (Int (pos id) ∷ []) old new (Ok count) → Lists old.now.trees id [] new.now
+    → ExecutesInside 0 drop_entries_text (Int (pos id) ∷ []) old new (Ok count) → Lists old.now id [] new.now
 lists_none old new id count room h =
-    let it = drops_entries old new id count room.schema room.keyed.entry
+    let it = drops_entries room.layout old new id count room.schema room.keyed.entry
     (executes_inside drop_entries_text _ old new count h).0 in
     let o = it.others in
     let rows = λ (q : ℕ). cleared_rows old.now.trees new.now.trees id q it.rows_are in
     let here : (id == id) ≡ true = eq-eqb id id refl in
     record {
-      room = still_room 3 old.now new.now room it.schema o
+      room = still_room 3 old.now new.now room it.schema it.sound o
           (subst IsKeyed (sym it.rows_are) (keyed_filter (λ r. not (has 1 id r)) (old.now.trees 3) room.keyed.entry))
           (still_numbered 3 old.now new.now room (omega arith) o);
+      schema = it.schema ∙ sym room.schema;
       mine = ap in_order (rows id ∙ ap (λ b. cond b [] (filter (has 1 id) (old.now.trees 3))) here);
       back = tt;
       others = λ q apart. let other : (q == id) ≡ false = grind (arith, nat_tests) in
@@ -164,7 +166,8 @@ lists_none old new id count room h =
       documents = λ q. ap (λ l. documents_in l q) (o.doc (omega arith));
       next = ap next_in (o.room (omega arith));
       sessions = λ q. ap (λ l. sessions_in l q) (o.session (omega arith));
-      slots = λ q n. ap (λ l. slots_in l q n) (o.slot (omega arith));
+      slots = λ q n. ap (λ l. slots_in l q n)
+          (still_slots 3 old.now new.now room it.schema it.sound (omega arith) o);
       version = ap versions_in (o.room (omega arith));
     }
 
@@ -219,18 +222,20 @@ all_grown id at es (e ∷ batch) rows new place keyed was all =
     }
 
 -- the entries of the object after some more are put in behind them
-pub lists_more : (text : List ℕ) (old new : State) (id at count : ℕ) (es batch : List EntryModel) (before : Trees)
-    → AddsEntries text id at batch → at ≡ length es → AllByRecursion IsReadBack batch → Lists before id es old.now
+pub lists_more : (text : List ℕ) (old new : State) (id at count : ℕ) (es batch : List EntryModel) (before : Database)
+    → ((l : Layout) → AddsEntries l text id at batch) → at ≡ length es → AllByRecursion IsReadBack batch
+    → Lists before id es old.now
     → ExecutesInside 0 text (Int (pos id) ∷ bound_entries at batch) old new (Ok count)
     → Lists before id (es ++ batch) new.now
 lists_more text old new id at count es batch before adds place back was h =
-    let it = adds old new count was.room.schema (executes_inside text _ old new count h).0 in
+    let it = adds was.room.layout old new count was.room.schema (executes_inside text _ old new count h).0 in
     let o = it.others in
     let more = all_grown id at es batch (old.now.trees 3)
     (new.now.trees 3) place was.room.keyed.entry was.mine it.rows in
     record {
-      room = still_room 3 old.now new.now was.room it.schema o more.keyed
+      room = still_room 3 old.now new.now was.room it.schema it.sound o more.keyed
           (still_numbered 3 old.now new.now was.room (omega arith) o);
+      schema = it.schema ∙ sym was.room.schema ∙ was.schema;
       mine = more.mine;
       back = all-append IsReadBack es batch was.back back;
       others = λ q apart. ap (λ l. map entry_of (in_order l)) (more.others q apart) ∙ was.others q apart;
@@ -238,16 +243,17 @@ lists_more text old new id at count es batch before adds place back was h =
       documents = λ q. ap (λ l. documents_in l q) (o.doc (omega arith)) ∙ was.documents q;
       next = ap next_in (o.room (omega arith)) ∙ was.next;
       sessions = λ q. ap (λ l. sessions_in l q) (o.session (omega arith)) ∙ was.sessions q;
-      slots = λ q n. ap (λ l. slots_in l q n) (o.slot (omega arith)) ∙ was.slots q n;
+      slots = λ q n. ap (λ l. slots_in l q n)
+          (still_slots 3 old.now new.now was.room it.schema it.sound (omega arith) o) ∙ was.slots q n;
       version = ap versions_in (o.room (omega arith)) ∙ was.version;
     }
 
 -- what the records are then
-pub lists_records : (before : Trees) (id : ℕ) (es : List EntryModel) (db : Database) → Lists before id es db
-    → records_of db.trees ≡ record (records_of before) {
-      objects = record (records_of before).objects {
+pub lists_records : (before : Database) (id : ℕ) (es : List EntryModel) (db : Database) → Lists before id es db
+    → records_of db.trees ≡ record (records_of before.trees) {
+      objects = record (records_of before.trees).objects {
         entries = λ q.
-            cond (q == id) es ((records_of before).objects.entries q);
+            cond (q == id) es ((records_of before.trees).objects.entries q);
       };
     }
 lists_records before id es db it = same_records _ _ it.nodes (λ q. elim (cases_eq q id) [

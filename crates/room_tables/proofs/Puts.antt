@@ -1,13 +1,9 @@
--- The five upserts.
+-- The four upserts.
 use Rattle.std.proofs.Common.{◌≡◌, ℕ, ℤ, pos, Bool, true, false, ◌&&◌, ◌||◌, List, [], ◌∷◌, Option, None}
-use Rattle.std.proofs.Common.{Some, Ok, Equal, refl, sym, ap, ap₂, subst}
+use Rattle.std.proofs.Common.{Some, Ok, refl, sym, ap, ap₂, subst}
 use Rattle.sqlite_value.specs.declared.value.Value.TheVariants.{Null, Int, Text, Blob}
-use Rattle.sqlite_value.specs.declared.value.Value.{Value}
-use Rattle.sqlite_value.specs.Order.{Row, column, value_cmp}
-use Rattle.sqlite_keyed.proofs.RuleLemmas.{first_of_both, second_of_both}
+use Rattle.sqlite_value.specs.Order.{Row, column}
 use Rattle.sqlite_value.specs.Keys.{first_key}
-use Rattle.std.proofs.lemmas.Cmp.{tied_itself}
-use Rattle.sqlite_value.proofs.OrderLemmas.{value_cmp_total}
 use Rattle.sqlite_trees.specs.Tree.{rowid}
 use Rattle.sqlite_tied.specs.Compute.{everything}
 use Rattle.sqlite_rules.specs.Action.{works}
@@ -19,15 +15,16 @@ use Rattle.sqlite_rules.specs.Cast.{cast, cast_row}
 use Rattle.sqlite_schema.specs.declared.schema.Keys.TheVariants.{Enforced}
 use Rattle.sqlite.specs.Kind.TheVariants.{Integer}
 use Rattle.sqlite.specs.State.{State, Executes}
-use Rattle.room_tables.specs.Tables.{room_schema, room_table, node_table, doc_table, session_table, slot_table}
+use Rattle.room_tables.specs.Tables.{Layout, Fresh, Upgraded, room_schema, room_table, node_table, doc_table}
+use Rattle.room_tables.specs.Tables.{session_table}
 use Rattle.room_tables.specs.Texts.{put_node_text, put_node_terms, put_node_query, put_doc_text, put_doc_terms}
 use Rattle.room_tables.specs.Texts.{put_doc_query, put_next_text, put_next_terms, put_next_query, put_session_text}
-use Rattle.room_tables.specs.Texts.{put_session_terms, put_session_query, put_slot_text, put_slot_terms, put_slot_query}
-use Rattle.room_tables.specs.Rows.{has, has_text, is_slot}
+use Rattle.room_tables.specs.Texts.{put_session_terms, put_session_query}
+use Rattle.room_tables.specs.Rows.{has, has_text}
 use Rattle.room_tables.specs.Layout.{IsKeyed, parent_value}
 use Rattle.room_tables.proofs.Meaning.{put_node_is, put_node_plain, put_doc_is, put_doc_plain, put_next_is}
-use Rattle.room_tables.proofs.Meaning.{put_next_plain, put_session_is, put_session_plain, put_slot_is, put_slot_plain}
-use Rattle.room_tables.proofs.Values.{has_int, has_text_value, has_value, cast_tied}
+use Rattle.room_tables.proofs.Meaning.{put_next_plain, put_session_is, put_session_plain}
+use Rattle.room_tables.proofs.Values.{has_int, has_text_value}
 use Rattle.room_tables.proofs.Changes.{cast_null, cast_int}
 use Rattle.room_tables.proofs.Upserts.{PutInto, IsUpsert, put}
 
@@ -55,38 +52,44 @@ cast_node : (id : ℕ) (parent : Option ℕ) (name : List ℕ) (kind : ℕ) (own
 cast_node id parent name kind owner group aclflag =
     rw (cast_int (pos id), cast_null, cast_parent parent, cast_int (pos kind), cast_int (pos aclflag))
 
-node_quiet : (row : Row) → works room_schema Enforced 0 1 [] (row ∷ []) ≡ []
+node_quiet : (l : Layout) (row : Row) → works (room_schema l) Enforced 0 1 [] (row ∷ []) ≡ []
 unfolding everything
-node_quiet row = refl
+node_quiet Fresh row = refl
+node_quiet Upgraded row = refl
 
-node_quiet_change : (olds : List Row) (row : Row) → works room_schema Enforced 0 1 olds (row ∷ []) ≡ []
+node_quiet_change : (l : Layout) (olds : List Row) (row : Row)
+    → works (room_schema l) Enforced 0 1 olds (row ∷ []) ≡ []
 unfolding everything
-node_quiet_change olds row = refl
+node_quiet_change Fresh olds row = refl
+node_quiet_change Upgraded olds row = refl
 
-node_conflict : (id : ℕ) (parent : Option ℕ) (name : List ℕ) (kind : ℕ) (owner group : List ℕ) (aclflag : ℕ) (r : Row)
-    → conflicts (Some (0 ∷ [])) room_schema.indexes node_table (stored_node id parent name kind owner group aclflag) r
+node_conflict : (l : Layout) (id : ℕ) (parent : Option ℕ) (name : List ℕ) (kind : ℕ) (owner group : List ℕ)
+    (aclflag : ℕ) (r : Row)
+    → conflicts (Some (0 ∷ [])) (room_schema l).indexes node_table
+    (stored_node id parent name kind owner group aclflag) r
     ≡ true → has 0 id r ≡ true
 unfolding first_key
-node_conflict id parent name kind owner group aclflag r h = with_truth (has 0 id r) h
+node_conflict Fresh id parent name kind owner group aclflag r h = with_truth (has 0 id r) h
+node_conflict Upgraded id parent name kind owner group aclflag r h = with_truth (has 0 id r) h
 
 abbrev pub node_params : ℕ → Option ℕ → List ℕ → ℕ → List ℕ → List ℕ → ℕ → Row
 node_params id parent name kind owner group aclflag =
     Int (pos id) ∷ parent_value parent ∷ Text name ∷ Int (pos kind) ∷ Text owner ∷ Text group ∷ Int (pos aclflag) ∷ []
 
-node_upsert : (id : ℕ) (parent : Option ℕ) (name : List ℕ) (kind : ℕ) (owner group : List ℕ) (aclflag : ℕ)
-    → IsUpsert node_table (0 ∷ []) 7 put_node_query.project (node_params id parent name kind owner group aclflag)
+node_upsert : (l : Layout) (id : ℕ) (parent : Option ℕ) (name : List ℕ) (kind : ℕ) (owner group : List ℕ) (aclflag : ℕ)
+    → IsUpsert l node_table (0 ∷ []) 7 put_node_query.project (node_params id parent name kind owner group aclflag)
     (stored_node id parent name kind owner group aclflag)
     (λ r. r ≡ stored_node id parent name kind owner group aclflag) (λ r. has 0 id r ≡ true)
-node_upsert id parent name kind owner group aclflag = record {
+node_upsert l id parent name kind owner group aclflag = record {
   uncounted = refl;
-  quiet_put = node_quiet;
-  quiet_change = node_quiet_change;
+  quiet_put = node_quiet l;
+  quiet_change = node_quiet_change l;
   here = λ db. refl;
   id = pos id;
   has_id = refl;
   cast = cast_node id parent name kind owner group aclflag;
   fits = refl;
-  met = node_conflict id parent name kind owner group aclflag;
+  met = node_conflict l id parent name kind owner group aclflag;
   there_at = λ v. refl;
   raw = λ there. rowid there ∷ Null ∷ parent_value parent ∷ Text name
       ∷ Int (pos kind) ∷ Text owner ∷ Text group ∷ Int (pos aclflag) ∷ [];
@@ -99,15 +102,16 @@ node_upsert id parent name kind owner group aclflag = record {
       ∷ Text owner ∷ Text group ∷ Int (pos aclflag) ∷ []) (its_number id there i is met);
 }
 
-pub puts_node : (old new : State) (id : ℕ) (parent : Option ℕ) (name : List ℕ) (kind : ℕ)
-    (owner group : List ℕ) (aclflag count : ℕ) → old.now.schema ≡ room_schema → IsKeyed (old.now.trees 1)
+pub puts_node : (l : Layout) (old new : State) (id : ℕ) (parent : Option ℕ) (name : List ℕ) (kind : ℕ)
+    (owner group : List ℕ) (aclflag count : ℕ) → old.now.schema ≡ room_schema l → IsKeyed (old.now.trees 1)
     → Executes put_node_text (node_params id parent name kind owner group aclflag) old new (Ok count)
-    → PutInto old.now new.now 1 (λ r. r ≡ stored_node id parent name kind owner group aclflag) (λ r. has 0 id r ≡ true)
-puts_node old new id parent name kind owner group aclflag count schema keyed h =
-    put old new 1 node_table (0 ∷ []) 7 put_node_query.project put_node_terms 8
+    → PutInto l old.now new.now 1 (λ r. r ≡ stored_node id parent name kind owner group aclflag)
+    (λ r. has 0 id r ≡ true)
+puts_node l old new id parent name kind owner group aclflag count schema keyed h =
+    put l old new 1 node_table (0 ∷ []) 7 put_node_query.project put_node_terms 8
     count put_node_text (node_params id parent name kind owner group aclflag)
     (stored_node id parent name kind owner group aclflag) (stored_node id parent name kind owner group aclflag) _ _
-    (node_upsert id parent name kind owner group aclflag) refl schema keyed put_node_is put_node_plain refl
+    (node_upsert l id parent name kind owner group aclflag) refl schema keyed (put_node_is l) (put_node_plain l) refl
     (ap (λ r. with_rowid Chosen (old.now.trees 1) r) (cast_node id parent name kind owner group aclflag)) h
 
 -- ---- doc
@@ -115,34 +119,38 @@ puts_node old new id parent name kind owner group aclflag count schema keyed h =
 abbrev pub stored_doc : ℕ → List ℕ → Row
 stored_doc id bytes = Int (pos id) ∷ Null ∷ Blob bytes ∷ []
 
-doc_quiet : (row : Row) → works room_schema Enforced 0 5 [] (row ∷ []) ≡ []
+doc_quiet : (l : Layout) (row : Row) → works (room_schema l) Enforced 0 5 [] (row ∷ []) ≡ []
 unfolding everything
-doc_quiet row = refl
+doc_quiet Fresh row = refl
+doc_quiet Upgraded row = refl
 
-doc_quiet_change : (olds : List Row) (row : Row) → works room_schema Enforced 0 5 olds (row ∷ []) ≡ []
+doc_quiet_change : (l : Layout) (olds : List Row) (row : Row)
+    → works (room_schema l) Enforced 0 5 olds (row ∷ []) ≡ []
 unfolding everything
-doc_quiet_change olds row = refl
+doc_quiet_change Fresh olds row = refl
+doc_quiet_change Upgraded olds row = refl
 
-doc_conflict : (id : ℕ) (bytes : List ℕ) (r : Row)
-    → conflicts (Some (0 ∷ [])) room_schema.indexes doc_table (stored_doc id bytes) r ≡ true → has 0 id r ≡ true
+doc_conflict : (l : Layout) (id : ℕ) (bytes : List ℕ) (r : Row)
+    → conflicts (Some (0 ∷ [])) (room_schema l).indexes doc_table (stored_doc id bytes) r ≡ true → has 0 id r ≡ true
 unfolding first_key
-doc_conflict id bytes r h = with_truth (has 0 id r) h
+doc_conflict Fresh id bytes r h = with_truth (has 0 id r) h
+doc_conflict Upgraded id bytes r h = with_truth (has 0 id r) h
 
 cast_doc : (id : ℕ) (bytes : List ℕ) → cast_row doc_table (stored_doc id bytes) ≡ stored_doc id bytes
 cast_doc id bytes = rw (cast_int (pos id), cast_null)
 
-doc_upsert : (id : ℕ) (bytes : List ℕ) → IsUpsert doc_table (0 ∷ []) 2 put_doc_query.project
+doc_upsert : (l : Layout) (id : ℕ) (bytes : List ℕ) → IsUpsert l doc_table (0 ∷ []) 2 put_doc_query.project
     (Int (pos id) ∷ Blob bytes ∷ []) (stored_doc id bytes) (λ r. r ≡ stored_doc id bytes) (λ r. has 0 id r ≡ true)
-doc_upsert id bytes = record {
+doc_upsert l id bytes = record {
   uncounted = refl;
-  quiet_put = doc_quiet;
-  quiet_change = doc_quiet_change;
+  quiet_put = doc_quiet l;
+  quiet_change = doc_quiet_change l;
   here = λ db. refl;
   id = pos id;
   has_id = refl;
   cast = cast_doc id bytes;
   fits = refl;
-  met = doc_conflict id bytes;
+  met = doc_conflict l id bytes;
   there_at = λ v. refl;
   raw = λ there. rowid there ∷ Null ∷ Blob bytes ∷ [];
   reads = λ there. refl;
@@ -152,65 +160,69 @@ doc_upsert id bytes = record {
   refits = λ there i is met. ap (λ v. v ∷ Null ∷ Blob bytes ∷ []) (its_number id there i is met);
 }
 
-pub puts_doc : (old new : State) (id : ℕ) (bytes : List ℕ) (count : ℕ) → old.now.schema ≡ room_schema
+pub puts_doc : (l : Layout) (old new : State) (id : ℕ) (bytes : List ℕ) (count : ℕ) → old.now.schema ≡ room_schema l
     → IsKeyed (old.now.trees 5) → Executes put_doc_text (Int (pos id) ∷ Blob bytes ∷ []) old new (Ok count)
-    → PutInto old.now new.now 5 (λ r. r ≡ stored_doc id bytes) (λ r. has 0 id r ≡ true)
-puts_doc old new id bytes count schema keyed h =
-    put old new 3 doc_table (0 ∷ []) 2 put_doc_query.project put_doc_terms 3 count put_doc_text
+    → PutInto l old.now new.now 5 (λ r. r ≡ stored_doc id bytes) (λ r. has 0 id r ≡ true)
+puts_doc l old new id bytes count schema keyed h =
+    put l old new 3 doc_table (0 ∷ []) 2 put_doc_query.project put_doc_terms 3 count put_doc_text
     (Int (pos id) ∷ Blob bytes ∷ []) (stored_doc id bytes) (stored_doc id bytes) _ _
-    (doc_upsert id bytes) refl schema keyed put_doc_is put_doc_plain refl
+    (doc_upsert l id bytes) refl schema keyed (put_doc_is l) (put_doc_plain l) refl
     (ap (λ r. with_rowid Chosen (old.now.trees 5) r) (cast_doc id bytes)) h
 
 -- ---- the one row of room
 
--- of version 1, with this next number
+-- of version 2, with this next number
 abbrev pub stored_next : ℕ → Row
-stored_next n = Int (pos 1) ∷ Null ∷ Int (pos 1) ∷ Int (pos n) ∷ []
+stored_next n = Int (pos 1) ∷ Null ∷ Int (pos 2) ∷ Int (pos n) ∷ []
 
-next_quiet : (row : Row) → works room_schema Enforced 0 0 [] (row ∷ []) ≡ []
+next_quiet : (l : Layout) (row : Row) → works (room_schema l) Enforced 0 0 [] (row ∷ []) ≡ []
 unfolding everything
-next_quiet row = refl
+next_quiet Fresh row = refl
+next_quiet Upgraded row = refl
 
-next_quiet_change : (olds : List Row) (row : Row) → works room_schema Enforced 0 0 olds (row ∷ []) ≡ []
+next_quiet_change : (l : Layout) (olds : List Row) (row : Row)
+    → works (room_schema l) Enforced 0 0 olds (row ∷ []) ≡ []
 unfolding everything
-next_quiet_change olds row = refl
+next_quiet_change Fresh olds row = refl
+next_quiet_change Upgraded olds row = refl
 
-next_conflict : (n : ℕ) (r : Row)
-    → conflicts (Some (0 ∷ [])) room_schema.indexes room_table (stored_next n) r ≡ true → has 0 1 r ≡ true
+next_conflict : (l : Layout) (n : ℕ) (r : Row)
+    → conflicts (Some (0 ∷ [])) (room_schema l).indexes room_table (stored_next n) r ≡ true → has 0 1 r ≡ true
 unfolding first_key
-next_conflict n r h = with_truth (has 0 1 r) h
+next_conflict Fresh n r h = with_truth (has 0 1 r) h
+next_conflict Upgraded n r h = with_truth (has 0 1 r) h
 
 cast_next : (n : ℕ) → cast_row room_table (stored_next n) ≡ stored_next n
-cast_next n = rw (cast_int (pos 1), cast_null, cast_int (pos n))
+cast_next n = rw (cast_int (pos 1), cast_null, cast_int (pos 2), cast_int (pos n))
 
-next_upsert : (n : ℕ) → IsUpsert room_table (0 ∷ []) 1 put_next_query.project
+next_upsert : (l : Layout) (n : ℕ) → IsUpsert l room_table (0 ∷ []) 1 put_next_query.project
     (Int (pos n) ∷ []) (stored_next n) (λ r. r ≡ stored_next n) (λ r. has 0 1 r ≡ true)
-next_upsert n = record {
+next_upsert l n = record {
   uncounted = refl;
-  quiet_put = next_quiet;
-  quiet_change = next_quiet_change;
+  quiet_put = next_quiet l;
+  quiet_change = next_quiet_change l;
   here = λ db. refl;
   id = pos 1;
   has_id = refl;
   cast = cast_next n;
   fits = refl;
-  met = next_conflict n;
+  met = next_conflict l n;
   there_at = λ v. refl;
-  raw = λ there. rowid there ∷ Null ∷ Int (pos 1) ∷ Int (pos n) ∷ [];
+  raw = λ there. rowid there ∷ Null ∷ Int (pos 2) ∷ Int (pos n) ∷ [];
   reads = λ there. refl;
-  renewed = λ there. rowid there ∷ Null ∷ Int (pos 1) ∷ Int (pos n) ∷ [];
-  casts = λ there i is. rw (is, cast_int i, cast_null, cast_int (pos 1), cast_int (pos n));
+  renewed = λ there. rowid there ∷ Null ∷ Int (pos 2) ∷ Int (pos n) ∷ [];
+  casts = λ there i is. rw (is, cast_int i, cast_null, cast_int (pos 2), cast_int (pos n));
   same_id = λ there. refl;
-  refits = λ there i is met. ap (λ v. v ∷ Null ∷ Int (pos 1) ∷ Int (pos n) ∷ []) (its_number 1 there i is met);
+  refits = λ there i is met. ap (λ v. v ∷ Null ∷ Int (pos 2) ∷ Int (pos n) ∷ []) (its_number 1 there i is met);
 }
 
-pub puts_next : (old new : State) (n count : ℕ) → old.now.schema ≡ room_schema
+pub puts_next : (l : Layout) (old new : State) (n count : ℕ) → old.now.schema ≡ room_schema l
     → IsKeyed (old.now.trees 0) → Executes put_next_text (Int (pos n) ∷ []) old new (Ok count)
-    → PutInto old.now new.now 0 (λ r. r ≡ stored_next n) (λ r. has 0 1 r ≡ true)
-puts_next old new n count schema keyed h =
-    put old new 0 room_table (0 ∷ []) 1 put_next_query.project put_next_terms 4
+    → PutInto l old.now new.now 0 (λ r. r ≡ stored_next n) (λ r. has 0 1 r ≡ true)
+puts_next l old new n count schema keyed h =
+    put l old new 0 room_table (0 ∷ []) 1 put_next_query.project put_next_terms 4
     count put_next_text (Int (pos n) ∷ []) (stored_next n) (stored_next n) _ _
-    (next_upsert n) refl schema keyed put_next_is put_next_plain refl
+    (next_upsert l n) refl schema keyed (put_next_is l) (put_next_plain l) refl
     (ap (λ r. with_rowid Chosen (old.now.trees 0) r) (cast_next n)) h
 
 -- ---- session
@@ -223,38 +235,42 @@ stored_session rowid sid owner slots open_flag =
 abbrev pub IsSession : List ℕ → List ℕ → ℕ → ℕ → Row → Type 0
 IsSession sid owner slots open_flag r = (rowid : ℤ) × (r ≡ stored_session rowid sid owner slots open_flag)
 
-session_quiet : (row : Row) → works room_schema Enforced 0 6 [] (row ∷ []) ≡ []
+session_quiet : (l : Layout) (row : Row) → works (room_schema l) Enforced 0 6 [] (row ∷ []) ≡ []
 unfolding everything
-session_quiet row = refl
+session_quiet Fresh row = refl
+session_quiet Upgraded row = refl
 
-session_quiet_change : (olds : List Row) (row : Row) → works room_schema Enforced 0 6 olds (row ∷ []) ≡ []
+session_quiet_change : (l : Layout) (olds : List Row) (row : Row)
+    → works (room_schema l) Enforced 0 6 olds (row ∷ []) ≡ []
 unfolding everything
-session_quiet_change olds row = refl
+session_quiet_change Fresh olds row = refl
+session_quiet_change Upgraded olds row = refl
 
-session_conflict : (rowid : ℤ) (sid owner : List ℕ) (slots open_flag : ℕ) (r : Row)
-    → conflicts (Some (1 ∷ [])) room_schema.indexes session_table (stored_session rowid sid owner slots open_flag) r
+session_conflict : (l : Layout) (rowid : ℤ) (sid owner : List ℕ) (slots open_flag : ℕ) (r : Row)
+    → conflicts (Some (1 ∷ [])) (room_schema l).indexes session_table (stored_session rowid sid owner slots open_flag) r
     ≡ true → has_text 1 sid r ≡ true
 unfolding first_key
-session_conflict rowid sid owner slots open_flag r h = with_truth (has_text 1 sid r) h
+session_conflict Fresh rowid sid owner slots open_flag r h = with_truth (has_text 1 sid r) h
+session_conflict Upgraded rowid sid owner slots open_flag r h = with_truth (has_text 1 sid r) h
 
 cast_session : (rowid : ℤ) (sid owner : List ℕ) (slots open_flag : ℕ) → cast_row session_table
     (stored_session rowid sid owner slots open_flag) ≡ stored_session rowid sid owner slots open_flag
 cast_session rowid sid owner slots open_flag = rw (cast_int rowid, cast_int (pos slots), cast_int (pos open_flag))
 
-session_upsert : (rowid : ℤ) (sid owner : List ℕ) (slots open_flag : ℕ)
-    → IsUpsert session_table (1 ∷ []) 4 put_session_query.project (Text sid ∷ Text owner
+session_upsert : (l : Layout) (rowid : ℤ) (sid owner : List ℕ) (slots open_flag : ℕ)
+    → IsUpsert l session_table (1 ∷ []) 4 put_session_query.project (Text sid ∷ Text owner
     ∷ Int (pos slots) ∷ Int (pos open_flag) ∷ []) (stored_session rowid sid owner slots open_flag)
     (IsSession sid owner slots open_flag) (λ r. has_text 1 sid r ≡ true)
-session_upsert id sid owner slots open_flag = record {
+session_upsert l id sid owner slots open_flag = record {
   uncounted = refl;
-  quiet_put = session_quiet;
-  quiet_change = session_quiet_change;
+  quiet_put = session_quiet l;
+  quiet_change = session_quiet_change l;
   here = λ db. refl;
   id = id;
   has_id = refl;
   cast = cast_session id sid owner slots open_flag;
   fits = (id, refl);
-  met = session_conflict id sid owner slots open_flag;
+  met = session_conflict l id sid owner slots open_flag;
   there_at = λ v. refl;
   raw = λ there. rowid there ∷ column there 1 ∷ Text owner ∷ Int (pos slots) ∷ Int (pos open_flag) ∷ [];
   reads = λ there. refl;
@@ -269,93 +285,15 @@ session_upsert id sid owner slots open_flag = record {
   );
 }
 
-pub puts_session : (old new : State) (sid owner : List ℕ) (slots open_flag count : ℕ)
-    → old.now.schema ≡ room_schema → IsKeyed (old.now.trees 6)
+pub puts_session : (l : Layout) (old new : State) (sid owner : List ℕ) (slots open_flag count : ℕ)
+    → old.now.schema ≡ room_schema l → IsKeyed (old.now.trees 6)
     → Executes put_session_text (Text sid ∷ Text owner ∷ Int (pos slots) ∷ Int (pos open_flag) ∷ []) old new (Ok count)
-    → PutInto old.now new.now 6 (IsSession sid owner slots open_flag) (λ r. has_text 1 sid r ≡ true)
-puts_session old new sid owner slots open_flag count schema keyed h =
-    put old new 4 session_table (1 ∷ []) 4 put_session_query.project put_session_terms 5 count
+    → PutInto l old.now new.now 6 (IsSession sid owner slots open_flag) (λ r. has_text 1 sid r ≡ true)
+puts_session l old new sid owner slots open_flag count schema keyed h =
+    put l old new 4 session_table (1 ∷ []) 4 put_session_query.project put_session_terms 5 count
     put_session_text (Text sid ∷ Text owner ∷ Int (pos slots) ∷ Int (pos open_flag) ∷ [])
     (Null ∷ Text sid ∷ Text owner ∷ Int (pos slots) ∷ Int (pos open_flag) ∷ [])
     (stored_session (next_rowid (old.now.trees 6)) sid owner slots open_flag) _ _
-    (session_upsert (next_rowid (old.now.trees 6)) sid owner slots open_flag)
-    refl schema keyed put_session_is put_session_plain refl
+    (session_upsert l (next_rowid (old.now.trees 6)) sid owner slots open_flag)
+    refl schema keyed (put_session_is l) (put_session_plain l) refl
     (rw (cast_null, cast_int (pos slots), cast_int (pos open_flag)) refl) h
-
--- ---- slot
-
-abbrev pub slot_values : List ℕ → ℕ → ℕ → List ℕ → List ℕ → Row
-slot_values sid slot seq request reply = Text sid ∷ Int (pos slot) ∷ Int (pos seq) ∷ Blob request ∷ Blob reply ∷ []
-
--- the row of this slot, under some rowid, with a value that ties with the slot's number
-pub record IsSlot (sid : List ℕ) (slot seq : ℕ) (request reply : List ℕ) (r : Row) : Type 0 where
-  pub rowid : ℤ
-  pub number : Value
-  pub tied : value_cmp number (Int (pos slot)) ≡ Equal
-  pub is : r ≡ Int rowid ∷ Text sid ∷ number ∷ Int (pos seq) ∷ Blob request ∷ Blob reply ∷ []
-
-slot_quiet : (row : Row) → works room_schema Enforced 0 8 [] (row ∷ []) ≡ []
-unfolding everything
-slot_quiet row = refl
-
-slot_quiet_change : (olds : List Row) (row : Row) → works room_schema Enforced 0 8 olds (row ∷ []) ≡ []
-unfolding everything
-slot_quiet_change olds row = refl
-
-with_two_truths : (a b : Bool) → ((a && (b && true)) || false) ≡ true → (a && b) ≡ true
-with_two_truths true b h = with_truth b h
-with_two_truths false b h = h
-
-slot_conflict : (rowid : ℤ) (sid : List ℕ) (slot seq : ℕ) (request reply : List ℕ) (r : Row)
-    → conflicts (Some (1 ∷ 2 ∷ [])) room_schema.indexes slot_table
-    (Int rowid ∷ slot_values sid slot seq request reply) r
-    ≡ true → is_slot sid slot r ≡ true
-unfolding first_key
-slot_conflict rowid sid slot seq request reply r h = with_two_truths (has_text 1 sid r) (has 2 slot r) h
-
-cast_slot : (rowid : ℤ) (sid : List ℕ) (slot seq : ℕ) (request reply : List ℕ)
-    → cast_row slot_table (Int rowid ∷ slot_values sid slot seq request reply)
-    ≡ Int rowid ∷ slot_values sid slot seq request reply
-cast_slot rowid sid slot seq request reply = rw (cast_int rowid, cast_int (pos slot), cast_int (pos seq))
-
-slot_upsert : (rowid : ℤ) (sid : List ℕ) (slot seq : ℕ) (request reply : List ℕ)
-    → IsUpsert slot_table (1 ∷ 2 ∷ []) 5 put_slot_query.project (slot_values sid slot seq request reply)
-    (Int rowid ∷ slot_values sid slot seq request reply)
-    (IsSlot sid slot seq request reply) (λ r. is_slot sid slot r ≡ true)
-slot_upsert id sid slot seq request reply = record {
-  uncounted = refl;
-  quiet_put = slot_quiet;
-  quiet_change = slot_quiet_change;
-  here = λ db. refl;
-  id = id;
-  has_id = refl;
-  cast = cast_slot id sid slot seq request reply;
-  fits = record { rowid = id; number = Int (pos slot); tied = tied_itself value_cmp_total (Int (pos slot)); is = refl };
-  met = slot_conflict id sid slot seq request reply;
-  there_at = λ v. refl;
-  raw = λ there. rowid there ∷ column there 1 ∷ column there 2 ∷ Int (pos seq) ∷ Blob request ∷ Blob reply ∷ [];
-  reads = λ there. refl;
-  renewed = λ there. rowid there ∷ cast Rattle.sqlite.specs.Kind.TheVariants.Text (column there 1)
-      ∷ cast Integer (column there 2) ∷ Int (pos seq) ∷ Blob request ∷ Blob reply ∷ [];
-  casts = λ there i is. rw (is, cast_int i, cast_int (pos seq));
-  same_id = λ there. refl;
-  refits = λ there i is met. record {
-    rowid = i;
-    number = cast Integer (column there 2);
-    tied = cast_tied (column there 2) (pos slot) (has_value 2 slot there (second_of_both _ _ met));
-    is = ap₂ (λ v t. v ∷ t ∷ cast Integer (column there 2) ∷ Int (pos seq) ∷ Blob request ∷ Blob reply ∷ [])
-        is (ap (cast Rattle.sqlite.specs.Kind.TheVariants.Text) (has_text_value 1 sid there (first_of_both _ _ met)));
-  };
-}
-
-pub puts_slot : (old new : State) (sid : List ℕ) (slot seq : ℕ) (request reply : List ℕ) (count : ℕ)
-    → old.now.schema ≡ room_schema → IsKeyed (old.now.trees 8)
-    → Executes put_slot_text (slot_values sid slot seq request reply) old new (Ok count)
-    → PutInto old.now new.now 8 (IsSlot sid slot seq request reply) (λ r. is_slot sid slot r ≡ true)
-puts_slot old new sid slot seq request reply count schema keyed h =
-    put old new 5 slot_table (1 ∷ 2 ∷ []) 5 put_slot_query.project put_slot_terms 6 count
-    put_slot_text (slot_values sid slot seq request reply) (Null ∷ slot_values sid slot seq request reply)
-    (Int (next_rowid (old.now.trees 8)) ∷ slot_values sid slot seq request reply) _ _
-    (slot_upsert (next_rowid (old.now.trees 8)) sid slot seq request reply)
-    refl schema keyed put_slot_is put_slot_plain refl
-    (rw (cast_null, cast_int (pos slot), cast_int (pos seq)) refl) h

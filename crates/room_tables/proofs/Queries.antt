@@ -7,6 +7,7 @@ use Rattle.std.specs.List.{list_all}
 use Rattle.std.proofs.lemmas.List.Sorted.{IsPermutation-map, length_permutation}
 use Rattle.sqlite_value.specs.declared.value.Value.TheVariants.{Null}
 use Rattle.sqlite_value.specs.declared.keys.Key.{Key}
+use Rattle.sqlite_value.specs.declared.keys.Collation.{Collation}
 use Rattle.sqlite_value.specs.Order.{Row}
 use Rattle.sqlite_trees.specs.Tree.{Trees}
 use Rattle.sqlite_sql.specs.Term.{Term, holds}
@@ -24,7 +25,7 @@ use Rattle.sqlite.specs.declared.error.Error.{Error}
 use Rattle.sqlite_schema.specs.declared.command.Returning.{Returning}
 use Rattle.sqlite.specs.Clock.{timed}
 use Rattle.sqlite.specs.Listing.{understood}
-use Rattle.sqlite.proofs.StateLemmas.{survives_weaker}
+use Rattle.sqlite.proofs.StateLemmas.{survives_weaker, unchanged}
 use Rattle.sqlite.proofs.Callers.{IsPlain, reads_as, one_permutation}
 use Rattle.sqlite.proofs.Callers.{command_of}
 use Rattle.sqlite_schema.specs.declared.command.Command.TheVariants.{Select}
@@ -42,7 +43,6 @@ use Rattle.sqlite_ast.specs.declared.Statement.{Statement}
 use Rattle.sqlite_ast.specs.declared.Statement.TheVariants as written
 use Rattle.sqlite.specs.Listing as listing
 use Rattle.sqlite_schema.specs.declared.schema.Schema.{Schema}
-use Rattle.room_tables.specs.Tables.{room_schema}
 use Rattle.room_tables.specs.Texts.{over_table}
 use Rattle.room_tables.specs.Rows.{only}
 use Rattle.room_tables.proofs.Sorted.{all_permutation, sorted_answer}
@@ -69,12 +69,14 @@ pub record Picks (q : Query) (params : Row) (rows : List Row) (shown : List Row)
   pub sorted : IsSorted (output_cmp q) ordered
   pub is : shown ≡ map (λ (o : Output). o.1) ordered
 
-pub answer_is : (tree : ℕ) (terms project : List Term)
-    (order : List (Term × Key)) (db : Trees) (params : Row) (rows : List Row)
-    → IsAnswer (over_table tree terms project order) db params rows
-    → Picks (over_table tree terms project order) params (passing terms params (db tree)) rows
-answer_is tree terms project order db params rows a =
-    let q = over_table tree terms project order in
+-- what a query over one table shows, whatever collations its columns have
+pub answer_of : (tree : ℕ) (terms project : List Term) (order : List (Term × Key)) (how : List Collation) (db : Trees)
+    (params : Row) (rows : List Row)
+    → IsAnswer (record (over_table tree terms project order) { collations = how }) db params rows
+    → Picks (record (over_table tree terms project order) { collations = how }) params
+    (passing terms params (db tree)) rows
+answer_of tree terms project order how db params rows a =
+    let q : Query = record (over_table tree terms project order) { collations = how } in
     let kept : a.kept ≡ map (λ r. output q (params ∷ r ∷ [])) (passing terms params (db tree)) =
     a.distinct ∙ ap (map (output q)) (a.grouped ∙ envs_are terms params (db tree))
     ∙ map-map (output q) (λ r. params ∷ r ∷ []) (passing terms params (db tree)) in
@@ -85,20 +87,27 @@ answer_is tree terms project order db params rows a =
       is = a.shown;
     }
 
+pub answer_is : (tree : ℕ) (terms project : List Term)
+    (order : List (Term × Key)) (db : Trees) (params : Row) (rows : List Row)
+    → IsAnswer (over_table tree terms project order) db params rows
+    → Picks (over_table tree terms project order) params (passing terms params (db tree)) rows
+answer_is tree terms project order = answer_of tree terms project order []
+
 pub and_true : (b : Bool) → (b && true) ≡ b
 and_true true = refl
 and_true false = refl
 
 -- what a text over one table answers
-pub picked : (old new : State) (sql : List ℕ) (params : Row) (tree : ℕ) (terms project : List Term)
-    (order : List (Term × Key)) (names : List (List ℕ)) (rows : List Row) → old.now.schema ≡ room_schema
-    → command_of (understood room_schema sql)
+pub picked : (schema : Schema) (old new : State) (sql : List ℕ) (params : Row) (tree : ℕ) (terms project : List Term)
+    (order : List (Term × Key)) (names : List (List ℕ)) (rows : List Row)
+    → old.now.schema ≡ schema
+    → command_of (understood schema sql)
     ≡ Select (record { lets = []; body = over_table tree terms project order }) names
-    → IsPlain (understood room_schema sql) × (reads_listing room_schema sql ≡ false)
+    → IsPlain (understood schema sql) × (reads_listing schema sql ≡ false)
     → overlay old.now.trees [] tree ≡ old.now.trees tree → Shown sql params old new rows
     → Picks (over_table tree terms project order) params (passing terms params (old.now.trees tree)) rows
-picked old new sql params tree terms project order names rows schema is plain here h =
-    let read = reads_as sql params old new room_schema schema _ is plain.0 plain.1 rows h in
+picked schema old new sql params tree terms project order names rows has is plain here h =
+    let read = reads_as sql params old new schema has _ is plain.0 plain.1 rows h in
     subst (λ all. Picks (over_table tree terms project order) params (passing terms params all) rows) here
     (answer_is tree terms project order (overlay old.now.trees []) params rows (read.answer Null))
 
@@ -241,21 +250,26 @@ pub query_keeps : (sql : List ℕ) (params : Row) (old new : State) → is_query
     → Survives old new (CommitsShowing sql params old) → Survives old new (λ _. ⊥)
 query_keeps sql params old new h = survives_weaker old new _ _ (λ _ db. query_commits_none sql params old db h)
 
--- a query that is plain leaves the connection as it was
-pub query_same : (sql : List ℕ) (params : Row) (old new : State) (rows : List Row) → old.now.schema ≡ room_schema
-    → IsPlain (understood room_schema sql) → Shown sql params old new rows → IsUnchanged old new
-unfolding Shown
-query_same sql params old new rows schema plain h =
-    let none = (subst IsPlain h.1.is (subst (λ s. IsPlain (understood s sql)) (sym schema) plain)).0 in
-    (subst (ShowsRows old new sql h.0 (timed params h.0.formats h.1.now) rows) none h.2).3
-
--- and so does any query, whatever the schema
+-- and leaves the connection as it was
 pub query_leaves : (sql : List ℕ) (params : Row) (old new : State) (rows : List Row)
     → is_query_text (first sql) ≡ true → Shown sql params old new rows → IsUnchanged old new
 unfolding Shown
 query_leaves sql params old new rows text h =
     let none = subst IsUnreturned h.1.is (unreturned old.now.schema sql text) in
     (subst (ShowsRows old new sql h.0 (timed params h.0.formats h.1.now) rows) none h.2).3
+
+-- so that what it shows can be said of the first state alone
+pub shown_still : (text : List ℕ) (params : Row) (old new : State) (rows : List Row)
+    → is_query_text (first text) ≡ true → Shown text params old new rows → Shown text params old old rows
+unfolding Shown
+shown_still text params old new rows selects h =
+    let none = subst IsUnreturned h.1.is (unreturned old.now.schema text selects) in
+    let it = subst (ShowsRows old new text h.0 (timed params h.0.formats h.1.now) rows) none h.2 in (
+      h.0,
+      h.1,
+      subst (ShowsRows old old text h.0 (timed params h.0.formats h.1.now) rows) (sym none)
+          (it.0, it.1, it.2, unchanged old it.3.0.was_open),
+    )
 
 -- a query that failed outside a transaction
 pub fails_leaves : (sql : List ℕ) (params : Row) (old new : State) (e : Error)
@@ -313,15 +327,6 @@ pub query_open : {V : Type 0} (items : V → List Row) (sql : List ℕ)
     → new.is_open ≡ true → old.is_open ≡ true
 query_open items sql params old new (Ok rows) ok err is = shown_open sql params old new (items rows) ok
 query_open items sql params old new (Err e) ok err is = left_open old new (fails_leaves sql params old new e err) is
-
-pub query_now : {V : Type 0} (items : V → List Row) (sql : List ℕ) (params : Row) (old new : State) (r : Result V Error)
-    → old.now.schema ≡ room_schema → IsPlain (understood room_schema sql)
-    → IfOk r (λ rows. Shown sql params old new (items rows)) → IfErr r (FailsToQuery sql params old new)
-    → new.is_open ≡ true → old.now ≡ old.committed → new.now ≡ old.now
-query_now items sql params old new (Ok rows) schema plain ok err is settled =
-    (query_same sql params old new (items rows) schema plain ok).0.now_is
-query_now items sql params old new (Err e) schema plain ok err is settled =
-    left_now old new settled (fails_leaves sql params old new e err) is
 
 pub query_left : {V : Type 0} (items : V → List Row) (sql : List ℕ) (params : Row)
     (old new : State) (r : Result V Error) → is_query_text (first sql) ≡ true

@@ -32,7 +32,7 @@ use Rattle.sqlite_rules.proofs.TableLemmas.{int_is}
 use Rattle.sqlite.specs.State.{State, Shown, Begins}
 use Rattle.sqlite.specs.Effect.{Database, IsDatabase}
 use Rattle.sqlite.proofs.Callers.{reads_as, begins_as}
-use Rattle.room_tables.specs.Tables.{room_schema, entry_table, entry_index}
+use Rattle.room_tables.specs.Tables.{Layout, room_schema, entry_table, entry_index}
 use Rattle.room_tables.specs.Rows.{has, shown_entry, entry_keys, entry_rows}
 use Rattle.room_tables.specs.Layout.{IsKeyed, IsRoomDatabase}
 use Rattle.room_tables.specs.Texts.{read_entries_text, read_entries_query}
@@ -48,15 +48,15 @@ not_false : (b : Bool) → not b ≡ true → b ≡ false
 not_false true h = sym h
 not_false false h = refl
 
-unique_entry : (db : Database) (row : Row) → passes Unique room_schema db.trees entry_table row ≡ true
+unique_entry : (l : Layout) (db : Database) (row : Row) → passes Unique (room_schema l) db.trees entry_table row ≡ true
     → clashes plain (1 ∷ 2 ∷ []) (db.trees 3) row ≡ false
-unique_entry db row h =
+unique_entry l db row h =
     not_false _ (test_has (λ i. not (guards i entry_table && clashes i.order i.columns (db.trees 3) row))
-    room_schema.indexes entry_index h (inr (inl refl)))
+    (room_schema l).indexes entry_index h (inr (inl refl)))
 
-placed_entry : (db : Database) (row : Row) → passes NotNull room_schema db.trees entry_table row ≡ true
+placed_entry : (l : Layout) (db : Database) (row : Row) → passes NotNull (room_schema l) db.trees entry_table row ≡ true
     → is_null (column row 2) ≡ false
-placed_entry db row h = not_false _ (first_of_both _ _ (second_of_both (not (is_null (column row 1))) _ h))
+placed_entry l db row h = not_false _ (first_of_both _ _ (second_of_both (not (is_null (column row 1))) _ h))
 
 truth_is : (b : Bool) (o : Ordering) → b ≡ false → o ≡ Equal → is_true (cond b Null (from_truth (Some (is_eq o))))
     ≡ true
@@ -84,15 +84,16 @@ both_true : (a b : Bool) → a ≡ true → b ≡ true → (a && b) ≡ true
 both_true a b p q = rw p q
 
 -- two entries of an object that have one place are one row
-entry_once : (db : Database) (id : ℕ) (x y : Row) → db.schema ≡ room_schema → IsDatabase db → IsKeyed (db.trees 3)
+entry_once : (l : Layout) (db : Database) (id : ℕ) (x y : Row) → db.schema ≡ room_schema l → IsDatabase db
+    → IsKeyed (db.trees 3)
     → Has (db.trees 3) x → Has (db.trees 3) y → has 1 id x ≡ true → has 1 id y ≡ true
     → value_cmp (column x 2) (column y 2) ≡ Equal → value_cmp (rowid x) (rowid y) ≡ Equal
-entry_once db id x y schema sound keyed in_x in_y p q tie =
+entry_once l db id x y schema sound keyed in_x in_y p q tie =
     let keeps = subst (λ s. Keeps Unique s db.trees) schema (sound.obeys.rules Unique) in
     let filled = subst (λ s. Keeps NotNull s db.trees) schema (sound.obeys.rules NotNull) in
-    let clash = unique_entry db y (all_has _ (db.trees 3) y keeps.1.1.0 in_y) in
-    let some_x = placed_entry db x (all_has _ (db.trees 3) x filled.1.1.0 in_x) in
-    let some_y = placed_entry db y (all_has _ (db.trees 3) y filled.1.1.0 in_y) in
+    let clash = unique_entry l db y (all_has _ (db.trees 3) y keeps.1.1.0 in_y) in
+    let some_x = placed_entry l db x (all_has _ (db.trees 3) x filled.1.1.0 in_x) in
+    let some_y = placed_entry l db y (all_has _ (db.trees 3) y filled.1.1.0 in_y) in
     let nodes = tied_equal (column x 1) (column y 1) (has_not_null 1 id x p) (has_not_null 1 id y q)
     (has_tied 1 id x y p q) in
     let places = tied_equal (column x 2) (column y 2) some_x some_y tie in
@@ -118,7 +119,7 @@ place_keys = ascending Binary ∷ []
 abbrev place_key : Row → Row
 place_key x = column x 0 ∷ []
 
-module _ (db : Database) (id : ℕ) (schema : db.schema ≡ room_schema) (sound : IsDatabase db)
+module _ (l : Layout) (db : Database) (id : ℕ) (schema : db.schema ≡ room_schema l) (sound : IsDatabase db)
     (keyed : IsKeyed (db.trees 3)) where
   abbrev mine : List Row
   mine = filter (has 1 id) (db.trees 3)
@@ -131,7 +132,7 @@ module _ (db : Database) (id : ℕ) (schema : db.schema ≡ room_schema) (sound 
       subst₂ (λ v w. value_cmp v w ≡ Equal) (ap (λ (r : Row). column r 0) p.2) (ap (λ (r : Row). column r 0) q.2)
       tie in
       let same : p.0 ≡ q.0 = tied_same (db.trees 3) p.0 q.0 keyed.table x.0 y.0
-      (entry_once db id p.0 q.0 schema sound keyed x.0 y.0 x.1 y.1 places) in
+      (entry_once l db id p.0 q.0 schema sound keyed x.0 y.0 x.1 y.1 places) in
       p.2 ∙ ap shown_entry same ∙ sym q.2
 
   exact_all : (a b : Row) → IsOf mine a → IsOf mine b → key_cmp 0 entry_keys a b ≡ Equal → a ≡ b
@@ -205,15 +206,15 @@ pub read_begins : (s : State) (id : ℕ) (given : List Row) → IsRoomDatabase s
     → Begins read_entries_text (Int (pos id) ∷ []) s given → (tail : List Row)
     × (given ++ tail ≡ entry_rows s.now.trees id)
 read_begins s id given room sound h =
-    let read = begins_as read_entries_text (Int (pos id) ∷ []) s s room_schema room.schema _ read_entries_is
-    read_entries_plain.0 read_entries_plain.1 given h in
+    let read = begins_as read_entries_text (Int (pos id) ∷ []) s s (room_schema room.layout) room.schema _
+    (read_entries_is room.layout) (read_entries_plain room.layout).0 (read_entries_plain room.layout).1 given h in
     let start = read.1 in
-    (start.0, whole_answer s.now id room.schema sound room.keyed.entry (given ++ start.0) (start.1 Null))
+    (start.0, whole_answer room.layout s.now id room.schema sound room.keyed.entry (given ++ start.0) (start.1 Null))
 
 -- and at the end they are all
 pub read_ends : (old new : State) (id : ℕ) (given : List Row) → IsRoomDatabase old.now → IsDatabase old.now
     → Shown read_entries_text (Int (pos id) ∷ []) old new given → given ≡ entry_rows old.now.trees id
 read_ends old new id given room sound h =
-    let read = reads_as read_entries_text (Int (pos id) ∷ []) old new room_schema room.schema _ read_entries_is
-    read_entries_plain.0 read_entries_plain.1 given h in
-    whole_answer old.now id room.schema sound room.keyed.entry given (read.answer Null)
+    let read = reads_as read_entries_text (Int (pos id) ∷ []) old new (room_schema room.layout) room.schema _
+    (read_entries_is room.layout) (read_entries_plain room.layout).0 (read_entries_plain room.layout).1 given h in
+    whole_answer room.layout old.now id room.schema sound room.keyed.entry given (read.answer Null)

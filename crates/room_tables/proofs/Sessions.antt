@@ -20,7 +20,7 @@ use Rattle.sqlite.specs.State.{State, ExecutesInside}
 use Rattle.room_records.specs.declared.session.SessionRow.{SessionRow}
 use Rattle.room_records.specs.declared.change.Change.TheVariants.{PutSession}
 use Rattle.room_records.specs.Changes.{apply_change}
-use Rattle.room_tables.specs.Tables.{room_schema, session_table, session_index}
+use Rattle.room_tables.specs.Tables.{Layout, room_schema, session_table, session_index}
 use Rattle.room_tables.specs.Texts.{put_session_text}
 use Rattle.room_tables.specs.Rows.{has_text, only, shown_session, session_of, sessions_in, nodes_in, entries_in}
 use Rattle.room_tables.specs.Rows.{documents_in, next_in, slots_in}
@@ -34,7 +34,7 @@ use Rattle.room_tables.proofs.Changes.{executes_inside}
 use Rattle.room_tables.proofs.Upserts.{Put}
 use Rattle.room_tables.proofs.Puts.{IsSession, stored_session, puts_session}
 use Rattle.room_tables.proofs.Filters.{put_passed_over, others_left_on, keyed_after, still_room}
-use Rattle.room_tables.proofs.Filters.{still_numbered, version_stays}
+use Rattle.room_tables.proofs.Filters.{still_numbered, still_slots, version_stays}
 use Rattle.room_tables.proofs.Effects.{same_records, through}
 
 pub not_false : (b : Bool) → not b ≡ true → b ≡ false
@@ -42,11 +42,12 @@ not_false true h = sym h
 not_false false h = refl
 
 -- the rule of the one index of session
-unique_session : (db : Database) (row : Row) → passes Unique room_schema db.trees session_table row ≡ true
+unique_session : (l : Layout) (db : Database) (row : Row)
+    → passes Unique (room_schema l) db.trees session_table row ≡ true
     → clashes plain (1 ∷ []) (db.trees 6) row ≡ false
-unique_session db row h =
+unique_session l db row h =
     not_false _ (test_has (λ i. not (guards i session_table && clashes i.order i.columns (db.trees 6) row))
-    room_schema.indexes session_index h (inr (inr (inl refl))))
+    (room_schema l).indexes session_index h (inr (inr (inl refl))))
 
 agree_on : (sid : List ℕ) (x y : Row) → has_text 1 sid x ≡ true
     → has_text 1 sid y ≡ true → agree plain (1 ∷ []) x (1 ∷ []) y ≡ true
@@ -65,11 +66,11 @@ same_ids a b h = is_not _ (sym (truth_back _) ∙ h)
 pub both_true : (a b : Bool) → a ≡ true → b ≡ true → (a && b) ≡ true
 both_true a b p q = rw p q
 
-pub session_once : (db : Database) (sid : List ℕ) (x y : Row) → db.schema ≡ room_schema
+pub session_once : (l : Layout) (db : Database) (sid : List ℕ) (x y : Row) → db.schema ≡ room_schema l
     → IsDatabase db → IsKeyed (db.trees 6) → Has (db.trees 6) x → Has (db.trees 6) y
     → has_text 1 sid x ≡ true → has_text 1 sid y ≡ true → value_cmp (rowid x) (rowid y) ≡ Equal
-session_once db sid x y schema sound keyed in_x in_y p q =
-    let clash = unique_session db y (all_has _ (db.trees 6) y (rows_pass Unique db schema sound).session in_y) in
+session_once l db sid x y schema sound keyed in_x in_y p q =
+    let clash = unique_session l db y (all_has _ (db.trees 6) y (rows_pass Unique db l schema sound).session in_y) in
     elim (cases_Bool (differ (rowid x) (rowid y))) [
       | inl apart ↦ absurd (true≢false (sym (some_from (λ other. agree plain (1 ∷ []) other (1 ∷ []) y
           && differ (rowid other) (rowid y)) (db.trees 6) x in_x (both_true _ _ (agree_on sid x y p q) apart)) ∙ clash))
@@ -85,16 +86,16 @@ text_apart : (sid q : List ℕ) (r : Row) → q ≢ sid → has_text 1 q r ≡ t
 text_apart sid q r apart h = elim (cases_Bool (has_text 1 sid r))
     [ inl also ↦ absurd (apart (has_text_one 1 q sid r h also)) | inr other ↦ other ]
 
-filter_session : (sid q : List ℕ) (old new : Database) (Fits : Row → Type 0)
-    (it : Put 6 old.trees new.trees Fits (λ r. has_text 1 sid r ≡ true))
-    → has_text 1 sid it.row ≡ true → new.schema ≡ room_schema → IsDatabase new → IsKeyed (old.trees 6)
+filter_session : (l : Layout) (sid q : List ℕ) (old new : Database) (Fits : Row → Type 0)
+    (it : Put l 6 old.trees new.trees Fits (λ r. has_text 1 sid r ≡ true))
+    → has_text 1 sid it.row ≡ true → new.schema ≡ room_schema l → IsDatabase new → IsKeyed (old.trees 6)
     → filter (has_text 1 q) (new.trees 6) ≡ cond (bytes_eq q sid) (it.row ∷ []) (filter (has_text 1 q) (old.trees 6))
-filter_session sid q old new Fits it mine schema sound keyed = elim (cases_Bool (bytes_eq q sid)) [
+filter_session l sid q old new Fits it mine schema sound keyed = elim (cases_Bool (bytes_eq q sid)) [
   | inl same ↦
       let is : q ≡ sid = (bytes_eq-Decides q sid).0 same in
       let table = keyed_after 6 _ _ _ _ it keyed in
       rw (same, is) (one_row (has_text 1 sid) (new.trees 6) it.row table.table (subst (λ l. Has l it.row)
-      (sym it.rows) (has_put it.row _)) mine (λ x y a b p h. session_once new sid x y schema sound table a b p h))
+      (sym it.rows) (has_put it.row _)) mine (λ x y a b p h. session_once l new sid x y schema sound table a b p h))
   | inr differs ↦
       let apart : q ≢ sid = (λ e. true≢false (sym ((bytes_eq-Decides q sid).1 e) ∙ differs)) in
       rw differs (ap (filter (has_text 1 q)) it.rows
@@ -124,14 +125,15 @@ pub steps_session : (old new : State) (row : SessionRow) (count : ℕ) → IsRoo
     → Steps old new (apply_change (PutSession row))
 steps_session old new row count room h =
     let ran = executes_inside put_session_text _ old new count h in
-    let done = puts_session old new row.sid row.owner row.slots
+    let done = puts_session room.layout old new row.sid row.owner row.slots
     (flag_of row.is_open) count room.schema room.keyed.session ran.0 in
     let it = done.put in
     let o = it.others in
     let mine : has_text 1 row.sid it.row ≡ true = text_has 1 row.sid it.row (ap (λ (r : Row). column r 1) it.fits.1) in
     record {
-      room = still_room 6 old.now new.now room done.schema o (keyed_after 6 _ _ _ _ it room.keyed.session)
+      room = still_room 6 old.now new.now room done.schema done.sound o (keyed_after 6 _ _ _ _ it room.keyed.session)
           (still_numbered 6 old.now new.now room (omega arith) o);
+      schema = done.schema ∙ sym room.schema;
       version = version_stays _ _ (o.room (omega arith));
       records = same_records _ _
           (λ q. ap (λ rows. nodes_in rows q) (o.node (omega arith)))
@@ -139,11 +141,12 @@ steps_session old new row count room h =
           (λ q. ap (λ rows. documents_in rows q) (o.doc (omega arith)))
           (ap next_in (o.room (omega arith)))
           (λ sid. ap (λ rows. option_map (session_of sid) (only (map shown_session rows)))
-          (filter_session row.sid sid old.now new.now _ it mine done.schema done.sound room.keyed.session)
+          (filter_session room.layout row.sid sid old.now new.now _ it mine done.schema done.sound room.keyed.session)
           ∙ through (λ rows. option_map (session_of sid) (only (map shown_session rows)))
           (bytes_eq sid row.sid) (it.row ∷ []) (filter (has_text 1 sid) (old.now.trees 6))
           ∙ found sid it.row it.fits)
-          (λ sid slot. ap (λ rows. slots_in rows sid slot) (o.slot (omega arith)));
+          (λ sid slot. ap (λ rows. slots_in rows sid slot)
+          (still_slots 6 old.now new.now room done.schema done.sound (omega arith) o));
     }
   where
     found : (sid : List ℕ) (r : Row) → IsSession row.sid row.owner row.slots (flag_of row.is_open) r

@@ -1,19 +1,17 @@
 -- What slots keep, after rows were taken out or one was put.
-use Rattle.std.proofs.Common.{◌≡◌, ℕ, pos, Bool, true, false, not, ◌&&◌, ◌==◌, cond, List, [], ◌∷◌, map, filter}
+use Rattle.std.proofs.Common.{◌≡◌, ◌≢◌, ◌≤◌, ℕ, suc, pos, Bool, true, false, not, ◌&&◌, ◌==◌, cond, List, [], ◌∷◌, map}
+use Rattle.std.proofs.Common.{filter}
 use Rattle.std.proofs.Common.{Option, None, Some, option_map, Ok, inl, inr, refl, sym, ap, ap₂, subst, ◌∙◌, true≢false}
 use Rattle.std.proofs.Common.{arith, bytes_eq, Equal, is_eq}
 use Rattle.std.proofs.lemmas.Bool.{cases_Bool}
 use Rattle.std.proofs.lemmas.Bool.Decides.{nat_tests}
 use Rattle.std.proofs.lemmas.Slice.Eq.{bytes_eq-Decides}
-use Rattle.sqlite_value.specs.declared.value.Value.TheVariants.{Int, Text}
-use Rattle.sqlite_value.specs.Keys.{plain, first_key}
-use Rattle.sqlite_value.specs.Order.{Row, column, value_cmp}
-use Rattle.sqlite_trees.specs.Tree.{Trees, rowid, without_rowid, has_rowid}
-use Rattle.sqlite_schema.specs.Rules.{passes, clashes, agree, differ, guards}
-use Rattle.sqlite_schema.specs.declared.schema.Constraint.TheVariants.{Unique}
+use Rattle.sqlite_value.specs.declared.value.Value.TheVariants.{Text}
+use Rattle.sqlite_value.specs.Order.{Row}
+use Rattle.sqlite_trees.specs.Tree.{without_rowid, has_rowid}
 use Rattle.sqlite_rules.specs.Lists.{Has}
-use Rattle.sqlite_rules.proofs.ListLemmas.{all_has, some_from, test_has}
-use Rattle.sqlite_rules.proofs.TableLemmas.{int_is, has_put}
+use Rattle.sqlite_rules.proofs.ListLemmas.{all_has}
+use Rattle.sqlite_rules.proofs.TableLemmas.{has_put}
 use Rattle.sqlite.specs.Effect.{Database, IsDatabase}
 use Rattle.sqlite_keyed.proofs.RuleLemmas.{first_of_both, second_of_both}
 use Rattle.sqlite.specs.State.{State, ExecutesInside}
@@ -21,24 +19,25 @@ use Rattle.room_slots.specs.KeptModel.{KeptModel}
 use Rattle.room_records.specs.declared.session.SlotRow.{SlotRow}
 use Rattle.room_records.specs.declared.change.Change.TheVariants.{PutSlot, DropSlots}
 use Rattle.room_records.specs.Changes.{apply_change}
-use Rattle.room_tables.specs.Tables.{room_schema, slot_table, slot_index}
-use Rattle.room_tables.specs.Texts.{drop_slots_text, put_slot_text}
-use Rattle.room_tables.specs.Rows.{has, has_text, is_slot, only, shown_slot, kept_of, slots_in, nodes_in, entries_in}
-use Rattle.room_tables.specs.Rows.{documents_in, next_in, sessions_in}
-use Rattle.room_tables.specs.Layout.{IsKeyed, IsRoomDatabase}
+use Rattle.room_tables.specs.Tables.{Layout, room_schema, slots_tree}
+use Rattle.room_tables.specs.Texts.{drop_slots_text, change_slot_text, add_slot_text}
+use Rattle.room_tables.specs.Rows.{has_text, is_slot, only, shown_slot, kept_of, slots_in, nodes_in, entries_in}
+use Rattle.room_tables.specs.Rows.{documents_in, next_in, sessions_in, slots_of, reply_in}
+use Rattle.room_tables.specs.Layout.{IsKeyed, IsRoomDatabase, reply_value}
 use Rattle.room_tables.specs.Steps.{Steps}
-use Rattle.room_tables.proofs.Each.{rows_pass}
-use Rattle.room_tables.proofs.Values.{has_is, has_one, has_equal, has_text_one, has_text_value, text_has}
+use Rattle.room_tables.proofs.Each.{above}
+use Rattle.room_tables.proofs.Listed.{slots_listed}
+use Rattle.room_tables.proofs.Values.{has_one, has_text_one}
 use Rattle.room_tables.proofs.Removed.{one_row}
-use Rattle.room_tables.proofs.Queries.{and_true}
-use Rattle.room_tables.proofs.Changes.{without, executes_inside}
+use Rattle.room_tables.proofs.Changes.{Leaves, without, executes_inside}
 use Rattle.room_tables.proofs.Upserts.{Put}
-use Rattle.room_tables.proofs.Puts.{slot_values, puts_slot}
+use Rattle.room_tables.proofs.Kept.{slot_values, its_slot, slot_once, PutsSlot, ChangesSlot}
+use Rattle.room_tables.proofs.Kept.{changes_slot, adds_slot}
 use Rattle.room_tables.proofs.Takes.{drops_slots}
 use Rattle.room_tables.proofs.Filters.{put_passed_over, none_left, others_left, others_left_on, keyed_filter}
 use Rattle.room_tables.proofs.Filters.{keyed_after, still_room, still_numbered, version_stays}
 use Rattle.room_tables.proofs.Effects.{same_records, through}
-use Rattle.room_tables.proofs.Sessions.{not_false, same_ids, both_true}
+use Rattle.room_tables.proofs.Sessions.{both_true}
 
 -- where one of two tests of a slot fails, the rows of the two are apart
 slots_apart : (sid q : List ℕ) (slot n : ℕ) (r : Row) → (bytes_eq q sid && (n == slot)) ≡ false
@@ -64,15 +63,15 @@ kept_in rows = option_map kept_of (only (map shown_slot rows))
 
 -- ---- the rows of a session go
 
-all_gone : (db next : Trees) (sid q : List ℕ) (n : ℕ) → next 8 ≡ without (has_text 1 sid) (db 8)
-    → slots_in (next 8) q n ≡ cond (bytes_eq q sid) None (slots_in (db 8) q n)
-all_gone db next sid q n is = elim (cases_Bool (bytes_eq q sid)) [
+all_gone : (before after : List Row) (sid q : List ℕ) (n : ℕ) → after ≡ without (has_text 1 sid) before
+    → slots_in after q n ≡ cond (bytes_eq q sid) None (slots_in before q n)
+all_gone before after sid q n is = elim (cases_Bool (bytes_eq q sid)) [
   | inl same ↦
       let name = (bytes_eq-Decides q sid).0 same in
       rw same (ap kept_in (ap (filter (is_slot q n)) is ∙ none_left (has_text 1 sid) (is_slot q n)
-      (db 8) (λ r h. subst (λ s. has_text 1 s r ≡ true) name (first_of_both _ _ h))))
+      before (λ r h. subst (λ s. has_text 1 s r ≡ true) name (first_of_both _ _ h))))
   | inr differs ↦ rw differs (ap kept_in
-      (ap (filter (is_slot q n)) is ∙ others_left (has_text 1 sid) (is_slot q n) (db 8) (λ r h. apart r h differs)))
+      (ap (filter (is_slot q n)) is ∙ others_left (has_text 1 sid) (is_slot q n) before (λ r h. apart r h differs)))
 ]
   where
     apart : (r : Row) → is_slot q n r ≡ true → bytes_eq q sid ≡ false → has_text 1 sid r ≡ false
@@ -82,74 +81,57 @@ all_gone db next sid q n is = elim (cases_Bool (bytes_eq q sid)) [
       | inr other ↦ other
     ]
 
+-- the table of what slots keep is none of the others
+apart : (l : Layout) (tree : ℕ) → tree ≤ 7 → tree ≢ slots_tree l
+apart l tree low = let high = above l in omega (arith, high)
+
 pub steps_drop_slots : (old new : State) (sid : List ℕ) (count : ℕ) → IsRoomDatabase old.now
     → ExecutesInside 0 drop_slots_text (Text sid ∷ []) old new (Ok count) → Steps old new (apply_change (DropSlots sid))
 steps_drop_slots old new sid count room h =
-    let it = drops_slots old new sid count room.schema room.keyed.slot
+    let l = room.layout in
+    let it = drops_slots l old new sid count room.schema room.keyed.slots
     (executes_inside drop_slots_text _ old new count h).0 in
     let o = it.others in
     let keyed = subst IsKeyed (sym it.rows_are)
-    (keyed_filter (λ r. not (has_text 1 sid r)) (old.now.trees 8) room.keyed.slot) in
+    (keyed_filter (λ r. not (has_text 1 sid r)) (old.now.trees (slots_tree l)) room.keyed.slots) in
+    let rows : slots_of new.now.trees ≡ without (has_text 1 sid) (slots_of old.now.trees) =
+    slots_listed new.now l it.sound it.schema ∙ it.rows_are ∙ ap (without (has_text 1 sid)) (sym room.listed) in
     record {
-      room = still_room 8 old.now new.now room it.schema o keyed
-          (still_numbered 8 old.now new.now room (omega arith) o);
-      version = version_stays _ _ (o.room (omega arith));
+      room = still_room (slots_tree l) old.now new.now room it.schema it.sound o keyed
+          (still_numbered (slots_tree l) old.now new.now room (apart l 1 (omega arith)) o);
+      schema = it.schema ∙ sym room.schema;
+      version = version_stays _ _ (o.room (apart l 0 (omega arith)));
       records = same_records _ _
-          (λ q. ap (λ rows. nodes_in rows q) (o.node (omega arith)))
-          (λ q. ap (λ rows. entries_in rows q) (o.entry (omega arith)))
-          (λ q. ap (λ rows. documents_in rows q) (o.doc (omega arith)))
-          (ap next_in (o.room (omega arith)))
-          (λ q. ap (λ rows. sessions_in rows q) (o.session (omega arith)))
-          (λ q n. all_gone old.now.trees new.now.trees sid q n it.rows_are);
+          (λ q. ap (λ rows. nodes_in rows q) (o.node (apart l 1 (omega arith))))
+          (λ q. ap (λ rows. entries_in rows q) (o.entry (apart l 3 (omega arith))))
+          (λ q. ap (λ rows. documents_in rows q) (o.doc (apart l 5 (omega arith))))
+          (ap next_in (o.room (apart l 0 (omega arith))))
+          (λ q. ap (λ rows. sessions_in rows q) (o.session (apart l 6 (omega arith))))
+          (λ q n. all_gone (slots_of old.now.trees) (slots_of new.now.trees) sid q n rows);
     }
 
 -- ---- a row is put: its session's name and its number stand once together, by the rule UNIQUE
 
--- the rule of the one index of slot
-unique_slot : (db : Database) (row : Row) → passes Unique room_schema db.trees slot_table row ≡ true
-    → clashes plain (1 ∷ 2 ∷ []) (db.trees 8) row ≡ false
-unique_slot db row h =
-    not_false _ (test_has (λ i. not (guards i slot_table && clashes i.order i.columns (db.trees 8) row))
-    room_schema.indexes slot_index h (inr (inr (inr (inl refl)))))
-
-agree_on : (sid : List ℕ) (slot : ℕ) (x y : Row) → is_slot sid slot x ≡ true
-    → is_slot sid slot y ≡ true → agree plain (1 ∷ 2 ∷ []) x (1 ∷ 2 ∷ []) y ≡ true
-unfolding first_key
-agree_on sid slot x y p q = rw (has_text_value 1 sid y (first_of_both _ _ q)) (both_true _ _ (first_of_both _ _ p)
-    (and_true _ ∙ has_equal 2 slot x y (second_of_both _ _ p) (second_of_both _ _ q)))
-
-slot_once : (db : Database) (sid : List ℕ) (slot : ℕ) (x y : Row) → db.schema ≡ room_schema
-    → IsDatabase db → IsKeyed (db.trees 8) → Has (db.trees 8) x → Has (db.trees 8) y
-    → is_slot sid slot x ≡ true → is_slot sid slot y ≡ true → value_cmp (rowid x) (rowid y) ≡ Equal
-slot_once db sid slot x y schema sound keyed in_x in_y p q =
-    let clash = unique_slot db y (all_has _ (db.trees 8) y (rows_pass Unique db schema sound).slot in_y) in
-    elim (cases_Bool (differ (rowid x) (rowid y))) [
-      | inl apart ↦ absurd (true≢false (sym (some_from (λ other. agree plain (1 ∷ 2 ∷ []) other (1 ∷ 2 ∷ []) y
-          && differ (rowid other) (rowid y)) (db.trees 8) x in_x (both_true _ _ (agree_on sid slot x y p q) apart))
-          ∙ clash))
-      | inr same ↦
-          let i = int_is (rowid x) (all_has _ (db.trees 8) x keyed.ints in_x) in
-          let j = int_is (rowid y) (all_has _ (db.trees 8) y keyed.ints in_y) in
-          ap₂ value_cmp i j ∙ same_ids _ _ (ap₂ differ (sym i) (sym j) ∙ same)
-    ]
-
-filter_slot : (sid q : List ℕ) (slot n : ℕ) (old new : Database) (Fits : Row → Type 0)
-    (it : Put 8 old.trees new.trees Fits (λ r. is_slot sid slot r ≡ true))
-    → is_slot sid slot it.row ≡ true → new.schema ≡ room_schema → IsDatabase new → IsKeyed (old.trees 8)
-    → filter (is_slot q n) (new.trees 8)
-    ≡ cond (bytes_eq q sid && (n == slot)) (it.row ∷ []) (filter (is_slot q n) (old.trees 8))
-filter_slot sid q slot n old new Fits it mine schema sound keyed =
+filter_slot : (l : Layout) (sid q : List ℕ) (slot n : ℕ) (old new : Database) (Fits : Row → Type 0)
+    (it : Put l (slots_tree l) old.trees new.trees Fits (λ r. is_slot sid slot r ≡ true))
+    → is_slot sid slot it.row ≡ true → new.schema ≡ room_schema l → IsDatabase new → IsKeyed (old.trees (slots_tree l))
+    → filter (is_slot q n) (new.trees (slots_tree l))
+    ≡ cond (bytes_eq q sid && (n == slot)) (it.row ∷ []) (filter (is_slot q n) (old.trees (slots_tree l)))
+filter_slot l sid q slot n old new Fits it mine schema sound keyed =
     elim (cases_Bool (bytes_eq q sid && (n == slot))) [
       | inl same ↦
           let names = names_same sid q slot n same in
-          let table = keyed_after 8 _ _ _ _ it keyed in
-          rw same (ap₂ (λ s m. filter (is_slot s m) (new.trees 8)) names.0 names.1
-          ∙ one_row (is_slot sid slot) (new.trees 8) it.row table.table
+          let table = keyed_after (slots_tree l) _ _ _ _ it keyed in
+          rw same (ap₂ (λ s m. filter (is_slot s m) (new.trees (slots_tree l))) names.0 names.1
+          ∙ one_row (is_slot sid slot) (new.trees (slots_tree l)) it.row table.table
           (subst (λ l. Has l it.row) (sym it.rows) (has_put it.row _)) mine
-          (λ x y a b p h. slot_once new sid slot x y schema sound table a b p h))
+          (λ x y a b p h. slot_once l new sid slot x y schema sound
+          (all_has _ (new.trees (slots_tree l)) x table.ints a)
+          (all_has _ (new.trees (slots_tree l)) y table.ints b) a b p h))
       | inr differs ↦ rw differs (ap (filter (is_slot q n)) it.rows
-          ∙ put_passed_over (is_slot q n) it.row (without_rowid it.id (old.trees 8)) (fails it.row differs mine) it.free
-          ∙ others_left_on (has_rowid it.id) (is_slot q n) (old.trees 8) (λ r k h. not_gone r k h differs))
+          ∙ put_passed_over (is_slot q n) it.row (without_rowid it.id (old.trees (slots_tree l)))
+          (fails it.row differs mine) it.free
+          ∙ others_left_on (has_rowid it.id) (is_slot q n) (old.trees (slots_tree l)) (λ r k h. not_gone r k h differs))
     ]
   where
     fails : (r : Row) → (bytes_eq q sid && (n == slot)) ≡ false
@@ -159,40 +141,123 @@ filter_slot sid q slot n old new Fits it mine schema sound keyed =
       | inr other ↦ other
     ]
 
-    not_gone : (r : Row) → Has (old.trees 8) r → is_slot q n r ≡ true
+    not_gone : (r : Row) → Has (old.trees (slots_tree l)) r → is_slot q n r ≡ true
         → (bytes_eq q sid && (n == slot)) ≡ false → has_rowid it.id r ≡ false
     not_gone r k h differs = elim (cases_Bool (has_rowid it.id r)) [
       | inl gone ↦ absurd (true≢false (sym (it.gone r k gone) ∙ slots_apart sid q slot n r differs h))
       | inr left ↦ left
     ]
 
-pub steps_put_slot : (old new : State) (row : SlotRow) (count : ℕ) → IsRoomDatabase old.now
-    → ExecutesInside 0 put_slot_text (slot_values row.sid row.slot row.kept.seq row.kept.request row.kept.reply)
-    old new (Ok count) → Steps old new (apply_change (PutSlot row))
-steps_put_slot old new row count room h =
-    let done = puts_slot old new row.sid row.slot row.kept.seq row.kept.request row.kept.reply
-    count room.schema room.keyed.slot (executes_inside put_slot_text _ old new count h).0 in
+reply_back : (reply : Option (List ℕ)) → reply_in (reply_value reply) ≡ reply
+reply_back None = refl
+reply_back (Some bytes) = refl
+
+-- the row that was put is the slot's
+abbrev PutsRow : Layout → SlotRow → Database → Database → Type 0
+PutsRow l row = PutsSlot l row.sid row.slot row.kept.seq row.kept.request row.kept.reply
+
+steps_put : (old new : State) (row : SlotRow) (room : IsRoomDatabase old.now) → PutsRow room.layout row old.now new.now
+    → Steps old new (apply_change (PutSlot row))
+steps_put old new row room done =
+    let l = room.layout in
     let it = done.put in
     let o = it.others in
-    let name : has_text 1 row.sid it.row ≡ true = text_has 1 row.sid it.row (ap (λ (r : Row). column r 1) it.fits.is) in
-    let number : has 2 row.slot it.row ≡ true =
-    has_is 2 row.slot it.row ∙ ap (λ (r : Row). is_eq (value_cmp (column r 2) (Int (pos row.slot)))) it.fits.is
-    ∙ ap is_eq it.fits.tied in
-    let mine : is_slot row.sid row.slot it.row ≡ true = both_true _ _ name number in
+    let mine = its_slot row.sid row.slot row.kept.seq row.kept.request row.kept.reply it.row it.fits in
+    let listed = slots_listed new.now l done.sound done.schema in
     record {
-      room = still_room 8 old.now new.now room done.schema o (keyed_after 8 _ _ _ _ it room.keyed.slot)
-          (still_numbered 8 old.now new.now room (omega arith) o);
-      version = version_stays _ _ (o.room (omega arith));
+      room = still_room (slots_tree l) old.now new.now room done.schema done.sound o
+          (keyed_after (slots_tree l) _ _ _ _ it room.keyed.slots)
+          (still_numbered (slots_tree l) old.now new.now room (apart l 1 (omega arith)) o);
+      schema = done.schema ∙ sym room.schema;
+      version = version_stays _ _ (o.room (apart l 0 (omega arith)));
       records = same_records _ _
-          (λ q. ap (λ rows. nodes_in rows q) (o.node (omega arith)))
-          (λ q. ap (λ rows. entries_in rows q) (o.entry (omega arith)))
-          (λ q. ap (λ rows. documents_in rows q) (o.doc (omega arith)))
-          (ap next_in (o.room (omega arith)))
-          (λ q. ap (λ rows. sessions_in rows q) (o.session (omega arith)))
-          (λ q n. ap kept_in (filter_slot row.sid q row.slot n old.now new.now _ it mine
-          done.schema done.sound room.keyed.slot)
+          (λ q. ap (λ rows. nodes_in rows q) (o.node (apart l 1 (omega arith))))
+          (λ q. ap (λ rows. entries_in rows q) (o.entry (apart l 3 (omega arith))))
+          (λ q. ap (λ rows. documents_in rows q) (o.doc (apart l 5 (omega arith))))
+          (ap next_in (o.room (apart l 0 (omega arith))))
+          (λ q. ap (λ rows. sessions_in rows q) (o.session (apart l 6 (omega arith))))
+          (λ q n. ap (λ rows. slots_in rows q n) listed
+          ∙ ap kept_in (filter_slot l row.sid q row.slot n old.now new.now _ it mine
+          done.schema done.sound room.keyed.slots)
           ∙ through kept_in (bytes_eq q row.sid && (n == row.slot)) (it.row ∷ [])
-          (filter (is_slot q n) (old.now.trees 8))
-          ∙ ap (λ kept. cond (bytes_eq q row.sid && (n == row.slot)) (Some kept) (slots_in (old.now.trees 8) q n))
-          (ap (λ r. kept_of (shown_slot r)) it.fits.is));
+          (filter (is_slot q n) (old.now.trees (slots_tree l)))
+          ∙ ap (λ kept. cond (bytes_eq q row.sid && (n == row.slot)) (Some kept)
+          (slots_in (old.now.trees (slots_tree l)) q n)) (ap (λ r. kept_of (shown_slot r)) it.fits.is
+          ∙ ap (λ reply. record { seq = row.kept.seq; request = row.kept.request; reply = reply })
+          (reply_back row.kept.reply))
+          ∙ ap (λ rows. cond (bytes_eq q row.sid && (n == row.slot)) (Some row.kept) (slots_in rows q n))
+          (sym room.listed));
     }
+
+-- no row was changed, and the records are as they were
+steps_left : (old new : State) (room : IsRoomDatabase old.now)
+    → Leaves room.layout old.now new.now (slots_tree room.layout) (old.now.trees (slots_tree room.layout))
+    → Steps old new (λ r. r)
+steps_left old new room it =
+    let l = room.layout in
+    let o = it.others in
+    record {
+      room = still_room (slots_tree l) old.now new.now room it.schema it.sound o
+          (subst IsKeyed (sym it.rows_are) room.keyed.slots)
+          (still_numbered (slots_tree l) old.now new.now room (apart l 1 (omega arith)) o);
+      schema = it.schema ∙ sym room.schema;
+      version = version_stays _ _ (o.room (apart l 0 (omega arith)));
+      records = same_records _ _
+          (λ q. ap (λ rows. nodes_in rows q) (o.node (apart l 1 (omega arith))))
+          (λ q. ap (λ rows. entries_in rows q) (o.entry (apart l 3 (omega arith))))
+          (λ q. ap (λ rows. documents_in rows q) (o.doc (apart l 5 (omega arith))))
+          (ap next_in (o.room (apart l 0 (omega arith))))
+          (λ q. ap (λ rows. sessions_in rows q) (o.session (apart l 6 (omega arith))))
+          (λ q n. ap (λ rows. slots_in rows q n)
+          (slots_listed new.now l it.sound it.schema ∙ it.rows_are ∙ sym room.listed));
+    }
+
+abbrev pub row_values : SlotRow → Row
+row_values row = slot_values row.sid row.slot row.kept.seq row.kept.request row.kept.reply
+
+-- what an UPDATE leaves, by how many rows it changed
+changes_row : (old new : State) (row : SlotRow) (count : ℕ) (room : IsRoomDatabase old.now)
+    → ExecutesInside 0 change_slot_text (row_values row) old new (Ok count)
+    → ChangesSlot room.layout row.sid row.slot row.kept.seq row.kept.request row.kept.reply count old.now new.now
+changes_row old new row count room h =
+    changes_slot room.layout row.sid row.slot row.kept.seq row.kept.request row.kept.reply
+    old new count room.schema room.keyed.slots (executes_inside change_slot_text _ old new count h).0
+
+-- where it changed rows, the slot's row is put
+pub steps_change_slot : (old new : State) (row : SlotRow) (count : ℕ) → IsRoomDatabase old.now
+    → ExecutesInside 0 change_slot_text (row_values row) old new (Ok (suc count))
+    → Steps old new (apply_change (PutSlot row))
+steps_change_slot old new row count room h = steps_put old new row room (changes_row old new row (suc count) room h)
+
+-- where it changed none, the INSERT behind it adds the row
+pub steps_add_slot : (old mid new : State) (row : SlotRow) (count : ℕ) → IsRoomDatabase old.now
+    → ExecutesInside 0 change_slot_text (row_values row) old mid (Ok 0)
+    → ExecutesInside 0 add_slot_text (row_values row) mid new (Ok count)
+    → Steps old new (apply_change (PutSlot row))
+steps_add_slot old mid new row count room none one =
+    let a = steps_left old mid room (changes_row old mid row 0 room none) in
+    let b = steps_put mid new row a.room (adds_slot a.room.layout row.sid row.slot row.kept.seq row.kept.request
+    row.kept.reply mid new count a.room.schema (executes_inside add_slot_text _ mid new count one).0) in
+    record {
+      room = b.room;
+      schema = b.schema ∙ a.schema;
+      records = b.records ∙ ap (apply_change (PutSlot row)) a.records;
+      version = λ v. b.version (a.version v);
+    }
+
+-- the rows of nodes stay as they are
+pub change_leaves_nodes : (old new : State) (row : SlotRow) (count : ℕ) → IsRoomDatabase old.now
+    → ExecutesInside 0 change_slot_text (row_values row) old new (Ok (suc count))
+    → new.now.trees 1 ≡ old.now.trees 1
+change_leaves_nodes old new row count room h =
+    (changes_row old new row (suc count) room h).put.others.node (apart room.layout 1 (omega arith))
+
+pub add_leaves_nodes : (old mid new : State) (row : SlotRow) (count : ℕ) → IsRoomDatabase old.now
+    → ExecutesInside 0 change_slot_text (row_values row) old mid (Ok 0)
+    → ExecutesInside 0 add_slot_text (row_values row) mid new (Ok count) → new.now.trees 1 ≡ old.now.trees 1
+add_leaves_nodes old mid new row count room none one =
+    let left = changes_row old mid row 0 room none in
+    let l = room.layout in
+    (adds_slot l row.sid row.slot row.kept.seq row.kept.request row.kept.reply mid new count left.schema
+    (executes_inside add_slot_text _ mid new count one).0).put.others.node (apart l 1 (omega arith))
+    ∙ left.others.node (apart l 1 (omega arith))

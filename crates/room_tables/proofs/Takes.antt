@@ -5,12 +5,14 @@ use Rattle.std.specs.List.{flat_map, filter_map}
 use Rattle.sqlite_value.specs.declared.value.Value.TheVariants.{Null, Int, Text}
 use Rattle.sqlite_value.specs.Order.{Row}
 use Rattle.sqlite_tied.specs.Compute.{everything}
-use Rattle.sqlite_rules.specs.Action.{Work, work_by, deed_for, works}
+use Rattle.sqlite_rules.specs.Action.{Work, work_by, deed_for, pairs, works}
 use Rattle.sqlite_schema.specs.Rules.{parent_key}
 use Rattle.sqlite_rules.specs.Cast.{cast_row}
 use Rattle.sqlite_schema.specs.declared.schema.Keys.TheVariants.{Enforced}
 use Rattle.sqlite.specs.State.{State, Executes}
-use Rattle.room_tables.specs.Tables.{room_schema, entry_table, slot_table}
+use Rattle.room_tables.specs.Tables.{Layout, Fresh, Upgraded, room_schema, entry_table, slots_table, slots_tree}
+use Rattle.room_tables.specs.Tables.{slots_place}
+use Rattle.room_tables.proofs.Each.{slots_placed, slots_seen}
 use Rattle.room_tables.specs.Texts.{drop_entries_text, drop_entries_query, drop_slots_text, drop_slots_query}
 use Rattle.room_tables.specs.Texts.{add_entry_text, add_entry_terms, add_two_text}
 use Rattle.room_tables.specs.Texts.{add_two_terms, add_three_text, add_three_terms, add_four_text, add_four_terms}
@@ -25,40 +27,51 @@ use Rattle.room_tables.proofs.Queries.{and_true}
 use Rattle.room_tables.proofs.Changes.{Added, Leaves, without, cleared, unnumbered}
 use Rattle.room_tables.proofs.Changes.{inserted_all, cast_null, cast_int}
 
-entries_quiet : (olds : List Row) → works room_schema Enforced 0 3 olds [] ≡ []
+entries_quiet : (l : Layout) (olds : List Row) → works (room_schema l) Enforced 0 3 olds [] ≡ []
 unfolding everything
-entries_quiet olds = refl
+entries_quiet Fresh olds = refl
+entries_quiet Upgraded olds = refl
 
-slots_quiet : (olds : List Row) → works room_schema Enforced 0 8 olds [] ≡ []
+-- what is set off by rows of a table that went, and by those that came
+abbrev set_off : Layout → ℕ → List (Row × Row) → Bool → List Work
+set_off l tree moves deletes = flat_map (λ child. filter_map (λ ref. work_by 0 tree moves child ref
+    (deed_for Enforced deletes ref) (parent_key (room_schema l).tables ref)) child.references) (room_schema l).tables
+
+entries_set_off : (l : Layout) (deletes : Bool) → set_off l 3 [] deletes ≡ []
 unfolding everything
-slots_quiet olds = refl
+entries_set_off Fresh true = refl
+entries_set_off Fresh false = refl
+entries_set_off Upgraded true = refl
+entries_set_off Upgraded false = refl
 
--- what new rows of a table set off
-abbrev set_off : ℕ → List (Row × Row) → Bool → List Work
-set_off tree moves deletes = flat_map (λ child. filter_map (λ ref. work_by 0 tree moves child ref
-    (deed_for Enforced deletes ref) (parent_key room_schema.tables ref)) child.references) room_schema.tables
+entry_quiet : (l : Layout) (news : List Row) → works (room_schema l) Enforced 0 3 [] news ≡ []
+entry_quiet l news = entries_set_off l (length news == 0)
 
-entries_set_off : (deletes : Bool) → set_off 3 [] deletes ≡ []
+slots_set_off : (l : Layout) (moves : List (Row × Row)) (deletes : Bool) → set_off l (slots_tree l) moves deletes ≡ []
 unfolding everything
-entries_set_off true = refl
-entries_set_off false = refl
+slots_set_off Fresh moves true = refl
+slots_set_off Fresh moves false = refl
+slots_set_off Upgraded moves true = refl
+slots_set_off Upgraded moves false = refl
 
-entry_quiet : (news : List Row) → works room_schema Enforced 0 3 [] news ≡ []
-entry_quiet news = entries_set_off (length news == 0)
+-- nothing refers to what slots keep
+pub slots_quiet : (l : Layout) (olds news : List Row) → works (room_schema l) Enforced 0 (slots_tree l) olds news ≡ []
+slots_quiet l olds news = slots_set_off l (pairs olds news) (length news == 0)
 
-pub drops_entries : (old new : State) (id count : ℕ) → old.now.schema ≡ room_schema
+pub drops_entries : (l : Layout) (old new : State) (id count : ℕ) → old.now.schema ≡ room_schema l
     → IsKeyed (old.now.trees 3) → Executes drop_entries_text (Int (pos id) ∷ []) old new (Ok count)
-    → Leaves old.now new.now 3 (without (has 1 id) (old.now.trees 3))
-drops_entries old new id count schema keyed h =
-    cleared old new 2 entry_table drop_entries_text (Int (pos id) ∷ []) drop_entries_query.filter count (has 1 id)
-    refl schema keyed drop_entries_is drop_entries_plain refl entries_quiet (λ r. and_true (has 1 id r)) h
+    → Leaves l old.now new.now 3 (without (has 1 id) (old.now.trees 3))
+drops_entries l old new id count schema keyed h =
+    cleared l old new 2 entry_table drop_entries_text (Int (pos id) ∷ []) drop_entries_query.filter count (has 1 id)
+    refl schema keyed (drop_entries_is l) (drop_entries_plain l) refl (entries_quiet l) (λ r. and_true (has 1 id r)) h
 
-pub drops_slots : (old new : State) (sid : List ℕ) (count : ℕ) → old.now.schema ≡ room_schema
-    → IsKeyed (old.now.trees 8) → Executes drop_slots_text (Text sid ∷ []) old new (Ok count)
-    → Leaves old.now new.now 8 (without (has_text 1 sid) (old.now.trees 8))
-drops_slots old new sid count schema keyed h =
-    cleared old new 5 slot_table drop_slots_text (Text sid ∷ []) drop_slots_query.filter count (has_text 1 sid)
-    refl schema keyed drop_slots_is drop_slots_plain refl slots_quiet (λ r. and_true (has_text 1 sid r)) h
+pub drops_slots : (l : Layout) (old new : State) (sid : List ℕ) (count : ℕ) → old.now.schema ≡ room_schema l
+    → IsKeyed (old.now.trees (slots_tree l)) → Executes drop_slots_text (Text sid ∷ []) old new (Ok count)
+    → Leaves l old.now new.now (slots_tree l) (without (has_text 1 sid) (old.now.trees (slots_tree l)))
+drops_slots l old new sid count schema keyed h =
+    cleared l old new (slots_place l) (slots_table l) drop_slots_text (Text sid ∷ []) (drop_slots_query 8).filter count
+    (has_text 1 sid) (slots_placed l) schema keyed (drop_slots_is l) (drop_slots_plain l)
+    (slots_seen l old.now.trees) (λ olds. slots_quiet l olds []) (λ r. and_true (has_text 1 sid r)) h
 
 -- entries at places from a number on, as they are stored
 abbrev pub stored : ℕ → ℕ → List EntryModel → List Row
@@ -86,33 +99,36 @@ cast_stored node at (e ∷ es) = ap₂ (λ row rows. row ∷ rows) one (cast_sto
     ) refl
 
 -- what an INSERT of entries does, where its text means that
-abbrev pub AddsEntries : List ℕ → ℕ → ℕ → List EntryModel → Type 1
-AddsEntries text node at es = (old new : State) (count : ℕ) → old.now.schema ≡ room_schema
+abbrev pub AddsEntries : Layout → List ℕ → ℕ → ℕ → List EntryModel → Type 1
+AddsEntries l text node at es = (old new : State) (count : ℕ) → old.now.schema ≡ room_schema l
     → Executes text (Int (pos node) ∷ bound_entries at es) old new (Ok count)
-    → Added old.now new.now 3 (stored node at es)
+    → Added l old.now new.now 3 (stored node at es)
 
-pub adds_one : (node at : ℕ) (a : EntryModel) → AddsEntries add_entry_text node at (a ∷ [])
-adds_one node at a old new count schema h =
-    inserted_all old new 2 entry_table add_entry_text (Int (pos node) ∷ bound_entries at (a ∷ []))
-    (stored node at (a ∷ [])) add_entry_terms 7 count refl schema refl add_entry_is add_entry_plain entry_quiet
+pub adds_one : (l : Layout) (node at : ℕ) (a : EntryModel) → AddsEntries l add_entry_text node at (a ∷ [])
+adds_one l node at a old new count schema h =
+    inserted_all l old new 2 entry_table add_entry_text (Int (pos node) ∷ bound_entries at (a ∷ []))
+    (stored node at (a ∷ [])) add_entry_terms 7 count refl schema refl (add_entry_is l) (add_entry_plain l)
+    (entry_quiet l)
     (cast_stored node at (a ∷ [])) h
 
-pub adds_two : (node at : ℕ) (a b : EntryModel) → AddsEntries add_two_text node at (a ∷ b ∷ [])
-adds_two node at a b old new count schema h =
-    inserted_all old new 2 entry_table add_two_text (Int (pos node) ∷ bound_entries at (a ∷ b ∷ []))
-    (stored node at (a ∷ b ∷ [])) add_two_terms 7 count refl schema refl add_two_is add_two_plain entry_quiet
+pub adds_two : (l : Layout) (node at : ℕ) (a b : EntryModel) → AddsEntries l add_two_text node at (a ∷ b ∷ [])
+adds_two l node at a b old new count schema h =
+    inserted_all l old new 2 entry_table add_two_text (Int (pos node) ∷ bound_entries at (a ∷ b ∷ []))
+    (stored node at (a ∷ b ∷ [])) add_two_terms 7 count refl schema refl (add_two_is l) (add_two_plain l)
+    (entry_quiet l)
     (cast_stored node at (a ∷ b ∷ [])) h
 
-pub adds_three : (node at : ℕ) (a b c : EntryModel) → AddsEntries add_three_text node at (a ∷ b ∷ c ∷ [])
-adds_three node at a b c old new count schema h =
-    inserted_all old new 2 entry_table add_three_text
+pub adds_three : (l : Layout) (node at : ℕ) (a b c : EntryModel) → AddsEntries l add_three_text node at (a ∷ b ∷ c ∷ [])
+adds_three l node at a b c old new count schema h =
+    inserted_all l old new 2 entry_table add_three_text
     (Int (pos node) ∷ bound_entries at (a ∷ b ∷ c ∷ [])) (stored node at (a ∷ b ∷ c ∷ []))
-    add_three_terms 7 count refl schema refl add_three_is add_three_plain entry_quiet
+    add_three_terms 7 count refl schema refl (add_three_is l) (add_three_plain l) (entry_quiet l)
     (cast_stored node at (a ∷ b ∷ c ∷ [])) h
 
-pub adds_four : (node at : ℕ) (a b c d : EntryModel) → AddsEntries add_four_text node at (a ∷ b ∷ c ∷ d ∷ [])
-adds_four node at a b c d old new count schema h =
-    inserted_all old new 2 entry_table add_four_text (Int (pos node) ∷ bound_entries at (a ∷ b ∷ c ∷ d ∷ []))
+pub adds_four : (l : Layout) (node at : ℕ) (a b c d : EntryModel)
+    → AddsEntries l add_four_text node at (a ∷ b ∷ c ∷ d ∷ [])
+adds_four l node at a b c d old new count schema h =
+    inserted_all l old new 2 entry_table add_four_text (Int (pos node) ∷ bound_entries at (a ∷ b ∷ c ∷ d ∷ []))
     (stored node at (a ∷ b ∷ c ∷ d ∷ [])) add_four_terms 7 count
-    refl schema refl add_four_is add_four_plain entry_quiet
+    refl schema refl (add_four_is l) (add_four_plain l) (entry_quiet l)
     (cast_stored node at (a ∷ b ∷ c ∷ d ∷ [])) h

@@ -1,8 +1,8 @@
 -- What an upsert does: it puts one row in, in the place of the row with its rowid.
-use Rattle.std.proofs.Common.{◌≡◌, inl, inr, ℕ, ℤ, Bool, true, false, ◌||◌, List, [], ◌∷◌, ◌++◌, ◌/◌, length}
+use Rattle.std.proofs.Common.{◌≡◌, ◌≢◌, inl, inr, ℕ, ℤ, Bool, true, false, ◌||◌, List, [], ◌∷◌, ◌++◌, ◌/◌, length}
 use Rattle.std.proofs.Common.{map, slice_get, filter, Option, None, Some, Ok, refl, sym, ap, ap₂, subst, subst₂, ◌∙◌}
 use Rattle.std.proofs.Common.{IsPermutation, is_eq}
-use Rattle.std.specs.List.{list_all}
+use Rattle.std.specs.List.{AllByRecursion, list_all}
 use Rattle.std.proofs.lemmas.Cmp.{tied_itself, alike_right}
 use Rattle.sqlite_value.specs.declared.value.Value.{Value}
 use Rattle.sqlite_value.specs.declared.value.Value.TheVariants.{Null, Int}
@@ -37,7 +37,7 @@ use Rattle.sqlite.specs.Table.{Table}
 use Rattle.sqlite.specs.State.{State, Executes}
 use Rattle.sqlite.specs.Listing.{understood}
 use Rattle.sqlite.proofs.Callers.{IsPlain, command_of, runs_as, one_step, one_permutation}
-use Rattle.room_tables.specs.Tables.{room_schema}
+use Rattle.room_tables.specs.Tables.{Layout, room_schema}
 use Rattle.room_tables.specs.Texts.{over_table, equals}
 use Rattle.room_tables.specs.Layout.{IsKeyed}
 use Rattle.room_tables.proofs.Queries.{Picks, passing, answer_is, and_true}
@@ -46,34 +46,35 @@ use Rattle.room_tables.proofs.Removed.{one_row}
 use Rattle.room_tables.proofs.Changes.{went, same_value, not_true, not_counted, task_on, Others, others_of, upserts}
 
 -- A row of this kind stands in the table, in the place of a row that it met.
-pub record Put (tree : ℕ) (db next : Trees) (Fits Met : Row → Type 0) : Type 0 where
+pub record Put (l : Layout) (tree : ℕ) (db next : Trees) (Fits Met : Row → Type 0) : Type 0 where
   pub row : Row
   pub fits : Fits row
   pub id : ℤ
   pub has_id : rowid row ≡ Int id
   pub free : is_taken (without_rowid id (db tree)) row ≡ false
   pub rows : next tree ≡ put_row row (without_rowid id (db tree))
-  pub others : Others tree db next
+  pub tables : AllByRecursion (λ (t : Table). t.tree ≢ tree → next t.tree ≡ db t.tree) (room_schema l).tables
+  pub others : Others l tree db next
   pub gone : (r : Row) → Has (db tree) r → has_rowid id r ≡ true → Met r
 
 -- the same of a database, which is sound
-pub record PutInto (old new : Database) (tree : ℕ) (Fits Met : Row → Type 0) : Type 0 where
-  pub schema : new.schema ≡ room_schema
+pub record PutInto (l : Layout) (old new : Database) (tree : ℕ) (Fits Met : Row → Type 0) : Type 0 where
+  pub schema : new.schema ≡ room_schema l
   pub sound : IsDatabase new
-  pub put : Put tree old.trees new.trees Fits Met
+  pub put : Put l tree old.trees new.trees Fits Met
 
 -- the parts of an upsert: its table, what the update reads, and the row that is put
-pub record IsUpsert (table : Table) (target : List ℕ) (n : ℕ) (project : List Term)
+pub record IsUpsert (l : Layout) (table : Table) (target : List ℕ) (n : ℕ) (project : List Term)
     (params new : Row) (Fits Met : Row → Type 0) : Type 0 where
   pub uncounted : table.is_counted ≡ false
-  pub quiet_put : (row : Row) → works room_schema Enforced 0 table.tree [] (row ∷ []) ≡ []
-  pub quiet_change : (olds : List Row) (row : Row) → works room_schema Enforced 0 table.tree olds (row ∷ []) ≡ []
+  pub quiet_put : (row : Row) → works (room_schema l) Enforced 0 table.tree [] (row ∷ []) ≡ []
+  pub quiet_change : (olds : List Row) (row : Row) → works (room_schema l) Enforced 0 table.tree olds (row ∷ []) ≡ []
   pub here : (db : Trees) → overlay db [] table.tree ≡ db table.tree
   pub id : ℤ
   pub has_id : rowid new ≡ Int id
   pub cast : cast_row table new ≡ new
   pub fits : Fits new
-  pub met : (r : Row) → conflicts (Some target) room_schema.indexes table new r ≡ true → Met r
+  pub met : (r : Row) → conflicts (Some target) (room_schema l).indexes table new r ≡ true → Met r
   pub there_at : (v : Value) → column (params ++ v ∷ shown table new) n ≡ v
   pub raw : Row → Row
   pub reads : (there : Row)
@@ -83,8 +84,8 @@ pub record IsUpsert (table : Table) (target : List ℕ) (n : ℕ) (project : Lis
   pub same_id : (there : Row) → rowid (renewed there) ≡ rowid there
   pub refits : (there : Row) (id : ℤ) → rowid there ≡ Int id → Met there → Fits (renewed there)
 
-module _ (table : Table) (target : List ℕ) (n : ℕ) (project : List Term) (params new : Row)
-    (Fits Met : Row → Type 0) (it : IsUpsert table target n project params new Fits Met) where
+module _ (l : Layout) (table : Table) (target : List ℕ) (n : ℕ) (project : List Term) (params new : Row)
+    (Fits Met : Row → Type 0) (it : IsUpsert l table target n project params new Fits Met) where
   abbrev query : Query
   query = over_table table.tree (equals (col 1 0) (col 0 n) ∷ []) project []
 
@@ -92,10 +93,10 @@ module _ (table : Table) (target : List ℕ) (n : ℕ) (project : List Term) (pa
   clause = record { target = Some target; update = Some (record { lets = []; body = query }) }
 
   abbrev pub task : Option ℕ → Task
-  task limit = record { limit = limit; keys = Enforced; schema = room_schema; table = table; params = params }
+  task limit = record { limit = limit; keys = Enforced; schema = room_schema l; table = table; params = params }
 
   abbrev Done : Trees → Trees → Type 0
-  Done db next = Put table.tree db next Fits Met
+  Done db next = Put l table.tree db next Fits Met
 
   none_gone : (id : ℤ) (rows : List Row) (row : Row) → rowid row ≡ Int id
       → is_taken rows row ≡ false → (r : Row) → Has rows r → has_rowid id r ≡ true → Met r
@@ -120,8 +121,8 @@ module _ (table : Table) (target : List ℕ) (n : ℕ) (project : List Term) (pa
       let edit = edit_of db table [] Given 0 (new ∷ []) in
       let news : edit.news ≡ new ∷ [] = ap (λ r. r ∷ []) it.cast in
       let trees : w.trees ≡ done.0 = ap (λ (x : Written). x.trees) (same_value done.2) in
-      let one = one_step room_schema Enforced db done.0 edit
-      (subst (λ l. works room_schema Enforced 0 table.tree [] l ≡ []) (sym news) (it.quiet_put new)) done.1 in
+      let one = one_step (room_schema l) Enforced db done.0 edit
+      (subst (λ rows. works (room_schema l) Enforced 0 table.tree [] rows ≡ []) (sym news) (it.quiet_put new)) done.1 in
       let free : is_taken (db table.tree) new ≡ false =
       not_true _ (first_of_both _ _ (subst (λ l. are_fresh (db table.tree) l ≡ true) news one.fresh)) in
       let taken : is_taken (db table.tree) (Int it.id ∷ []) ≡ false =
@@ -135,7 +136,9 @@ module _ (table : Table) (target : List ℕ) (n : ℕ) (project : List Term) (pa
         free = subst (λ l. is_taken l new ≡ false) (sym same) free;
         rows = ap (λ (t : Trees). t table.tree) trees ∙ one.rows
             ∙ ap (put_all (db table.tree)) news ∙ ap (put_row new) (sym same);
-        others = subst (λ t. Others table.tree db t) (sym trees) (others_of table.tree db done.0 one.tables);
+        tables = subst (λ (n : Trees). AllByRecursion (λ (t : Table). t.tree ≢ table.tree → n t.tree ≡ db t.tree)
+            (room_schema l).tables) (sym trees) one.tables;
+        others = subst (λ t. Others l table.tree db t) (sym trees) (others_of l table.tree db done.0 one.tables);
         gone = none_gone it.id (db table.tree) new it.has_id free;
       }
 
@@ -171,8 +174,8 @@ module _ (table : Table) (target : List ℕ) (n : ℕ) (project : List Term) (pa
       ap (λ all. without_all (db table.tree) (ids_of all)) rows
       ∙ ap (λ v. without_rowid (id_in v) (db table.tree)) is in
       let trees : w.trees ≡ done.0 = ap (λ (x : Written). x.trees) (same_value done.2) in
-      let step = one_step room_schema Enforced db done.0 edit (subst (λ l. works room_schema Enforced 0
-      table.tree (taken_by db edit) l ≡ []) (sym news) (it.quiet_change (taken_by db edit) row)) done.1 in
+      let step = one_step (room_schema l) Enforced db done.0 edit (subst (λ rows. works (room_schema l) Enforced 0
+      table.tree (taken_by db edit) rows ≡ []) (sym news) (it.quiet_change (taken_by db edit) row)) done.1 in
       record {
         row = row;
         fits = it.refits there id is met;
@@ -180,7 +183,9 @@ module _ (table : Table) (target : List ℕ) (n : ℕ) (project : List Term) (pa
         has_id = it.same_id there ∙ is;
         free = not_true _ (first_of_both _ _ (subst₂ (λ l m. are_fresh l m ≡ true) left news step.fresh));
         rows = ap (λ (t : Trees). t table.tree) trees ∙ step.rows ∙ ap₂ put_all left news;
-        others = subst (λ t. Others table.tree db t) (sym trees) (others_of table.tree db done.0 step.tables);
+        tables = subst (λ (n : Trees). AllByRecursion (λ (t : Table). t.tree ≢ table.tree → n t.tree ≡ db t.tree)
+            (room_schema l).tables) (sym trees) step.tables;
+        others = subst (λ t. Others l table.tree db t) (sym trees) (others_of l table.tree db done.0 step.tables);
         gone = gone;
       }
 
@@ -194,7 +199,7 @@ module _ (table : Table) (target : List ℕ) (n : ℕ) (project : List Term) (pa
       cleared [] x = puts_new limit db w x
       cleared (y ∷ more) x = puts_new limit db w x
 
-      meets : (found : List Row) → AreConflicts (Some target) room_schema.indexes table (db table.tree) new found
+      meets : (found : List Row) → AreConflicts (Some target) (room_schema l).indexes table (db table.tree) new found
           → Meets (task limit) (Upserts (task limit) Abort new db []) new db clause found (Ok w) → Done db w.trees
       meets [] c x = cleared x.0 x.2
       meets (there ∷ more) c x =
@@ -228,26 +233,26 @@ module _ (table : Table) (target : List ℕ) (n : ℕ) (project : List Term) (pa
       judged (Some why) x = absurd (let e = x in cc)
 
 -- an upsert of one row
-pub put : (old new : State) (at : ℕ) (table : Table) (target : List ℕ) (n : ℕ) (project terms : List Term)
+pub put : (l : Layout) (old new : State) (at : ℕ) (table : Table) (target : List ℕ) (n : ℕ) (project terms : List Term)
     (width count : ℕ) (sql : List ℕ) (params source row : Row) (Fits Met : Row → Type 0)
-    (it : IsUpsert table target n project params row Fits Met) → slice_get room_schema.tables at ≡ Some table
-    → old.now.schema ≡ room_schema → IsKeyed (old.now.trees table.tree)
-    → command_of (understood room_schema sql) ≡ InsertOr at Abort (Values terms width)
-    (clause table target n project params row Fits Met it ∷ []) → IsPlain (understood room_schema sql)
+    (it : IsUpsert l table target n project params row Fits Met) → slice_get (room_schema l).tables at ≡ Some table
+    → old.now.schema ≡ room_schema l → IsKeyed (old.now.trees table.tree)
+    → command_of (understood (room_schema l) sql) ≡ InsertOr at Abort (Values terms width)
+    (clause l table target n project params row Fits Met it ∷ []) → IsPlain (understood (room_schema l) sql)
     → value_rows (stamped table params) width (length terms / width) terms ≡ source ∷ []
     → with_rowid Chosen (old.now.trees table.tree) (cast_row table source) ≡ row
-    → Executes sql params old new (Ok count) → PutInto old.now new.now table.tree Fits Met
-put old new at table target n project terms width count sql params source
+    → Executes sql params old new (Ok count) → PutInto l old.now new.now table.tree Fits Met
+put l old new at table target n project terms width count sql params source
     row Fits Met it place schema keyed is plain given_is row_is h =
     let db = old.now.trees in
-    let k = clause table target n project params row Fits Met it in
-    let ran = runs_as sql params old new room_schema schema _ is plain count h in
-    let w = upserts old new at table (Values terms width) (k ∷ []) _ params count place schema ran in
+    let k = clause l table target n project params row Fits Met it in
+    let ran = runs_as sql params old new (room_schema l) schema _ is plain count h in
+    let w = upserts l old new at table (Values terms width) (k ∷ []) _ params count place schema ran in
     let given = went w.written in
     let counter = went given.2 in
     let done = went counter.2 in
     let counted = went done.2 in
-    let task_here = task table target n project params row Fits Met it old.step_limit in
+    let task_here = task l table target n project params row Fits Met it old.step_limit in
     let each = subst (λ l. TriesEach task_here Abort (k ∷ []) l (count_of counter.0) (nothing db) (Ok done.0))
     (given.1.1 ∙ given_is) done.1 in
     let by_choice : rowids_for table (count_of counter.0) ≡ Chosen = ap (λ b. Rattle.std.proofs.Common.cond b
@@ -256,13 +261,13 @@ put old new at table target n project terms width count sql params source
     ap (λ c. with_rowid c (db table.tree) (cast_row table source)) by_choice ∙ row_is in
     let one = went (subst (λ r. Then (Tries task_here Abort (k ∷ []) r db) (λ x. TriesEach task_here Abort
     (k ∷ []) [] (higher (count_of counter.0) r) (joined (nothing db) x)) (Ok done.0)) new_is each) in
-    let is_put = tries_one table target n project params row Fits Met it old.step_limit db one.0 keyed one.1 in
+    let is_put = tries_one l table target n project params row Fits Met it old.step_limit db one.0 keyed one.1 in
     let last : one.0.trees ≡ done.0.0.trees = ap (λ (x : Written × ℤ). x.0.trees) (sym (same_value one.2)) in
     let trees : w.rows.trees ≡ one.0.trees = ap (λ (x : Written). x.trees) (same_value counted.2) ∙ not_counted
-    (task_on old table params) done.0.0.trees counted.0 counter.0 _ it.uncounted counted.1 ∙ sym last in
+    (task_on l old table params) done.0.0.trees counted.0 counter.0 _ it.uncounted counted.1 ∙ sym last in
     let now : new.now.trees ≡ one.0.trees = ap (λ (d : Database). d.trees) w.now ∙ trees in
     record {
       schema = ap (λ (d : Database). d.schema) w.now;
       sound = ran.sound;
-      put = subst (λ t. Put table.tree db t Fits Met) (sym now) is_put;
+      put = subst (λ t. Put l table.tree db t Fits Met) (sym now) is_put;
     }

@@ -5,7 +5,7 @@ use Rattle.std.specs.List.{AllByRecursion}
 use Rattle.sqlite_trees.specs.Tree.{Trees}
 use Rattle.sqlite.specs.Table.{Table}
 use Rattle.sqlite.specs.Schema.{Schema}
-use Rattle.sqlite.specs.Effect.{Database}
+use Rattle.sqlite.specs.Effect.{Database, IsDatabase}
 use Rattle.room_acl.specs.Entries.{EntryModel}
 use Rattle.room_records.specs.declared.node.Node.{Node}
 use Rattle.room_records.specs.Fresh.{no_records}
@@ -14,12 +14,14 @@ use Rattle.room_records.specs.Changes.{apply_change}
 use Rattle.room_records.specs.declared.change.Change.TheVariants.{PutNode, PutEntries, PutNext}
 use Rattle.room_records.specs.Room.{fresh_room}
 use Rattle.room_records.specs.Representation.{RepresentsRoom}
-use Rattle.room_tables.specs.Tables.{schema_0}
-use Rattle.room_tables.specs.Rows.{records_of, version_rows, IsVersion1}
+use Rattle.room_tables.specs.Tables.{Fresh, schema_0, room_schema}
+use Rattle.room_tables.specs.Rows.{records_of}
+use Rattle.room_tables.specs.Layout.{IsRoomOfVersion2, under}
 
 -- the tables are there, and have no row
 pub record IsMade (wanted : Schema) (db : Database) : Type 0 where
   pub schema : db.schema ≡ wanted
+  pub sound : IsDatabase db
   pub empty : AllByRecursion (λ (t : Table). db.trees t.tree ≡ []) wanted.tables
 
 -- a room with its root alone, which has these entries, and no session
@@ -33,17 +35,23 @@ abbrev pub filled : Node → Vec EntryModel Global → Records
 filled root entries =
     apply_change (PutNext 2) (apply_change (PutEntries 1 entries) (apply_change (PutNode root) (no_records 0)))
 
--- these are the records, in tables of version 1
-abbrev pub IsFilled : Node → Vec EntryModel Global → Trees → Type 0
-IsFilled root entries trees = (records_of trees ≡ filled root entries) × IsVersion1 (version_rows trees)
+-- a room of version 2 whose tables are the six, and whose trees list them
+pub record IsInSix (db : Database) : Type 0 where
+  pub room : IsRoomOfVersion2 db
+  pub schema : db.schema ≡ room_schema Fresh
+  pub sound : IsDatabase db
+
+-- these are its records
+abbrev pub IsFilled : Node → Vec EntryModel Global → Database → Type 0
+IsFilled root entries db = IsInSix db × (records_of db.trees ≡ filled root entries)
 
 abbrev pub MayBeFilled : Node → Vec EntryModel Global → Database → Trees → Type 0
-MayBeFilled root entries db trees = db.schema ≡ schema_0 → IsFilled root entries trees
+MayBeFilled root entries db trees = db.schema ≡ schema_0 → IsFilled root entries (under Fresh trees)
 
--- a fresh room, in tables of version 1
-abbrev pub IsFreshRoom : List ℕ → List ℕ → Trees → Type 0
-IsFreshRoom owner group trees = IsFresh owner group (records_of trees) × IsVersion1 (version_rows trees)
+-- a fresh room
+abbrev pub IsFreshRoom : List ℕ → List ℕ → Database → Type 0
+IsFreshRoom owner group db = IsInSix db × IsFresh owner group (records_of db.trees)
 
 -- a commit leaves such trees where there was no table before
 abbrev pub MayBeMade : List ℕ → List ℕ → Database → Trees → Type 0
-MayBeMade owner group db trees = db.schema ≡ schema_0 → IsFreshRoom owner group trees
+MayBeMade owner group db trees = db.schema ≡ schema_0 → IsFreshRoom owner group (under Fresh trees)

@@ -2,16 +2,16 @@
 use Rattle.std.specs.Prelude.{◌≡◌, ℕ, pos, true, List, Option}
 use Rattle.std.specs.List.{AllByRecursion}
 use Rattle.sqlite_value.specs.declared.value.Value.{Value}
-use Rattle.sqlite_value.specs.declared.value.Value.TheVariants.{Int}
+use Rattle.sqlite_value.specs.declared.value.Value.TheVariants.{Int, Blob}
 use Rattle.sqlite_value.specs.Order.{Row, column}
-use Rattle.sqlite_trees.specs.Tree.{rowid, IsTable}
+use Rattle.sqlite_trees.specs.Tree.{Trees, rowid, IsTable}
 use Rattle.sqlite_trees.specs.View.{is_int}
 use Rattle.sqlite.specs.Table.{Table}
 use Rattle.sqlite.specs.Values.{or_null}
 use Rattle.sqlite.specs.Effect.{Database}
-use Rattle.room_tables.specs.Tables.{room_schema, room_table, node_table, entry_table, doc_table}
-use Rattle.room_tables.specs.Tables.{session_table, slot_table}
-use Rattle.room_tables.specs.Rows.{version_rows, IsVersion1}
+use Rattle.room_tables.specs.Tables.{Layout, room_schema, first_schema, room_table, node_table, entry_table, doc_table}
+use Rattle.room_tables.specs.Tables.{session_table, slots_table, slots_tree}
+use Rattle.room_tables.specs.Rows.{version_rows, IsVersion, slots_of}
 
 -- the rowids are integers and rise, so none comes twice
 pub record IsKeyed (rows : List Row) : Type 0 where
@@ -22,6 +22,10 @@ pub record IsKeyed (rows : List Row) : Type 0 where
 abbrev pub parent_value : Option ℕ → Value
 parent_value = or_null (λ n. Int (pos n))
 
+-- a reply as it is stored
+abbrev pub reply_value : Option (List ℕ) → Value
+reply_value = or_null Blob
+
 -- the number of a node and that of its parent are natural numbers
 pub record IsNumbered (row : Row) : Type 0 where
   pub id : ℕ
@@ -29,22 +33,36 @@ pub record IsNumbered (row : Row) : Type 0 where
   pub parent : Option ℕ
   pub has_parent : column row 2 ≡ parent_value parent
 
--- a fact of each of the six tables
-pub record OfEachTable (P : Table → Type 0) : Type 0 where
+-- a fact of each table that a room is read from
+pub record OfEachTable (l : Layout) (P : Table → Type 0) : Type 0 where
   pub room : P room_table
   pub node : P node_table
   pub entry : P entry_table
   pub doc : P doc_table
   pub session : P session_table
-  pub slot : P slot_table
+  pub slots : P (slots_table l)
 
--- the six tables and their indexes, and nothing else
+-- the tables and their indexes, and nothing else
 pub record IsRoomDatabase (db : Database) : Type 0 where
-  pub schema : db.schema ≡ room_schema
-  pub keyed : OfEachTable (λ (t : Table). IsKeyed (db.trees t.tree))
+  pub layout : Layout
+  pub schema : db.schema ≡ room_schema layout
+  -- the list of objects names the table of what slots keep
+  pub listed : slots_of db.trees ≡ db.trees (slots_tree layout)
+  pub keyed : OfEachTable layout (λ (t : Table). IsKeyed (db.trees t.tree))
   pub numbered : AllByRecursion IsNumbered (db.trees 1)
 
--- a database that `adopt` takes: laid out for the records of a room, and of version 1
-pub record IsRoomOfVersion1 (db : Database) : Type 0 where
+-- the database that has these trees under this layout's schema: where the two are sound, the trees list that schema
+abbrev pub under : Layout → Trees → Database
+under l trees = record { schema = room_schema l; trees = trees }
+
+-- a room of version 2
+pub record IsRoomOfVersion2 (db : Database) : Type 0 where
   pub room : IsRoomDatabase db
-  pub version : IsVersion1 (version_rows db.trees)
+  pub version : IsVersion 2 (version_rows db.trees)
+
+-- a room of version 1, whose tables are in their order, and nothing else
+pub record IsRoomOfVersion1 (db : Database) : Type 0 where
+  pub schema : db.schema ≡ first_schema
+  pub keyed : AllByRecursion (λ (t : Table). IsKeyed (db.trees t.tree)) first_schema.tables
+  pub numbered : AllByRecursion IsNumbered (db.trees 1)
+  pub version : IsVersion 1 (version_rows db.trees)

@@ -1,14 +1,19 @@
--- The rows of the six tables, as records. A value of another type
+-- The rows of the tables, as records. A value of another type
 -- than its column's has a meaning too, so that each row has one.
 use Rattle.std.specs.Prelude.{◌≡◌, ℕ, pos, Bool, ◌&&◌, ◌==◌, List, [], ◌∷◌, map, filter, Option, Some, None}
-use Rattle.std.specs.Prelude.{option_map, unwrap_or, if◌then◌else◌}
+use Rattle.std.specs.Prelude.{◌-◌, option_map, unwrap_or, if◌then◌else◌, codes}
+use Rattle.std.specs.List.{find}
+use Rattle.std.specs.Option.{option_or}
+use Rattle.std.specs.Ordering.{is_eq}
 use Rattle.sqlite_value.specs.declared.keys.Collation.TheVariants.{Binary}
 use Rattle.sqlite_value.specs.declared.keys.Key.{Key}
 use Rattle.sqlite_value.specs.declared.value.Value.{Value}
 use Rattle.sqlite_value.specs.declared.value.Value.TheVariants.{Int, Text, Blob}
 use Rattle.sqlite_value.specs.Keys.{ascending}
-use Rattle.sqlite_value.specs.Order.{Row, column}
-use Rattle.sqlite_trees.specs.Tree.{Trees}
+use Rattle.sqlite_value.specs.Order.{Row, column, value_cmp}
+use Rattle.sqlite_trees.specs.Tree.{Trees, rowid}
+use Rattle.sqlite_trees.specs.Objects.{catalog_tree}
+use Rattle.sqlite_catalog.specs.Listing.{is_table_row}
 use Rattle.sqlite_sql.specs.Query.{key_cmp}
 use Rattle.sqlite_schema.specs.Rules.{equal}
 use Rattle.sqlite_keyed.specs.Lists.{sort_by}
@@ -35,6 +40,11 @@ text_in _ = []
 abbrev pub bytes_in : Value → List ℕ
 bytes_in (Blob b) = b
 bytes_in _ = []
+
+-- NULL is a reply that is not kept
+abbrev pub reply_in : Value → Option (List ℕ)
+reply_in (Blob b) = Some b
+reply_in _ = None
 
 -- NULL is no parent
 abbrev pub parent_in : Value → Option ℕ
@@ -161,20 +171,34 @@ session_rows db sid = map shown_session (filter (has_text 1 sid) (db 6))
 abbrev pub sessions_in : List Row → List ℕ → Option SessionRow
 sessions_in rows sid = option_map (session_of sid) (only (map shown_session (filter (has_text 1 sid) rows)))
 
--- ---- slot: tree 8
+-- ---- slot: its tree is found by its name in the list of objects, which is one of the trees
+
+abbrev pub is_named : List ℕ → Row → Bool
+is_named name row = is_eq (value_cmp (column row 2) (Text name))
+
+-- the tree that a row of the list tells, whose rowid is one above it
+abbrev pub tree_of : Row → ℕ
+tree_of row = number_in (rowid row) - 1
+
+abbrev pub tree_named : Trees → List ℕ → Option ℕ
+tree_named db name = option_map tree_of (find (is_named name) (filter is_table_row (db catalog_tree)))
+
+-- the rows of what slots keep: in `kept`, and where there is none in `slot`
+abbrev pub slots_of : Trees → List Row
+slots_of db = unwrap_or (option_map db (option_or (tree_named db (codes "kept")) (tree_named db (codes "slot")))) []
 
 abbrev pub shown_slot : Row → Row
 shown_slot row = column row 3 ∷ column row 4 ∷ column row 5 ∷ []
 
 abbrev pub kept_of : Row → KeptModel
 kept_of row =
-    record { seq = number_in (column row 0); request = bytes_in (column row 1); reply = bytes_in (column row 2) }
+    record { seq = number_in (column row 0); request = bytes_in (column row 1); reply = reply_in (column row 2) }
 
 abbrev pub is_slot : List ℕ → ℕ → Row → Bool
 is_slot sid slot row = has_text 1 sid row && has 2 slot row
 
 abbrev pub slot_rows : Trees → List ℕ → ℕ → List Row
-slot_rows db sid slot = map shown_slot (filter (is_slot sid slot) (db 8))
+slot_rows db sid slot = map shown_slot (filter (is_slot sid slot) (slots_of db))
 
 abbrev pub slots_in : List Row → List ℕ → ℕ → Option KeptModel
 slots_in rows sid slot = option_map kept_of (only (map shown_slot (filter (is_slot sid slot) rows)))
@@ -200,9 +224,9 @@ versions_in rows = map shown_version (filter (has 0 1) rows)
 abbrev pub version_rows : Trees → List Row
 version_rows db = versions_in (db 0)
 
--- there is one row, and its version is 1
-abbrev pub IsVersion1 : List Row → Type 0
-IsVersion1 rows = option_map (λ row. column row 0) (only rows) ≡ Some (Int (pos 1))
+-- there is one row, and its version is this
+abbrev pub IsVersion : ℕ → List Row → Type 0
+IsVersion n rows = option_map (λ row. column row 0) (only rows) ≡ Some (Int (pos n))
 
 -- ---- all of them
 
@@ -215,7 +239,7 @@ records_of db = record {
     next = next_in (db 0);
   };
   session = sessions_in (db 6);
-  slot = slots_in (db 8);
+  slot = slots_in (slots_of db);
 }
 
 -- a row of entries as it is shown: its place, type, flags, mask and text

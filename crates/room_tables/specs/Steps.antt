@@ -12,8 +12,8 @@ use Rattle.room_acl.specs.Entries.{EntryModel, who_text}
 use Rattle.room_records.specs.declared.change.Change.{Change}
 use Rattle.room_records.specs.Records.{Records}
 use Rattle.room_records.specs.Changes.{apply_changes}
-use Rattle.room_tables.specs.Rows.{records_of, version_rows, IsVersion1, entry_rows, who_of}
-use Rattle.room_tables.specs.Layout.{IsRoomDatabase}
+use Rattle.room_tables.specs.Rows.{records_of, version_rows, IsVersion, entry_rows, who_of}
+use Rattle.room_tables.specs.Layout.{IsRoomDatabase, IsRoomOfVersion2}
 
 -- ---- values as they are stored
 
@@ -43,25 +43,31 @@ placed at (e ∷ es) = shown_as at e ∷ placed (suc at) es
 
 -- ---- steps
 
--- inside a transaction the records were changed so, and a version 1 stayed
+-- inside a transaction the records were changed so, and the tables and a version 2 stayed
 pub record Steps (old new : State) (change : Records → Records) : Type 0 where
   pub room : IsRoomDatabase new.now
+  pub schema : new.now.schema ≡ old.now.schema
   pub records : records_of new.now.trees ≡ change (records_of old.now.trees)
-  pub version : IsVersion1 (version_rows old.now.trees) → IsVersion1 (version_rows new.now.trees)
+  pub version : IsVersion 2 (version_rows old.now.trees) → IsVersion 2 (version_rows new.now.trees)
 
 -- a commit of these changes leaves such trees, where there was a room before
 abbrev pub MayBecome : List Change → Database → Trees → Type 0
 MayBecome changes db trees = IsRoomDatabase db → records_of trees ≡ apply_changes changes (records_of db.trees)
 
+-- and a room of version 2 in the tables that are there
+abbrev pub StaysRoom : Database → Trees → Type 0
+StaysRoom db trees = IsRoomOfVersion2 db → IsRoomOfVersion2 (record { schema = db.schema; trees = trees })
+
 -- the object's entries are these, and all else is as it was
-pub record Lists (before : Trees) (id : ℕ) (entries : List EntryModel) (db : Database) : Type 0 where
+pub record Lists (before : Database) (id : ℕ) (entries : List EntryModel) (db : Database) : Type 0 where
   pub room : IsRoomDatabase db
+  pub schema : db.schema ≡ before.schema
   pub mine : entry_rows db.trees id ≡ placed 0 entries
   pub back : AllByRecursion IsReadBack entries
-  pub others : (q : ℕ) → q ≢ id → (records_of db.trees).objects.entries q ≡ (records_of before).objects.entries q
-  pub nodes : (q : ℕ) → (records_of db.trees).objects.node q ≡ (records_of before).objects.node q
-  pub documents : (q : ℕ) → (records_of db.trees).objects.document q ≡ (records_of before).objects.document q
-  pub next : (records_of db.trees).objects.next ≡ (records_of before).objects.next
-  pub sessions : (sid : List ℕ) → (records_of db.trees).session sid ≡ (records_of before).session sid
-  pub slots : (sid : List ℕ) (slot : ℕ) → (records_of db.trees).slot sid slot ≡ (records_of before).slot sid slot
-  pub version : version_rows db.trees ≡ version_rows before
+  pub others : (q : ℕ) → q ≢ id → (records_of db.trees).objects.entries q ≡ (records_of before.trees).objects.entries q
+  pub nodes : (q : ℕ) → (records_of db.trees).objects.node q ≡ (records_of before.trees).objects.node q
+  pub documents : (q : ℕ) → (records_of db.trees).objects.document q ≡ (records_of before.trees).objects.document q
+  pub next : (records_of db.trees).objects.next ≡ (records_of before.trees).objects.next
+  pub sessions : (sid : List ℕ) → (records_of db.trees).session sid ≡ (records_of before.trees).session sid
+  pub slots : (sid : List ℕ) (slot : ℕ) → (records_of db.trees).slot sid slot ≡ (records_of before.trees).slot sid slot
+  pub version : version_rows db.trees ≡ version_rows before.trees

@@ -1,6 +1,6 @@
--- The six tables of a room.
+-- The tables of a room, in both versions.
 use Rattle.std.specs.Prelude.{true, false, Bool, ◌||◌, ◌&&◌, is_some, [], ◌∷◌, Some, None, option_and_then}
-use Rattle.std.specs.Prelude.{slice_get, codes, List, ℕ, pos}
+use Rattle.std.specs.Prelude.{slice_get, codes, List, ℕ, ◌+◌, pos}
 use Rattle.std.specs.List.{list_all}
 use Rattle.sqlite_schema.specs.Names.{table_named, column_named}
 use Rattle.sqlite.specs.Collation.TheVariants.{Binary}
@@ -153,6 +153,7 @@ session_table = record {
   is_counted = false;
 }
 
+-- the table of what slots keep in version 1, where each request has its reply
 abbrev pub slot_text : List ℕ
 slot_text = codes
     "CREATE TABLE slot (sid TEXT NOT NULL REFERENCES session(sid), slot INTEGER NOT NULL, seq INTEGER NOT NULL, request BLOB NOT NULL, reply BLOB NOT NULL, PRIMARY KEY (sid, slot)) STRICT"
@@ -163,6 +164,29 @@ slot_table = record {
   tree = 8;
   columns = filled (codes "sid") Text ∷ filled (codes "slot") Integer ∷ filled (codes "seq") Integer
       ∷ filled (codes "request") Blob ∷ filled (codes "reply") Blob ∷ [];
+  key = None;
+  primary = 1 ∷ 2 ∷ [];
+  uniques = (1 ∷ 2 ∷ []) ∷ [];
+  orders = plain ∷ [];
+  checks = [];
+  references = refers 1 (codes "session") (codes "sid") NoAction ∷ [];
+  computed = [];
+  stamps = no_stamps;
+  is_counted = false;
+}
+
+-- the table of what slots keep in version 2: a reply that is not kept is NULL
+abbrev pub kept_text : List ℕ
+kept_text = codes
+    "CREATE TABLE kept (sid TEXT NOT NULL REFERENCES session(sid), slot INTEGER NOT NULL, seq INTEGER NOT NULL, request BLOB NOT NULL, reply BLOB, PRIMARY KEY (sid, slot)) STRICT"
+
+-- the same at a tree
+abbrev pub kept_table : ℕ → Table
+kept_table tree = record {
+  name = codes "kept";
+  tree = tree;
+  columns = filled (codes "sid") Text ∷ filled (codes "slot") Integer ∷ filled (codes "seq") Integer
+      ∷ filled (codes "request") Blob ∷ loose (codes "reply") Blob ∷ [];
   key = None;
   primary = 1 ∷ 2 ∷ [];
   uniques = (1 ∷ 2 ∷ []) ∷ [];
@@ -214,6 +238,19 @@ slot_index = record {
   is_unique = true;
 }
 
+-- the index of the table at this tree, whose own is the next one
+abbrev pub kept_index : ℕ → Index
+kept_index table = record {
+  name = codes "sqlite_autoindex_kept_1";
+  tree = table + 1;
+  table = table;
+  columns = 1 ∷ 2 ∷ [];
+  order = plain;
+  is_unique = true;
+}
+
+-- ---- the tables as they are made, one after another
+
 abbrev pub schema_0 : Schema
 schema_0 = record { tables = []; indexes = []; views = [] }
 
@@ -241,21 +278,66 @@ schema_5 = record {
   views = [];
 }
 
-abbrev pub room_schema : Schema
-room_schema = record {
-  tables = room_table ∷ node_table ∷ entry_table ∷ doc_table ∷ session_table ∷ slot_table ∷ [];
-  indexes = node_index ∷ entry_index ∷ session_index ∷ slot_index ∷ [];
+-- ---- a room
+
+-- the five tables that every room has stand first, and these behind them
+abbrev pub with_last : List Table → List Index → Schema
+with_last tables indexes = record {
+  tables = room_table ∷ node_table ∷ entry_table ∷ doc_table ∷ session_table ∷ tables;
+  indexes = node_index ∷ entry_index ∷ session_index ∷ indexes;
   views = [];
 }
+
+-- a room of version 1
+abbrev pub first_schema : Schema
+first_schema = with_last (slot_table ∷ []) (slot_index ∷ [])
+
+-- how a room of version 2 came to be
+pub data Layout : Type 0 where
+  -- made by `init`
+  Fresh : Layout
+  -- made in version 1, and upgraded, so that an empty `slot` stands before `kept`
+  Upgraded : Layout
+
+-- the tree of the table of what slots keep
+abbrev pub slots_tree : Layout → ℕ
+slots_tree Fresh = 8
+slots_tree Upgraded = 10
+
+-- and its place in the list
+abbrev pub slots_place : Layout → ℕ
+slots_place Fresh = 5
+slots_place Upgraded = 6
+
+abbrev pub slots_table : Layout → Table
+slots_table l = kept_table (slots_tree l)
+
+abbrev pub slots_index : Layout → Index
+slots_index l = kept_index (slots_tree l)
+
+abbrev pub last_tables : Layout → List Table
+last_tables Fresh = slots_table Fresh ∷ []
+last_tables Upgraded = slot_table ∷ slots_table Upgraded ∷ []
+
+abbrev pub last_indexes : Layout → List Index
+last_indexes Fresh = slots_index Fresh ∷ []
+last_indexes Upgraded = slot_index ∷ slots_index Upgraded ∷ []
+
+-- a room of version 2
+abbrev pub room_schema : Layout → Schema
+room_schema l = with_last (last_tables l) (last_indexes l)
+
+-- ---- what is looked for
 
 abbrev pub has_table : Schema → List ℕ → Bool
 has_table schema name = is_some (table_named schema name)
 
--- one of the six names is a table's
+-- one of the seven names is a table's
 abbrev pub has_a_table : Schema → Bool
 has_a_table schema =
     has_table schema (codes "room") || has_table schema (codes "node") || has_table schema (codes "entry")
     || has_table schema (codes "doc") || has_table schema (codes "session") || has_table schema (codes "slot")
+    || has_table schema (codes "kept")
 
 -- the table is there, and has the column
 abbrev pub has_column : Schema → List ℕ → List ℕ → Bool
@@ -265,9 +347,9 @@ has_column schema table column = is_some (option_and_then (λ (t : Table). colum
 abbrev pub has_columns : Schema → List ℕ → List (List ℕ) → Bool
 has_columns schema table columns = list_all (has_column schema table) columns
 
--- the six tables are there, with each of their columns
-abbrev pub has_room : Schema → Bool
-has_room schema =
+-- the five tables that every room has are there, with each of their columns
+abbrev pub has_five : Schema → Bool
+has_five schema =
     has_columns schema (codes "room") (codes "one" ∷ codes "version" ∷ codes "next" ∷ [])
     && has_columns schema (codes "node")
     (codes "id" ∷ codes "parent" ∷ codes "name" ∷ codes "kind" ∷ codes "owner" ∷ codes "grp" ∷ codes "aclflag" ∷ [])
@@ -275,5 +357,15 @@ has_room schema =
     (codes "node" ∷ codes "place" ∷ codes "type" ∷ codes "flag" ∷ codes "mask" ∷ codes "who" ∷ [])
     && has_columns schema (codes "doc") (codes "node" ∷ codes "bytes" ∷ [])
     && has_columns schema (codes "session") (codes "sid" ∷ codes "owner" ∷ codes "slots" ∷ codes "open" ∷ [])
-    && has_columns schema (codes "slot")
-    (codes "sid" ∷ codes "slot" ∷ codes "seq" ∷ codes "request" ∷ codes "reply" ∷ [])
+
+-- a table of this name is there that can hold what slots keep
+abbrev pub has_slots : Schema → List ℕ → Bool
+has_slots schema table =
+    has_columns schema table (codes "sid" ∷ codes "slot" ∷ codes "seq" ∷ codes "request" ∷ codes "reply" ∷ [])
+
+-- the tables of a room of version 2, and of one of version 1
+abbrev pub has_room : Schema → Bool
+has_room schema = has_five schema && has_slots schema (codes "kept")
+
+abbrev pub has_first_room : Schema → Bool
+has_first_room schema = has_five schema && has_slots schema (codes "slot")

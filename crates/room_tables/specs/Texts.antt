@@ -1,4 +1,4 @@
--- The statements on the tables, and what they mean under `room_schema`.
+-- The statements on the tables, and what they mean under a `room_schema`.
 use Rattle.std.specs.Prelude.{ℕ, ◌+◌, List, [], ◌∷◌, ◌++◌, false, pos, negsuc, codes, Some, None}
 use Rattle.sqlite_value.specs.declared.value.Value.TheVariants.{Null, Int}
 use Rattle.sqlite_value.specs.declared.keys.Collation.TheVariants.{Binary}
@@ -95,11 +95,12 @@ abbrev pub find_session_query : Query
 find_session_query = over_table 6 (equals (col 1 1) (col 0 0) ∷ []) (col 1 2 ∷ col 1 3 ∷ col 1 4 ∷ []) ([])
 
 abbrev pub find_slot_text : List ℕ
-find_slot_text = codes "SELECT seq, request, reply FROM slot WHERE sid = ?1 AND slot = ?2"
+find_slot_text = codes "SELECT seq, request, reply FROM kept WHERE sid = ?1 AND slot = ?2"
 
-abbrev pub find_slot_query : Query
-find_slot_query =
-    over_table 8 (equals (col 1 1) (col 0 0) ∷ equals (col 1 2) (col 0 1) ∷ []) (col 1 3 ∷ col 1 4 ∷ col 1 5 ∷ []) ([])
+abbrev pub find_slot_query : ℕ → Query
+find_slot_query tree =
+    over_table tree (equals (col 1 1) (col 0 0) ∷ equals (col 1 2) (col 0 1) ∷ [])
+    (col 1 3 ∷ col 1 4 ∷ col 1 5 ∷ []) ([])
 
 abbrev pub drop_node_text : List ℕ
 drop_node_text = codes "DELETE FROM node WHERE id = ?1"
@@ -114,10 +115,10 @@ abbrev pub drop_entries_query : Query
 drop_entries_query = over_table 3 (equals (col 1 1) (col 0 0) ∷ []) (col 1 0 ∷ []) []
 
 abbrev pub drop_slots_text : List ℕ
-drop_slots_text = codes "DELETE FROM slot WHERE sid = ?1"
+drop_slots_text = codes "DELETE FROM kept WHERE sid = ?1"
 
-abbrev pub drop_slots_query : Query
-drop_slots_query = over_table 8 (equals (col 1 1) (col 0 0) ∷ []) (col 1 0 ∷ []) []
+abbrev pub drop_slots_query : ℕ → Query
+drop_slots_query tree = over_table tree (equals (col 1 1) (col 0 0) ∷ []) (col 1 0 ∷ []) []
 
 abbrev pub add_entry_text : List ℕ
 add_entry_text = codes "INSERT INTO entry (node, place, type, flag, mask, who) VALUES (?1, ?2, ?3, ?4, ?5, ?6)"
@@ -153,10 +154,10 @@ add_four_terms = entry_terms 1 ++ entry_terms 6 ++ entry_terms 11 ++ entry_terms
 
 abbrev pub put_next_text : List ℕ
 put_next_text = codes
-    "INSERT INTO room (one, version, next) VALUES (1, 1, ?1) ON CONFLICT (one) DO UPDATE SET version = excluded.version, next = excluded.next"
+    "INSERT INTO room (one, version, next) VALUES (1, 2, ?1) ON CONFLICT (one) DO UPDATE SET version = excluded.version, next = excluded.next"
 
 abbrev pub put_next_terms : List Term
-put_next_terms = lit (Int (pos 1)) ∷ lit Null ∷ lit (Int (pos 1)) ∷ col 0 0 ∷ []
+put_next_terms = lit (Int (pos 1)) ∷ lit Null ∷ lit (Int (pos 2)) ∷ col 0 0 ∷ []
 
 -- the update reads the parameters, then the rowid that is there in column 1, and the new row from column 2 on
 abbrev pub put_next_query : Query
@@ -210,20 +211,40 @@ put_session_query = over_table 6 (equals (col 1 0) (col 0 4) ∷ [])
 abbrev pub put_session_clause : Upsert
 put_session_clause = record { target = Some (1 ∷ []); update = Some (record { lets = []; body = put_session_query }) }
 
-abbrev pub put_slot_text : List ℕ
-put_slot_text = codes
-    "INSERT INTO slot (sid, slot, seq, request, reply) VALUES (?1, ?2, ?3, ?4, ?5) ON CONFLICT (sid, slot) DO UPDATE SET seq = excluded.seq, request = excluded.request, reply = excluded.reply"
+-- what a slot keeps is written into the row that is there; a row is added only where none was changed
+abbrev pub change_slot_text : List ℕ
+change_slot_text = codes "UPDATE kept SET seq = ?3, request = ?4, reply = ?5 WHERE sid = ?1 AND slot = ?2"
 
-abbrev pub put_slot_terms : List Term
-put_slot_terms = lit Null ∷ col 0 0 ∷ col 0 1 ∷ col 0 2 ∷ col 0 3 ∷ col 0 4 ∷ []
+-- the rowid of each row that passes, and its values with those that are set
+abbrev pub change_slot_query : ℕ → Query
+change_slot_query tree = over_table tree (equals (col 1 1) (col 0 0) ∷ equals (col 1 2) (col 0 1) ∷ [])
+    (col 1 0 ∷ col 1 0 ∷ col 1 1 ∷ col 1 2 ∷ col 0 2 ∷ col 0 3 ∷ col 0 4 ∷ []) []
 
--- the update reads the parameters, then the rowid that is there in column 5, and the new row from column 6 on
-abbrev pub put_slot_query : Query
-put_slot_query = over_table 8 (equals (col 1 0) (col 0 5) ∷ [])
-    (col 1 0 ∷ col 1 0 ∷ col 1 1 ∷ col 1 2 ∷ col 0 9 ∷ col 0 10 ∷ col 0 11 ∷ []) []
+abbrev pub add_slot_text : List ℕ
+add_slot_text = codes "INSERT INTO kept (sid, slot, seq, request, reply) VALUES (?1, ?2, ?3, ?4, ?5)"
 
-abbrev pub put_slot_clause : Upsert
-put_slot_clause = record { target = Some (1 ∷ 2 ∷ []); update = Some (record { lets = []; body = put_slot_query }) }
+abbrev pub add_slot_terms : List Term
+add_slot_terms = lit Null ∷ col 0 0 ∷ col 0 1 ∷ col 0 2 ∷ col 0 3 ∷ col 0 4 ∷ []
+
+-- ---- the upgrade of a room of version 1
+
+-- a row keeps its rowid, so that the connection tells which one was copied
+abbrev pub copy_row_text : List ℕ
+copy_row_text = codes
+    "INSERT INTO kept (rowid, sid, slot, seq, request, reply) SELECT rowid, sid, slot, seq, request, reply FROM slot LIMIT 1"
+
+-- all of one row, of whichever
+abbrev pub copy_row_query : Query
+copy_row_query = record (over_table 8 [] (col 1 0 ∷ col 1 1 ∷ col 1 2 ∷ col 1 3 ∷ col 1 4 ∷ col 1 5 ∷ []) [])
+    { collations = Binary ∷ Binary ∷ Binary ∷ Binary ∷ Binary ∷ Binary ∷ []; limit = lit (Int (pos 1)) }
+
+abbrev pub take_row_text : List ℕ
+take_row_text = codes "DELETE FROM slot WHERE rowid = ?1"
+
+abbrev pub take_row_query : Query
+take_row_query = over_table 8 (equals (col 1 0) (col 0 0) ∷ []) (col 1 0 ∷ []) []
+
+-- ---- a count
 
 abbrev pub count_children_text : List ℕ
 count_children_text = codes "SELECT count(*) FROM node WHERE parent = ?1"

@@ -1,7 +1,9 @@
-//! Public calls of the lower crates: each once, their limits, growths that are refused, plans of RENAME, and which
-//! lists a command puts.
+//! Public calls of the lower crates: each once, their limits, growths that are refused, plans of RENAME, which lists
+//! a command puts, and a shelf that remembers beside one that does not.
 #![tactic(auto)]
 
+#[cfg(test)]
+mod caching;
 #[cfg(test)]
 mod copies;
 #[cfg(test)]

@@ -166,7 +166,7 @@ fn slot_row(alloc: Global) -> Result<SlotRow, Fail> {
         kept: Kept {
             seq: 1,
             request: vec![in alloc; 1, 2]?,
-            reply: vec![in alloc; 3]?,
+            reply: Some(vec![in alloc; 3]?),
         },
     })
 }

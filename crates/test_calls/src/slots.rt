@@ -15,7 +15,7 @@ fn wrapped_number(rt: HostRuntime) -> Result<(), Fail> {
     let kept = Kept {
         seq: 4294967295,
         request: b"a".to_vec(rt.alloc())?,
-        reply: Vec::new(rt.alloc()),
+        reply: Some(Vec::new(rt.alloc())),
     };
     for (seq, request, wanted) in [
         (0, b"a", Verdict::New),
@@ -39,12 +39,63 @@ fn copy_of_what_is_kept(rt: HostRuntime) -> Result<(), Fail> {
     let kept = Kept {
         seq: 7,
         request: b"request".to_vec(rt.alloc())?,
-        reply: b"reply".to_vec(rt.alloc())?,
+        reply: Some(b"reply".to_vec(rt.alloc())?),
     };
     let copy = kept.clone()?;
     assert_eq!(rt; copy.seq, 7);
     assert_eq!(rt; copy.request.as_slice(), b"request".as_slice());
-    assert_eq!(rt; copy.reply.as_slice(), b"reply".as_slice());
+    let reply = copy.reply.ok_or("a copy has no reply")?;
+    assert_eq!(rt; reply.as_slice(), b"reply".as_slice());
+    Ok(())
+}
+
+#[test]
+fn a_reply_that_is_not_kept(rt: HostRuntime) -> Result<(), Fail> {
+    let kept = Kept {
+        seq: 7,
+        request: b"a".to_vec(rt.alloc())?,
+        reply: None,
+    };
+    let copy = kept.clone()?;
+    assert!(rt; copy.reply.is_none());
+    for (seq, request, wanted) in [
+        (8, b"a", Verdict::New),
+        (7, b"a", Verdict::Uncached),
+        (7, b"c", Verdict::FalseRetry),
+        (9, b"a", Verdict::Misordered),
+    ] {
+        assert_eq!(rt; verdict(Some(&copy), seq, request.as_slice()), wanted);
+    }
+    let mut trial = Trial::fresh(rt.alloc());
+    trial.doc.extend_from_slice(b"ba")?;
+    trial.kept = Some(copy);
+    assert!(rt;
+        is_answered(&mut trial, 7, b"a", "ba")?,
+        "a trial slot's reply is its document"
+    );
+    assert_eq!(rt; trial.doc.as_slice(), b"ba".as_slice());
+    Ok(())
+}
+
+// The number after the largest is 0, and a kept 0 is a number like the others, also where no reply is kept with it.
+#[test]
+fn wrapped_number_without_a_reply(rt: HostRuntime) -> Result<(), Fail> {
+    for (kept, seq, request, wanted) in [
+        (4294967295, 0, b"a", Verdict::New),
+        (4294967295, 4294967295, b"a", Verdict::Uncached),
+        (4294967295, 4294967295, b"c", Verdict::FalseRetry),
+        (4294967295, 1, b"a", Verdict::Misordered),
+        (0, 0, b"a", Verdict::Uncached),
+        (0, 0, b"c", Verdict::FalseRetry),
+        (0, 1, b"a", Verdict::New),
+    ] {
+        let kept = Kept {
+            seq: kept,
+            request: b"a".to_vec(rt.alloc())?,
+            reply: None,
+        };
+        assert_eq!(rt; verdict(Some(&kept), seq, request.as_slice()), wanted);
+    }
     Ok(())
 }
 
@@ -104,11 +155,14 @@ fn each_growth_refused_in_turn(rt: HostRuntime) {
     }
 }
 
-// The document is this, and so is the reply that is kept, where one is.
+// The document is this, and so is the reply that is kept, where a piece is.
 fn expect_doc(rt: &impl Abort, trial: &Trial, doc: &[u8]) {
     assert_eq!(rt; trial.doc.as_slice(), doc);
     match &trial.kept {
-        Some(kept) => assert_eq!(rt; kept.reply.as_slice(), doc),
+        Some(kept) => match &kept.reply {
+            Some(reply) => assert_eq!(rt; reply.as_slice(), doc),
+            None => assert!(rt; false, "the reply is not kept"),
+        },
         None => assert_eq!(rt; doc.len(), 0),
     }
 }

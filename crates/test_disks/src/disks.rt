@@ -3,6 +3,7 @@ ghost use Rattle.std.specs.Prelude.{◌≡◌, false, IfOk};
 
 use crate::flaky::Flaky;
 use crate::halting::Halting;
+use crate::narrow::Narrow;
 use sqlite::{Connection, FileStore, Options};
 use sqlite_disk::{Crash, Disk, Files, Fuse, Memory, Rot};
 use std::alloc::Global;
@@ -28,6 +29,12 @@ impl Kept for Fuse<Memory> {
 }
 
 impl Kept for Flaky<Memory> {
+    fn file_bytes(&self) -> &[u8] {
+        self.inner().bytes()
+    }
+}
+
+impl Kept for Narrow<Memory> {
     fn file_bytes(&self) -> &[u8] {
         self.inner().bytes()
     }

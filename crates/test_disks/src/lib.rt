@@ -4,6 +4,8 @@
 #[cfg(test)]
 mod disks;
 #[cfg(test)]
+mod first_rooms;
+#[cfg(test)]
 mod flaky;
 #[cfg(test)]
 mod followers;
@@ -13,6 +15,8 @@ mod halting;
 mod healing;
 #[cfg(test)]
 mod making;
+#[cfg(test)]
+mod narrow;
 #[cfg(test)]
 mod odd_rows;
 #[cfg(test)]
@@ -33,3 +37,7 @@ mod story;
 mod taking;
 #[cfg(test)]
 mod trials;
+#[cfg(test)]
+mod upgrades;
+#[cfg(test)]
+mod upgrading;

@@ -15,8 +15,8 @@ CREATE TABLE node (id INTEGER PRIMARY KEY, parent, name, kind, owner, grp, aclfl
 CREATE TABLE entry (node, place, type, flag, mask, who, UNIQUE (node, place));
 CREATE TABLE doc (node INTEGER PRIMARY KEY, bytes);
 CREATE TABLE session (sid UNIQUE, owner, slots, open);
-CREATE TABLE slot (sid, slot, seq, request, reply, UNIQUE (sid, slot));
-INSERT INTO room VALUES (1, 1, 2);
+CREATE TABLE kept (sid, slot, seq, request, reply, UNIQUE (sid, slot));
+INSERT INTO room VALUES (1, 2, 2);
 INSERT INTO node VALUES (1, NULL, '', 1, 'ann', 'eng', 0);
 INSERT INTO entry VALUES (1, 0, 0, 3, 2033663, 'OWNER@'), (1, 1, 0, 3, 1179817, 'GROUP@');";
 
@@ -184,15 +184,15 @@ static ODDS: [Odd; 31] = [
         "UPDATE session SET open = 1",
         READ,
     ),
-    Odd("UPDATE slot SET seq = -1", "UPDATE slot SET seq = 3", READ),
+    Odd("UPDATE kept SET seq = -1", "UPDATE kept SET seq = 3", READ),
     Odd(
-        "UPDATE slot SET seq = 4294967299",
-        "UPDATE slot SET seq = 3",
+        "UPDATE kept SET seq = 4294967299",
+        "UPDATE kept SET seq = 3",
         READ,
     ),
     Odd(
-        "UPDATE slot SET reply = 'text'",
-        "UPDATE slot SET reply = x'7b22636f6465223a302c2273697a65223a337d'",
+        "UPDATE kept SET reply = 'text'",
+        "UPDATE kept SET reply = x'7b22636f6465223a302c2273697a65223a337d'",
         READ,
     ),
     Odd(
@@ -321,6 +321,26 @@ fn an_odd_row_behind_the_deciding_one_is_not_met(rt: HostRuntime) -> Result<(), 
         conn.execute(sql, &[])?;
         let _ = asked_twice(rt.alloc(), conn, &Odd(sql, sql, READ), true)?;
     }
+    Ok(())
+}
+
+/// The third request again, where no reply is kept.
+const AGAIN: Step = Step(
+    Ask::Run(3, r#"{"cmd":"APPEND","data":"IQ==","path":"/d/a"}"#),
+    r#"{"code":25,"error":"RETRY_UNCACHED"}"#,
+);
+
+/// No reply is no odd row: the request does not run again, and the next one does.
+#[test]
+fn a_reply_that_is_not_kept(rt: HostRuntime) -> Result<(), Fail> {
+    let alloc = rt.alloc();
+    let mut conn = played(alloc)?;
+    let sql = "UPDATE kept SET reply = NULL";
+    conn.execute(sql, &[])?;
+    let before = contents(alloc, &mut conn)?;
+    let mut conn = asked_twice(alloc, conn, &Odd(sql, sql, AGAIN), true)?;
+    is_as(alloc, &mut conn, before.as_str(), sql)?;
+    let _ = asked_twice(alloc, conn, &Odd(sql, sql, READ), true)?;
     Ok(())
 }
 

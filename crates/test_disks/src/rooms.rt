@@ -7,11 +7,10 @@ use room_records::Shelf;
 use sqlite::{Alter, Connection, FileStore};
 use sqlite_disk::Memory;
 use std::alloc::Global;
-use std::fmt::Write;
 use std::test::Fail;
-use test_stores::{Held, in_tables, made, push_rows, taken};
+use test_stores::{Held, in_tables, made, shown, taken};
 
-/// What shows a room whole.
+/// What shows a room of version 2 whole.
 const ALL: [&str; 7] = [
     "SELECT type, name, tbl_name, sql FROM sqlite_schema",
     "SELECT one, version, next FROM room",
@@ -19,18 +18,12 @@ const ALL: [&str; 7] = [
     "SELECT node, place, type, flag, mask, who FROM entry ORDER BY node, place",
     "SELECT node, bytes FROM doc ORDER BY node",
     "SELECT sid, owner, slots, open FROM session ORDER BY sid",
-    "SELECT sid, slot, seq, request, reply FROM slot ORDER BY sid, slot",
+    "SELECT sid, slot, seq, request, reply FROM kept ORDER BY sid, slot",
 ];
 
 /// All that is in a room's database, as text.
 pub fn contents<S: Alter>(alloc: Global, conn: &mut Connection<S>) -> Result<String, Fail> {
-    let mut text = String::new(alloc);
-    for sql in ALL {
-        let rows = conn.query_all(sql, &[])?;
-        push_rows(&mut text, rows.as_slice())?;
-        write!(text, "\n")?;
-    }
-    Ok(text)
+    shown(alloc, conn, &ALL)
 }
 
 /// What the files hold once they are closed: the log is copied into the database file.

@@ -63,12 +63,14 @@ pub const STEPS: usize = 7;
 
 /// A request of `ann` in the session.
 pub fn request(alloc: Global, slot: u32, seq: u32, command: &str) -> Result<Event, Fail> {
+    let (command, keep) = read_command(alloc, command.as_bytes())?;
     Ok(Event::Slot {
         subject: subject(alloc, "ann")?,
         sid: session_name(alloc, SID)?,
         slot,
         seq,
-        command: read_command(alloc, command.as_bytes())?,
+        command,
+        keep,
     })
 }
 

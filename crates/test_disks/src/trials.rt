@@ -106,7 +106,8 @@ struct Left {
 /// What files hold after a stop, and how many requests were answered before it.
 type After = (Held, Answered);
 
-fn is_same(one: &Held, other: &Held) -> bool {
+/// Whether files hold the same bytes.
+pub fn is_same(one: &Held, other: &Held) -> bool {
     one.log.as_slice() == other.log.as_slice() && one.db.as_slice() == other.db.as_slice()
 }
 

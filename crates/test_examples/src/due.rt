@@ -9,6 +9,8 @@ pub struct Due {
     /// All bytes of the answer.
     pub whole: Vec<u8>,
     pub body: Vec<u8>,
+    /// Whether it is a reply: what a request is answered that runs, or ran before.
+    pub is_reply: bool,
     /// Whether the stream is over behind it.
     pub closes: bool,
 }
@@ -20,6 +22,7 @@ impl Due {
         Ok(Due {
             whole,
             body,
+            is_reply: head.status == OK,
             closes: head.closes,
         })
     }
@@ -37,10 +40,13 @@ pub struct Head {
     closes: bool,
 }
 
+/// The status of replies.
+const OK: &str = "200 OK";
+
 /// The status that a word names.
 fn status_of(word: &str) -> Option<&'static str> {
     match word {
-        "200" => Some("200 OK"),
+        "200" => Some(OK),
         "400" => Some("400 Bad Request"),
         "403" => Some("403 Forbidden"),
         "404" => Some("404 Not Found"),
@@ -66,7 +72,7 @@ pub fn read_due(text: &str) -> Result<(Head, &str), Fault> {
         };
         (status, rest)
     } else {
-        ("200 OK", text)
+        (OK, text)
     };
     let (closes, body) = match text.strip_prefix("close ") {
         Some(body) => (true, body),

@@ -22,13 +22,14 @@ const SESSIONS: [&str; 4] = [
 /// How many kinds of command there are.
 const COMMANDS: u32 = 13;
 
-/// An event in numbers. `seed` tells a request's command, or how many slots an OPEN asks for.
+/// An event in numbers. `seed` tells a request's command, or how many slots an OPEN asks for; `keep` is a request's.
 #[derive(Clone, Copy)]
 pub struct Draft {
     pub what: What,
     pub user: u32,
     pub session: u32,
     pub seed: u32,
+    pub keep: bool,
 }
 
 #[derive(Clone, Copy)]
@@ -240,6 +241,7 @@ pub fn event(alloc: Global, draft: &Draft) -> Result<Event, Fail> {
             slot,
             seq,
             command: command(alloc, draft.seed)?,
+            keep: draft.keep,
         }),
         What::RunOnLists(seq) => Ok(Event::Slot {
             subject,
@@ -247,6 +249,7 @@ pub fn event(alloc: Global, draft: &Draft) -> Result<Event, Fail> {
             slot: 0,
             seq,
             command: command_on_lists(alloc, seq, draft.seed)?,
+            keep: draft.keep,
         }),
     }
 }

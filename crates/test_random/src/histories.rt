@@ -8,7 +8,7 @@ use room_history::{answer_to, count_accepted, state_after};
 use room_model::PlainRoom;
 use room_records::{MemShelf, Shelf};
 use room_sql::SqlShelf;
-use room_wire::Event;
+use room_wire::{Code, Event};
 use sqlite::MemStore;
 use std::alloc::Global;
 use std::test::Fail;
@@ -48,10 +48,16 @@ fn fresh(alloc: Global, dice: &mut Dice, past: &[Event]) -> Result<Draft, Fail> 
         user: user_of(dice, session),
         session,
         seed: dice.seed(),
+        keep: keep_of(dice),
     })
 }
 
-/// One of the latest events again, as it was or with another command, or a fresh one.
+/// Two replies of three are kept.
+fn keep_of(dice: &mut Dice) -> bool {
+    dice.roll(3) != 0
+}
+
+/// One of the latest events again, with the same command or another and its reply to be kept or not, or a fresh one.
 fn next(alloc: Global, dice: &mut Dice, sent: &[Draft], past: &[Event]) -> Result<Draft, Fail> {
     let back = dice.roll(6) as usize + 1;
     let again = dice.roll(12);
@@ -63,7 +69,10 @@ fn next(alloc: Global, dice: &mut Dice, sent: &[Draft], past: &[Event]) -> Resul
             seed: dice.seed(),
             ..*draft
         }),
-        Some(draft) => Ok(*draft),
+        Some(draft) => Ok(Draft {
+            keep: keep_of(dice),
+            ..*draft
+        }),
         None => fresh(alloc, dice, past),
     }
 }
@@ -78,6 +87,8 @@ struct Trio {
     tables: SqlShelf<MemStore>,
     replies: u32,
     refusals: u32,
+    /// How many repeats were told that no reply is kept.
+    uncached: u32,
     /// How many requests were done that answer nothing else.
     done: u32,
 }
@@ -99,6 +110,7 @@ impl Trio {
             tables: in_tables(alloc)?,
             replies: 0,
             refusals: 0,
+            uncached: 0,
             done: 0,
         })
     }
@@ -107,6 +119,7 @@ impl Trio {
     fn count(&mut self, answer: &Answer) {
         match answer {
             Answer::Reply(_) => self.replies = self.replies.wrapping_add(1),
+            Answer::Refused(Code::RetryUncached) => self.uncached = self.uncached.wrapping_add(1),
             Answer::Refused(_) => self.refusals = self.refusals.wrapping_add(1),
         }
         if answer.body() == br#"{"code":0}"#.as_slice() {
@@ -170,10 +183,15 @@ fn random_history(alloc: Global, seed: u32) -> Result<Trio, Fail> {
 
 #[test]
 fn random_histories(rt: HostRuntime) -> Result<(), Fail> {
-    for seed in [1, 2] {
+    // In both the sessions stay open for long: a closed one refuses all that comes after.
+    for seed in [5, 335] {
         let trio = random_history(rt.alloc(), seed)?;
-        // Neither replies nor refusals alone.
-        assert!(rt; 40 < trio.replies && 20 < trio.refusals, "{seed}");
+        // Replies, refusals, and repeats of requests whose reply is not kept.
+        let (replies, refusals, uncached) = (trio.replies, trio.refusals, trio.uncached);
+        assert!(rt;
+            60 < replies && 60 < refusals && 7 < uncached,
+            "{seed}: {replies} replies, {refusals} refusals, {uncached} repeats without a reply"
+        );
         trio.compare_rooms()?;
     }
     Ok(())
@@ -187,11 +205,13 @@ fn history_of_lists(alloc: Global, seed: u32) -> Result<Trio, Fail> {
         user: 0,
         session: 0,
         seed: 0,
+        keep: true,
     };
     let mut trio = Trio::new(alloc)?.answer(event(alloc, &draft)?)?;
     for number in 1..EVENTS {
         draft.what = What::RunOnLists(number);
         draft.seed = dice.seed();
+        draft.keep = number % 2 == 0;
         trio = trio.answer(event(alloc, &draft)?)?;
     }
     Ok(trio)

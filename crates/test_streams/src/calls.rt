@@ -56,11 +56,14 @@ const KEPT: [&str; 13] = [
     r#"{"cmd":"ACCESS","mask":1179817,"path":"/a"}"#,
 ];
 
-/// A body asks the command whose text is kept so.
-fn is_kept_as(alloc: Global, body: &[u8], wanted: &str) -> Result<(), Fail> {
-    let command = read_command(alloc, body)?;
+/// A body asks the command whose text is kept so, and that its reply be kept or not.
+fn is_kept_as(alloc: Global, body: &[u8], wanted: &str, wants_reply: bool) -> Result<(), Fail> {
+    let (command, keep) = read_command(alloc, body)?;
     if command_text(alloc, &command)?.as_slice() != wanted.as_bytes() {
         return Err(Fail::new(format_args!("not kept as {wanted}")));
+    }
+    if keep != wants_reply {
+        return Err(Fail::new(format_args!("its reply is kept: {keep}, with {wanted}")));
     }
     Ok(())
 }
@@ -69,12 +72,32 @@ fn is_kept_as(alloc: Global, body: &[u8], wanted: &str) -> Result<(), Fail> {
 #[test]
 fn commands_are_kept_as_text(rt: HostRuntime) -> Result<(), Fail> {
     for text in KEPT {
-        is_kept_as(rt.alloc(), text.as_bytes(), text)?;
+        is_kept_as(rt.alloc(), text.as_bytes(), text, true)?;
     }
     let body = b" {\"path\" : \"/\\u0061\",\n\t\"data\":\"aGk=\", \"cmd\":\"WRITE\" }\r\n";
     is_kept_as(
         rt.alloc(),
         body,
         r#"{"cmd":"WRITE","data":"aGk=","path":"/a"}"#,
+        true,
     )
+}
+
+/// `keep` is no part of the text, wherever it stands.
+#[test]
+fn keep_is_no_part_of_the_text(rt: HostRuntime) -> Result<(), Fail> {
+    for (body, wants_reply) in [
+        (r#"{"cmd":"STAT","keep":false,"path":"/"}"#, false),
+        (r#"{"cmd":"STAT","keep":true,"path":"/"}"#, true),
+        (r#"{"keep":false,"path":"/","cmd":"STAT"}"#, false),
+        (r#"{"path":"/","cmd":"STAT","keep":true}"#, true),
+    ] {
+        is_kept_as(
+            rt.alloc(),
+            body.as_bytes(),
+            r#"{"cmd":"STAT","path":"/"}"#,
+            wants_reply,
+        )?;
+    }
+    Ok(())
 }

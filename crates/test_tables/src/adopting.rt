@@ -8,7 +8,8 @@ use std::test::Fail;
 #[derive(Clone, Copy)]
 struct Table(&'static str, &'static [&'static str]);
 
-static TABLES: [Table; 6] = [
+/// The five that every room has, and what the slots keep: in a room of version 2, and in one of version 1.
+static TABLES: [Table; 7] = [
     Table("room", &["one", "version", "next"]),
     Table(
         "node",
@@ -17,8 +18,16 @@ static TABLES: [Table; 6] = [
     Table("entry", &["node", "place", "type", "flag", "mask", "who"]),
     Table("doc", &["node", "bytes"]),
     Table("session", &["sid", "owner", "slots", "open"]),
+    Table("kept", &["sid", "slot", "seq", "request", "reply"]),
     Table("slot", &["sid", "slot", "seq", "request", "reply"]),
 ];
+
+/// The places of the tables of a version.
+type Places = &'static [usize];
+
+const VERSION_1: Places = &[0, 1, 2, 3, 4, 6];
+
+const VERSION_2: Places = &[0, 1, 2, 3, 4, 5];
 
 /// What a database lacks to be a room's.
 #[derive(Clone, Copy)]
@@ -79,18 +88,18 @@ fn push_table(text: &mut String, lack: Lack, at: usize) -> Result<(), Fail> {
     Ok(text.push_str(");")?)
 }
 
-/// The texts that make the six tables, less what is lacking.
-fn tables_less(alloc: Global, lack: Lack) -> Result<String, Fail> {
+/// The texts that make the tables at these places, less what is lacking.
+fn tables_less(alloc: Global, places: Places, lack: Lack) -> Result<String, Fail> {
     let mut text = String::new(alloc);
-    for at in 0..TABLES.len() {
-        push_table(&mut text, lack, at)?;
+    for at in places {
+        push_table(&mut text, lack, *at)?;
     }
     Ok(text)
 }
 
 /// A database that lacks something is no room, and since a table is there none is made.
-fn is_no_room(alloc: Global, lack: Lack) -> Result<(), Fail> {
-    let conn = database(alloc, tables_less(alloc, lack)?.as_str())?;
+fn is_no_room(alloc: Global, places: Places, lack: Lack) -> Result<(), Fail> {
+    let conn = database(alloc, tables_less(alloc, places, lack)?.as_str())?;
     let conn = is_answered(alloc, conn, Opening::Adopt, Err(OpenFault::NotARoom))?;
     let _ = is_answered(alloc, conn, Opening::Init, Err(OpenFault::RoomExists))?;
     Ok(())
@@ -98,30 +107,50 @@ fn is_no_room(alloc: Global, lack: Lack) -> Result<(), Fail> {
 
 #[test]
 fn a_database_without_one_of_the_tables(rt: HostRuntime) -> Result<(), Fail> {
-    for at in 0..TABLES.len() {
-        is_no_room(rt.alloc(), Lack::Table(at))?;
+    for places in [VERSION_1, VERSION_2] {
+        for at in places {
+            is_no_room(rt.alloc(), places, Lack::Table(*at))?;
+        }
     }
     Ok(())
 }
 
+/// No room without one of the columns of the table at a place: how many it has.
+fn lacks_each_column(alloc: Global, places: Places, at: usize) -> Result<usize, Fail> {
+    let Table(_, columns) = *TABLES.get(at).ok_or("no table")?;
+    for column in 0..columns.len() {
+        is_no_room(alloc, places, Lack::Column(at, column))?;
+    }
+    Ok(columns.len())
+}
+
 #[test]
 fn a_database_without_one_of_the_columns(rt: HostRuntime) -> Result<(), Fail> {
-    let mut columns = 0usize;
-    for (at, table) in TABLES.iter().enumerate() {
-        for column in 0..table.1.len() {
-            is_no_room(rt.alloc(), Lack::Column(at, column))?;
-            columns = columns.saturating_add(1);
+    for places in [VERSION_1, VERSION_2] {
+        let mut columns = 0usize;
+        for at in places {
+            columns = columns.saturating_add(lacks_each_column(rt.alloc(), places, *at)?);
+        }
+        assert_eq!(rt; columns, 27);
+    }
+    Ok(())
+}
+
+/// No room where the table at a place and one of those before it have each other's names.
+fn swaps_names(alloc: Global, places: Places, one: usize) -> Result<(), Fail> {
+    for other in places {
+        if *other < one {
+            is_no_room(alloc, places, Lack::Names(one, *other))?;
         }
     }
-    assert_eq!(rt; columns, 27);
     Ok(())
 }
 
 #[test]
 fn tables_under_each_others_names(rt: HostRuntime) -> Result<(), Fail> {
-    for one in 0..TABLES.len() {
-        for other in 0..one {
-            is_no_room(rt.alloc(), Lack::Names(one, other))?;
+    for places in [VERSION_1, VERSION_2] {
+        for one in places {
+            swaps_names(rt.alloc(), places, *one)?;
         }
     }
     Ok(())
@@ -132,19 +161,44 @@ CREATE TABLE NODE (ID, PARENT, NAME, KIND, OWNER, GRP, ACLFLAG);
 CREATE TABLE ENTRY (NODE, PLACE, TYPE, FLAG, MASK, WHO);
 CREATE TABLE DOC (NODE, BYTES);
 CREATE TABLE SESSION (SID, OWNER, SLOTS, OPEN);
-CREATE TABLE SLOT (SID, SLOT, SEQ, REQUEST, REPLY);
-INSERT INTO ROOM VALUES (1, 1, 2);";
+CREATE TABLE KEPT (SID, SLOT, SEQ, REQUEST, REPLY);
+INSERT INTO ROOM VALUES (1, 2, 2);";
 
 /// Statements, and whether the database that they make is a room.
 #[derive(Clone, Copy)]
 struct Near(&'static str, bool);
 
-/// The columns and the version make a room. A version that is no whole number is another version.
-static BEHIND_THE_TABLES: [Near; 11] = [
-    Near("INSERT INTO room VALUES (1, 1, 2);", true),
+/// The columns and the version make a room. A version that is no whole number is another version. Beside `kept` the
+/// table `slot` counts for nothing.
+static BEHIND_VERSION_2: [Near; 14] = [
+    Near("INSERT INTO room VALUES (1, 2, 2);", true),
+    Near("", false),
+    Near("INSERT INTO room VALUES (1, 0, 2);", false),
+    Near("INSERT INTO room VALUES (1, 1, 2);", false),
+    Near("INSERT INTO room VALUES (1, 3, 2);", false),
+    Near("INSERT INTO room VALUES (1, -2, 2);", false),
+    Near("INSERT INTO room VALUES (1, 4294967298, 2);", false),
+    Near("INSERT INTO room VALUES (2, 2, 2);", false),
+    Near("INSERT INTO room VALUES (1, 2, 2), (1, 2, 2);", false),
+    Near("INSERT INTO room VALUES (1, NULL, 2);", false),
+    Near("INSERT INTO room VALUES (1, '2', 2);", false),
+    Near("INSERT INTO room VALUES (1, 2.0, 2);", false),
+    Near(
+        "CREATE TABLE slot (sid, slot, seq, request, reply); INSERT INTO room VALUES (1, 1, 2);",
+        false,
+    ),
+    Near(
+        "CREATE TABLE slot (sid, slot, seq, request, reply); INSERT INTO room VALUES (1, 2, 2);",
+        true,
+    ),
+];
+
+/// Behind the tables of version 1. That those with the number 1 are taken over `upgrading` tells.
+static BEHIND_VERSION_1: [Near; 11] = [
     Near("", false),
     Near("INSERT INTO room VALUES (1, 0, 2);", false),
     Near("INSERT INTO room VALUES (1, 2, 2);", false),
+    Near("INSERT INTO room VALUES (1, 3, 2);", false),
     Near("INSERT INTO room VALUES (1, -1, 2);", false),
     Near("INSERT INTO room VALUES (1, 4294967297, 2);", false),
     Near("INSERT INTO room VALUES (2, 1, 2);", false),
@@ -159,7 +213,7 @@ static IN_PLACE_OF_THEM: [Near; 4] = [
     Near(CAPITALS, true),
     Near("", false),
     Near(
-        "CREATE TABLE rooms (one, version, next); INSERT INTO rooms VALUES (1, 1, 2);",
+        "CREATE TABLE rooms (one, version, next); INSERT INTO rooms VALUES (1, 2, 2);",
         false,
     ),
     Near(
@@ -182,14 +236,19 @@ fn is_adopted(alloc: Global, tables: &str, near: &Near) -> Result<(), Fail> {
     Ok(())
 }
 
-#[test]
-fn databases_that_are_rooms_or_nearly(rt: HostRuntime) -> Result<(), Fail> {
-    let tables = tables_less(rt.alloc(), Lack::Nothing)?;
-    for near in &BEHIND_THE_TABLES {
-        is_adopted(rt.alloc(), tables.as_str(), near)?;
-    }
-    for near in &IN_PLACE_OF_THEM {
-        is_adopted(rt.alloc(), "", near)?;
+fn are_adopted(alloc: Global, tables: &str, nears: &[Near]) -> Result<(), Fail> {
+    for near in nears {
+        is_adopted(alloc, tables, near)?;
     }
     Ok(())
+}
+
+#[test]
+fn databases_that_are_rooms_or_nearly(rt: HostRuntime) -> Result<(), Fail> {
+    let alloc = rt.alloc();
+    let first = tables_less(alloc, VERSION_1, Lack::Nothing)?;
+    let second = tables_less(alloc, VERSION_2, Lack::Nothing)?;
+    are_adopted(alloc, first.as_str(), &BEHIND_VERSION_1)?;
+    are_adopted(alloc, second.as_str(), &BEHIND_VERSION_2)?;
+    are_adopted(alloc, "", &IN_PLACE_OF_THEM)
 }

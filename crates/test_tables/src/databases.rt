@@ -1,44 +1,11 @@
-//! Databases, made by texts, what opens them as rooms, and all that is in them.
+//! Databases, made by texts, and what opens them as rooms.
 use room_records::{Change, Shelf};
 use room_sql::{OpenFault, SqlShelf};
 use sqlite::{Alter, Connection, MemStore};
 use std::alloc::Global;
-use std::fmt::Write;
 use std::test::Fail;
-use test_stores::{adopt, init, push_rows};
-
-/// What shows a database whole, whichever of the six tables it has.
-const ALL: [&str; 7] = [
-    "SELECT type, name, tbl_name, sql FROM sqlite_schema",
-    "SELECT * FROM room",
-    "SELECT * FROM node",
-    "SELECT * FROM entry",
-    "SELECT * FROM doc",
-    "SELECT * FROM session",
-    "SELECT * FROM slot",
-];
-
-/// The rows that a query shows, or why it shows none.
-fn push_found<S: Alter>(
-    text: &mut String,
-    conn: &mut Connection<S>,
-    sql: &str,
-) -> Result<(), Fail> {
-    match conn.query_all(sql, &[]) {
-        Ok(rows) => push_rows(text, rows.as_slice())?,
-        Err(error) => write!(text, "{error}")?,
-    }
-    Ok(text.push_str("\n")?)
-}
-
-/// All that is in a database, as text.
-pub fn contents<S: Alter>(alloc: Global, conn: &mut Connection<S>) -> Result<String, Fail> {
-    let mut text = String::new(alloc);
-    for sql in ALL {
-        push_found(&mut text, conn, sql)?;
-    }
-    Ok(text)
-}
+pub use test_stores::contents;
+use test_stores::{adopt, init};
 
 /// A database in memory that these statements make.
 pub fn database(alloc: Global, statements: &str) -> Result<Connection<MemStore>, Fail> {

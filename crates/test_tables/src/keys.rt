@@ -167,7 +167,7 @@ fn session(alloc: Global, text: &str, slots: u32) -> Result<Change, Fail> {
     }))
 }
 
-/// What a slot keeps: the number, and it as bytes.
+/// What a slot keeps: the number, two bytes, and an empty reply, or none in slots behind the first.
 fn kept(alloc: Global, text: &str, slot: u32, seq: u32) -> Result<Change, Fail> {
     Ok(Change::PutSlot(SlotRow {
         sid: session_name(alloc, text)?,
@@ -175,7 +175,7 @@ fn kept(alloc: Global, text: &str, slot: u32, seq: u32) -> Result<Change, Fail> 
         kept: Kept {
             seq,
             request: vec![in alloc; 0u8, 255u8]?,
-            reply: Vec::new(alloc),
+            reply: (slot == 0).then(|| Vec::new(alloc)),
         },
     }))
 }
@@ -192,14 +192,22 @@ fn all_sessions(alloc: Global) -> Result<Vec<Change>, Fail> {
     Ok(changes)
 }
 
-fn has_kept(kept: &Kept, seq: u32) -> bool {
-    kept.seq == seq && kept.request.as_slice() == [0u8, 255u8].as_slice() && kept.reply.len() == 0
+/// An empty reply is one; none is another thing.
+fn has_reply(kept: &Kept, slot: u32) -> bool {
+    match &kept.reply {
+        Some(reply) => slot == 0 && reply.is_empty(),
+        None => slot != 0,
+    }
+}
+
+fn has_kept(kept: &Kept, slot: u32, seq: u32) -> bool {
+    kept.seq == seq && kept.request.as_slice() == [0u8, 255u8].as_slice() && has_reply(kept, slot)
 }
 
 /// Whether a slot keeps this number; none where nothing is kept.
 fn keeps(shelf: &mut Room, sid: &Sid, slot: u32, wanted: Option<u32>) -> Result<bool, Fail> {
     match (shelf.slot(sid, slot)?, wanted) {
-        (Some(kept), Some(seq)) => Ok(has_kept(&kept, seq)),
+        (Some(kept), Some(seq)) => Ok(has_kept(&kept, slot, seq)),
         (None, None) => Ok(true),
         _ => Ok(false),
     }

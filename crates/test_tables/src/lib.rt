@@ -1,5 +1,5 @@
-//! Worked examples of the tables of a room, over memory: rooms that are made, taken and refused, rows that are no
-//! values, keys at their limits, and files that are cut short or no database.
+//! Worked examples of the tables of a room, over memory: rooms that are made, taken, taken over and refused, rows that
+//! are no values, keys at their limits, and files that are cut short or no database.
 #![tactic(auto)]
 
 #[cfg(test)]
@@ -20,3 +20,5 @@ mod making;
 mod odd_rows;
 #[cfg(test)]
 mod rooms;
+#[cfg(test)]
+mod upgrading;

@@ -1,4 +1,4 @@
-//! Databases in which something has the name of one of the six tables, and `init`.
+//! Databases in which something has the name of a table of either version, and `init`.
 use crate::databases::{Opening, contents, database, is_answered, number};
 use room_sql::OpenFault;
 use sqlite::{Connection, MemStore};
@@ -6,7 +6,10 @@ use std::alloc::Global;
 use std::test::Fail;
 use test_stores::made;
 
-const NAMES: [&str; 6] = ["room", "node", "entry", "doc", "session", "slot"];
+const NAMES: [&str; 7] = ["room", "node", "entry", "doc", "session", "slot", "kept"];
+
+/// The seventh is of version 1, and is not made.
+const MADE: [&str; 6] = ["room", "node", "entry", "doc", "session", "kept"];
 
 /// No room is made in a database that these statements make, and it stays as it was.
 fn is_not_made(alloc: Global, statements: &str, fault: OpenFault) -> Result<(), Fail> {
@@ -25,7 +28,7 @@ fn is_there(alloc: Global, name: &str) -> Result<(), Fail> {
 }
 
 #[test]
-fn one_of_the_six_tables_is_there(rt: HostRuntime) -> Result<(), Fail> {
+fn one_of_the_tables_is_there(rt: HostRuntime) -> Result<(), Fail> {
     let alloc = rt.alloc();
     for name in NAMES {
         is_there(alloc, name)?;
@@ -35,10 +38,10 @@ fn one_of_the_six_tables_is_there(rt: HostRuntime) -> Result<(), Fail> {
 
 /// SQL's names are the same in capital letters.
 #[test]
-fn one_of_the_six_tables_is_there_in_capital_letters(rt: HostRuntime) -> Result<(), Fail> {
+fn one_of_the_tables_is_there_in_capital_letters(rt: HostRuntime) -> Result<(), Fail> {
     let alloc = rt.alloc();
     for name in [
-        "ROOM", "NODE", "Entry", "dOC", "SESSIOn", "\"Slot\"", "[ROOM]", "`node`",
+        "ROOM", "NODE", "Entry", "dOC", "SESSIOn", "\"Slot\"", "Kept", "[ROOM]", "`node`",
     ] {
         is_there(alloc, name)?;
     }
@@ -49,7 +52,7 @@ fn one_of_the_six_tables_is_there_in_capital_letters(rt: HostRuntime) -> Result<
 #[test]
 fn a_view_or_an_index_has_the_name(rt: HostRuntime) -> Result<(), Fail> {
     let alloc = rt.alloc();
-    for name in NAMES {
+    for name in MADE {
         let view = format!(in alloc; "CREATE VIEW {name} AS SELECT 1 AS x;")?;
         is_not_made(alloc, view.as_str(), OpenFault::Store)?;
         let index = format!(in alloc; "CREATE TABLE t (x); CREATE INDEX {name} ON t (x);")?;

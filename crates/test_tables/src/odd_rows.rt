@@ -15,8 +15,8 @@ CREATE TABLE node (id, parent, name, kind, owner, grp, aclflag);
 CREATE TABLE entry (node, place, type, flag, mask, who);
 CREATE TABLE doc (node, bytes);
 CREATE TABLE session (sid, owner, slots, open);
-CREATE TABLE slot (sid, slot, seq, request, reply);
-INSERT INTO room VALUES (1, 1, 2);
+CREATE TABLE kept (sid, slot, seq, request, reply);
+INSERT INTO room VALUES (1, 2, 2);
 INSERT INTO node VALUES (1, NULL, '', 1, 'ann', 'eng', 0);
 INSERT INTO entry VALUES (1, 0, 0, 3, 2033663, 'OWNER@'), (1, 1, 0, 3, 1179817, 'GROUP@');";
 
@@ -26,7 +26,7 @@ INSERT INTO node VALUES (2, 1, 'a', 0, 'ann', 'eng', 0);
 INSERT INTO entry VALUES (2, 0, 0, 3, 1, 'bob');
 INSERT INTO doc VALUES (2, x'6869');
 INSERT INTO session VALUES ('0123456789abcdef0123456789abcdef', 'ann', 3, 1);
-INSERT INTO slot VALUES ('0123456789abcdef0123456789abcdef', 0, 1, x'7b7d', x'7b7d');";
+INSERT INTO kept VALUES ('0123456789abcdef0123456789abcdef', 0, 1, x'7b7d', x'7b7d');";
 
 /// A statement of another program, and then the answers of the reads `node`, `child`, `children`, `child_count`,
 /// `entries`, `doc`, `session`, `slot` and `next_id`: `S` where the store failed.
@@ -121,7 +121,7 @@ static ENTRIES: [Odd; 16] = [
     ),
 ];
 
-static OTHERS: [Odd; 17] = [
+static OTHERS: [Odd; 20] = [
     Odd("UPDATE doc SET bytes = 'hi' WHERE node = 2", ".....S..."),
     Odd("UPDATE doc SET bytes = NULL WHERE node = 2", ".....S..."),
     Odd("UPDATE session SET owner = 'a/b'", "......S.."),
@@ -131,10 +131,13 @@ static OTHERS: [Odd; 17] = [
     Odd("UPDATE session SET slots = -1", "......S.."),
     Odd("UPDATE session SET slots = 4294967297", "......S.."),
     Odd("UPDATE session SET open = 2", "......S.."),
-    Odd("UPDATE slot SET seq = -1", ".......S."),
-    Odd("UPDATE slot SET seq = 4294967296", ".......S."),
-    Odd("UPDATE slot SET request = 'text'", ".......S."),
-    Odd("UPDATE slot SET reply = NULL", ".......S."),
+    Odd("UPDATE kept SET seq = -1", ".......S."),
+    Odd("UPDATE kept SET seq = 4294967296", ".......S."),
+    Odd("UPDATE kept SET request = 'text'", ".......S."),
+    Odd("UPDATE kept SET request = NULL", ".......S."),
+    Odd("UPDATE kept SET reply = 'text'", ".......S."),
+    Odd("UPDATE kept SET reply = 0", ".......S."),
+    Odd("UPDATE kept SET reply = 1.5", ".......S."),
     Odd("UPDATE room SET next = -1", "........S"),
     Odd("UPDATE room SET next = 4294967296", "........S"),
     Odd("UPDATE room SET next = NULL", "........S"),
@@ -144,7 +147,7 @@ static OTHERS: [Odd; 17] = [
 /// Rows that no read asks for: a session under no session's name, and a slot with a negative number.
 static UNSEEN: [Odd; 4] = [
     Odd("INSERT INTO session VALUES ('no name', 'a/b', -1, 7)", NONE),
-    Odd("UPDATE slot SET slot = -1", NONE),
+    Odd("UPDATE kept SET slot = -1", NONE),
     Odd(
         "INSERT INTO node VALUES (-7, -1, 'a/b', 0, '', '', 0)",
         NONE,
@@ -299,6 +302,42 @@ fn entries_that_are_no_entries(rt: HostRuntime) -> Result<(), Fail> {
 #[test]
 fn other_rows_that_are_no_values(rt: HostRuntime) -> Result<(), Fail> {
     assert_eq!(rt; count_taken(rt.alloc(), &OTHERS)?, 9);
+    Ok(())
+}
+
+/// A reply that need not be kept is NULL, which is another thing than an empty one: what the slot keeps then.
+fn reply_after(
+    alloc: Global,
+    conn: Connection<MemStore>,
+    sql: &'static str,
+) -> Result<Option<usize>, Fail> {
+    let mut conn = conn;
+    conn.execute(sql, &[])?;
+    let mut shelf = taken(alloc, conn)?;
+    answers(alloc, &mut shelf, &Odd(sql, NONE))?;
+    let kept = shelf
+        .slot(&session_name(alloc, SID)?, 0)?
+        .ok_or("nothing is kept")?;
+    Ok(kept.reply.map(|reply| reply.len()))
+}
+
+#[test]
+fn a_reply_that_is_not_kept(rt: HostRuntime) -> Result<(), Fail> {
+    let alloc = rt.alloc();
+    for is_loose in [true, false] {
+        for (sql, wanted) in [
+            ("UPDATE kept SET reply = NULL", None),
+            ("UPDATE kept SET reply = x''", Some(0)),
+            ("UPDATE kept SET reply = x'7b7d'", Some(2)),
+        ] {
+            let conn = if is_loose {
+                loose(alloc)?
+            } else {
+                declared(alloc)?
+            };
+            assert_eq!(rt; reply_after(alloc, conn, sql)?, wanted);
+        }
+    }
     Ok(())
 }
 

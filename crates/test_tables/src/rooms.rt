@@ -67,9 +67,9 @@ fn shows(shelf: &mut Room, wanted: Shown, what: &str) -> Result<(), Fail> {
 }
 
 /// A statement of another program makes the room one of another version.
-fn with_version_2(conn: Connection<MemStore>) -> Result<Connection<MemStore>, Fail> {
+fn with_version_3(conn: Connection<MemStore>) -> Result<Connection<MemStore>, Fail> {
     let mut conn = conn;
-    conn.execute("UPDATE room SET version = 2", &[])?;
+    conn.execute("UPDATE room SET version = 3", &[])?;
     Ok(conn)
 }
 
@@ -86,7 +86,7 @@ fn a_fresh_room(rt: HostRuntime) -> Result<(), Fail> {
     let conn = is_answered(alloc, conn, Opening::Init, Err(OpenFault::RoomExists))?;
     let mut shelf = taken(alloc, conn)?;
     shows(&mut shelf, Shown { next: 7, ..FRESH }, "taken")?;
-    let conn = with_version_2(shelf.into_connection())?;
+    let conn = with_version_3(shelf.into_connection())?;
     let _ = is_answered(alloc, conn, Opening::Adopt, Err(OpenFault::NotARoom))?;
     Ok(())
 }

@@ -1,5 +1,5 @@
 //! Changes of a shelf in memory: all memory is taken first, and then every change is made.
-ghost use Rattle.std.specs.Prelude.{◌≡◌, ◌<◌, OnOk, IfOk};
+ghost use Rattle.std.specs.Prelude.{◌≡◌, ◌<◌, OnOk, IfOk, [], ◌∷◌};
 ghost use Rattle.std.specs.List.{AllByRecursion};
 ghost use Rattle.room_records.specs.Limits.{max_slots};
 ghost use Rattle.room_records.specs.Records.{Records};
@@ -7,7 +7,7 @@ ghost use Rattle.room_records.specs.Rules.{RulesHold};
 ghost use Rattle.room_records.specs.NodeIndex.{HasSpaceForNode};
 ghost use Rattle.room_records.specs.Sessions.{slot_cmp};
 ghost use Rattle.room_records.specs.Table.{HasSpace};
-ghost use Rattle.room_records.specs.Changes.{apply_change, apply_changes, RulesHoldAfterEach};
+ghost use Rattle.room_records.specs.Changes.{apply_change, apply_changes, RulesHoldAfterEach, Untouched};
 ghost use Rattle.room_records.specs.Mem.{mem_records, HasSpaceFor, KeepsSpace, AreSameChanges};
 
 use crate::change::Change;
@@ -58,8 +58,9 @@ impl MemShelf {
     /// Makes every change in order.
     pub(crate) fn apply_all(&mut self, steps: Vec<Change>)
         requires { AllByRecursion (HasSpaceFor self.old) steps.items }
-        ensures { RulesHoldAfterEach steps.items (mem_records self.old)
+        ensures records { RulesHoldAfterEach steps.items (mem_records self.old)
             → mem_records self.new ≡ apply_changes steps.items (mem_records self.old) }
+        ensures untouched { Untouched steps.items (mem_records self.old) (mem_records self.new) }
     {
         for step in steps {
             self.apply(step);
@@ -71,6 +72,7 @@ impl MemShelf {
         requires { HasSpaceFor self.old change }
         ensures records { RulesHold (apply_change change (mem_records self.old))
             → mem_records self.new ≡ apply_change change (mem_records self.old) }
+        ensures untouched { Untouched (change ∷ []) (mem_records self.old) (mem_records self.new) }
         ensures kept { KeepsSpace self.old self.new }
     {
         match change {
@@ -93,6 +95,7 @@ impl MemShelf {
         requires { HasSpaceForNode self.old.nodes.nodes.slots self.old.nodes.places.slots node }
         ensures records { RulesHold (apply_change (Change.PutNode node) (mem_records self.old))
             → mem_records self.new ≡ apply_change (Change.PutNode node) (mem_records self.old) }
+        ensures untouched { Untouched (Change.PutNode node ∷ []) (mem_records self.old) (mem_records self.new) }
         ensures kept { KeepsSpace self.old self.new }
     {
         let _ = self.nodes.take(node.id);
@@ -112,6 +115,7 @@ impl MemShelf {
         requires { row.slot < max_slots → HasSpace slot_cmp self.old.sessions.kept.slots (row.sid, row.slot) }
         ensures records { RulesHold (apply_change (Change.PutSlot row) (mem_records self.old))
             → mem_records self.new ≡ apply_change (Change.PutSlot row) (mem_records self.old) }
+        ensures untouched { Untouched (Change.PutSlot row ∷ []) (mem_records self.old) (mem_records self.new) }
         ensures kept { KeepsSpace self.old self.new }
     {
         self.sessions.has_few_slots();

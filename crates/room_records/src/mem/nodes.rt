@@ -125,6 +125,7 @@ impl NodeIndex {
         ensures nodes { IsFreeFor (node_in self.old.nodes.slots) node
             → (k : ℕ) → node_in self.new.nodes.slots k
             ≡ (if k == node.id then Some node else node_in self.old.nodes.slots k) }
+        ensures others { (k : ℕ) → k ≢ node.id → node_in self.new.nodes.slots k ≡ node_in self.old.nodes.slots k }
         ensures kept { (other : Node) → HasSpaceForNode self.old.nodes.slots self.old.places.slots other
             → HasSpaceForNode self.new.nodes.slots self.new.places.slots other }
     {
@@ -144,6 +145,7 @@ impl NodeIndex {
         ensures nodes { IsFreeFor (node_in self.old.nodes.slots) node
             → (k : ℕ) → node_in self.new.nodes.slots k
             ≡ (if k == node.id then Some node else node_in self.old.nodes.slots k) }
+        ensures others { (k : ℕ) → k ≢ node.id → node_in self.new.nodes.slots k ≡ node_in self.old.nodes.slots k }
         ensures kept { (other : Node) → HasSpaceForNode self.old.nodes.slots self.old.places.slots other
             → HasSpaceForNode self.new.nodes.slots self.new.places.slots other }
     {

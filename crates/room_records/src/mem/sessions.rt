@@ -1,6 +1,6 @@
 //! Sessions by name, and what their slots keep.
 ghost use Rattle.std.specs.Prelude.{◌≡◌, ◌==◌, ◌&&◌, ◌<◌, ℕ, List, None, Some, OnOk, IfOk, IsSome};
-ghost use Rattle.std.specs.Prelude.{nat_lt, if◌then◌else◌};
+ghost use Rattle.std.specs.Prelude.{◌≤◌, nat_lt, if◌then◌else◌};
 ghost use Rattle.std.specs.Str.{bytes_eq};
 ghost use Rattle.room_records.specs.Limits.{max_slots};
 ghost use Rattle.room_records.specs.Table.{HasSpace};
@@ -9,7 +9,7 @@ ghost use Rattle.room_records.specs.Sessions.{slot_cmp, session_in, kept_in, Are
 
 use crate::limits::MAX_SLOTS;
 use crate::names::{Sid, SlotCount};
-use crate::session::{SessionRow, SlotRow, copy_kept};
+use crate::session::{SessionRow, SlotRow};
 use crate::table::Table;
 use room_acl::Principal;
 use room_slots::Kept;
@@ -64,7 +64,7 @@ impl Sessions {
     {
         let key = (sid.clone()?, slot);
         match self.kept.get(&key) {
-            Some(kept) => Ok(Some(copy_kept(kept)?)),
+            Some(kept) => Ok(Some(kept.clone()?)),
             None => Ok(None),
         }
     }
@@ -130,6 +130,7 @@ impl Sessions {
         ensures slots { row.slot < max_slots → (sid : List ℕ) (slot : ℕ)
             → kept_in self.new.kept.slots sid slot ≡ (if bytes_eq sid row.sid && (slot == row.slot)
             then Some row.kept else kept_in self.old.kept.slots sid slot) }
+        ensures high { max_slots ≤ row.slot → self.new.kept.slots ≡ self.old.kept.slots }
         ensures sessions { self.new.rows.slots ≡ self.old.rows.slots }
         ensures kept { (sid : List ℕ) (slot : ℕ) → HasSpace slot_cmp self.old.kept.slots (sid, slot)
             → HasSpace slot_cmp self.new.kept.slots (sid, slot) }

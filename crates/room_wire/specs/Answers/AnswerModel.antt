@@ -5,7 +5,7 @@ use Rattle.room_wire.specs.Answers.Codes.{code_text}
 use Rattle.room_wire.specs.declared.answers.code.Code.{Code}
 use Rattle.room_wire.specs.declared.answers.code.Code.TheVariants.{BadSession, BadSlot, SeqMisordered, SeqFalseRetry}
 use Rattle.room_wire.specs.declared.answers.code.Code.TheVariants.{SessionTaken, Delay, BadHttp, BadRoute, UnknownUser}
-use Rattle.room_wire.specs.declared.answers.code.Code.TheVariants.{BadRequest}
+use Rattle.room_wire.specs.declared.answers.code.Code.TheVariants.{BadRequest, RetryUncached}
 use Rattle.room_wire.specs.declared.answers.answer.Answer.{Answer}
 use Rattle.room_wire.specs.declared.answers.answer.Answer.TheVariants as A
 
@@ -25,6 +25,7 @@ refusal_status BadSlot = 409
 refusal_status SeqMisordered = 409
 refusal_status SeqFalseRetry = 409
 refusal_status SessionTaken = 409
+refusal_status RetryUncached = 409
 refusal_status Delay = 503
 refusal_status BadHttp = 400
 refusal_status BadRoute = 404

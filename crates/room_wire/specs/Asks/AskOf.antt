@@ -81,13 +81,14 @@ open_by caller (Some sid) (Some slots) = Some (Open caller sid slots)
 abbrev pub close_by : SubjectModel → Option (List ℕ) → Option EventModel
 close_by caller sid = option_map (Close caller) sid
 
-abbrev pub request_by : SubjectModel → Option (List ℕ) → (slot seq : Option ℕ) → Option CommandModel → Option EventModel
-request_by caller None slot seq command = None
-request_by caller (Some sid) None seq command = None
-request_by caller (Some sid) (Some slot) None command = None
+abbrev pub request_by : SubjectModel → Option (List ℕ) → (slot seq : Option ℕ) → Option (CommandModel × Bool)
+    → Option EventModel
+request_by caller None slot seq asked = None
+request_by caller (Some sid) None seq asked = None
+request_by caller (Some sid) (Some slot) None asked = None
 request_by caller (Some sid) (Some slot) (Some seq) None = None
-request_by caller (Some sid) (Some slot) (Some seq) (Some command) =
-    Some (Slot (record { caller = caller; sid = sid; slot = slot; seq = seq; command = command }))
+request_by caller (Some sid) (Some slot) (Some seq) (Some asked) =
+    Some (Slot (record { caller = caller; sid = sid; slot = slot; seq = seq; command = asked.0; keep = asked.1 }))
 
 -- the event that a user asks; a CLOSE ignores its body
 abbrev pub event_by : SessionAction → SubjectModel → TargetModel → (body : List ℕ) → Option EventModel

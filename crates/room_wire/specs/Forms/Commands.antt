@@ -1,9 +1,11 @@
 -- Commands out of bodies: the member cmd names the command, and the other members are its parts.
-use Rattle.std.specs.Prelude.{◌≡◌, ℕ, ◌==◌, ◌&&◌, Bool, not, nat_le, nat_lt, List, [], length, drop, Option, None, Some}
+use Rattle.std.specs.Prelude.{◌≡◌, ℕ, ◌+◌, ◌==◌, ◌&&◌, Bool, true, not, nat_le, nat_lt, List, [], length, drop}
+use Rattle.std.specs.Prelude.{Option, None, Some}
 use Rattle.std.specs.Prelude.{Result, Ok, Err, if◌then◌else◌, option_and_then, option_map, codes, bytes_eq}
 use Rattle.std.specs.List.{list_all, slice_split}
 use Rattle.std.specs.Str.{is_utf8}
 use Rattle.serde_json.specs.Data.{Data}
+use Rattle.serde_json.specs.Find.{get, as_bool}
 use Rattle.base64.specs.Engines.{standard}
 use Rattle.base64.specs.GeneralPurpose.{decoded_of}
 use Rattle.room_acl.specs.Entries.{EntryModel}
@@ -115,20 +117,29 @@ access_by None path = None
 access_by (Some mask) None = None
 access_by (Some mask) (Some path) = Some (C.Access mask path)
 
--- the command's members, exactly: cmd, and these
+-- how many members of an object are no part of its command: one, where keep is there
+abbrev pub beside : Option Data → ℕ
+beside None = 0
+beside (Some keep) = 1
+
+-- an object with so many members, keep left out
+abbrev pub has_parts : ℕ → Data → Bool
+has_parts n d = has_count (n + beside (get (codes "keep") d)) d
+
+-- the command's members, exactly: cmd, and these, and beside them keep or not
 abbrev pub verb_command : Verb → Data → Option CommandModel
-verb_command (V.OfPath verb) d = if has_count 2 d then option_map (of_path verb) (path_at (codes "path") d) else None
+verb_command (V.OfPath verb) d = if has_parts 2 d then option_map (of_path verb) (path_at (codes "path") d) else None
 verb_command (V.OfBytes verb) d =
-    if has_count 3 d then bytes_by verb (bytes_at (codes "data") d) (path_at (codes "path") d) else None
-verb_command V.Rename d = if has_count 3 d then rename_by (path_at (codes "path") d) (path_at (codes "to") d) else None
+    if has_parts 3 d then bytes_by verb (bytes_at (codes "data") d) (path_at (codes "path") d) else None
+verb_command V.Rename d = if has_parts 3 d then rename_by (path_at (codes "path") d) (path_at (codes "to") d) else None
 verb_command V.SetList d =
-    if has_count 4 d then set_list_by (list_flags_at (codes "aclflag") d)
+    if has_parts 4 d then set_list_by (list_flags_at (codes "aclflag") d)
     (entries_at (codes "entries") d) (path_at (codes "path") d) else None
 verb_command V.Chown d =
-    if has_count 4 d then chown_by (principal_at (codes "group") d)
+    if has_parts 4 d then chown_by (principal_at (codes "group") d)
     (principal_at (codes "owner") d) (path_at (codes "path") d) else None
 verb_command V.Access d =
-    if has_count 3 d then access_by (mask_at (codes "mask") d) (path_at (codes "path") d) else None
+    if has_parts 3 d then access_by (mask_at (codes "mask") d) (path_at (codes "path") d) else None
 
 abbrev pub command_by : Option Verb → Data → Option CommandModel
 command_by None d = None
@@ -137,9 +148,25 @@ command_by (Some verb) d = verb_command verb d
 abbrev pub command_in : Data → Option CommandModel
 command_in d = command_by (verb_at (codes "cmd") d) d
 
--- the command of a body
-abbrev pub command_of_body : List ℕ → Option CommandModel
-command_of_body body = option_and_then command_in (json_of body)
+-- whether the reply is kept: as the member keep says, and it is where that is absent
+abbrev pub keep_from : Option Data → Option Bool
+keep_from None = Some true
+keep_from (Some d) = as_bool d
+
+abbrev pub keep_at : Data → Option Bool
+keep_at d = keep_from (get (codes "keep") d)
+
+abbrev pub asked_by : Option Bool → Option CommandModel → Option (CommandModel × Bool)
+asked_by None command = None
+asked_by (Some keep) None = None
+asked_by (Some keep) (Some command) = Some (command, keep)
+
+abbrev pub asked_in : Data → Option (CommandModel × Bool)
+asked_in d = asked_by (keep_at d) (command_in d)
+
+-- the command of a body, and whether its reply is kept
+abbrev pub command_of_body : List ℕ → Option (CommandModel × Bool)
+command_of_body body = option_and_then asked_in (json_of body)
 
 -- the bytes that a command has
 abbrev pub bytes_in : CommandModel → List ℕ
@@ -157,10 +184,14 @@ bytes_in (C.SetList aclflag entries path) = []
 bytes_in (C.Chown group owner path) = []
 bytes_in (C.Access mask path) = []
 
--- the result is the command, unless memory was refused
-abbrev pub ReadsCommand : Option CommandModel → Result Command WireFault → Type 0
-ReadsCommand asked (Ok command) = asked ≡ Some (command_model command)
-ReadsCommand asked (Err BadRequest) = asked ≡ None
-ReadsCommand asked (Err Memory) = Unit {0}
-ReadsCommand asked (Err BadRoute) = ⊥
-ReadsCommand asked (Err UnknownUser) = ⊥
+-- the command and whether its reply is kept, as contracts see them
+abbrev pub asked_model : Command × Bool → CommandModel × Bool
+asked_model asked = (command_model asked.0, asked.1)
+
+-- the result is what is asked, unless memory was refused
+abbrev pub ReadsCommand : Option (CommandModel × Bool) → Result (Command × Bool) WireFault → Type 0
+ReadsCommand wanted (Ok asked) = wanted ≡ Some (asked_model asked)
+ReadsCommand wanted (Err BadRequest) = wanted ≡ None
+ReadsCommand wanted (Err Memory) = Unit {0}
+ReadsCommand wanted (Err BadRoute) = ⊥
+ReadsCommand wanted (Err UnknownUser) = ⊥

@@ -23,7 +23,8 @@ pub fn refusal_status(code: Code) -> StatusCode
         | Code::BadSlot
         | Code::SeqMisordered
         | Code::SeqFalseRetry
-        | Code::SessionTaken => StatusCode::CONFLICT,
+        | Code::SessionTaken
+        | Code::RetryUncached => StatusCode::CONFLICT,
         Code::Delay => StatusCode::SERVICE_UNAVAILABLE,
         Code::BadHttp | Code::BadRequest => StatusCode::BAD_REQUEST,
         Code::BadRoute => StatusCode::NOT_FOUND,

@@ -54,13 +54,14 @@ fn slot_event(
     let sid = sid_in(alloc, target.sid)?;
     let slot = number_in(target.slot)?;
     let seq = number_in(target.seq)?;
-    let command = read_command(alloc, body)?;
+    let (command, keep) = read_command(alloc, body)?;
     Ok(Event::Slot {
         subject,
         sid,
         slot,
         seq,
         command,
+        keep,
     })
 }
 

@@ -1,5 +1,5 @@
 //! Commands as text: compact JSON, with members in byte order of their names.
-ghost use Rattle.std.specs.Prelude.{◌≡◌, [], ◌∷◌, Some, IfOk, codes};
+ghost use Rattle.std.specs.Prelude.{◌≡◌, [], ◌∷◌, true, Some, IfOk, codes};
 ghost use Rattle.std.specs.List.{AllByRecursion};
 ghost use Rattle.room_acl.specs.Bits.{IsMask, IsListFlags};
 ghost use Rattle.room_acl.specs.Entries.{IsEntry};
@@ -164,7 +164,7 @@ fn lawful_text(alloc: Global, command: &Command) -> Result<Vec<u8>, AllocError>
 /// Only where memory was refused.
 pub fn command_text(alloc: Global, command: &Command) -> Result<Vec<u8>, AllocError>
     ensures value { IfOk result (λ text. text.items ≡ command_text (command_model command.now)) }
-    ensures reads_back { IfOk result (λ text. command_of_body text.items ≡ Some (command_model command.now)) }
+    ensures reads_back { IfOk result (λ text. command_of_body text.items ≡ Some (command_model command.now, true)) }
 {
     lawful_text(alloc, command)
 }

@@ -1,5 +1,5 @@
 //! Commands out of bodies.
-ghost use Rattle.std.specs.Prelude.{◌≡◌, IfOk, option_map};
+ghost use Rattle.std.specs.Prelude.{◌≡◌, ◌<◌, IfOk, option_map};
 ghost use Rattle.serde_json.specs.View.{view};
 ghost use Rattle.base64.specs.Engines.{standard};
 ghost use Rattle.base64.specs.GeneralPurpose.{decoded_of};
@@ -8,7 +8,8 @@ ghost use Rattle.room_commands.specs.Lawful.{AreBytes, IsLawful};
 ghost use Rattle.room_wire.specs.Forms.Commands.{path_from, path_at, bytes_at, list_flags_from, list_flags_at};
 ghost use Rattle.room_wire.specs.Forms.Commands.{verb_from, verb_at, of_path, of_bytes, bytes_by, rename_by};
 ghost use Rattle.room_wire.specs.Forms.Commands.{set_list_by, chown_by, access_by, verb_command, command_in};
-ghost use Rattle.room_wire.specs.Forms.Commands.{command_of_body, bytes_in, ReadsCommand};
+ghost use Rattle.room_wire.specs.Forms.Commands.{has_parts, keep_at, asked_in, asked_model, command_of_body};
+ghost use Rattle.room_wire.specs.Forms.Commands.{bytes_in, ReadsCommand};
 ghost use Rattle.room_wire.specs.declared.forms.commands.Verb.TheVariants as V;
 
 use crate::fault::WireFault;
@@ -136,6 +137,18 @@ fn verb_at(value: &Value, name: &str) -> Option<Verb>
     verb_from(text_at(value, name)?)
 }
 
+/// Whether the value is an object of so many members, where `keep` does not count. With each listed member there, it
+/// has exactly those, and `keep` or not.
+fn has_parts(value: &Value, count: usize) -> bool
+    requires { count < 8 }
+    ensures { result ≡ has_parts count (view value.now) }
+{
+    match value.get("keep") {
+        Some(_) => has_count(value, count + 1),
+        None => has_count(value, count),
+    }
+}
+
 fn of_path(verb: PathVerb, path: Path) -> Command
     ensures { command_model result ≡ of_path verb path }
 {
@@ -149,12 +162,12 @@ fn of_path(verb: PathVerb, path: Path) -> Command
     }
 }
 
-/// Two members, exactly.
+/// Two members, exactly, and `keep` or not.
 fn path_command(alloc: Global, verb: PathVerb, value: &Value) -> Result<Option<Command>, AllocError>
     ensures { IfOk result (λ found.
         option_map command_model found ≡ verb_command (V.OfPath verb) (view value.now)) }
 {
-    if !has_count(value, 2) {
+    if !has_parts(value, 2) {
         return Ok(None);
     }
     match path_at(alloc, value, "path")? {
@@ -179,7 +192,7 @@ fn bytes_by(verb: BytesVerb, bytes: Option<Vec<u8>>, path: Option<Path>) -> Opti
     Some(of_bytes(verb, bytes?, path?))
 }
 
-/// Three members, exactly.
+/// Three members, exactly, and `keep` or not.
 fn bytes_command(
     alloc: Global,
     verb: BytesVerb,
@@ -188,7 +201,7 @@ fn bytes_command(
     ensures { IfOk result (λ found.
         option_map command_model found ≡ verb_command (V.OfBytes verb) (view value.now)) }
 {
-    if !has_count(value, 3) {
+    if !has_parts(value, 3) {
         return Ok(None);
     }
     let bytes = bytes_at(alloc, value, "data")?;
@@ -205,12 +218,12 @@ fn rename_by(path: Option<Path>, to: Option<Path>) -> Option<Command>
     })
 }
 
-/// Three members, exactly.
+/// Three members, exactly, and `keep` or not.
 fn rename_command(alloc: Global, value: &Value) -> Result<Option<Command>, AllocError>
     ensures { IfOk result (λ found.
         option_map command_model found ≡ verb_command V.Rename (view value.now)) }
 {
-    if !has_count(value, 3) {
+    if !has_parts(value, 3) {
         return Ok(None);
     }
     let path = path_at(alloc, value, "path")?;
@@ -232,12 +245,12 @@ fn set_list_by(
     })
 }
 
-/// Four members, exactly.
+/// Four members, exactly, and `keep` or not.
 fn set_list_command(alloc: Global, value: &Value) -> Result<Option<Command>, AllocError>
     ensures { IfOk result (λ found.
         option_map command_model found ≡ verb_command V.SetList (view value.now)) }
 {
-    if !has_count(value, 4) {
+    if !has_parts(value, 4) {
         return Ok(None);
     }
     let aclflag = list_flags_at(value, "aclflag");
@@ -260,12 +273,12 @@ fn chown_by(
     })
 }
 
-/// Four members, exactly.
+/// Four members, exactly, and `keep` or not.
 fn chown_command(alloc: Global, value: &Value) -> Result<Option<Command>, AllocError>
     ensures { IfOk result (λ found.
         option_map command_model found ≡ verb_command V.Chown (view value.now)) }
 {
-    if !has_count(value, 4) {
+    if !has_parts(value, 4) {
         return Ok(None);
     }
     let group = principal_at(alloc, value, "group")?;
@@ -283,12 +296,12 @@ fn access_by(mask: Option<Mask>, path: Option<Path>) -> Option<Command>
     })
 }
 
-/// Three members, exactly.
+/// Three members, exactly, and `keep` or not.
 fn access_command(alloc: Global, value: &Value) -> Result<Option<Command>, AllocError>
     ensures { IfOk result (λ found.
         option_map command_model found ≡ verb_command V.Access (view value.now)) }
 {
-    if !has_count(value, 3) {
+    if !has_parts(value, 3) {
         return Ok(None);
     }
     let mask = mask_at(value, "mask");
@@ -320,12 +333,35 @@ fn command_in(alloc: Global, value: &Value) -> Result<Option<Command>, AllocErro
     }
 }
 
-/// The command of a body, if it asks one.
-fn command_of_body(alloc: Global, body: &[u8]) -> Result<Option<Command>, AllocError>
-    ensures { IfOk result (λ found. option_map command_model found ≡ command_of_body body.now) }
+/// Whether the reply is kept, as the member `keep` says: it is where that is absent, and a value that is neither true
+/// nor false says nothing.
+fn keep_at(value: &Value) -> Option<bool>
+    ensures { result ≡ keep_at (view value.now) }
+{
+    match value.get("keep") {
+        Some(found) => found.as_bool(),
+        None => Some(true),
+    }
+}
+
+fn asked_in(alloc: Global, value: &Value) -> Result<Option<(Command, bool)>, AllocError>
+    ensures { IfOk result (λ found. option_map asked_model found ≡ asked_in (view value.now)) }
+{
+    let Some(keep) = keep_at(value) else {
+        return Ok(None);
+    };
+    match command_in(alloc, value)? {
+        Some(command) => Ok(Some((command, keep))),
+        None => Ok(None),
+    }
+}
+
+/// The command of a body, if it asks one, and whether its reply is kept.
+fn command_of_body(alloc: Global, body: &[u8]) -> Result<Option<(Command, bool)>, AllocError>
+    ensures { IfOk result (λ found. option_map asked_model found ≡ command_of_body body.now) }
 {
     match json_in(alloc, body)? {
-        Some(value) => command_in(alloc, &value),
+        Some(value) => asked_in(alloc, &value),
         None => Ok(None),
     }
 }
@@ -358,21 +394,23 @@ fn bytes_of_fit(command: &Command)
     }
 }
 
-/// The command that the body of a slot request asks: one JSON object with the member `cmd` and exactly the
-/// members of that command, in any order (our own rule). It is lawful. A member that stands twice is as
-/// `serde_json` reads it: the last one counts.
+/// The command that the body of a slot request asks, and whether its reply is to be kept: one JSON object with the
+/// member `cmd` and exactly the members of that command, in any order, and with `keep` or not (our own rule). `keep`
+/// is true or false, and true where it is absent; it is no part of the command. The command is lawful. A member that
+/// stands twice is as `serde_json` reads it: the last one counts.
 ///
 /// # Errors
 ///
-/// `BadRequest` exactly where the body asks no command, `Memory` where memory was refused, and no other.
-pub fn read_command(alloc: Global, body: &[u8]) -> Result<Command, WireFault>
+/// `BadRequest` exactly where the body asks no command or `keep` has another value, `Memory` where memory was refused,
+/// and no other.
+pub fn read_command(alloc: Global, body: &[u8]) -> Result<(Command, bool), WireFault>
     ensures value { ReadsCommand (command_of_body body.now) result }
-    ensures lawful { IfOk result (λ command. IsLawful (command_model command)) }
+    ensures lawful { IfOk result (λ asked. IsLawful (command_model asked.0)) }
 {
     match command_of_body(alloc, body) {
-        Ok(Some(command)) => {
+        Ok(Some((command, keep))) => {
             bytes_of_fit(&command);
-            Ok(command)
+            Ok((command, keep))
         }
         Ok(None) => Err(WireFault::BadRequest),
         Err(_) => Err(WireFault::Memory),

@@ -1,18 +1,25 @@
-//! Each answer lost behind each of its bytes, and the request sent again.
+//! Each answer lost behind each of its bytes, and the request sent again. A request that runs and whose reply is not
+//! kept gets that reply once, and it is lost behind all of its bytes but the last; then it is told that it was run, and
+//! that answer is lost behind each of its bytes.
+use crate::asking::{Asked, ask_of};
 use crate::differences::Differences;
+use crate::due::{Due, read_due};
 use crate::fault::Fault;
 use crate::playing::Play;
 use crate::rooms::in_memory;
 use crate::scenes::{Example, Step};
 use crate::shelves::{do_step, expect_whole_lists, prepared};
 use crate::ways::serving::{Line, expect_end, serve};
-use room_records::MemShelf;
-use room_wire::Why;
+use room_records::{MemShelf, Shelf};
+use room_wire::{Event, Why};
 
 /// An answer is lost behind each of so many bytes at its front, then behind every so many, and behind all but the last.
 const MOST: usize = 2000;
 
 const STEP: usize = 1009;
+
+/// What is due to a request that was run, and whose reply is not kept.
+const UNCACHED: &str = r#"409 {"code":25,"error":"RETRY_UNCACHED"}"#;
 
 /// Whether an answer of this size is lost behind so many bytes.
 fn is_lost_behind(room: usize, size: usize) -> bool {
@@ -24,14 +31,15 @@ fn lose(
     play: &Play<'_>,
     shelf: MemShelf,
     example: &Example,
+    due: &Due,
     room: usize,
     differences: &mut Differences<'_>,
 ) -> Result<MemShelf, Fault> {
     let mut line = Line::good(example.sent.as_slice());
     line.room = room;
     let (ended, shelf) = serve(play, shelf, line);
-    let due = example.due.whole.as_slice();
-    let (front, _) = due.split_at(room.min(due.len()));
+    let whole = due.whole.as_slice();
+    let (front, _) = whole.split_at(room.min(whole.len()));
     differences.expect(example.line, ended.written.as_slice(), front)?;
     if ended.end.why != Why::WriteFailed {
         differences.tell(example.line, "a lost answer that the server takes for sent")?;
@@ -55,16 +63,61 @@ fn lose_each(
     play: &Play<'_>,
     shelf: MemShelf,
     example: &Example,
+    due: &Due,
     differences: &mut Differences<'_>,
 ) -> Result<MemShelf, Fault> {
-    let size = example.due.whole.len();
+    let size = due.whole.len();
     let mut shelf = shelf;
     for room in 0..size {
         if is_lost_behind(room, size) {
-            shelf = lose(play, shelf, example, room, differences)?;
+            shelf = lose(play, shelf, example, due, room, differences)?;
         }
     }
     Ok(shelf)
+}
+
+/// The request, whose answer is lost behind each of its bytes, and which then gets it whole.
+fn ask_again(
+    play: &Play<'_>,
+    shelf: MemShelf,
+    example: &Example,
+    due: &Due,
+    differences: &mut Differences<'_>,
+) -> Result<MemShelf, Fault> {
+    let shelf = lose_each(play, shelf, example, due, differences)?;
+    let (ended, shelf) = serve(play, shelf, Line::good(example.sent.as_slice()));
+    differences.expect(example.line, ended.written.as_slice(), due.whole.as_slice())?;
+    expect_end(example, 1, ended.end, differences)?;
+    Ok(shelf)
+}
+
+/// Whether the request runs now, and says that its reply need not be kept. One with the kept number ran before.
+fn is_unkept(play: &Play<'_>, shelf: &mut MemShelf, example: &Example) -> Result<bool, Fault> {
+    let asked = ask_of(play, example.sent.as_slice());
+    let Asked::Event(
+        Event::Slot {
+            subject: _,
+            sid,
+            slot,
+            seq,
+            command: _,
+            keep: false,
+        },
+    ) = &asked
+    else {
+        return Ok(false);
+    };
+    match shelf.slot(sid, *slot) {
+        Ok(Some(kept)) => Ok(example.due.is_reply && kept.seq != *seq),
+        Ok(None) => Ok(example.due.is_reply),
+        Err(_) => Err(Fault::Because("a slot that was not read")),
+    }
+}
+
+/// What is due from then on to a request whose reply is not kept.
+fn uncached(play: &Play<'_>) -> Result<Due, Fault> {
+    let (head, body) = read_due(UNCACHED)?;
+    Due::new(play.alloc, head, body.as_bytes().to_vec(play.alloc)?)
 }
 
 fn ask(
@@ -73,12 +126,13 @@ fn ask(
     example: &Example,
     differences: &mut Differences<'_>,
 ) -> Result<MemShelf, Fault> {
-    let shelf = lose_each(play, shelf, example, differences)?;
-    let (ended, shelf) = serve(play, shelf, Line::good(example.sent.as_slice()));
-    let due = example.due.whole.as_slice();
-    differences.expect(example.line, ended.written.as_slice(), due)?;
-    expect_end(example, 1, ended.end, differences)?;
-    Ok(shelf)
+    let mut shelf = shelf;
+    if !is_unkept(play, &mut shelf, example)? {
+        return ask_again(play, shelf, example, &example.due, differences);
+    }
+    let last = example.due.whole.len().saturating_sub(1);
+    let shelf = lose(play, shelf, example, &example.due, last, differences)?;
+    ask_again(play, shelf, example, &uncached(play)?, differences)
 }
 
 pub fn play(play: &Play<'_>, differences: &mut Differences<'_>) -> Result<(), Fault> {

@@ -23,6 +23,7 @@ returns-clause-settled g c = λ intact start past before.
       slot = c.asked.inside.slot;
       seq = c.asked.inside.seq;
       command = command_model c.asked.inside.command.now;
+      keep = c.asked.inside.keep;
     } in
     let row = c.in-Some.row in
     let read = c.in_ok-row.ensures.there (c.in_slot.ensures.frame.was_intact intact) in

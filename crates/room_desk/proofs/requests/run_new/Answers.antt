@@ -9,6 +9,7 @@ use Rattle.room_wire.specs.Asks.EventModel.{Request}
 use Rattle.room_wire.specs.Forms.Texts.{command_text}
 use Rattle.room_desk.specs.RowAnswers.{HasSlot, Ran, RanTo}
 use Rattle.room_desk.specs.AnswerModel.{Reply}
+use Rattle.room_desk.specs.History.{if_kept}
 use Rattle.room_desk.proofs.Crashes.{leaves_either}
 use Rattle.room_desk.proofs.Faults.{passed_on}
 use Rattle.room_desk.proofs.Running.{planned_row, all_changes, planned_rules, ran, rules_of, ran_to}
@@ -30,6 +31,7 @@ returns-clause-ok g c = λ h d room stand slots there.
       slot = c.asked.inside.slot;
       seq = c.asked.inside.seq;
       command = command_model c.asked.inside.command.now;
+      keep = c.asked.inside.keep;
     } in
     let is_asked : q ≡ c.args.asked.now = c.asked.view_is in
     let has : HasSlot old q.sid q.slot = subst (λ (p : Request). HasSlot old p.sid p.slot) (sym is_asked) there in
@@ -42,7 +44,7 @@ returns-clause-ok g c = λ h d room stand slots there.
     ∙ ap (λ (p : Request). record {
       sid = p.sid;
       slot = p.slot;
-      kept = record { seq = p.seq; request = c.args.request.items; reply = c.in_ok-reply.reply.items };
+      kept = record { seq = p.seq; request = c.args.request.items; reply = if_kept p.keep c.in_ok-reply.reply.items };
     }) (sym is_asked)
     ∙ (λ i. record {
       sid = q.sid;
@@ -51,7 +53,7 @@ returns-clause-ok g c = λ h d room stand slots there.
         seq = q.seq;
         request = (c.requires
             ∙ ap (λ (p : Request). command_text p.command) (sym is_asked)) i;
-        reply = c.in_ok-reply.ensures i;
+        reply = if_kept q.keep (c.in_ok-reply.ensures i);
       };
     }) in
     let all = all_changes old room q outcome plans stand slots has in
@@ -80,6 +82,7 @@ returns-in_err-commit-clause-crash g c = λ intact available d room stand slots 
       slot = c.asked.inside.slot;
       seq = c.asked.inside.seq;
       command = command_model c.asked.inside.command.now;
+      keep = c.asked.inside.keep;
     } in
     let is_asked : q ≡ c.args.asked.now = c.asked.view_is in
     let has : HasSlot old q.sid q.slot = subst (λ (p : Request). HasSlot old p.sid p.slot) (sym is_asked) there in
@@ -92,7 +95,7 @@ returns-in_err-commit-clause-crash g c = λ intact available d room stand slots 
     ∙ ap (λ (p : Request). record {
       sid = p.sid;
       slot = p.slot;
-      kept = record { seq = p.seq; request = c.args.request.items; reply = c.in_ok-reply.reply.items };
+      kept = record { seq = p.seq; request = c.args.request.items; reply = if_kept p.keep c.in_ok-reply.reply.items };
     }) (sym is_asked)
     ∙ (λ i. record {
       sid = q.sid;
@@ -101,7 +104,7 @@ returns-in_err-commit-clause-crash g c = λ intact available d room stand slots 
         seq = q.seq;
         request = (c.requires
             ∙ ap (λ (p : Request). command_text p.command) (sym is_asked)) i;
-        reply = c.in_ok-reply.ensures i;
+        reply = if_kept q.keep (c.in_ok-reply.ensures i);
       };
     }) in
     let all = c.deref.result.now in
@@ -124,6 +127,7 @@ returns-clause-crash g c = λ intact available d room stand slots there left may
       slot = c.asked.inside.slot;
       seq = c.asked.inside.seq;
       command = command_model c.asked.inside.command.now;
+      keep = c.asked.inside.keep;
     } in
     let is_asked : q ≡ c.args.asked.now = c.asked.view_is in
     let has : HasSlot old q.sid q.slot = subst (λ (p : Request). HasSlot old p.sid p.slot) (sym is_asked) there in
@@ -136,7 +140,7 @@ returns-clause-crash g c = λ intact available d room stand slots there left may
     ∙ ap (λ (p : Request). record {
       sid = p.sid;
       slot = p.slot;
-      kept = record { seq = p.seq; request = c.args.request.items; reply = c.in_ok-reply.reply.items };
+      kept = record { seq = p.seq; request = c.args.request.items; reply = if_kept p.keep c.in_ok-reply.reply.items };
     }) (sym is_asked)
     ∙ (λ i. record {
       sid = q.sid;
@@ -145,7 +149,7 @@ returns-clause-crash g c = λ intact available d room stand slots there left may
         seq = q.seq;
         request = (c.requires
             ∙ ap (λ (p : Request). command_text p.command) (sym is_asked)) i;
-        reply = c.in_ok-reply.ensures i;
+        reply = if_kept q.keep (c.in_ok-reply.ensures i);
       };
     }) in
     let all = c.deref.result.now in
@@ -168,6 +172,7 @@ returns-clause-settled g c = λ intact available d room stand slots there left m
       slot = c.asked.inside.slot;
       seq = c.asked.inside.seq;
       command = command_model c.asked.inside.command.now;
+      keep = c.asked.inside.keep;
     } in
     let is_asked : q ≡ c.args.asked.now = c.asked.view_is in
     let has : HasSlot old q.sid q.slot = subst (λ (p : Request). HasSlot old p.sid p.slot) (sym is_asked) there in
@@ -180,7 +185,7 @@ returns-clause-settled g c = λ intact available d room stand slots there left m
     ∙ ap (λ (p : Request). record {
       sid = p.sid;
       slot = p.slot;
-      kept = record { seq = p.seq; request = c.args.request.items; reply = c.in_ok-reply.reply.items };
+      kept = record { seq = p.seq; request = c.args.request.items; reply = if_kept p.keep c.in_ok-reply.reply.items };
     }) (sym is_asked)
     ∙ (λ i. record {
       sid = q.sid;
@@ -189,7 +194,7 @@ returns-clause-settled g c = λ intact available d room stand slots there left m
         seq = q.seq;
         request = (c.requires
             ∙ ap (λ (p : Request). command_text p.command) (sym is_asked)) i;
-        reply = c.in_ok-reply.ensures i;
+        reply = if_kept q.keep (c.in_ok-reply.ensures i);
       };
     }) in
     let all = c.deref.result.now in

@@ -3,7 +3,7 @@ use Rattle.room_program.proofs.reporting.report.Goals as goal
 
 pub returns : goal.returns
 returns g c =
-    let left = rw c.into_connection.ensures.same at c.leave.ensures.left in
+    let left = rw c.into_inner.ensures at (rw c.into_connection.ensures.same at c.leave.ensures.left) in
     inr (
       c.in-Ok.roster,
       c.roster_at.new.machine,

@@ -4,7 +4,8 @@ use Rattle.room_program.proofs.serving.serve.Goals as goal
 pub returns : goal.returns
 returns g c =
     let done = rw c.new-desk.ensures at c.listen-done.ensures in
-    let closed = rw c.into_shelf.ensures at (rw c.into_connection.ensures.same at c.close.ensures.closed) in
+    let closed = rw c.into_shelf.ensures at (rw c.into_inner.ensures at
+    (rw c.into_connection.ensures.same at c.close.ensures.closed)) in
     inr (
       c.in-Ok.roster,
       c.roster_at.new.machine,

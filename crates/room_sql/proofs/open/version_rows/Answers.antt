@@ -7,9 +7,10 @@ use Rattle.room_sql.proofs.Frames.{query_frame}
 use Rattle.room_sql.proofs.open.version_rows.Goals as goal
 
 pub returns-clause-asked : goal.returns-clause-asked
-returns-clause-asked g c clean schema =
+returns-clause-asked g c clean more others schema =
     IfOk-weaker c.query_all.result _ _ (λ rows h.
-    asks_version (state g.S.Store c.args.conn.now) (state g.S.Store c.query_all.new.self) rows.items schema h)
+    asks_version more others (state g.S.Store c.args.conn.now) (state g.S.Store c.query_all.new.self)
+    rows.items schema h)
     (c.query_all.ensures.ok clean)
 
 pub returns-clause-answered : goal.returns-clause-answered

@@ -7,9 +7,9 @@ use Rattle.room_sql.proofs.Frames.{query_frame}
 use Rattle.room_sql.proofs.reads.child_rows.Goals as goal
 
 pub returns-clause-rows : goal.returns-clause-rows
-returns-clause-rows g c clean schema =
+returns-clause-rows g c clean room =
     IfOk-weaker c.query_all.result _ _ (λ rows h. asks_children (state g.S.Store c.args.conn.now)
-    (state g.S.Store c.query_all.new.self) c.args.parent rows.items schema h)
+    (state g.S.Store c.query_all.new.self) c.args.parent rows.items room h)
     (rw (c.params-to_sql.ensures) at (c.query_all.ensures.ok clean))
 
 pub returns-clause-answered : goal.returns-clause-answered

@@ -7,9 +7,9 @@ use Rattle.room_sql.proofs.Frames.{query_frame}
 use Rattle.room_sql.proofs.reads.next_rows.Goals as goal
 
 pub returns-clause-rows : goal.returns-clause-rows
-returns-clause-rows g c clean schema =
+returns-clause-rows g c clean more others schema =
     IfOk-weaker c.query_all.result _ _ (λ rows h.
-    asks_next (state g.S.Store c.args.conn.now) (state g.S.Store c.query_all.new.self) rows.items schema h)
+    asks_next more others (state g.S.Store c.args.conn.now) (state g.S.Store c.query_all.new.self) rows.items schema h)
     (c.query_all.ensures.ok clean)
 
 pub returns-clause-answered : goal.returns-clause-answered

@@ -1,9 +1,9 @@
 use Rattle.std.proofs.Common.{◌∙◌, ap, arith}
-use Rattle.std.proofs.lemmas.Result.{IfOk-weaker}
 use Rattle.sqlite.specs.State.{HasCleanDisk}
 use Rattle.sqlite.specs.Held.{state}
 use Rattle.room_records.specs.declared.change.Change.TheVariants.{PutEntries, PutNext}
 use Rattle.room_records.specs.Changes.{apply_change}
+use Rattle.room_sql.proofs.Turns.{ok_then, both}
 use Rattle.room_sql.proofs.tables.fill.Goals as goal
 
 pub returns-clause-ok : goal.returns-clause-ok
@@ -12,15 +12,18 @@ returns-clause-ok g c clean =
     let first = state g.S.Store c.put_node.new.tx.conn.now in
     let late : HasCleanDisk mid = omega (arith, c.put_next.ensures.frame.crash.clean) in
     let early : HasCleanDisk first = omega (arith, c.put_entries.ensures.frame.crash.clean) in
-    IfOk-weaker c.put_next.result _ _ (λ _ all room.
+    let put = both c.put_next.result _ _ (c.put_next.ensures.ok clean) (c.put_next.ensures.beside clean) in
+    ok_then c.put_next.result _ _ put (λ all room.
     let one = c.in_ok-put_node.ensures.ok early room in
     let two = c.in_ok-put_entries.ensures.ok late one.room in
-    let three = all two.room in (
+    let three = all.0 two.room in (
       record {
         room = three.0.room;
+        schema = three.0.schema ∙ two.schema ∙ one.schema;
         records = three.0.records ∙ ap (apply_change (PutNext 2)) two.records
             ∙ ap (λ r. apply_change (PutNext 2) (apply_change (PutEntries 1 c.args.entries.now) r)) one.records;
         version = λ _. three.1;
       },
       three.1,
-    )) (c.put_next.ensures.ok clean)
+      (all.1 two.room).0,
+    ))

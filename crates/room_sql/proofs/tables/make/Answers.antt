@@ -13,12 +13,9 @@ returns-clause-ok g c clean =
       h.0,
       λ none. (
         (h.1 none).0,
-        (
-          fresh_from c.args.owner.now c.args.group.now c.fresh_root-root.result c.in_ok-entries.entries
-              _ (c.fresh_root-root.ensures ∙ (λ i. fresh_root (c.in_ok-clone.ensures i) (c.in_ok-clone-2.ensures i)))
-              c.in_ok-entries.ensures (h.1 none).1.0,
-          (h.1 none).1.1,
-        ),
+        fresh_from c.args.owner.now c.args.group.now c.fresh_root-root.result c.in_ok-entries.entries
+            _ (c.fresh_root-root.ensures ∙ (λ i. fresh_root (c.in_ok-clone.ensures i) (c.in_ok-clone-2.ensures i)))
+            c.in_ok-entries.ensures (h.1 none).1,
       ),
     )) (c.commit_fresh.ensures.ok clean)
 
@@ -29,9 +26,9 @@ returns-clause-frame g c = record {
   was_open = c.commit_fresh.ensures.frame.was_open;
   crash = survives_weaker (state g.S.Store c.args.conn.now) (state g.S.Store c.commit_fresh.new.conn) _ _
       (λ _ db h none. (
+        (h none).0,
         fresh_from c.args.owner.now c.args.group.now c.fresh_root-root.result c.in_ok-entries.entries
             (records_of db) (c.fresh_root-root.ensures ∙ (λ i. fresh_root (c.in_ok-clone.ensures i)
-            (c.in_ok-clone-2.ensures i))) c.in_ok-entries.ensures (h none).0,
-        (h none).1,
+            (c.in_ok-clone-2.ensures i))) c.in_ok-entries.ensures (h none).1,
       )) c.commit_fresh.ensures.frame.crash;
 }

@@ -7,4 +7,4 @@ pub returns-clause-ok : goal.returns-clause-ok
 returns-clause-ok g c clean none =
     let inside = was_inside _ _ c.in_ok-execute.field-0 _ _ c.execute.ensures.ended c.in_ok-execute.was in
     room_step (state g.S.Store c.args.tx.now.conn.now) (state g.S.Store c.execute.new.self.conn.now)
-    c.in_ok-execute.field-0 (c.in_ok-execute.ensures.runs clean inside) (record { schema = none; empty = tt })
+    c.in_ok-execute.field-0 (c.in_ok-execute.ensures.runs clean inside) none

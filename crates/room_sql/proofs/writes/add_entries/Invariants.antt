@@ -2,7 +2,7 @@ use Rattle.std.proofs.Common.{◌≡◌, ◌≤◌, [], take, drop, length, true
 use Rattle.sqlite.specs.State.{HasCleanDisk}
 use Rattle.sqlite.specs.Held.{Held, state}
 use Rattle.sqlite.specs.declared.error.Error.{Error}
-use Rattle.sqlite_trees.specs.Tree.{Trees}
+use Rattle.sqlite.specs.Effect.{Database}
 use Rattle.room_tables.specs.Steps.{Lists}
 use Rattle.room_sql.specs.Causes.{RunInTurn, entry_writes}
 use Rattle.room_sql.specs.Frames.{InsideFrame}
@@ -17,7 +17,7 @@ invariant-loop-batch g l =
       size : l.batch-iterator.size ≡ 4;
       rest : l.batch-iterator.rest.now ≡ drop l.place l.entries;
       within : l.place ≤ length l.entries;
-      done : HasCleanDisk now → (was : Trees) → Lists was l.id [] old.now
+      done : HasCleanDisk now → (was : Database) → Lists was l.id [] old.now
           → Lists was l.id (take l.place l.entries) now.now;
       -- what the statements of the rest make of it, those of all make of the start
       ran : HasCleanDisk now → l.fn.tx.conn.now.in_transaction ≡ true → (end : Held _) (out : Result (Unit {0}) Error)

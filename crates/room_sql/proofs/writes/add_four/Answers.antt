@@ -41,7 +41,7 @@ returns-clause-ok g c clean =
     let ran : ExecutesInside 0 add_four_text (Int (pos id) ∷ bound_entries place batch) old new (Ok count) =
     subst (λ row. ExecutesInside 0 add_four_text row old new (Ok count)) params done.1 in
     lists_more add_four_text old new id place count before batch records
-    (adds_four id place c.args.a.now c.args.b.now c.args.c.now c.args.d.now) (sym len) (
+    (λ l. adds_four l id place c.args.a.now c.args.b.now c.args.c.now c.args.d.now) (sym len) (
       c.entry_row-a.ensures.back,
       (c.entry_row-b.ensures.back, (c.entry_row-c.ensures.back, (c.entry_row-d.ensures.back, tt))),
     ) was ran)

@@ -26,7 +26,7 @@ returns-clause-ok g c clean =
     let ran : ExecutesInside 0 add_entry_text (Int (pos id) ∷ bound_entries place batch) old new (Ok count) =
     subst (λ row. ExecutesInside 0 add_entry_text row old new (Ok count)) params done.1 in
     lists_more add_entry_text old new id place count before batch records
-    (adds_one id place c.args.a.now) (sym len) (c.entry_row-a.ensures.back, tt) was ran)
+    (λ l. adds_one l id place c.args.a.now) (sym len) (c.entry_row-a.ensures.back, tt) was ran)
 
 pub returns-clause-ran : goal.returns-clause-ran
 returns-clause-ran g c clean inside =

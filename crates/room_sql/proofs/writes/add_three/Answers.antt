@@ -35,7 +35,7 @@ returns-clause-ok g c clean =
     let ran : ExecutesInside 0 add_three_text (Int (pos id) ∷ bound_entries place batch) old new (Ok count) =
     subst (λ row. ExecutesInside 0 add_three_text row old new (Ok count)) params done.1 in
     lists_more add_three_text old new id place count before batch records
-    (adds_three id place c.args.a.now c.args.b.now c.args.c.now) (sym len)
+    (λ l. adds_three l id place c.args.a.now c.args.b.now c.args.c.now) (sym len)
     (c.entry_row-a.ensures.back, (c.entry_row-b.ensures.back, (c.entry_row-c.ensures.back, tt))) was ran)
 
 pub returns-clause-ran : goal.returns-clause-ran

@@ -30,7 +30,8 @@ returns-clause-ok g c clean =
     (bound_entries place (c.args.a.now ∷ c.args.b.now ∷ [])) c.to_sql.ensures from_a in
     let ran : ExecutesInside 0 add_two_text (Int (pos id) ∷ bound_entries place batch) old new (Ok count) =
     subst (λ row. ExecutesInside 0 add_two_text row old new (Ok count)) params done.1 in
-    lists_more add_two_text old new id place count before batch records (adds_two id place c.args.a.now c.args.b.now)
+    lists_more add_two_text old new id place count before batch records
+    (λ l. adds_two l id place c.args.a.now c.args.b.now)
     (sym len) (c.entry_row-a.ensures.back, (c.entry_row-b.ensures.back, tt)) was ran)
 
 pub returns-clause-ran : goal.returns-clause-ran

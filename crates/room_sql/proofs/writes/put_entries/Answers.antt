@@ -2,7 +2,7 @@ use Rattle.std.proofs.Common.{◌∙◌, ◌<◌, ◌^◌, [], ◌∷◌, length
 use Rattle.std.proofs.lemmas.Result.{IfOk-weaker}
 use Rattle.sqlite.specs.State.{HasCleanDisk}
 use Rattle.sqlite.specs.Held.{state}
-use Rattle.room_tables.specs.Rows.{records_of, IsVersion1}
+use Rattle.room_tables.specs.Rows.{records_of, IsVersion}
 use Rattle.room_tables.proofs.Placed.{lists_records}
 use Rattle.room_sql.specs.Causes.{RunInTurn, entries_drop, entry_writes}
 use Rattle.room_sql.proofs.Turns.{turn_then, turn_passed}
@@ -17,17 +17,18 @@ returns-clause-ok g c clean =
     let before = records_of old.now.trees in
     IfOk-weaker c.add_entries.result _ _ (λ _ all room.
     let first = c.in_ok-clear_entries.ensures.ok early room in
-    let last = all old.now.trees first in
+    let last = all old.now first in
     record {
       room = last.room;
-      records = lists_records old.now.trees c.args.id c.as_slice.result.now new.now last
+      schema = last.schema;
+      records = lists_records old.now c.args.id c.as_slice.result.now new.now last
           ∙ ap (λ l. record before {
             objects = record before.objects {
               entries = λ q.
                   cond (q == c.args.id) l (before.objects.entries q);
             };
           }) c.as_slice.ensures.value;
-      version = subst IsVersion1 (sym last.version);
+      version = subst (IsVersion 2) (sym last.version);
     }) (c.add_entries.ensures.ok clean)
 
 pub returns-clause-ran : goal.returns-clause-ran

@@ -4,7 +4,7 @@ use Rattle.room_wire.specs.Answers.AnswerModel.{AnswerModel, Reply, Refused, phr
 use Rattle.room_wire.specs.declared.answers.code.Code.{Code}
 use Rattle.room_wire.specs.declared.answers.code.Code.TheVariants.{BadSession, BadSlot, SeqMisordered, SeqFalseRetry}
 use Rattle.room_wire.specs.declared.answers.code.Code.TheVariants.{SessionTaken, Delay, BadHttp, BadRoute, UnknownUser}
-use Rattle.room_wire.specs.declared.answers.code.Code.TheVariants.{BadRequest}
+use Rattle.room_wire.specs.declared.answers.code.Code.TheVariants.{BadRequest, RetryUncached}
 
 -- seven parts, one behind another
 pub seven_parts : (a b c d e f g : List ℕ) {b' d' f' g' h0 h1 h2 h3 h4 h5 h6 h7 : List ℕ}
@@ -27,6 +27,7 @@ code_phrase_fits BadSlot = omega arith
 code_phrase_fits SeqMisordered = omega arith
 code_phrase_fits SeqFalseRetry = omega arith
 code_phrase_fits SessionTaken = omega arith
+code_phrase_fits RetryUncached = omega arith
 code_phrase_fits Delay = omega arith
 code_phrase_fits BadHttp = omega arith
 code_phrase_fits BadRoute = omega arith

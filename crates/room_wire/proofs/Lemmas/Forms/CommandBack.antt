@@ -27,7 +27,7 @@ use Rattle.room_commands.specs.Lawful.{IsWho, IsEntry, IsLawful}
 use Rattle.room_wire.specs.Forms.Texts.{who_text, entry_type, entry, entries, at, cmd, num, obj, path, bytes}
 use Rattle.room_wire.specs.Forms.Texts.{members, command_data, command_text}
 use Rattle.room_wire.specs.Forms.Commands.{of_path, bytes_by, rename_by, set_list_by, chown_by, access_by}
-use Rattle.room_wire.specs.Forms.Commands.{command_in, command_of_body}
+use Rattle.room_wire.specs.Forms.Commands.{command_in, keep_at, asked_by, asked_in, command_of_body}
 use Rattle.room_wire.specs.declared.forms.commands.PathVerb.TheVariants as P
 use Rattle.room_wire.specs.declared.forms.commands.BytesVerb.TheVariants as B
 use Rattle.room_wire.proofs.Lemmas.Forms.Bodies.{json_some}
@@ -56,6 +56,25 @@ command_back (C.SetList flags es p) h =
 command_back (C.Chown group owner p) h =
     (λ i. chown_by (principal_back group h.0 i) (principal_back owner h.1 i) (path_back p h.2 i))
 command_back (C.Access mask p) h = (λ i. access_by (mask_back mask h.0 i) (path_back p h.1 i))
+
+-- the text of a command says nothing of its reply, so it is kept
+keep_back : (c : CommandModel) → keep_at (command_data c) ≡ Some true
+keep_back (C.Stat p) = refl
+keep_back (C.ListNames p) = refl
+keep_back (C.Mkdir p) = refl
+keep_back (C.Create b p) = refl
+keep_back (C.Read p) = refl
+keep_back (C.Write b p) = refl
+keep_back (C.Append b p) = refl
+keep_back (C.Remove p) = refl
+keep_back (C.Rename p to) = refl
+keep_back (C.GetList p) = refl
+keep_back (C.SetList flags es p) = refl
+keep_back (C.Chown group owner p) = refl
+keep_back (C.Access mask p) = refl
+
+asked_back : (c : CommandModel) → IsLawful c → asked_in (command_data c) ≡ Some (c, true)
+asked_back c h = (λ i. asked_by (keep_back c i) (command_back c h i))
 
 -- ---- the text is read as the value
 
@@ -260,11 +279,13 @@ command_utf8 (C.Access mask p) h =
 
 -- ---- both together
 
-pub text_back : (c : CommandModel) → IsLawful c → command_of_body (command_text c) ≡ Some c
+pub text_back : (c : CommandModel) → IsLawful c → command_of_body (command_text c) ≡ Some (c, true)
 text_back c h =
     let body = json_some (command_text c) (command_data c)
     (text_is_utf8 (command_data c) (command_utf8 c h)) (command_reads c h) in
-    ap (option_and_then command_in) (sym body) ∙ command_back c h
+    ap (option_and_then asked_in) (sym body) ∙ asked_back c h
 
 pub one_command : (c k : CommandModel) → IsLawful c → IsLawful k → command_text c ≡ command_text k → c ≡ k
-one_command c k h g same = same_Some c k (sym (text_back c h) ∙ ap command_of_body same ∙ text_back k g)
+one_command c k h g same =
+    ap (λ (a : CommandModel × Bool). a.0)
+    (same_Some (c, true) (k, true) (sym (text_back c h) ∙ ap command_of_body same ∙ text_back k g))

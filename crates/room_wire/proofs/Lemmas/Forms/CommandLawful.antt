@@ -20,7 +20,8 @@ use Rattle.room_wire.specs.Forms.Reading.{flags_at, is_principal, principal_from
 use Rattle.room_wire.specs.Forms.Reading.{who_from, entry_of, entry_in, cons, entries_in, entries_at}
 use Rattle.room_wire.specs.Forms.Commands.{path_from, path_at, list_flags_from, list_flags_at, verb_at, of_path}
 use Rattle.room_wire.specs.Forms.Commands.{of_bytes, bytes_by, rename_by, set_list_by, chown_by, access_by}
-use Rattle.room_wire.specs.Forms.Commands.{verb_command, command_by, command_in, command_of_body, bytes_in}
+use Rattle.room_wire.specs.Forms.Commands.{has_parts, verb_command, command_by, command_in, keep_at, asked_by, asked_in}
+use Rattle.room_wire.specs.Forms.Commands.{command_of_body, bytes_in}
 use Rattle.room_wire.specs.declared.forms.commands.PathVerb.{PathVerb}
 use Rattle.room_wire.specs.declared.forms.commands.PathVerb.TheVariants as P
 use Rattle.room_wire.specs.declared.forms.commands.BytesVerb.{BytesVerb}
@@ -213,27 +214,37 @@ access_by_fact (Some mask) (Some path) c masks paths made =
 verb_fact : (verb : Verb) (d : Data) (c : CommandModel)
     → AreBytes (bytes_in c) → verb_command verb d ≡ Some c → IsLawful c
 verb_fact (V.OfPath verb) d c fit made =
-    map_some (of_path verb) (path_at (codes "path") d) c (then_some (has_count 2 d) _ c made)
+    map_some (of_path verb) (path_at (codes "path") d) c (then_some (has_parts 2 d) _ c made)
     (λ path is same. subst IsLawful same (of_path_lawful verb path (path_at_fact (codes "path") d path is)))
 verb_fact (V.OfBytes verb) d c fit made =
-    bytes_by_fact verb _ _ c (path_at_fact (codes "path") d) fit (then_some (has_count 3 d) _ c made)
+    bytes_by_fact verb _ _ c (path_at_fact (codes "path") d) fit (then_some (has_parts 3 d) _ c made)
 verb_fact V.Rename d c fit made = rename_by_fact _ _ c (path_at_fact (codes "path") d)
-    (path_at_fact (codes "to") d) (then_some (has_count 3 d) _ c made)
+    (path_at_fact (codes "to") d) (then_some (has_parts 3 d) _ c made)
 verb_fact V.SetList d c fit made =
     set_list_by_fact _ _ _ c (list_flags_at_fact (codes "aclflag") d) (entries_at_fact (codes "entries") d)
-    (path_at_fact (codes "path") d) (then_some (has_count 4 d) _ c made)
+    (path_at_fact (codes "path") d) (then_some (has_parts 4 d) _ c made)
 verb_fact V.Chown d c fit made =
     chown_by_fact _ _ _ c (principal_at_fact (codes "group") d) (principal_at_fact (codes "owner") d)
-    (path_at_fact (codes "path") d) (then_some (has_count 4 d) _ c made)
+    (path_at_fact (codes "path") d) (then_some (has_parts 4 d) _ c made)
 verb_fact V.Access d c fit made = access_by_fact _ _ c (mask_at_fact (codes "mask") d)
-    (path_at_fact (codes "path") d) (then_some (has_count 3 d) _ c made)
+    (path_at_fact (codes "path") d) (then_some (has_parts 3 d) _ c made)
 
 command_by_fact : (verb : Option Verb) (d : Data) (c : CommandModel)
     → AreBytes (bytes_in c) → command_by verb d ≡ Some c → IsLawful c
 command_by_fact None d c fit made = absurd cc
 command_by_fact (Some verb) d c fit made = verb_fact verb d c fit made
 
-pub asked_is_lawful : (body : List ℕ) (c : CommandModel)
-    → AreBytes (bytes_in c) → command_of_body body ≡ Some c → IsLawful c
-asked_is_lawful body c fit made = option_and_then_some command_in (json_of body)
-    c made (λ d is asked. command_by_fact (verb_at (codes "cmd") d) d c fit asked)
+asked_by_fact : (keep : Option Bool) (command : Option CommandModel) (asked : CommandModel × Bool)
+    → ((c : CommandModel) → AreBytes (bytes_in c) → command ≡ Some c → IsLawful c)
+    → AreBytes (bytes_in asked.0) → asked_by keep command ≡ Some asked → IsLawful asked.0
+asked_by_fact None command asked lawful fit made = absurd cc
+asked_by_fact (Some keep) None asked lawful fit made = absurd cc
+asked_by_fact (Some keep) (Some c) asked lawful fit made =
+    let same = ap (λ (a : CommandModel × Bool). a.0) (same_Some (c, keep) asked made) in
+    subst IsLawful same (lawful c (subst (λ k. AreBytes (bytes_in k)) (sym same) fit) refl)
+
+pub asked_is_lawful : (body : List ℕ) (asked : CommandModel × Bool)
+    → AreBytes (bytes_in asked.0) → command_of_body body ≡ Some asked → IsLawful asked.0
+asked_is_lawful body asked fit made = option_and_then_some asked_in (json_of body)
+    asked made (λ d is said. asked_by_fact (keep_at d) (command_in d) asked
+    (λ c. command_by_fact (verb_at (codes "cmd") d) d c) fit said)

@@ -1,7 +1,8 @@
 use Rattle.std.proofs.Common.{◌≡◌, length}
 use Rattle.std.specs.List.{AllByRecursion}
 use Rattle.std.specs.Vec.Iter.{into_iter_items, into_iter_len}
-use Rattle.room_records.specs.Changes.{apply_changes, RulesHoldAfterEach}
+use Rattle.room_records.specs.Records.{Records}
+use Rattle.room_records.specs.Changes.{apply_changes, RulesHoldAfterEach, Untouched}
 use Rattle.room_records.specs.Mem.{mem_records, HasSpaceFor}
 use Rattle.room_records.proofs.mem.MemShelf.apply_all.Given as goal
 
@@ -13,4 +14,6 @@ invariant-loop-step l = record {
       → RulesHoldAfterEach (into_iter_items l.step-iterator) (mem_records l.self)
       × (apply_changes (into_iter_items l.step-iterator) (mem_records l.self)
       ≡ apply_changes l.fn.steps.items (mem_records l.initial.self));
+  untouched : (later : Records) → Untouched (into_iter_items l.step-iterator) (mem_records l.self) later
+      → Untouched l.fn.steps.items (mem_records l.initial.self) later;
 }

@@ -4,6 +4,7 @@ use Rattle.room_records.specs.Shelf.{IsChildCount}
 use Rattle.room_tables.specs.Rows.{shown_node}
 use Rattle.room_tables.proofs.Children.{count_children}
 use Rattle.room_sql.proofs.Calls.{read_ok, read_err}
+use Rattle.room_sql.proofs.Unread.{unread}
 use Rattle.room_sql.proofs.sql_shelf.SqlShelfShelf.child_count.Goals as goal
 
 -- the count that is remembered is that of the rows
@@ -21,7 +22,7 @@ returns-in-Err-clause-frame g c =
 
 pub returns-in-Ok-one_count-clause-value : goal.returns-in-Ok-one_count-clause-value
 returns-in-Ok-one_count-clause-value g c available laid_out rules =
-    let read = c.in-Ok.ensures.rows available.0 laid_out.0.room.schema in
+    let read = c.in-Ok.ensures.rows available.0 laid_out.0.room in
     subst (IsChildCount _ c.args.parent) (sym (c.in-Ok-one_count.ensures.value _ (c.as_slice.ensures.value ∙ read)))
     (count_children _ c.args.parent laid_out.0.room rules)
 
@@ -29,5 +30,11 @@ pub returns-in-Ok-one_count-clause-frame : goal.returns-in-Ok-one_count-clause-f
 returns-in-Ok-one_count-clause-frame g c =
     read_ok g.S.Store c.args.self.now.conn c.count_rows.new.conn c.args.self.now.failures c.args.self.now.known _ _
     c.in-Ok.ensures.answered.frame (λ clean room right. c.with_count-self.ensures _ right
-    (c.in-Ok-one_count.ensures.value _ (c.as_slice.ensures.value ∙ c.in-Ok.ensures.rows clean room.room.schema)
+    (c.in-Ok-one_count.ensures.value _ (c.as_slice.ensures.value ∙ c.in-Ok.ensures.rows clean room.room)
     ∙ length-map _ shown_node))
+
+pub returns-clause-cause : goal.returns-clause-cause
+returns-clause-cause g c clean is =
+    unread _ _ _ _ c.in-Ok.rows.items c.as_slice.result.now _ c.in-Err-one_count.error c.fault-in-Err-one_count.result
+    (c.in-Ok.ensures.answered.shown clean) c.as_slice.ensures.value
+    c.in-Err-one_count.ensures.refused c.fault-in-Err-one_count.ensures.exact is

@@ -7,4 +7,4 @@ pub returns-in-Ok-all_entries-clause-value : goal.returns-in-Ok-all_entries-clau
 returns-in-Ok-all_entries-clause-value g c available laid_out =
     let typed = subst (AllByRecursion HasEntryColumns) c.as_slice.ensures.value c.in-Ok-all_entries.ensures.typed in
     c.in-Ok-all_entries.ensures.value
-    ∙ ap (map entry_of) (c.as_slice.ensures.value ∙ c.in-Ok.ensures.rows available.0 laid_out.0.room.schema typed)
+    ∙ ap (map entry_of) (c.as_slice.ensures.value ∙ c.in-Ok.ensures.rows available.0 laid_out.0.room typed)

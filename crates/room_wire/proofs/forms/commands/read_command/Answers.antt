@@ -6,5 +6,6 @@ use Rattle.room_wire.proofs.forms.commands.read_command.Goals as goal
 
 pub returns-in-Ok-Some-clause-lawful : goal.returns-in-Ok-Some-clause-lawful
 returns-in-Ok-Some-clause-lawful c =
-    let asked : command_of_body c.args.body.now ≡ Some (command_model c.in-Ok-Some.command) = search rules in
-    asked_is_lawful c.args.body.now (command_model c.in-Ok-Some.command) c.bytes_of_fit.ensures asked
+    let asked : command_of_body c.args.body.now ≡ Some (command_model c.in-Ok-Some.command, c.in-Ok-Some.keep)
+    = search rules in
+    asked_is_lawful c.args.body.now _ c.bytes_of_fit.ensures asked

@@ -16,3 +16,7 @@ invariant_of-self c =
     (record { numbered = old.numbered; placed = old.placed; at_place = old.at_place }) c.args.node
     c.requires.absent put (ap (option_map (λ parent. (parent, c.args.node.name))) c.in-None.is) in
     record { numbered = index.numbered; placed = index.placed; at_place = index.at_place }
+
+pub returns-in-None-clause-others : goal.returns-in-None-clause-others
+returns-in-None-clause-others c = (updated nat_cmp nat_cmp_total exact_unsigned (node_in c.put.new.self.slots)
+    (node_in c.args.self.now.nodes.slots) c.args.node.id (Some c.args.node) c.put.ensures.held).other

@@ -60,3 +60,7 @@ returns-clause-kept c = λ other room. record {
   number = c.put-2.ensures.kept other.id room.number;
   place = λ place at. c.put.ensures.kept place (room.place place at);
 }
+
+pub returns-clause-others : goal.returns-clause-others
+returns-clause-others c = (updated nat_cmp nat_cmp_total exact_unsigned (node_in c.put-2.new.self.slots)
+    (node_in c.args.self.now.nodes.slots) c.args.node.id _ c.put-2.ensures.held).other

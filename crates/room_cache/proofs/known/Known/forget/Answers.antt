@@ -1,0 +1,29 @@
+use Rattle.std.proofs.Common.{refl, ap, sym, subst, inl, inr, Some, cond, [], ◌∷◌, rules}
+use Rattle.room_records.specs.declared.change.Change.{Change}
+use Rattle.room_records.proofs.SessionKeys.{name_test}
+use Rattle.room_cache.specs.Known.{IsLeft}
+use Rattle.room_cache.proofs.Keys.{other_name}
+use Rattle.room_cache.proofs.known.Known.forget.Goals as goal
+
+pub returns-in-PutSession : goal.returns-in-PutSession
+returns-in-PutSession c =
+    let row = c.in-PutSession.row in
+    let P : Change → Type 0 = λ change. IsLeft (change ∷ []) c.args.self.now
+    (record c.args.self.now { sessions = c.forget-in-PutSession.new.self }) in
+    subst P (sym c.in-PutSession.is) (record {
+      sessions = λ sid held is.
+          let was = c.forget-in-PutSession.ensures sid held is in (
+            was.0,
+            (
+              (λ r. elim (name_test sid row.sid) [
+                | inl same ↦ absurd (other_name row.sid sid was.1 same.0)
+                | inr other ↦ ap (λ test. cond test (Some row) (r.session sid)) other.1
+              ]),
+              tt,
+            ),
+          );
+      nodes = λ id node held. (held, ((λ r. refl), tt));
+      lists = λ id list held. (held, ((λ r. refl), tt));
+      decisions = λ id made held. (held, ((λ r. refl), tt));
+      next = search rules;
+    })

@@ -1,0 +1,16 @@
+use Rattle.std.proofs.Common.{ap, sym, ◌∙◌, inl, inr, Some}
+use Rattle.room_cache.proofs.Keys.{same_name}
+use Rattle.room_cache.proofs.known.Known.keep_session.Goals as goal
+
+pub returns-in-Ok-Ok : goal.returns-in-Ok-Ok
+returns-in-Ok-Ok c = λ r is fits. record {
+  sessions = λ sid row held. elim (c.keep.ensures sid row held) [
+    | inl before ↦ fits.sessions sid row before
+    | inr now ↦ ap r.session (sym (same_name c.in-Ok-Ok.sid sid now.0) ∙ c.in-Ok-Ok.ensures) ∙ is
+        ∙ ap Some (sym (now.1 ∙ c.in-Ok-Ok.ensures'))
+  ];
+  nodes = fits.nodes;
+  lists = fits.lists;
+  decisions = fits.decisions;
+  next = fits.next;
+}

@@ -1,0 +1,324 @@
+//! A shelf that remembers.
+ghost use Rattle.std.specs.Prelude.{◌≡◌};
+ghost use Rattle.room_records.specs.Records.{Records};
+ghost use Rattle.room_cache.specs.Known.{Fits};
+
+use crate::decisions::Decided;
+use crate::known::Known;
+use room_acl::{Decision, Entry, Mask, Standing, Subject, copy_entries, decide};
+use room_records::{Change, FileName, Node, SessionRow, Shelf, ShelfFault, Sid};
+use room_slots::Kept;
+use std::alloc::Global;
+use std::marker::Model;
+
+/// A shelf around a shelf, which remembers sessions, nodes by number and by folder and name, their lists, and the
+/// number of the next object, and does not ask for them again. A decision that is not remembered goes by the list where
+/// that is, and else is asked of the shelf inside, which need not read the list whole, and is remembered then: for the
+/// same subject, standing and rights it is not asked again. A commit makes it forget the rows that it changes, with a
+/// list what the list decided, and a fault makes it forget all: memory answers only while the store is known to be
+/// there.
+///
+/// It remembers at most 256 rows of each kind, lists of up to 64 entries, and 16 decisions of each of 256 objects: by
+/// the sizes of the types some 200 kB, lists of 1.5 MB at worst, and decisions of 0.9 MB and 56 bytes for each group of
+/// each subject, 3.7 MB more with 16 groups each. Where memory is refused, a row is not remembered and the call is
+/// answered still.
+#[derive(Drop)]
+pub struct CachedShelf<S: Shelf> {
+    inner: S,
+    known: Known,
+}
+
+impl<S: Shelf> Model for CachedShelf<S> {
+    ghost use Rattle.room_cache.specs.declared.known.Known.{Known};
+    ghost use Rattle.room_cache.specs.Known.{HeardFrom};
+
+    ghost Value = { S × Known };
+
+    ghost view = { λ c. (c.inner, c.known) };
+
+    ghost invariant = { λ c. HeardFrom (S.view c.inner) c.known };
+}
+
+impl<S: Shelf> CachedShelf<S> {
+    /// It remembers nothing yet.
+    pub fn new(alloc: Global, inner: S) -> CachedShelf<S>
+        ensures inner { result.0 ≡ inner }
+        ensures fits { (r : Records) → Fits r result.1 }
+    {
+        CachedShelf {
+            inner,
+            known: Known::nothing(alloc),
+        }
+    }
+
+    pub fn into_inner(self) -> S
+        ensures { result ≡ self.0 }
+    {
+        let CachedShelf { inner, known: _ } = self;
+        inner
+    }
+}
+
+impl<S: Shelf> Shelf for CachedShelf<S> {
+    ghost use Rattle.std.specs.Prelude.{◌≡◌, ◌⊎◌, [], unwrap_or, OnOk};
+    ghost use Rattle.room_acl.specs.Access.{decision};
+    ghost use Rattle.room_records.specs.Records.{Records};
+    ghost use Rattle.room_records.specs.Rules.{ObjectRules};
+    ghost use Rattle.room_records.specs.Changes.{apply_changes, RulesHoldAfterEach, Untouched};
+    ghost use Rattle.room_records.specs.Shelf.{ShelfCall, ShelfRead, Tells, fault_in, AreChildren};
+    ghost use Rattle.room_records.specs.Shelf.{IsChildCount, IsChildNamed};
+    ghost use Rattle.room_cache.specs.Cached.{cached_view};
+
+    ghost view = { cached_view S.view };
+
+    ghost available_is_intact = { λ s h. S.available_is_intact s.0 h };
+
+    fn node(&mut self, id: u32) -> Result<Option<Node>, ShelfFault>
+        ensures value { Tells (cached_view S.view self.old) (cached_view S.view self.new)
+            result (λ records found. found ≡ records.objects.node id) }
+        ensures there { (cached_view S.view self.new).is_intact
+            → OnOk result (cached_view S.view self.new).is_available }
+        ensures frame { ShelfRead (cached_view S.view self.old) (cached_view S.view self.new) (fault_in result) }
+    {
+        if let Some(node) = self.known.node(id) {
+            return Ok(Some(node.clone()?));
+        }
+        match self.inner.node(id) {
+            Ok(found) => {
+                if let Some(node) = &found {
+                    self.known.keep_node(id, node);
+                }
+                Ok(found)
+            }
+            Err(fault) => {
+                self.known.clear();
+                Err(fault)
+            }
+        }
+    }
+
+    fn child(&mut self, parent: u32, name: &FileName) -> Result<Option<Node>, ShelfFault>
+        ensures value { Tells (cached_view S.view self.old) (cached_view S.view self.new)
+            result (λ records. IsChildNamed records.objects parent name.now) }
+        ensures there { (cached_view S.view self.new).is_intact
+            → OnOk result (cached_view S.view self.new).is_available }
+        ensures frame { ShelfRead (cached_view S.view self.old) (cached_view S.view self.new) (fault_in result) }
+    {
+        if let Some(node) = self.known.child(parent, name) {
+            return Ok(Some(node.clone()?));
+        }
+        match self.inner.child(parent, name) {
+            Ok(found) => {
+                if let Some(node) = &found {
+                    self.known.keep_child(parent, name, node);
+                }
+                Ok(found)
+            }
+            Err(fault) => {
+                self.known.clear();
+                Err(fault)
+            }
+        }
+    }
+
+    fn children(&mut self, parent: u32) -> Result<Vec<Node>, ShelfFault>
+        ensures value { Tells (cached_view S.view self.old) (cached_view S.view self.new)
+            result (λ records found. ObjectRules records.objects → AreChildren records.objects parent found.items) }
+        ensures there { (cached_view S.view self.new).is_intact
+            → OnOk result (cached_view S.view self.new).is_available }
+        ensures frame { ShelfRead (cached_view S.view self.old) (cached_view S.view self.new) (fault_in result) }
+    {
+        match self.inner.children(parent) {
+            Ok(found) => Ok(found),
+            Err(fault) => {
+                self.known.clear();
+                Err(fault)
+            }
+        }
+    }
+
+    fn child_count(&mut self, parent: u32) -> Result<u64, ShelfFault>
+        ensures value { Tells (cached_view S.view self.old) (cached_view S.view self.new)
+            result (λ records count. ObjectRules records.objects → IsChildCount records.objects parent count) }
+        ensures there { (cached_view S.view self.new).is_intact
+            → OnOk result (cached_view S.view self.new).is_available }
+        ensures frame { ShelfRead (cached_view S.view self.old) (cached_view S.view self.new) (fault_in result) }
+    {
+        match self.inner.child_count(parent) {
+            Ok(found) => Ok(found),
+            Err(fault) => {
+                self.known.clear();
+                Err(fault)
+            }
+        }
+    }
+
+    fn entries(&mut self, id: u32) -> Result<Vec<Entry>, ShelfFault>
+        ensures value { Tells (cached_view S.view self.old) (cached_view S.view self.new)
+            result (λ records found. found.items ≡ records.objects.entries id) }
+        ensures there { (cached_view S.view self.new).is_intact
+            → OnOk result (cached_view S.view self.new).is_available }
+        ensures frame { ShelfRead (cached_view S.view self.old) (cached_view S.view self.new) (fault_in result) }
+    {
+        if let Some(list) = self.known.list(id) {
+            let list = list.entries();
+            return Ok(copy_entries(*list.allocator(), list.as_slice())?);
+        }
+        match self.inner.entries(id) {
+            Ok(found) => {
+                if let Ok(list) = copy_entries(*found.allocator(), found.as_slice()) {
+                    self.known.keep_list(id, list);
+                }
+                Ok(found)
+            }
+            Err(fault) => {
+                self.known.clear();
+                Err(fault)
+            }
+        }
+    }
+
+    fn decide_at(
+        &mut self,
+        id: u32,
+        subject: &Subject,
+        standing: &Standing,
+        wanted: Mask,
+    ) -> Result<Decision, ShelfFault>
+        ensures value { Tells (cached_view S.view self.old) (cached_view S.view self.new)
+            result (λ records found. found ≡ decision (records.objects.entries id) subject.now standing.now wanted) }
+        ensures there { (cached_view S.view self.new).is_intact
+            → OnOk result (cached_view S.view self.new).is_available }
+        ensures frame { ShelfRead (cached_view S.view self.old) (cached_view S.view self.new) (fault_in result) }
+    {
+        if let Some(decision) = self.known.decision(id, subject, standing, wanted) {
+            return Ok(decision);
+        }
+        if let Some(list) = self.known.list(id) {
+            return Ok(decide(list.entries().as_slice(), subject, standing, wanted));
+        }
+        match self.inner.decide_at(id, subject, standing, wanted) {
+            Ok(found) => {
+                if let Ok(decided) = Decided::new(subject, standing, wanted, found) {
+                    self.known.keep_decision(id, decided);
+                }
+                Ok(found)
+            }
+            Err(fault) => {
+                self.known.clear();
+                Err(fault)
+            }
+        }
+    }
+
+    fn doc(&mut self, id: u32) -> Result<Vec<u8>, ShelfFault>
+        ensures value { Tells (cached_view S.view self.old) (cached_view S.view self.new)
+            result (λ records found. found.items ≡ unwrap_or (records.objects.document id) []) }
+        ensures there { (cached_view S.view self.new).is_intact
+            → OnOk result (cached_view S.view self.new).is_available }
+        ensures frame { ShelfRead (cached_view S.view self.old) (cached_view S.view self.new) (fault_in result) }
+    {
+        match self.inner.doc(id) {
+            Ok(found) => Ok(found),
+            Err(fault) => {
+                self.known.clear();
+                Err(fault)
+            }
+        }
+    }
+
+    fn session(&mut self, sid: &Sid) -> Result<Option<SessionRow>, ShelfFault>
+        ensures value { Tells (cached_view S.view self.old) (cached_view S.view self.new)
+            result (λ records found. found ≡ records.session sid.now) }
+        ensures there { (cached_view S.view self.new).is_intact
+            → OnOk result (cached_view S.view self.new).is_available }
+        ensures frame { ShelfRead (cached_view S.view self.old) (cached_view S.view self.new) (fault_in result) }
+    {
+        if let Some(row) = self.known.session(sid) {
+            return Ok(Some(row.clone()?));
+        }
+        match self.inner.session(sid) {
+            Ok(found) => {
+                if let Some(row) = &found {
+                    self.known.keep_session(sid, row);
+                }
+                Ok(found)
+            }
+            Err(fault) => {
+                self.known.clear();
+                Err(fault)
+            }
+        }
+    }
+
+    fn slot(&mut self, sid: &Sid, slot: u32) -> Result<Option<Kept>, ShelfFault>
+        ensures value { Tells (cached_view S.view self.old) (cached_view S.view self.new)
+            result (λ records found. found ≡ records.slot sid.now slot) }
+        ensures there { (cached_view S.view self.new).is_intact
+            → OnOk result (cached_view S.view self.new).is_available }
+        ensures frame { ShelfRead (cached_view S.view self.old) (cached_view S.view self.new) (fault_in result) }
+    {
+        match self.inner.slot(sid, slot) {
+            Ok(found) => Ok(found),
+            Err(fault) => {
+                self.known.clear();
+                Err(fault)
+            }
+        }
+    }
+
+    fn next_id(&mut self) -> Result<u32, ShelfFault>
+        ensures value { Tells (cached_view S.view self.old) (cached_view S.view self.new)
+            result (λ records next. next ≡ records.objects.next) }
+        ensures there { (cached_view S.view self.new).is_intact
+            → OnOk result (cached_view S.view self.new).is_available }
+        ensures frame { ShelfRead (cached_view S.view self.old) (cached_view S.view self.new) (fault_in result) }
+    {
+        if let Some(next) = self.known.next() {
+            return Ok(next);
+        }
+        match self.inner.next_id() {
+            Ok(found) => {
+                self.known.keep_next(found);
+                Ok(found)
+            }
+            Err(fault) => {
+                self.known.clear();
+                Err(fault)
+            }
+        }
+    }
+
+    fn commit(&mut self, changes: &[Change]) -> Result<(), ShelfFault>
+        ensures there { (cached_view S.view self.new).is_intact
+            → OnOk result (cached_view S.view self.new).is_available }
+        ensures frame { ShelfCall (cached_view S.view self.old) (cached_view S.view self.new) (fault_in result) }
+        ensures ok { (cached_view S.view self.new).is_intact → (cached_view S.view self.old).is_laid_out
+            → RulesHoldAfterEach changes.now (cached_view S.view self.old).records →
+            OnOk result ((cached_view S.view self.new).records
+            ≡ apply_changes changes.now (cached_view S.view self.old).records) }
+        ensures settled { (cached_view S.view self.new).is_intact → (cached_view S.view self.old).is_laid_out
+            → RulesHoldAfterEach changes.now (cached_view S.view self.old).records →
+            OnOk result ((left : Records) → (cached_view S.view self.new).crash_may_leave left
+            → left ≡ apply_changes changes.now (cached_view S.view self.old).records) }
+        ensures crash { (cached_view S.view self.old).is_laid_out
+            → RulesHoldAfterEach changes.now (cached_view S.view self.old).records →
+            (left : Records) → (cached_view S.view self.new).crash_may_leave left →
+            (cached_view S.view self.old).crash_may_leave left
+            ⊎ (left ≡ apply_changes changes.now (cached_view S.view self.old).records) }
+        ensures untouched { (cached_view S.view self.new).is_intact → (cached_view S.view self.old).is_laid_out →
+            OnOk result (Untouched changes.now (cached_view S.view self.old).records
+            (cached_view S.view self.new).records) }
+    {
+        match self.inner.commit(changes) {
+            Ok(()) => {
+                self.known.forget_touched(changes);
+                Ok(())
+            }
+            Err(fault) => {
+                self.known.clear();
+                Err(fault)
+            }
+        }
+    }
+}

@@ -1,0 +1,250 @@
+//! What is remembered of the rows.
+ghost use Rattle.std.specs.Prelude.{◌≡◌, ℕ, true, false, List, Some, IfSome, IsSome, [], ◌∷◌};
+ghost use Rattle.std.specs.Ordering.{nat_cmp, eq_by_cmp};
+ghost use Rattle.room_acl.specs.Entries.{EntryModel};
+ghost use Rattle.room_acl.specs.Access.{decision};
+ghost use Rattle.room_records.specs.Records.{Records};
+ghost use Rattle.room_records.specs.Changes.{Untouched};
+ghost use Rattle.room_records.specs.Shelf.{IsChildNamed};
+ghost use Rattle.room_cache.specs.Rows.{row_at};
+ghost use Rattle.room_cache.specs.Known.{Fits, IsDecidedBy, IsLeft};
+ghost use Rattle.room_cache.specs.declared.decisions.Decided.{Decided};
+
+use crate::decisions::{Decided, Decisions};
+use crate::list::ShortList;
+use crate::rows::Rows;
+use room_acl::{Decision, Entry, Mask, Standing, Subject};
+use room_records::{Change, FileName, Node, SessionRow, Sid};
+use std::alloc::Global;
+
+/// Rows that are remembered, at most 256 of each kind.
+#[derive(Drop)]
+pub(crate) struct Known {
+    /// No fault came since a call was answered, so that the store is there if it is intact.
+    pub(crate) is_heard: bool,
+    pub(crate) sessions: Rows<Sid, SessionRow>,
+    pub(crate) nodes: Rows<u32, Node>,
+    /// The number of the node that was in this folder under this name. The node tells whether it still is.
+    pub(crate) places: Rows<(u32, FileName), u32>,
+    pub(crate) lists: Rows<u32, ShortList>,
+    /// What the lists of these objects decide.
+    pub(crate) decisions: Rows<u32, Decisions>,
+    /// The number of the next object.
+    pub(crate) next: Option<u32>,
+}
+
+impl Known {
+    pub(crate) fn nothing(alloc: Global) -> Known
+        ensures fits { (r : Records) → Fits r result }
+        ensures heard { result.is_heard ≡ false }
+    {
+        Known {
+            is_heard: false,
+            sessions: Rows::new(alloc),
+            nodes: Rows::new(alloc),
+            places: Rows::new(alloc),
+            lists: Rows::new(alloc),
+            decisions: Rows::new(alloc),
+            next: None,
+        }
+    }
+
+    /// Forgets all.
+    pub(crate) fn clear(&mut self)
+        ensures fits { (r : Records) → Fits r self.new }
+        ensures heard { self.new.is_heard ≡ false }
+    {
+        self.is_heard = false;
+        self.sessions.clear();
+        self.nodes.clear();
+        self.places.clear();
+        self.lists.clear();
+        self.decisions.clear();
+        self.next = None;
+    }
+
+    pub(crate) fn session(&self, sid: &Sid) -> Option<&SessionRow>
+        ensures fits { (r : Records) → Fits r self.now → IfSome result (λ row. r.session sid.now ≡ Some row.now) }
+        ensures heard { IsSome result → self.now.is_heard ≡ true }
+    {
+        if !self.is_heard {
+            return None;
+        }
+        self.sessions.get(sid)
+    }
+
+    pub(crate) fn node(&self, id: u32) -> Option<&Node>
+        ensures fits { (r : Records) → Fits r self.now → IfSome result (λ node. r.objects.node id ≡ Some node.now) }
+        ensures heard { IsSome result → self.now.is_heard ≡ true }
+    {
+        if !self.is_heard {
+            return None;
+        }
+        self.nodes.get(&id)
+    }
+
+    /// The child of this name. That there is none is not remembered.
+    pub(crate) fn child(&self, parent: u32, name: &FileName) -> Option<&Node>
+        ensures fits { (r : Records) → Fits r self.now
+            → IfSome result (λ node. IsChildNamed r.objects parent name.now (Some node.now)) }
+        ensures heard { IsSome result → self.now.is_heard ≡ true }
+    {
+        let Ok(copy) = name.clone() else {
+            return None;
+        };
+        let id = *self.places.get(&(parent, copy))?;
+        let node = self.node(id)?;
+        if node.id == id && is_at(node, parent, name) {
+            Some(node)
+        } else {
+            None
+        }
+    }
+
+    pub(crate) fn list(&self, id: u32) -> Option<&ShortList>
+        ensures fits { (r : Records) → Fits r self.now → IfSome result (λ list. r.objects.entries id ≡ list.now) }
+        ensures heard { IsSome result → self.now.is_heard ≡ true }
+    {
+        if !self.is_heard {
+            return None;
+        }
+        self.lists.get(&id)
+    }
+
+    /// What the list of the object decides.
+    pub(crate) fn decision(
+        &self,
+        id: u32,
+        subject: &Subject,
+        standing: &Standing,
+        wanted: Mask,
+    ) -> Option<Decision>
+        ensures fits { (r : Records) → Fits r self.now → IfSome result
+            (λ found. found ≡ decision (r.objects.entries id) subject.now standing.now wanted) }
+        ensures heard { IsSome result → self.now.is_heard ≡ true }
+    {
+        if !self.is_heard {
+            return None;
+        }
+        match self.decisions.get(&id) {
+            Some(made) => made.find(subject, standing, wanted),
+            None => None,
+        }
+    }
+
+    pub(crate) fn next(&self) -> Option<u32>
+        ensures fits { (r : Records) → Fits r self.now → IfSome result (λ next. r.objects.next ≡ next) }
+        ensures heard { IsSome result → self.now.is_heard ≡ true }
+    {
+        if !self.is_heard {
+            return None;
+        }
+        self.next
+    }
+
+    pub(crate) fn keep_session(&mut self, sid: &Sid, row: &SessionRow)
+        ensures { (r : Records) → r.session sid.now ≡ Some row.now → Fits r self.old → Fits r self.new }
+    {
+        if let (Ok(sid), Ok(row)) = (sid.clone(), row.clone()) {
+            self.sessions.keep(sid, row);
+            self.is_heard = true;
+        }
+    }
+
+    pub(crate) fn keep_node(&mut self, id: u32, node: &Node)
+        ensures { (r : Records) → r.objects.node id ≡ Some node.now → Fits r self.old → Fits r self.new }
+    {
+        if let Ok(node) = node.clone() {
+            self.nodes.keep(id, node);
+            self.is_heard = true;
+        }
+    }
+
+    pub(crate) fn keep_child(&mut self, parent: u32, name: &FileName, node: &Node)
+        ensures { (r : Records) → r.objects.node node.now.id ≡ Some node.now → Fits r self.old → Fits r self.new }
+    {
+        if let Ok(name) = name.clone() {
+            self.places.keep((parent, name), node.id);
+            self.keep_node(node.id, node);
+        }
+    }
+
+    /// A list of more than 64 entries is not remembered.
+    pub(crate) fn keep_list(&mut self, id: u32, list: Vec<Entry>)
+        ensures { (r : Records) → r.objects.entries id ≡ list.items → Fits r self.old → Fits r self.new }
+    {
+        if let Some(list) = ShortList::new(list) {
+            self.lists.keep(id, list);
+            self.is_heard = true;
+        }
+    }
+
+    pub(crate) fn keep_decision(&mut self, id: u32, decided: Decided)
+        ensures { (r : Records) → IsDecidedBy (r.objects.entries id) decided → Fits r self.old → Fits r self.new }
+    {
+        let alloc = *decided.subject.groups.allocator();
+        let mut made = self.decisions.take(&id).unwrap_or(Decisions::new(alloc));
+        made.keep(decided);
+        self.decisions.keep(id, made);
+        self.is_heard = true;
+    }
+
+    pub(crate) fn keep_next(&mut self, next: u32)
+        ensures { (r : Records) → r.objects.next ≡ next → Fits r self.old → Fits r self.new }
+    {
+        self.next = Some(next);
+        self.is_heard = true;
+    }
+
+    /// Forgets the list of an object and what it decides.
+    fn forget_list(&mut self, id: &u32)
+        ensures lists { (k : ℕ) (list : List EntryModel) → row_at nat_cmp self.new.lists k ≡ Some list
+            → (row_at nat_cmp self.old.lists k ≡ Some list) × (eq_by_cmp nat_cmp id.now k ≡ false) }
+        ensures decisions { (k : ℕ) (made : List Decided) → row_at nat_cmp self.new.decisions k ≡ Some made
+            → (row_at nat_cmp self.old.decisions k ≡ Some made) × (eq_by_cmp nat_cmp id.now k ≡ false) }
+        ensures others { self.new ≡ record self.old {
+          lists = self.new.lists;
+          decisions = self.new.decisions;
+        } }
+    {
+        self.lists.forget(id);
+        self.decisions.forget(id);
+    }
+
+    /// Forgets what a change touches.
+    fn forget(&mut self, change: &Change)
+        ensures { IsLeft (change.now ∷ []) self.old self.new }
+    {
+        match change {
+            Change::PutNode(node) => self.nodes.forget(&node.id),
+            Change::DropNode(id) => {
+                self.nodes.forget(id);
+                self.forget_list(id);
+            }
+            Change::PutEntries(id, _) => self.forget_list(id),
+            Change::PutSession(row) => self.sessions.forget(&row.sid),
+            Change::PutNext(_) => self.next = None,
+            Change::PutDoc(_, _) | Change::PutSlot(_) | Change::DropSlots(_) => {}
+        }
+    }
+
+    /// Forgets what the changes touch.
+    pub(crate) fn forget_touched(&mut self, changes: &[Change])
+        ensures left { IsLeft changes.now self.old self.new }
+        ensures fits { (old new : Records) → Untouched changes.now old new → Fits old self.old → Fits new self.new }
+    {
+        for change in changes {
+            self.forget(change);
+        }
+    }
+}
+
+/// Whether a node is in this folder under this name.
+fn is_at(node: &Node, parent: u32, name: &FileName) -> bool
+    ensures { result ≡ true → (node.now.parent ≡ Some parent) × (node.now.name ≡ Some name.now) }
+{
+    match (node.parent, &node.name) {
+        (Some(above), Some(own)) => above == parent && own == name,
+        _ => false,
+    }
+}

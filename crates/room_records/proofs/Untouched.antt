@@ -1,0 +1,63 @@
+-- Rows that changes do not touch.
+use Rattle.std.proofs.Common.{◌≡◌, refl, ap, sym, ◌∙◌, List, [], ◌∷◌}
+use Rattle.room_records.specs.declared.change.Change.{Change}
+use Rattle.room_records.specs.Records.{Records}
+use Rattle.room_records.specs.Changes.{apply_change, apply_changes, Leave, Untouched}
+use Rattle.room_records.specs.Mem.{AreSameChanges}
+
+-- changes that were made leave what they leave
+left_by : {R : Type 0} (read : Records → R) (changes : List Change) (old : Records)
+    → Leave read changes → read (apply_changes changes old) ≡ read old
+left_by read [] old leave = refl
+left_by read (change ∷ changes) old leave =
+    left_by read changes (apply_change change old) leave.1 ∙ leave.0 old
+
+-- where the changes were made, each row that they leave is as it was
+pub untouched_by : (changes : List Change) (old new : Records)
+    → new ≡ apply_changes changes old → Untouched changes old new
+untouched_by changes old new made = record {
+  node = λ id leave. ap (λ (r : Records). r.objects.node id) made ∙ left_by (λ r. r.objects.node id) changes old leave;
+  entries = λ id leave. ap (λ (r : Records). r.objects.entries id) made
+      ∙ left_by (λ r. r.objects.entries id) changes old leave;
+  document = λ id leave. ap (λ (r : Records). r.objects.document id) made
+      ∙ left_by (λ r. r.objects.document id) changes old leave;
+  next = λ leave. ap (λ (r : Records). r.objects.next) made ∙ left_by (λ r. r.objects.next) changes old leave;
+  session = λ sid leave. ap (λ (r : Records). r.session sid) made ∙ left_by (λ r. r.session sid) changes old leave;
+  slot = λ sid slot leave. ap (λ (r : Records). r.slot sid slot) made
+      ∙ left_by (λ r. r.slot sid slot) changes old leave;
+}
+
+pub untouched_itself : (r : Records) → Untouched [] r r
+untouched_itself r = untouched_by [] r r refl
+
+-- one change, and then the others
+pub untouched_in_turn : (change : Change) (changes : List Change) (old mid new : Records)
+    → Untouched (change ∷ []) old mid → Untouched changes mid new → Untouched (change ∷ changes) old new
+untouched_in_turn change changes old mid new first rest = record {
+  node = λ id leave. rest.node id leave.1 ∙ first.node id (leave.0, tt);
+  entries = λ id leave. rest.entries id leave.1 ∙ first.entries id (leave.0, tt);
+  document = λ id leave. rest.document id leave.1 ∙ first.document id (leave.0, tt);
+  next = λ leave. rest.next leave.1 ∙ first.next (leave.0, tt);
+  session = λ sid leave. rest.session sid leave.1 ∙ first.session sid (leave.0, tt);
+  slot = λ sid slot leave. rest.slot sid slot leave.1 ∙ first.slot sid slot (leave.0, tt);
+}
+
+-- changes that do the same leave the same
+same_leave : {R : Type 0} (read : Records → R) (steps changes : List Change)
+    → AreSameChanges steps changes → Leave read changes → Leave read steps
+same_leave read [] [] same leave = tt
+same_leave read [] (y ∷ changes) same leave = absurd same
+same_leave read (x ∷ steps) [] same leave = absurd same
+same_leave read (x ∷ steps) (y ∷ changes) same leave =
+    (λ r. ap read (same.0 r) ∙ leave.0 r, same_leave read steps changes same.1 leave.1)
+
+pub untouched_by_same : (steps changes : List Change) (old new : Records)
+    → AreSameChanges steps changes → Untouched steps old new → Untouched changes old new
+untouched_by_same steps changes old new same stay = record {
+  node = λ id leave. stay.node id (same_leave (λ r. r.objects.node id) steps changes same leave);
+  entries = λ id leave. stay.entries id (same_leave (λ r. r.objects.entries id) steps changes same leave);
+  document = λ id leave. stay.document id (same_leave (λ r. r.objects.document id) steps changes same leave);
+  next = λ leave. stay.next (same_leave (λ r. r.objects.next) steps changes same leave);
+  session = λ sid leave. stay.session sid (same_leave (λ r. r.session sid) steps changes same leave);
+  slot = λ sid slot leave. stay.slot sid slot (same_leave (λ r. r.slot sid slot) steps changes same leave);
+}

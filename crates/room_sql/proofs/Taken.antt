@@ -1,0 +1,112 @@
+-- A room of version 1 that is upgraded, by the rows that were read before.
+use Rattle.std.proofs.Common.{◌≡◌, ◌∙◌, ℕ, List, [], ◌∷◌, option_map, unwrap_or, refl, sym, ap, subst, IsPermutation}
+use Rattle.std.proofs.Common.{true, false, true≢false, IsTrue, Result}
+use Rattle.sqlite_value.specs.Order.{Row, column}
+use Rattle.sqlite_trees.specs.Tree.{Trees}
+use Rattle.sqlite_schema.specs.Names.{same_name}
+use Rattle.sqlite.specs.Table.{Table}
+use Rattle.sqlite.specs.Effect.{Database}
+use Rattle.sqlite_schema.specs.declared.schema.Index.{Index}
+use Rattle.sqlite.specs.State.{State, Shown}
+use Rattle.sqlite.specs.declared.error.Error.{Error}
+use Rattle.room_tables.specs.Tables.{Layout, Fresh, Upgraded, with_last, room_schema, first_schema, last_tables}
+use Rattle.room_tables.specs.Tables.{last_indexes, slot_table, slot_index, has_room, has_first_room}
+use Rattle.room_tables.specs.Texts.{find_version_text}
+use Rattle.room_tables.specs.Rows.{only, number_in, next_rows, IsVersion, records_of}
+use Rattle.room_tables.specs.Layout.{IsRoomOfVersion1}
+use Rattle.room_tables.specs.Versions.{TellsVersion, SaysVersion}
+use Rattle.room_tables.specs.Upgrade.{IsUpgraded, MayBeUpgraded, MayBeMovedWith}
+use Rattle.room_tables.proofs.Selects.{find_version_selects}
+use Rattle.room_tables.proofs.Asks.{told_version, told_another}
+use Rattle.room_tables.proofs.Queries.{only_permuted, shown_still}
+use Rattle.room_sql.specs.Frames.{QueryFrame}
+use Rattle.room_sql.specs.Taken.{SaysFirst, IsLeft, HasItsVersion, HasAnotherVersion}
+
+-- the number that was read is the one that is next
+pub next_is : (a b : Database) (rows : List Row) (next : ℕ) → b ≡ a
+    → ((more : List Table) (others : List Index) → a.schema ≡ with_last more others
+    → IsPermutation (next_rows a.trees) rows)
+    → next ≡ unwrap_or (option_map (λ row. number_in (column row 0)) (only rows)) 0 → IsRoomOfVersion1 a
+    → (records_of b.trees).objects.next ≡ next
+next_is a b rows next now read is room =
+    ap (λ (d : Database). (records_of d.trees).objects.next) now
+    ∙ sym (is ∙ ap (λ o. unwrap_or (option_map (λ row. number_in (column row 0)) o) 0)
+    (only_permuted _ _ (read (slot_table ∷ []) (slot_index ∷ []) room.schema)))
+
+-- what a commit may leave, as seen before the rows were read
+pub may_be : (a b : Database) (next : ℕ) (db : Trees) → b ≡ a
+    → (IsRoomOfVersion1 a → (records_of b.trees).objects.next ≡ next) → MayBeMovedWith next b db → MayBeUpgraded a db
+may_be a b next db now is may room =
+    subst (λ (d : Database). MayBeUpgraded d db) now (may (is room)) room
+
+pub upgraded_from : (a b d : Database) (next : ℕ) → b ≡ a
+    → (IsRoomOfVersion1 a → (records_of b.trees).objects.next ≡ next)
+    → (IsRoomOfVersion1 b → (records_of b.trees).objects.next ≡ next → IsUpgraded b d)
+    → IsRoomOfVersion1 a → IsUpgraded a d
+upgraded_from a b d next now is done room =
+    subst (λ (x : Database). IsUpgraded x d) now (done (subst IsRoomOfVersion1 (sym now) room) (is room))
+
+-- what was told is what the database says of itself
+pub says : (old new : State) (rows : List Row) (P : List Row → Type 0)
+    → Shown find_version_text [] old new rows → P rows → SaysVersion old P
+says old new rows P shown p = (rows, shown_still find_version_text [] old new rows find_version_selects shown, p)
+
+-- ---- the version and the tables
+
+has_of : (l : Layout) → has_room (room_schema l) ≡ true
+unfolding same_name
+has_of Fresh = refl
+has_of Upgraded = refl
+
+no_kept : has_room first_schema ≡ false
+unfolding same_name
+no_kept = refl
+
+has_slot : has_first_room first_schema ≡ true
+unfolding same_name
+has_slot = refl
+
+not_both : (s : State) (l : Layout) → has_room s.now.schema ≡ false → s.now.schema ≡ room_schema l → ⊥
+not_both s l none is = true≢false (sym (has_of l) ∙ sym (ap has_room is) ∙ none)
+
+not_first : (s : State) → IsTrue (has_room s.now.schema) → s.now.schema ≡ first_schema → ⊥
+not_first s has is = true≢false (sym has ∙ ap has_room is ∙ no_kept)
+
+pub second_version : (old new : State) → IsTrue (has_room old.now.schema) → TellsVersion old new (IsVersion 2)
+    → HasItsVersion old
+second_version old new has told = record {
+  second = λ l is. told_version (last_tables l) (last_indexes l) old new 2 is told;
+  first = λ is. absurd (not_first old has is);
+}
+
+pub first_version : (s : State) → SaysFirst s → HasItsVersion s
+first_version s says = record {
+  second = λ l is. absurd (not_both s l says.no_second is);
+  first = λ is. told_version (slot_table ∷ []) (slot_index ∷ []) s s 1 is says.version;
+}
+
+pub no_second_version : (old new : State) → IsTrue (has_room old.now.schema)
+    → TellsVersion old new (λ rows. ¬ IsVersion 2 rows) → HasAnotherVersion old
+no_second_version old new has told = record {
+  second = λ l is. told_another (last_tables l) (last_indexes l) old new 2 is told;
+  first = λ is. absurd (not_first old has is);
+}
+
+pub no_first_version : (old new : State) → has_room old.now.schema ≡ false
+    → TellsVersion old new (λ rows. ¬ IsVersion 1 rows) → HasAnotherVersion old
+no_first_version old new none told = record {
+  second = λ l is. absurd (not_both old l none is);
+  first = λ is. told_another (slot_table ∷ []) (slot_index ∷ []) old new 1 is told;
+}
+
+pub no_version : (s : State) → has_room s.now.schema ≡ false → has_first_room s.now.schema ≡ false → HasAnotherVersion s
+no_version s none empty = record {
+  second = λ l is. absurd (not_both s l none is);
+  first = λ is. absurd (true≢false (sym has_slot ∙ sym (ap has_first_room is) ∙ empty));
+}
+
+-- a query leaves all as it was
+pub left_by : {T : Type 0} (old new : State) (result : Result T Error) → QueryFrame old new result
+    → old.now ≡ old.committed → IsLeft old new
+left_by old new result frame settled =
+    record { same = λ clean is. frame.same clean is settled; crash = frame.crash }

@@ -1,0 +1,20 @@
+use Rattle.sqlite.specs.Held.{state}
+use Rattle.room_tables.proofs.Changes.{executes_inside}
+use Rattle.room_tables.proofs.Creates.{kept_step}
+use Rattle.room_tables.proofs.Moves.{widens}
+use Rattle.room_sql.proofs.Turns.{ok_then}
+use Rattle.room_sql.proofs.tables.make_kept.Goals as goal
+
+pub returns-clause-ok : goal.returns-clause-ok
+returns-clause-ok g c clean =
+    ok_then c.run.result _ _ (c.run.ensures.done clean) (λ ran.
+    kept_step (state g.S.Store c.args.tx.now.conn.now) (state g.S.Store c.run.new.tx.conn.now) ran.0 ran.1)
+
+pub returns-clause-beside : goal.returns-clause-beside
+returns-clause-beside g c clean =
+    let old = state g.S.Store c.args.tx.now.conn.now in
+    let new = state g.S.Store c.run.new.tx.conn.now in
+    ok_then c.run.result _ _ (c.run.ensures.done clean) (λ ran. (
+      (executes_inside _ _ old new ran.0 ran.1).1.was_open,
+      widens old new ran.0 ran.1,
+    ))

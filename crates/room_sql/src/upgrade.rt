@@ -1,0 +1,169 @@
+//! A room of version 1 becomes one of version 2.
+
+ghost use Rattle.std.specs.Prelude.{◌≡◌, [], ◌∷◌, OnOk, OnErr, IfOk, IfErr, true, false, IsTrue, MatchBool};
+ghost use Rattle.sqlite_value.specs.declared.value.Value.TheVariants.{Int};
+ghost use Rattle.sqlite.specs.Effect.{Database, IsDatabase};
+ghost use Rattle.sqlite.specs.State.{HasCleanDisk, Survives};
+ghost use Rattle.sqlite.specs.Held.{state};
+ghost use Rattle.room_records.specs.declared.change.Change.TheVariants.{PutNext};
+ghost use Rattle.room_tables.specs.Rows.{records_of};
+ghost use Rattle.room_tables.specs.Layout.{IsRoomOfVersion1};
+ghost use Rattle.room_tables.specs.Upgrade.{others_than, IsShared, IsMoving, IsMovedOut, CopiesRow, IsMoved};
+ghost use Rattle.room_tables.specs.Upgrade.{IsUpgraded, MayBeUpgraded, MayBeMovedWith};
+ghost use Rattle.room_tables.specs.Texts.{copy_row_text, take_row_text};
+ghost use Rattle.room_sql.specs.Causes.{statement, writes_of, RunInTurn, make_writes, MovesRow, MovesInTurn};
+ghost use Rattle.room_sql.specs.Causes.{UpgradeFails, CannotUpgrade};
+ghost use Rattle.room_sql.specs.Frames.{InsideFrame, CommitFrame};
+
+use crate::reads::next_rows;
+use crate::rows::one_number;
+use crate::tables::make_kept;
+use crate::writes::{put_next, run};
+use sqlite::{Alter, Connection, Error, ErrorCode, Transaction, params};
+
+/// Copies one row of `slot`, with its reply and its rowid, if there is one.
+fn copy_row<S: Alter>(tx: &mut Transaction<'_, S>) -> Result<(), Error>
+    ensures frame { InsideFrame S.Store tx.old tx.new result }
+    ensures ok { HasCleanDisk (state S.Store tx.new.conn.now)
+        → OnOk result ((before : Database) → IsMoving before (state S.Store tx.old.conn.now).now →
+        CopiesRow before (state S.Store tx.new.conn.now)) }
+    ensures ran { HasCleanDisk (state S.Store tx.new.conn.now) → tx.old.conn.now.in_transaction ≡ true
+        → RunInTurn S.Store (statement copy_row_text [] ∷ []) tx.old.conn.now tx.new.conn.now result }
+{
+    run(
+        tx,
+        "INSERT INTO kept (rowid, sid, slot, seq, request, reply) SELECT rowid, sid, slot, seq, request, reply \
+         FROM slot LIMIT 1",
+        &[],
+    )
+}
+
+/// Takes the row with this rowid out of `slot`.
+fn take_row<S: Alter>(tx: &mut Transaction<'_, S>, id: i64) -> Result<(), Error>
+    ensures frame { InsideFrame S.Store tx.old tx.new result }
+    ensures ok { HasCleanDisk (state S.Store tx.new.conn.now)
+        → OnOk result ((before : Database) → IsShared before (state S.Store tx.old.conn.now).now
+        (others_than id ((state S.Store tx.old.conn.now).now.trees 8)) →
+        IsMoving before (state S.Store tx.new.conn.now).now) }
+    ensures ran { HasCleanDisk (state S.Store tx.new.conn.now) → tx.old.conn.now.in_transaction ≡ true
+        → RunInTurn S.Store (statement take_row_text (Int id ∷ []) ∷ []) tx.old.conn.now tx.new.conn.now result }
+{
+    run(tx, "DELETE FROM slot WHERE rowid = ?1", params![id])
+}
+
+/// Moves one row from `slot` to `kept`, and answers whether there was one. It is a fault where not just this row was
+/// taken away, as it may be in a table of another form, with a column by the name `rowid`.
+fn move_row<S: Alter>(tx: &mut Transaction<'_, S>) -> Result<bool, Error>
+    ensures frame { InsideFrame S.Store tx.old tx.new result }
+    ensures ok { HasCleanDisk (state S.Store tx.new.conn.now)
+        → IfOk result (λ more. (before : Database) → IsMoving before (state S.Store tx.old.conn.now).now →
+        MatchBool more (IsMoving before (state S.Store tx.new.conn.now).now)
+        (IsMovedOut before (state S.Store tx.new.conn.now).now)) }
+    ensures ran { HasCleanDisk (state S.Store tx.new.conn.now) → tx.old.conn.now.in_transaction ≡ true
+        → MovesRow S.Store tx.old.conn.now tx.new.conn.now result }
+{
+    copy_row(tx)?;
+    if tx.changes() == 0 {
+        return Ok(false);
+    }
+    let id = tx.last_insert_rowid();
+    take_row(tx, id)?;
+    if tx.changes() != 1 {
+        return Err(Error::SqliteFailure(ErrorCode::NotADatabase));
+    }
+    Ok(true)
+}
+
+/// Moves row after row until none is left, so that never more than one of them is in memory. Each pass takes one away,
+/// and the bound is more than a file holds.
+fn move_rows<S: Alter>(tx: &mut Transaction<'_, S>) -> Result<(), Error>
+    requires { HasCleanDisk (state S.Store tx.old.conn.now) → tx.old.conn.now.in_transaction ≡ true }
+    ensures frame { InsideFrame S.Store tx.old tx.new result }
+    ensures ok { HasCleanDisk (state S.Store tx.new.conn.now)
+        → OnOk result ((before : Database) → IsMoving before (state S.Store tx.old.conn.now).now →
+        IsMovedOut before (state S.Store tx.new.conn.now).now) }
+    ensures ran { HasCleanDisk (state S.Store tx.new.conn.now) → tx.old.conn.now.in_transaction ≡ true
+        → MovesInTurn S.Store [] [] tx.old.conn.now tx.new.conn.now result }
+{
+    'rows: for _ in 0..u64::MAX {
+        if !move_row(tx)? {
+            return Ok(());
+        }
+    }
+    Err(Error::SqliteFailure(ErrorCode::TooBig))
+}
+
+/// Moves what slots keep from the one table to the other. The table `slot` stays, and is not read again.
+fn move_slots<S: Alter>(tx: &mut Transaction<'_, S>) -> Result<(), Error>
+    ensures frame { InsideFrame S.Store tx.old tx.new result }
+    ensures ok { HasCleanDisk (state S.Store tx.new.conn.now)
+        → OnOk result (IsTrue (state S.Store tx.old.conn.now).is_open
+        × (IsRoomOfVersion1 (state S.Store tx.old.conn.now).now → IsDatabase (state S.Store tx.old.conn.now).now →
+        IsMoved (state S.Store tx.old.conn.now).now (state S.Store tx.new.conn.now).now)) }
+    ensures ran { HasCleanDisk (state S.Store tx.new.conn.now) → tx.old.conn.now.in_transaction ≡ true
+        → MovesInTurn S.Store make_writes [] tx.old.conn.now tx.new.conn.now result }
+{
+    make_kept(tx)?;
+    move_rows(tx)
+}
+
+/// Moves the slots, and sets the version beside the next number that is there.
+fn move_room<S: Alter>(tx: &mut Transaction<'_, S>, next: u32) -> Result<(), Error>
+    ensures frame { InsideFrame S.Store tx.old tx.new result }
+    ensures ok { HasCleanDisk (state S.Store tx.new.conn.now)
+        → OnOk result (IsTrue (state S.Store tx.old.conn.now).is_open
+        × (IsRoomOfVersion1 (state S.Store tx.old.conn.now).now → IsDatabase (state S.Store tx.old.conn.now).now →
+        (records_of (state S.Store tx.old.conn.now).now.trees).objects.next ≡ next →
+        IsUpgraded (state S.Store tx.old.conn.now).now (state S.Store tx.new.conn.now).now)) }
+    ensures ran { HasCleanDisk (state S.Store tx.new.conn.now) → tx.old.conn.now.in_transaction ≡ true →
+        MovesInTurn S.Store make_writes (writes_of (PutNext next)) tx.old.conn.now tx.new.conn.now result }
+{
+    move_slots(tx)?;
+    put_next(tx, next)
+}
+
+/// The same in one transaction: all of it or nothing, also over a crash.
+fn commit_move<S: Alter>(conn: &mut Connection<S>, next: u32) -> Result<(), Error>
+    requires { conn.old.in_transaction ≡ false }
+    ensures mode { conn.new.in_transaction ≡ false }
+    ensures settled { HasCleanDisk (state S.Store conn.new)
+        → OnOk result ((state S.Store conn.new).committed ≡ (state S.Store conn.new).now) }
+    ensures was_open { HasCleanDisk (state S.Store conn.new)
+        → IsTrue (state S.Store conn.new).is_open → IsTrue (state S.Store conn.old).is_open }
+    ensures crash { Survives (state S.Store conn.old) (state S.Store conn.new)
+        (MayBeMovedWith next (state S.Store conn.old).now) }
+    ensures ok { HasCleanDisk (state S.Store conn.new)
+        → OnOk result (IsTrue (state S.Store conn.new).is_open × (IsRoomOfVersion1 (state S.Store conn.old).now →
+        (records_of (state S.Store conn.old).now.trees).objects.next ≡ next →
+        IsUpgraded (state S.Store conn.old).now (state S.Store conn.new).now)) }
+    ensures err { HasCleanDisk (state S.Store conn.new) → IsTrue (state S.Store conn.new).is_open
+        → OnErr result ((state S.Store conn.new).now ≡ (state S.Store conn.old).committed) }
+    ensures failed { HasCleanDisk (state S.Store conn.new)
+        → IfErr result (UpgradeFails S.Store next conn.old conn.new) }
+{
+    // The database is sound.
+    let _live = conn.schema();
+    let mut tx = conn.transaction();
+    move_room(&mut tx, next)?;
+    tx.commit()
+}
+
+/// Makes a room of version 2 of one of version 1, with the same records, or nothing.
+pub(crate) fn upgrade<S: Alter>(conn: &mut Connection<S>) -> Result<(), Error>
+    requires { conn.old.in_transaction ≡ false }
+    ensures frame { CommitFrame S.Store MayBeUpgraded conn.old conn.new result }
+    ensures ok { HasCleanDisk (state S.Store conn.new)
+        → OnOk result (IsTrue (state S.Store conn.new).is_open × (IsRoomOfVersion1 (state S.Store conn.old).now →
+        IsUpgraded (state S.Store conn.old).now (state S.Store conn.new).now)) }
+    ensures err { HasCleanDisk (state S.Store conn.new) → IsTrue (state S.Store conn.new).is_open
+        → (state S.Store conn.old).now ≡ (state S.Store conn.old).committed
+        → OnErr result ((state S.Store conn.new).now ≡ (state S.Store conn.old).now) }
+    ensures failed { HasCleanDisk (state S.Store conn.new)
+        → IfErr result (CannotUpgrade S.Store conn.old conn.new) }
+{
+    let rows = next_rows(conn)?;
+    let next = one_number(rows.as_slice())?;
+    // Outside a transaction what is seen is what was committed.
+    let _outside = conn.is_autocommit();
+    commit_move(conn, next)
+}

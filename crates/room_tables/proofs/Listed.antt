@@ -1,0 +1,64 @@
+-- The list of objects names the trees as the schema does.
+use Rattle.std.proofs.Common.{◌≡◌, ℕ, ◌+◌, ◌-◌, Bool, true, false, cond, List, [], ◌∷◌, Option, Some, option_map, codes}
+use Rattle.std.proofs.Common.{unwrap_or, refl, ap, ap₂, ◌∙◌, arith, is_eq}
+use Rattle.std.specs.List.{find, AllZip}
+use Rattle.std.specs.Option.{option_or}
+use Rattle.sqlite_value.specs.declared.value.Value.TheVariants.{Text}
+use Rattle.sqlite_value.specs.Order.{Row, value_cmp}
+use Rattle.sqlite_catalog.specs.Listing.{IsTableRow}
+use Rattle.sqlite.specs.Table.{Table}
+use Rattle.sqlite.specs.Schema.{Schema}
+use Rattle.sqlite.specs.Effect.{Database, IsDatabase}
+use lib.Ieee.{is_nan, lt}
+use Rattle.room_tables.specs.Tables.{Layout, Fresh, Upgraded, room_schema, first_schema, slots_tree}
+use Rattle.room_tables.specs.Rows.{number_in, is_named, tree_of, tree_named, slots_of}
+
+-- the tree of the table of this name
+abbrev tree_in : List Table → List ℕ → Option ℕ
+tree_in tables name = option_map (λ (t : Table). t.tree)
+    (find (λ (t : Table). is_eq (value_cmp (Text t.name) (Text name))) tables)
+
+one_less : (n : ℕ) → (n + 1) - 1 ≡ n
+one_less n = omega arith
+
+listed_as : (rows : List Row) (tables : List Table) (name : List ℕ) → AllZip IsTableRow rows tables
+    → option_map tree_of (find (is_named name) rows) ≡ tree_in tables name
+listed_as [] [] name h = refl
+listed_as [] (t ∷ tables) name h = absurd h
+listed_as (r ∷ rows) [] name h = absurd h
+listed_as (r ∷ rows) (t ∷ tables) name h =
+    let named : is_named name r ≡ is_eq (value_cmp (Text t.name) (Text name)) =
+    ap (λ v. is_eq (value_cmp v (Text name))) h.0.described.name_is in
+    let tree : tree_of r ≡ t.tree = ap (λ v. number_in v - 1) h.0.described.id ∙ one_less t.tree in
+    rw named (by_test (is_eq (value_cmp (Text t.name) (Text name))) r t (find (is_named name) rows)
+    (find (λ (u : Table). is_eq (value_cmp (Text u.name) (Text name))) tables) tree (listed_as rows tables name h.1))
+  where
+    by_test : (b : Bool) (r : Row) (t : Table) (x : Option Row) (y : Option Table) → tree_of r ≡ t.tree
+        → option_map tree_of x ≡ option_map (λ (u : Table). u.tree) y
+        → option_map tree_of (cond b (Some r) x) ≡ option_map (λ (u : Table). u.tree) (cond b (Some t) y)
+    by_test true r t x y tree more = ap Some tree
+    by_test false r t x y tree more = more
+
+-- so it is in any sound database
+pub named_as : (db : Database) (name : List ℕ) → IsDatabase db
+    → tree_named db.trees name ≡ tree_in db.schema.tables name
+named_as db name sound = listed_as _ db.schema.tables name sound.lists.listed.tables
+
+slots_as : (db : Database) (schema : Schema) → IsDatabase db → db.schema ≡ schema
+    → slots_of db.trees ≡ unwrap_or (option_map db.trees
+    (option_or (tree_in schema.tables (codes "kept")) (tree_in schema.tables (codes "slot")))) []
+slots_as db schema sound is = ap₂ (λ a b. unwrap_or (option_map db.trees (option_or a b)) [])
+    (named_as db _ sound ∙ ap (λ (s : Schema). tree_in s.tables (codes "kept")) is)
+    (named_as db _ sound ∙ ap (λ (s : Schema). tree_in s.tables (codes "slot")) is)
+
+-- what slots keep is in the table of the layout
+pub slots_listed : (db : Database) (l : Layout) → IsDatabase db → db.schema ≡ room_schema l
+    → slots_of db.trees ≡ db.trees (slots_tree l)
+unfolding value_cmp is_nan lt
+slots_listed db Fresh sound is = slots_as db _ sound is
+slots_listed db Upgraded sound is = slots_as db _ sound is
+
+-- and in version 1 in its own
+pub slot_listed : (db : Database) → IsDatabase db → db.schema ≡ first_schema → slots_of db.trees ≡ db.trees 8
+unfolding value_cmp is_nan lt
+slot_listed db sound is = slots_as db _ sound is
