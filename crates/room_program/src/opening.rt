@@ -28,7 +28,10 @@ pub(crate) fn open<S: Alter + Drop, M: Machine<Connection<S>>>(
 }
 
 /// The shelf over a store that was opened, which remembers rows.
-fn adopt<S: Alter + Drop>(alloc: Global, connection: Connection<S>) -> Result<CachedShelf<SqlShelf<S>>, Fault>
+fn adopt<S: Alter + Drop>(
+    alloc: Global,
+    connection: Connection<S>,
+) -> Result<CachedShelf<SqlShelf<S>>, Fault>
     requires { connection.in_transaction ≡ false }
     ensures { Adopts (λ opened shelf. Adopted S.Store opened shelf) connection result }
 {

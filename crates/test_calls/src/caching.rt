@@ -261,7 +261,8 @@ fn a_decision_is_not_asked_again(rt: HostRuntime) -> Result<(), Fail> {
         asker_as(alloc, "ann", "bob", 1)?,
         asker_as(alloc, "bob", "bob", 1)?,
         asker_as(alloc, "ann", "bob", 2)?,
-        asker_as(alloc, "ann", "ann", 1)?]?;
+        asker_as(alloc, "ann", "ann", 1)?,
+    ]?;
     let entries = vec![in alloc; handed_down(1, Who::Owner)?]?;
     let changes = vec![in alloc; Change::PutEntries(1, entries)]?;
     let mut shelf = CachedShelf::new(alloc, TripShelf::new(in_memory(alloc)?, 10));
