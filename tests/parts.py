@@ -95,12 +95,17 @@ def send(pid, number):
 
 
 class Part:
-    """A command with a name. `says` is all that it has to say; `watch` gets each line, and looks at its processes."""
+    """A command with a name. `says` is all that it has to say; `watch` gets each line, and looks at its processes.
+
+    `due` tells whether it may begin: True, False while that may still come, and None once it cannot. `more` gives words
+    that are known as it begins. `at_end` is called once it has been counted."""
 
     def __init__(self, name, words, limit, env=None, says=None, watch=None, own_folder=True):
         self.name, self.words, self.limit, self.env, self.says = name, words, limit, env or {}, says
         self.watch, self.own_folder = watch, own_folder
+        self.due, self.more, self.at_end = lambda: True, list, lambda: None
         self.child = self.folder = None
+        self.is_ended = False
         self.lines, self.why, self.rest, self.is_open = [], [], b"", False
         self.skipped = ""
         self.passed = self.failed = 0
@@ -114,7 +119,7 @@ class Part:
         how = {"stdin": subprocess.DEVNULL, "stdout": subprocess.PIPE, "stderr": subprocess.STDOUT}
         how |= {"start_new_session": True, "preexec_fn": lambda: end_with_parent(signal.SIGTERM)}
         try:
-            self.child = subprocess.Popen(self.words, env=env, **how)
+            self.child = subprocess.Popen([*self.words, *self.more()], env=env, **how)
             self.is_open = True
         except OSError as error:
             self.why.append(f"it did not start: {error}")
@@ -185,6 +190,14 @@ class Part:
             self.failed = 1
         for why in self.why:
             self.log.line(f"FAILED: {self.name}: {why}")
+        self.is_ended = True
+        self.at_end()
+
+    def fail(self, why):
+        """Counts one more fault of it, once it is over."""
+        self.why.append(why)
+        self.failed += 1
+        self.log.line(f"FAILED: {self.name}: {why}")
 
     def count(self):
         lines = [it for it in self.lines if it.strip()]
@@ -218,13 +231,17 @@ class Part:
 
 
 def play(lanes, log):
-    """Runs the parts of each lane in turn, and the lanes beside each other. However it ends, no part goes on."""
+    """Runs the parts of each lane in turn, and the lanes beside each other. A part that is not due holds its lane, and
+    ends it where it cannot be due any more. However this ends, no part goes on."""
     left, now = [list(lane) for lane in lanes], [None for _ in lanes]
     try:
         while any(now) or any(left):
             for at, part in enumerate(now):
-                if part is None and left[at]:
+                is_due = part is None and left[at] and left[at][0].due()
+                if is_due:
                     now[at] = left[at].pop(0).start(log)
+                elif is_due is None:
+                    left[at] = []
             pipes = {it.child.stdout: it for it in now if it and it.is_open}
             for pipe in select.select([*pipes], [], [], 1)[0]:
                 pipes[pipe].read()
