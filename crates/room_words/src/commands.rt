@@ -9,7 +9,7 @@ use clap::{Arg, Command};
 use std::alloc::{AllocError, Global};
 
 /// What `--version` tells; docs/CHANGES.md says what each version changed.
-const VERSION: &str = "0.2.0";
+const VERSION: &str = "0.3.0";
 
 const AFTER_HELP: &str = "A value that begins with - is written behind --.
 
