@@ -1,7 +1,7 @@
 //! What a request is to a slot, by what the slot keeps.
 ghost use Rattle.std.specs.Prelude.{◌≡◌, IfOk};
 ghost use Rattle.std.specs.Option.{option_copied};
-ghost use Rattle.room_slots.specs.Slots.{verdict};
+ghost use Rattle.room_slots.specs.Slots.{is_next, verdict};
 
 use std::alloc::AllocError;
 use std::marker::Model;
@@ -64,6 +64,20 @@ pub enum Verdict {
     FalseRetry,
     /// It has another number than the last and the next (SEQ_MISORDERED).
     Misordered,
+}
+
+/// Whether a request with this number is new to a slot whose last request had that one: no other number is, and no
+/// kept byte need be read to tell.
+///
+/// The next number is the last one plus 1 modulo 2^32, as in RFC 8881, sections 2.10.6 and 18.46; in a slot that keeps
+/// nothing 1 alone is new, our own rule. Takes no memory.
+pub fn is_next(last: Option<u32>, seq: u32) -> bool
+    ensures { result ≡ is_next last seq }
+{
+    match last {
+        None => seq == 1,
+        Some(last) => seq == last.wrapping_add(1),
+    }
 }
 
 /// What a request with this number is to a slot that keeps this.
