@@ -93,7 +93,8 @@ pub record Untouched (changes : List Change) (old new : Records) : Type 0 where
   pub next : Leave (λ r. r.objects.next) changes → new.objects.next ≡ old.objects.next
   pub session : (sid : List ℕ) → Leave (λ r. r.session sid) changes → new.session sid ≡ old.session sid
   pub slot : (sid : List ℕ) (slot : ℕ) → Leave (λ r. r.slot sid slot) changes → new.slot sid slot ≡ old.slot sid slot
-  pub kept : (sid : List ℕ) (slot : ℕ) → slot < max_slots → new.slot sid slot ≡ (apply_changes changes old).slot sid slot
+  pub kept : (sid : List ℕ) (slot : ℕ) → slot < max_slots
+      → new.slot sid slot ≡ (apply_changes changes old).slot sid slot
 
 -- a change of no session and no slot row
 abbrev pub IsOfObjects : Change → Type 0

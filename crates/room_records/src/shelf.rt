@@ -138,7 +138,8 @@ pub trait Shelf {
         ensures there { (view self.new).is_intact → OnOk result (view self.new).is_available }
         ensures frame { ShelfRead (view self.old) (view self.new) (fault_in result) };
 
-    /// All the changes in order, or none of them. A row that they do not touch stays, whatever rules the records keep.
+    /// All the changes in order, or none of them. Whatever rules the records keep, a row that they do not touch stays,
+    /// and each of the first 16 slots keeps what they leave in it.
     fn commit(&mut self, changes: &[Change]) -> Result<(), ShelfFault>
         ensures there { (view self.new).is_intact → OnOk result (view self.new).is_available }
         ensures frame { ShelfCall (view self.old) (view self.new) (fault_in result) }

@@ -47,10 +47,12 @@ returns-clause-untouched c = record {
   kept = λ sid slot small. elim (low_or_high c.args.row.slot max_slots) [
     | inl low ↦ c.put_slot.ensures.slots low sid slot
     | inr high ↦
-        let was = kept_in c.args.self.now.sessions.kept.slots sid slot in
-        let other : slot ≢ c.args.row.slot = λ same. omega (arith, same, small, high) in
+        let row = c.args.row in
+        let other : slot ≢ row.slot = λ same. omega (arith, same, small, high) in
+        let no : (slot == row.slot) ≡ false =
+        false_from_ne_true (slot == row.slot) (λ e. other (eqb-true slot row.slot e)) in
         ap (λ kept. kept_in kept sid slot) (c.put_slot.ensures.high high)
-        ∙ sym (neither (bytes_eq sid c.args.row.sid) (slot == c.args.row.slot)
-        (Some c.args.row.kept) was (false_from_ne_true (slot == c.args.row.slot) (λ e. other (eqb-true slot c.args.row.slot e))))
+        ∙ sym (neither (bytes_eq sid row.sid) (slot == row.slot) (Some row.kept)
+        (kept_in c.args.self.now.sessions.kept.slots sid slot) no)
   ];
 }
