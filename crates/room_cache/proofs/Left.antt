@@ -1,9 +1,10 @@
 -- What changes leave is still right.
-use Rattle.std.proofs.Common.{◌≡◌, ℕ, refl, ◌∙◌, sym, subst, List, [], ◌∷◌, Option, None, Some, IfSome}
+use Rattle.std.proofs.Common.{◌≡◌, ℕ, refl, ap, ◌∙◌, sym, subst, List, [], ◌∷◌, Option, None, Some, IfSome}
 use Rattle.room_acl.specs.Entries.{EntryModel}
+use Rattle.room_slots.specs.Slots.{kept_seq}
 use Rattle.room_records.specs.declared.change.Change.{Change}
 use Rattle.room_records.specs.Records.{Records}
-use Rattle.room_records.specs.Changes.{Leave, Untouched}
+use Rattle.room_records.specs.Changes.{Leave, Untouched, apply_change}
 use Rattle.room_cache.specs.declared.known.Known.{Known}
 use Rattle.room_cache.specs.Known.{Fits, IsDecidedBy, IsLeft}
 
@@ -20,6 +21,7 @@ left_itself known = record {
   nodes = λ id node held. (held, tt);
   lists = λ id list held. (held, tt);
   decisions = λ id made held. (held, tt);
+  seqs = λ r are. are;
   next = for_some _ known.next (λ next held. (held, tt));
 }
 
@@ -39,6 +41,7 @@ left_in_turn change changes old mid new first rest = record {
   decisions = λ id made held.
       let later = rest.decisions id made held in
       let sooner = first.decisions id made later.0 in (sooner.0, (sooner.1.0, later.1));
+  seqs = λ r are. rest.seqs (apply_change change r) (first.seqs r are);
   next = for_some _ new.next (λ next held.
       let later = at_some (λ (n : ℕ). (mid.next ≡ Some n) × Leave (λ r. r.objects.next) changes)
       new.next next held rest.next in
@@ -58,6 +61,9 @@ left_fits changes known left old new is stay fits = record {
       let was = is.decisions id made held in
       let P : List EntryModel → Type 0 = λ entries. IsDecidedBy entries d in
       subst P (sym (stay.entries id was.1)) (fits.decisions id made was.0 d in_made);
+  seqs = λ sid slot seq held.
+      let is_now = is.seqs old fits.seqs sid slot seq held in
+      (is_now.0, ap kept_seq (stay.kept sid slot is_now.0) ∙ is_now.1);
   next = for_some _ left.next (λ next held.
       let was = at_some (λ (n : ℕ). (known.next ≡ Some n) × Leave (λ r. r.objects.next) changes)
       left.next next held is.next in

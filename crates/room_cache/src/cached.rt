@@ -5,7 +5,7 @@ ghost use Rattle.room_cache.specs.Known.{Fits};
 
 use crate::decisions::Decided;
 use crate::known::Known;
-use room_acl::{Decision, Entry, Mask, Standing, Subject, copy_entries, decide};
+use room_acl::{Decision, Entry, Kind, Mask, Standing, Subject, copy_entries, decide};
 use room_records::{Change, FileName, Node, SessionRow, Shelf, ShelfFault, Sid};
 use room_slots::Kept;
 use std::alloc::Global;
@@ -62,11 +62,12 @@ impl<S: Shelf> CachedShelf<S> {
 impl<S: Shelf> Shelf for CachedShelf<S> {
     ghost use Rattle.std.specs.Prelude.{◌≡◌, ◌⊎◌, [], unwrap_or, OnOk};
     ghost use Rattle.room_acl.specs.Access.{decision};
+    ghost use Rattle.room_slots.specs.Slots.{kept_seq};
     ghost use Rattle.room_records.specs.Records.{Records};
     ghost use Rattle.room_records.specs.Rules.{ObjectRules};
     ghost use Rattle.room_records.specs.Changes.{apply_changes, RulesHoldAfterEach, Untouched};
     ghost use Rattle.room_records.specs.Shelf.{ShelfCall, ShelfRead, Tells, fault_in, AreChildren};
-    ghost use Rattle.room_records.specs.Shelf.{IsChildCount, IsChildNamed};
+    ghost use Rattle.room_records.specs.Shelf.{AreNames, IsChildCount, IsChildNamed};
     ghost use Rattle.room_cache.specs.Cached.{cached_view};
 
     ghost view = { cached_view S.view };
@@ -129,6 +130,22 @@ impl<S: Shelf> Shelf for CachedShelf<S> {
         ensures frame { ShelfRead (cached_view S.view self.old) (cached_view S.view self.new) (fault_in result) }
     {
         match self.inner.children(parent) {
+            Ok(found) => Ok(found),
+            Err(fault) => {
+                self.known.clear();
+                Err(fault)
+            }
+        }
+    }
+
+    fn names(&mut self, parent: u32) -> Result<Vec<(FileName, Kind)>, ShelfFault>
+        ensures value { Tells (cached_view S.view self.old) (cached_view S.view self.new)
+            result (λ records found. ObjectRules records.objects → AreNames records.objects parent found.items) }
+        ensures there { (cached_view S.view self.new).is_intact
+            → OnOk result (cached_view S.view self.new).is_available }
+        ensures frame { ShelfRead (cached_view S.view self.old) (cached_view S.view self.new) (fault_in result) }
+    {
+        match self.inner.names(parent) {
             Ok(found) => Ok(found),
             Err(fault) => {
                 self.known.clear();
@@ -259,7 +276,36 @@ impl<S: Shelf> Shelf for CachedShelf<S> {
         ensures frame { ShelfRead (cached_view S.view self.old) (cached_view S.view self.new) (fault_in result) }
     {
         match self.inner.slot(sid, slot) {
-            Ok(found) => Ok(found),
+            Ok(found) => {
+                if let Some(kept) = &found {
+                    self.known.keep_seq(sid, slot, kept.seq);
+                }
+                Ok(found)
+            }
+            Err(fault) => {
+                self.known.clear();
+                Err(fault)
+            }
+        }
+    }
+
+    fn slot_seq(&mut self, sid: &Sid, slot: u32) -> Result<Option<u32>, ShelfFault>
+        ensures value { Tells (cached_view S.view self.old) (cached_view S.view self.new)
+            result (λ records found. found ≡ kept_seq (records.slot sid.now slot)) }
+        ensures there { (cached_view S.view self.new).is_intact
+            → OnOk result (cached_view S.view self.new).is_available }
+        ensures frame { ShelfRead (cached_view S.view self.old) (cached_view S.view self.new) (fault_in result) }
+    {
+        if let Some(seq) = self.known.slot_seq(sid, slot) {
+            return Ok(Some(seq));
+        }
+        match self.inner.slot_seq(sid, slot) {
+            Ok(found) => {
+                if let Some(seq) = found {
+                    self.known.keep_seq(sid, slot, seq);
+                }
+                Ok(found)
+            }
             Err(fault) => {
                 self.known.clear();
                 Err(fault)

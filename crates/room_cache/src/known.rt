@@ -1,20 +1,21 @@
 //! What is remembered of the rows.
 ghost use Rattle.std.specs.Prelude.{◌≡◌, ℕ, true, false, List, Some, IfSome, IsSome, [], ◌∷◌};
 ghost use Rattle.std.specs.Ordering.{nat_cmp, eq_by_cmp};
+ghost use Rattle.room_slots.specs.Slots.{kept_seq};
 ghost use Rattle.room_acl.specs.Entries.{EntryModel};
 ghost use Rattle.room_acl.specs.Access.{decision};
 ghost use Rattle.room_records.specs.Records.{Records};
-ghost use Rattle.room_records.specs.Changes.{Untouched};
+ghost use Rattle.room_records.specs.Changes.{apply_change, Untouched};
 ghost use Rattle.room_records.specs.Shelf.{IsChildNamed};
 ghost use Rattle.room_cache.specs.Rows.{row_at};
-ghost use Rattle.room_cache.specs.Known.{Fits, IsDecidedBy, IsLeft};
+ghost use Rattle.room_cache.specs.Known.{Fits, AreSeqs, IsDecidedBy, IsLeft};
 ghost use Rattle.room_cache.specs.declared.decisions.Decided.{Decided};
 
 use crate::decisions::{Decided, Decisions};
 use crate::list::ShortList;
 use crate::rows::Rows;
 use room_acl::{Decision, Entry, Mask, Standing, Subject};
-use room_records::{Change, FileName, Node, SessionRow, Sid};
+use room_records::{Change, FileName, MAX_SLOTS, Node, SessionRow, Sid, SlotRow};
 use std::alloc::Global;
 
 /// Rows that are remembered, at most 256 of each kind.
@@ -29,6 +30,8 @@ pub(crate) struct Known {
     pub(crate) lists: Rows<u32, ShortList>,
     /// What the lists of these objects decide.
     pub(crate) decisions: Rows<u32, Decisions>,
+    /// The numbers of the requests that slots keep.
+    pub(crate) seqs: Rows<(Sid, u32), u32>,
     /// The number of the next object.
     pub(crate) next: Option<u32>,
 }
@@ -45,6 +48,7 @@ impl Known {
             places: Rows::new(alloc),
             lists: Rows::new(alloc),
             decisions: Rows::new(alloc),
+            seqs: Rows::new(alloc),
             next: None,
         }
     }
@@ -60,6 +64,7 @@ impl Known {
         self.places.clear();
         self.lists.clear();
         self.decisions.clear();
+        self.seqs.clear();
         self.next = None;
     }
 
@@ -132,6 +137,24 @@ impl Known {
         }
     }
 
+    /// The number of the request that a slot keeps. That it keeps none is not remembered.
+    pub(crate) fn slot_seq(&self, sid: &Sid, slot: u32) -> Option<u32>
+        ensures fits { (r : Records) → Fits r self.now
+            → IfSome result (λ seq. kept_seq (r.slot sid.now slot) ≡ Some seq) }
+        ensures heard { IsSome result → self.now.is_heard ≡ true }
+    {
+        if !self.is_heard {
+            return None;
+        }
+        let Ok(sid) = sid.clone() else {
+            return None;
+        };
+        match self.seqs.get(&(sid, slot)) {
+            Some(seq) => Some(*seq),
+            None => None,
+        }
+    }
+
     pub(crate) fn next(&self) -> Option<u32>
         ensures fits { (r : Records) → Fits r self.now → IfSome result (λ next. r.objects.next ≡ next) }
         ensures heard { IsSome result → self.now.is_heard ≡ true }
@@ -189,6 +212,19 @@ impl Known {
         self.is_heard = true;
     }
 
+    /// The number of a slot after the first 16 is not remembered: no session has such a slot.
+    pub(crate) fn keep_seq(&mut self, sid: &Sid, slot: u32, seq: u32)
+        ensures { (r : Records) → kept_seq (r.slot sid.now slot) ≡ Some seq → Fits r self.old → Fits r self.new }
+    {
+        if slot >= MAX_SLOTS {
+            return;
+        }
+        if let Ok(sid) = sid.clone() {
+            self.seqs.keep((sid, slot), seq);
+            self.is_heard = true;
+        }
+    }
+
     pub(crate) fn keep_next(&mut self, next: u32)
         ensures { (r : Records) → r.objects.next ≡ next → Fits r self.old → Fits r self.new }
     {
@@ -211,7 +247,24 @@ impl Known {
         self.decisions.forget(id);
     }
 
-    /// Forgets what a change touches.
+    /// Remembers the number of a slot row that is put, and no longer the one before it.
+    fn replace_seq(&mut self, row: &SlotRow)
+        ensures seqs { (r : Records) → AreSeqs r self.old.seqs
+            → AreSeqs (apply_change (Change.PutSlot row.now) r) self.new.seqs }
+        ensures others { self.new ≡ record self.old { seqs = self.new.seqs } }
+    {
+        let Ok(sid) = row.sid.clone() else {
+            self.seqs.clear();
+            return;
+        };
+        let key = (sid, row.slot);
+        self.seqs.forget(&key);
+        if row.slot < MAX_SLOTS {
+            self.seqs.keep(key, row.kept.seq);
+        }
+    }
+
+    /// Forgets what a change touches. The number of a slot row that it puts is remembered.
     fn forget(&mut self, change: &Change)
         ensures { IsLeft (change.now ∷ []) self.old self.new }
     {
@@ -223,12 +276,14 @@ impl Known {
             }
             Change::PutEntries(id, _) => self.forget_list(id),
             Change::PutSession(row) => self.sessions.forget(&row.sid),
+            Change::PutSlot(row) => self.replace_seq(row),
+            Change::DropSlots(_) => self.seqs.clear(),
             Change::PutNext(_) => self.next = None,
-            Change::PutDoc(_, _) | Change::PutSlot(_) | Change::DropSlots(_) => {}
+            Change::PutDoc(_, _) => {}
         }
     }
 
-    /// Forgets what the changes touch.
+    /// Forgets what the changes touch. The numbers of slot rows that they put are remembered.
     pub(crate) fn forget_touched(&mut self, changes: &[Change])
         ensures left { IsLeft changes.now self.old self.new }
         ensures fits { (old new : Records) → Untouched changes.now old new → Fits old self.old → Fits new self.new }

@@ -6,7 +6,7 @@ use crate::names::{FileName, Sid};
 use crate::node::Node;
 use crate::session::SessionRow;
 use crate::shelf::{Shelf, ShelfFault};
-use room_acl::{Decision, Entry, Mask, Standing, Subject};
+use room_acl::{Decision, Entry, Kind, Mask, Standing, Subject};
 use room_slots::Kept;
 
 /// A shelf whose k-th call answers `Store` without asking the shelf inside.
@@ -77,7 +77,8 @@ impl<S: Shelf> Shelf for TripShelf<S> {
     ghost use Rattle.room_records.specs.Rules.{ObjectRules};
     ghost use Rattle.room_records.specs.Changes.{apply_changes, RulesHoldAfterEach, Untouched};
     ghost use Rattle.room_records.specs.Shelf.{ShelfCall, ShelfRead, Tells, fault_in, AreChildren};
-    ghost use Rattle.room_records.specs.Shelf.{IsChildCount, IsChildNamed};
+    ghost use Rattle.room_records.specs.Shelf.{AreNames, IsChildCount, IsChildNamed};
+    ghost use Rattle.room_slots.specs.Slots.{kept_seq};
     ghost use Rattle.room_records.specs.Trip.{TripCall, trip_view};
 
     ghost view = { trip_view S.view };
@@ -121,6 +122,19 @@ impl<S: Shelf> Shelf for TripShelf<S> {
             return Err(ShelfFault::Store);
         }
         self.inner.children(parent)
+    }
+
+    fn names(&mut self, parent: u32) -> Result<Vec<(FileName, Kind)>, ShelfFault>
+        ensures value { Tells (trip_view S.view self.old) (trip_view S.view self.new) result (λ records found.
+            ObjectRules records.objects → AreNames records.objects parent found.items) }
+        ensures there { (trip_view S.view self.new).is_intact → OnOk result (trip_view S.view self.new).is_available }
+        ensures frame { ShelfRead (trip_view S.view self.old) (trip_view S.view self.new) (fault_in result) }
+        ensures trips { TripCall S.view self.old self.new result }
+    {
+        if self.trips() {
+            return Err(ShelfFault::Store);
+        }
+        self.inner.names(parent)
     }
 
     fn child_count(&mut self, parent: u32) -> Result<u64, ShelfFault>
@@ -205,6 +219,19 @@ impl<S: Shelf> Shelf for TripShelf<S> {
             return Err(ShelfFault::Store);
         }
         self.inner.slot(sid, slot)
+    }
+
+    fn slot_seq(&mut self, sid: &Sid, slot: u32) -> Result<Option<u32>, ShelfFault>
+        ensures value { Tells (trip_view S.view self.old) (trip_view S.view self.new) result
+            (λ records found. found ≡ kept_seq (records.slot sid.now slot)) }
+        ensures there { (trip_view S.view self.new).is_intact → OnOk result (trip_view S.view self.new).is_available }
+        ensures frame { ShelfRead (trip_view S.view self.old) (trip_view S.view self.new) (fault_in result) }
+        ensures trips { TripCall S.view self.old self.new result }
+    {
+        if self.trips() {
+            return Err(ShelfFault::Store);
+        }
+        self.inner.slot_seq(sid, slot)
     }
 
     fn next_id(&mut self) -> Result<u32, ShelfFault>

@@ -1,5 +1,6 @@
 -- What a slot keeps, and what a request to it is.
-use Rattle.std.specs.Prelude.{ℕ, ◌+◌, ◌%◌, ◌^◌, ◌==◌, List, Option, None, Some, if◌then◌else◌}
+use Rattle.std.specs.Prelude.{ℕ, ◌+◌, ◌%◌, ◌^◌, ◌==◌, List, Bool, Option, None, Some, if◌then◌else◌}
+use Rattle.std.specs.Option.{option_map}
 use Rattle.std.specs.Str.{bytes_eq}
 use Rattle.room_slots.specs.KeptModel.{KeptModel}
 use Rattle.room_slots.specs.declared.verdict.Verdict.{Verdict}
@@ -8,6 +9,15 @@ use Rattle.room_slots.specs.declared.verdict.Verdict.TheVariants.{New, Repeat, U
 -- the number after this one
 abbrev pub next_number : ℕ → ℕ
 next_number seq = (seq + 1) % 2 ^ 32
+
+-- the number of what a slot keeps
+abbrev pub kept_seq : Option KeptModel → Option ℕ
+kept_seq kept = option_map (λ k. k.seq) kept
+
+-- the number is the next one after that of the last request, or the first
+abbrev pub is_next : Option ℕ → ℕ → Bool
+is_next None seq = seq == 1
+is_next (Some last) seq = seq == next_number last
 
 -- what the last request is when it is sent again, by what is kept of its reply
 abbrev pub sent_again : Option (List ℕ) → Verdict

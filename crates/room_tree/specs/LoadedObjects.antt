@@ -63,10 +63,6 @@ kind_checks room path (Some Folder) = check_folder room path ∷ []
 abbrev pub use_checks : Room → SubjectModel → Path → Option Kind → ℕ → List (Option Refusal)
 use_checks room caller path kind wanted = kind_checks room path kind ++ check_right room caller path wanted ∷ []
 
--- what a listing shows of a node with a name
-abbrev pub listed : Node → Option (Name × Kind)
-listed node = option_map (λ (name : Name). (name, node.kind)) node.name
-
 -- the row of an object that is made at a path: the caller's, with the folder's group, and it follows
 pub record IsNewNode (caller : SubjectModel) (path : Path)
     (above : LoadedObject) (kind : Kind) (id : ℕ) (node : Node) : Type 0 where

@@ -80,22 +80,7 @@ fn names_in<S: Shelf>(
         IfOk result (λ names. names.items ≡ children room path)) }
     ensures frame { ShelfRead (S.view shelf.old) (S.view shelf.new) (fault_in result) }
 {
-    let nodes = shelf.children(loaded.id)?;
-    let names = listing(alloc, nodes)?;
-    Ok(names)
-}
-
-fn listing(alloc: Global, nodes: Vec<Node>) -> Result<Vec<(FileName, Kind)>, AllocError>
-    ensures { IfOk result (λ names. names.items ≡ filter_map listed nodes.items) }
-{
-    let mut names = Vec::new(alloc);
-    for node in nodes {
-        let Node { name, kind, .. } = node;
-        if let Some(name) = name {
-            names.push((name, kind))?;
-        }
-    }
-    Ok(names)
+    shelf.names(loaded.id)
 }
 
 /// READ: the bytes of a document.

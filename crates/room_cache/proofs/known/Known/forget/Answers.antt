@@ -25,5 +25,6 @@ returns-in-PutSession c =
       nodes = λ id node held. (held, ((λ r. refl), tt));
       lists = λ id list held. (held, ((λ r. refl), tt));
       decisions = λ id made held. (held, ((λ r. refl), tt));
+      seqs = λ r are. are;
       next = search rules;
     })

@@ -27,5 +27,6 @@ returns c = λ r is fits. record {
               subst R (sym same) is
         ])
   ];
+  seqs = fits.seqs;
   next = fits.next;
 }

@@ -12,5 +12,6 @@ returns-in-Ok-Ok c = λ r is fits. record {
   nodes = fits.nodes;
   lists = fits.lists;
   decisions = fits.decisions;
+  seqs = fits.seqs;
   next = fits.next;
 }

@@ -5,9 +5,9 @@ use Rattle.std.proofs.lemmas.List.Elements.{filter_map-append}
 use Rattle.room_acl.specs.declared.subject.Kind.{Kind}
 use Rattle.room_records.specs.declared.node.Node.{Node}
 use Rattle.room_records.specs.Names.{Name}
-use Rattle.room_tree.specs.LoadedObjects.{listed}
-use Rattle.room_tree.proofs.reading.listing.Goals as goal
-use Rattle.room_tree.proofs.reading.listing.Goals.{in-Some-name+in_ok-push, in_default}
+use Rattle.room_records.specs.Shelf.{listed}
+use Rattle.room_records.proofs.node.listing.Goals as goal
+use Rattle.room_records.proofs.node.listing.Goals.{in-Some-name+in_ok-push, in_default}
 
 one_more : (before after : List (Name × Kind)) (nodes : List Node) (node : Node) (name : Option Name)
     → node.name ≡ name → before ≡ filter_map listed nodes
