@@ -1,11 +1,10 @@
 //! Requests in a slot.
 ghost use Rattle.std.specs.Prelude.{◌≡◌, IfOk, OnOk, Err, ◌∷◌, true, false, option_map};
 ghost use Rattle.room_slots.specs.Slots.{verdict};
-ghost use Rattle.room_slots.specs.declared.verdict.Verdict.TheVariants.{New};
 ghost use Rattle.room_records.specs.Rules.{SlotRules};
 ghost use Rattle.room_records.specs.Room.{Room};
 ghost use Rattle.room_records.specs.Representation.{RepresentsRoom};
-ghost use Rattle.room_records.specs.Shelf.{ShelfCall, fault_in};
+ghost use Rattle.room_records.specs.Shelf.{ShelfCall, ShelfRead, Tells, fault_in};
 ghost use Rattle.room_wire.specs.Asks.EventModel.{Slot};
 ghost use Rattle.room_wire.specs.Forms.Texts.{command_text};
 ghost use Rattle.room_desk.specs.AnswerModel.{answer_model, IsTurnedAway};
@@ -13,13 +12,13 @@ ghost use Rattle.room_desk.specs.Crashes.{LeavesOldOrNew, LeavesNew};
 ghost use Rattle.room_desk.specs.History.{History, session_of, is_open_for, answer_to, changes_rows, ReportsChange};
 ghost use Rattle.room_desk.specs.History.{if_kept, answer_again};
 ghost use Rattle.room_desk.specs.Representation.{RepresentsHistory, StandsFor, StandsWith};
-ghost use Rattle.room_desk.specs.RowAnswers.{HasSlot, Ran, RanTo, answer_kept};
+ghost use Rattle.room_desk.specs.RowAnswers.{HasSlot, Ran, RanTo, answer_kept, row_answer};
 
 use crate::sessions::is_usable;
 use room_acl::Subject;
 use room_commands::Command;
 use room_records::{Change, Shelf, ShelfFault, Sid, SlotRow};
-use room_slots::{Kept, Verdict, classify};
+use room_slots::{Kept, Verdict, classify, is_next};
 use room_tree::plan;
 use room_wire::{Answer, Code, command_text, reply_text};
 use std::alloc::{AllocError, Global};
@@ -126,16 +125,6 @@ fn verdict_of(kept: &Option<Kept>, seq: u32, text: &[u8]) -> Verdict
     classify(kept.as_ref(), seq, text)
 }
 
-fn is_new(verdict: Verdict) -> bool
-    ensures new { result ≡ true → verdict ≡ New }
-    ensures other { result ≡ false → verdict ≡ New → ⊥ }
-{
-    match verdict {
-        Verdict::New => true,
-        Verdict::Repeat | Verdict::Uncached | Verdict::FalseRetry | Verdict::Misordered => false,
-    }
-}
-
 /// What a repeat is answered by the reply that is kept: where none is, it is refused.
 fn answer_again(reply: Option<Vec<u8>>) -> Answer
     ensures { answer_model result ≡ answer_again (option_map (λ r. r.items) reply) }
@@ -161,7 +150,24 @@ fn answer_kept(verdict: Verdict, kept: Option<Kept>) -> Answer
     }
 }
 
-/// A request in a slot of an open session of the caller: the number decides.
+/// What a request that is not new to its slot is answered: here alone the slot's row is read.
+fn answer_from_row<S: Shelf>(
+    shelf: &mut S,
+    asked: &SlotRequest,
+    text: &[u8],
+) -> Result<Answer, ShelfFault>
+    ensures value { Tells (S.view shelf.old) (S.view shelf.new) result
+        (λ records answer. answer_model answer ≡ row_answer records asked.now text.now) }
+    ensures there { (S.view shelf.new).is_intact → OnOk result (S.view shelf.new).is_available }
+    ensures frame { ShelfRead (S.view shelf.old) (S.view shelf.new) (fault_in result) }
+{
+    let kept = shelf.slot(asked.sid, asked.slot)?;
+    let verdict = verdict_of(&kept, asked.seq, text);
+    Ok(answer_kept(verdict, kept))
+}
+
+/// A request in a slot of an open session of the caller: the number decides. The slot's row may be long, so a new
+/// request reads its number alone.
 fn in_slot<S: Shelf>(
     alloc: Global,
     shelf: &mut S,
@@ -196,12 +202,11 @@ fn in_slot<S: Shelf>(
         LeavesNew (S.view shelf.new) (StandsWith start past (Slot asked.now))) }
 {
     let text = command_text(alloc, asked.command)?;
-    let kept = shelf.slot(asked.sid, asked.slot)?;
-    let verdict = verdict_of(&kept, asked.seq, &text);
-    if is_new(verdict) {
+    let last = shelf.slot_seq(asked.sid, asked.slot)?;
+    if is_next(last, asked.seq) {
         run_new(alloc, shelf, asked, text)
     } else {
-        Ok(answer_kept(verdict, kept))
+        answer_from_row(shelf, asked, &text)
     }
 }
 

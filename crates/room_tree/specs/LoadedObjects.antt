@@ -6,7 +6,6 @@ use Rattle.room_acl.specs.Entries.{EntryModel}
 use Rattle.room_commands.specs.SetList.{clear_inherited}
 use Rattle.room_acl.specs.SubjectModel.{SubjectModel}
 use Rattle.room_records.specs.declared.node.Node.{Node}
-use Rattle.std.specs.Option.{option_map}
 use Rattle.room_records.specs.Names.{Name, Path}
 use Rattle.room_records.specs.Records.{ObjectRecords}
 use Rattle.room_records.specs.Shelf.{View}
