@@ -77,6 +77,11 @@ pub record IsNodeRow (row : Row) : Type 0 where
   pub group : HasPrincipal 5 row
   pub aclflag : HasListFlags 6 row
 
+-- name and kind
+pub record IsNameRow (row : Row) : Type 0 where
+  pub name : HasName 0 row
+  pub kind : HasFlag 1 row
+
 -- place, type, flags, mask and whom it names
 pub record IsLawfulEntryRow (row : Row) : Type 0 where
   pub place : HasNumber 0 row

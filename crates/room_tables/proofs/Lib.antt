@@ -25,3 +25,4 @@ pub mod Copies
 pub mod Moves
 pub mod Reading
 pub mod Onward
+pub mod Names

@@ -25,7 +25,8 @@ use Rattle.room_tables.specs.Texts.{put_next_clause, put_next_terms, put_next_te
 use Rattle.room_tables.specs.Texts.{put_node_text, put_session_clause, put_session_terms, put_session_text}
 use Rattle.room_tables.specs.Texts.{change_slot_query, change_slot_text, add_slot_terms, add_slot_text}
 use Rattle.room_tables.specs.Texts.{read_entries_query, read_entries_text, copy_row_query, copy_row_text}
-use Rattle.room_tables.specs.Texts.{take_row_query, take_row_text}
+use Rattle.room_tables.specs.Texts.{take_row_query, take_row_text, list_names_query, list_names_text}
+use Rattle.room_tables.specs.Texts.{find_seq_query, find_seq_text}
 
 pub find_next_is : (more : List Table) (others : List Index)
     → command_of (understood (with_last more others) find_next_text)
@@ -84,6 +85,16 @@ pub list_children_plain : (l : Layout) → IsPlain (understood (room_schema l) l
 unfolding understood everything
 list_children_plain l = ((refl, refl), refl)
 
+pub list_names_is : (l : Layout) → command_of (understood (room_schema l) list_names_text)
+    ≡ Select (record { lets = []; body = list_names_query }) (codes "name" ∷ codes "kind" ∷ [])
+unfolding understood everything
+list_names_is l = refl
+
+pub list_names_plain : (l : Layout) → IsPlain (understood (room_schema l) list_names_text)
+    × (reads_listing (room_schema l) list_names_text ≡ false)
+unfolding understood everything
+list_names_plain l = ((refl, refl), refl)
+
 pub list_entries_is : (l : Layout) → command_of (understood (room_schema l) list_entries_text)
     ≡ Select (record { lets = []; body = list_entries_query })
     (codes "place" ∷ codes "type" ∷ codes "flag" ∷ codes "mask" ∷ codes "who" ∷ [])
@@ -138,6 +149,18 @@ pub find_slot_plain : (l : Layout) → IsPlain (understood (room_schema l) find_
 unfolding understood everything
 find_slot_plain Fresh = ((refl, refl), refl)
 find_slot_plain Upgraded = ((refl, refl), refl)
+
+pub find_seq_is : (l : Layout) → command_of (understood (room_schema l) find_seq_text)
+    ≡ Select (record { lets = []; body = find_seq_query (slots_tree l) }) (codes "seq" ∷ [])
+unfolding understood everything
+find_seq_is Fresh = refl
+find_seq_is Upgraded = refl
+
+pub find_seq_plain : (l : Layout) → IsPlain (understood (room_schema l) find_seq_text)
+    × (reads_listing (room_schema l) find_seq_text ≡ false)
+unfolding understood everything
+find_seq_plain Fresh = ((refl, refl), refl)
+find_seq_plain Upgraded = ((refl, refl), refl)
 
 pub drop_node_is : (l : Layout) → command_of (understood (room_schema l) drop_node_text)
     ≡ Delete 1 (record { lets = []; body = drop_node_query })

@@ -108,6 +108,14 @@ named_rows db parent name = map shown_node (filter (is_child_named parent name) 
 abbrev pub child_rows : Trees → ℕ → List Row
 child_rows db parent = map shown_node (filter (has 2 parent) (db 1))
 
+-- the name and the kind alone, of a row as it is shown
+abbrev pub name_and_kind : Row → Row
+name_and_kind shown = column shown 2 ∷ column shown 3 ∷ []
+
+-- what such a row lists: none where it has no name
+abbrev pub listed_of : Row → Option (List ℕ × Kind)
+listed_of row = option_map (λ (name : List ℕ). (name, kind_of (number_in (column row 1)))) (name_in (column row 0))
+
 abbrev pub nodes_in : List Row → ℕ → Option Node
 nodes_in rows id = option_map node_of (only (map shown_node (filter (has 0 id) rows)))
 
@@ -199,6 +207,16 @@ is_slot sid slot row = has_text 1 sid row && has 2 slot row
 
 abbrev pub slot_rows : Trees → List ℕ → ℕ → List Row
 slot_rows db sid slot = map shown_slot (filter (is_slot sid slot) (slots_of db))
+
+-- the number alone
+abbrev pub shown_seq : Row → Row
+shown_seq row = column row 3 ∷ []
+
+abbrev pub seq_of : Row → ℕ
+seq_of row = number_in (column row 0)
+
+abbrev pub seq_rows : Trees → List ℕ → ℕ → List Row
+seq_rows db sid slot = map shown_seq (filter (is_slot sid slot) (slots_of db))
 
 abbrev pub slots_in : List Row → List ℕ → ℕ → Option KeptModel
 slots_in rows sid slot = option_map kept_of (only (map shown_slot (filter (is_slot sid slot) rows)))

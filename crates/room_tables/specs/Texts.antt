@@ -66,6 +66,12 @@ abbrev pub list_children_query : Query
 list_children_query = over_table 1 (equals (col 1 2) (col 0 0) ∷ [])
     (col 1 0 ∷ col 1 2 ∷ col 1 3 ∷ col 1 4 ∷ col 1 5 ∷ col 1 6 ∷ col 1 7 ∷ []) (by (col 1 3) ∷ [])
 
+abbrev pub list_names_text : List ℕ
+list_names_text = codes "SELECT name, kind FROM node WHERE parent = ?1 ORDER BY name"
+
+abbrev pub list_names_query : Query
+list_names_query = over_table 1 (equals (col 1 2) (col 0 0) ∷ []) (col 1 3 ∷ col 1 4 ∷ []) (by (col 1 3) ∷ [])
+
 abbrev pub list_entries_text : List ℕ
 list_entries_text =
     codes "SELECT place, type, flag, mask, who FROM entry WHERE node = ?1 ORDER BY place, type, flag, mask, who"
@@ -101,6 +107,13 @@ abbrev pub find_slot_query : ℕ → Query
 find_slot_query tree =
     over_table tree (equals (col 1 1) (col 0 0) ∷ equals (col 1 2) (col 0 1) ∷ [])
     (col 1 3 ∷ col 1 4 ∷ col 1 5 ∷ []) ([])
+
+abbrev pub find_seq_text : List ℕ
+find_seq_text = codes "SELECT seq FROM kept WHERE sid = ?1 AND slot = ?2"
+
+abbrev pub find_seq_query : ℕ → Query
+find_seq_query tree =
+    over_table tree (equals (col 1 1) (col 0 0) ∷ equals (col 1 2) (col 0 1) ∷ []) (col 1 3 ∷ []) ([])
 
 abbrev pub drop_node_text : List ℕ
 drop_node_text = codes "DELETE FROM node WHERE id = ?1"
