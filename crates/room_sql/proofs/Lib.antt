@@ -2,7 +2,7 @@ pub mod Bound
 pub mod Frames
 pub mod Decisions
 pub mod Turns
-pub mod SlotWrites
+pub mod OrWrites
 pub mod NodeRows
 pub mod Calls
 pub mod Taken

@@ -5,7 +5,7 @@ use Rattle.std.proofs.Common.{if◌then◌else◌}
 use Rattle.std.proofs.lemmas.Bool.{cases_Bool, cases_eq}
 use Rattle.std.proofs.lemmas.Bool.Decides.{nat_tests}
 use Rattle.std.proofs.lemmas.List.Sorted.{length_permutation}
-use Rattle.sqlite_value.specs.declared.value.Value.TheVariants.{Int, Text, Blob}
+use Rattle.sqlite_value.specs.declared.value.Value.TheVariants.{Int, Text}
 use Rattle.sqlite_value.specs.Order.{Row, column, value_cmp}
 use Rattle.sqlite_value.proofs.OrderLemmas.{value_cmp-Null}
 use Rattle.sqlite_trees.specs.Tree.{Trees, without_rowid, has_rowid}
@@ -24,18 +24,17 @@ use Rattle.room_tables.specs.Rows.{has}
 use Rattle.room_tables.specs.Layout.{IsRoomDatabase, parent_value}
 use Rattle.room_tables.specs.Steps.{kind_number, flag_of}
 use Rattle.room_tables.specs.Texts.{put_node_text, drop_entries_text, add_entry_text, add_two_text, add_three_text}
-use Rattle.room_tables.specs.Texts.{add_four_text, put_doc_text, put_session_text, drop_slots_text}
-use Rattle.room_tables.specs.Texts.{put_next_text}
+use Rattle.room_tables.specs.Texts.{add_four_text, put_session_text, drop_slots_text}
 use Rattle.room_tables.proofs.Each.{above}
 use Rattle.room_tables.proofs.Changes.{executes_inside}
 use Rattle.room_tables.proofs.Upserts.{Put}
-use Rattle.room_tables.proofs.Puts.{stored_node, node_params, puts_node, puts_doc, puts_next, puts_session}
+use Rattle.room_tables.proofs.Puts.{stored_node, node_params, puts_node, puts_session}
 use Rattle.room_tables.proofs.Takes.{drops_entries, drops_slots, AddsEntries, bound_entries, adds_one, adds_two}
 use Rattle.room_tables.proofs.Takes.{adds_three, adds_four}
 use Rattle.room_tables.proofs.Filters.{put_is_one_more, others_left_on, not_both}
 use Rattle.room_tables.proofs.Values.{int_has, has_is}
 use Rattle.room_sql.specs.Causes.{statement, RunInTurn, writes_of, entry_writes}
-use Rattle.room_sql.proofs.SlotWrites.{slot_leaves_nodes}
+use Rattle.room_sql.proofs.OrWrites.{slot_leaves_nodes, doc_leaves_nodes, next_set}
 use Rattle.room_sql.specs.NodeRows.{HasNone, HasOneMore, is_parent, After, AfterAll}
 
 -- ---- a node where no row has its number
@@ -136,10 +135,7 @@ module _ {S : Type 0} (store : Ghosts S) where
       let it = drops_entries room.layout (state store a) (state store on.0) id on.1 room.schema room.keyed.entry
       (executes_inside drop_entries_text _ _ _ on.1 on.2.runs).0 in
       all_added room.layout id 0 entries.items on.0 b it.schema on.3 ∙ it.others.node (omega arith)
-  nodes_after (PutDoc id bytes) a b room ran =
-      let one = one_ran put_doc_text (Int (pos id) ∷ Blob bytes.items ∷ []) a b ran in
-      (puts_doc room.layout (state store a) (state store b) id bytes.items one.0 room.schema room.keyed.doc
-      (executes_inside put_doc_text _ _ _ one.0 one.1).0).put.others.node (omega arith)
+  nodes_after (PutDoc id bytes) a b room ran = doc_leaves_nodes store id bytes.items a b room ran
   nodes_after (PutSession row) a b room ran =
       let one = one_ran put_session_text
       (Text row.sid ∷ Text row.owner ∷ Int (pos row.slots) ∷ Int (pos (flag_of row.is_open)) ∷ []) a b ran in
@@ -151,10 +147,7 @@ module _ {S : Type 0} (store : Ghosts S) where
       let one = one_ran drop_slots_text (Text sid ∷ []) a b ran in
       (drops_slots room.layout (state store a) (state store b) sid one.0 room.schema room.keyed.slots
       (executes_inside drop_slots_text _ _ _ one.0 one.1).0).others.node (omega (arith, above room.layout))
-  nodes_after (PutNext next) a b room ran =
-      let one = one_ran put_next_text (Int (pos next) ∷ []) a b ran in
-      (puts_next room.layout (state store a) (state store b) next one.0 room.schema room.keyed.room
-      (executes_inside put_next_text _ _ _ one.0 one.1).0).put.others.node (omega arith)
+  nodes_after (PutNext next) a b room ran = (next_set store next a b ran room).nodes
 
 -- ---- changes in turn
 

@@ -20,9 +20,9 @@ use Rattle.room_records.specs.declared.change.Change.TheVariants.{PutSlot, DropS
 use Rattle.room_tables.specs.Layout.{parent_value, reply_value}
 use Rattle.room_tables.specs.Steps.{kind_number, flag_of, shown_as}
 use Rattle.room_tables.specs.Texts.{put_node_text, drop_node_text, drop_entries_text, add_entry_text, add_two_text}
-use Rattle.room_tables.specs.Texts.{add_three_text, add_four_text, put_doc_text, put_session_text, change_slot_text}
-use Rattle.room_tables.specs.Texts.{add_slot_text}
-use Rattle.room_tables.specs.Texts.{drop_slots_text, put_next_text, copy_row_text, take_row_text, find_next_text}
+use Rattle.room_tables.specs.Texts.{add_three_text, add_four_text, change_doc_text, add_doc_text, put_session_text}
+use Rattle.room_tables.specs.Texts.{change_slot_text, add_slot_text, drop_slots_text, change_next_text, add_next_text}
+use Rattle.room_tables.specs.Texts.{copy_row_text, take_row_text, find_next_text}
 use Rattle.room_tables.specs.Texts.{find_version_text}
 use Rattle.room_tables.specs.Tables.{kept_text}
 use Rattle.room_tables.specs.Rows.{number_in, only}
@@ -77,15 +77,21 @@ slot_write row = statement_or change_slot_text add_slot_text
     (Text row.sid ∷ Int (pos row.slot) ∷ Int (pos row.kept.seq) ∷ Blob row.kept.request
     ∷ reply_value row.kept.reply ∷ [])
 
+abbrev pub doc_write : ℕ → List ℕ → Statement
+doc_write id bytes = statement_or change_doc_text add_doc_text (Int (pos id) ∷ Blob bytes ∷ [])
+
+abbrev pub next_write : ℕ → Statement
+next_write next = statement_or change_next_text add_next_text (Int (pos next) ∷ [])
+
 abbrev pub writes_of : Change → List Statement
 writes_of (PutNode node) = node_write node ∷ []
 writes_of (DropNode id) = statement drop_node_text (Int (pos id) ∷ []) ∷ []
 writes_of (PutEntries id entries) = entries_drop id ∷ entry_writes id 0 entries.items
-writes_of (PutDoc id bytes) = statement put_doc_text (Int (pos id) ∷ Blob bytes.items ∷ []) ∷ []
+writes_of (PutDoc id bytes) = doc_write id bytes.items ∷ []
 writes_of (PutSession row) = session_write row ∷ []
 writes_of (PutSlot row) = slot_write row ∷ []
 writes_of (DropSlots sid) = statement drop_slots_text (Text sid ∷ []) ∷ []
-writes_of (PutNext next) = statement put_next_text (Int (pos next) ∷ []) ∷ []
+writes_of (PutNext next) = next_write next ∷ []
 
 abbrev pub writes_of_all : List Change → List Statement
 writes_of_all [] = []

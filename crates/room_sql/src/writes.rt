@@ -370,7 +370,7 @@ pub(crate) fn put_entries<S: Alter>(
     add_entries(tx, id, entries.as_slice())
 }
 
-/// Adds or replaces the document.
+/// Replaces the document, and adds it where there was none. An upsert costs more than the one statement that it comes to.
 fn put_doc<S: Alter>(tx: &mut Transaction<'_, S>, id: u32, bytes: &Vec<u8>) -> Result<(), Error>
     ensures frame { InsideFrame S.Store tx.old tx.new result }
     ensures ok { HasCleanDisk (state S.Store tx.new.conn.now)
@@ -379,9 +379,10 @@ fn put_doc<S: Alter>(tx: &mut Transaction<'_, S>, id: u32, bytes: &Vec<u8>) -> R
     ensures ran { HasCleanDisk (state S.Store tx.new.conn.now) → tx.old.conn.now.in_transaction ≡ true
         → RunInTurn S.Store (writes_of (PutDoc id bytes.now)) tx.old.conn.now tx.new.conn.now result }
 {
-    run(
+    run_or(
         tx,
-        "INSERT INTO doc (node, bytes) VALUES (?1, ?2) ON CONFLICT (node) DO UPDATE SET bytes = excluded.bytes",
+        "UPDATE doc SET bytes = ?2 WHERE node = ?1",
+        "INSERT INTO doc (node, bytes) VALUES (?1, ?2)",
         params![id, bytes],
     )
 }
@@ -442,7 +443,8 @@ fn drop_slots<S: Alter>(tx: &mut Transaction<'_, S>, sid: &Sid) -> Result<(), Er
     run(tx, "DELETE FROM kept WHERE sid = ?1", params![sid])
 }
 
-/// Sets the next number, in a row of version 2. A table `slot` beside stays as it is.
+/// Sets the next number, in a row of version 2, and adds the row where there was none: an upsert costs more than that.
+/// A table `slot` beside stays as it is.
 pub(crate) fn put_next<S: Alter>(tx: &mut Transaction<'_, S>, next: u32) -> Result<(), Error>
     ensures frame { InsideFrame S.Store tx.old tx.new result }
     ensures ok { HasCleanDisk (state S.Store tx.new.conn.now)
@@ -457,10 +459,10 @@ pub(crate) fn put_next<S: Alter>(tx: &mut Transaction<'_, S>, next: u32) -> Resu
     ensures ran { HasCleanDisk (state S.Store tx.new.conn.now) → tx.old.conn.now.in_transaction ≡ true
         → RunInTurn S.Store (writes_of (PutNext next)) tx.old.conn.now tx.new.conn.now result }
 {
-    run(
+    run_or(
         tx,
-        "INSERT INTO room (one, version, next) VALUES (1, 2, ?1) ON CONFLICT (one) DO UPDATE SET version = \
-         excluded.version, next = excluded.next",
+        "UPDATE room SET version = 2, next = ?1 WHERE one = 1",
+        "INSERT INTO room (one, version, next) VALUES (1, 2, ?1)",
         params![next],
     )
 }

@@ -1,9 +1,9 @@
 -- What the statements do to the records.
 use Rattle.std.specs.declared.alloc.Global.{Global}
-use Rattle.std.proofs.Common.{Vec, ◌≡◌, ℕ, ℤ, pos, Bool, true, false, not, ◌==◌, cond, List, [], ◌∷◌, ◌++◌, map, filter}
+use Rattle.std.proofs.Common.{Vec, ◌≡◌, ◌≢◌, ◌≤◌, ℕ, suc, ℤ, pos, Bool, true, false, not, ◌==◌, cond, List, [], ◌∷◌, ◌++◌, map, filter}
 use Rattle.std.proofs.Common.{Option, None, Some, option_map, unwrap_or, Ok, refl, sym, ap, subst, ◌∙◌, arith}
 use Rattle.std.specs.List.{AllByRecursion}
-use Rattle.sqlite_value.specs.declared.value.Value.TheVariants.{Int, Blob}
+use Rattle.sqlite_value.specs.declared.value.Value.TheVariants.{Int}
 use Rattle.sqlite_value.specs.Order.{Row, column}
 use Rattle.sqlite_trees.specs.Tree.{rowid, has_rowid}
 use Rattle.sqlite_trees.proofs.TreeLemmas.{all-put_row}
@@ -17,16 +17,17 @@ use Rattle.room_records.specs.declared.change.Change.{Change}
 use Rattle.room_records.specs.declared.change.Change.TheVariants.{PutNode, PutNext, PutDoc}
 use Rattle.room_records.specs.Records.{Records}
 use Rattle.room_records.specs.Changes.{apply_change, apply_changes}
-use Rattle.sqlite.specs.Effect.{IsDatabase}
+use Rattle.sqlite.specs.Effect.{Database, IsDatabase}
 use Rattle.room_tables.specs.Tables.{Upgraded, room_schema}
-use Rattle.room_tables.specs.Texts.{put_node_text, put_next_text, put_doc_text}
+use Rattle.room_tables.specs.Texts.{put_node_text, change_next_text, add_next_text, change_doc_text, add_doc_text}
 use Rattle.room_tables.specs.Rows.{has, only, parent_in, name_of_text, kind_of, shown_node, node_of, nodes_in}
 use Rattle.room_tables.specs.Rows.{entries_in, shown_doc, doc_of, documents_in, number_in, shown_next, next_in}
 use Rattle.room_tables.specs.Rows.{shown_version, version_rows, IsVersion, sessions_in, slots_in, records_of}
-use Rattle.room_tables.specs.Layout.{IsNumbered, IsRoomDatabase, parent_value, reply_value}
+use Rattle.room_tables.specs.Layout.{IsKeyed, IsNumbered, IsRoomDatabase, parent_value, reply_value}
 use Rattle.room_tables.specs.Steps.{Steps, kind_number}
-use Rattle.room_tables.proofs.Changes.{executes_inside}
-use Rattle.room_tables.proofs.Puts.{stored_node, node_params, puts_node, puts_next, puts_doc}
+use Rattle.room_tables.proofs.Changes.{executes_inside, Leaves}
+use Rattle.room_tables.proofs.Puts.{stored_node, node_params, puts_node, doc_params, PutsDoc, ChangesDoc}
+use Rattle.room_tables.proofs.Puts.{changes_doc, adds_doc, PutsNext, ChangesNext, changes_next, adds_next}
 use Rattle.room_tables.proofs.Filters.{filter_put, keyed_after, still_room, still_numbered, still_slots, version_stays}
 
 -- two records that agree at each key are one
@@ -129,12 +130,9 @@ steps_node old new node name count room named h =
 
 -- ---- a document and the next number
 
-pub steps_doc : (old new : State) (id : ℕ) (bytes : Vec ℕ Global) (count : ℕ) → IsRoomDatabase old.now
-    → ExecutesInside 0 put_doc_text (Int (pos id) ∷ Blob bytes.items ∷ []) old new (Ok count)
-    → Steps old new (apply_change (PutDoc id bytes))
-steps_doc old new id bytes count room h =
-    let ran = executes_inside put_doc_text _ old new count h in
-    let done = puts_doc room.layout old new id bytes.items count room.schema room.keyed.doc ran.0 in
+steps_put_doc : (old new : State) (id : ℕ) (bytes : Vec ℕ Global) (room : IsRoomDatabase old.now)
+    → PutsDoc room.layout id bytes.items old.now new.now → Steps old new (apply_change (PutDoc id bytes))
+steps_put_doc old new id bytes room done =
     let it = done.put in
     let is : it.id ≡ pos id = id_is (sym it.has_id ∙ ap rowid it.fits) in
     let o = it.others in
@@ -157,49 +155,173 @@ steps_doc old new id bytes count room h =
           (still_slots 5 old.now new.now room done.schema done.sound (omega arith) o));
     }
 
--- the next number is put into a row of version 2
-pub version_put : (old new : State) (n count : ℕ) → IsRoomDatabase old.now
-    → ExecutesInside 0 put_next_text (Int (pos n) ∷ []) old new (Ok count) → IsVersion 2 (version_rows new.now.trees)
-version_put old new n count room h =
-    let ran = executes_inside put_next_text _ old new count h in
-    let it = (puts_next room.layout old new n count room.schema room.keyed.room ran.0).put in
-    let is : it.id ≡ pos 1 = id_is (sym it.has_id ∙ ap rowid it.fits) in
-    ap (λ rows. option_map (λ row. column row 0) (only (map shown_version rows))) (filter_put 0 1 1 _ _ _ _ it is)
-    ∙ ap (λ r. Some (column (shown_version r) 0)) it.fits
+-- no row was changed, and the tables are as they were
+still_there : (tree : ℕ) (old new : Database) (room : IsRoomDatabase old) → tree ≤ 7 → 1 ≢ tree
+    → Leaves room.layout old new tree (old.trees tree) → IsKeyed (old.trees tree) → IsRoomDatabase new
+still_there tree old new room low apart it keyed =
+    still_room tree old new room it.schema it.sound it.others (subst IsKeyed (sym it.rows_are) keyed)
+    (still_numbered tree old new room apart it.others)
 
-pub steps_next : (old new : State) (n count : ℕ) → IsRoomDatabase old.now
-    → ExecutesInside 0 put_next_text (Int (pos n) ∷ []) old new (Ok count) → Steps old new (apply_change (PutNext n))
-steps_next old new n count room h =
-    let ran = executes_inside put_next_text _ old new count h in
-    let done = puts_next room.layout old new n count room.schema room.keyed.room ran.0 in
+steps_left_doc : (old new : State) (room : IsRoomDatabase old.now)
+    → Leaves room.layout old.now new.now 5 (old.now.trees 5) → Steps old new (λ r. r)
+steps_left_doc old new room it =
+    let o = it.others in
+    record {
+      room = still_there 5 old.now new.now room (omega arith) (omega arith) it room.keyed.doc;
+      schema = it.schema ∙ sym room.schema;
+      version = version_stays _ _ (o.room (omega arith));
+      records = same_records _ _
+          (λ q. ap (λ rows. nodes_in rows q) (o.node (omega arith)))
+          (λ q. ap (λ rows. entries_in rows q) (o.entry (omega arith)))
+          (λ q. ap (λ rows. documents_in rows q) it.rows_are)
+          (ap next_in (o.room (omega arith)))
+          (λ sid. ap (λ rows. sessions_in rows sid) (o.session (omega arith)))
+          (λ sid slot. ap (λ rows. slots_in rows sid slot)
+          (still_slots 5 old.now new.now room it.schema it.sound (omega arith) o));
+    }
+
+-- what an UPDATE of the document leaves, by how many rows it changed
+doc_changed : (old new : State) (id : ℕ) (bytes : List ℕ) (count : ℕ) (room : IsRoomDatabase old.now)
+    → ExecutesInside 0 change_doc_text (doc_params id bytes) old new (Ok count)
+    → ChangesDoc room.layout id bytes count old.now new.now
+doc_changed old new id bytes count room h = changes_doc room.layout old new id bytes count room.schema room.keyed.doc
+    (executes_inside change_doc_text _ old new count h).0
+
+pub steps_change_doc : (old new : State) (id : ℕ) (bytes : Vec ℕ Global) (count : ℕ) → IsRoomDatabase old.now
+    → ExecutesInside 0 change_doc_text (doc_params id bytes.items) old new (Ok (suc count))
+    → Steps old new (apply_change (PutDoc id bytes))
+steps_change_doc old new id bytes count room h =
+    steps_put_doc old new id bytes room (doc_changed old new id bytes.items (suc count) room h)
+
+-- where it changed none, the INSERT behind it adds the row
+pub steps_add_doc : (old mid new : State) (id : ℕ) (bytes : Vec ℕ Global) (count : ℕ) → IsRoomDatabase old.now
+    → ExecutesInside 0 change_doc_text (doc_params id bytes.items) old mid (Ok 0)
+    → ExecutesInside 0 add_doc_text (doc_params id bytes.items) mid new (Ok count)
+    → Steps old new (apply_change (PutDoc id bytes))
+steps_add_doc old mid new id bytes count room none one =
+    let a = steps_left_doc old mid room (doc_changed old mid id bytes.items 0 room none).leaves in
+    let b = steps_put_doc mid new id bytes a.room (adds_doc a.room.layout mid new id bytes.items count a.room.schema
+    (executes_inside add_doc_text _ mid new count one).0) in
+    record {
+      room = b.room;
+      schema = b.schema ∙ a.schema;
+      records = b.records ∙ ap (apply_change (PutDoc id bytes)) a.records;
+      version = λ v. b.version (a.version v);
+    }
+
+-- the rows of nodes stay as they are
+pub doc_change_leaves_nodes : (old new : State) (id : ℕ) (bytes : List ℕ) (count : ℕ) → IsRoomDatabase old.now
+    → ExecutesInside 0 change_doc_text (doc_params id bytes) old new (Ok (suc count))
+    → new.now.trees 1 ≡ old.now.trees 1
+doc_change_leaves_nodes old new id bytes count room h =
+    (doc_changed old new id bytes (suc count) room h).put.others.node (omega arith)
+
+pub doc_add_leaves_nodes : (old mid new : State) (id : ℕ) (bytes : List ℕ) (count : ℕ) → IsRoomDatabase old.now
+    → ExecutesInside 0 change_doc_text (doc_params id bytes) old mid (Ok 0)
+    → ExecutesInside 0 add_doc_text (doc_params id bytes) mid new (Ok count) → new.now.trees 1 ≡ old.now.trees 1
+doc_add_leaves_nodes old mid new id bytes count room none one =
+    let left = (doc_changed old mid id bytes 0 room none).leaves in
+    (adds_doc room.layout mid new id bytes count left.schema
+    (executes_inside add_doc_text _ mid new count one).0).put.others.node (omega arith)
+    ∙ left.others.node (omega arith)
+
+-- ---- the next number
+
+-- what a statement that sets the next number does: to the records, to the version, and to a table `slot` beside
+pub record SetsNext (old new : State) (n : ℕ) : Type 0 where
+  pub steps : Steps old new (apply_change (PutNext n))
+  pub version : IsVersion 2 (version_rows new.now.trees)
+  pub sound : IsDatabase new.now
+  pub beside : old.now.schema ≡ room_schema Upgraded → new.now.trees 8 ≡ old.now.trees 8
+  pub nodes : new.now.trees 1 ≡ old.now.trees 1
+
+sets_put : (old new : State) (n : ℕ) (room : IsRoomDatabase old.now) → PutsNext room.layout n old.now new.now
+    → (old.now.schema ≡ room_schema Upgraded → new.now.trees 8 ≡ old.now.trees 8) → SetsNext old new n
+sets_put old new n room done beside =
     let it = done.put in
     let is : it.id ≡ pos 1 = id_is (sym it.has_id ∙ ap rowid it.fits) in
     let o = it.others in
+    let version : IsVersion 2 (version_rows new.now.trees) =
+    ap (λ rows. option_map (λ row. column row 0) (only (map shown_version rows))) (filter_put 0 1 1 _ _ _ _ it is)
+    ∙ ap (λ r. Some (column (shown_version r) 0)) it.fits in
     record {
-      room = still_room 0 old.now new.now room done.schema done.sound o (keyed_after 0 _ _ _ _ it room.keyed.room)
-          (still_numbered 0 old.now new.now room (omega arith) o);
-      schema = done.schema ∙ sym room.schema;
-      version = λ _. version_put old new n count room h;
+      version = version;
+      sound = done.sound;
+      beside = beside;
+      nodes = o.node (omega arith);
+      steps = record {
+        room = still_room 0 old.now new.now room done.schema done.sound o (keyed_after 0 _ _ _ _ it room.keyed.room)
+            (still_numbered 0 old.now new.now room (omega arith) o);
+        schema = done.schema ∙ sym room.schema;
+        version = λ _. version;
+        records = same_records _ _
+            (λ q. ap (λ rows. nodes_in rows q) (o.node (omega arith)))
+            (λ q. ap (λ rows. entries_in rows q) (o.entry (omega arith)))
+            (λ q. ap (λ rows. documents_in rows q) (o.doc (omega arith)))
+            (ap (λ rows. unwrap_or (option_map (λ row. number_in (column row 0)) (only (map shown_next rows))) 0)
+            (filter_put 0 1 1 _ _ _ _ it is) ∙ ap (λ r. number_in (column (shown_next r) 0)) it.fits)
+            (λ sid. ap (λ rows. sessions_in rows sid) (o.session (omega arith)))
+            (λ sid slot. ap (λ rows. slots_in rows sid slot)
+            (still_slots 0 old.now new.now room done.schema done.sound (omega arith) o));
+      };
+    }
+
+steps_left_next : (old new : State) (room : IsRoomDatabase old.now)
+    → Leaves room.layout old.now new.now 0 (old.now.trees 0) → Steps old new (λ r. r)
+steps_left_next old new room it =
+    let o = it.others in
+    record {
+      room = still_there 0 old.now new.now room (omega arith) (omega arith) it room.keyed.room;
+      schema = it.schema ∙ sym room.schema;
+      version = version_stays _ _ it.rows_are;
       records = same_records _ _
           (λ q. ap (λ rows. nodes_in rows q) (o.node (omega arith)))
           (λ q. ap (λ rows. entries_in rows q) (o.entry (omega arith)))
           (λ q. ap (λ rows. documents_in rows q) (o.doc (omega arith)))
-          (ap (λ rows. unwrap_or (option_map (λ row. number_in (column row 0)) (only (map shown_next rows))) 0)
-          (filter_put 0 1 1 _ _ _ _ it is) ∙ ap (λ r. number_in (column (shown_next r) 0)) it.fits)
+          (ap next_in it.rows_are)
           (λ sid. ap (λ rows. sessions_in rows sid) (o.session (omega arith)))
           (λ sid slot. ap (λ rows. slots_in rows sid slot)
-          (still_slots 0 old.now new.now room done.schema done.sound (omega arith) o));
+          (still_slots 0 old.now new.now room it.schema it.sound (omega arith) o));
     }
 
--- the database is sound then, and a table `slot` is as it was
-pub next_beside : (old new : State) (n count : ℕ) → IsRoomDatabase old.now
-    → ExecutesInside 0 put_next_text (Int (pos n) ∷ []) old new (Ok count)
-    → IsDatabase new.now × (old.now.schema ≡ room_schema Upgraded → new.now.trees 8 ≡ old.now.trees 8)
-next_beside old new n count room h =
-    let ran = executes_inside put_next_text _ old new count h in (
-      (puts_next room.layout old new n count room.schema room.keyed.room ran.0).sound,
-      λ is. (puts_next Upgraded old new n count is room.keyed.room ran.0).put.tables.1.1.1.1.1.0 (omega arith),
-    )
+-- what an UPDATE leaves, by how many rows it changed
+next_changed : (old new : State) (n count : ℕ) (room : IsRoomDatabase old.now)
+    → ExecutesInside 0 change_next_text (Int (pos n) ∷ []) old new (Ok count)
+    → ChangesNext room.layout n count old.now new.now
+next_changed old new n count room h = changes_next room.layout old new n count room.schema room.keyed.room
+    (executes_inside change_next_text _ old new count h).0
+
+pub change_sets_next : (old new : State) (n count : ℕ) → IsRoomDatabase old.now
+    → ExecutesInside 0 change_next_text (Int (pos n) ∷ []) old new (Ok (suc count)) → SetsNext old new n
+change_sets_next old new n count room h = sets_put old new n room (next_changed old new n (suc count) room h)
+    (λ s. (changes_next Upgraded old new n (suc count) s room.keyed.room
+    (executes_inside change_next_text _ old new (suc count) h).0).put.tables.1.1.1.1.1.0 (omega arith))
+
+-- where it changed none, the INSERT behind it adds the row
+pub add_sets_next : (old mid new : State) (n count : ℕ) → IsRoomDatabase old.now
+    → ExecutesInside 0 change_next_text (Int (pos n) ∷ []) old mid (Ok 0)
+    → ExecutesInside 0 add_next_text (Int (pos n) ∷ []) mid new (Ok count) → SetsNext old new n
+add_sets_next old mid new n count room none one =
+    let first = (executes_inside change_next_text _ old mid 0 none).0 in
+    let second = (executes_inside add_next_text _ mid new count one).0 in
+    let left = next_changed old mid n 0 room none in
+    let a = steps_left_next old mid room left.leaves in
+    let b = sets_put mid new n a.room (adds_next a.room.layout mid new n count a.room.schema second)
+    (λ s. (adds_next Upgraded mid new n count s second).put.tables.1.1.1.1.1.0 (omega arith)) in
+    record {
+      version = b.version;
+      sound = b.sound;
+      beside = λ s.
+          let same = changes_next Upgraded old mid n 0 s room.keyed.room first in
+          b.beside same.leaves.schema ∙ same.tables.1.1.1.1.1.0 (omega arith);
+      nodes = b.nodes ∙ left.leaves.others.node (omega arith);
+      steps = record {
+        room = b.steps.room;
+        schema = b.steps.schema ∙ a.schema;
+        records = b.steps.records ∙ ap (apply_change (PutNext n)) a.records;
+        version = λ _. b.version;
+      };
+    }
 
 -- ---- changes in turn
 

@@ -8,6 +8,7 @@ pub mod Removed
 pub mod Queries
 pub mod Changes
 pub mod Upserts
+pub mod Writes
 pub mod Puts
 pub mod Takes
 pub mod Filters

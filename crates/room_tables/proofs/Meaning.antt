@@ -20,9 +20,10 @@ use Rattle.room_tables.specs.Texts.{drop_slots_text, find_child_query, find_chil
 use Rattle.room_tables.specs.Texts.{find_next_query, find_next_text, find_node_query, find_node_text}
 use Rattle.room_tables.specs.Texts.{find_session_query, find_session_text, find_slot_query, find_slot_text}
 use Rattle.room_tables.specs.Texts.{find_version_query, find_version_text, list_children_query, list_children_text}
-use Rattle.room_tables.specs.Texts.{list_entries_query, list_entries_text, put_doc_clause, put_doc_terms, put_doc_text}
-use Rattle.room_tables.specs.Texts.{put_next_clause, put_next_terms, put_next_text, put_node_clause, put_node_terms}
-use Rattle.room_tables.specs.Texts.{put_node_text, put_session_clause, put_session_terms, put_session_text}
+use Rattle.room_tables.specs.Texts.{list_entries_query, list_entries_text, change_doc_query, change_doc_text}
+use Rattle.room_tables.specs.Texts.{add_doc_terms, add_doc_text, change_next_query, change_next_text, add_next_terms}
+use Rattle.room_tables.specs.Texts.{add_next_text, put_node_clause, put_node_terms, put_node_text, add_node_text}
+use Rattle.room_tables.specs.Texts.{put_session_clause, put_session_terms, put_session_text}
 use Rattle.room_tables.specs.Texts.{change_slot_query, change_slot_text, add_slot_terms, add_slot_text}
 use Rattle.room_tables.specs.Texts.{read_entries_query, read_entries_text, copy_row_query, copy_row_text}
 use Rattle.room_tables.specs.Texts.{take_row_query, take_row_text, list_names_query, list_names_text}
@@ -226,16 +227,27 @@ pub add_four_plain : (l : Layout) → IsPlain (understood (room_schema l) add_fo
 unfolding understood everything
 add_four_plain l = (refl, refl)
 
-pub put_next_is : (l : Layout) → command_of (understood (room_schema l) put_next_text)
-    ≡ InsertOr 0 Abort (Values put_next_terms 4) (put_next_clause ∷ [])
+pub change_next_is : (l : Layout) → command_of (understood (room_schema l) change_next_text)
+    ≡ Update 0 (record { lets = []; body = change_next_query })
 unfolding understood everything
-put_next_is Fresh = refl
-put_next_is Upgraded = refl
+change_next_is Fresh = refl
+change_next_is Upgraded = refl
 
-pub put_next_plain : (l : Layout) → IsPlain (understood (room_schema l) put_next_text)
+pub change_next_plain : (l : Layout) → IsPlain (understood (room_schema l) change_next_text)
 unfolding understood everything
-put_next_plain Fresh = (refl, refl)
-put_next_plain Upgraded = (refl, refl)
+change_next_plain Fresh = (refl, refl)
+change_next_plain Upgraded = (refl, refl)
+
+pub add_next_is : (l : Layout) → command_of (understood (room_schema l) add_next_text)
+    ≡ Insert 0 (Values add_next_terms 4)
+unfolding understood everything
+add_next_is Fresh = refl
+add_next_is Upgraded = refl
+
+pub add_next_plain : (l : Layout) → IsPlain (understood (room_schema l) add_next_text)
+unfolding understood everything
+add_next_plain Fresh = (refl, refl)
+add_next_plain Upgraded = (refl, refl)
 
 pub put_node_is : (l : Layout) → command_of (understood (room_schema l) put_node_text)
     ≡ InsertOr 1 Abort (Values put_node_terms 8) (put_node_clause ∷ [])
@@ -248,16 +260,38 @@ unfolding understood everything
 put_node_plain Fresh = (refl, refl)
 put_node_plain Upgraded = (refl, refl)
 
-pub put_doc_is : (l : Layout) → command_of (understood (room_schema l) put_doc_text)
-    ≡ InsertOr 3 Abort (Values put_doc_terms 3) (put_doc_clause ∷ [])
+pub add_node_is : (l : Layout) → command_of (understood (room_schema l) add_node_text)
+    ≡ Insert 1 (Values put_node_terms 8)
 unfolding understood everything
-put_doc_is Fresh = refl
-put_doc_is Upgraded = refl
+add_node_is Fresh = refl
+add_node_is Upgraded = refl
 
-pub put_doc_plain : (l : Layout) → IsPlain (understood (room_schema l) put_doc_text)
+pub add_node_plain : (l : Layout) → IsPlain (understood (room_schema l) add_node_text)
 unfolding understood everything
-put_doc_plain Fresh = (refl, refl)
-put_doc_plain Upgraded = (refl, refl)
+add_node_plain Fresh = (refl, refl)
+add_node_plain Upgraded = (refl, refl)
+
+pub change_doc_is : (l : Layout) → command_of (understood (room_schema l) change_doc_text)
+    ≡ Update 3 (record { lets = []; body = change_doc_query })
+unfolding understood everything
+change_doc_is Fresh = refl
+change_doc_is Upgraded = refl
+
+pub change_doc_plain : (l : Layout) → IsPlain (understood (room_schema l) change_doc_text)
+unfolding understood everything
+change_doc_plain Fresh = (refl, refl)
+change_doc_plain Upgraded = (refl, refl)
+
+pub add_doc_is : (l : Layout) → command_of (understood (room_schema l) add_doc_text)
+    ≡ Insert 3 (Values add_doc_terms 3)
+unfolding understood everything
+add_doc_is Fresh = refl
+add_doc_is Upgraded = refl
+
+pub add_doc_plain : (l : Layout) → IsPlain (understood (room_schema l) add_doc_text)
+unfolding understood everything
+add_doc_plain Fresh = (refl, refl)
+add_doc_plain Upgraded = (refl, refl)
 
 pub put_session_is : (l : Layout) → command_of (understood (room_schema l) put_session_text)
     ≡ InsertOr 4 Abort (Values put_session_terms 5) (put_session_clause ∷ [])
