@@ -1,12 +1,16 @@
 -- What changes leave is still right.
-use Rattle.std.proofs.Common.{◌≡◌, ℕ, refl, ap, ◌∙◌, sym, subst, List, [], ◌∷◌, Option, None, Some, IfSome}
+use Rattle.std.proofs.Common.{◌≡◌, ℕ, refl, ap, ◌∙◌, sym, subst, List, [], ◌∷◌, Option, None, Some, IfSome, IsSome, true, false}
 use Rattle.room_acl.specs.Entries.{EntryModel}
 use Rattle.room_slots.specs.Slots.{kept_seq}
 use Rattle.room_records.specs.declared.change.Change.{Change}
-use Rattle.room_records.specs.Records.{Records}
+use Rattle.room_records.specs.Records.{ObjectRecords, Records}
 use Rattle.room_records.specs.Changes.{Leave, Untouched, apply_change}
 use Rattle.room_cache.specs.declared.known.Known.{Known}
-use Rattle.room_cache.specs.Known.{Fits, IsDecidedBy, IsLeft}
+use Rattle.room_cache.specs.Known.{Fits, AreSeqs, IsDecidedBy, IsLeft}
+use Rattle.room_cache.specs.Rows.{row_at}
+use Rattle.std.specs.Ordering.{nat_cmp}
+use Rattle.room_records.specs.Names.{Name, name_cmp}
+use Rattle.room_records.specs.Sessions.{slot_cmp}
 
 for_some : {X : Type 0} (P : X → Type 0) (o : Option X) → ((x : X) → o ≡ Some x → P x) → IfSome o P
 for_some P None each = tt
@@ -14,6 +18,11 @@ for_some P (Some x) each = each x refl
 
 at_some : {X : Type 0} (P : X → Type 0) (o : Option X) (x : X) → o ≡ Some x → IfSome o P → P x
 at_some {X} P o x is h = let Q : Option X → Type 0 = λ q. IfSome q P in subst Q is h
+
+pub none_some : {X : Type 0} (o : Option X) (x : X) → o ≡ None → o ≡ Some x → ⊥
+none_some {X} o x none is =
+    let P : Option X → Type 0 = λ p. IsSome p in
+    let f : false ≡ true = subst P none (subst P (sym is) refl) in cc
 
 pub left_itself : (known : Known) → IsLeft [] known known
 left_itself known = record {
@@ -23,6 +32,36 @@ left_itself known = record {
   decisions = λ id made held. (held, tt);
   seqs = λ r are. are;
   next = for_some _ known.next (λ next held. (held, tt));
+}
+
+-- a change that leaves all but slots, and what is remembered of them
+pub others_left : (change : Change) (old new : Known) → new ≡ record old { seqs = new.seqs }
+    → ((r : Records) → AreSeqs r old.seqs → AreSeqs (apply_change change r) new.seqs)
+    → ((r : Records) → (apply_change change r).session ≡ r.session)
+    → ((r : Records) → (apply_change change r).objects ≡ r.objects) → IsLeft (change ∷ []) old new
+others_left change old new same seqs sessions objects = record {
+  sessions = λ sid row held.
+      (sym (ap (λ (k : Known). row_at name_cmp k.sessions sid) same) ∙ held, ((λ r. ap (λ f. f sid) (sessions r)), tt));
+  nodes = λ id node held. (sym (ap (λ (k : Known). row_at nat_cmp k.nodes id) same) ∙ held, ((λ r. ap (λ (t : ObjectRecords). t.node id) (objects r)), tt));
+  lists = λ id list held. (sym (ap (λ (k : Known). row_at nat_cmp k.lists id) same) ∙ held, ((λ r. ap (λ (t : ObjectRecords). t.entries id) (objects r)), tt));
+  decisions = λ id made held.
+      (sym (ap (λ (k : Known). row_at nat_cmp k.decisions id) same) ∙ held, ((λ r. ap (λ (t : ObjectRecords). t.entries id) (objects r)), tt));
+  seqs = seqs;
+  next = for_some _ new.next (λ next held. (sym (ap (λ (k : Known). k.next) same) ∙ held, ((λ r. ap (λ (t : ObjectRecords). t.next) (objects r)), tt)));
+}
+
+-- nothing is remembered
+pub nothing_fits : (r : Records) (known : Known) → ((k : List ℕ) → row_at name_cmp known.sessions k ≡ None)
+    → ((k : ℕ) → row_at nat_cmp known.nodes k ≡ None) → ((k : ℕ) → row_at nat_cmp known.lists k ≡ None)
+    → ((k : ℕ) → row_at nat_cmp known.decisions k ≡ None) → ((k : Name × ℕ) → row_at slot_cmp known.seqs k ≡ None)
+    → known.next ≡ None → Fits r known
+nothing_fits r known sessions nodes lists decisions seqs next = record {
+  sessions = λ sid row held. absurd (none_some _ row (sessions sid) held);
+  nodes = λ id node held. absurd (none_some _ node (nodes id) held);
+  lists = λ id list held. absurd (none_some _ list (lists id) held);
+  decisions = λ id made held d in_made. absurd (none_some _ made (decisions id) held);
+  seqs = λ sid slot seq held. absurd (none_some _ seq (seqs (sid, slot)) held);
+  next = subst (λ (o : Option ℕ). IfSome o (λ n. r.objects.next ≡ n)) (sym next) tt;
 }
 
 -- one change, and then the others

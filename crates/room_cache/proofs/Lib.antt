@@ -1,3 +1,4 @@
 pub mod Keys
 pub mod Left
 pub mod Remembered
+pub mod Seqs

@@ -1,8 +1,12 @@
 use Rattle.std.proofs.Common.{refl, ap, sym, subst, inl, inr, Some, cond, [], ◌∷◌, rules}
 use Rattle.room_records.specs.declared.change.Change.{Change}
+use Rattle.room_records.specs.declared.change.Change.TheVariants.{PutSlot, DropSlots}
+use Rattle.room_records.specs.Changes.{apply_change}
 use Rattle.room_records.proofs.SessionKeys.{name_test}
 use Rattle.room_cache.specs.Known.{IsLeft}
 use Rattle.room_cache.proofs.Keys.{other_name}
+use Rattle.room_cache.proofs.Left.{others_left}
+use Rattle.room_cache.proofs.Seqs.{no_seqs}
 use Rattle.room_cache.proofs.known.Known.forget.Goals as goal
 
 pub returns-in-PutSession : goal.returns-in-PutSession
@@ -28,3 +32,20 @@ returns-in-PutSession c =
       seqs = λ r are. are;
       next = search rules;
     })
+
+pub returns-in-PutSlot : goal.returns-in-PutSlot
+returns-in-PutSlot c =
+    let row = c.in-PutSlot.row in
+    let P : Change → Type 0 = λ change. IsLeft (change ∷ []) c.args.self.now c.replace_seq.new.self in
+    subst P (sym c.in-PutSlot.is) (others_left (PutSlot row) c.args.self.now c.replace_seq.new.self
+    c.replace_seq.ensures.others c.replace_seq.ensures.seqs
+    (λ r. refl) (λ r. refl))
+
+pub returns-in-DropSlots : goal.returns-in-DropSlots
+returns-in-DropSlots c =
+    let P : Change → Type 0 = λ change. IsLeft (change ∷ []) c.args.self.now
+    (record c.args.self.now { seqs = c.clear.new.self }) in
+    subst P (sym c.in-DropSlots.is) (others_left (DropSlots c.in-DropSlots.field-0) c.args.self.now
+    (record c.args.self.now { seqs = c.clear.new.self }) refl
+    (λ r are. no_seqs (apply_change (DropSlots c.in-DropSlots.field-0) r) c.clear.new.self c.clear.ensures)
+    (λ r. refl) (λ r. refl))
