@@ -1,7 +1,7 @@
 -- The names and kinds of a folder's nodes, as the rows show them.
 use Rattle.std.proofs.Common.{◌≡◌, ℕ, pos, List, [], ◌∷◌, ◌<◌, length, map, filter, refl, sym, ap, subst, ◌∙◌}
-use Rattle.std.proofs.Common.{IsPermutation, IsSorted}
-use Rattle.std.specs.List.{swap}
+use Rattle.std.proofs.Common.{IsPermutation, IsSorted, option_map}
+use Rattle.std.specs.List.{swap, filter_map, cons_option}
 use Rattle.std.proofs.Math.ListN.{set, get_or, get_or-map}
 use Rattle.std.proofs.lemmas.List.{map-set}
 use Rattle.std.proofs.lemmas.List.Sorted.{IsPermutation-refl, IsPermutation-trans, IsPermutation-swap}
@@ -12,11 +12,17 @@ use Rattle.sqlite_sql.specs.Query.{Output, key_cmp}
 use Rattle.sqlite_sql.proofs.QueryLemmas.{key_cmp_total}
 use Rattle.sqlite_keyed.proofs.ListLemmas.{filter_same, ascending_from_map, map-map}
 use Rattle.sqlite.specs.State.{State, Shown}
+use Rattle.sqlite.specs.Effect.{Database}
+use Rattle.room_slots.specs.Slots.{kept_seq}
+use Rattle.room_records.specs.Rules.{ObjectRules}
+use Rattle.room_records.specs.Shelf.{AreNames, listed}
 use Rattle.room_tables.specs.Tables.{room_schema}
 use Rattle.room_tables.specs.Layout.{IsRoomDatabase}
 use Rattle.room_tables.specs.Texts.{list_names_text, list_names_query}
-use Rattle.room_tables.specs.Rows.{has, shown_node, name_and_kind}
+use Rattle.room_tables.specs.Rows.{has, shown_node, name_and_kind, listed_of, node_of, records_of, only, seq_of, kept_of}
+use Rattle.room_tables.specs.Rows.{shown_seq, shown_slot}
 use Rattle.room_tables.specs.Names.{name_keys, name_key, AreNameRows}
+use Rattle.room_tables.proofs.Children.{are_children}
 use Rattle.room_tables.proofs.Meaning.{list_names_is, list_names_plain}
 use Rattle.room_tables.proofs.Queries.{passing, and_true, picked, sorted_keys}
 use Rattle.room_tables.proofs.Sorted.{ascending_from_sorted}
@@ -77,3 +83,26 @@ asks_names old new parent rows room h =
       k.is ∙ ap (map (λ (o : Output). o.1)) moved.2 ∙ map-map (λ (o : Output). o.1) named_output moved.0
           ∙ sym (map-map name_and_kind shown_node moved.0),
     )
+
+-- ---- what they list
+
+same_listed : (nodes : List Row) → filter_map listed_of (map name_and_kind nodes) ≡ filter_map listed (map node_of nodes)
+same_listed [] = refl
+same_listed (r ∷ nodes) = ap (cons_option (listed (node_of r))) (same_listed nodes)
+
+pub are_names : (db : Database) (p : ℕ) (rows : List Row) → IsRoomDatabase db
+    → ObjectRules (records_of db.trees).objects → AreNameRows db.trees p rows
+    → AreNames (records_of db.trees).objects p (filter_map listed_of rows)
+are_names db p rows room rules h = (
+  map node_of h.0,
+  are_children db p h.0 room rules h.1 h.2,
+  ap (filter_map listed_of) h.3 ∙ same_listed h.0,
+)
+
+-- ---- the number of a slot
+
+pub same_seq : (rows : List Row)
+    → option_map seq_of (only (map shown_seq rows)) ≡ kept_seq (option_map kept_of (only (map shown_slot rows)))
+same_seq [] = refl
+same_seq (r ∷ []) = refl
+same_seq (r ∷ other ∷ rows) = refl
