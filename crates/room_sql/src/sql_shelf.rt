@@ -8,8 +8,8 @@ ghost use Rattle.room_sql.specs.Known.{KnowsNothing};
 
 use crate::known::Known;
 use crate::rows::{
-    all_entries, all_names, all_nodes, first_node, one_count, one_doc, one_kept, one_node, one_number,
-    one_seq, one_session,
+    all_entries, all_names, all_nodes, first_node, one_count, one_doc, one_kept, one_node,
+    one_number, one_seq, one_session,
 };
 use crate::{deciding, reads, writes};
 use room_acl::{Decision, Entry, Kind, Mask, Standing, Subject};
