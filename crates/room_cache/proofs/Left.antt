@@ -1,5 +1,6 @@
 -- What changes leave is still right.
-use Rattle.std.proofs.Common.{◌≡◌, ℕ, refl, ap, ◌∙◌, sym, subst, List, [], ◌∷◌, Option, None, Some, IfSome, IsSome, true, false}
+use Rattle.std.proofs.Common.{◌≡◌, ℕ, refl, ap, ◌∙◌, sym, subst, List, [], ◌∷◌, Option, None, Some}
+use Rattle.std.proofs.Common.{IfSome, IsSome, true, false}
 use Rattle.room_acl.specs.Entries.{EntryModel}
 use Rattle.room_slots.specs.Slots.{kept_seq}
 use Rattle.room_records.specs.declared.change.Change.{Change}
@@ -39,16 +40,24 @@ pub others_left : (change : Change) (old new : Known) → new ≡ record old { s
     → ((r : Records) → AreSeqs r old.seqs → AreSeqs (apply_change change r) new.seqs)
     → ((r : Records) → (apply_change change r).session ≡ r.session)
     → ((r : Records) → (apply_change change r).objects ≡ r.objects) → IsLeft (change ∷ []) old new
-others_left change old new same seqs sessions objects = record {
-  sessions = λ sid row held.
-      (sym (ap (λ (k : Known). row_at name_cmp k.sessions sid) same) ∙ held, ((λ r. ap (λ f. f sid) (sessions r)), tt));
-  nodes = λ id node held. (sym (ap (λ (k : Known). row_at nat_cmp k.nodes id) same) ∙ held, ((λ r. ap (λ (t : ObjectRecords). t.node id) (objects r)), tt));
-  lists = λ id list held. (sym (ap (λ (k : Known). row_at nat_cmp k.lists id) same) ∙ held, ((λ r. ap (λ (t : ObjectRecords). t.entries id) (objects r)), tt));
-  decisions = λ id made held.
-      (sym (ap (λ (k : Known). row_at nat_cmp k.decisions id) same) ∙ held, ((λ r. ap (λ (t : ObjectRecords). t.entries id) (objects r)), tt));
-  seqs = seqs;
-  next = for_some _ new.next (λ next held. (sym (ap (λ (k : Known). k.next) same) ∙ held, ((λ r. ap (λ (t : ObjectRecords). t.next) (objects r)), tt)));
-}
+others_left change old new same seqs sessions objects =
+    let node : (id : ℕ) (r : Records) → (apply_change change r).objects.node id ≡ r.objects.node id =
+    λ id r. ap (λ (t : ObjectRecords). t.node id) (objects r) in
+    let entries : (id : ℕ) (r : Records) → (apply_change change r).objects.entries id ≡ r.objects.entries id =
+    λ id r. ap (λ (t : ObjectRecords). t.entries id) (objects r) in
+    record {
+      sessions = λ sid row held. (
+        sym (ap (λ (k : Known). row_at name_cmp k.sessions sid) same) ∙ held,
+        ((λ r. ap (λ f. f sid) (sessions r)), tt),
+      );
+      nodes = λ id node held. (sym (ap (λ (k : Known). row_at nat_cmp k.nodes id) same) ∙ held, (node id, tt));
+      lists = λ id list held. (sym (ap (λ (k : Known). row_at nat_cmp k.lists id) same) ∙ held, (entries id, tt));
+      decisions = λ id made held.
+          (sym (ap (λ (k : Known). row_at nat_cmp k.decisions id) same) ∙ held, (entries id, tt));
+      seqs = seqs;
+      next = for_some _ new.next (λ next held.
+          (sym (ap (λ (k : Known). k.next) same) ∙ held, ((λ r. ap (λ (t : ObjectRecords). t.next) (objects r)), tt)));
+    }
 
 -- nothing is remembered
 pub nothing_fits : (r : Records) (known : Known) → ((k : List ℕ) → row_at name_cmp known.sessions k ≡ None)

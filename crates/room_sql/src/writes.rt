@@ -370,7 +370,8 @@ pub(crate) fn put_entries<S: Alter>(
     add_entries(tx, id, entries.as_slice())
 }
 
-/// Replaces the document, and adds it where there was none. An upsert costs more than the one statement that it comes to.
+/// Replaces the document, and adds it where there was none. An upsert costs more than the one statement that it comes
+/// to.
 fn put_doc<S: Alter>(tx: &mut Transaction<'_, S>, id: u32, bytes: &Vec<u8>) -> Result<(), Error>
     ensures frame { InsideFrame S.Store tx.old tx.new result }
     ensures ok { HasCleanDisk (state S.Store tx.new.conn.now)

@@ -19,8 +19,8 @@ use Rattle.room_records.specs.Shelf.{AreNames, listed}
 use Rattle.room_tables.specs.Tables.{room_schema}
 use Rattle.room_tables.specs.Layout.{IsRoomDatabase}
 use Rattle.room_tables.specs.Texts.{list_names_text, list_names_query}
-use Rattle.room_tables.specs.Rows.{has, shown_node, name_and_kind, listed_of, node_of, records_of, only, seq_of, kept_of}
-use Rattle.room_tables.specs.Rows.{shown_seq, shown_slot}
+use Rattle.room_tables.specs.Rows.{has, shown_node, name_and_kind, listed_of, node_of, records_of, only, seq_of}
+use Rattle.room_tables.specs.Rows.{kept_of, shown_seq, shown_slot}
 use Rattle.room_tables.specs.Names.{name_keys, name_key, AreNameRows}
 use Rattle.room_tables.proofs.Children.{are_children}
 use Rattle.room_tables.proofs.Meaning.{list_names_is, list_names_plain}
@@ -86,7 +86,8 @@ asks_names old new parent rows room h =
 
 -- ---- what they list
 
-same_listed : (nodes : List Row) → filter_map listed_of (map name_and_kind nodes) ≡ filter_map listed (map node_of nodes)
+same_listed : (nodes : List Row)
+    → filter_map listed_of (map name_and_kind nodes) ≡ filter_map listed (map node_of nodes)
 same_listed [] = refl
 same_listed (r ∷ nodes) = ap (cons_option (listed (node_of r))) (same_listed nodes)
 

@@ -43,7 +43,8 @@ use Rattle.room_tables.proofs.Upserts.{PutInto}
 -- no row of a table was changed, and no other table was
 pub record Left (l : Layout) (old new : Database) (tree : ℕ) : Type 0 where
   pub leaves : Leaves l old new tree (old.trees tree)
-  pub tables : AllByRecursion (λ (t : Table). t.tree ≢ tree → new.trees t.tree ≡ old.trees t.tree) (room_schema l).tables
+  pub tables : AllByRecursion (λ (t : Table). t.tree ≢ tree → new.trees t.tree ≡ old.trees t.tree)
+      (room_schema l).tables
 
 -- the parts of an UPDATE of the row with a number: what it reads, and the row that it makes
 pub record IsUpdate (l : Layout) (table : Table) (id : ℕ) (terms project : List Term) (params : Row)
@@ -191,7 +192,8 @@ pub adds_row : (l : Layout) (old new : State) (at : ℕ) (table : Table) (terms 
 adds_row l old new at table terms width count sql params source row id Fits Met place schema uncounted is plain quiet
     given_is row_is has_id fits h =
     let db = old.now.trees in
-    let it = inserted l old new at table sql params (Values terms width) count place schema uncounted is plain quiet h in
+    let it =
+    inserted l old new at table sql params (Values terms width) count place schema uncounted is plain quiet h in
     let news : new_rows db table it.given ≡ row ∷ [] =
     ap (new_rows db table) (it.source.1 ∙ given_is) ∙ row_is in
     let free : is_taken (db table.tree) row ≡ false =

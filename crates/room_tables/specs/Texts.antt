@@ -187,7 +187,8 @@ put_node_text = codes
 
 -- the same without the part for a row that is there, for a number that none has
 abbrev pub add_node_text : List ℕ
-add_node_text = codes "INSERT INTO node (id, parent, name, kind, owner, grp, aclflag) VALUES (?1, ?2, ?3, ?4, ?5, ?6, ?7)"
+add_node_text =
+    codes "INSERT INTO node (id, parent, name, kind, owner, grp, aclflag) VALUES (?1, ?2, ?3, ?4, ?5, ?6, ?7)"
 
 abbrev pub put_node_terms : List Term
 put_node_terms = col 0 0 ∷ lit Null ∷ col 0 1 ∷ col 0 2 ∷ col 0 3 ∷ col 0 4 ∷ col 0 5 ∷ col 0 6 ∷ []
