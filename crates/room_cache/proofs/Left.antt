@@ -41,19 +41,19 @@ pub others_left : (change : Change) (old new : Known) → new ≡ record old { s
     → ((r : Records) → (apply_change change r).session ≡ r.session)
     → ((r : Records) → (apply_change change r).objects ≡ r.objects) → IsLeft (change ∷ []) old new
 others_left change old new same seqs sessions objects =
-    let node : (id : ℕ) (r : Records) → (apply_change change r).objects.node id ≡ r.objects.node id =
+    let same_node : (id : ℕ) (r : Records) → (apply_change change r).objects.node id ≡ r.objects.node id =
     λ id r. ap (λ (t : ObjectRecords). t.node id) (objects r) in
-    let entries : (id : ℕ) (r : Records) → (apply_change change r).objects.entries id ≡ r.objects.entries id =
+    let same_entries : (id : ℕ) (r : Records) → (apply_change change r).objects.entries id ≡ r.objects.entries id =
     λ id r. ap (λ (t : ObjectRecords). t.entries id) (objects r) in
     record {
       sessions = λ sid row held. (
         sym (ap (λ (k : Known). row_at name_cmp k.sessions sid) same) ∙ held,
         ((λ r. ap (λ f. f sid) (sessions r)), tt),
       );
-      nodes = λ id node held. (sym (ap (λ (k : Known). row_at nat_cmp k.nodes id) same) ∙ held, (node id, tt));
-      lists = λ id list held. (sym (ap (λ (k : Known). row_at nat_cmp k.lists id) same) ∙ held, (entries id, tt));
+      nodes = λ id node held. (sym (ap (λ (k : Known). row_at nat_cmp k.nodes id) same) ∙ held, (same_node id, tt));
+      lists = λ id list held. (sym (ap (λ (k : Known). row_at nat_cmp k.lists id) same) ∙ held, (same_entries id, tt));
       decisions = λ id made held.
-          (sym (ap (λ (k : Known). row_at nat_cmp k.decisions id) same) ∙ held, (entries id, tt));
+          (sym (ap (λ (k : Known). row_at nat_cmp k.decisions id) same) ∙ held, (same_entries id, tt));
       seqs = seqs;
       next = for_some _ new.next (λ next held.
           (sym (ap (λ (k : Known). k.next) same) ∙ held, ((λ r. ap (λ (t : ObjectRecords). t.next) (objects r)), tt)));
