@@ -83,8 +83,8 @@ page: build
 	tests/page/run
 
 # Times `check`, a room in memory, a served room, its tables, SETLIST over many followers, `replay` and the reports; then
-# the program beside a server in C over libsqlite3, and counts the instructions of both; then the upgrade of large rooms
-# of version 1, and many rooms behind a front.
+# the program beside a server in C over libsqlite3, and counts the instructions of both, and as a room grows; then the
+# upgrade of large rooms of version 1, and many rooms behind a front.
 # Needs sqlite3, strace, valgrind, gcc, libsqlite3-dev and nginx.
 bench: build
 	bench/check
@@ -95,6 +95,7 @@ bench: build
 	bench/report
 	bench/side
 	bench/instructions
+	bench/growth
 	bench/upgrade
 	bench/many
 

@@ -43,9 +43,11 @@ export class Session {
     return this.kept.pending && JSON.parse(this.kept.pending.body);
   }
 
-  /** The reply to a command. Commands run one after another, in the order in which they are asked. */
+  /** The reply to a command. Commands run one after another, in the order in which they are asked. The body's members
+   * stand as in the command's text, so that the room knows a repeat by its bytes. */
   ask(command) {
-    return this.#inTurn(() => this.#new(JSON.stringify(command)));
+    const members = Object.entries(command).sort(([a], [b]) => (a < b ? -1 : 1));
+    return this.#inTurn(() => this.#new(JSON.stringify(Object.fromEntries(members))));
   }
 
   /** The reply to the request that was under way when the page ended. */

@@ -1,11 +1,12 @@
 -- Facts on bits that several proofs use.
-use Rattle.std.proofs.Common.{◌≡◌, ℕ, ◌*◌, ◌^◌, ◌<◌, ◌≤◌, refl, ap, sym, ◌∙◌, arith, ◌⊎◌, ◌≢◌, inl, inr, subst}
+use Rattle.std.proofs.Common.{◌≡◌, ℕ, ◌*◌, ◌^◌, ◌<◌, ◌≤◌, refl, ap, sym, ◌∙◌, arith, ◌⊎◌, ◌≢◌, inl, inr}
 use Rattle.std.proofs.Common.{lit<, Bool, true, false, List, [], ◌∷◌}
 use Rattle.std.specs.Prelude.{bit_and, bit_or, bit_xor, not, ◌&&◌, ◌||◌, ◌==◌, cond, nat_lt}
 use Rattle.std.specs.List.{list_any, list_all}
 use Rattle.std.specs.Int.{bit_at}
 use Rattle.std.proofs.lemmas.Nat.Bits.{and_pow, bit_at-lt, bit_at_and, bit_at_or, bit_at_xor, bit_at-zero}
 use Rattle.std.proofs.lemmas.Nat.Bits.{bit_at-pow_same, bit_at-pow_other, bit_at_above, same_from_bits}
+use Rattle.std.proofs.lemmas.Grind.{common_steps}
 use Rattle.std.proofs.lemmas.Bool.{cases_eq, cases_lt, eq-eqb, ne_eqb, agree_below_at, and_parts, ltb-true}
 use Rattle.room_acl.specs.Bits.{all_rights, has_bit, identifier_group, IsMask, named_bits, mask_of, mask_of_places}
 
@@ -62,17 +63,12 @@ at_other_place false p i other = rw bit_at-zero refl
 one_place : (test : ℕ → Bool) (p i : ℕ) → has_bit (cond (test p) (2 ^ p) 0) i ≡ ((p == i) && test i)
 one_place test p i =
     elim (cases_eq p i) [
-      | inl e ↦ (let P : ℕ → Type 0 = λ j. has_bit (cond (test p) (2 ^ p) 0) j ≡ ((p == j) && test j) in
-          subst P e (at_own_place (test p) p ∙ ap (λ b. b && test p) (sym (eq-eqb p p refl))))
+      | inl e ↦ rw (← e) (at_own_place (test p) p ∙ ap (λ b. b && test p) (sym (eq-eqb p p refl)))
       | inr other ↦ at_other_place (test p) p i (λ e. other (sym e)) ∙ ap (λ b. b && test i) (sym (ne_eqb p i other))
     ]
 
 or_and : (x y t : Bool) → ((x && t) || (y && t)) ≡ ((x || y) && t)
-or_and true true true = refl
-or_and true true false = refl
-or_and true false true = refl
-or_and true false false = refl
-or_and false y t = refl
+or_and x y t = grind (arith, common_steps)
 
 -- the bits of a mask made of places
 pub has_bit-mask_of_places : (test : ℕ → Bool) (places : List ℕ) (i : ℕ)
@@ -105,27 +101,14 @@ pub has_bit-mask_of : (test : ℕ → Bool) (i : ℕ) → has_bit (mask_of test)
 has_bit-mask_of test i = has_bit-mask_of_places test named_bits i ∙ ap (λ b. b && test i) (named_is_mask i)
 
 bit_of_test : (a b i : ℕ) → has_bit a i ≡ has_bit b i → bit_at a i ≡ bit_at b i
-bit_of_test a b i same =
-    elim (bit_cases a i) [
-      | inl p ↦ elim (bit_cases b i) [
-        | inl q ↦ p ∙ sym q
-        | inr q ↦ (let h : false ≡ true = ap (λ n. n == 1) (sym p) ∙ same ∙ ap (λ n. n == 1) q in cc)
-      ]
-      | inr p ↦ elim (bit_cases b i) [
-        | inl q ↦
-            (let h : true ≡ false = ap (λ n. n == 1) (sym p) ∙ same ∙ ap (λ n. n == 1) q in cc)
-        | inr q ↦ p ∙ sym q
-      ]
-    ]
+bit_of_test a b i same = grind (arith, common_steps)
 
 -- two numbers with the same bits are equal
 pub same_bits : (a b : ℕ) → ((i : ℕ) → has_bit a i ≡ has_bit b i) → a ≡ b
 same_bits a b same = same_from_bits a b (λ i. bit_of_test a b i (same i))
 
 all_but_refused : (n a : Bool) → (n && not (n && not a)) ≡ (n && a)
-all_but_refused true true = refl
-all_but_refused true false = refl
-all_but_refused false a = refl
+all_but_refused n a = grind (arith, common_steps)
 
 -- all rights but the refused ones are the allowed ones
 pub rights_but_refused : (test : ℕ → Bool) (refused : ℕ)
@@ -138,9 +121,7 @@ rights_but_refused test refused is = same_bits _ _ (λ bit.
     ∙ sym (has_bit-mask_of test bit))
 
 and_again : (n a : Bool) → ((n && a) && n) ≡ (n && a)
-and_again true true = refl
-and_again true false = refl
-and_again false a = refl
+and_again n a = grind (arith, common_steps)
 
 pub IsMask-mask_of : (test : ℕ → Bool) → IsMask (mask_of test)
 IsMask-mask_of test = same_bits _ _ (λ bit.

@@ -1,8 +1,9 @@
 -- The decision of a list, and its mask of allowed rights, in the standard's words.
 use Rattle.std.proofs.Common.{◌≡◌, ℕ, ◌^◌, ◌<◌, refl, ap, sym, ◌∙◌, arith, Bool, true, false, List}
 use Rattle.std.proofs.Common.{Option, Some, None, inl, inr}
-use Rattle.std.specs.Prelude.{◌&&◌, ◌||◌, ◌⊎◌, ◌↔◌, not, IsTrue}
-use Rattle.std.proofs.lemmas.Bool.{and_parts, cases_lt}
+use Rattle.std.specs.Prelude.{◌&&◌, ◌↔◌, not, IsTrue}
+use Rattle.std.proofs.lemmas.Grind.{common_steps}
+use Rattle.std.proofs.lemmas.Bool.{and_parts, cases_lt, or_cases, or_left, or_right}
 use Rattle.room_acl.specs.declared.subject.Standing.{Standing}
 use Rattle.room_acl.specs.declared.access.Decision.{Decision}
 use Rattle.room_acl.specs.declared.access.Decision.TheVariants.{Allowed, Denied}
@@ -10,26 +11,20 @@ use Rattle.room_acl.specs.Bits.{all_rights, has_bit, named_bits, IsMask}
 use Rattle.room_acl.specs.SubjectModel.{SubjectModel}
 use Rattle.room_acl.specs.Entries.{EntryModel}
 use Rattle.room_acl.specs.Access.{allows_bit, entries_allow, owner_may, allowed_mask, refused_bit}
-use Rattle.room_acl.specs.Access.{decision, decision_by}
-use Rattle.room_acl.specs.Access.{AllowsBit, AllowsMask, IsLowestRefused}
+use Rattle.room_acl.specs.Access.{decision, decision_by, AllowsBit, AllowsMask, IsLowestRefused}
 use Rattle.room_acl.proofs.BitTests.{has_bit-mask_of, wanted_is_named}
 use Rattle.room_acl.proofs.FirstEntry.{EntriesAllow-from_test, test-from_EntriesAllow}
 use Rattle.room_acl.proofs.Lowest.{found_passes, none_passes, lower_fails}
 
 -- a wanted bit that is not refused is allowed
 allowed_if : (w a : Bool) → w ≡ true → (w && not a) ≡ false → a ≡ true
-allowed_if true true wanted not_refused = refl
-allowed_if true false wanted not_refused = let no : true ≡ false = not_refused in cc
-allowed_if false a wanted not_refused = let no : false ≡ true = wanted in cc
+allowed_if w a wanted not_refused = grind (arith, common_steps)
 
 refused_parts : (w a : Bool) → (w && not a) ≡ true → (w ≡ true) × (a ≡ false)
-refused_parts true true refused = let no : false ≡ true = refused in cc
-refused_parts true false refused = (refl, refl)
-refused_parts false a refused = let no : false ≡ true = refused in cc
+refused_parts w a refused = grind (arith, common_steps)
 
 allowed-none : (o : Option ℕ) → decision_by o ≡ Allowed → o ≡ None
-allowed-none None is = refl
-allowed-none (Some bit) is = let no : Denied (2 ^ bit) ≡ Allowed = is in cc
+allowed-none o is = grind (arith, common_steps)
 
 denied-some : (o : Option ℕ) (refused : ℕ) → decision_by o ≡ Denied refused
     → (bit : ℕ) × ((o ≡ Some bit) × (refused ≡ 2 ^ bit))
@@ -39,29 +34,21 @@ denied-some (Some bit) refused is =
     let value : refused ≡ 2 ^ bit = cc in
     (bit, (refl, value))
 
-either_true : (a b : Bool) → (a || b) ≡ true → (a ≡ true) ⊎ (b ≡ true)
-either_true true b is = inl refl
-either_true false b is = inr is
-
-or_true : (a b : Bool) → b ≡ true → (a || b) ≡ true
-or_true true b is = refl
-or_true false b is = is
-
 abbrev refuses : List EntryModel → SubjectModel → Standing → ℕ → ℕ → Bool
 refuses entries caller standing wanted bit = has_bit wanted bit && not (allows_bit entries caller standing bit)
 
 module _ (entries : List EntryModel) (caller : SubjectModel) (standing : Standing) where
   allows-from_test : (bit : ℕ) → allows_bit entries caller standing bit ≡ true → AllowsBit entries caller standing bit
   allows-from_test bit is =
-      elim (either_true (owner_may caller standing bit) (entries_allow entries caller standing bit) is) [
+      elim (or_cases (owner_may caller standing bit) (entries_allow entries caller standing bit) is) [
         | inl owners ↦ inl owners
-        | inr entries_do ↦ inr (EntriesAllow-from_test entries caller standing bit entries_do)
+        | inr entries_do ↦ inr (EntriesAllow-from_test caller standing bit entries entries_do)
       ]
 
   test-from_allows : (bit : ℕ) → AllowsBit entries caller standing bit → allows_bit entries caller standing bit ≡ true
-  test-from_allows bit (inl owners) = ap (λ o. o || entries_allow entries caller standing bit) owners
+  test-from_allows bit (inl owners) = or_left (owner_may caller standing bit) _ owners
   test-from_allows bit (inr entries_do) =
-      or_true (owner_may caller standing bit) _ (test-from_EntriesAllow entries caller standing bit entries_do)
+      or_right (owner_may caller standing bit) _ (test-from_EntriesAllow caller standing bit entries entries_do)
 
   pub has_bit-allowed_mask : (bit : ℕ) → IsTrue (has_bit (allowed_mask entries caller standing) bit)
       ↔ (IsTrue (has_bit all_rights bit) × AllowsBit entries caller standing bit)

@@ -1,9 +1,9 @@
 -- The first of rising numbers that passes a test is the lowest that does.
-use Rattle.std.proofs.Common.{◌≡◌, ℕ, ◌+◌, ◌<◌, ◌≤◌, refl, ap, sym, ◌∙◌, arith, Bool, true, false, List, []}
+use Rattle.std.proofs.Common.{◌≡◌, ℕ, ◌+◌, ◌<◌, ◌≤◌, ap, sym, ◌∙◌, arith, Bool, true, false, List, []}
 use Rattle.std.proofs.Common.{◌∷◌, Some, None, inl, inr, ◌⊎◌}
-use Rattle.std.specs.Prelude.{◌&&◌, ◌||◌, ◌==◌, cond, nat_le}
+use Rattle.std.specs.Prelude.{◌&&◌, ◌||◌, ◌==◌, nat_le}
 use Rattle.std.specs.List.{find, list_any}
-use Rattle.std.proofs.lemmas.Bool.{and_parts, leb-true, cases_eq, ne_eqb}
+use Rattle.std.proofs.lemmas.Bool.{and_parts, leb-true, cases_Bool, cases_eq, ne_eqb}
 
 -- the numbers rise, from low on
 abbrev pub is_rising : ℕ → List ℕ → Bool
@@ -18,29 +18,23 @@ among_cases x n xs among =
     elim (cases_eq x n)
     [ inl same ↦ inl same | inr other ↦ inr (ap (λ b. b || is_in xs n) (sym (ne_eqb x n other)) ∙ among) ]
 
-found_first : (test : ℕ → Bool) (x k : ℕ) (xs : List ℕ) (b : Bool)
-    → test x ≡ b → cond b (Some x) (find test xs) ≡ Some k
-    → (find test xs ≡ Some k → test k ≡ true) → test k ≡ true
-found_first test x k xs true is found later =
-    let here : Some x ≡ Some k = found in
-    let same : x ≡ k = cc in
-    ap test (sym same) ∙ is
-found_first test x k xs false is found later = later found
-
 pub found_passes : (test : ℕ → Bool) (xs : List ℕ) (k : ℕ) → find test xs ≡ Some k → test k ≡ true
 found_passes test [] k found = let no : None ≡ Some k = found in cc
-found_passes test (x ∷ xs) k found = found_first test x k xs _ refl found (found_passes test xs k)
-
-none_first : (test : ℕ → Bool) (x n : ℕ) (xs : List ℕ) (b : Bool) → test x ≡ b → cond b (Some x) (find test xs) ≡ None
-    → (x ≡ n) ⊎ (is_in xs n ≡ true) → (find test xs ≡ None → is_in xs n ≡ true → test n ≡ false) → test n ≡ false
-none_first test x n xs true is found among later = let no : Some x ≡ None = found in cc
-none_first test x n xs false is found (inl same) later = ap test (sym same) ∙ is
-none_first test x n xs false is found (inr among) later = later found among
+found_passes test (x ∷ xs) k found = elim (cases_Bool (test x)) [
+  | inl passes ↦ (
+      let here : Some x ≡ Some k = rw passes at found in
+      let same : x ≡ k = cc in
+      rw (← same) passes)
+  | inr fails ↦ found_passes test xs k (rw fails at found)
+]
 
 pub none_passes : (test : ℕ → Bool) (xs : List ℕ) (n : ℕ) → find test xs ≡ None → is_in xs n ≡ true → test n ≡ false
 none_passes test [] n found among = let no : false ≡ true = among in cc
-none_passes test (x ∷ xs) n found among =
-    none_first test x n xs _ refl found (among_cases x n xs among) (none_passes test xs n)
+none_passes test (x ∷ xs) n found among = elim (cases_Bool (test x)) [
+  | inl passes ↦ (let no : Some x ≡ None = rw passes at found in cc)
+  | inr fails ↦ elim (among_cases x n xs among)
+      [ inl same ↦ rw (← same) fails | inr later ↦ none_passes test xs n (rw fails at found) later ]
+]
 
 pub in_rising : (low : ℕ) (xs : List ℕ) (n : ℕ) → is_rising low xs ≡ true → is_in xs n ≡ true → low ≤ n
 in_rising low [] n rising among = let no : false ≡ true = among in cc
@@ -52,26 +46,21 @@ in_rising low (x ∷ xs) n rising among =
       | inr later ↦ (let past : x + 1 ≤ n = in_rising (x + 1) xs n parts.1 later in omega arith)
     ]
 
-lower_first : (test : ℕ → Bool) (x k n : ℕ) (xs : List ℕ) (b : Bool)
-    → test x ≡ b → cond b (Some x) (find test xs) ≡ Some k → n < k
-    → is_rising (x + 1) xs ≡ true → (x ≡ n) ⊎ (is_in xs n ≡ true)
-    → (find test xs ≡ Some k → is_in xs n ≡ true → test n ≡ false) → test n ≡ false
-lower_first test x k n xs true is found below rising (inl same) later =
-    let here : Some x ≡ Some k = found in
-    let k_is : x ≡ k = cc in
-    absurd (omega arith)
-lower_first test x k n xs true is found below rising (inr among) later =
-    let here : Some x ≡ Some k = found in
-    let k_is : x ≡ k = cc in
-    let past : x + 1 ≤ n = in_rising (x + 1) xs n rising among in
-    absurd (omega arith)
-lower_first test x k n xs false is found below rising (inl same) later = ap test (sym same) ∙ is
-lower_first test x k n xs false is found below rising (inr among) later = later found among
-
 pub lower_fails : (test : ℕ → Bool) (low : ℕ) (xs : List ℕ) (k n : ℕ) → is_rising low xs ≡ true
     → find test xs ≡ Some k → n < k → is_in xs n ≡ true → test n ≡ false
 lower_fails test low [] k n rising found below among = let no : false ≡ true = among in cc
 lower_fails test low (x ∷ xs) k n rising found below among =
     let parts = and_parts (nat_le low x) (is_rising (x + 1) xs) rising in
-    lower_first test x k n xs _ refl found below parts.1 (among_cases x n xs among)
-    (λ later in_later. lower_fails test (x + 1) xs k n parts.1 later below in_later)
+    elim (cases_Bool (test x)) [
+      | inl passes ↦ (
+          let here : Some x ≡ Some k = rw passes at found in
+          let k_is : x ≡ k = cc in
+          elim (among_cases x n xs among) [
+            | inl same ↦ absurd (omega arith)
+            | inr later ↦ absurd (let past : x + 1 ≤ n = in_rising (x + 1) xs n parts.1 later in omega arith)
+          ])
+      | inr fails ↦ elim (among_cases x n xs among) [
+        | inl same ↦ rw (← same) fails
+        | inr later ↦ lower_fails test (x + 1) xs k n parts.1 (rw fails at found) below later
+      ]
+    ]

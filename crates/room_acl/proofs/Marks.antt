@@ -1,15 +1,12 @@
 -- Flags with the mark cleared.
-use Rattle.std.proofs.Common.{◌≡◌, ℕ, ◌*◌, ◌/◌, ◌%◌, ◌<◌, ap, sym, ◌∙◌, arith, bit_and, ◌==◌}
-use Rattle.std.proofs.lemmas.Nat.{and_assoc, and_mask}
-use Rattle.std.proofs.lemmas.Nat.Bits.{and_pow}
+use Rattle.std.proofs.Common.{◌≡◌, ℕ, ◌<◌, ap, sym, ◌∙◌, arith, bit_and}
+use Rattle.std.proofs.lemmas.Grind.{common_steps}
+use Rattle.std.proofs.lemmas.Nat.{and_assoc}
 use Rattle.room_acl.specs.Bits.{IsFlags, identifier_group, without_inherited}
 
 -- the flags without the mark
 pub cleared_flags : (f : ℕ) → f < 256 → without_inherited f ≡ bit_and f 0x7F
-cleared_flags f small =
-    let mark : bit_and f 0x80 ≡ f / 128 % 2 * 128 = and_pow f 7 in
-    let rest : bit_and f 0x7F ≡ f % 128 = and_mask f 7 in
-    omega (arith, mark, rest)
+cleared_flags f small = grind (arith, common_steps)
 
 -- are flags
 pub cleared_are_flags : (f : ℕ) → IsFlags f → IsFlags (bit_and f 0x7F)
@@ -20,7 +17,4 @@ cleared_are_flags f lawful =
 
 -- and keep IDENTIFIER_GROUP
 pub cleared_group : (f : ℕ) → identifier_group (bit_and f 0x7F) ≡ identifier_group f
-cleared_group f =
-    let rest : bit_and f 0x7F ≡ f % 128 = and_mask f 7 in
-    let bit : f % 128 / 64 % 2 ≡ f / 64 % 2 = omega arith in
-    ap identifier_group rest ∙ ap (λ b. b == 1) bit
+cleared_group f = grind (arith, common_steps)

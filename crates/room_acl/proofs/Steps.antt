@@ -1,16 +1,18 @@
 -- One entry of a list, as a walk over the list takes it.
-use Rattle.std.proofs.Common.{◌≡◌, ℕ, ◌+◌, ◌*◌, ◌%◌, ◌^◌, ◌<◌, ◌≤◌, refl, ap, sym, subst, ◌∙◌, Bool, true, false}
-use Rattle.std.proofs.Common.{List, [], ◌∷◌, drop, length, get_or, Some}
+use Rattle.std.proofs.Common.{◌≡◌, ℕ, ◌+◌, ◌*◌, ◌%◌, ◌^◌, ◌<◌, ◌≤◌, refl, ap, sym, ◌∙◌, Bool, true, false}
+use Rattle.std.proofs.Common.{arith, inl, inr, List, [], ◌∷◌, drop, length, get_or, Some}
 use Rattle.std.specs.Prelude.{not, ◌&&◌, ◌||◌, cond, bit_and, bit_or, bit_xor, nat_lt}
 use Rattle.std.specs.List.{find}
 use Rattle.std.proofs.lemmas.List.{at_drop_more, drop_more, drop_all}
-use Rattle.std.proofs.lemmas.Bool.{ltb-true, agree_below_at}
+use Rattle.std.proofs.lemmas.Bool.{ltb-true, agree_below_at, cases_Bool}
+use Rattle.std.proofs.Math.Bool.{and-true}
+use Rattle.std.proofs.lemmas.Grind.{common_steps}
 use Rattle.std.proofs.lemmas.Nat.{one_shl}
 use Rattle.room_acl.specs.declared.subject.Standing.{Standing}
 use Rattle.room_acl.specs.Bits.{all_rights, has_bit, named_bits, IsMask}
 use Rattle.room_acl.specs.SubjectModel.{SubjectModel}
 use Rattle.room_acl.specs.Entries.{EntryModel}
-use Rattle.room_acl.specs.Access.{entries_allow, allows_bit, owner_may, applies, decides, is_allow, decision_by}
+use Rattle.room_acl.specs.Access.{entries_allow, allows_bit, owner_may, applies, decides, decision_by}
 use Rattle.room_acl.specs.Pending.{PendingModel, refuses_with}
 use Rattle.room_acl.specs.declared.access.Decision.TheVariants.{Denied}
 use Rattle.room_acl.proofs.BitTests.{has_bit-none, has_bit-or, has_bit-and, has_bit-without, same_bits}
@@ -21,26 +23,13 @@ pub entries_allow-first : (entry : EntryModel) (rest : List EntryModel)
     entries_allow (entry ∷ rest) caller standing bit ≡ cond (applies caller standing entry && has_bit entry.mask bit)
     entry.allow (entries_allow rest caller standing bit)
 entries_allow-first entry rest caller standing bit =
-    at_test (applies caller standing entry && has_bit entry.mask bit) entry rest caller standing bit
-  where
-    at_test : (b : Bool) (entry : EntryModel) (rest : List EntryModel)
-        (caller : SubjectModel) (standing : Standing) (bit : ℕ) →
-        is_allow (cond b (Some entry) (find (decides caller standing bit) rest))
-        ≡ cond b entry.allow (entries_allow rest caller standing bit)
-    at_test true entry rest caller standing bit = refl
-    at_test false entry rest caller standing bit = refl
+    elim (cases_Bool (decides caller standing bit entry)) [ inl on ↦ rw on refl | inr off ↦ rw off refl ]
 
 pub allow_step : (d l m a : Bool) → (d || (l && not (cond m true a))) ≡ (d || ((l && not m) && not a))
-allow_step false false m a = refl
-allow_step false true true a = refl
-allow_step false true false a = refl
-allow_step true l m a = refl
+allow_step d l m a = grind (arith, common_steps)
 
 pub deny_step : (d l m a : Bool) → (d || (l && not (cond m false a))) ≡ ((d || (l && m)) || ((l && not m) && not a))
-deny_step false false m a = refl
-deny_step false true true a = refl
-deny_step false true false a = refl
-deny_step true l m a = refl
+deny_step d l m a = grind (arith, common_steps)
 
 -- one entry taken, where this list is still to come
 module _ (entry : EntryModel) (rest : List EntryModel)
@@ -48,22 +37,15 @@ module _ (entry : EntryModel) (rest : List EntryModel)
   pub bit_passed : applies caller standing entry ≡ false
       → refuses_with rest caller standing (record { left = left; denied = denied }) bit
       ≡ refuses_with (entry ∷ rest) caller standing (record { left = left; denied = denied }) bit
-  bit_passed off = sym (ap (λ a. has_bit denied bit || (has_bit left bit && not a))
-      (entries_allow-first entry rest caller standing bit
-      ∙ ap (λ b. cond (b && has_bit entry.mask bit) entry.allow (entries_allow rest caller standing bit)) off))
+  bit_passed off = rw off refl
 
   pub bit_allowed : applies caller standing entry ≡ true → entry.allow ≡ true
       → refuses_with rest caller standing
       (record { left = bit_xor left (bit_and left entry.mask); denied = denied }) bit
       ≡ refuses_with (entry ∷ rest) caller standing (record { left = left; denied = denied }) bit
-  bit_allowed on allow = sym (ap (λ a. has_bit denied bit || (has_bit left bit && not a))
-      (entries_allow-first entry rest caller standing bit
-      ∙ ap (λ b. cond (b && has_bit entry.mask bit) entry.allow (entries_allow rest caller standing bit)) on
-      ∙ ap (λ b. cond (has_bit entry.mask bit) b (entries_allow rest caller standing bit)) allow)
-      ∙ allow_step (has_bit denied bit) (has_bit left bit)
-      (has_bit entry.mask bit) (entries_allow rest caller standing bit)
-      ∙ ap (λ l. has_bit denied bit || (l && not (entries_allow rest caller standing bit)))
-      (sym (has_bit-without left entry.mask bit)))
+  bit_allowed on allow =
+      rw (has_bit-without left entry.mask bit, entries_allow-first entry rest caller standing bit, on, allow)
+      (sym (allow_step (has_bit denied bit) (has_bit left bit) (has_bit entry.mask bit) _))
 
   pub bit_denied : applies caller standing entry ≡ true → entry.allow ≡ false
       → refuses_with rest caller standing (record {
@@ -71,39 +53,29 @@ module _ (entry : EntryModel) (rest : List EntryModel)
         denied = bit_or denied (bit_and left entry.mask);
       }) bit
       ≡ refuses_with (entry ∷ rest) caller standing (record { left = left; denied = denied }) bit
-  bit_denied on deny = sym (ap (λ a. has_bit denied bit || (has_bit left bit && not a))
-      (entries_allow-first entry rest caller standing bit
-      ∙ ap (λ b. cond (b && has_bit entry.mask bit) entry.allow (entries_allow rest caller standing bit)) on
-      ∙ ap (λ b. cond (has_bit entry.mask bit) b (entries_allow rest caller standing bit)) deny)
-      ∙ deny_step (has_bit denied bit) (has_bit left bit)
-      (has_bit entry.mask bit) (entries_allow rest caller standing bit)
-      ∙ ap (λ l. (has_bit denied bit || (has_bit left bit && has_bit entry.mask bit))
-      || (l && not (entries_allow rest caller standing bit))) (sym (has_bit-without left entry.mask bit))
-      ∙ ap (λ d.
-      (d || (has_bit (bit_xor left (bit_and left entry.mask)) bit && not (entries_allow rest caller standing bit))))
-      (ap (λ x. has_bit denied bit || x) (sym (has_bit-and left entry.mask bit))
-      ∙ sym (has_bit-or denied (bit_and left entry.mask) bit)))
-
-pub and_true : (b : Bool) → (b && true) ≡ b
-and_true true = refl
-and_true false = refl
+  bit_denied on deny =
+      rw (
+        has_bit-or denied (bit_and left entry.mask) bit,
+        has_bit-and left entry.mask bit,
+        has_bit-without left entry.mask bit,
+        entries_allow-first entry rest caller standing bit,
+        on,
+        deny,
+      )
+      (sym (deny_step (has_bit denied bit) (has_bit left bit) (has_bit entry.mask bit) _))
 
 -- what an entry leaves
 module _ (entry : EntryModel) (caller : SubjectModel) (standing : Standing) (left bit : ℕ) where
   pub left_passed : applies caller standing entry ≡ false
       → has_bit left bit ≡ (has_bit left bit && not (decides caller standing bit entry))
-  left_passed off =
-      sym (ap (λ b. has_bit left bit && not (b && has_bit entry.mask bit)) off ∙ and_true (has_bit left bit))
+  left_passed off = rw off (sym (and-true (has_bit left bit)))
 
   pub left_taken : applies caller standing entry ≡ true → has_bit (bit_xor left (bit_and left entry.mask)) bit
       ≡ (has_bit left bit && not (decides caller standing bit entry))
-  left_taken on = has_bit-without left entry.mask bit
-      ∙ ap (λ b. has_bit left bit && not (b && has_bit entry.mask bit)) (sym on)
+  left_taken on = rw (has_bit-without left entry.mask bit, on) refl
 
 within : (l u m : Bool) → (l && u) ≡ l → ((l && not m) && u) ≡ (l && not m)
-within true u true h = refl
-within true u false h = h
-within false u m h = refl
+within l u m h = grind (arith, common_steps)
 
 pub IsMask-without : (left mask : ℕ) → IsMask left → IsMask (bit_xor left (bit_and left mask))
 IsMask-without left mask lawful = same_bits _ _ (λ bit.
@@ -122,13 +94,11 @@ same_decision a b same = λ i. decision_by (find (λ bit. same bit i) named_bits
 pub refused_at_end : (left denied : ℕ) (caller : SubjectModel) (standing : Standing) (bit : ℕ) →
     has_bit (bit_or denied left) bit ≡ refuses_with [] caller standing (record { left = left; denied = denied }) bit
 refused_at_end left denied caller standing bit =
-    has_bit-or denied left bit ∙ ap (λ l. has_bit denied bit || l) (sym (and_true (has_bit left bit)))
+    has_bit-or denied left bit ∙ ap (λ l. has_bit denied bit || l) (sym (and-true (has_bit left bit)))
 
 -- the owner's rights are taken out before the first entry, and the entries decide the others
 without_owners : (w o e : Bool) → ((w && not o) && not e) ≡ (w && not (o || e))
-without_owners true true e = refl
-without_owners true false e = refl
-without_owners false o e = refl
+without_owners w o e = grind (arith, common_steps)
 
 pub refused_at_start : (entries : List EntryModel) (caller : SubjectModel)
     (standing : Standing) (wanted left bit : ℕ) →
@@ -136,9 +106,8 @@ pub refused_at_start : (entries : List EntryModel) (caller : SubjectModel)
     → refuses_with entries caller standing (record { left = left; denied = 0 }) bit
     ≡ (has_bit wanted bit && not (allows_bit entries caller standing bit))
 refused_at_start entries caller standing wanted left bit is =
-    ap (λ d. d || (has_bit left bit && not (entries_allow entries caller standing bit))) (has_bit-none bit)
-    ∙ ap (λ l. l && not (entries_allow entries caller standing bit)) is
-    ∙ without_owners (has_bit wanted bit) (owner_may caller standing bit) (entries_allow entries caller standing bit)
+    rw (has_bit-none bit, is)
+    (without_owners (has_bit wanted bit) (owner_may caller standing bit) (entries_allow entries caller standing bit))
 
 -- the pending decision with the rest of the list to come refuses what the whole list refuses
 pub record Walked (entries rest : List EntryModel) (caller : SubjectModel)
@@ -147,14 +116,6 @@ pub record Walked (entries rest : List EntryModel) (caller : SubjectModel)
       ≡ (has_bit wanted bit && not (allows_bit entries caller standing bit))
 
 -- the next entry stands at the front of what is left
-pub walked_at : (entries : List EntryModel) (i : ℕ) (entry : EntryModel)
-    (caller : SubjectModel) (standing : Standing) (wanted : ℕ) (pending : PendingModel) →
-    i < length entries → entry ≡ get_or entries i entry → Walked entries (drop i entries) caller standing wanted pending
-    → Walked entries (entry ∷ drop (i + 1) entries) caller standing wanted pending
-walked_at entries i entry caller standing wanted pending below is w =
-    let P : List EntryModel → Type 0 = λ rest. Walked entries rest caller standing wanted pending in
-    subst P (drop_more entries i entry below ∙ ap (λ e. e ∷ drop (i + 1) entries) (sym is)) w
-
 pub walked_on : (entries : List EntryModel) (i : ℕ) (entry : EntryModel)
     (caller : SubjectModel) (standing : Standing) (wanted : ℕ) (old new : PendingModel) →
     i < length entries → entry ≡ get_or entries i entry
@@ -163,8 +124,9 @@ pub walked_on : (entries : List EntryModel) (i : ℕ) (entry : EntryModel)
     → Walked entries (drop i entries) caller standing wanted old
     → Walked entries (drop (i + 1) entries) caller standing wanted new
 walked_on entries i entry caller standing wanted old new below is taken w =
-    let here = walked_at entries i entry caller standing wanted old below is w in
-    record { at = λ bit. taken (drop (i + 1) entries) bit ∙ here.at bit }
+    let front : drop i entries ≡ entry ∷ drop (i + 1) entries =
+    drop_more entries i entry below ∙ ap (λ e. e ∷ drop (i + 1) entries) (sym is) in
+    record { at = λ bit. taken (drop (i + 1) entries) bit ∙ rw front at (w.at bit) }
 
 pub walked_all : (entries : List EntryModel) (i : ℕ) (caller : SubjectModel)
     (standing : Standing) (wanted : ℕ) (pending : PendingModel) →

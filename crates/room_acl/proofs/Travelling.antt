@@ -1,14 +1,15 @@
 -- What is handed down: by whom the flags are read, and what comes of handing down twice.
-use Rattle.std.proofs.Common.{◌≡◌, ℕ, refl, ap, sym, subst, ◌∙◌, Bool, true, false, List, [], ◌∷◌}
-use Rattle.std.proofs.Common.{Option, Some, None, inl, inr}
+use Rattle.std.proofs.Common.{◌≡◌, ℕ, refl, ap, sym, ◌∙◌, Bool, true, false, List, [], ◌∷◌}
+use Rattle.std.proofs.Common.{Option, Some, None, inl, inr, arith}
 use Rattle.std.specs.Prelude.{◌&&◌, ◌==◌, not, cond, bit_and, bit_or}
 use Rattle.std.specs.List.{list_all, AllByRecursion, cons_option}
 use Rattle.std.specs.Option.{option_map, option_map_or, option_and_then}
+use Rattle.std.proofs.lemmas.Grind.{common_steps}
 use Rattle.std.proofs.lemmas.Bool.{and_parts, eqb-true}
 use Rattle.room_acl.specs.declared.subject.Kind.{Kind}
 use Rattle.room_acl.specs.declared.subject.Kind.TheVariants.{File, Folder}
 use Rattle.room_acl.specs.declared.who.Who.{Who}
-use Rattle.room_acl.specs.declared.who.Who.TheVariants.{Owner, Group, Everyone, User, Members}
+use Rattle.room_acl.specs.declared.who.Who.TheVariants.{Everyone}
 use Rattle.room_acl.specs.Bits.{IsFlags, all_flags, identifier_group_flag, file_inherit, directory_inherit}
 use Rattle.room_acl.specs.Bits.{no_propagate, identifier_group, is_inherited}
 use Rattle.room_acl.specs.Entries.{EntryModel, IsEntry, names_its_kind}
@@ -128,9 +129,7 @@ pub record IsGiven (kind : Kind) (flags given : ℕ) : Type 0 where
   pub group : identifier_group given ≡ identifier_group flags
 
 same_group : (b x y : Bool) → y ≡ b → cond b x (not x) ≡ true → x ≡ y
-same_group true x y is h = h ∙ sym is
-same_group false true y is h = let no : false ≡ true = h in cc
-same_group false false y is h = sym is
+same_group b x y is h = grind (arith, common_steps)
 
 IsGiven-from_keeps : (kind : Kind) (b : Bool) (flags given : ℕ)
     → identifier_group flags ≡ b → keeps kind b given ≡ true → IsGiven kind flags given
@@ -166,11 +165,7 @@ row_is_given kind flags given bits row same =
 
 mapped-some : (entry y : EntryModel) (o : Option ℕ) → option_map (with_flags entry) o ≡ Some y
     → (given : ℕ) × ((o ≡ Some given) × (with_flags entry given ≡ y))
-mapped-some entry y None is = let no : None ≡ Some y = is in cc
-mapped-some entry y (Some given) is =
-    let here : Some (with_flags entry given) ≡ Some y = is in
-    let same : with_flags entry given ≡ y = cc in
-    (given, (refl, same))
+mapped-some entry y o is = grind (arith, common_steps)
 
 list_all-front : (p : EntryModel → Bool) (o : Option EntryModel) (rest : List EntryModel)
     → ((y : EntryModel) → o ≡ Some y → p y ≡ true)
@@ -206,11 +201,7 @@ hands_down_to_own (entry ∷ rest) kind = list_all-front (may_be_own kind) (entr
 
 names_same : (given flags : ℕ) (who : Who) → identifier_group given ≡ identifier_group flags
     → names_its_kind flags who ≡ true → names_its_kind given who ≡ true
-names_same given flags Owner same is = refl
-names_same given flags Group same is = refl
-names_same given flags Everyone same is = refl
-names_same given flags (User name) same is = ap not same ∙ is
-names_same given flags (Members name) same is = same ∙ is
+names_same given flags who same is = grind (arith, common_steps)
 
 lawful : (kind : Kind) (entry y : EntryModel) → IsEntry entry → entry_handed_down kind entry ≡ Some y → IsEntry y
 lawful kind entry y source is =
@@ -223,7 +214,7 @@ lawful kind entry y source is =
       who = source.who;
       kind = names_same some.0 entry.flags entry.who given.group source.kind;
     } in
-    subst IsEntry some.1.1 made
+    rw (← some.1.1) made
 
 each-front : (o : Option EntryModel) (rest : List EntryModel) → ((y : EntryModel) → o ≡ Some y → IsEntry y)
     → AllByRecursion IsEntry rest → AllByRecursion IsEntry (cons_option o rest)

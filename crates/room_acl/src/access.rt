@@ -53,7 +53,6 @@ fn after_all(entries: &[Entry], subject: &Subject, standing: &Standing, wanted: 
         ≡ (has_bit wanted bit && not (allows_bit entries.now subject.now standing.now bit)) }
     ensures named { IsMask wanted }
 {
-    let _ = wanted.bits();
     let mut pending = Pending::new(wanted, subject, standing);
     for entry in entries {
         pending.take(entry, subject, standing);

@@ -108,7 +108,6 @@ impl Entry {
         requires { identifier_group flags ≡ identifier_group self.now.flags }
         ensures { IfOk result (λ e. e ≡ record self.now { flags = flags }) }
     {
-        let _ = flags.bits();
         let who = self.who.clone()?;
         Ok(Entry {
             allow: self.allow,

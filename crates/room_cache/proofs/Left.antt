@@ -1,11 +1,18 @@
 -- What changes leave is still right.
-use Rattle.std.proofs.Common.{◌≡◌, ℕ, refl, ◌∙◌, sym, subst, List, [], ◌∷◌, Option, None, Some, IfSome}
+use Rattle.std.proofs.Common.{◌≡◌, ℕ, refl, ap, ◌∙◌, sym, subst, List, [], ◌∷◌, Option, None, Some}
+use Rattle.std.proofs.Common.{IfSome, IsSome, true, false}
 use Rattle.room_acl.specs.Entries.{EntryModel}
+use Rattle.room_slots.specs.Slots.{kept_seq}
 use Rattle.room_records.specs.declared.change.Change.{Change}
-use Rattle.room_records.specs.Records.{Records}
-use Rattle.room_records.specs.Changes.{Leave, Untouched}
+use Rattle.room_records.specs.Records.{ObjectRecords, Records}
+use Rattle.room_records.specs.Changes.{Leave, Untouched, apply_change}
 use Rattle.room_cache.specs.declared.known.Known.{Known}
-use Rattle.room_cache.specs.Known.{Fits, IsDecidedBy, IsLeft}
+use Rattle.room_cache.specs.Known.{Fits, AreSeqs, IsDecidedBy, IsLeft}
+use Rattle.room_cache.specs.Rows.{row_at}
+use Rattle.room_cache.proofs.Folders.{listed_stay}
+use Rattle.std.specs.Ordering.{nat_cmp}
+use Rattle.room_records.specs.Names.{Name, name_cmp}
+use Rattle.room_records.specs.Sessions.{slot_cmp}
 
 for_some : {X : Type 0} (P : X → Type 0) (o : Option X) → ((x : X) → o ≡ Some x → P x) → IfSome o P
 for_some P None each = tt
@@ -14,13 +21,61 @@ for_some P (Some x) each = each x refl
 at_some : {X : Type 0} (P : X → Type 0) (o : Option X) (x : X) → o ≡ Some x → IfSome o P → P x
 at_some {X} P o x is h = let Q : Option X → Type 0 = λ q. IfSome q P in subst Q is h
 
+pub none_some : {X : Type 0} (o : Option X) (x : X) → o ≡ None → o ≡ Some x → ⊥
+none_some {X} o x none is =
+    let P : Option X → Type 0 = λ p. IsSome p in
+    let f : false ≡ true = subst P none (subst P (sym is) refl) in cc
+
 pub left_itself : (known : Known) → IsLeft [] known known
 left_itself known = record {
   sessions = λ sid row held. (held, tt);
   nodes = λ id node held. (held, tt);
+  names = λ folder names held. (held, λ id. tt);
   lists = λ id list held. (held, tt);
   decisions = λ id made held. (held, tt);
+  seqs = λ r are. are;
   next = for_some _ known.next (λ next held. (held, tt));
+}
+
+-- a change that leaves all but slots, and what is remembered of them
+pub others_left : (change : Change) (old new : Known) → new ≡ record old { seqs = new.seqs }
+    → ((r : Records) → AreSeqs r old.seqs → AreSeqs (apply_change change r) new.seqs)
+    → ((r : Records) → (apply_change change r).session ≡ r.session)
+    → ((r : Records) → (apply_change change r).objects ≡ r.objects) → IsLeft (change ∷ []) old new
+others_left change old new same seqs sessions objects =
+    let same_node : (id : ℕ) (r : Records) → (apply_change change r).objects.node id ≡ r.objects.node id =
+    λ id r. ap (λ (t : ObjectRecords). t.node id) (objects r) in
+    let same_entries : (id : ℕ) (r : Records) → (apply_change change r).objects.entries id ≡ r.objects.entries id =
+    λ id r. ap (λ (t : ObjectRecords). t.entries id) (objects r) in
+    record {
+      sessions = λ sid row held. (
+        sym (ap (λ (k : Known). row_at name_cmp k.sessions sid) same) ∙ held,
+        ((λ r. ap (λ f. f sid) (sessions r)), tt),
+      );
+      nodes = λ id node held. (sym (ap (λ (k : Known). row_at nat_cmp k.nodes id) same) ∙ held, (same_node id, tt));
+      names = λ folder names held.
+          (sym (ap (λ (k : Known). row_at nat_cmp k.names folder) same) ∙ held, λ id. (same_node id, tt));
+      lists = λ id list held. (sym (ap (λ (k : Known). row_at nat_cmp k.lists id) same) ∙ held, (same_entries id, tt));
+      decisions = λ id made held.
+          (sym (ap (λ (k : Known). row_at nat_cmp k.decisions id) same) ∙ held, (same_entries id, tt));
+      seqs = seqs;
+      next = for_some _ new.next (λ next held.
+          (sym (ap (λ (k : Known). k.next) same) ∙ held, ((λ r. ap (λ (t : ObjectRecords). t.next) (objects r)), tt)));
+    }
+
+-- nothing is remembered
+pub nothing_fits : (r : Records) (known : Known) → ((k : List ℕ) → row_at name_cmp known.sessions k ≡ None)
+    → ((k : ℕ) → row_at nat_cmp known.nodes k ≡ None) → ((k : ℕ) → row_at nat_cmp known.names k ≡ None)
+    → ((k : ℕ) → row_at nat_cmp known.lists k ≡ None) → ((k : ℕ) → row_at nat_cmp known.decisions k ≡ None)
+    → ((k : Name × ℕ) → row_at slot_cmp known.seqs k ≡ None) → known.next ≡ None → Fits r known
+nothing_fits r known sessions nodes names lists decisions seqs next = record {
+  sessions = λ sid row held. absurd (none_some _ row (sessions sid) held);
+  nodes = λ id node held. absurd (none_some _ node (nodes id) held);
+  names = λ folder listed held. absurd (none_some _ listed (names folder) held);
+  lists = λ id list held. absurd (none_some _ list (lists id) held);
+  decisions = λ id made held d in_made. absurd (none_some _ made (decisions id) held);
+  seqs = λ sid slot seq held. absurd (none_some _ seq (seqs (sid, slot)) held);
+  next = subst (λ (o : Option ℕ). IfSome o (λ n. r.objects.next ≡ n)) (sym next) tt;
 }
 
 -- one change, and then the others
@@ -33,12 +88,16 @@ left_in_turn change changes old mid new first rest = record {
   nodes = λ id node held.
       let later = rest.nodes id node held in
       let sooner = first.nodes id node later.0 in (sooner.0, (sooner.1.0, later.1));
+  names = λ folder names held.
+      let later = rest.names folder names held in
+      let sooner = first.names folder names later.0 in (sooner.0, λ id. ((sooner.1 id).0, later.1 id));
   lists = λ id list held.
       let later = rest.lists id list held in
       let sooner = first.lists id list later.0 in (sooner.0, (sooner.1.0, later.1));
   decisions = λ id made held.
       let later = rest.decisions id made held in
       let sooner = first.decisions id made later.0 in (sooner.0, (sooner.1.0, later.1));
+  seqs = λ r are. rest.seqs (apply_change change r) (first.seqs r are);
   next = for_some _ new.next (λ next held.
       let later = at_some (λ (n : ℕ). (mid.next ≡ Some n) × Leave (λ r. r.objects.next) changes)
       new.next next held rest.next in
@@ -53,11 +112,17 @@ left_fits changes known left old new is stay fits = record {
   sessions = λ sid row held.
       let was = is.sessions sid row held in stay.session sid was.1 ∙ fits.sessions sid row was.0;
   nodes = λ id node held. let was = is.nodes id node held in stay.node id was.1 ∙ fits.nodes id node was.0;
+  names = λ folder names held.
+      let was = is.names folder names held in
+      listed_stay old new (λ id. stay.node id (was.1 id)) folder names (fits.names folder names was.0);
   lists = λ id list held. let was = is.lists id list held in stay.entries id was.1 ∙ fits.lists id list was.0;
   decisions = λ id made held d in_made.
       let was = is.decisions id made held in
       let P : List EntryModel → Type 0 = λ entries. IsDecidedBy entries d in
       subst P (sym (stay.entries id was.1)) (fits.decisions id made was.0 d in_made);
+  seqs = λ sid slot seq held.
+      let is_now = is.seqs old fits.seqs sid slot seq held in
+      (is_now.0, ap kept_seq (stay.kept sid slot is_now.0) ∙ is_now.1);
   next = for_some _ left.next (λ next held.
       let was = at_some (λ (n : ℕ). (known.next ≡ Some n) × Leave (λ r. r.objects.next) changes)
       left.next next held is.next in

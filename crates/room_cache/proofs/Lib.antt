@@ -1,3 +1,5 @@
+pub mod Folders
 pub mod Keys
 pub mod Left
 pub mod Remembered
+pub mod Seqs

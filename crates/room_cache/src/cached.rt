@@ -5,23 +5,25 @@ ghost use Rattle.room_cache.specs.Known.{Fits};
 
 use crate::decisions::Decided;
 use crate::known::Known;
-use room_acl::{Decision, Entry, Mask, Standing, Subject, copy_entries, decide};
+use crate::names::copy_names;
+use room_acl::{Decision, Entry, Kind, Mask, Standing, Subject, copy_entries, decide};
 use room_records::{Change, FileName, Node, SessionRow, Shelf, ShelfFault, Sid};
 use room_slots::Kept;
 use std::alloc::Global;
 use std::marker::Model;
 
-/// A shelf around a shelf, which remembers sessions, nodes by number and by folder and name, their lists, and the
-/// number of the next object, and does not ask for them again. A decision that is not remembered goes by the list where
-/// that is, and else is asked of the shelf inside, which need not read the list whole, and is remembered then: for the
-/// same subject, standing and rights it is not asked again. A commit makes it forget the rows that it changes, with a
-/// list what the list decided, and a fault makes it forget all: memory answers only while the store is known to be
-/// there.
+/// A shelf around a shelf, which remembers sessions, the numbers of the requests that slots keep, nodes by number and
+/// by folder and name, the names in a folder, lists, and the number of the next object, and does not ask for them
+/// again. A decision that is not remembered goes by the list where that is, and else is asked of the shelf inside,
+/// which need not read the list whole, and is remembered then: for the same subject, standing and rights it is not
+/// asked again. A commit makes it forget the rows that it changes, with a list what the list decided, and with any node
+/// the names in every folder; the number of a request that it puts is remembered. A fault makes it forget all: memory
+/// answers only while the store is known to be there.
 ///
-/// It remembers at most 256 rows of each kind, lists of up to 64 entries, and 16 decisions of each of 256 objects: by
-/// the sizes of the types some 200 kB, lists of 1.5 MB at worst, and decisions of 0.9 MB and 56 bytes for each group of
-/// each subject, 3.7 MB more with 16 groups each. Where memory is refused, a row is not remembered and the call is
-/// answered still.
+/// It remembers at most 256 rows of each kind, lists of up to 64 entries, 16 decisions of each of 256 objects, and up
+/// to 256 names in each of 256 folders: by the sizes of the types some 200 kB, lists of 1.5 MB at worst, names of
+/// 6.3 MB at worst, and decisions of 0.9 MB and 56 bytes for each group of each subject, 3.7 MB more with 16 groups
+/// each. Where memory is refused, a row is not remembered and the call is answered still.
 #[derive(Drop)]
 pub struct CachedShelf<S: Shelf> {
     inner: S,
@@ -60,13 +62,14 @@ impl<S: Shelf> CachedShelf<S> {
 }
 
 impl<S: Shelf> Shelf for CachedShelf<S> {
-    ghost use Rattle.std.specs.Prelude.{◌≡◌, ◌⊎◌, [], unwrap_or, OnOk};
+    ghost use Rattle.std.specs.Prelude.{◌≡◌, ◌⊎◌, [], length, unwrap_or, OnOk};
     ghost use Rattle.room_acl.specs.Access.{decision};
+    ghost use Rattle.room_slots.specs.Slots.{kept_seq};
     ghost use Rattle.room_records.specs.Records.{Records};
-    ghost use Rattle.room_records.specs.Rules.{ObjectRules};
+    ghost use Rattle.room_records.specs.Rules.{NodeRules};
     ghost use Rattle.room_records.specs.Changes.{apply_changes, RulesHoldAfterEach, Untouched};
     ghost use Rattle.room_records.specs.Shelf.{ShelfCall, ShelfRead, Tells, fault_in, AreChildren};
-    ghost use Rattle.room_records.specs.Shelf.{IsChildCount, IsChildNamed};
+    ghost use Rattle.room_records.specs.Shelf.{AreNames, IsChildCount, IsChildNamed};
     ghost use Rattle.room_cache.specs.Cached.{cached_view};
 
     ghost view = { cached_view S.view };
@@ -123,7 +126,8 @@ impl<S: Shelf> Shelf for CachedShelf<S> {
 
     fn children(&mut self, parent: u32) -> Result<Vec<Node>, ShelfFault>
         ensures value { Tells (cached_view S.view self.old) (cached_view S.view self.new)
-            result (λ records found. ObjectRules records.objects → AreChildren records.objects parent found.items) }
+            result (λ records found.
+            NodeRules records.objects.node → AreChildren records.objects parent found.items) }
         ensures there { (cached_view S.view self.new).is_intact
             → OnOk result (cached_view S.view self.new).is_available }
         ensures frame { ShelfRead (cached_view S.view self.old) (cached_view S.view self.new) (fault_in result) }
@@ -137,9 +141,34 @@ impl<S: Shelf> Shelf for CachedShelf<S> {
         }
     }
 
+    fn names(&mut self, parent: u32) -> Result<Vec<(FileName, Kind)>, ShelfFault>
+        ensures value { Tells (cached_view S.view self.old) (cached_view S.view self.new)
+            result (λ records found. NodeRules records.objects.node → AreNames records.objects parent found.items) }
+        ensures there { (cached_view S.view self.new).is_intact
+            → OnOk result (cached_view S.view self.new).is_available }
+        ensures frame { ShelfRead (cached_view S.view self.old) (cached_view S.view self.new) (fault_in result) }
+    {
+        if let Some(names) = self.known.names(parent) {
+            let names = names.names();
+            return Ok(copy_names(*names.allocator(), names.as_slice())?);
+        }
+        match self.inner.names(parent) {
+            Ok(found) => {
+                if let Ok(names) = copy_names(*found.allocator(), found.as_slice()) {
+                    self.known.keep_names(parent, names);
+                }
+                Ok(found)
+            }
+            Err(fault) => {
+                self.known.clear();
+                Err(fault)
+            }
+        }
+    }
+
     fn child_count(&mut self, parent: u32) -> Result<u64, ShelfFault>
         ensures value { Tells (cached_view S.view self.old) (cached_view S.view self.new)
-            result (λ records count. ObjectRules records.objects → IsChildCount records.objects parent count) }
+            result (λ records count. NodeRules records.objects.node → IsChildCount records.objects parent count) }
         ensures there { (cached_view S.view self.new).is_intact
             → OnOk result (cached_view S.view self.new).is_available }
         ensures frame { ShelfRead (cached_view S.view self.old) (cached_view S.view self.new) (fault_in result) }
@@ -227,6 +256,22 @@ impl<S: Shelf> Shelf for CachedShelf<S> {
         }
     }
 
+    fn doc_size(&mut self, id: u32) -> Result<u64, ShelfFault>
+        ensures value { Tells (cached_view S.view self.old) (cached_view S.view self.new)
+            result (λ records found. found ≡ length (unwrap_or (records.objects.document id) [])) }
+        ensures there { (cached_view S.view self.new).is_intact
+            → OnOk result (cached_view S.view self.new).is_available }
+        ensures frame { ShelfRead (cached_view S.view self.old) (cached_view S.view self.new) (fault_in result) }
+    {
+        match self.inner.doc_size(id) {
+            Ok(found) => Ok(found),
+            Err(fault) => {
+                self.known.clear();
+                Err(fault)
+            }
+        }
+    }
+
     fn session(&mut self, sid: &Sid) -> Result<Option<SessionRow>, ShelfFault>
         ensures value { Tells (cached_view S.view self.old) (cached_view S.view self.new)
             result (λ records found. found ≡ records.session sid.now) }
@@ -259,7 +304,36 @@ impl<S: Shelf> Shelf for CachedShelf<S> {
         ensures frame { ShelfRead (cached_view S.view self.old) (cached_view S.view self.new) (fault_in result) }
     {
         match self.inner.slot(sid, slot) {
-            Ok(found) => Ok(found),
+            Ok(found) => {
+                if let Some(kept) = &found {
+                    self.known.keep_seq(sid, slot, kept.seq);
+                }
+                Ok(found)
+            }
+            Err(fault) => {
+                self.known.clear();
+                Err(fault)
+            }
+        }
+    }
+
+    fn slot_seq(&mut self, sid: &Sid, slot: u32) -> Result<Option<u32>, ShelfFault>
+        ensures value { Tells (cached_view S.view self.old) (cached_view S.view self.new)
+            result (λ records found. found ≡ kept_seq (records.slot sid.now slot)) }
+        ensures there { (cached_view S.view self.new).is_intact
+            → OnOk result (cached_view S.view self.new).is_available }
+        ensures frame { ShelfRead (cached_view S.view self.old) (cached_view S.view self.new) (fault_in result) }
+    {
+        if let Some(seq) = self.known.slot_seq(sid, slot) {
+            return Ok(Some(seq));
+        }
+        match self.inner.slot_seq(sid, slot) {
+            Ok(found) => {
+                if let Some(seq) = found {
+                    self.known.keep_seq(sid, slot, seq);
+                }
+                Ok(found)
+            }
             Err(fault) => {
                 self.known.clear();
                 Err(fault)

@@ -1,20 +1,23 @@
 //! What is remembered of the rows.
-ghost use Rattle.std.specs.Prelude.{◌≡◌, ℕ, true, false, List, Some, IfSome, IsSome, [], ◌∷◌};
+ghost use Rattle.std.specs.Prelude.{◌≡◌, ℕ, true, false, List, None, Some, IfSome, IsSome, [], ◌∷◌};
 ghost use Rattle.std.specs.Ordering.{nat_cmp, eq_by_cmp};
+ghost use Rattle.room_slots.specs.Slots.{kept_seq};
 ghost use Rattle.room_acl.specs.Entries.{EntryModel};
 ghost use Rattle.room_acl.specs.Access.{decision};
+ghost use Rattle.room_records.specs.declared.node.Node.{Node};
 ghost use Rattle.room_records.specs.Records.{Records};
-ghost use Rattle.room_records.specs.Changes.{Untouched};
+ghost use Rattle.room_records.specs.Changes.{apply_change, Untouched};
 ghost use Rattle.room_records.specs.Shelf.{IsChildNamed};
 ghost use Rattle.room_cache.specs.Rows.{row_at};
-ghost use Rattle.room_cache.specs.Known.{Fits, IsDecidedBy, IsLeft};
+ghost use Rattle.room_cache.specs.Known.{Fits, AreListed, AreSeqs, IsDecidedBy, IsLeft};
 ghost use Rattle.room_cache.specs.declared.decisions.Decided.{Decided};
 
 use crate::decisions::{Decided, Decisions};
 use crate::list::ShortList;
+use crate::names::NameList;
 use crate::rows::Rows;
-use room_acl::{Decision, Entry, Mask, Standing, Subject};
-use room_records::{Change, FileName, Node, SessionRow, Sid};
+use room_acl::{Decision, Entry, Kind, Mask, Standing, Subject};
+use room_records::{Change, FileName, MAX_SLOTS, Node, SessionRow, Sid, SlotRow};
 use std::alloc::Global;
 
 /// Rows that are remembered, at most 256 of each kind.
@@ -26,9 +29,13 @@ pub(crate) struct Known {
     pub(crate) nodes: Rows<u32, Node>,
     /// The number of the node that was in this folder under this name. The node tells whether it still is.
     pub(crate) places: Rows<(u32, FileName), u32>,
+    /// The names and kinds of what is in these folders.
+    pub(crate) names: Rows<u32, NameList>,
     pub(crate) lists: Rows<u32, ShortList>,
     /// What the lists of these objects decide.
     pub(crate) decisions: Rows<u32, Decisions>,
+    /// The numbers of the requests that slots keep.
+    pub(crate) seqs: Rows<(Sid, u32), u32>,
     /// The number of the next object.
     pub(crate) next: Option<u32>,
 }
@@ -43,8 +50,10 @@ impl Known {
             sessions: Rows::new(alloc),
             nodes: Rows::new(alloc),
             places: Rows::new(alloc),
+            names: Rows::new(alloc),
             lists: Rows::new(alloc),
             decisions: Rows::new(alloc),
+            seqs: Rows::new(alloc),
             next: None,
         }
     }
@@ -58,8 +67,10 @@ impl Known {
         self.sessions.clear();
         self.nodes.clear();
         self.places.clear();
+        self.names.clear();
         self.lists.clear();
         self.decisions.clear();
+        self.seqs.clear();
         self.next = None;
     }
 
@@ -101,6 +112,17 @@ impl Known {
         }
     }
 
+    /// The names and kinds of what is in a folder, by name.
+    pub(crate) fn names(&self, folder: u32) -> Option<&NameList>
+        ensures fits { (r : Records) → Fits r self.now → IfSome result (λ names. AreListed r folder names.now) }
+        ensures heard { IsSome result → self.now.is_heard ≡ true }
+    {
+        if !self.is_heard {
+            return None;
+        }
+        self.names.get(&folder)
+    }
+
     pub(crate) fn list(&self, id: u32) -> Option<&ShortList>
         ensures fits { (r : Records) → Fits r self.now → IfSome result (λ list. r.objects.entries id ≡ list.now) }
         ensures heard { IsSome result → self.now.is_heard ≡ true }
@@ -128,6 +150,24 @@ impl Known {
         }
         match self.decisions.get(&id) {
             Some(made) => made.find(subject, standing, wanted),
+            None => None,
+        }
+    }
+
+    /// The number of the request that a slot keeps. That it keeps none is not remembered.
+    pub(crate) fn slot_seq(&self, sid: &Sid, slot: u32) -> Option<u32>
+        ensures fits { (r : Records) → Fits r self.now
+            → IfSome result (λ seq. kept_seq (r.slot sid.now slot) ≡ Some seq) }
+        ensures heard { IsSome result → self.now.is_heard ≡ true }
+    {
+        if !self.is_heard {
+            return None;
+        }
+        let Ok(sid) = sid.clone() else {
+            return None;
+        };
+        match self.seqs.get(&(sid, slot)) {
+            Some(seq) => Some(*seq),
             None => None,
         }
     }
@@ -169,6 +209,16 @@ impl Known {
         }
     }
 
+    /// More than 256 names are not remembered: no folder of a room has them.
+    pub(crate) fn keep_names(&mut self, folder: u32, names: Vec<(FileName, Kind)>)
+        ensures { (r : Records) → AreListed r folder names.items → Fits r self.old → Fits r self.new }
+    {
+        if let Some(names) = NameList::new(names) {
+            self.names.keep(folder, names);
+            self.is_heard = true;
+        }
+    }
+
     /// A list of more than 64 entries is not remembered.
     pub(crate) fn keep_list(&mut self, id: u32, list: Vec<Entry>)
         ensures { (r : Records) → r.objects.entries id ≡ list.items → Fits r self.old → Fits r self.new }
@@ -189,11 +239,38 @@ impl Known {
         self.is_heard = true;
     }
 
+    /// The number of a slot after the first 16 is not remembered: no session has such a slot.
+    pub(crate) fn keep_seq(&mut self, sid: &Sid, slot: u32, seq: u32)
+        ensures { (r : Records) → kept_seq (r.slot sid.now slot) ≡ Some seq → Fits r self.old → Fits r self.new }
+    {
+        if slot >= MAX_SLOTS {
+            return;
+        }
+        if let Ok(sid) = sid.clone() {
+            self.seqs.keep((sid, slot), seq);
+            self.is_heard = true;
+        }
+    }
+
     pub(crate) fn keep_next(&mut self, next: u32)
         ensures { (r : Records) → r.objects.next ≡ next → Fits r self.old → Fits r self.new }
     {
         self.next = Some(next);
         self.is_heard = true;
+    }
+
+    /// Forgets a node, and the names of every folder: the one that it was in is not known here.
+    fn forget_node(&mut self, id: &u32)
+        ensures nodes { (k : ℕ) (node : Node) → row_at nat_cmp self.new.nodes k ≡ Some node
+            → (row_at nat_cmp self.old.nodes k ≡ Some node) × (eq_by_cmp nat_cmp id.now k ≡ false) }
+        ensures names { (k : ℕ) → row_at nat_cmp self.new.names k ≡ None }
+        ensures others { self.new ≡ record self.old {
+          nodes = self.new.nodes;
+          names = self.new.names;
+        } }
+    {
+        self.nodes.forget(id);
+        self.names.clear();
     }
 
     /// Forgets the list of an object and what it decides.
@@ -211,24 +288,43 @@ impl Known {
         self.decisions.forget(id);
     }
 
-    /// Forgets what a change touches.
+    /// Remembers the number of a slot row that is put, and no longer the one before it.
+    fn replace_seq(&mut self, row: &SlotRow)
+        ensures seqs { (r : Records) → AreSeqs r self.old.seqs
+            → AreSeqs (apply_change (Change.PutSlot row.now) r) self.new.seqs }
+        ensures others { self.new ≡ record self.old { seqs = self.new.seqs } }
+    {
+        let Ok(sid) = row.sid.clone() else {
+            self.seqs.clear();
+            return;
+        };
+        let key = (sid, row.slot);
+        self.seqs.forget(&key);
+        if row.slot < MAX_SLOTS {
+            self.seqs.keep(key, row.kept.seq);
+        }
+    }
+
+    /// Forgets what a change touches. The number of a slot row that it puts is remembered.
     fn forget(&mut self, change: &Change)
         ensures { IsLeft (change.now ∷ []) self.old self.new }
     {
         match change {
-            Change::PutNode(node) => self.nodes.forget(&node.id),
+            Change::PutNode(node) => self.forget_node(&node.id),
             Change::DropNode(id) => {
-                self.nodes.forget(id);
+                self.forget_node(id);
                 self.forget_list(id);
             }
             Change::PutEntries(id, _) => self.forget_list(id),
             Change::PutSession(row) => self.sessions.forget(&row.sid),
+            Change::PutSlot(row) => self.replace_seq(row),
+            Change::DropSlots(_) => self.seqs.clear(),
             Change::PutNext(_) => self.next = None,
-            Change::PutDoc(_, _) | Change::PutSlot(_) | Change::DropSlots(_) => {}
+            Change::PutDoc(_, _) => {}
         }
     }
 
-    /// Forgets what the changes touch.
+    /// Forgets what the changes touch. The numbers of slot rows that they put are remembered.
     pub(crate) fn forget_touched(&mut self, changes: &[Change])
         ensures left { IsLeft changes.now self.old self.new }
         ensures fits { (old new : Records) → Untouched changes.now old new → Fits old self.old → Fits new self.new }

@@ -5,6 +5,7 @@ mod cached;
 mod decisions;
 mod known;
 mod list;
+mod names;
 mod rows;
 
 pub use cached::CachedShelf;

@@ -1,8 +1,8 @@
 -- What a check that passes tells of the room.
-use Rattle.std.proofs.Common.{◌≡◌, ℕ, ◌+◌, ◌-◌, ◌<◌, ◌≤◌, refl, ap, sym, ◌∙◌, Bool, true, false, not, ◌&&◌, inl, inr}
+use Rattle.std.proofs.Common.{◌≡◌, ℕ, ◌+◌, ◌-◌, ◌<◌, ◌≤◌, refl, ap, sym, ◌∙◌, Bool, true, false, ◌&&◌, inl, inr}
 use Rattle.std.proofs.Common.{List, [], ◌∷◌, ◌++◌, map, length, Option, None, Some, is_some, nat_lt, nat_le}
 use Rattle.std.specs.List.{AllByRecursion, list_any}
-use Rattle.std.proofs.lemmas.Bool.{ltb-false, leb-false, or_parts}
+use Rattle.std.proofs.lemmas.Bool.{ltb-false, leb-false, not-false, or_parts}
 use Rattle.room_acl.specs.declared.subject.Kind.{Kind}
 use Rattle.room_acl.specs.declared.subject.Kind.TheVariants.{File, Folder}
 use Rattle.room_acl.specs.SubjectModel.{SubjectModel}
@@ -12,11 +12,10 @@ use Rattle.room_records.specs.Names.{Name, Path}
 use Rattle.room_records.specs.Room.{Object, Room, object_at, children}
 use Rattle.room_records.proofs.RoomsMap.{none_is_some, StandsIn, found_stands}
 use Rattle.room_commands.specs.declared.reply.RefusalCode.{RefusalCode}
-use Rattle.room_commands.specs.ReplyModel.{Refusal}
 use Rattle.room_commands.specs.Checks.{refuse_if, is_kind, is_file, check_exists, check_absent, check_folder}
 use Rattle.room_commands.specs.Checks.{check_file, check_right, walk, prefix_refusal, proper_prefixes, check_size}
 use Rattle.room_commands.specs.Checks.{check_folder_full, check_depth, is_at_or_below}
-use Rattle.room_commands.proofs.Rights.{AllNone, all_none}
+use Rattle.room_commands.proofs.Rights.{all_none}
 
 pub not_refused : (b : Bool) (code : RefusalCode) → refuse_if b code ≡ None → b ≡ false
 not_refused true code h = absurd (none_is_some _ (sym h))
@@ -30,10 +29,6 @@ pub none_there : (o : Option Object) → is_some o ≡ false → o ≡ None
 none_there None h = refl
 none_there (Some found) h = absurd (let e : true ≡ false = h in cc)
 
-negated : (b : Bool) → not b ≡ false → b ≡ true
-negated true h = refl
-negated false h = cc
-
 pub folder_of_kind : (kind : Kind) → is_file kind ≡ false → kind ≡ Folder
 folder_of_kind File h = absurd (let e : true ≡ false = h in cc)
 folder_of_kind Folder h = refl
@@ -44,7 +39,7 @@ file_is_no_folder kind h e = let no : true ≡ false = sym h ∙ ap is_file e in
 module _ (room : Room) where
   -- an object is there
   pub exists_there : (path : Path) → check_exists room path ≡ None → (o : Object) × (object_at room path ≡ Some o)
-  exists_there path h = some_there (object_at room path) (negated (is_some (object_at room path)) (not_refused _ _ h))
+  exists_there path h = some_there (object_at room path) (not-false _ (not_refused _ _ h))
 
   -- none is
   pub absent_there : (path : Path) → check_absent room path ≡ None → object_at room path ≡ None
@@ -58,7 +53,7 @@ module _ (room : Room) where
   pub file_there : (path : Path) (o : Object) → object_at room path ≡ Some o
       → check_file room path ≡ None → is_file o.kind ≡ true
   file_there path o is h =
-      negated (is_file o.kind) (sym (ap (is_kind Folder) is) ∙ not_refused (is_kind Folder (object_at room path)) _ h)
+      not-false (is_file o.kind) (sym (ap (is_kind Folder) is) ∙ not_refused (is_kind Folder (object_at room path)) _ h)
 
   pub small_enough : (size : ℕ) → check_size size ≡ None → size ≤ max_document
   small_enough size h = ltb-false max_document size (not_refused (nat_lt max_document size) _ h)
@@ -67,11 +62,6 @@ module _ (room : Room) where
       → length (children room folder) < max_children
   not_full_there folder h = leb-false max_children (length (children room folder))
       (not_refused (nat_le max_children (length (children room folder))) _ h)
-
-each_passes : {X : Type 0} (f : X → Option Refusal) (xs : List X)
-    → AllNone (map f xs) → AllByRecursion (λ x. f x ≡ None) xs
-each_passes f [] h = tt
-each_passes f (x ∷ xs) h = (h.0, each_passes f xs h.1)
 
 all_unmapped : {X Y : Type 0} (P : Y → Type 0) (g : X → Y) (xs : List X)
     → AllByRecursion P (map g xs) → AllByRecursion (λ x. P (g x)) xs
@@ -89,7 +79,7 @@ module _ (room : Room) (caller : SubjectModel) where
   -- a walk that passes finds each proper prefix passable
   pub walk_passes : (path : Path) → walk room caller path ≡ None
       → AllByRecursion (λ front. prefix_refusal room caller front ≡ None) (proper_prefixes path)
-  walk_passes path h = each_passes (prefix_refusal room caller) (proper_prefixes path)
+  walk_passes path h = all_unmapped (λ o. o ≡ None) (prefix_refusal room caller) (proper_prefixes path)
       (all_none (map (prefix_refusal room caller) (proper_prefixes path)) h)
 
   -- at its end stands a folder
@@ -98,37 +88,26 @@ module _ (room : Room) (caller : SubjectModel) where
   walk_ends_in_folder folder name h =
       let here = at_folder (λ front. prefix_refusal room caller front ≡ None)
       folder name (walk_passes (folder ++ name ∷ []) h) in
-      let passed = all_none (check_exists room folder ∷ check_folder room folder
+      let (there, (is_folder, _)) = all_none (check_exists room folder ∷ check_folder room folder
       ∷ check_right room caller folder execute ∷ []) here in
-      let above = exists_there room folder passed.0 in
-      (above.0, above.1, folder_there room folder above.0 above.1 passed.1.0)
+      let above = exists_there room folder there in
+      (above.0, above.1, folder_there room folder above.0 above.1 is_folder)
 
-none_of : {X : Type 0} (test : X → Bool) (xs : List X)
-    → list_any test xs ≡ false → AllByRecursion (λ x. test x ≡ false) xs
-none_of test [] h = tt
-none_of test (x ∷ xs) h = let parts = or_parts (test x) (list_any test xs) h in (parts.0, none_of test xs parts.1)
-
-at_stand : (test : Path × Object → Bool) (es : List (Path × Object))
-    → AllByRecursion (λ e. test e ≡ false) es → (path : Path) (o : Object) → StandsIn es path o
-    → (key : Path) × (key ≡ path) × (other : Object) × (test (key, other) ≡ false)
-at_stand test [] all path o stands = absurd stands
-at_stand test (e ∷ es) all path o (inl here) = (e.0, here.0, e.1, all.0)
-at_stand test (e ∷ es) all path o (inr there) = at_stand test es all.1 path o there
+-- a test that no object passes fails where one stands
+fails_at : (test : Path × Object → Bool) (es : List (Path × Object)) → list_any test es ≡ false
+    → (path : Path) (o : Object) → StandsIn es path o → test (path, o) ≡ false
+fails_at test [] none path o stands = absurd stands
+fails_at test (e ∷ es) none path o (inl here) =
+    let same : e ≡ (path, o) = (λ i. (here.0 i, here.1 i)) in
+    ap test (sym same) ∙ (or_parts (test e) (list_any test es) none).0
+fails_at test (e ∷ es) none path o (inr there) =
+    fails_at test es (or_parts (test e) (list_any test es) none).1 path o there
 
 -- each object of a subtree that is moved keeps to the limit on names
 pub depth_there : (room : Room) (path to : Path) → check_depth room path to ≡ None
     → (q : Path) (o : Object) → object_at room q ≡ Some o → is_at_or_below q path ≡ true
     → length to + (length q - length path) ≤ max_names
 depth_there room path to h q o is below =
-    let all = none_of _ room.objects (not_refused _ _ h) in
-    let found = at_stand _ room.objects all q o (found_stands room.objects q o is) in
-    by_key found.0 found.1 found.3
-  where
-    by_key : (key : Path) → key ≡ q
-        → (is_at_or_below key path && nat_lt max_names (length to + (length key - length path))) ≡ false
-        → length to + (length q - length path) ≤ max_names
-    by_key key same off =
-        let at_q : (is_at_or_below q path && nat_lt max_names (length to + (length q - length path))) ≡ false =
-        ap (λ k. is_at_or_below k path && nat_lt max_names (length to + (length k - length path))) (sym same) ∙ off in
-        ltb-false max_names (length to + (length q - length path))
-        (sym (ap (λ b. b && nat_lt max_names (length to + (length q - length path))) below) ∙ at_q)
+    let off : (is_at_or_below q path && nat_lt max_names (length to + (length q - length path))) ≡ false =
+    fails_at _ room.objects (not_refused _ _ h) q o (found_stands room.objects q o is) in
+    ltb-false max_names (length to + (length q - length path)) (rw below at off)

@@ -1,19 +1,16 @@
 -- A command leaves a room.
-use Rattle.std.proofs.Common.{◌≡◌, ℕ, ◌+◌, ◌-◌, ◌<◌, ◌≤◌, refl, ap, sym, ◌∙◌, subst, arith, Bool, true, false, cond}
-use Rattle.std.proofs.Common.{◌||◌, List, [], ◌∷◌, ◌++◌, length, Option, None, Some, nat_lt}
-use Rattle.std.specs.List.{list_all}
-use Rattle.std.proofs.lemmas.Bool.{ltb-false, or_parts}
+use Rattle.std.proofs.Common.{◌≡◌, ℕ, ◌+◌, ◌≤◌, refl, ap, ◌∙◌, arith, false}
+use Rattle.std.proofs.Common.{◌||◌, inl, inr, List, [], ◌∷◌, ◌++◌, length, Option, None, Some}
+use Rattle.std.proofs.lemmas.Bool.{both_ways, cases_lt, lt-ltb, ltb-false, or_parts}
 use Rattle.std.proofs.lemmas.List.{length-append}
 use Rattle.room_acl.specs.declared.subject.Kind.{Kind}
 use Rattle.room_acl.specs.declared.subject.Kind.TheVariants.{File, Folder}
 use Rattle.room_acl.specs.SubjectModel.{SubjectModel}
 use Rattle.room_acl.specs.Entries.{EntryModel}
-use Rattle.room_acl.specs.declared.inheritance.ListFault.TheVariants.{Inval, AttrNotSupp}
-use Rattle.room_acl.specs.Inheritance.{own_entries_fault, may_be_own, max_own_entries}
-use Rattle.room_records.specs.Limits.{max_names, max_children}
-use Rattle.room_records.specs.Names.{Path, IsPath, path_eq}
+use Rattle.room_acl.specs.Inheritance.{own_entries_fault, max_own_entries}
+use Rattle.room_records.specs.Names.{Path, IsPath}
 use Rattle.room_records.specs.Room.{Object, Room, IsRoom, IsObject, object_at, children, parent_of}
-use Rattle.room_records.proofs.RoomsMap.{none_is_some, parent_of_end, Ends, ends, object_there_is_lawful, same_path}
+use Rattle.room_records.proofs.RoomsMap.{parent_of_end, Ends, ends, object_there_is_lawful, other_path}
 use Rattle.room_records.proofs.RoomsChildren.{nothing_in_empty}
 use Rattle.room_commands.specs.CommandModel.{CommandModel}
 use Rattle.room_commands.specs.CommandModel as C
@@ -33,12 +30,13 @@ use Rattle.room_commands.proofs.RenamedIsRoom.{renamed_is_room}
 use Rattle.room_commands.proofs.SetListKept.{no_mark_left}
 
 -- a path that passes the test for the root has a folder and a name
-not_root_ends : (path : Path) → is_root path ≡ false → Ends path
-not_root_ends [] h = absurd (let e : true ≡ false = h in cc)
+pub not_root_ends : (path : Path) → is_root path ≡ false → Ends path
+not_root_ends [] h = cc
 not_root_ends (first ∷ rest) h = ends first rest
 
-not_root_is : (path : Path) → is_root path ≡ false → [] ≡ path → ⊥
-not_root_is path h same = let e : true ≡ false = ap is_root same ∙ h in cc
+pub not_in_root : (path : Path) → is_root path ≡ false → is_at_or_below [] path ≡ false
+not_in_root [] h = cc
+not_in_root (first ∷ rest) h = refl
 
 module _ (room : Room) (caller : SubjectModel) (lawful : IsRoom room) where
   -- a new object in the folder at the end of a walk
@@ -47,15 +45,11 @@ module _ (room : Room) (caller : SubjectModel) (lawful : IsRoom room) where
       → check_folder_full room (parent_of path) ≡ None → IsObject o → IsRoom (with_new room path o)
   new_is_room path o is_path not_root walked absent not_full is_object =
       let end = not_root_ends path not_root in
-      let Walked : Path → Type 0 = λ p. walk room caller p ≡ None in
-      let New : Path → Type 0 = λ p. IsRoom (with_new room p o) in
-      let above = walk_ends_in_folder room caller end.folder end.name (subst Walked end.is walked) in
+      let above = walk_ends_in_folder room caller end.folder end.name (rw (← end.is) walked) in
       let in_folder : parent_of path ≡ end.folder = ap parent_of end.is ∙ parent_of_end end.folder end.name in
-      let NotFull : Path → Type 0 = λ p. length (children room p) < max_children in
-      subst New (sym end.is)
-      (with_new_is_room room end.folder end.name o lawful (subst IsPath end.is is_path) is_object
-      (sym (ap (object_at room) end.is) ∙ absent_there room path absent)
-      above.0 above.1 above.2 (subst NotFull in_folder (not_full_there room (parent_of path) not_full)))
+      rw end.is (with_new_is_room room end.folder end.name o lawful (rw (← end.is) is_path) is_object
+      (rw (← end.is) (absent_there room path absent))
+      above.0 above.1 above.2 (rw (← in_folder) (not_full_there room (parent_of path) not_full)))
 
   object_lawful : (path : Path) (o : Object) → object_at room path ≡ Some o → IsObject o
   object_lawful = object_there_is_lawful room lawful
@@ -68,47 +62,30 @@ renaming room caller path to is_path lawful (outside, (_, (there, (walked_to, (f
     let two = or_parts (is_root path) (is_root to) roots.0 in
     let end = not_root_ends to two.1 in
     let moving = exists_there room path there in
-    let Walked : Path → Type 0 = λ p. walk room caller p ≡ None in
-    let above = walk_ends_in_folder room caller end.folder end.name (subst Walked end.is walked_to) in
+    let above = walk_ends_in_folder room caller end.folder end.name (rw (← end.is) walked_to) in
     let in_folder : parent_of to ≡ end.folder = ap parent_of end.is ∙ parent_of_end end.folder end.name in
-    let Renamed : Path → Type 0 = λ p. IsRoom (renamed room path p) in
-    subst Renamed (sym end.is) (renamed_is_room room lawful path end.folder end.name (record {
+    rw end.is (renamed_is_room room lawful path end.folder end.name (record {
       o = moving.0;
       there = moving.1;
-      below_root = root_off path two.0;
-      apart = ap (λ p. is_at_or_below p path) (sym end.is) ∙ roots.1;
-      free = ap (object_at room) (sym end.is) ∙ absent_there room to free;
-      is_path = subst IsPath end.is is_path;
+      below_root = not_in_root path two.0;
+      apart = rw (← end.is) roots.1;
+      free = rw (← end.is) (absent_there room to free);
+      is_path = rw (← end.is) is_path;
       above = above.0;
       stands = above.1;
       is_folder = above.2;
-      fits = λ q other there below.
-          let Fits : Path → Type 0 = λ p. length p + (length q - length path) ≤ max_names in
-          subst Fits end.is (depth_there room path to depth q other there below);
+      fits = λ q other there below. rw (← end.is) (depth_there room path to depth q other there below);
       not_full = λ other.
-          let NotFull : Path → Type 0 = λ p. length (children room p) < max_children in
-          subst NotFull in_folder (not_full_there room (parent_of to) (full_checked
-          (path_eq (parent_of path) (parent_of to)) refl (λ same. other (same ∙ in_folder)) full));
+          let apart = other_path (parent_of path) (parent_of to) (λ same. other (same ∙ in_folder)) in
+          rw (← in_folder) (not_full_there room (parent_of to) (rw apart at full));
     }))
-  where
-    root_off : (p : Path) → is_root p ≡ false → is_at_or_below [] p ≡ false
-    root_off [] h = absurd (let e : true ≡ false = h in cc)
-    root_off (first ∷ rest) h = refl
-
-    full_checked : (b : Bool) → path_eq (parent_of path) (parent_of to) ≡ b → (parent_of path ≡ parent_of to → ⊥)
-        → cond b None (check_folder_full room (parent_of to)) ≡ None → check_folder_full room (parent_of to) ≡ None
-    full_checked true is other h = absurd (other (same_path (parent_of path) (parent_of to) is))
-    full_checked false is other h = h
 
 few_by_fault : (entries : List EntryModel) (kind : Kind)
     → check_lawful (own_entries_fault entries kind) ≡ None → length entries ≤ max_own_entries
-few_by_fault entries kind h = by_test (nat_lt max_own_entries (length entries)) refl h
-  where
-    by_test : (b : Bool) → nat_lt max_own_entries (length entries) ≡ b
-        → check_lawful (cond b (Some Inval) (cond (list_all (may_be_own kind) entries) None (Some AttrNotSupp))) ≡ None
-        → length entries ≤ max_own_entries
-    by_test true is refused = absurd (none_is_some _ (sym refused))
-    by_test false is passes = ltb-false max_own_entries (length entries) is
+few_by_fault entries kind h = elim (cases_lt max_own_entries (length entries)) [
+  | inl many ↦ absurd (let refused = rw (lt-ltb max_own_entries (length entries) many) at h in cc)
+  | inr few ↦ few
+]
 
 pub created_is_room : (room : Room) (caller : SubjectModel) (bytes : List ℕ) (path : Path) → IsPath path → IsRoom room →
     first_refusal (checks room caller (C.Create bytes path)) ≡ None → IsRoom (changed room caller (C.Create bytes path))
@@ -129,9 +106,9 @@ pub written_is_room : (room : Room) (caller : SubjectModel) (bytes : List ℕ) (
 written_is_room room caller bytes path lawful passed =
     let (_, (_, (file, (_, (small, _))))) = all_none (checks room caller (C.Write bytes path)) passed in
     with_object_is_room room path (λ o. record o { bytes = bytes }) (λ o. refl) lawful
-    (λ o there. record {
-      few_entries = (object_lawful room caller lawful path o there).few_entries;
-      own_entries = (object_lawful room caller lawful path o there).own_entries;
+    (λ o there. let was = object_lawful room caller lawful path o there in record {
+      few_entries = was.few_entries;
+      own_entries = was.own_entries;
       small = small_enough room (length bytes) small;
       folder = λ is. absurd (file_is_no_folder o.kind (file_there room path o there file) is);
     })
@@ -144,9 +121,10 @@ appended_is_room room caller bytes path lawful passed =
     (λ o there.
     let size = small_enough room (length (bytes_at room path) + length bytes) small in
     let same : length (bytes_at room path) ≡ length o.bytes = ap (λ found. length (bytes_of found)) there in
+    let was = object_lawful room caller lawful path o there in
     record {
-      few_entries = (object_lawful room caller lawful path o there).few_entries;
-      own_entries = (object_lawful room caller lawful path o there).own_entries;
+      few_entries = was.few_entries;
+      own_entries = was.own_entries;
       small = omega (arith, size, same, length-append o.bytes bytes);
       folder = λ is. absurd (file_is_no_folder o.kind (file_there room path o there file) is);
     })
@@ -170,11 +148,11 @@ pub chown_is_room : (room : Room) (caller : SubjectModel) (group owner : List �
     → IsRoom (changed room caller (C.Chown group owner path))
 chown_is_room room caller group owner path lawful passed =
     with_object_is_room room path (λ o. record o { owner = owner; group = group }) (λ o. refl) lawful
-    (λ o there. record {
-      few_entries = (object_lawful room caller lawful path o there).few_entries;
-      own_entries = (object_lawful room caller lawful path o there).own_entries;
-      small = (object_lawful room caller lawful path o there).small;
-      folder = (object_lawful room caller lawful path o there).folder;
+    (λ o there. let was = object_lawful room caller lawful path o there in record {
+      few_entries = was.few_entries;
+      own_entries = was.own_entries;
+      small = was.small;
+      folder = was.folder;
     })
 
 -- what a command changes where no check fails is a room
@@ -198,7 +176,7 @@ changed_is_room room caller (C.Append bytes path) is_lawful lawful passed =
     appended_is_room room caller bytes path lawful passed
 changed_is_room room caller (C.Remove path) is_lawful lawful passed =
     let (not_root, (_, (_, (_, (empty, _))))) = all_none (checks room caller (C.Remove path)) passed in
-    without_is_room room path lawful (not_root_is path (not_refused _ _ not_root))
+    without_is_room room path lawful (λ same. both_ways (is_root path) (not_refused _ _ not_root) (rw (← same) refl))
     (nothing_in_empty room path
     (omega (arith, ltb-false 0 (length (children room path)) (not_refused _ _ empty))))
 changed_is_room room caller (C.Rename path to) is_lawful lawful passed =

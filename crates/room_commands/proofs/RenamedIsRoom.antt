@@ -1,27 +1,26 @@
 -- A room with a subtree moved is a room.
-use Rattle.std.proofs.Common.{◌≡◌, ℕ, zero, suc, ◌+◌, ◌-◌, ◌<◌, ◌≤◌, refl, ap, sym, ◌∙◌, subst, arith, Bool, true}
-use Rattle.std.proofs.Common.{false, cond, ◌⊎◌, inl, inr, List, [], ◌∷◌, ◌++◌, map, drop, length, append-nil}
-use Rattle.std.proofs.Common.{append_assoc, Option, None, Some, IsSome, is_some}
+use Rattle.std.proofs.Common.{◌≡◌, ℕ, zero, suc, ◌+◌, ◌-◌, ◌<◌, ◌≤◌, refl, ap, sym, ◌∙◌, arith, true}
+use Rattle.std.proofs.Common.{false, ◌⊎◌, inl, inr, List, [], ◌∷◌, ◌++◌, map, drop, length, append-nil}
+use Rattle.std.proofs.Common.{append_assoc, None, Some, IsSome, is_some}
 use Rattle.std.specs.Map.{lookup}
 use Rattle.std.specs.List.{AllByRecursion}
+use Rattle.std.proofs.lemmas.Bool.{cases_Bool, false_from_ne_true}
 use Rattle.std.proofs.lemmas.List.{length-append, length-drop, length_push, same_from_push}
 use Rattle.room_acl.specs.declared.subject.Kind.TheVariants.{Folder}
 use Rattle.room_records.specs.Limits.{max_names, max_children}
 use Rattle.room_records.specs.Names.{Name, Path, IsPath, IsFileName, path_eq}
 use Rattle.room_records.specs.Room.{Object, Room, IsRoom, AreObjects, object_at, children, parent_of}
-use Rattle.room_records.proofs.RoomsMap.{same_path, path_itself, parent_of_end, ends, StandsIn, standing_found}
+use Rattle.room_records.proofs.Lists.{all_append}
+use Rattle.room_records.proofs.RoomsMap.{parent_of_end, ends, StandsIn, standing_found}
 use Rattle.room_records.proofs.RoomsChildren.{no_more_children, one_more_child, one_exchanged_child}
 use Rattle.room_commands.specs.Checks.{is_at_or_below}
 use Rattle.room_commands.specs.Effect.{moved, renamed}
+use Rattle.room_commands.proofs.ChecksTell.{some_there}
 use Rattle.room_commands.proofs.Renaming.{NoneBelow, at_behind, lookup_moved}
+use Rattle.room_commands.proofs.RoomsNew.{same_or_other_path}
 use Rattle.room_commands.proofs.RoomsRenamed.{rest_below, below_more, not_both, move, lookup_away, free_list}
 use Rattle.room_commands.proofs.RoomsRenamed.{at_new_place, at_old_place, away, stands_after, Stands}
 use Rattle.room_commands.proofs.RoomsRenamed.Stands.{Moved, Stayed}
-
-all_append : {X : Type 0} (P : X → Type 0) (xs ys : List X)
-    → AllByRecursion P xs → AllByRecursion P ys → AllByRecursion P (xs ++ ys)
-all_append P [] ys all more = more
-all_append P (x ∷ xs) ys all more = (all.0, all_append P xs ys all.1 more)
 
 all_drop : {X : Type 0} (P : X → Type 0) (n : ℕ) (xs : List X) → AllByRecursion P xs → AllByRecursion P (drop n xs)
 all_drop P zero xs all = all
@@ -31,26 +30,23 @@ all_drop P (suc n) (x ∷ xs) all = all_drop P n xs all.1
 none_after_move : (path to : Path) (q : Path) (es : List (Path × Object))
     → NoneBelow to es → is_at_or_below q to ≡ false → lookup (path_eq q) es ≡ None
     → lookup (path_eq (moved path to q)) (map (move path to) es) ≡ None
-none_after_move path to q es free off none = by_place (is_at_or_below q path) refl
-  where
-    by_place : (b : Bool) → is_at_or_below q path ≡ b
-        → lookup (path_eq (cond b (to ++ drop (length path) q) q)) (map (move path to) es) ≡ None
-    by_place true below = lookup_moved path to (drop (length path) q) es free
-        ∙ ap (λ p. lookup (path_eq p) es) (sym (rest_below path q below)) ∙ none
-    by_place false off_path = lookup_away path to q off_path off es ∙ none
+none_after_move path to q es free off none = elim (cases_Bool (is_at_or_below q path)) [
+  | inl below ↦ rw below (lookup_moved path to (drop (length path) q) es free
+      ∙ ap (λ p. lookup (path_eq p) es) (sym (rest_below path q below)) ∙ none)
+  | inr off_path ↦ rw off_path (lookup_away path to q off_path off es ∙ none)
+]
 
 module _ (path to : Path) (is_path : IsPath to) where
   moved_is_path : (q : Path) → IsPath q
       → (is_at_or_below q path ≡ true → length to + (length q - length path) ≤ max_names) → IsPath (moved path to q)
-  moved_is_path q lawful fits = by_place (is_at_or_below q path) refl
-    where
-      by_place : (b : Bool) → is_at_or_below q path ≡ b → IsPath (cond b (to ++ drop (length path) q) q)
-      by_place true below = record {
-        short = omega (arith, fits below, length-append to (drop (length path) q), length-drop (length path) q);
-        names = all_append IsFileName to (drop (length path) q)
-            is_path.names (all_drop IsFileName (length path) q lawful.names);
-      }
-      by_place false off = lawful
+  moved_is_path q lawful fits = elim (cases_Bool (is_at_or_below q path)) [
+    | inl below ↦ rw below (record {
+      short = omega (arith, fits below, length-append to (drop (length path) q), length-drop (length path) q);
+      names = all_append IsFileName to (drop (length path) q)
+          is_path.names (all_drop IsFileName (length path) q lawful.names);
+    })
+    | inr off ↦ rw off lawful
+  ]
 
   all_moved : (es : List (Path × Object)) → AreObjects es → NoneBelow to es
       → ((q : Path) (o : Object) → StandsIn es q o → is_at_or_below q path ≡ true
@@ -87,44 +83,47 @@ module _ (room : Room) (lawful : IsRoom room) (path folder : Path)
   abbrev later : Room
   later = renamed room path to
 
-  root_off_to : is_at_or_below [] to ≡ false
-  root_off_to = by_folder folder
-    where
-      by_folder : (f : Path) → is_at_or_below [] (f ++ name ∷ []) ≡ false
-      by_folder [] = refl
-      by_folder (first ∷ f) = refl
+  at_new : (rest : Path) → object_at later (to ++ rest) ≡ object_at room (path ++ rest)
+  at_new = at_new_place room lawful path to moves.o moves.apart moves.there moves.free
 
-  -- the folder of the new place is away from both
-  folder_off_to : (f : Path) (b : Bool) → is_at_or_below f (f ++ name ∷ []) ≡ b → b ≡ false
-  folder_off_to f false off = refl
-  folder_off_to f true below =
-      let n = ap length (rest_below (f ++ name ∷ []) f below)
-      ∙ length-append (f ++ name ∷ []) (drop (length (f ++ name ∷ [])) f) in
-      absurd (omega (arith, n, length_push f name))
+  stays : (q : Path) → is_at_or_below q path ≡ false → is_at_or_below q to ≡ false
+      → object_at later q ≡ object_at room q
+  stays = away room lawful path to moves.o moves.apart moves.there moves.free
 
-  folder_off_path : is_at_or_below folder path ≡ false
-  folder_off_path = by_test (is_at_or_below folder path) refl
-    where
-      by_test : (b : Bool) → is_at_or_below folder path ≡ b → b ≡ false
-      by_test false off = refl
-      by_test true below =
-          absurd (not_both (is_at_or_below to path) (below_more path folder (name ∷ []) below) moves.apart)
+  abbrev StandsAfter : Path → Object → Type 0
+  StandsAfter = Stands room lawful path to moves.o moves.apart moves.there moves.free
+
+  after : (q : Path) (o : Object) → object_at later q ≡ Some o → StandsAfter q o
+  after = stands_after room lawful path to moves.o moves.apart moves.there moves.free
+
+  root_off_to : (f : Path) → is_at_or_below [] (f ++ name ∷ []) ≡ false
+  root_off_to [] = refl
+  root_off_to (first ∷ f) = refl
+
+  -- the folder of what is away is away
+  off_by : (q : Path) (n : Name) (top : Path) → is_at_or_below (q ++ n ∷ []) top ≡ false → is_at_or_below q top ≡ false
+  off_by q n top off = false_from_ne_true (is_at_or_below q top)
+      (λ below. not_both (is_at_or_below (q ++ n ∷ []) top) (below_more top q (n ∷ []) below) off)
+
+  -- that of the new place is away from both
+  folder_off_to : is_at_or_below folder to ≡ false
+  folder_off_to = false_from_ne_true (is_at_or_below folder to) (λ below.
+      let n = ap length (rest_below to folder below) ∙ length-append to (drop (length to) folder) in
+      omega (arith, n, length_push folder name))
 
   folder_stays : object_at later folder ≡ Some moves.above
-  folder_stays =
-      away room lawful path to moves.o moves.apart moves.there moves.free folder
-      folder_off_path (folder_off_to folder (is_at_or_below folder to) refl ∙ refl)
-      ∙ moves.stands
+  folder_stays = stays folder (off_by folder name path moves.apart) folder_off_to ∙ moves.stands
 
   abbrev AboveIs : Path → Type 0
   AboveIs q = (parent : Object) × (object_at later q ≡ Some parent) × (parent.kind ≡ Folder)
 
-  off_by : (q : Path) (n : Name) (top : Path) → is_at_or_below (q ++ n ∷ []) top ≡ false → is_at_or_below q top ≡ false
-  off_by q n top off = by_test (is_at_or_below q top) refl
-    where
-      by_test : (b : Bool) → is_at_or_below q top ≡ b → b ≡ false
-      by_test false e = refl
-      by_test true below = absurd (not_both (is_at_or_below (q ++ n ∷ []) top) (below_more top q (n ∷ []) below) off)
+  -- a path that ends below the new place: its folder is below it, too
+  split_below : (q : Path) (n first : Name) (rest : Path) (same : q ++ n ∷ [] ≡ to ++ first ∷ rest)
+      → (q ≡ to ++ (ends first rest).folder) × (n ≡ (ends first rest).name)
+  split_below q n first rest same =
+      let end = ends first rest in
+      same_from_push q (to ++ end.folder) n end.name
+      (same ∙ ap (λ r. to ++ r) end.is ∙ sym (append_assoc to end.folder (end.name ∷ [])))
 
   -- the parent of what moved
   above_moved : (q : Path) (n : Name) (child : Object) (rest : Path)
@@ -134,59 +133,34 @@ module _ (room : Room) (lawful : IsRoom room) (path folder : Path)
       (moves.above, ap (object_at later) parts.0 ∙ folder_stays, moves.is_folder)
   above_moved q n child (first ∷ rest) same is =
       let end = ends first rest in
-      let split : q ++ n ∷ [] ≡ (to ++ end.folder) ++ end.name ∷ [] =
-      same ∙ ap (λ r. to ++ r) end.is ∙ sym (append_assoc to end.folder (end.name ∷ [])) in
-      let parts = same_from_push q (to ++ end.folder) n end.name split in
       let above = lawful.parents (path ++ end.folder) end.name child (ap (object_at room)
-      (append_assoc path end.folder (end.name ∷ []) ∙ ap (λ r. path ++ r) (sym end.is)) ∙ is) in (
-        above.0,
-        ap (object_at later) parts.0
-            ∙ at_new_place room lawful path to moves.o moves.apart moves.there moves.free end.folder ∙ above.1,
-        above.2,
-      )
+      (append_assoc path end.folder (end.name ∷ []) ∙ ap (λ r. path ++ r) (sym end.is)) ∙ is) in
+      (above.0, ap (object_at later) (split_below q n first rest same).0 ∙ at_new end.folder ∙ above.1, above.2)
 
   parents_after : (q : Path) (n : Name) (child : Object) → object_at later (q ++ n ∷ []) ≡ Some child → AboveIs q
-  parents_after q n child is = by_stand (q ++ n ∷ []) refl child
-      (stands_after room lawful path to moves.o moves.apart moves.there moves.free (q ++ n ∷ []) child is)
+  parents_after q n child is = by_stand (q ++ n ∷ []) refl child (after (q ++ n ∷ []) child is)
     where
-      by_stand : (p : Path) → q ++ n ∷ [] ≡ p → (other : Object)
-          → Stands room lawful path to moves.o moves.apart moves.there moves.free p other → AboveIs q
+      by_stand : (p : Path) → q ++ n ∷ [] ≡ p → (other : Object) → StandsAfter p other → AboveIs q
       by_stand p e other (Moved same_p same_other rest same at) = above_moved q n other rest (e ∙ same) at
       by_stand p e other (Stayed same_p same_other off_path off_new at) =
-          let above = lawful.parents q n other (ap (object_at room) e ∙ at) in
-          let off_p = off_by q n path (ap (λ k. is_at_or_below k path) e ∙ off_path) in
-          let off_t = off_by q n to (ap (λ k. is_at_or_below k to) e ∙ off_new) in (
-            above.0,
-            away room lawful path to moves.o moves.apart
-                moves.there moves.free q off_p off_t ∙ above.1,
-            above.2,
-          )
-
-  some_of : (found : Option Object) → IsSome found → (o : Object) × (found ≡ Some o)
-  some_of None h = absurd (let e : false ≡ true = h in cc)
-  some_of (Some o) h = (o, refl)
+          let above = lawful.parents q n other (rw e at) in
+          (above.0, stays q (off_by q n path (rw e off_path)) (off_by q n to (rw e off_new)) ∙ above.1, above.2)
 
   -- what is in a folder came with the new name, is below the new place, or was there
-  pub came_or_was : (f : Path) (n : Name) → IsSome (object_at later (f ++ n ∷ []))
-      → ((f ≡ folder) × (n ≡ name)) ⊎ ((is_at_or_below f to ≡ true) ⊎ IsSome (object_at room (f ++ n ∷ [])))
-  came_or_was f n there =
-      let found = some_of (object_at later (f ++ n ∷ [])) there in
-      by_stand (f ++ n ∷ []) refl found.0
-      (stands_after room lawful path to moves.o moves.apart moves.there moves.free (f ++ n ∷ []) found.0 found.1)
-    where
-      moved_there : (rest : Path) → f ++ n ∷ [] ≡ to ++ rest
-          → ((f ≡ folder) × (n ≡ name)) ⊎ ((is_at_or_below f to ≡ true) ⊎ IsSome (object_at room (f ++ n ∷ [])))
-      moved_there [] same = let parts = same_from_push f folder n name (same ∙ append-nil to) in inl (parts.0, parts.1)
-      moved_there (first ∷ rest) same =
-          let end = ends first rest in
-          let split : f ++ n ∷ [] ≡ (to ++ end.folder) ++ end.name ∷ [] =
-          same ∙ ap (λ r. to ++ r) end.is ∙ sym (append_assoc to end.folder (end.name ∷ [])) in
-          let parts = same_from_push f (to ++ end.folder) n end.name split in
-          inr (inl (ap (λ p. is_at_or_below p to) parts.0 ∙ at_behind to end.folder))
+  abbrev CameOrWas : Path → Name → Type 0
+  CameOrWas f n = ((f ≡ folder) × (n ≡ name)) ⊎ ((is_at_or_below f to ≡ true) ⊎ IsSome (object_at room (f ++ n ∷ [])))
 
-      by_stand : (p : Path) → f ++ n ∷ [] ≡ p → (other : Object)
-          → Stands room lawful path to moves.o moves.apart moves.there moves.free p other
-          → ((f ≡ folder) × (n ≡ name)) ⊎ ((is_at_or_below f to ≡ true) ⊎ IsSome (object_at room (f ++ n ∷ [])))
+  pub came_or_was : (f : Path) (n : Name) → IsSome (object_at later (f ++ n ∷ [])) → CameOrWas f n
+  came_or_was f n there =
+      let found = some_there (object_at later (f ++ n ∷ [])) there in
+      by_stand (f ++ n ∷ []) refl found.0 (after (f ++ n ∷ []) found.0 found.1)
+    where
+      moved_there : (rest : Path) → f ++ n ∷ [] ≡ to ++ rest → CameOrWas f n
+      moved_there [] same = inl (same_from_push f folder n name (same ∙ append-nil to))
+      moved_there (first ∷ rest) same =
+          inr (inl (rw (split_below f n first rest same).0 (at_behind to (ends first rest).folder)))
+
+      by_stand : (p : Path) → f ++ n ∷ [] ≡ p → (other : Object) → StandsAfter p other → CameOrWas f n
       by_stand p e other (Moved same_p same_other rest same at) = moved_there rest (e ∙ same)
       by_stand p e other (Stayed same_p same_other off_path off_new at) =
           inr (inr (ap (λ k. is_some (object_at room k)) e ∙ ap is_some at))
@@ -194,11 +168,10 @@ module _ (room : Room) (lawful : IsRoom room) (path folder : Path)
   few_below : (f : Path) → is_at_or_below f to ≡ true → length (children later f) ≤ max_children
   few_below f below =
       let rest = drop (length to) f in
-      let same = rest_below to f below in
       let fewer = no_more_children room later f (path ++ rest) (λ n there.
       let as_new : object_at later (f ++ n ∷ []) ≡ object_at room (path ++ (rest ++ n ∷ [])) =
-      ap (λ p. object_at later (p ++ n ∷ [])) same ∙ ap (object_at later) (append_assoc to rest (n ∷ []))
-      ∙ at_new_place room lawful path to moves.o moves.apart moves.there moves.free (rest ++ n ∷ []) in
+      ap (λ p. object_at later (p ++ n ∷ [])) (rest_below to f below)
+      ∙ ap (object_at later) (append_assoc to rest (n ∷ [])) ∙ at_new (rest ++ n ∷ []) in
       ap (λ p. is_some (object_at room p)) (append_assoc path rest (n ∷ [])) ∙ sym (ap is_some as_new) ∙ there) in
       omega (arith, fewer, lawful.few (path ++ rest))
 
@@ -207,8 +180,7 @@ module _ (room : Room) (lawful : IsRoom room) (path folder : Path)
   among_folder n there = elim (came_or_was folder n there) [
     | inl new ↦ inl new.1
     | inr old ↦ elim old [
-      | inl below ↦
-          absurd (not_both (is_at_or_below folder to) below (folder_off_to folder (is_at_or_below folder to) refl))
+      | inl below ↦ absurd (not_both (is_at_or_below folder to) below folder_off_to)
       | inr was ↦ inr was
     ]
   ]
@@ -231,40 +203,30 @@ module _ (room : Room) (lawful : IsRoom room) (path folder : Path)
       omega (arith, fewer, lawful.few folder)
 
   few_after : (f : Path) → length (children later f) ≤ max_children
-  few_after f = by_place (is_at_or_below f to) refl (path_eq f folder) refl (path_eq (parent_of path) folder) refl
-    where
-      by_place : (b : Bool) → is_at_or_below f to ≡ b → (c : Bool) → path_eq f folder ≡ c → (d : Bool)
-          → path_eq (parent_of path) folder ≡ d → length (children later f) ≤ max_children
-      by_place true below c c_is d d_is = few_below f below
-      by_place false off true here true in_folder =
-          let P : Path → Type 0 = λ p. length (children later p) ≤ max_children in
-          subst P (sym (same_path f folder here))
-          (few_same path refl moves.below_root (same_path (parent_of path) folder in_folder))
-      by_place false off true here false elsewhere =
-          let more = one_more_child room later folder folder name moves.o.kind among_folder in
-          let room_left = moves.not_full (λ same. let no : false ≡ true = sym elsewhere
-          ∙ ap (λ p. path_eq p folder) same ∙ path_itself folder in cc) in
-          let P : Path → Type 0 = λ p. length (children later p) ≤ max_children in
-          subst P (sym (same_path f folder here)) (omega (arith, more, room_left))
-      by_place false off false other d d_is =
+  few_after f = elim (cases_Bool (is_at_or_below f to)) [
+    | inl below ↦ few_below f below
+    | inr off ↦ elim (same_or_other_path f folder) [
+      | inl here ↦ rw here few_in_folder
+      | inr other ↦ (
           let fewer = no_more_children room later f f (λ n there. elim (came_or_was f n there) [
-            | inl new ↦
-                absurd (let no : false ≡ true = sym other ∙ ap (λ p. path_eq p folder) new.0 ∙ path_itself folder in cc)
-            | inr old ↦ elim old [
-              | inl below ↦ absurd (not_both (is_at_or_below f to) below off)
-              | inr was ↦ was
-            ]
+            | inl new ↦ absurd (other new.0)
+            | inr old ↦ elim old [ inl below ↦ absurd (not_both (is_at_or_below f to) below off) | inr was ↦ was ]
           ]) in
-          omega (arith, fewer, lawful.few f)
+          omega (arith, fewer, lawful.few f))
+    ]
+  ]
+    where
+      few_in_folder : length (children later folder) ≤ max_children
+      few_in_folder = elim (same_or_other_path (parent_of path) folder) [
+        | inl inside ↦ few_same path refl moves.below_root inside
+        | inr elsewhere ↦ (
+            let more = one_more_child room later folder folder name moves.o.kind among_folder in
+            omega (arith, more, moves.not_full elsewhere))
+      ]
 
   pub renamed_is_room : IsRoom (renamed room path (folder ++ name ∷ []))
   renamed_is_room = record {
-    root = (
-      lawful.root.0,
-      away room lawful path to moves.o moves.apart moves.there
-          moves.free [] moves.below_root root_off_to ∙ lawful.root.1,
-      lawful.root.2,
-    );
+    root = (lawful.root.0, stays [] moves.below_root (root_off_to folder) ∙ lawful.root.1, lawful.root.2);
     parents = parents_after;
     once = all_moved path to moves.is_path room.objects lawful.once
         (free_list room lawful path to moves.o moves.apart moves.there moves.free)

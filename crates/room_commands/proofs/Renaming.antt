@@ -1,11 +1,12 @@
 -- What stands where after a subtree was moved.
-use Rattle.std.proofs.Common.{◌≡◌, refl, ap, sym, ◌∙◌, Bool, true, false, List, [], ◌∷◌, ◌++◌, map, drop, length, Some}
-use Rattle.std.specs.Prelude.{cond, ◌&&◌}
+use Rattle.std.proofs.Common.{◌≡◌, refl, ap, sym, ◌∙◌, true, false, List, [], ◌∷◌, ◌++◌, map, drop, length, Some}
+use Rattle.std.proofs.Common.{inl, inr}
+use Rattle.std.specs.Prelude.{cond}
 use Rattle.std.specs.Map.{lookup}
-use Rattle.std.proofs.lemmas.Bool.{and_parts}
-use Rattle.std.specs.Cmp.Lexicographic.{bytes_decides}
-use Rattle.room_records.specs.Names.{Name, Path, path_eq, name_eq}
+use Rattle.std.proofs.lemmas.Bool.{and_parts, and_cases, and_right, cases_Bool}
+use Rattle.room_records.specs.Names.{Path, path_eq, name_eq}
 use Rattle.room_records.specs.Room.{Object}
+use Rattle.room_records.proofs.RoomsChildren.{name_itself}
 use Rattle.room_commands.specs.Checks.{is_at_or_below}
 use Rattle.room_commands.specs.Effect.{moved}
 
@@ -14,17 +15,14 @@ abbrev pub NoneBelow : Path → List (Path × Object) → Type 0
 NoneBelow top [] = Unit {0}
 NoneBelow top (e ∷ es) = (is_at_or_below e.0 top ≡ false) × NoneBelow top es
 
-name_same : (name : Name) → name_eq name name ≡ true
-name_same name = (bytes_decides name name).1 refl
-
 pub eq_behind : (front a b : Path) → path_eq (front ++ a) (front ++ b) ≡ path_eq a b
 eq_behind [] a b = refl
-eq_behind (name ∷ front) a b = rw (name_same name) (eq_behind front a b)
+eq_behind (name ∷ front) a b = rw (name_itself name) (eq_behind front a b)
 
 -- a path behind a front is at or below it
 pub at_behind : (front rest : Path) → is_at_or_below (front ++ rest) front ≡ true
 at_behind [] rest = refl
-at_behind (name ∷ front) rest = rw (name_same name) (at_behind front rest)
+at_behind (name ∷ front) rest = rw (name_itself name) (at_behind front rest)
 
 -- at or below, another path is equal exactly where the rests are
 pub eq_by_rest : (path rest k : Path) → is_at_or_below k path ≡ true
@@ -38,25 +36,18 @@ eq_by_rest (name ∷ path) rest (other ∷ k) below =
 pub eq_not_below : (path rest k : Path) → is_at_or_below k path ≡ false → path_eq (path ++ rest) k ≡ false
 eq_not_below [] rest k below = let no : true ≡ false = below in cc
 eq_not_below (name ∷ path) rest [] below = refl
-eq_not_below (name ∷ path) rest (other ∷ k) below = by_first (name_eq name other) below (eq_not_below path rest k)
-  where
-    by_first : (b : Bool) → (b && is_at_or_below k path) ≡ false
-        → (is_at_or_below k path ≡ false → path_eq (path ++ rest) k ≡ false) → (b && path_eq (path ++ rest) k) ≡ false
-    by_first true off rest_off = rest_off off
-    by_first false off rest_off = refl
+eq_not_below (name ∷ path) rest (other ∷ k) below =
+    elim (and_cases (name_eq name other) (is_at_or_below k path) below) [
+      | inl apart ↦ rw apart refl
+      | inr off ↦ and_right (name_eq name other) (path_eq (path ++ rest) k) (eq_not_below path rest k off)
+    ]
 
 one_moved : (path to rest k : Path) → is_at_or_below k to ≡ false
     → path_eq (to ++ rest) (moved path to k) ≡ path_eq (path ++ rest) k
-one_moved path to rest k free = by_place (is_at_or_below k path) refl
-  where
-    by_place : (b : Bool) → is_at_or_below k path ≡ b
-        → path_eq (to ++ rest) (moved path to k) ≡ path_eq (path ++ rest) k
-    by_place true below =
-        ap (λ b. path_eq (to ++ rest) (cond b (to ++ drop (length path) k) k)) below
-        ∙ eq_behind to rest (drop (length path) k) ∙ eq_by_rest path rest k below
-    by_place false off =
-        ap (λ b. path_eq (to ++ rest) (cond b (to ++ drop (length path) k) k)) off
-        ∙ eq_not_below to rest k free ∙ sym (eq_not_below path rest k off)
+one_moved path to rest k free = elim (cases_Bool (is_at_or_below k path)) [
+  | inl below ↦ rw below (eq_behind to rest (drop (length path) k) ∙ eq_by_rest path rest k below)
+  | inr off ↦ rw off (eq_not_below to rest k free ∙ sym (eq_not_below path rest k off))
+]
 
 -- below the new place stands what stood below the old one
 pub lookup_moved : (path to rest : Path) (es : List (Path × Object)) → NoneBelow to es

@@ -1,7 +1,8 @@
 -- What the definitions of rooms and commands mean: refusals, successes, a READ after a WRITE, a RENAME.
 use Rattle.std.proofs.Common.{◌≡◌, ℕ, refl, ap, sym, ◌∙◌, Bool, true, false, not, cond, ◌||◌, List, [], ◌∷◌, ◌++◌, map}
-use Rattle.std.proofs.Common.{Option, None, Some, is_some, option_map}
+use Rattle.std.proofs.Common.{Option, None, Some, is_some, option_map, arith}
 use Rattle.std.proofs.lemmas.Bool.{or_parts}
+use Rattle.std.proofs.lemmas.Grind.{common_steps}
 use Rattle.room_acl.specs.declared.subject.Kind.{Kind}
 use Rattle.room_acl.specs.declared.subject.Kind.TheVariants.{File, Folder}
 use Rattle.room_acl.specs.SubjectModel.{SubjectModel}
@@ -27,38 +28,17 @@ use Rattle.room_commands.proofs.RoomsRenamed.{at_new_place, at_old_place, away}
 
 reply_is_no_refusal : (room : Room) (caller : SubjectModel) (command : CommandModel)
     → IsRefused (reply room caller command) → ⊥
-reply_is_no_refusal room caller (C.Stat path) h = h
-reply_is_no_refusal room caller (C.ListNames path) h = h
-reply_is_no_refusal room caller (C.Mkdir path) h = h
-reply_is_no_refusal room caller (C.Create bytes path) h = h
-reply_is_no_refusal room caller (C.Read path) h = h
-reply_is_no_refusal room caller (C.Write bytes path) h = h
-reply_is_no_refusal room caller (C.Append bytes path) h = h
-reply_is_no_refusal room caller (C.Remove path) h = h
-reply_is_no_refusal room caller (C.Rename path to) h = h
-reply_is_no_refusal room caller (C.GetList path) h = h
-reply_is_no_refusal room caller (C.SetList aclflag sent path) h = h
-reply_is_no_refusal room caller (C.Chown group owner path) h = h
-reply_is_no_refusal room caller (C.Access mask path) h = h
+reply_is_no_refusal room caller command refused = grind (arith, common_steps)
 
 -- a refused command leaves the room
 pub refused_leaves : (room : Room) (caller : SubjectModel) (command : CommandModel)
     → IsRefused (effect room caller command).reply → (effect room caller command).room ≡ room
-refused_leaves room caller command = by_value (first_refusal (checks room caller command))
-  where
-    by_value : (o : Option Refusal) → IsRefused (effect_by room caller command o).reply
-        → (effect_by room caller command o).room ≡ room
-    by_value None h = absurd (reply_is_no_refusal room caller command h)
-    by_value (Some refusal) h = refl
+refused_leaves room caller command refused = grind (arith, common_steps)
 
 -- a command that is not refused passed every check
 pub passed_if_not_refused : (room : Room) (caller : SubjectModel) (command : CommandModel)
     → (IsRefused (effect room caller command).reply → ⊥) → first_refusal (checks room caller command) ≡ None
-passed_if_not_refused room caller command = by_value (first_refusal (checks room caller command))
-  where
-    by_value : (o : Option Refusal) → (IsRefused (effect_by room caller command o).reply → ⊥) → o ≡ None
-    by_value None h = refl
-    by_value (Some refusal) h = absurd (h tt)
+passed_if_not_refused room caller command success = grind (arith, common_steps)
 
 -- and had every right that it needs
 pub success_had_rights : (room : Room) (caller : SubjectModel) (command : CommandModel)
@@ -78,22 +58,10 @@ reply_if_passed room caller command passed = ap (λ o. (effect_by room caller co
 module _ (room other : Room) (caller : SubjectModel)
     (alike : (path : Path) → without_bytes (object_at room path) ≡ without_bytes (object_at other path)) where
   some_alike : (path : Path) → is_some (object_at room path) ≡ is_some (object_at other path)
-  some_alike path = some_of_bare (object_at room path)
-      ∙ ap is_some (alike path) ∙ sym (some_of_bare (object_at other path))
-    where
-      some_of_bare : (o : Option Object) → is_some o ≡ is_some (without_bytes o)
-      some_of_bare None = refl
-      some_of_bare (Some o) = refl
+  some_alike path = grind (arith, common_steps)
 
   kind_alike : (kind : Kind) (path : Path) → is_kind kind (object_at room path) ≡ is_kind kind (object_at other path)
-  kind_alike kind path = kind_of_bare kind (object_at room path)
-      ∙ ap (is_kind kind) (alike path) ∙ sym (kind_of_bare kind (object_at other path))
-    where
-      kind_of_bare : (k : Kind) (o : Option Object) → is_kind k o ≡ is_kind k (without_bytes o)
-      kind_of_bare File None = refl
-      kind_of_bare Folder None = refl
-      kind_of_bare File (Some o) = refl
-      kind_of_bare Folder (Some o) = refl
+  kind_alike kind path = grind (arith, common_steps)
 
   exists_alike : (path : Path) → check_exists room path ≡ check_exists other path
   exists_alike path = ap (λ b. refuse_if (not b) NoEnt) (some_alike path)

@@ -1,6 +1,7 @@
 -- A room with one object more.
-use Rattle.std.proofs.Common.{◌≡◌, ◌<◌, ◌≤◌, refl, ap, sym, ◌∙◌, subst, arith, Bool, true, false, cond, ◌⊎◌, inl, inr}
-use Rattle.std.proofs.Common.{[], ◌∷◌, ◌++◌, length, None, Some, IsSome, is_some}
+use Rattle.std.proofs.Common.{◌≡◌, ◌<◌, ◌≤◌, refl, ap, sym, ◌∙◌, arith, cond, ◌⊎◌, inl, inr}
+use Rattle.std.proofs.Common.{[], ◌∷◌, ◌++◌, length, None, Some, IsSome}
+use Rattle.std.proofs.lemmas.Bool.{both_ways, cases_Bool}
 use Rattle.std.proofs.lemmas.List.{same_from_push}
 use Rattle.room_acl.specs.declared.subject.Kind.TheVariants.{Folder}
 use Rattle.room_records.specs.Limits.{max_children}
@@ -9,6 +10,13 @@ use Rattle.room_records.specs.Room.{Object, Room, IsRoom, IsObject, object_at, c
 use Rattle.room_records.proofs.RoomsMap.{some_is, none_is_some, same_path, path_itself, other_path}
 use Rattle.room_records.proofs.RoomsChildren.{no_more_children, one_more_child}
 use Rattle.room_commands.specs.Effect.{with_new}
+
+-- two paths are one or not
+pub same_or_other_path : (a b : Path) → (a ≡ b) ⊎ (a ≡ b → ⊥)
+same_or_other_path a b = elim (cases_Bool (path_eq a b)) [
+  | inl same ↦ inl (same_path a b same)
+  | inr other ↦ inr (λ same. both_ways (path_eq a b) other (rw same (path_itself b)))
+]
 
 module _ (room : Room) (path : Path) (o : Object) where
   -- at its path the new object, and elsewhere what was there
@@ -30,21 +38,17 @@ module _ (room : Room) (path : Path) (o : Object) where
   -- what is there is the new object, or was there
   pub new_or_old : (q : Path) (other : Object) → object_at (with_new room path o) q ≡ Some other
       → ((q ≡ path) × (o ≡ other)) ⊎ (object_at room q ≡ Some other)
-  new_or_old q other is = by_test (path_eq q path) refl is
-    where
-      by_test : (b : Bool) → path_eq q path ≡ b → cond b (Some o) (object_at room q) ≡ Some other
-          → ((q ≡ path) × (o ≡ other)) ⊎ (object_at room q ≡ Some other)
-      by_test true here h = inl (same_path q path here, some_is o other h)
-      by_test false there h = inr h
+  new_or_old q other is = elim (cases_Bool (path_eq q path)) [
+    | inl here ↦ inl (same_path q path here, some_is o other (rw here at is))
+    | inr there ↦ inr (rw there at is)
+  ]
 
   pub some_new_or_old : (q : Path) → IsSome (object_at (with_new room path o) q)
       → (q ≡ path) ⊎ IsSome (object_at room q)
-  some_new_or_old q is = by_test (path_eq q path) refl is
-    where
-      by_test : (b : Bool) → path_eq q path ≡ b → is_some (cond b (Some o) (object_at room q)) ≡ true
-          → (q ≡ path) ⊎ IsSome (object_at room q)
-      by_test true here h = inl (same_path q path here)
-      by_test false there h = inr h
+  some_new_or_old q is = elim (cases_Bool (path_eq q path)) [
+    | inl here ↦ inl (same_path q path here)
+    | inr there ↦ inr (rw there at is)
+  ]
 
 -- a new object in a folder that is not full leaves a room
 pub with_new_is_room : (room : Room) (folder : Path) (name : Name) (o : Object)
@@ -56,7 +60,7 @@ with_new_is_room room folder name o lawful is_path is_object free above stands i
   root = (lawful.root.0, old_stays room (folder ++ name ∷ []) o free [] lawful.root.0 lawful.root.1, lawful.root.2);
   parents = parents;
   once = (is_path, is_object, free, lawful.once);
-  few = λ other. few other (path_eq other folder) refl;
+  few = few;
 }
   where
     parents : (q : Path) (n : Name) (child : Object)
@@ -72,23 +76,16 @@ with_new_is_room room folder name o lawful is_path is_object free above stands i
           (parent.0, old_stays room (folder ++ name ∷ []) o free q parent.0 parent.1, parent.2)
     ]
 
-    few : (other : Path) (b : Bool) → path_eq other folder ≡ b
-        → length (children (with_new room (folder ++ name ∷ []) o) other) ≤ max_children
-    few other true here =
-        let same = same_path other folder here in
-        let more = one_more_child room (with_new room (folder ++ name ∷ []) o) other other name o.kind
-        (λ n there. elim (some_new_or_old room (folder ++ name ∷ []) o (other ++ n ∷ []) there) [
-          | inl new ↦ inl (same_from_push other folder n name new).1
-          | inr old ↦ inr old
-        ]) in
-        let before : length (children room other) < max_children =
-        (let P : Path → Type 0 = λ p. length (children room p) < max_children in subst P (sym same) not_full) in
-        omega (arith, more, before)
-    few other false there =
-        let same = no_more_children room (with_new room (folder ++ name ∷ []) o) other other
-        (λ n is. elim (some_new_or_old room (folder ++ name ∷ []) o (other ++ n ∷ []) is) [
-          | inl new ↦ absurd (let e : false ≡ true = sym there
-              ∙ ap (λ p. path_eq p folder) (same_from_push other folder n name new).0 ∙ path_itself folder in cc)
-          | inr old ↦ old
-        ]) in
-        omega (arith, same, lawful.few other)
+    few : (other : Path) → length (children (with_new room (folder ++ name ∷ []) o) other) ≤ max_children
+    few other = elim (same_or_other_path other folder) [
+      | inl here ↦ (
+          let more = one_more_child room (with_new room (folder ++ name ∷ []) o) folder folder name o.kind
+          (λ n there. elim (some_new_or_old room (folder ++ name ∷ []) o (folder ++ n ∷ []) there)
+          [ inl new ↦ inl (same_from_push folder folder n name new).1 | inr old ↦ inr old ]) in
+          omega (arith, more, not_full, ap (λ p. length (children (with_new room (folder ++ name ∷ []) o) p)) here))
+      | inr apart ↦ (
+          let same = no_more_children room (with_new room (folder ++ name ∷ []) o) other other
+          (λ n is. elim (some_new_or_old room (folder ++ name ∷ []) o (other ++ n ∷ []) is)
+          [ inl new ↦ absurd (apart (same_from_push other folder n name new).0) | inr old ↦ old ]) in
+          omega (arith, same, lawful.few other))
+    ]

@@ -1,14 +1,16 @@
 -- A room with the object at one path changed.
-use Rattle.std.proofs.Common.{◌≡◌, ◌≤◌, refl, ap, sym, ◌∙◌, subst, Bool, true, false, cond, List, [], ◌∷◌, ◌++◌, map}
-use Rattle.std.proofs.Common.{length, Option, None, Some, option_map}
+use Rattle.std.proofs.Common.{◌≡◌, refl, ap, sym, ◌∙◌, Bool, true, false, cond, List, [], ◌∷◌, ◌++◌, map}
+use Rattle.std.proofs.Common.{Option, None, Some, option_map, arith, inl, inr}
 use Rattle.std.specs.Map.{lookup}
+use Rattle.std.proofs.lemmas.Bool.{cases_Bool}
+use Rattle.std.proofs.lemmas.Grind.{common_steps}
 use Rattle.room_acl.specs.declared.subject.Kind.{Kind}
-use Rattle.room_records.specs.Limits.{max_children}
-use Rattle.room_records.specs.Names.{Name, Path, path_eq}
+use Rattle.room_records.specs.Names.{Path, path_eq}
 use Rattle.room_records.specs.Room.{Object, Room, IsRoom, IsObject, AreObjects, object_at, children}
 use Rattle.room_records.proofs.RoomsMap.{some_is, none_is_some, same_path, path_itself, other_path}
 use Rattle.room_records.proofs.RoomsChildren.{kind_of_child, children_rise, same_entries}
 use Rattle.room_commands.specs.Effect.{with_object}
+use Rattle.room_commands.proofs.RoomsNew.{same_or_other_path}
 
 module _ (path : Path) (change : Object → Object) where
   abbrev change_at : Path × Object → Path × Object
@@ -17,60 +19,46 @@ module _ (path : Path) (change : Object → Object) where
   changed_here : (es : List (Path × Object))
       → lookup (path_eq path) (map change_at es) ≡ option_map change (lookup (path_eq path) es)
   changed_here [] = refl
-  changed_here (e ∷ es) = by_test (path_eq path e.0) refl (changed_here es)
-    where
-      by_test : (b : Bool) → path_eq path e.0 ≡ b
-          → lookup (path_eq path) (map change_at es) ≡ option_map change (lookup (path_eq path) es)
-          → lookup (path_eq path) (cond b (e.0, change e.1) e ∷ map change_at es)
-          ≡ option_map change (cond b (Some e.1) (lookup (path_eq path) es))
-      by_test true here rest = ap (λ t. cond t (Some (change e.1)) (lookup (path_eq path) (map change_at es))) here
-      by_test false there rest = ap (λ t. cond t (Some e.1) (lookup (path_eq path) (map change_at es))) there ∙ rest
+  changed_here (e ∷ es) = grind (arith, common_steps, changed_here es)
 
   left_elsewhere : (q : Path) → (q ≡ path → ⊥) → (es : List (Path × Object))
       → lookup (path_eq q) (map change_at es) ≡ lookup (path_eq q) es
   left_elsewhere q apart [] = refl
-  left_elsewhere q apart (e ∷ es) = by_test (path_eq path e.0) refl (left_elsewhere q apart es)
-    where
-      by_test : (b : Bool) → path_eq path e.0 ≡ b → lookup (path_eq q) (map change_at es) ≡ lookup (path_eq q) es
-          → lookup (path_eq q) (cond b (e.0, change e.1) e ∷ map change_at es)
-          ≡ cond (path_eq q e.0) (Some e.1) (lookup (path_eq q) es)
-      by_test true here rest =
-          let no : path_eq q e.0 ≡ false = other_path q e.0 (λ same. apart (same ∙ sym (same_path path e.0 here))) in
-          ap (λ t. cond t (Some (change e.1)) (lookup (path_eq q) (map change_at es))) no
-          ∙ rest ∙ sym (ap (λ t. cond t (Some e.1) (lookup (path_eq q) es)) no)
-      by_test false there rest = ap (cond (path_eq q e.0) (Some e.1)) rest
+  left_elsewhere q apart (e ∷ es) = elim (cases_Bool (path_eq path e.0)) [
+    | inl here ↦ (
+        let no : path_eq q e.0 ≡ false = other_path q e.0 (λ same. apart (same ∙ sym (same_path path e.0 here))) in
+        rw (here, no) (left_elsewhere q apart es))
+    | inr there ↦ rw there (ap (cond (path_eq q e.0) (Some e.1)) (left_elsewhere q apart es))
+  ]
 
   none_stays : (test : Path → Bool) (es : List (Path × Object))
       → lookup test es ≡ None → lookup test (map change_at es) ≡ None
   none_stays test [] none = refl
-  none_stays test (e ∷ es) none = by_test (path_eq path e.0) (test e.0) refl none (none_stays test es)
-    where
-      by_test : (b t : Bool) → test e.0 ≡ t → cond t (Some e.1) (lookup test es) ≡ None
-          → (lookup test es ≡ None → lookup test (map change_at es) ≡ None)
-          → lookup test (cond b (e.0, change e.1) e ∷ map change_at es) ≡ None
-      by_test b true passes some rest = absurd (none_is_some e.1 (sym some))
-      by_test true false fails none' rest =
-          ap (λ t. cond t (Some (change e.1)) (lookup test (map change_at es))) fails ∙ rest none'
-      by_test false false fails none' rest =
-          ap (λ t. cond t (Some e.1) (lookup test (map change_at es))) fails ∙ rest none'
+  none_stays test (e ∷ es) none = elim (cases_Bool (test e.0)) [
+    | inl passes ↦ absurd (none_is_some e.1 (sym (rw passes at none)))
+    | inr fails ↦ (
+        let rest = none_stays test es (rw fails at none) in
+        elim (cases_Bool (path_eq path e.0)) [ inl here ↦ rw (here, fails) rest | inr there ↦ rw (there, fails) rest ])
+  ]
 
   all_objects : (es : List (Path × Object)) → AreObjects es
       → ((o : Object) → lookup (path_eq path) es ≡ Some o → IsObject (change o)) → AreObjects (map change_at es)
   all_objects [] once becomes = tt
-  all_objects (e ∷ es) once becomes = by_test (path_eq path e.0) refl becomes (all_objects es once.3)
-    where
-      by_test : (b : Bool) → path_eq path e.0 ≡ b
-          → ((o : Object) → cond b (Some e.1) (lookup (path_eq path) es) ≡ Some o → IsObject (change o))
-          → (((o : Object) → lookup (path_eq path) es ≡ Some o → IsObject (change o)) → AreObjects (map change_at es))
-          → AreObjects (cond b (e.0, change e.1) e ∷ map change_at es)
-      by_test true here becomes' rest = (
-        once.0,
-        becomes' e.1 refl,
-        none_stays (path_eq e.0) es once.2,
-        rest (λ o found. absurd (none_is_some o
-            (sym once.2 ∙ ap (λ p. lookup (path_eq p) es) (sym (same_path path e.0 here)) ∙ found))),
-      )
-      by_test false there becomes' rest = (once.0, once.1, none_stays (path_eq e.0) es once.2, rest becomes')
+  all_objects (e ∷ es) once becomes = elim (cases_Bool (path_eq path e.0)) [
+    | inl here ↦ rw here (
+      once.0,
+      becomes e.1 (rw here refl),
+      none_stays (path_eq e.0) es once.2,
+      all_objects es once.3 (λ o found. absurd (none_is_some o
+          (sym once.2 ∙ ap (λ p. lookup (path_eq p) es) (sym (same_path path e.0 here)) ∙ found))),
+    )
+    | inr there ↦ rw there (
+      once.0,
+      once.1,
+      none_stays (path_eq e.0) es once.2,
+      all_objects es once.3 (λ o found. becomes o (rw there found)),
+    )
+  ]
 
 module _ (room : Room) (path : Path) (change : Object → Object) where
   -- at its path the changed object, if there was one, and elsewhere what was there
@@ -83,17 +71,10 @@ module _ (room : Room) (path : Path) (change : Object → Object) where
   -- what stands at a path afterwards
   pub after_change : (q : Path) → object_at (with_object room path change) q
       ≡ cond (path_eq q path) (option_map change (object_at room q)) (object_at room q)
-  after_change q = by_test (path_eq q path) refl
-    where
-      by_test : (b : Bool) → path_eq q path ≡ b →
-          object_at (with_object room path change) q ≡ cond b (option_map change (object_at room q)) (object_at room q)
-      by_test true here =
-          let same = same_path q path here in
-          ap (object_at (with_object room path change)) same ∙ at_changed
-          ∙ ap (λ p. option_map change (object_at room p)) (sym same)
-      by_test false there =
-          elsewhere_unchanged q (λ same. let e : false ≡ true = sym there
-          ∙ ap (λ p. path_eq p path) same ∙ path_itself path in cc)
+  after_change q = elim (same_or_other_path q path) [
+    | inl here ↦ rw (here, path_itself path) at_changed
+    | inr apart ↦ rw (other_path q path apart) (elsewhere_unchanged q apart)
+  ]
 
   module _ (keeps_kind : (o : Object) → (change o).kind ≡ o.kind) where
     kinds_stay : (q : Path) → option_map (λ (o : Object). o.kind) (object_at (with_object room path change) q)
@@ -142,6 +123,5 @@ module _ (room : Room) (path : Path) (change : Object → Object) where
           let now = still_there q above.0 above.1 in
           (now.0, now.1, now.2 ∙ above.2);
       once = all_objects path change room.objects lawful.once becomes;
-      few = λ folder. (let P : List (Name × Kind) → Type 0 = λ es. length es ≤ max_children in
-          subst P (sym (children_stay folder)) (lawful.few folder));
+      few = λ folder. rw (children_stay folder) (lawful.few folder);
     }

@@ -1,9 +1,9 @@
 -- A room with a subtree moved.
-use Rattle.std.proofs.Common.{◌≡◌, refl, ap, sym, ◌∙◌, Bool, true, false, cond, ◌&&◌, ◌⊎◌, inl, inr, List, [], ◌∷◌}
+use Rattle.std.proofs.Common.{◌≡◌, refl, ap, sym, ◌∙◌, Bool, true, false, cond, ◌⊎◌, inl, inr, List, [], ◌∷◌}
 use Rattle.std.proofs.Common.{◌++◌, map, drop, length, append_assoc, None, Some}
 use Rattle.std.specs.Map.{lookup}
-use Rattle.std.proofs.lemmas.Bool.{and_parts}
-use Rattle.room_records.specs.Names.{Name, Path, path_eq, name_eq}
+use Rattle.std.proofs.lemmas.Bool.{and_parts, both_ways, cases_Bool, false_from_ne_true}
+use Rattle.room_records.specs.Names.{Path, path_eq, name_eq}
 use Rattle.room_records.specs.Room.{Object, Room, IsRoom, object_at}
 use Rattle.room_records.proofs.RoomsMap.{none_is_some, other_path, StandsIn, standing_found, nothing_below}
 use Rattle.room_records.proofs.RoomsChildren.{name_itself, same_name}
@@ -23,9 +23,7 @@ rest_below (name ∷ top) (other ∷ path) below =
 
 pub below_more : (top path rest : Path) → is_at_or_below path top ≡ true → is_at_or_below (path ++ rest) top ≡ true
 below_more top path rest below =
-    ap (λ p. is_at_or_below (p ++ rest) top) (rest_below top path below)
-    ∙ ap (λ p. is_at_or_below p top) (append_assoc top (drop (length top) path) rest)
-    ∙ at_behind top (drop (length top) path ++ rest)
+    rw (rest_below top path below, append_assoc) (at_behind top (drop (length top) path ++ rest))
 
 -- two paths that a third continues: one continues the other
 one_continues : (a b : Path) (r s : Path) → a ++ r ≡ b ++ s → (is_at_or_below a b ≡ true) ⊎ (is_at_or_below b a ≡ true)
@@ -35,15 +33,12 @@ one_continues (x ∷ a) (y ∷ b) r s same =
     let heads : x ≡ y = cc in
     let tails : a ++ r ≡ b ++ s = cc in
     elim (one_continues a b r s tails) [
-      | inl below ↦ inl (ap (λ t. t && is_at_or_below a b) (one_name y x (sym heads)) ∙ below)
-      | inr below ↦ inr (ap (λ t. t && is_at_or_below b a) (one_name x y heads) ∙ below)
+      | inl below ↦ inl (rw (heads, name_itself y) below)
+      | inr below ↦ inr (rw (heads, name_itself y) below)
     ]
-  where
-    one_name : (n m : Name) → n ≡ m → name_eq n m ≡ true
-    one_name n m e = ap (name_eq n) (sym e) ∙ name_itself n
 
 pub not_both : (b : Bool) → b ≡ true → b ≡ false → ⊥
-not_both b is off = let e : false ≡ true = sym off ∙ is in cc
+not_both b is off = both_ways b off is
 
 abbrev pub move : Path → Path → Path × Object → Path × Object
 move path to e = (moved path to e.0, e.1)
@@ -54,17 +49,17 @@ pub lookup_away : (path to q : Path) → is_at_or_below q path ≡ false
     → lookup (path_eq q) (map (move path to) es) ≡ lookup (path_eq q) es
 lookup_away path to q off_path off_to [] = refl
 lookup_away path to q off_path off_to (e ∷ es) =
-    ap (λ b. cond b (Some e.1) (lookup (path_eq q) (map (move path to) es))) (by_place (is_at_or_below e.0 path) refl)
+    ap (λ b. cond b (Some e.1) (lookup (path_eq q) (map (move path to) es))) here
     ∙ ap (cond (path_eq q e.0) (Some e.1)) (lookup_away path to q off_path off_to es)
   where
-    by_place : (b : Bool) → is_at_or_below e.0 path ≡ b → path_eq q (moved path to e.0) ≡ path_eq q e.0
-    by_place false off = ap (λ b. path_eq q (cond b (to ++ drop (length path) e.0) e.0)) off
-    by_place true below =
-        ap (λ b. path_eq q (cond b (to ++ drop (length path) e.0) e.0)) below
-        ∙ other_path q (to ++ drop (length path) e.0) (λ same. not_both (is_at_or_below q to)
-        (ap (λ p. is_at_or_below p to) same ∙ at_behind to (drop (length path) e.0)) off_to)
-        ∙ sym (other_path q e.0 (λ same.
-        not_both (is_at_or_below q path) (ap (λ p. is_at_or_below p path) same ∙ below) off_path))
+    here : path_eq q (moved path to e.0) ≡ path_eq q e.0
+    here = elim (cases_Bool (is_at_or_below e.0 path)) [
+      | inl below ↦ rw below (
+          other_path q (to ++ drop (length path) e.0) (λ same.
+          not_both (is_at_or_below q to) (rw same (at_behind to (drop (length path) e.0))) off_to)
+          ∙ sym (other_path q e.0 (λ same. not_both (is_at_or_below q path) (rw same below) off_path)))
+      | inr off ↦ rw off refl
+    ]
 
 -- nothing is left at the old place
 lookup_left : (path to rest : Path) → is_at_or_below to path ≡ false
@@ -72,22 +67,19 @@ lookup_left : (path to rest : Path) → is_at_or_below to path ≡ false
     → lookup (path_eq (path ++ rest)) (map (move path to) es) ≡ None
 lookup_left path to rest apart apart' [] = refl
 lookup_left path to rest apart apart' (e ∷ es) =
-    ap (λ b. cond b (Some e.1) (lookup (path_eq (path ++ rest)) (map (move path to) es)))
-    (by_place (is_at_or_below e.0 path) refl)
+    ap (λ b. cond b (Some e.1) (lookup (path_eq (path ++ rest)) (map (move path to) es))) here
     ∙ lookup_left path to rest apart apart' es
   where
-    by_place : (b : Bool) → is_at_or_below e.0 path ≡ b → path_eq (path ++ rest) (moved path to e.0) ≡ false
-    by_place false off =
-        ap (λ b. path_eq (path ++ rest) (cond b (to ++ drop (length path) e.0) e.0)) off
-        ∙ other_path (path ++ rest) e.0 (λ same.
-        not_both (is_at_or_below e.0 path) (ap (λ p. is_at_or_below p path) (sym same) ∙ at_behind path rest) off)
-    by_place true below =
-        ap (λ b. path_eq (path ++ rest) (cond b (to ++ drop (length path) e.0) e.0)) below
-        ∙ other_path (path ++ rest) (to ++ drop (length path) e.0)
-        (λ same. elim (one_continues path to rest (drop (length path) e.0) same) [
-          | inl below_to ↦ not_both (is_at_or_below path to) below_to apart'
-          | inr below_path ↦ not_both (is_at_or_below to path) below_path apart
-        ])
+    here : path_eq (path ++ rest) (moved path to e.0) ≡ false
+    here = elim (cases_Bool (is_at_or_below e.0 path)) [
+      | inl below ↦ rw below (other_path (path ++ rest) (to ++ drop (length path) e.0)
+          (λ same. elim (one_continues path to rest (drop (length path) e.0) same) [
+            | inl below_to ↦ not_both (is_at_or_below path to) below_to apart'
+            | inr below_path ↦ not_both (is_at_or_below to path) below_path apart
+          ]))
+      | inr off ↦ rw off (other_path (path ++ rest) e.0
+          (λ same. not_both (is_at_or_below e.0 path) (rw (← same) (at_behind path rest)) off))
+    ]
 
 none_below : (to : Path) (es : List (Path × Object))
     → ((k : Path) (o : Object) → StandsIn es k o → is_at_or_below k to ≡ false) → NoneBelow to es
@@ -98,13 +90,9 @@ module _ (room : Room) (lawful : IsRoom room) (path to : Path) (o : Object) (apa
     (there : object_at room path ≡ Some o) (free : object_at room to ≡ None) where
   -- no object is at the new place or below it
   pub off_to : (k : Path) (other : Object) → object_at room k ≡ Some other → is_at_or_below k to ≡ false
-  off_to k other is = by_test (is_at_or_below k to) refl
-    where
-      by_test : (b : Bool) → is_at_or_below k to ≡ b → b ≡ false
-      by_test false off = refl
-      by_test true below =
-          absurd (none_is_some other (sym (nothing_below room lawful (drop (length to) k) to free)
-          ∙ ap (object_at room) (sym (rest_below to k below)) ∙ is))
+  off_to k other is = false_from_ne_true (is_at_or_below k to) (λ below.
+      none_is_some other (sym (nothing_below room lawful (drop (length to) k) to free)
+      ∙ ap (object_at room) (sym (rest_below to k below)) ∙ is))
 
   pub free_list : NoneBelow to room.objects
   free_list = none_below to room.objects
@@ -129,13 +117,11 @@ module _ (room : Room) (lawful : IsRoom room) (path to : Path) (o : Object) (apa
   -- an object stands where its path was moved
   pub at_moved : (q : Path) (other : Object) → object_at room q ≡ Some other
       → object_at (renamed room path to) (moved path to q) ≡ Some other
-  at_moved q other is = by_test (is_at_or_below q path) refl
-    where
-      by_test : (b : Bool) → is_at_or_below q path ≡ b
-          → object_at (renamed room path to) (cond b (to ++ drop (length path) q) q) ≡ Some other
-      by_test true below = at_new_place (drop (length path) q)
-          ∙ ap (object_at room) (sym (rest_below path q below)) ∙ is
-      by_test false off = away q off (off_to q other is) ∙ is
+  at_moved q other is = elim (cases_Bool (is_at_or_below q path)) [
+    | inl below ↦ rw below
+        (at_new_place (drop (length path) q) ∙ ap (object_at room) (sym (rest_below path q below)) ∙ is)
+    | inr off ↦ rw off (away q off (off_to q other is) ∙ is)
+  ]
 
   -- a path that has an object afterwards: below the new place, or away from both
   pub data Stands : Path → Object → Type 0 where
@@ -145,14 +131,14 @@ module _ (room : Room) (lawful : IsRoom room) (path to : Path) (o : Object) (apa
         → is_at_or_below q to ≡ false → object_at room q ≡ Some other → Stands q other
 
   pub stands_after : (q : Path) (other : Object) → object_at (renamed room path to) q ≡ Some other → Stands q other
-  stands_after q other is = by_test (is_at_or_below q to) refl (is_at_or_below q path) refl
-    where
-      by_test : (b : Bool) → is_at_or_below q to ≡ b → (c : Bool) → is_at_or_below q path ≡ c → Stands q other
-      by_test true below c e =
-          let rest = drop (length to) q in
-          let same = rest_below to q below in
-          Moved q other rest same (sym (at_new_place rest) ∙ ap (object_at (renamed room path to)) (sym same) ∙ is)
-      by_test false off true below =
-          absurd (none_is_some other (sym (at_old_place (drop (length path) q))
-          ∙ ap (object_at (renamed room path to)) (sym (rest_below path q below)) ∙ is))
-      by_test false off false off_path = Stayed q other off_path off (sym (away q off_path off) ∙ is)
+  stands_after q other is = elim (cases_Bool (is_at_or_below q to)) [
+    | inl below ↦ (
+        let rest = drop (length to) q in
+        let same = rest_below to q below in
+        Moved q other rest same (sym (at_new_place rest) ∙ ap (object_at (renamed room path to)) (sym same) ∙ is))
+    | inr off ↦ (
+        let off_path = false_from_ne_true (is_at_or_below q path) (λ below.
+        none_is_some other (sym (at_old_place (drop (length path) q))
+        ∙ ap (object_at (renamed room path to)) (sym (rest_below path q below)) ∙ is)) in
+        Stayed q other off_path off (sym (away q off_path off) ∙ is))
+  ]

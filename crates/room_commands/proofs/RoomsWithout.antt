@@ -1,13 +1,16 @@
 -- A room without the object at one path.
-use Rattle.std.proofs.Common.{◌≡◌, refl, ap, sym, ◌∙◌, arith, Bool, true, false, not, cond, List, [], ◌∷◌, ◌++◌}
+use Rattle.std.proofs.Common.{◌≡◌, refl, ap, sym, ◌∙◌, arith, Bool, true, false, not, inl, inr, List, [], ◌∷◌, ◌++◌}
 use Rattle.std.proofs.Common.{filter, None, Some, IsSome, is_some}
 use Rattle.std.specs.Map.{lookup}
+use Rattle.std.proofs.lemmas.Bool.{cases_Bool}
 use Rattle.std.proofs.lemmas.Map.Entries.{lookup-filter-keys}
 use Rattle.room_records.specs.Names.{Name, Path, path_eq}
 use Rattle.room_records.specs.Room.{Object, Room, IsRoom, AreObjects, object_at}
-use Rattle.room_records.proofs.RoomsMap.{none_is_some, same_path, path_itself, other_path}
+use Rattle.room_records.proofs.Options.{none_is_not_some}
+use Rattle.room_records.proofs.RoomsMap.{none_is_some, same_path, other_path}
 use Rattle.room_records.proofs.RoomsChildren.{no_more_children}
 use Rattle.room_commands.specs.Effect.{without}
+use Rattle.room_commands.proofs.RoomsNew.{same_or_other_path}
 
 module _ (room : Room) (path : Path) where
   -- nothing at its path, and elsewhere what was there
@@ -28,36 +31,30 @@ module _ (room : Room) (path : Path) where
       (apart, sym (elsewhere_left q apart) ∙ is)
 
   some_was_there : (q : Path) → IsSome (object_at (without room path) q) → IsSome (object_at room q)
-  some_was_there q is = by_test (path_eq q path) refl
-    where
-      by_test : (b : Bool) → path_eq q path ≡ b → IsSome (object_at room q)
-      by_test true here = absurd (let e : false ≡ true = sym (ap is_some at_removed)
-          ∙ ap (λ p. is_some (object_at (without room path) p)) (sym (same_path q path here)) ∙ is in cc)
-      by_test false there =
-          let apart : q ≡ path → ⊥ =
-          (λ same. let e : false ≡ true = sym there ∙ ap (λ p. path_eq p path) same ∙ path_itself path in cc) in
-          ap is_some (sym (elsewhere_left q apart)) ∙ is
+  some_was_there q is = elim (same_or_other_path q path) [
+    | inl here ↦ absurd (none_is_not_some (object_at (without room path) path) at_removed (rw here at is))
+    | inr apart ↦ ap is_some (sym (elsewhere_left q apart)) ∙ is
+  ]
 
 none_after_filter : (keeps : Path × Object → Bool) (test : Path → Bool) (es : List (Path × Object))
     → lookup test es ≡ None → lookup test (filter keeps es) ≡ None
 none_after_filter keeps test [] none = refl
-none_after_filter keeps test (e ∷ es) none = by_test (keeps e) (test e.0) refl none (none_after_filter keeps test es)
-  where
-    by_test : (b t : Bool) → test e.0 ≡ t → cond t (Some e.1) (lookup test es) ≡ None
-        → (lookup test es ≡ None → lookup test (filter keeps es) ≡ None)
-        → lookup test (cond b (e ∷ filter keeps es) (filter keeps es)) ≡ None
-    by_test b true passes some rest = absurd (none_is_some e.1 (sym some))
-    by_test true false fails none' rest = ap (λ t. cond t (Some e.1) (lookup test (filter keeps es))) fails ∙ rest none'
-    by_test false false fails none' rest = rest none'
+none_after_filter keeps test (e ∷ es) none = elim (cases_Bool (test e.0)) [
+  | inl passes ↦ absurd (none_is_some e.1 (sym (rw passes at none)))
+  | inr fails ↦ (
+      let rest = none_after_filter keeps test es (rw fails at none) in
+      elim (cases_Bool (keeps e)) [ inl kept ↦ rw (kept, fails) rest | inr dropped ↦ rw dropped rest ])
+]
 
 filter_objects : (keeps : Path × Object → Bool) (es : List (Path × Object))
     → AreObjects es → AreObjects (filter keeps es)
 filter_objects keeps [] once = tt
-filter_objects keeps (e ∷ es) once = by_test (keeps e) (filter_objects keeps es once.3)
-  where
-    by_test : (b : Bool) → AreObjects (filter keeps es) → AreObjects (cond b (e ∷ filter keeps es) (filter keeps es))
-    by_test true rest = (once.0, once.1, none_after_filter keeps (path_eq e.0) es once.2, rest)
-    by_test false rest = rest
+filter_objects keeps (e ∷ es) once =
+    let rest = filter_objects keeps es once.3 in
+    elim (cases_Bool (keeps e)) [
+      | inl kept ↦ rw kept (once.0, once.1, none_after_filter keeps (path_eq e.0) es once.2, rest)
+      | inr dropped ↦ rw dropped rest
+    ]
 
 -- the removal of an object other than the root, with nothing in it, leaves a room
 pub without_is_room : (room : Room) (path : Path) → IsRoom room → ([] ≡ path → ⊥)

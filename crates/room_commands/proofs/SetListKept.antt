@@ -1,7 +1,9 @@
 -- Own entries that SETLIST leaves have no mark.
-use Rattle.std.proofs.Common.{◌≡◌, ℕ, ◌-◌, ◌*◌, ◌/◌, ◌%◌, refl, ap, ◌∙◌, arith, Bool, true, false, not, cond, ◌&&◌, inl}
+use Rattle.std.proofs.Common.{◌≡◌, ℕ, ◌-◌, ◌*◌, ◌/◌, ◌%◌, refl, ap, ◌∙◌, arith, Bool, true, false, not, inl}
 use Rattle.std.proofs.Common.{inr, List, [], ◌∷◌, map, filter, bit_and, ◌==◌}
 use Rattle.std.specs.List.{list_all}
+use Rattle.std.proofs.lemmas.Bool.{cases_Bool}
+use Rattle.std.proofs.lemmas.Grind.{common_steps}
 use Rattle.std.proofs.lemmas.Nat.Bits.{and_pow}
 use Rattle.room_acl.specs.Bits.{inherited_flag, is_inherited, without_inherited}
 use Rattle.room_acl.specs.Entries.{EntryModel}
@@ -26,22 +28,13 @@ mark_cleared flags = elim (bit_cases flags 7) [
 
 all_cleared : (sent : List EntryModel) → list_all no_mark (map clear_inherited sent) ≡ true
 all_cleared [] = refl
-all_cleared (entry ∷ sent) =
-    ap (λ b. not b && list_all no_mark (map clear_inherited sent)) (mark_cleared entry.flags) ∙ all_cleared sent
+all_cleared (entry ∷ sent) = rw (mark_cleared entry.flags) (all_cleared sent)
 
 all_left : (sent : List EntryModel) → list_all no_mark (filter no_mark sent) ≡ true
 all_left [] = refl
-all_left (entry ∷ sent) = by_test (no_mark entry) refl (all_left sent)
-  where
-    by_test : (b : Bool) → no_mark entry ≡ b → list_all no_mark (filter no_mark sent) ≡ true
-        → list_all no_mark (cond b (entry ∷ filter no_mark sent) (filter no_mark sent)) ≡ true
-    by_test true is rest = ap (λ t. t && list_all no_mark (filter no_mark sent)) is ∙ rest
-    by_test false is rest = rest
+all_left (entry ∷ sent) = grind (arith, common_steps, all_left sent)
 
 pub no_mark_left : (path : Path) (aclflag : ℕ) (sent : List EntryModel) →
     list_all (λ (entry : EntryModel). not (is_inherited entry.flags)) (own_entries_of_setlist path aclflag sent) ≡ true
-no_mark_left path aclflag sent = by_test (follows_at path aclflag)
-  where
-    by_test : (b : Bool) → list_all no_mark (cond b (filter no_mark sent) (map clear_inherited sent)) ≡ true
-    by_test true = all_left sent
-    by_test false = all_cleared sent
+no_mark_left path aclflag sent = elim (cases_Bool (follows_at path aclflag))
+    [ inl follows ↦ rw follows (all_left sent) | inr own ↦ rw own (all_cleared sent) ]

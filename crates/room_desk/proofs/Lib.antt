@@ -6,6 +6,7 @@ pub mod Results
 pub mod Crashes
 pub mod OpenClose
 pub mod Answers
+pub mod Bodies
 pub mod Closing
 pub mod Running
 pub mod SlotTests

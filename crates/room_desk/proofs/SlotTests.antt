@@ -3,29 +3,37 @@ use Rattle.std.proofs.Common.{◌≡◌, ◌<◌, ◌%◌, ◌^◌, ℕ, refl, a
 use Rattle.std.proofs.Common.{length, Option, None, Some, arith}
 use Rattle.std.specs.Prelude.{cond, ◌==◌, nat_lt}
 use Rattle.std.specs.Str.{bytes_eq}
-use Rattle.std.proofs.lemmas.Bool.{eq-eqb, eqb-true}
 use Rattle.std.proofs.lemmas.Bool.Decides.{nat_tests}
-use Rattle.room_slots.specs.Slots.{next_number, sent_again, verdict}
-use Rattle.room_slots.specs.declared.verdict.Verdict.{Verdict}
+use Rattle.room_slots.specs.KeptModel.{KeptModel}
+use Rattle.room_slots.specs.Slots.{next_number, kept_seq, is_next, sent_again, verdict}
 use Rattle.room_slots.specs.declared.verdict.Verdict.TheVariants.{New}
-use Rattle.room_slots.proofs.Counts.{KeepsCount, verdict_unaccepted, verdict_by_count, accepted_if_new, new_if_accepted}
+use Rattle.room_slots.proofs.Counts.{KeepsCount, next_number_of_count, verdict_unaccepted, verdict_by_count}
 use Rattle.room_records.specs.Records.{Records}
 use Rattle.room_records.specs.Room.{Room}
 use Rattle.room_wire.specs.Asks.EventModel.{Request, Slot}
 use Rattle.room_wire.specs.Forms.Texts.{command_text, reply_text}
 use Rattle.room_commands.specs.Effect.{effect}
 use Rattle.room_desk.specs.AnswerModel.{AnswerModel, Reply}
+use Rattle.room_desk.specs.Bodies.{TellsText, KeepsText}
 use Rattle.room_desk.specs.History.{History, session_of, is_open_for, slots_of, accepted, Accepted}
 use Rattle.room_desk.specs.History.{kept_reply, answer_again, is_accepted, answer_to, answer_unaccepted, state_after}
 use Rattle.room_desk.specs.Representation.{RepresentsHistory, kept_after}
-use Rattle.room_desk.specs.RowAnswers.{HasSlot, Ran, answer_kept}
+use Rattle.room_desk.specs.RowAnswers.{HasSlot, Ran, answer_kept, row_answer}
 use Rattle.room_desk.proofs.Answers.{as_many}
+use Rattle.room_desk.proofs.Bodies.{kept_text}
 use Rattle.room_desk.proofs.Acceptance.{open_if_used, stand_after_acceptance}
 use Rattle.room_desk.proofs.Refusals.{stand_after_refusal}
 
 keeps_count : (start : Room) (requests : List Accepted) → KeepsCount (kept_after start requests) (length requests)
 keeps_count start [] = refl
 keeps_count start (last ∷ earlier) = refl
+
+-- the next number by what is kept is the one after the count
+next_by_count : (kept : Option KeptModel) (count seq : ℕ) → KeepsCount kept count
+    → is_next (kept_seq kept) seq ≡ (seq == next_number count)
+next_by_count None count seq h = rw h refl
+next_by_count (Some last) count seq h =
+    ap (λ next. seq == next) (ap next_number h ∙ next_number_of_count count)
 
 below_test : (a b : ℕ) → a < b → nat_lt a b ≡ true
 below_test a b h = grind (arith, nat_tests)
@@ -77,55 +85,52 @@ module _ (start : Room) (r : Records) (past : History) (stand : RepresentsHistor
       accepted_is : is_accepted past q ≡ (q.seq == next_number (length (accepted past q.sid q.slot)))
       accepted_is = rw (usable, below) refl
 
-      module _ (v : Verdict) (is : v ≡ verdict (r.slot q.sid q.slot) q.seq (command_text q.command)) where
-        by_kept : v ≡ verdict (kept_after start (accepted past q.sid q.slot)) q.seq (command_text q.command)
-        by_kept = is ∙ ap (λ k. verdict k q.seq (command_text q.command)) kept_is
+      -- the number that the slot keeps tells alone whether a request is accepted
+      pub accepted_by_number : (test : Bool) (last : Option ℕ) (p : Request) → p ≡ q
+          → test ≡ is_next last p.seq → last ≡ kept_seq (r.slot p.sid p.slot) → is_accepted past q ≡ test
+      accepted_by_number test last p same tells number =
+          accepted_is
+          ∙ sym (next_by_count (kept_after start (accepted past q.sid q.slot)) _ q.seq
+          (keeps_count start (accepted past q.sid q.slot)))
+          ∙ ap (λ k. is_next (kept_seq k) q.seq) (sym kept_is)
+          ∙ ap (λ (p : Request). is_next (kept_seq (r.slot p.sid p.slot)) p.seq) (sym same)
+          ∙ ap (λ n. is_next n p.seq) (sym number) ∙ sym tells
 
-        pub accepted_if_verdict : v ≡ New → is_accepted past q ≡ true
-        accepted_if_verdict new =
-            accepted_is
-            ∙ eq-eqb q.seq _
-            (accepted_if_new (kept_after start (accepted past q.sid q.slot)) _ q.seq (command_text q.command)
-            (keeps_count start (accepted past q.sid q.slot)) (sym by_kept ∙ new))
+      -- what the slot keeps is the request's own text, where it is the body
+      pub keeps_text : (body : List ℕ) → TellsText body (Slot q) → KeepsText (r.slot q.sid q.slot) body q
+      keeps_text body tells =
+          subst (λ k. KeepsText k body q) (sym kept_is)
+          (kept_text start (accepted past q.sid q.slot) body q tells)
 
-        pub unaccepted_if_verdict : (v ≡ New → ⊥) → is_accepted past q ≡ false
-        unaccepted_if_verdict other = by_test (is_accepted past q) refl
-          where
-            by_test : (b : Bool) → is_accepted past q ≡ b → is_accepted past q ≡ false
-            by_test false e = e
-            by_test true e =
-                absurd (other (by_kept ∙ new_if_accepted (kept_after start (accepted past q.sid q.slot))
-                _ q.seq (command_text q.command)
-                (keeps_count start (accepted past q.sid q.slot)) (eqb-true q.seq _ (sym accepted_is ∙ e))))
+      pub new_answer : is_accepted past q ≡ true → answer_to start past (Slot q)
+          ≡ Reply (reply_text (effect (state_after start past) q.caller q.command).reply)
+      new_answer new = rw (usable, below, sym accepted_is ∙ new) refl
 
-        pub new_answer : v ≡ New → answer_to start past (Slot q)
-            ≡ Reply (reply_text (effect (state_after start past) q.caller q.command).reply)
-        new_answer new = rw (usable, below, sym accepted_is ∙ accepted_if_verdict new) refl
+      pub new_stands : is_accepted past q ≡ true → (answered : AnswerModel) (s : Records)
+          → Ran r (state_after start past) q answered s → RepresentsHistory start s (Slot q ∷ past)
+      new_stands new answered s ran =
+          let P : Records → Type 0 = λ t. RepresentsHistory start t (Slot q ∷ past) in
+          subst P (sym ran.leaves) (stand_after_acceptance start past q new
+          r ran.changed stand ran.session ran.kept ran.objects ran.rules)
 
-        pub new_stands : v ≡ New → (answered : AnswerModel) (s : Records) → Ran r (state_after start past) q answered s
-            → RepresentsHistory start s (Slot q ∷ past)
-        new_stands new answered s ran =
-            let P : Records → Type 0 = λ t. RepresentsHistory start t (Slot q ∷ past) in
-            subst P (sym ran.leaves) (stand_after_acceptance start past q (accepted_if_verdict new)
-            r ran.changed stand ran.session ran.kept ran.objects ran.rules)
+      pub old_stands : is_accepted past q ≡ false → RepresentsHistory start r (Slot q ∷ past)
+      old_stands other = stand_after_refusal start r past q other stand
 
-        pub old_stands : (v ≡ New → ⊥) → RepresentsHistory start r (Slot q ∷ past)
-        old_stands other = stand_after_refusal start r past q (unaccepted_if_verdict other) stand
+      unaccepted_verdict : is_accepted past q ≡ false
+          → verdict (kept_after start (accepted past q.sid q.slot)) q.seq (command_text q.command)
+          ≡ verdict_unaccepted (kept_after start (accepted past q.sid q.slot)) q.seq (command_text q.command)
+      unaccepted_verdict other =
+          verdict_by_count (kept_after start (accepted past q.sid q.slot)) _ q.seq
+          (command_text q.command) (keeps_count start (accepted past q.sid q.slot))
+          ∙ ap (λ b. cond b New
+          (verdict_unaccepted (kept_after start (accepted past q.sid q.slot)) q.seq (command_text q.command)))
+          (sym accepted_is ∙ other)
 
-        unaccepted_verdict : (v ≡ New → ⊥)
-            → v ≡ verdict_unaccepted (kept_after start (accepted past q.sid q.slot)) q.seq (command_text q.command)
-        unaccepted_verdict other =
-            by_kept
-            ∙ verdict_by_count (kept_after start (accepted past q.sid q.slot)) _ q.seq
-            (command_text q.command) (keeps_count start (accepted past q.sid q.slot))
-            ∙ ap (λ b. cond b New
-            (verdict_unaccepted (kept_after start (accepted past q.sid q.slot)) q.seq (command_text q.command)))
-            (sym accepted_is ∙ unaccepted_if_verdict other)
-
-        pub old_answer : (v ≡ New → ⊥) → answer_to start past (Slot q) ≡ answer_kept v (r.slot q.sid q.slot)
-        old_answer other =
-            let first : answer_to start past (Slot q) ≡ answer_unaccepted start q (accepted past q.sid q.slot) =
-            rw (usable, below, sym accepted_is ∙ unaccepted_if_verdict other) refl in
-            first ∙ unaccepted_is start q (accepted past q.sid q.slot)
-            ∙ ap (λ w. answer_kept w (kept_after start (accepted past q.sid q.slot))) (sym (unaccepted_verdict other))
-            ∙ ap (answer_kept v) (sym kept_is)
+      pub old_answer : is_accepted past q ≡ false
+          → answer_to start past (Slot q) ≡ row_answer r q (command_text q.command)
+      old_answer other =
+          let first : answer_to start past (Slot q) ≡ answer_unaccepted start q (accepted past q.sid q.slot) =
+          rw (usable, below, sym accepted_is ∙ other) refl in
+          first ∙ unaccepted_is start q (accepted past q.sid q.slot)
+          ∙ ap (λ v. answer_kept v (kept_after start (accepted past q.sid q.slot))) (sym (unaccepted_verdict other))
+          ∙ ap (λ k. answer_kept (verdict k q.seq (command_text q.command)) k) (sym kept_is)

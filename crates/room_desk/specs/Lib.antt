@@ -1,4 +1,5 @@
 pub mod AnswerModel
+pub mod Bodies
 pub mod Crashes
 pub mod History
 pub mod Representation

@@ -5,6 +5,7 @@ use Rattle.room_acl.specs.SubjectModel.{SubjectModel}
 use Rattle.room_slots.specs.KeptModel.{KeptModel}
 use Rattle.room_slots.specs.declared.verdict.Verdict.{Verdict}
 use Rattle.room_slots.specs.declared.verdict.Verdict.TheVariants.{New, Repeat, Uncached, FalseRetry, Misordered}
+use Rattle.room_slots.specs.Slots.{verdict}
 use Rattle.room_records.specs.declared.session.SessionRow.{SessionRow}
 use Rattle.room_records.specs.declared.session.SlotRow.{SlotRow}
 use Rattle.room_records.specs.declared.change.Change.TheVariants.{PutSlot}
@@ -74,3 +75,7 @@ answer_kept Uncached kept = Refused RetryUncached
 answer_kept FalseRetry kept = Refused SeqFalseRetry
 answer_kept Misordered kept = Refused SeqMisordered
 answer_kept New kept = Refused SeqMisordered
+
+-- what a request with this command text is answered that is not new to its slot, by the row of the slot
+abbrev pub row_answer : Records → Request → List ℕ → AnswerModel
+row_answer r q text = answer_kept (verdict (r.slot q.sid q.slot) q.seq text) (r.slot q.sid q.slot)

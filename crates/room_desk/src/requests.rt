@@ -1,25 +1,25 @@
 //! Requests in a slot.
 ghost use Rattle.std.specs.Prelude.{◌≡◌, IfOk, OnOk, Err, ◌∷◌, true, false, option_map};
 ghost use Rattle.room_slots.specs.Slots.{verdict};
-ghost use Rattle.room_slots.specs.declared.verdict.Verdict.TheVariants.{New};
 ghost use Rattle.room_records.specs.Rules.{SlotRules};
 ghost use Rattle.room_records.specs.Room.{Room};
 ghost use Rattle.room_records.specs.Representation.{RepresentsRoom};
-ghost use Rattle.room_records.specs.Shelf.{ShelfCall, fault_in};
+ghost use Rattle.room_records.specs.Shelf.{ShelfCall, ShelfRead, Tells, fault_in};
 ghost use Rattle.room_wire.specs.Asks.EventModel.{Slot};
 ghost use Rattle.room_wire.specs.Forms.Texts.{command_text};
 ghost use Rattle.room_desk.specs.AnswerModel.{answer_model, IsTurnedAway};
+ghost use Rattle.room_desk.specs.Bodies.{KeepsText, TellsText};
 ghost use Rattle.room_desk.specs.Crashes.{LeavesOldOrNew, LeavesNew};
 ghost use Rattle.room_desk.specs.History.{History, session_of, is_open_for, answer_to, changes_rows, ReportsChange};
 ghost use Rattle.room_desk.specs.History.{if_kept, answer_again};
 ghost use Rattle.room_desk.specs.Representation.{RepresentsHistory, StandsFor, StandsWith};
-ghost use Rattle.room_desk.specs.RowAnswers.{HasSlot, Ran, RanTo, answer_kept};
+ghost use Rattle.room_desk.specs.RowAnswers.{HasSlot, Ran, RanTo, answer_kept, row_answer};
 
 use crate::sessions::is_usable;
 use room_acl::Subject;
 use room_commands::Command;
 use room_records::{Change, Shelf, ShelfFault, Sid, SlotRow};
-use room_slots::{Kept, Verdict, classify};
+use room_slots::{Kept, Verdict, classify, is_next};
 use room_tree::plan;
 use room_wire::{Answer, Code, command_text, reply_text};
 use std::alloc::{AllocError, Global};
@@ -119,20 +119,23 @@ fn run_new<S: Shelf>(
     Ok(Answer::Reply(reply))
 }
 
-/// What a request with this number and command text is to what its slot keeps.
-fn verdict_of(kept: &Option<Kept>, seq: u32, text: &[u8]) -> Verdict
-    ensures { result ≡ verdict kept.now seq text.now }
+/// What a request is to what its slot keeps. Its command's text is made only where the kept number comes again in
+/// another body than the kept text: most repeats are those very bytes.
+fn verdict_of(
+    alloc: Global,
+    kept: &Option<Kept>,
+    asked: &SlotRequest,
+    body: &[u8],
+) -> Result<Verdict, AllocError>
+    ensures { IfOk result (λ found. KeepsText kept.now body.now asked.now →
+        found ≡ verdict kept.now asked.now.seq (command_text asked.now.command)) }
 {
-    classify(kept.as_ref(), seq, text)
-}
-
-fn is_new(verdict: Verdict) -> bool
-    ensures new { result ≡ true → verdict ≡ New }
-    ensures other { result ≡ false → verdict ≡ New → ⊥ }
-{
-    match verdict {
-        Verdict::New => true,
-        Verdict::Repeat | Verdict::Uncached | Verdict::FalseRetry | Verdict::Misordered => false,
+    match classify(kept.as_ref(), asked.seq, body) {
+        Verdict::FalseRetry => {
+            let text = command_text(alloc, asked.command)?;
+            Ok(classify(kept.as_ref(), asked.seq, &text))
+        }
+        by_body => Ok(by_body),
     }
 }
 
@@ -161,11 +164,31 @@ fn answer_kept(verdict: Verdict, kept: Option<Kept>) -> Answer
     }
 }
 
-/// A request in a slot of an open session of the caller: the number decides.
+/// What a request that is not new to its slot is answered: here alone the slot's row is read.
+fn answer_from_row<S: Shelf>(
+    alloc: Global,
+    shelf: &mut S,
+    asked: &SlotRequest,
+    body: &[u8],
+) -> Result<Answer, ShelfFault>
+    ensures value { Tells (S.view shelf.old) (S.view shelf.new) result
+        (λ records answer. KeepsText (records.slot asked.now.sid asked.now.slot) body.now asked.now →
+        answer_model answer ≡ row_answer records asked.now (command_text asked.now.command)) }
+    ensures there { (S.view shelf.new).is_intact → OnOk result (S.view shelf.new).is_available }
+    ensures frame { ShelfRead (S.view shelf.old) (S.view shelf.new) (fault_in result) }
+{
+    let kept = shelf.slot(asked.sid, asked.slot)?;
+    let verdict = verdict_of(alloc, &kept, asked, body)?;
+    Ok(answer_kept(verdict, kept))
+}
+
+/// A request in a slot of an open session of the caller: the number decides. The slot's row may be long, so a new
+/// request reads its number alone. `body` is what the request came in, or nothing.
 fn in_slot<S: Shelf>(
     alloc: Global,
     shelf: &mut S,
     asked: &SlotRequest,
+    body: &[u8],
 ) -> Result<Answer, ShelfFault>
     ensures there { (S.view shelf.new).is_intact → OnOk result (S.view shelf.new).is_available }
     ensures frame { ShelfCall (S.view shelf.old) (S.view shelf.new) (fault_in result) }
@@ -175,7 +198,7 @@ fn in_slot<S: Shelf>(
     ensures step { (S.view shelf.new).is_available → (S.view shelf.old).is_laid_out
         → (start : Room) (past : History) → RepresentsHistory start (S.view shelf.old).records past →
         is_open_for asked.now.sid asked.now.caller (session_of past asked.now.sid) ≡ true
-        → HasSlot (S.view shelf.old).records asked.now.sid asked.now.slot →
+        → HasSlot (S.view shelf.old).records asked.now.sid asked.now.slot → TellsText body.now (Slot asked.now) →
         IfOk result (λ answer. (answer_model answer ≡ answer_to start past (Slot asked.now))
         × RepresentsHistory start (S.view shelf.new).records (Slot asked.now ∷ past)) }
     ensures idle { (S.view shelf.new).is_available → (S.view shelf.old).is_laid_out
@@ -195,21 +218,22 @@ fn in_slot<S: Shelf>(
         IfOk result (λ answer. ReportsChange past (Slot asked.now) (answer_model answer) →
         LeavesNew (S.view shelf.new) (StandsWith start past (Slot asked.now))) }
 {
-    let text = command_text(alloc, asked.command)?;
-    let kept = shelf.slot(asked.sid, asked.slot)?;
-    let verdict = verdict_of(&kept, asked.seq, &text);
-    if is_new(verdict) {
-        run_new(alloc, shelf, asked, text)
+    let last = shelf.slot_seq(asked.sid, asked.slot)?;
+    if is_next(last, asked.seq) {
+        let request = command_text(alloc, asked.command)?;
+        run_new(alloc, shelf, asked, request)
     } else {
-        Ok(answer_kept(verdict, kept))
+        answer_from_row(alloc, shelf, asked, body)
     }
 }
 
-/// A request to a slot: the session is tested first, then the slot, then the number.
+/// A request to a slot: the session is tested first, then the slot, then the number. `body` is what the request came
+/// in, or nothing.
 pub(crate) fn request<S: Shelf>(
     alloc: Global,
     shelf: &mut S,
     asked: &SlotRequest,
+    body: &[u8],
 ) -> Result<Answer, ShelfFault>
     ensures there { (S.view shelf.new).is_intact → OnOk result (S.view shelf.new).is_available }
     ensures frame { ShelfCall (S.view shelf.old) (S.view shelf.new) (fault_in result) }
@@ -218,6 +242,7 @@ pub(crate) fn request<S: Shelf>(
         → (S.view shelf.new).records ≡ (S.view shelf.old).records) }
     ensures step { (S.view shelf.new).is_available → (S.view shelf.old).is_laid_out
         → (start : Room) (past : History) → RepresentsHistory start (S.view shelf.old).records past →
+        TellsText body.now (Slot asked.now) →
         IfOk result (λ answer. (answer_model answer ≡ answer_to start past (Slot asked.now))
         × RepresentsHistory start (S.view shelf.new).records (Slot asked.now ∷ past)) }
     ensures idle { (S.view shelf.new).is_available → (S.view shelf.old).is_laid_out
@@ -240,5 +265,5 @@ pub(crate) fn request<S: Shelf>(
     if asked.slot >= row.slots.get() {
         return Ok(Answer::Refused(Code::BadSlot));
     }
-    in_slot(alloc, shelf, asked)
+    in_slot(alloc, shelf, asked, body)
 }

@@ -1,11 +1,12 @@
 //! What answers the messages of a stream to a room.
 ghost use Rattle.std.specs.Prelude.{Ok};
 ghost use Rattle.room_wire.specs.Asks.AskOf as A;
-ghost use Rattle.room_wire.specs.Asks.EventModel.{event_model};
+ghost use Rattle.room_wire.specs.Asks.EventModel.{EventModel, event_model};
 ghost use Rattle.room_wire.specs.Messages.MessageModel.{MessageModel};
 ghost use Rattle.room_wire.specs.Messages.Taken.{Shows};
 ghost use Rattle.room_wire.specs.Questions.QuestionModel.{question_model};
 ghost use Rattle.room_desk.specs.AnswerModel.{answer_model};
+ghost use Rattle.room_desk.specs.Bodies.{IsBodyOf, TellsText};
 ghost use Rattle.room_desk.specs.Serving.{Answered, EventAnswered, MayAnswer};
 
 use crate::desk::Desk;
@@ -21,6 +22,17 @@ pub(crate) struct Lookup<'r> {
     pub roster: &'r Roster,
 }
 
+/// A body, where it may be compared with what a slot keeps, and else nothing: not where it begins as the text of
+/// SETLIST or ACCESS does. These two alone have numbers, and a history may hold any number, also one that no body asks.
+fn comparable(body: &[u8]) -> &[u8]
+    ensures { (event : EventModel) → IsBodyOf body.now event → TellsText result.now event }
+{
+    if body.starts_with(b"{\"aclflag\":") || body.starts_with(b"{\"cmd\":\"ACCESS\"") {
+        return &[];
+    }
+    body
+}
+
 impl<S: Shelf> Desk<S> {
     fn serve_question(&mut self, question: &Question) -> Answer
         ensures { Answered (Ok (A.Check (question_model question.now)))
@@ -29,10 +41,12 @@ impl<S: Shelf> Desk<S> {
         answer_question(self.alloc, question)
     }
 
-    fn serve_event(&mut self, event: &Event) -> Answer
-        ensures { EventAnswered S.view self.old (event_model event.now) (answer_model result) self.new }
+    /// Answers an event that came in this body.
+    fn serve_event(&mut self, event: &Event, body: &[u8]) -> Answer
+        ensures { IsBodyOf body.now (event_model event.now)
+            → EventAnswered S.view self.old (event_model event.now) (answer_model result) self.new }
     {
-        self.handle(event)
+        self.handle_sent(event, comparable(body))
     }
 
     /// Answers what a message asks.
@@ -42,7 +56,7 @@ impl<S: Shelf> Desk<S> {
     {
         match decode(self.alloc, message, &lookup.routes, lookup.roster) {
             Ok(Ask::Check(question)) => self.serve_question(&question),
-            Ok(Ask::Event(event)) => self.serve_event(&event),
+            Ok(Ask::Event(event)) => self.serve_event(&event, message.body),
             Err(fault) => Answer::Refused(fault_code(fault)),
         }
     }

@@ -1,7 +1,8 @@
 -- Places and their folders.
-use Rattle.std.proofs.Common.{◌≡◌, ℕ, zero, suc, ◌+◌, refl, arith, Bool, true, false, cond, ◌&&◌, [], ◌∷◌, take}
-use Rattle.std.proofs.Common.{length, get_or, Option, None, Some}
+use Rattle.std.proofs.Common.{◌≡◌, ℕ, zero, suc, ◌+◌, refl, arith, true, inl, inr, [], ◌∷◌, take}
+use Rattle.std.proofs.Common.{length, get_or, None, Some}
 use Rattle.std.specs.List.{AllByRecursion, starts_with}
+use Rattle.std.proofs.lemmas.Bool.{and_from, and_parts, cases_Bool}
 use Rattle.std.proofs.lemmas.List.{length-take}
 use Rattle.room_records.specs.Names.{Name, Path, IsPath, IsFileName, name_eq}
 use Rattle.room_records.specs.Room.{name_in}
@@ -18,11 +19,6 @@ take_is_path n path h = record {
   names = take_names n path h.names;
 }
 
-inside_one : (b rest : Bool) (found named : Option Name) → (b && rest) ≡ true
-    → (rest ≡ true → found ≡ named) → found ≡ cond b named None
-inside_one true rest found named h below = below h
-inside_one false rest found named h below = absurd (cc)
-
 -- one name longer, and beginning with the folder: it is in the folder
 pub name_inside : (folder path : Path) (d : Name)
     → length path ≡ length folder + 1 → starts_with name_eq path folder ≡ true
@@ -32,15 +28,8 @@ name_inside [] (name ∷ []) d long begins = refl
 name_inside [] (name ∷ other ∷ path) d long begins = absurd (omega arith)
 name_inside (a ∷ folder) [] d long begins = absurd (omega arith)
 name_inside (a ∷ folder) (b ∷ path) d long begins =
-    inside_one (name_eq a b) (starts_with name_eq path folder)
-    (Some (get_or path (length folder) d)) (name_in folder path) begins
-    (λ rest. name_inside folder path d (omega arith) rest)
-
-outside_one : (b rest : Bool) (named : Option Name) (long : Type 0)
-    → (long → (b && rest) ≡ true → ⊥) → ((long → rest ≡ true → ⊥) → None ≡ named)
-    → None ≡ cond b named None
-outside_one true rest named long h below = below h
-outside_one false rest named long h below = refl
+    let parts = and_parts (name_eq a b) (starts_with name_eq path folder) begins in
+    rw parts.0 (name_inside folder path d (omega arith) parts.1)
 
 -- and else it is not
 pub name_outside : (folder path : Path) → (length path ≡ length folder + 1 → starts_with name_eq path folder ≡ true → ⊥)
@@ -49,7 +38,7 @@ name_outside [] [] h = refl
 name_outside [] (name ∷ []) h = absurd (h refl refl)
 name_outside [] (name ∷ other ∷ path) h = refl
 name_outside (a ∷ folder) [] h = refl
-name_outside (a ∷ folder) (b ∷ path) h =
-    outside_one (name_eq a b) (starts_with name_eq path folder) (name_in folder path) (length path ≡ length folder + 1)
-    (λ long begins. h (omega arith) begins)
-    (λ rest. name_outside folder path rest)
+name_outside (a ∷ folder) (b ∷ path) h = elim (cases_Bool (name_eq a b)) [
+  | inl same ↦ rw same (name_outside folder path (λ long begins. h (omega arith) (and_from _ _ same begins)))
+  | inr other ↦ rw other refl
+]

@@ -1,5 +1,4 @@
 mod Calls
 mod Jobs
-mod Printed
 mod Streams
 mod Told

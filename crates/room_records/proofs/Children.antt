@@ -19,7 +19,7 @@ use Rattle.std.proofs.lemmas.Map.Views.{All-found}
 use Rattle.room_records.specs.declared.node.Node.{Node}
 use Rattle.room_records.specs.Names.{Name, name_cmp}
 use Rattle.room_records.specs.Records.{ObjectRecords, IsChild}
-use Rattle.room_records.specs.Rules.{ObjectRules, IsRoot}
+use Rattle.room_records.specs.Rules.{NodeRules, IsRoot}
 use Rattle.room_records.specs.Shelf.{AreChildren, IsChildNamed, InNameOrder, name_of}
 use Rattle.room_records.specs.Table.{value_in}
 use Rattle.room_records.specs.NodeIndex.{PlaceKey, Places, place_cmp, place_of, id_at}
@@ -273,7 +273,7 @@ module _ (t : ObjectRecords) (places : PlaceKey → Option ℕ) (index : IsIndex
       by true is rest = by_slot e.1 held.0 (in_range parent e.0 is) rest
 
 -- by the rules each child has a name
-named_by_rules : (t : ObjectRecords) → ObjectRules t → (parent : ℕ) (node : Node)
+named_by_rules : (t : ObjectRecords) → NodeRules t.node → (parent : ℕ) (node : Node)
     → IsChild t parent node → (name : Name) × (node.name ≡ Some name)
 named_by_rules t rules parent node child = by (same_number node.id 1)
   where
@@ -296,7 +296,7 @@ module _ (t : ObjectRecords) (places : Places) (index : IsIndex t.node (id_at pl
   slot_of None id h = absurd (none_some id h)
   slot_of (Some slot) id h = ap Some h
 
-  pub children_are : ObjectRules t → (parent : ℕ)
+  pub children_are : NodeRules t.node → (parent : ℕ)
       → AreChildren t parent (shown t.node (places_between parent places.entries))
   children_are rules parent = record {
     each = each_shown t (id_at places) index parent places.entries are_held;

@@ -48,7 +48,7 @@ pub child_named : (t : ObjectRecords) → ObjectRules t → (id : ℕ) (node : N
     → IsChild t id node → node.name ≡ Some (name_of node)
 child_named t rules id node child = elim (one_or_not node.id) [
   | inl one ↦ absurd (root_only t rules node id (ap t.node (sym one) ∙ child.stands) child.inside)
-  | inr other ↦ (let below = rules.below node.id node child.stands other in
+  | inr other ↦ (let below = rules.nodes.below node.id node child.stands other in
       below.named ∙ ap (λ (name : Option Name). Some (unwrap_or name [])) (sym below.named))
 ]
 

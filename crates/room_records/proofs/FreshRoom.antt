@@ -70,10 +70,12 @@ module _ (owner group : List ℕ) where
   rules = record {
     numbered = λ id node h. let p = at_one id node h in
         (sym (ap (λ (n : Node). n.id) p.1) ∙ sym p.0, omega (arith, p.0), omega (arith, p.0));
-    root = record { no_parent = refl; no_name = refl; folder = refl };
-    has_root = refl;
-    below = λ id node h other. absurd (other (at_one id node h).0);
-    once = λ a b ha hb p n. (at_one a.id a ha).0 ∙ sym (at_one b.id b hb).0;
+    nodes = record {
+      root = record { no_parent = refl; no_name = refl; folder = refl };
+      has_root = refl;
+      below = λ id node h other. absurd (other (at_one id node h).0);
+      once = λ a b ha hb p n. (at_one a.id a ha).0 ∙ sym (at_one b.id b hb).0;
+    };
     entries = no_entries;
     documents = λ id h. absurd cc;
     next = omega arith;

@@ -26,13 +26,14 @@ module _ (t : ObjectRecords) (rules : ObjectRules t) where
   reads_one [] a b up down = up ∙ sym down
   reads_one (name ∷ above) a b (n, p, stands, named, inside, up) (m, q, stands', named', inside', up') =
       let parents : p ≡ q = reads_one above p q up up' in
-      let same : n.id ≡ m.id = rules.once n m (own_number a n stands) (own_number b m stands')
+      let same : n.id ≡ m.id = rules.nodes.once n m (own_number a n stands) (own_number b m stands')
       (inside ∙ ap Some parents ∙ sym inside') (named ∙ sym named') in
       sym (rules.numbered a n stands).0 ∙ same ∙ (rules.numbered b m stands').0
 
   pub root_only : (node : Node) (parent : ℕ) → t.node 1 ≡ Some node → node.parent ≡ Some parent → ⊥
   root_only node parent stands inside =
-      let root : IsRoot node = (let P : Option Node → Type 0 = λ o. IfSome o IsRoot in subst P stands rules.root) in
+      let P : Option Node → Type 0 = λ o. IfSome o IsRoot in
+      let root : IsRoot node = subst P stands rules.nodes.root in
       none_some parent (sym root.no_parent ∙ inside)
 
   -- a node has one path

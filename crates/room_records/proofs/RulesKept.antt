@@ -8,7 +8,7 @@ use Rattle.room_records.specs.declared.node.Node.{Node}
 use Rattle.room_records.specs.Limits.{max_objects}
 use Rattle.room_records.specs.Names.{Name}
 use Rattle.room_records.specs.Records.{ObjectRecords}
-use Rattle.room_records.specs.Rules.{ObjectRules, IsRoot}
+use Rattle.room_records.specs.Rules.{NodeRules, ObjectRules, IsRoot}
 use Rattle.room_records.specs.Changes.{apply_to_objects}
 use Rattle.room_records.specs.Representation.{NamesUpwards}
 use Rattle.room_records.proofs.RoomsMap.{some_is, none_is_some}
@@ -71,19 +71,13 @@ module _ (t later : ObjectRecords) (rules : ObjectRules t) (shape : SameShape t 
     | inr found ↦ absurd (let now = shape.forth id found.0 found.1 in none_is_some now.0 (sym gone ∙ now.1))
   ]
 
-  pub rules_by_shape : ((id : ℕ) → t.node id ≡ None → later.entries id ≡ [])
-      → ((id : ℕ) → IsSome (later.document id) → (node : Node) × (t.node id ≡ Some node) × (node.kind ≡ File))
-      → t.next ≤ later.next → later.next ≤ max_objects + 1 → ObjectRules later
-  rules_by_shape entries documents more few = record {
-    numbered = λ id now stands.
-        let before = shape.back id now stands in
-        let number = rules.numbered id before.0 before.1 in
-        (before.2.id ∙ number.0, number.1, omega (arith, number.2, more));
+  nodes_by_shape : NodeRules later.node
+  nodes_by_shape = record {
     root =
-        let first = is_some_of (t.node 1) rules.has_root in
+        let first = is_some_of (t.node 1) rules.nodes.has_root in
         let now = shape.forth 1 first.0 first.1 in
         let Root : Option Node → Type 0 = λ o. IfSome o IsRoot in
-        let root : IsRoot first.0 = subst Root first.1 rules.root in
+        let root : IsRoot first.0 = subst Root first.1 rules.nodes.root in
         let root_now : IsRoot now.0 = record {
           no_parent = now.2.parent ∙ root.no_parent;
           no_name = now.2.name ∙ root.no_name;
@@ -91,12 +85,12 @@ module _ (t later : ObjectRecords) (rules : ObjectRules t) (shape : SameShape t 
         } in
         subst Root (sym now.1) root_now;
     has_root =
-        let first = is_some_of (t.node 1) rules.has_root in
+        let first = is_some_of (t.node 1) rules.nodes.has_root in
         let now = shape.forth 1 first.0 first.1 in
         let There : Option Node → Type 0 = λ o. IsSome o in subst There (sym now.1) refl;
     below = λ id now stands other.
         let before = shape.back id now stands in
-        let under = rules.below id before.0 before.1 other in
+        let under = rules.nodes.below id before.0 before.1 other in
         let parent = shape.forth under.above under.parent under.stands in
         record {
           above = under.above;
@@ -112,9 +106,20 @@ module _ (t later : ObjectRecords) (rules : ObjectRules t) (shape : SameShape t 
         let x = shape.back a.id a a_stands in
         let y = shape.back b.id b b_stands in
         x.2.id
-        ∙ rules.once x.0 y.0 (ap t.node (sym x.2.id) ∙ x.1) (ap t.node (sym y.2.id) ∙ y.1)
+        ∙ rules.nodes.once x.0 y.0 (ap t.node (sym x.2.id) ∙ x.1) (ap t.node (sym y.2.id) ∙ y.1)
         (sym x.2.parent ∙ parents ∙ y.2.parent) (sym x.2.name ∙ names ∙ y.2.name)
         ∙ sym y.2.id;
+  }
+
+  pub rules_by_shape : ((id : ℕ) → t.node id ≡ None → later.entries id ≡ [])
+      → ((id : ℕ) → IsSome (later.document id) → (node : Node) × (t.node id ≡ Some node) × (node.kind ≡ File))
+      → t.next ≤ later.next → later.next ≤ max_objects + 1 → ObjectRules later
+  rules_by_shape entries documents more few = record {
+    numbered = λ id now stands.
+        let before = shape.back id now stands in
+        let number = rules.numbered id before.0 before.1 in
+        (before.2.id ∙ number.0, number.1, omega (arith, number.2, more));
+    nodes = nodes_by_shape;
     entries = λ id gone. entries id (gone_before id gone);
     documents = λ id there.
         let before = documents id there in

@@ -1,9 +1,14 @@
 -- Rows that changes do not touch.
-use Rattle.std.proofs.Common.{◌≡◌, refl, ap, sym, ◌∙◌, List, [], ◌∷◌}
+use Rattle.std.proofs.Common.{◌≡◌, ℕ, refl, ap, ◌∙◌, List, [], ◌∷◌, None, Some}
+use Rattle.std.specs.Prelude.{◌==◌, ◌&&◌, if◌then◌else◌}
+use Rattle.std.specs.Str.{bytes_eq}
 use Rattle.room_records.specs.declared.change.Change.{Change}
+use Rattle.room_records.specs.declared.change.Change.TheVariants.{PutNode, DropNode, PutEntries, PutDoc, PutSession}
+use Rattle.room_records.specs.declared.change.Change.TheVariants.{PutSlot, DropSlots, PutNext}
 use Rattle.room_records.specs.Records.{Records}
 use Rattle.room_records.specs.Changes.{apply_change, apply_changes, Leave, Untouched}
 use Rattle.room_records.specs.Mem.{AreSameChanges}
+use Rattle.room_records.proofs.MemRecords.{same_after}
 
 -- changes that were made leave what they leave
 left_by : {R : Type 0} (read : Records → R) (changes : List Change) (old : Records)
@@ -25,10 +30,31 @@ untouched_by changes old new made = record {
   session = λ sid leave. ap (λ (r : Records). r.session sid) made ∙ left_by (λ r. r.session sid) changes old leave;
   slot = λ sid slot leave. ap (λ (r : Records). r.slot sid slot) made
       ∙ left_by (λ r. r.slot sid slot) changes old leave;
+  kept = λ sid slot low. ap (λ (r : Records). r.slot sid slot) made;
 }
 
 pub untouched_itself : (r : Records) → Untouched [] r r
 untouched_itself r = untouched_by [] r r refl
+
+kept_by_one : (change : Change) (sid : List ℕ) (slot : ℕ) (a b : Records) → a.slot sid slot ≡ b.slot sid slot
+    → (apply_change change a).slot sid slot ≡ (apply_change change b).slot sid slot
+kept_by_one (PutSlot row) sid slot a b same =
+    ap (λ kept. if bytes_eq sid row.sid && (slot == row.slot) then Some row.kept else kept) same
+kept_by_one (DropSlots gone) sid slot a b same = ap (λ kept. if bytes_eq sid gone then None else kept) same
+kept_by_one (PutNode node) sid slot a b same = same
+kept_by_one (DropNode gone) sid slot a b same = same
+kept_by_one (PutEntries at entries) sid slot a b same = same
+kept_by_one (PutDoc at bytes) sid slot a b same = same
+kept_by_one (PutSession row) sid slot a b same = same
+kept_by_one (PutNext n) sid slot a b same = same
+
+-- what a slot keeps after changes goes by what it kept before them
+kept_by : (changes : List Change) (sid : List ℕ) (slot : ℕ) (a b : Records)
+    → a.slot sid slot ≡ b.slot sid slot
+    → (apply_changes changes a).slot sid slot ≡ (apply_changes changes b).slot sid slot
+kept_by [] sid slot a b same = same
+kept_by (change ∷ changes) sid slot a b same =
+    kept_by changes sid slot (apply_change change a) (apply_change change b) (kept_by_one change sid slot a b same)
 
 -- one change, and then the others
 pub untouched_in_turn : (change : Change) (changes : List Change) (old mid new : Records)
@@ -40,6 +66,8 @@ untouched_in_turn change changes old mid new first rest = record {
   next = λ leave. rest.next leave.1 ∙ first.next (leave.0, tt);
   session = λ sid leave. rest.session sid leave.1 ∙ first.session sid (leave.0, tt);
   slot = λ sid slot leave. rest.slot sid slot leave.1 ∙ first.slot sid slot (leave.0, tt);
+  kept = λ sid slot low. rest.kept sid slot low
+      ∙ kept_by changes sid slot mid (apply_change change old) (first.kept sid slot low);
 }
 
 -- changes that do the same leave the same
@@ -60,4 +88,6 @@ untouched_by_same steps changes old new same stay = record {
   next = λ leave. stay.next (same_leave (λ r. r.objects.next) steps changes same leave);
   session = λ sid leave. stay.session sid (same_leave (λ r. r.session sid) steps changes same leave);
   slot = λ sid slot leave. stay.slot sid slot (same_leave (λ r. r.slot sid slot) steps changes same leave);
+  kept = λ sid slot low. stay.kept sid slot low
+      ∙ ap (λ (r : Records). r.slot sid slot) (same_after steps changes old same);
 }

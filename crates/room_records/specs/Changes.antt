@@ -1,5 +1,5 @@
 -- What a change does to the rows.
-use Rattle.std.specs.Prelude.{◌≡◌, ℕ, ◌==◌, ◌&&◌, List, [], ◌∷◌, Option, None, Some, if◌then◌else◌}
+use Rattle.std.specs.Prelude.{◌≡◌, ◌<◌, ℕ, ◌==◌, ◌&&◌, List, [], ◌∷◌, Option, None, Some, if◌then◌else◌}
 use Rattle.std.specs.List.{AllByRecursion}
 use Rattle.std.specs.Str.{bytes_eq}
 use Rattle.room_slots.specs.KeptModel.{KeptModel}
@@ -7,6 +7,7 @@ use Rattle.room_records.specs.declared.change.Change.{Change}
 use Rattle.room_records.specs.declared.change.Change.TheVariants.{PutNode, DropNode, PutEntries, PutDoc, PutSession}
 use Rattle.room_records.specs.declared.change.Change.TheVariants.{PutSlot, DropSlots, PutNext}
 use Rattle.room_records.specs.declared.session.SessionRow.{SessionRow}
+use Rattle.room_records.specs.Limits.{max_slots}
 use Rattle.room_records.specs.Records.{ObjectRecords, Records}
 use Rattle.room_records.specs.Rules.{ObjectRules, RulesHold}
 
@@ -83,7 +84,7 @@ ObjectRulesHoldAfterEach (change ∷ changes) t =
 abbrev pub Leave : {R : Type 0} → (Records → R) → List Change → Type 0
 Leave read changes = AllByRecursion (λ change. (r : Records) → read (apply_change change r) ≡ read r) changes
 
--- each row that all the changes leave is as it was
+-- each row that all the changes leave is as it was, and each of the first 16 slots keeps what they leave in it
 pub record Untouched (changes : List Change) (old new : Records) : Type 0 where
   pub node : (id : ℕ) → Leave (λ r. r.objects.node id) changes → new.objects.node id ≡ old.objects.node id
   pub entries : (id : ℕ) → Leave (λ r. r.objects.entries id) changes → new.objects.entries id ≡ old.objects.entries id
@@ -92,6 +93,8 @@ pub record Untouched (changes : List Change) (old new : Records) : Type 0 where
   pub next : Leave (λ r. r.objects.next) changes → new.objects.next ≡ old.objects.next
   pub session : (sid : List ℕ) → Leave (λ r. r.session sid) changes → new.session sid ≡ old.session sid
   pub slot : (sid : List ℕ) (slot : ℕ) → Leave (λ r. r.slot sid slot) changes → new.slot sid slot ≡ old.slot sid slot
+  pub kept : (sid : List ℕ) (slot : ℕ) → slot < max_slots
+      → new.slot sid slot ≡ (apply_changes changes old).slot sid slot
 
 -- a change of no session and no slot row
 abbrev pub IsOfObjects : Change → Type 0

@@ -1,5 +1,5 @@
 -- The record rules.
-use Rattle.std.specs.Prelude.{◌≡◌, ◌≢◌, ℕ, ◌+◌, ◌<◌, ◌≤◌, List, [], None, Some, IsSome, IfSome}
+use Rattle.std.specs.Prelude.{◌≡◌, ◌≢◌, ℕ, ◌+◌, ◌<◌, ◌≤◌, List, [], Option, None, Some, IsSome, IfSome}
 use Rattle.room_acl.specs.declared.subject.Kind.TheVariants.{File, Folder}
 use Rattle.room_records.specs.declared.node.Node.{Node}
 use Rattle.room_records.specs.declared.session.SessionRow.{SessionRow}
@@ -14,25 +14,29 @@ pub record IsRoot (node : Node) : Type 0 where
   pub folder : node.kind ≡ Folder
 
 -- another node has a name, and a folder above it that is there
-pub record IsBelow (t : ObjectRecords) (node : Node) : Type 0 where
+pub record IsBelow (nodes : ℕ → Option Node) (node : Node) : Type 0 where
   pub above : ℕ
   pub parent : Node
   pub has_parent : node.parent ≡ Some above
-  pub stands : t.node above ≡ Some parent
+  pub stands : nodes above ≡ Some parent
   pub folder : parent.kind ≡ Folder
   pub name : Name
   pub named : node.name ≡ Some name
   pub lawful : IsFileName name
 
+-- the rules on nodes alone
+pub record NodeRules (nodes : ℕ → Option Node) : Type 0 where
+  pub root : IfSome (nodes 1) IsRoot
+  pub has_root : IsSome (nodes 1)
+  pub below : (id : ℕ) (node : Node) → nodes id ≡ Some node → id ≢ 1 → IsBelow nodes node
+  -- a name stands once in a folder
+  pub once : (a b : Node) → nodes a.id ≡ Some a → nodes b.id ≡ Some b
+      → a.parent ≡ b.parent → a.name ≡ b.name → a.id ≡ b.id
+
 -- the rules on nodes, entries, documents and the next number
 pub record ObjectRules (t : ObjectRecords) : Type 0 where
   pub numbered : (id : ℕ) (node : Node) → t.node id ≡ Some node → (node.id ≡ id) × (1 ≤ id) × (id < t.next)
-  pub root : IfSome (t.node 1) IsRoot
-  pub has_root : IsSome (t.node 1)
-  pub below : (id : ℕ) (node : Node) → t.node id ≡ Some node → id ≢ 1 → IsBelow t node
-  -- a name stands once in a folder
-  pub once : (a b : Node) → t.node a.id ≡ Some a → t.node b.id ≡ Some b
-      → a.parent ≡ b.parent → a.name ≡ b.name → a.id ≡ b.id
+  pub nodes : NodeRules t.node
   pub entries : (id : ℕ) → t.node id ≡ None → t.entries id ≡ []
   -- a document belongs to a file that is there
   pub documents : (id : ℕ) → IsSome (t.document id) → (node : Node) × (t.node id ≡ Some node) × (node.kind ≡ File)

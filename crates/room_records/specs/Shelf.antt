@@ -1,8 +1,10 @@
 -- What calls of a shelf say.
 use Rattle.std.specs.Prelude.{◌≡◌, ◌≢◌, ℕ, ◌-◌, ◌^◌, ◌<◌, ◌≤◌, ◌⊎◌, List, [], ◌∷◌, Option, None, Some, MatchOption}
 use Rattle.std.specs.Prelude.{Result, Ok, Err, IfOk, unwrap_or, length}
-use Rattle.std.specs.List.{AllByRecursion, Contains}
+use Rattle.std.specs.List.{AllByRecursion, Contains, filter_map}
+use Rattle.std.specs.Option.{option_map}
 use Rattle.std.specs.declared.cmp.Ordering.TheVariants.{Less}
+use Rattle.room_acl.specs.declared.subject.Kind.{Kind}
 use Rattle.room_records.specs.declared.node.Node.{Node}
 use Rattle.room_records.specs.declared.shelf.ShelfFault.{ShelfFault}
 use Rattle.room_records.specs.declared.shelf.ShelfFault.TheVariants.{Store}
@@ -77,6 +79,14 @@ pub record AreChildren (t : ObjectRecords) (parent : ℕ) (nodes : List Node) : 
   pub each : AllByRecursion (IsChild t parent) nodes
   pub every : (node : Node) → IsChild t parent node → Contains nodes node
   pub in_order : InNameOrder nodes
+
+-- what a listing shows of a node with a name
+abbrev pub listed : Node → Option (Name × Kind)
+listed node = option_map (λ (name : Name). (name, node.kind)) node.name
+
+-- the names and kinds of the nodes in a folder, by name
+abbrev pub AreNames : ObjectRecords → ℕ → List (Name × Kind) → Type 0
+AreNames t parent names = (nodes : List Node) × AreChildren t parent nodes × (names ≡ filter_map listed nodes)
 
 -- how many nodes are in a folder
 abbrev pub IsChildCount : ObjectRecords → ℕ → ℕ → Type 0

@@ -8,12 +8,12 @@ mod sessions;
 
 use crate::change::Change;
 use crate::names::{FileName, Sid};
-use crate::node::Node;
+use crate::node::{Node, listing};
 use crate::session::SessionRow;
 use crate::shelf::{Shelf, ShelfFault};
 use crate::table::Table;
 use nodes::NodeIndex;
-use room_acl::{Decision, Entry, Mask, Standing, Subject, copy_entries, decide};
+use room_acl::{Decision, Entry, Kind, Mask, Standing, Subject, copy_entries, decide};
 use room_slots::Kept;
 use sessions::Sessions;
 use std::alloc::Global;
@@ -57,6 +57,11 @@ impl Shelf for MemShelf {
         Ok(self.nodes.children(self.alloc, parent)?)
     }
 
+    fn names(&mut self, parent: u32) -> Result<Vec<(FileName, Kind)>, ShelfFault> {
+        let nodes = self.nodes.children(self.alloc, parent)?;
+        Ok(listing(self.alloc, nodes)?)
+    }
+
     fn child_count(&mut self, parent: u32) -> Result<u64, ShelfFault> {
         Ok(self.nodes.child_count(parent))
     }
@@ -88,12 +93,23 @@ impl Shelf for MemShelf {
         }
     }
 
+    fn doc_size(&mut self, id: u32) -> Result<u64, ShelfFault> {
+        match self.docs.get(&id) {
+            Some(bytes) => Ok(bytes.len() as u64),
+            None => Ok(0),
+        }
+    }
+
     fn session(&mut self, sid: &Sid) -> Result<Option<SessionRow>, ShelfFault> {
         Ok(self.sessions.session(sid)?)
     }
 
     fn slot(&mut self, sid: &Sid, slot: u32) -> Result<Option<Kept>, ShelfFault> {
         Ok(self.sessions.slot(sid, slot)?)
+    }
+
+    fn slot_seq(&mut self, sid: &Sid, slot: u32) -> Result<Option<u32>, ShelfFault> {
+        Ok(self.sessions.slot_seq(sid, slot)?)
     }
 
     fn next_id(&mut self) -> Result<u32, ShelfFault> {

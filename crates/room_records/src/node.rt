@@ -1,9 +1,11 @@
 //! A folder or a file, as a row.
 ghost use Rattle.std.specs.Prelude.{◌≡◌, IfOk};
+ghost use Rattle.std.specs.List.{filter_map};
+ghost use Rattle.room_records.specs.Shelf.{listed};
 
 use crate::names::FileName;
 use room_acl::{Kind, ListFlags, Principal};
-use std::alloc::AllocError;
+use std::alloc::{AllocError, Global};
 
 /// A folder or a file. The root has number 1, no parent and no name.
 #[derive(Debug, Drop)]
@@ -34,6 +36,20 @@ impl Node {
             aclflag: self.aclflag,
         })
     }
+}
+
+/// What a listing shows of these nodes: the names and kinds of those with a name, in their order.
+pub(crate) fn listing(alloc: Global, nodes: Vec<Node>) -> Result<Vec<(FileName, Kind)>, AllocError>
+    ensures { IfOk result (λ names. names.items ≡ filter_map listed nodes.items) }
+{
+    let mut names = Vec::new(alloc);
+    for node in nodes {
+        let Node { name, kind, .. } = node;
+        if let Some(name) = name {
+            names.push((name, kind))?;
+        }
+    }
+    Ok(names)
 }
 
 pub(crate) fn copy_name(name: &Option<FileName>) -> Result<Option<FileName>, AllocError>

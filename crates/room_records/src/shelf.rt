@@ -1,17 +1,18 @@
 //! The shelf that keeps the rows.
-ghost use Rattle.std.specs.Prelude.{◌≡◌, ◌⊎◌, [], unwrap_or, OnOk};
+ghost use Rattle.std.specs.Prelude.{◌≡◌, ◌⊎◌, [], length, unwrap_or, OnOk};
 ghost use Rattle.room_acl.specs.Access.{decision};
 ghost use Rattle.room_records.specs.Records.{Records};
-ghost use Rattle.room_records.specs.Rules.{ObjectRules};
+ghost use Rattle.room_records.specs.Rules.{NodeRules};
 ghost use Rattle.room_records.specs.Changes.{apply_changes, RulesHoldAfterEach, Untouched};
 ghost use Rattle.room_records.specs.Shelf.{View, ShelfCall, ShelfRead, Tells, fault_in, AreChildren};
-ghost use Rattle.room_records.specs.Shelf.{IsChildCount, IsChildNamed};
+ghost use Rattle.room_records.specs.Shelf.{AreNames, IsChildCount, IsChildNamed};
+ghost use Rattle.room_slots.specs.Slots.{kept_seq};
 
 use crate::change::Change;
 use crate::names::{FileName, Sid};
 use crate::node::Node;
 use crate::session::SessionRow;
-use room_acl::{Decision, Entry, Mask, Standing, Subject};
+use room_acl::{Decision, Entry, Kind, Mask, Standing, Subject};
 use room_slots::Kept;
 use std::alloc::AllocError;
 
@@ -64,14 +65,21 @@ pub trait Shelf {
     /// The nodes in a folder, in order of their names by bytes.
     fn children(&mut self, parent: u32) -> Result<Vec<Node>, ShelfFault>
         ensures value { Tells (view self.old) (view self.new) result (λ records found.
-            ObjectRules records.objects → AreChildren records.objects parent found.items) }
+            NodeRules records.objects.node → AreChildren records.objects parent found.items) }
+        ensures there { (view self.new).is_intact → OnOk result (view self.new).is_available }
+        ensures frame { ShelfRead (view self.old) (view self.new) (fault_in result) };
+
+    /// The names and kinds of the nodes in a folder, in order of the names by bytes. No more than these need be read.
+    fn names(&mut self, parent: u32) -> Result<Vec<(FileName, Kind)>, ShelfFault>
+        ensures value { Tells (view self.old) (view self.new) result (λ records found.
+            NodeRules records.objects.node → AreNames records.objects parent found.items) }
         ensures there { (view self.new).is_intact → OnOk result (view self.new).is_available }
         ensures frame { ShelfRead (view self.old) (view self.new) (fault_in result) };
 
     /// How many nodes are in a folder.
     fn child_count(&mut self, parent: u32) -> Result<u64, ShelfFault>
         ensures value { Tells (view self.old) (view self.new) result (λ records count.
-            ObjectRules records.objects → IsChildCount records.objects parent count) }
+            NodeRules records.objects.node → IsChildCount records.objects parent count) }
         ensures there { (view self.new).is_intact → OnOk result (view self.new).is_available }
         ensures frame { ShelfRead (view self.old) (view self.new) (fault_in result) };
 
@@ -103,6 +111,13 @@ pub trait Shelf {
         ensures there { (view self.new).is_intact → OnOk result (view self.new).is_available }
         ensures frame { ShelfRead (view self.old) (view self.new) (fault_in result) };
 
+    /// How many bytes a document has, 0 where it is not there. The bytes need not be read.
+    fn doc_size(&mut self, id: u32) -> Result<u64, ShelfFault>
+        ensures value { Tells (view self.old) (view self.new) result (λ records found.
+            found ≡ length (unwrap_or (records.objects.document id) [])) }
+        ensures there { (view self.new).is_intact → OnOk result (view self.new).is_available }
+        ensures frame { ShelfRead (view self.old) (view self.new) (fault_in result) };
+
     /// The row of a session name that was opened once.
     fn session(&mut self, sid: &Sid) -> Result<Option<SessionRow>, ShelfFault>
         ensures value { Tells (view self.old) (view self.new) result
@@ -117,13 +132,21 @@ pub trait Shelf {
         ensures there { (view self.new).is_intact → OnOk result (view self.new).is_available }
         ensures frame { ShelfRead (view self.old) (view self.new) (fault_in result) };
 
+    /// The number of the request that a slot keeps. The kept bytes need not be read for it.
+    fn slot_seq(&mut self, sid: &Sid, slot: u32) -> Result<Option<u32>, ShelfFault>
+        ensures value { Tells (view self.old) (view self.new) result
+            (λ records found. found ≡ kept_seq (records.slot sid.now slot)) }
+        ensures there { (view self.new).is_intact → OnOk result (view self.new).is_available }
+        ensures frame { ShelfRead (view self.old) (view self.new) (fault_in result) };
+
     /// The number of the next object.
     fn next_id(&mut self) -> Result<u32, ShelfFault>
         ensures value { Tells (view self.old) (view self.new) result (λ records next. next ≡ records.objects.next) }
         ensures there { (view self.new).is_intact → OnOk result (view self.new).is_available }
         ensures frame { ShelfRead (view self.old) (view self.new) (fault_in result) };
 
-    /// All the changes in order, or none of them. A row that they do not touch stays, whatever rules the records keep.
+    /// All the changes in order, or none of them. Whatever rules the records keep, a row that they do not touch stays,
+    /// and each of the first 16 slots keeps what they leave in it.
     fn commit(&mut self, changes: &[Change]) -> Result<(), ShelfFault>
         ensures there { (view self.new).is_intact → OnOk result (view self.new).is_available }
         ensures frame { ShelfCall (view self.old) (view self.new) (fault_in result) }

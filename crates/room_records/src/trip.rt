@@ -6,7 +6,7 @@ use crate::names::{FileName, Sid};
 use crate::node::Node;
 use crate::session::SessionRow;
 use crate::shelf::{Shelf, ShelfFault};
-use room_acl::{Decision, Entry, Mask, Standing, Subject};
+use room_acl::{Decision, Entry, Kind, Mask, Standing, Subject};
 use room_slots::Kept;
 
 /// A shelf whose k-th call answers `Store` without asking the shelf inside.
@@ -71,13 +71,14 @@ impl<S: Shelf> TripShelf<S> {
 }
 
 impl<S: Shelf> Shelf for TripShelf<S> {
-    ghost use Rattle.std.specs.Prelude.{◌≡◌, ◌⊎◌, [], unwrap_or, OnOk};
+    ghost use Rattle.std.specs.Prelude.{◌≡◌, ◌⊎◌, [], length, unwrap_or, OnOk};
     ghost use Rattle.room_acl.specs.Access.{decision};
     ghost use Rattle.room_records.specs.Records.{Records};
-    ghost use Rattle.room_records.specs.Rules.{ObjectRules};
+    ghost use Rattle.room_records.specs.Rules.{NodeRules};
     ghost use Rattle.room_records.specs.Changes.{apply_changes, RulesHoldAfterEach, Untouched};
     ghost use Rattle.room_records.specs.Shelf.{ShelfCall, ShelfRead, Tells, fault_in, AreChildren};
-    ghost use Rattle.room_records.specs.Shelf.{IsChildCount, IsChildNamed};
+    ghost use Rattle.room_records.specs.Shelf.{AreNames, IsChildCount, IsChildNamed};
+    ghost use Rattle.room_slots.specs.Slots.{kept_seq};
     ghost use Rattle.room_records.specs.Trip.{TripCall, trip_view};
 
     ghost view = { trip_view S.view };
@@ -112,7 +113,7 @@ impl<S: Shelf> Shelf for TripShelf<S> {
 
     fn children(&mut self, parent: u32) -> Result<Vec<Node>, ShelfFault>
         ensures value { Tells (trip_view S.view self.old) (trip_view S.view self.new) result (λ records found.
-            ObjectRules records.objects → AreChildren records.objects parent found.items) }
+            NodeRules records.objects.node → AreChildren records.objects parent found.items) }
         ensures there { (trip_view S.view self.new).is_intact → OnOk result (trip_view S.view self.new).is_available }
         ensures frame { ShelfRead (trip_view S.view self.old) (trip_view S.view self.new) (fault_in result) }
         ensures trips { TripCall S.view self.old self.new result }
@@ -123,9 +124,22 @@ impl<S: Shelf> Shelf for TripShelf<S> {
         self.inner.children(parent)
     }
 
+    fn names(&mut self, parent: u32) -> Result<Vec<(FileName, Kind)>, ShelfFault>
+        ensures value { Tells (trip_view S.view self.old) (trip_view S.view self.new) result (λ records found.
+            NodeRules records.objects.node → AreNames records.objects parent found.items) }
+        ensures there { (trip_view S.view self.new).is_intact → OnOk result (trip_view S.view self.new).is_available }
+        ensures frame { ShelfRead (trip_view S.view self.old) (trip_view S.view self.new) (fault_in result) }
+        ensures trips { TripCall S.view self.old self.new result }
+    {
+        if self.trips() {
+            return Err(ShelfFault::Store);
+        }
+        self.inner.names(parent)
+    }
+
     fn child_count(&mut self, parent: u32) -> Result<u64, ShelfFault>
         ensures value { Tells (trip_view S.view self.old) (trip_view S.view self.new) result (λ records count.
-            ObjectRules records.objects → IsChildCount records.objects parent count) }
+            NodeRules records.objects.node → IsChildCount records.objects parent count) }
         ensures there { (trip_view S.view self.new).is_intact → OnOk result (trip_view S.view self.new).is_available }
         ensures frame { ShelfRead (trip_view S.view self.old) (trip_view S.view self.new) (fault_in result) }
         ensures trips { TripCall S.view self.old self.new result }
@@ -181,6 +195,19 @@ impl<S: Shelf> Shelf for TripShelf<S> {
         self.inner.doc(id)
     }
 
+    fn doc_size(&mut self, id: u32) -> Result<u64, ShelfFault>
+        ensures value { Tells (trip_view S.view self.old) (trip_view S.view self.new) result (λ records found.
+            found ≡ length (unwrap_or (records.objects.document id) [])) }
+        ensures there { (trip_view S.view self.new).is_intact → OnOk result (trip_view S.view self.new).is_available }
+        ensures frame { ShelfRead (trip_view S.view self.old) (trip_view S.view self.new) (fault_in result) }
+        ensures trips { TripCall S.view self.old self.new result }
+    {
+        if self.trips() {
+            return Err(ShelfFault::Store);
+        }
+        self.inner.doc_size(id)
+    }
+
     fn session(&mut self, sid: &Sid) -> Result<Option<SessionRow>, ShelfFault>
         ensures value { Tells (trip_view S.view self.old) (trip_view S.view self.new)
             result (λ records found. found ≡ records.session sid.now) }
@@ -205,6 +232,19 @@ impl<S: Shelf> Shelf for TripShelf<S> {
             return Err(ShelfFault::Store);
         }
         self.inner.slot(sid, slot)
+    }
+
+    fn slot_seq(&mut self, sid: &Sid, slot: u32) -> Result<Option<u32>, ShelfFault>
+        ensures value { Tells (trip_view S.view self.old) (trip_view S.view self.new) result
+            (λ records found. found ≡ kept_seq (records.slot sid.now slot)) }
+        ensures there { (trip_view S.view self.new).is_intact → OnOk result (trip_view S.view self.new).is_available }
+        ensures frame { ShelfRead (trip_view S.view self.old) (trip_view S.view self.new) (fault_in result) }
+        ensures trips { TripCall S.view self.old self.new result }
+    {
+        if self.trips() {
+            return Err(ShelfFault::Store);
+        }
+        self.inner.slot_seq(sid, slot)
     }
 
     fn next_id(&mut self) -> Result<u32, ShelfFault>

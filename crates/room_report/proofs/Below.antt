@@ -1,11 +1,12 @@
 -- The objects of a room in path order: each folder, and then what is in it, child after child.
-use Rattle.std.proofs.Common.{◌≡◌, ℕ, ◌≤◌, refl, ap, sym, ◌∙◌, subst, arith, Bool, true, false, cond, ◌⊎◌, inl, inr}
+use Rattle.std.proofs.Common.{◌≡◌, ℕ, ◌≤◌, refl, ap, sym, ◌∙◌, subst, arith, true, ◌⊎◌, inl, inr}
 use Rattle.std.proofs.Common.{List, [], ◌∷◌, ◌++◌, length, append_assoc, append-nil, Option, None, Some, Ordering, Less}
 use Rattle.std.proofs.Common.{Equal, Greater, unwrap_or}
 use Rattle.std.specs.Map.{lookup}
 use Rattle.std.specs.List.{flat_map}
 use Rattle.std.specs.BTreeMap.{insert_entry}
 use Rattle.std.specs.Ordering.{match_ordering, ordering_reverse}
+use Rattle.std.proofs.lemmas.Bool.{both_ways, cases_Bool}
 use Rattle.std.proofs.lemmas.Grind.{flat_map-append}
 use Rattle.std.proofs.lemmas.Cmp.{nat_list_cmp_total}
 use Rattle.std.proofs.lemmas.List.{length_push}
@@ -24,8 +25,8 @@ use Rattle.room_records.proofs.RoomsMap.{nothing_below, nothing_in_a_file, path_
 use Rattle.room_report.specs.declared.lines.Report.{Report}
 use Rattle.room_report.specs.Lines.{in_order}
 use Rattle.room_report.specs.Walk.{is_front, objects_below, text_below, lines_of}
-use Rattle.room_report.proofs.Fronts.{path_total, exact_paths, one_way, front_of, front_split, front_above}
-use Rattle.room_report.proofs.Fronts.{below_folder, folder_first, fronts_apart}
+use Rattle.room_report.proofs.Fronts.{path_total, exact_paths, one_way, front_of, front_itself, front_split}
+use Rattle.room_report.proofs.Fronts.{front_above, below_folder, folder_first, fronts_apart}
 use Rattle.room_report.proofs.Rising.{In, in_contained, in_filtered, in_filter, filter_all, in_flat, in_flat_map}
 use Rattle.room_report.proofs.Rising.{Before, Rising, before_in, before_each, rising_filter, same_rising}
 use Rattle.room_report.proofs.Rising.{rising_flat_map}
@@ -45,17 +46,15 @@ IsNew k es = (x : Pair) → In x es → path_cmp k x.0 ≡ Equal → ⊥
 
 not_found_is_new : (k : Path) (es : List Pair) → lookup (path_eq k) es ≡ None → IsNew k es
 not_found_is_new k [] none x h same = h
-not_found_is_new k (e ∷ es) none x h same =
-    by_test (path_eq k e.0) refl none h (λ missed there. not_found_is_new k es missed x there same)
-  where
-    by_test : (b : Bool) → path_eq k e.0 ≡ b → cond b (Some e.1) (lookup (path_eq k) es) ≡ None → In x (e ∷ es)
-        → (lookup (path_eq k) es ≡ None → In x es → ⊥) → ⊥
-    by_test true is found here later = none_is_some e.1 (sym found)
-    by_test false is missed (inl first) later =
-        let keys : k ≡ e.0 = exact_paths k e.0 (ap (λ (p : Pair). path_cmp k p.0) first ∙ same) in
-        let f : false ≡ true = sym is ∙ ap (path_eq k) (sym keys) ∙ path_itself k in
-        cc
-    by_test false is missed (inr there) later = later missed there
+not_found_is_new k (e ∷ es) none x h same = elim (cases_Bool (path_eq k e.0)) [
+  | inl found ↦ none_is_some e.1 (sym (rw found at none))
+  | inr missed ↦ elim h [
+    | inl first ↦ (
+        let keys : k ≡ e.0 = exact_paths k e.0 (rw first same) in
+        both_ways (path_eq k e.0) missed (rw (← keys) (path_itself k)))
+    | inr there ↦ not_found_is_new k es (rw missed at none) x there same
+  ]
+]
 
 in_inserted : (x : Pair) (k : Path) (v : Object) (es : List Pair) → IsNew k es
     → ((k, v) ≡ x) ⊎ In x es → In x (insert_entry path_cmp es k v)
@@ -169,7 +168,7 @@ module _ (room : Room) (lawful : IsRoom room) where
       → (rest : List Pair) × (objects_below room path ≡ (path, o) ∷ rest)
   first_below path o there =
       by_list (objects_below room path) refl (below_rises path)
-      (below_listed path (path, o) there (ap (is_front path) (sym (append-nil path)) ∙ front_of path []))
+      (below_listed path (path, o) there (front_itself path))
     where
       not_before : (x : Pair) → is_front path x.0 ≡ true → path_cmp x.0 path ≡ Less → ⊥
       not_before x begins less =
@@ -177,8 +176,7 @@ module _ (room : Room) (lawful : IsRoom room) where
         where
           by_rest : (rest : Path) → x.0 ≡ path ++ rest → ⊥
           by_rest [] is =
-              let same : x.0 ≡ path = is ∙ append-nil path in
-              let itself : path_cmp path path ≡ Less = ap (λ p. path_cmp p path) (sym same) ∙ less in
+              let itself : path_cmp path path ≡ Less = rw (is ∙ append-nil path) at less in
               one_way path path itself itself
           by_rest (name ∷ rest) is = one_way x.0 path less (ap (path_cmp path) is ∙ folder_first path name rest)
 
@@ -187,9 +185,8 @@ module _ (room : Room) (lawful : IsRoom room) where
       by_list [] is up h = absurd h
       by_list (x ∷ es) is up (inl same) = (es, ap (λ (p : Pair). p ∷ es) same)
       by_list (x ∷ es) is up (inr later) =
-          let P : List Pair → Type 0 = λ all. In x all in
-          absurd (not_before x (listed_below path x (subst P (sym is) (inl refl))).1
-          (before_in IsEarlier x (path, o) es up.0 later))
+          let begins = (listed_below path x (rw is (inl refl))).1 in
+          absurd (not_before x begins (before_in IsEarlier x (path, o) es up.0 later))
 
   -- all objects are below the root
   pub all_below_root : objects_below room [] ≡ in_order room.objects
@@ -290,10 +287,7 @@ module _ (t : ObjectRecords) (room : Room) (stand : RepresentsRoom t room)
         by_rest (name ∷ rest) is stands = inr (under_child x name rest stands is)
 
     out : (x : Pair) → In x ((path, o) ∷ flat_map below_child nodes) → In x (objects_below room path)
-    out x (inl here) =
-        let P : Pair → Type 0 = λ e. In e (objects_below room path) in
-        subst P here (below_listed room stand.lawful path (path, o) there
-        (ap (is_front path) (sym (append-nil path)) ∙ front_of path []))
+    out x (inl here) = rw (← here) (below_listed room stand.lawful path (path, o) there (front_itself path))
     out x (inr later) =
         let found = in_flat_map below_child x nodes later in
         let child = listed_below room stand.lawful (path ++ name_of found.0 ∷ []) x found.2 in

@@ -1,10 +1,11 @@
 -- Fronts of paths, and the order of paths.
-use Rattle.std.proofs.Common.{◌≡◌, refl, ap, sym, ◌∙◌, Bool, true, false, cond, [], ◌∷◌, ◌++◌}
-use Rattle.std.proofs.Common.{append_assoc, Less, Equal, Greater}
+use Rattle.std.proofs.Common.{◌≡◌, refl, ap, sym, ◌∙◌, true, false, [], ◌∷◌, ◌++◌}
+use Rattle.std.proofs.Common.{append_assoc, inl, inr, Less, Equal, Greater}
 use Rattle.std.specs.Cmp.{IsTotalOrder, tied_itself}
 use Rattle.std.specs.Cmp.Lexicographic.{texts_ties, lists_ties}
-use Rattle.std.specs.Ordering.{ordering_then, ordering_reverse, is_eq}
+use Rattle.std.specs.Ordering.{ordering_reverse, is_eq}
 use Rattle.std.proofs.lemmas.Cmp.{nat_list_cmp_total, lists_total}
+use Rattle.std.proofs.lemmas.Bool.{cases_Bool}
 use Rattle.room_records.specs.Names.{Name, Path, name_cmp, name_eq, path_cmp}
 use Rattle.room_records.proofs.RoomsChildren.{name_itself, same_name}
 use Rattle.room_records.proofs.RoomsMap.{same_path}
@@ -22,23 +23,23 @@ one_way a b less more = let f : Less ≡ Greater = sym less ∙ path_total.antis
 
 pub front_of : (front rest : Path) → is_front front (front ++ rest) ≡ true
 front_of [] rest = refl
-front_of (a ∷ front) rest =
-    ap (λ b. cond b (is_front front (front ++ rest)) false) (name_itself a) ∙ front_of front rest
+front_of (a ∷ front) rest = rw (name_itself a) (front_of front rest)
+
+pub front_itself : (path : Path) → is_front path path ≡ true
+front_itself [] = refl
+front_itself (name ∷ path) = rw (name_itself name) (front_itself path)
 
 -- a path that begins with these names is these names and more
 pub front_split : (front path : Path) → is_front front path ≡ true → (rest : Path) × (path ≡ front ++ rest)
 front_split [] path is = (path, refl)
 front_split (a ∷ front) [] is = absurd cc
-front_split (a ∷ front) (b ∷ path) is = by_test (name_eq a b) refl is (front_split front path)
-  where
-    by_test : (c : Bool) → name_eq a b ≡ c → cond c (is_front front path) false ≡ true
-        → (is_front front path ≡ true → (rest : Path) × (path ≡ front ++ rest))
-        → (rest : Path) × (b ∷ path ≡ a ∷ front ++ rest)
-    by_test false is_other h later = absurd cc
-    by_test true same h later =
-        let found = later h in
-        let first : b ≡ a = sym (same_name a b same) in
-        (found.0, λ i. first i ∷ found.1 i)
+front_split (a ∷ front) (b ∷ path) is = elim (cases_Bool (name_eq a b)) [
+  | inl same ↦ (
+      let found = front_split front path (rw same at is) in
+      let first : b ≡ a = sym (same_name a b same) in
+      (found.0, λ i. first i ∷ found.1 i))
+  | inr other ↦ absurd (let no : false ≡ true = rw other at is in cc)
+]
 
 -- a longer front of a path has a shorter one
 pub front_above : (front : Path) (name : Name) (path : Path)
@@ -50,17 +51,13 @@ front_above front name path is =
 -- a folder stands before what is in it
 pub folder_first : (front : Path) (name : Name) (rest : Path) → path_cmp front (front ++ name ∷ rest) ≡ Less
 folder_first [] name rest = refl
-folder_first (a ∷ front) name rest =
-    ap (λ o. ordering_then o (path_cmp front (front ++ name ∷ rest))) (tied_itself nat_list_cmp_total a)
-    ∙ folder_first front name rest
+folder_first (a ∷ front) name rest = rw (tied_itself nat_list_cmp_total a) (folder_first front name rest)
 
 -- and what is below one name before what is below the next
 pub names_apart : (front : Path) (a b : Name) (x y : Path)
     → name_cmp a b ≡ Less → path_cmp (front ++ a ∷ x) (front ++ b ∷ y) ≡ Less
-names_apart [] a b x y less = ap (λ o. ordering_then o (path_cmp x y)) less
-names_apart (n ∷ front) a b x y less =
-    ap (λ o. ordering_then o (path_cmp (front ++ a ∷ x) (front ++ b ∷ y))) (tied_itself nat_list_cmp_total n)
-    ∙ names_apart front a b x y less
+names_apart [] a b x y less = rw less refl
+names_apart (n ∷ front) a b x y less = rw (tied_itself nat_list_cmp_total n) (names_apart front a b x y less)
 
 -- so for all that is below them
 pub fronts_apart : (front : Path) (a b : Name) (x y : Path) → name_cmp a b ≡ Less

@@ -1,5 +1,5 @@
 -- What is carried down of an object.
-use Rattle.std.proofs.Common.{◌≡◌, ℕ, refl, ap, sym, ◌∙◌, subst, List, Some, [], ◌∷◌, ◌++◌, append-nil}
+use Rattle.std.proofs.Common.{◌≡◌, ℕ, refl, ap, sym, ◌∙◌, List, Some, [], ◌∷◌, ◌++◌, append-nil}
 use Rattle.std.specs.List.{flat_map}
 use Rattle.std.proofs.lemmas.Grind.{flat_map-append}
 use Rattle.room_acl.specs.SubjectModel.{SubjectModel}
@@ -86,7 +86,7 @@ module _ (t : ObjectRecords) (room : Room) (stand : RepresentsRoom t room) where
       record {
         object = found.0;
         node = node;
-        at = (let P : ℕ → Type 0 = λ n. HasPath t (path ++ name_of node ∷ []) n in subst P (sym id) at);
+        at = rw id at;
         node_stands = ap t.node id ∙ child.stands;
         object_stands = found.1;
         kind = kind ∙ shows.kind;

@@ -1,7 +1,8 @@
 -- Lists whose elements rise, and what is in them.
-use Rattle.std.proofs.Common.{◌≡◌, ℕ, zero, suc, ◌<◌, refl, ap, sym, ◌∙◌, subst, arith, Bool, true, false, cond, ◌⊎◌}
+use Rattle.std.proofs.Common.{◌≡◌, ℕ, zero, suc, ◌<◌, refl, ap, sym, ◌∙◌, subst, arith, Bool, true, ◌⊎◌}
 use Rattle.std.proofs.Common.{inl, inr, List, [], ◌∷◌, ◌++◌, length}
 use Rattle.std.specs.List.{filter, flat_map, slice_index_or}
+use Rattle.std.proofs.lemmas.Bool.{cases_Bool}
 
 module _ {E : Type 0} where
   -- an element of a list
@@ -29,40 +30,31 @@ module _ {E : Type 0} where
   in_contained e (x ∷ xs) (suc k) below is = inr (in_contained e xs k (omega (arith, below)) is)
 
   module _ (test : E → Bool) where
-    kept_first : (e x : E) (xs : List E) (b : Bool) → test x ≡ b → (x ≡ e) ⊎ In e (filter test xs)
-        → test e ≡ true → In e (cond b (x ∷ filter test xs) (filter test xs))
-    kept_first e x xs true is h passes = h
-    kept_first e x xs false is (inl same) passes = absurd (let f : false ≡ true = sym is ∙ ap test same ∙ passes in cc)
-    kept_first e x xs false is (inr h) passes = h
-
     pub in_filtered : (e : E) (xs : List E) → In e xs → test e ≡ true → In e (filter test xs)
     in_filtered e [] h passes = absurd h
-    in_filtered e (x ∷ xs) (inl same) passes = kept_first e x xs (test x) refl (inl same) passes
-    in_filtered e (x ∷ xs) (inr h) passes = kept_first e x xs (test x) refl (inr (in_filtered e xs h passes)) passes
-
-    first_kept : (e x : E) (xs : List E) (b : Bool) → test x ≡ b
-        → In e (cond b (x ∷ filter test xs) (filter test xs)) → ((x ≡ e) × (test e ≡ true)) ⊎ In e (filter test xs)
-    first_kept e x xs true is (inl same) = inl (same, ap test (sym same) ∙ is)
-    first_kept e x xs true is (inr h) = inr h
-    first_kept e x xs false is h = inr h
+    in_filtered e (x ∷ xs) (inl same) passes = rw (ap test same ∙ passes) (inl same)
+    in_filtered e (x ∷ xs) (inr h) passes =
+        let later = in_filtered e xs h passes in
+        elim (cases_Bool (test x)) [ inl kept ↦ rw kept (inr later) | inr dropped ↦ rw dropped later ]
 
     pub in_filter : (e : E) (xs : List E) → In e (filter test xs) → In e xs × (test e ≡ true)
     in_filter e [] h = absurd h
-    in_filter e (x ∷ xs) h = elim (first_kept e x xs (test x) refl h) [
-      | inl here ↦ (inl here.0, here.1)
-      | inr there ↦ (let found = in_filter e xs there in (inr found.0, found.1))
+    in_filter e (x ∷ xs) h = elim (cases_Bool (test x)) [
+      | inl kept ↦ elim (in_either e (x ∷ []) (filter test xs) (rw kept at h)) [
+        | inl first ↦ elim first [ inl same ↦ (inl same, rw (← same) kept) | inr none ↦ absurd none ]
+        | inr there ↦ (let found = in_filter e xs there in (inr found.0, found.1))
+      ]
+      | inr dropped ↦ (let found = in_filter e xs (rw dropped at h) in (inr found.0, found.1))
     ]
 
     pub filter_all : (xs : List E) → ((e : E) → test e ≡ true) → filter test xs ≡ xs
     filter_all [] all = refl
-    filter_all (x ∷ xs) all =
-        ap (λ b. cond b (x ∷ filter test xs) (filter test xs)) (all x) ∙ ap (λ rest. x ∷ rest) (filter_all xs all)
+    filter_all (x ∷ xs) all = rw (all x) (ap (λ rest. x ∷ rest) (filter_all xs all))
 
 module _ {A E : Type 0} (f : A → List E) where
   pub in_flat : (e : E) (a : A) (xs : List A) → In a xs → In e (f a) → In e (flat_map f xs)
   in_flat e a [] h here = absurd h
-  in_flat e a (x ∷ xs) (inl is) here =
-      in_left e (f x) (flat_map f xs) (let P : A → Type 0 = λ b. In e (f b) in subst P (sym is) here)
+  in_flat e a (x ∷ xs) (inl is) here = in_left e (f x) (flat_map f xs) (rw is here)
   in_flat e a (x ∷ xs) (inr h) here = in_right e (f x) (flat_map f xs) (in_flat e a xs h here)
 
   pub in_flat_map : (e : E) (xs : List A) → In e (flat_map f xs) → (a : A) × In a xs × In e (f a)
@@ -102,16 +94,12 @@ module _ {E : Type 0} (Less : E → E → Type 0) where
   )
 
   module _ (test : E → Bool) where
-    filter_step : (x : E) (xs : List E) (b : Bool) → Before x (filter test xs)
-        → Rising (filter test xs) → Rising (cond b (x ∷ filter test xs) (filter test xs))
-    filter_step x xs true before rest = (before, rest)
-    filter_step x xs false before rest = rest
-
     pub rising_filter : (xs : List E) → Rising xs → Rising (filter test xs)
     rising_filter [] up = tt
     rising_filter (x ∷ xs) up =
-        filter_step x xs (test x) (before_each x (filter test xs)
-        (λ y h. before_in x y xs up.0 (in_filter test y xs h).0)) (rising_filter xs up.1)
+        let before = before_each x (filter test xs) (λ y h. before_in x y xs up.0 (in_filter test y xs h).0) in
+        let rest = rising_filter xs up.1 in
+        elim (cases_Bool (test x)) [ inl kept ↦ rw kept (before, rest) | inr dropped ↦ rw dropped rest ]
 
   -- two rising lists with the same elements are one
   module _ (one_way : (a b : E) → Less a b → Less b a → ⊥) where

@@ -1,5 +1,5 @@
 -- What a writer took, call after call.
-use Rattle.std.proofs.Common.{◌≡◌, ℕ, ◌+◌, List, [], ◌++◌, take, drop, refl, sym, ap, subst, ◌∙◌, append_assoc}
+use Rattle.std.proofs.Common.{◌≡◌, ℕ, ◌+◌, List, [], ◌++◌, take, drop, refl, sym, ap, ◌∙◌, append_assoc}
 use Rattle.std.proofs.Common.{append-nil, Option, Result, Ok, Err}
 use Rattle.std.proofs.lemmas.List.{take-append-drop}
 use Rattle.std.proofs.Math.Seq.{take-add}
@@ -19,7 +19,7 @@ front_kept a b c bytes at h k =
 pub front_more : (a b c : Option (List ℕ)) (bytes : List ℕ) (at n : ℕ) → Appends a b (take at bytes)
     → Appends b c (take n (drop at bytes)) → Appends a c (take (at + n) bytes)
 front_more a b c bytes at n h k =
-    subst (Appends a c) (sym (take-add at n bytes)) (Appends-trans a b c (take at bytes) (take n (drop at bytes)) h k)
+    rw (take-add at n bytes) (Appends-trans a b c (take at bytes) (take n (drop at bytes)) h k)
 
 -- the writer took n more, and no more
 pub front_some : (a b c : Option (List ℕ)) (bytes : List ℕ) (at n : ℕ)
@@ -32,7 +32,10 @@ pub front_of_more : (a b : Option (List ℕ)) (x y : List ℕ) → AppendsFront 
 front_of_more a b x y h = (h.0, h.1 ++ y, ap (λ t. t ++ y) h.2 ∙ append_assoc h.0 h.1 y, h.3)
 
 pub front_is : (a b : Option (List ℕ)) (x y : List ℕ) → x ≡ y → AppendsFront a b x → AppendsFront a b y
-front_is a b x y e h = subst (λ (t : List ℕ). AppendsFront a b t) e h
+front_is a b x y e h = rw (← e) h
+
+pub appends_is : (a b : Option (List ℕ)) (x y : List ℕ) → x ≡ y → Appends a b x → Appends a b y
+appends_is a b x y e h = rw (← e) h
 
 -- what was written is a front of it and more
 pub sent_front : (a b : Option (List ℕ)) (x y : List ℕ) → Appends a b x → AppendsFront a b (x ++ y)
@@ -47,7 +50,7 @@ front_then a b c x y h k =
 -- what a call says of a report is what the report promises
 pub sent_whole : {X E : Type 0} (a b : Option (List ℕ)) (text other : List ℕ) (r : Result X E)
     → text ≡ other → Writes a b text r → OnOk r (Appends a b other)
-sent_whole a b text other (Ok x) same sent = subst (λ (t : List ℕ). Appends a b t) same sent
+sent_whole a b text other (Ok x) same sent = appends_is a b text other same sent
 sent_whole a b text other (Err e) same sent = tt
 
 pub sent_beginning : {X E : Type 0} (a b : Option (List ℕ)) (text other : List ℕ) (r : Result X E)

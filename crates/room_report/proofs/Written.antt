@@ -1,5 +1,5 @@
 -- What is written of an object and what is below it, node after node.
-use Rattle.std.proofs.Common.{◌≡◌, ℕ, ◌+◌, ◌<◌, ◌≤◌, ap, sym, ◌∙◌, subst, List, [], ◌∷◌, ◌++◌, take, drop, get_or}
+use Rattle.std.proofs.Common.{◌≡◌, ℕ, ◌+◌, ◌<◌, ◌≤◌, ap, sym, ◌∙◌, List, [], ◌∷◌, ◌++◌, take, drop, get_or}
 use Rattle.std.proofs.Common.{length, append_assoc, append-nil, Option, Result, Ok, Err}
 use Rattle.std.specs.List.{flat_map}
 use Rattle.std.specs.Result.{IsErr}
@@ -50,7 +50,7 @@ module _ (child : Node → List ℕ) (lines : List ℕ) (nodes : List Node) (i :
 pub child_at : (t : ObjectRecords) (id : ℕ) (nodes : List Node) (i : ℕ) (node : Node)
     → AreChildren t id nodes → i < length nodes → node ≡ get_or nodes i node → IsChild t id node
 child_at t id nodes i node are below is =
-    subst (IsChild t id) (sym is) (all_at (IsChild t id) nodes i node are.each below)
+    rw is (all_at (IsChild t id) nodes i node are.each below)
 
 module _ (t : ObjectRecords) (room : Room) (stand : RepresentsRoom t room)
     (path : Path) (item : Item) (is : IsItem t room path item) (report : Report) where

@@ -11,4 +11,4 @@ mod trial;
 mod verdict;
 
 pub use trial::{Trial, TrialAnswer, run_trial};
-pub use verdict::{Kept, Verdict, classify};
+pub use verdict::{Kept, Verdict, classify, is_next};

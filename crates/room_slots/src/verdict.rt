@@ -1,7 +1,9 @@
 //! What a request is to a slot, by what the slot keeps.
-ghost use Rattle.std.specs.Prelude.{◌≡◌, IfOk};
+ghost use Rattle.std.specs.Prelude.{◌≡◌, if◌then◌else◌, IfOk};
 ghost use Rattle.std.specs.Option.{option_copied};
-ghost use Rattle.room_slots.specs.Slots.{verdict};
+ghost use Rattle.std.specs.Str.{bytes_eq};
+ghost use Rattle.room_slots.specs.Slots.{is_next, sent_again, verdict};
+ghost use Rattle.room_slots.specs.declared.verdict.Verdict.TheVariants.{FalseRetry};
 
 use std::alloc::AllocError;
 use std::marker::Model;
@@ -66,6 +68,20 @@ pub enum Verdict {
     Misordered,
 }
 
+/// Whether a request with this number is new to a slot whose last request had that one: no other number is, and no
+/// kept byte need be read to tell.
+///
+/// The next number is the last one plus 1 modulo 2^32, as in RFC 8881, sections 2.10.6 and 18.46; in a slot that keeps
+/// nothing 1 alone is new, our own rule. Takes no memory.
+pub fn is_next(last: Option<u32>, seq: u32) -> bool
+    ensures { result ≡ is_next last seq }
+{
+    match last {
+        None => seq == 1,
+        Some(last) => seq == last.wrapping_add(1),
+    }
+}
+
 /// What a request with this number is to a slot that keeps this.
 ///
 /// The next number is the last one plus 1 modulo 2^32, as in RFC 8881, sections 2.10.6
@@ -75,25 +91,22 @@ pub enum Verdict {
 pub fn classify(kept: Option<&Kept>, seq: u32, request: &[u8]) -> Verdict
     ensures { result ≡ verdict (option_copied kept.entry) seq request.now }
 {
-    let Some(kept) = kept else {
-        return if seq == 1 {
-            Verdict::New
-        } else {
-            Verdict::Misordered
-        };
-    };
-    if seq == kept.seq {
-        if request == kept.request.as_slice() {
-            match &kept.reply {
-                Some(_) => Verdict::Repeat,
-                None => Verdict::Uncached,
-            }
-        } else {
-            Verdict::FalseRetry
-        }
-    } else if seq == kept.seq.wrapping_add(1) {
-        Verdict::New
-    } else {
-        Verdict::Misordered
+    match kept {
+        Some(kept) if seq == kept.seq => sent_again(kept, request),
+        _ if is_next(kept.map(|kept| kept.seq), seq) => Verdict::New,
+        _ => Verdict::Misordered,
+    }
+}
+
+/// What the last request is when its number is sent again.
+fn sent_again(kept: &Kept, request: &[u8]) -> Verdict
+    ensures { result ≡ (if bytes_eq request.now kept.now.request then sent_again kept.now.reply else FalseRetry) }
+{
+    if request != kept.request.as_slice() {
+        return Verdict::FalseRetry;
+    }
+    match &kept.reply {
+        Some(_) => Verdict::Repeat,
+        None => Verdict::Uncached,
     }
 }

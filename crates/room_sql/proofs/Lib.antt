@@ -2,8 +2,9 @@ pub mod Bound
 pub mod Frames
 pub mod Decisions
 pub mod Turns
-pub mod SlotWrites
+pub mod OrWrites
 pub mod NodeRows
+pub mod NewObjects
 pub mod Calls
 pub mod Taken
 pub mod Unread

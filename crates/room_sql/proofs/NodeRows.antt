@@ -5,7 +5,7 @@ use Rattle.std.proofs.Common.{if◌then◌else◌}
 use Rattle.std.proofs.lemmas.Bool.{cases_Bool, cases_eq}
 use Rattle.std.proofs.lemmas.Bool.Decides.{nat_tests}
 use Rattle.std.proofs.lemmas.List.Sorted.{length_permutation}
-use Rattle.sqlite_value.specs.declared.value.Value.TheVariants.{Int, Text, Blob}
+use Rattle.sqlite_value.specs.declared.value.Value.TheVariants.{Int, Text}
 use Rattle.sqlite_value.specs.Order.{Row, column, value_cmp}
 use Rattle.sqlite_value.proofs.OrderLemmas.{value_cmp-Null}
 use Rattle.sqlite_trees.specs.Tree.{Trees, without_rowid, has_rowid}
@@ -16,26 +16,31 @@ use Rattle.sqlite_rules.proofs.ListLemmas.{has_kept}
 use Rattle.sqlite.specs.State.{ExecutesInside}
 use Rattle.sqlite.specs.Held.{Held, state}
 use Rattle.room_acl.specs.Entries.{EntryModel}
+use Rattle.room_records.specs.declared.node.Node.{Node}
 use Rattle.room_records.specs.declared.change.Change.{Change}
 use Rattle.room_records.specs.declared.change.Change.TheVariants.{PutNode, DropNode, PutEntries, PutDoc, PutSession}
 use Rattle.room_records.specs.declared.change.Change.TheVariants.{PutSlot, DropSlots, PutNext}
 use Rattle.room_tables.specs.Tables.{Layout, room_schema}
 use Rattle.room_tables.specs.Rows.{has}
 use Rattle.room_tables.specs.Layout.{IsRoomDatabase, parent_value}
-use Rattle.room_tables.specs.Steps.{kind_number, flag_of}
-use Rattle.room_tables.specs.Texts.{put_node_text, drop_entries_text, add_entry_text, add_two_text, add_three_text}
-use Rattle.room_tables.specs.Texts.{add_four_text, put_doc_text, put_session_text, drop_slots_text}
-use Rattle.room_tables.specs.Texts.{put_next_text}
+use Rattle.room_tables.specs.Steps.{flag_of}
+use Rattle.room_tables.specs.Texts.{add_node_text, add_doc_text, drop_entries_text, add_entry_text}
+use Rattle.room_tables.specs.Texts.{add_two_text, add_three_text}
+use Rattle.room_tables.specs.Texts.{add_four_text, put_session_text, drop_slots_text}
 use Rattle.room_tables.proofs.Each.{above}
 use Rattle.room_tables.proofs.Changes.{executes_inside}
 use Rattle.room_tables.proofs.Upserts.{Put}
-use Rattle.room_tables.proofs.Puts.{stored_node, node_params, puts_node, puts_doc, puts_next, puts_session}
+use Rattle.room_tables.proofs.Puts.{doc_params, puts_session}
+use Rattle.room_tables.proofs.Effects.{row_of_node, params_of_node, node_added, doc_new_leaves_nodes}
 use Rattle.room_tables.proofs.Takes.{drops_entries, drops_slots, AddsEntries, bound_entries, adds_one, adds_two}
 use Rattle.room_tables.proofs.Takes.{adds_three, adds_four}
 use Rattle.room_tables.proofs.Filters.{put_is_one_more, others_left_on, not_both}
 use Rattle.room_tables.proofs.Values.{int_has, has_is}
-use Rattle.room_sql.specs.Causes.{statement, RunInTurn, writes_of, entry_writes}
-use Rattle.room_sql.proofs.SlotWrites.{slot_leaves_nodes}
+use Rattle.room_sql.specs.Causes.{statement, RunInTurn, writes_of, node_write, node_add, entries_drop, entry_writes}
+use Rattle.room_sql.specs.Causes.{doc_write, doc_add}
+use Rattle.room_sql.specs.declared.new_object.NewObject.{NewObject}
+use Rattle.room_sql.specs.NewObject.{is_free, is_bare, lacks_doc}
+use Rattle.room_sql.proofs.OrWrites.{node_put, slot_leaves_nodes, doc_leaves_nodes, next_set}
 use Rattle.room_sql.specs.NodeRows.{HasNone, HasOneMore, is_parent, After, AfterAll}
 
 -- ---- a node where no row has its number
@@ -117,44 +122,64 @@ module _ {S : Type 0} (store : Ghosts S) where
       (executes_inside add_four_text _ (state store a) (state store on.0) on.1 on.2.runs).0 in
       all_added l id (place + 4) more on.0 b it.schema on.3 ∙ it.others.node (omega arith)
 
-  -- what the statements of a change do to the rows of nodes
-  pub nodes_after : (change : Change) (a b : Held S) → IsRoomDatabase (state store a).now
-      → RunInTurn store (writes_of change) a b (Ok tt) → After change (nodes a) (nodes b)
-  unfolding RunInTurn
-  nodes_after (PutNode node) a b room ran = λ none.
+  -- a node is put, by a number that is free or by any
+  node_after : (node : Node) (alone : Bool) (a b : Held S) → IsRoomDatabase (state store a).now
+      → RunInTurn store ((if alone then node_add node else node_write node) ∷ []) a b (Ok tt)
+      → After (PutNode node) (nodes a) (nodes b)
+  node_after node true a b room ran = λ none.
       let name = unwrap_or node.name [] in
-      let kind = kind_number node.kind in
-      let one = one_ran put_node_text (node_params node.id node.parent name kind node.owner node.group node.aclflag)
-      a b ran in
-      let it = puts_node room.layout (state store a) (state store b) node.id node.parent name kind node.owner node.group
-      node.aclflag one.0 room.schema room.keyed.node (executes_inside put_node_text _ _ _ one.0 one.1).0 in
-      one_more node.id node.parent (stored_node node.id node.parent name kind node.owner node.group node.aclflag)
-      (state store a).now.trees (state store b).now.trees refl it.put none
-  nodes_after (DropNode id) a b room ran = tt
-  nodes_after (PutEntries id entries) a b room (inl failed) = absurd (let bad = failed.1 in cc)
-  nodes_after (PutEntries id entries) a b room (inr on) =
+      let one = one_ran add_node_text (params_of_node node name) a b ran in
+      let it = node_added (state store a) (state store b) node name one.0 (λ r. has 0 node.id r ≡ true) room one.1 in
+      one_more node.id node.parent (row_of_node node name) (state store a).now.trees (state store b).now.trees refl
+      it.put none
+  node_after node false a b room ran = λ none.
+      let it = node_put store node (unwrap_or node.name []) a b room ran in
+      subst (λ rows. HasOneMore node.parent rows (nodes b)) it.1
+      (one_more node.id node.parent (row_of_node node (unwrap_or node.name [])) it.0 (state store b).now.trees refl
+      it.2 (subst (HasNone node.id) (sym it.1) none))
+
+  -- entries are put, where the object has none or behind a DELETE
+  entries_after : (id : ℕ) (entries : List EntryModel) (alone : Bool) (a b : Held S)
+      → IsRoomDatabase (state store a).now → RunInTurn store
+      (if alone then entry_writes id 0 entries else entries_drop id ∷ entry_writes id 0 entries) a b (Ok tt)
+      → nodes b ≡ nodes a
+  unfolding RunInTurn
+  entries_after id entries true a b room ran = all_added room.layout id 0 entries a b room.schema ran
+  entries_after id entries false a b room (inl failed) = absurd (let bad = failed.1 in cc)
+  entries_after id entries false a b room (inr on) =
       let it = drops_entries room.layout (state store a) (state store on.0) id on.1 room.schema room.keyed.entry
       (executes_inside drop_entries_text _ _ _ on.1 on.2.runs).0 in
-      all_added room.layout id 0 entries.items on.0 b it.schema on.3 ∙ it.others.node (omega arith)
-  nodes_after (PutDoc id bytes) a b room ran =
-      let one = one_ran put_doc_text (Int (pos id) ∷ Blob bytes.items ∷ []) a b ran in
-      (puts_doc room.layout (state store a) (state store b) id bytes.items one.0 room.schema room.keyed.doc
-      (executes_inside put_doc_text _ _ _ one.0 one.1).0).put.others.node (omega arith)
-  nodes_after (PutSession row) a b room ran =
+      all_added room.layout id 0 entries on.0 b it.schema on.3 ∙ it.others.node (omega arith)
+
+  -- a document is put, where the object has none or whether it has one or not
+  doc_after : (id : ℕ) (bytes : List ℕ) (alone : Bool) (a b : Held S) → IsRoomDatabase (state store a).now
+      → RunInTurn store ((if alone then doc_add id bytes else doc_write id bytes) ∷ []) a b (Ok tt)
+      → nodes b ≡ nodes a
+  doc_after id bytes true a b room ran =
+      let one = one_ran add_doc_text (doc_params id bytes) a b ran in
+      doc_new_leaves_nodes (state store a) (state store b) id bytes one.0 room one.1
+  doc_after id bytes false a b room ran = doc_leaves_nodes store id bytes a b room ran
+
+  -- what the statements of a change do to the rows of nodes
+  pub nodes_after : (object : NewObject) (change : Change) (a b : Held S) → IsRoomDatabase (state store a).now
+      → RunInTurn store (writes_of object change) a b (Ok tt) → After change (nodes a) (nodes b)
+  nodes_after object (PutNode node) a b room ran = node_after node (is_free object node.id) a b room ran
+  nodes_after object (DropNode id) a b room ran = tt
+  nodes_after object (PutEntries id entries) a b room ran =
+      entries_after id entries.items (is_bare object id) a b room ran
+  nodes_after object (PutDoc id bytes) a b room ran = doc_after id bytes.items (lacks_doc object id) a b room ran
+  nodes_after object (PutSession row) a b room ran =
       let one = one_ran put_session_text
       (Text row.sid ∷ Text row.owner ∷ Int (pos row.slots) ∷ Int (pos (flag_of row.is_open)) ∷ []) a b ran in
       (puts_session room.layout (state store a) (state store b) row.sid row.owner row.slots (flag_of row.is_open) one.0
       room.schema room.keyed.session (executes_inside put_session_text _ _ _ one.0 one.1).0).put.others.node
       (omega arith)
-  nodes_after (PutSlot row) a b room ran = slot_leaves_nodes store row a b room ran
-  nodes_after (DropSlots sid) a b room ran =
+  nodes_after object (PutSlot row) a b room ran = slot_leaves_nodes store row a b room ran
+  nodes_after object (DropSlots sid) a b room ran =
       let one = one_ran drop_slots_text (Text sid ∷ []) a b ran in
       (drops_slots room.layout (state store a) (state store b) sid one.0 room.schema room.keyed.slots
       (executes_inside drop_slots_text _ _ _ one.0 one.1).0).others.node (omega (arith, above room.layout))
-  nodes_after (PutNext next) a b room ran =
-      let one = one_ran put_next_text (Int (pos next) ∷ []) a b ran in
-      (puts_next room.layout (state store a) (state store b) next one.0 room.schema room.keyed.room
-      (executes_inside put_next_text _ _ _ one.0 one.1).0).put.others.node (omega arith)
+  nodes_after object (PutNext next) a b room ran = (next_set store next a b ran room).nodes
 
 -- ---- changes in turn
 

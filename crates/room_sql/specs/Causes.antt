@@ -1,6 +1,7 @@
 -- The statements that a commit and the upgrade run, and how these fail.
 use Rattle.std.specs.Prelude.{◌≡◌, ◌≢◌, ◌⊎◌, ◌<◌, ◌≤◌, ◌+◌, ◌-◌, ◌^◌, ℕ, ℤ, suc, pos, Bool, true, false, List, [], ◌∷◌}
 use Rattle.std.specs.Prelude.{◌++◌, length, Option, None, Some, unwrap_or, option_map, Result, Ok, Err, IsErrAnd}
+use Rattle.std.specs.Prelude.{if◌then◌else◌}
 use Rattle.sqlite_value.specs.declared.value.Value.TheVariants.{Int, Text, Blob}
 use Rattle.sqlite_value.specs.Order.{Row, column}
 use Rattle.sqlite_trees.specs.declared.store.Store.{Ghosts}
@@ -19,15 +20,18 @@ use Rattle.room_records.specs.declared.change.Change.TheVariants.{PutNode, DropN
 use Rattle.room_records.specs.declared.change.Change.TheVariants.{PutSlot, DropSlots, PutNext}
 use Rattle.room_tables.specs.Layout.{parent_value, reply_value}
 use Rattle.room_tables.specs.Steps.{kind_number, flag_of, shown_as}
-use Rattle.room_tables.specs.Texts.{put_node_text, drop_node_text, drop_entries_text, add_entry_text, add_two_text}
-use Rattle.room_tables.specs.Texts.{add_three_text, add_four_text, put_doc_text, put_session_text, change_slot_text}
-use Rattle.room_tables.specs.Texts.{add_slot_text}
-use Rattle.room_tables.specs.Texts.{drop_slots_text, put_next_text, copy_row_text, take_row_text, find_next_text}
+use Rattle.room_tables.specs.Texts.{change_node_text, add_node_text, drop_node_text, drop_entries_text, add_entry_text}
+use Rattle.room_tables.specs.Texts.{add_two_text, add_three_text, add_four_text, change_doc_text, add_doc_text}
+use Rattle.room_tables.specs.Texts.{put_session_text}
+use Rattle.room_tables.specs.Texts.{change_slot_text, add_slot_text, drop_slots_text, change_next_text, add_next_text}
+use Rattle.room_tables.specs.Texts.{copy_row_text, take_row_text, find_next_text}
 use Rattle.room_tables.specs.Texts.{find_version_text}
 use Rattle.room_tables.specs.Tables.{kept_text}
 use Rattle.room_tables.specs.Rows.{number_in, only}
 use Rattle.room_sql.specs.Columns.{IsFault, IsOneNumber}
 use Rattle.room_sql.specs.Taken.{SaysFirst}
+use Rattle.room_sql.specs.declared.new_object.NewObject.{NewObject}
+use Rattle.room_sql.specs.NewObject.{before_all, is_free, is_bare, lacks_doc, after_change}
 
 -- a statement: its text and its parameters, and for some the text of another, which runs behind it with the same
 -- parameters where it changed no row
@@ -44,9 +48,16 @@ statement_or text other args = record { text = text; args = args; otherwise = So
 
 -- ---- the statements of a change, in their order
 
+abbrev pub node_values : Node → Row
+node_values node = Int (pos node.id) ∷ parent_value node.parent ∷ Text (unwrap_or node.name [])
+    ∷ Int (pos (kind_number node.kind)) ∷ Text node.owner ∷ Text node.group ∷ Int (pos node.aclflag) ∷ []
+
 abbrev pub node_write : Node → Statement
-node_write node = statement put_node_text (Int (pos node.id) ∷ parent_value node.parent ∷ Text (unwrap_or node.name [])
-    ∷ Int (pos (kind_number node.kind)) ∷ Text node.owner ∷ Text node.group ∷ Int (pos node.aclflag) ∷ [])
+node_write node = statement_or change_node_text add_node_text (node_values node)
+
+-- of a node whose number no row has
+abbrev pub node_add : Node → Statement
+node_add node = statement add_node_text (node_values node)
 
 -- entries at places from a number on
 abbrev pub entry_values : ℕ → List EntryModel → Row
@@ -77,19 +88,39 @@ slot_write row = statement_or change_slot_text add_slot_text
     (Text row.sid ∷ Int (pos row.slot) ∷ Int (pos row.kept.seq) ∷ Blob row.kept.request
     ∷ reply_value row.kept.reply ∷ [])
 
-abbrev pub writes_of : Change → List Statement
-writes_of (PutNode node) = node_write node ∷ []
-writes_of (DropNode id) = statement drop_node_text (Int (pos id) ∷ []) ∷ []
-writes_of (PutEntries id entries) = entries_drop id ∷ entry_writes id 0 entries.items
-writes_of (PutDoc id bytes) = statement put_doc_text (Int (pos id) ∷ Blob bytes.items ∷ []) ∷ []
-writes_of (PutSession row) = session_write row ∷ []
-writes_of (PutSlot row) = slot_write row ∷ []
-writes_of (DropSlots sid) = statement drop_slots_text (Text sid ∷ []) ∷ []
-writes_of (PutNext next) = statement put_next_text (Int (pos next) ∷ []) ∷ []
+abbrev pub doc_write : ℕ → List ℕ → Statement
+doc_write id bytes = statement_or change_doc_text add_doc_text (Int (pos id) ∷ Blob bytes ∷ [])
 
-abbrev pub writes_of_all : List Change → List Statement
-writes_of_all [] = []
-writes_of_all (change ∷ changes) = writes_of change ++ writes_of_all changes
+-- of an object that has none
+abbrev pub doc_add : ℕ → List ℕ → Statement
+doc_add id bytes = statement add_doc_text (Int (pos id) ∷ Blob bytes ∷ [])
+
+abbrev pub next_write : ℕ → Statement
+next_write next = statement_or change_next_text add_next_text (Int (pos next) ∷ [])
+
+abbrev pub node_drop : ℕ → Statement
+node_drop id = statement drop_node_text (Int (pos id) ∷ [])
+
+abbrev pub slots_drop : List ℕ → Statement
+slots_drop sid = statement drop_slots_text (Text sid ∷ [])
+
+-- by what is known of the object that is made: where no row can be there, rows are added, and none is sought
+abbrev pub writes_of : NewObject → Change → List Statement
+writes_of object (PutNode node) = (if is_free object node.id then node_add node else node_write node) ∷ []
+writes_of object (DropNode id) = node_drop id ∷ []
+writes_of object (PutEntries id entries) = if is_bare object id then entry_writes id 0 entries.items
+    else entries_drop id ∷ entry_writes id 0 entries.items
+writes_of object (PutDoc id bytes) =
+    (if lacks_doc object id then doc_add id bytes.items else doc_write id bytes.items) ∷ []
+writes_of object (PutSession row) = session_write row ∷ []
+writes_of object (PutSlot row) = slot_write row ∷ []
+writes_of object (DropSlots sid) = slots_drop sid ∷ []
+writes_of object (PutNext next) = next_write next ∷ []
+
+abbrev pub writes_of_all : NewObject → List Change → List Statement
+writes_of_all object [] = []
+writes_of_all object (change ∷ changes) =
+    writes_of object change ++ writes_of_all (after_change object change) changes
 
 -- ---- those of the upgrade
 
@@ -183,13 +214,13 @@ module _ {S : Type 0} (store : Ghosts S) where
   abbrev pub FailsInTurn : List Statement → Held S → Held S → Error → Type 0
   FailsInTurn statements = FailsBy (RunInTurn statements)
 
-  -- of a commit
-  abbrev pub CommitFails : List Change → Held S → Held S → Error → Type 0
-  CommitFails changes = FailsInTurn (writes_of_all changes)
+  -- of a commit, where no row of `node` was known to have a number
+  abbrev pub CommitFails : Option ℕ → List Change → Held S → Held S → Error → Type 0
+  CommitFails free changes = FailsInTurn (writes_of_all (before_all free) changes)
 
   -- and of the upgrade: `kept` is made, the rows are moved, and the version is set
   abbrev pub UpgradeFails : ℕ → Held S → Held S → Error → Type 0
-  UpgradeFails next = FailsBy (MovesInTurn make_writes (writes_of (PutNext next)))
+  UpgradeFails next = FailsBy (MovesInTurn make_writes (next_write next ∷ []))
 
   -- a query without parameters answered these rows
   pub record Asks (text : List ℕ) (old new : Held S) (rows : List Row) : Type 0 where

@@ -21,6 +21,10 @@ IsFault e = e ≢ SqliteFailure OutOfMemory
 abbrev pub HasNumber : ℕ → Row → Type 0
 HasNumber at row = (at < length row) × (n : ℕ) × (column row at ≡ Int (pos n)) × (n < 2 ^ 32)
 
+-- the column is there, and holds a number that is not negative
+abbrev pub HasCount : ℕ → Row → Type 0
+HasCount at row = (at < length row) × (n : ℕ) × (column row at ≡ Int (pos n))
+
 abbrev pub HasText : ℕ → Row → Type 0
 HasText at row = (at < length row) × (t : List ℕ) × (column row at ≡ Text t) × IsUtf8 t
 
@@ -76,6 +80,11 @@ pub record IsNodeRow (row : Row) : Type 0 where
   pub owner : HasPrincipal 4 row
   pub group : HasPrincipal 5 row
   pub aclflag : HasListFlags 6 row
+
+-- name and kind
+pub record IsNameRow (row : Row) : Type 0 where
+  pub name : HasName 0 row
+  pub kind : HasFlag 1 row
 
 -- place, type, flags, mask and whom it names
 pub record IsLawfulEntryRow (row : Row) : Type 0 where

@@ -54,9 +54,9 @@ DecisionCause store old new result id caller standing wanted =
     × CannotDecide id caller standing wanted (state store old.conn) (state store new.conn) error
 
 -- A commit that answers `Store` has a cause: one of its statements, or the end of its transaction, was answered with a
--- fault other than want of memory
+-- fault other than want of memory. Which statements these are goes by the number that was known to be free
 abbrev pub CommitCause : {S T : Type 0} (store : Ghosts S) → SqlShelf S store
     → SqlShelf S store → Result T ShelfFault → List Change → Type 0
 CommitCause store old new result changes =
     HasCleanDisk (state store new.conn) → AllByRecursion IsShort changes → result ≡ Err Store →
-    (error : Error) × IsFault error × CommitFails store changes old.conn new.conn error
+    (error : Error) × IsFault error × CommitFails store old.known.free changes old.conn new.conn error

@@ -87,6 +87,13 @@ impl Known {
         }
     }
 
+    /// The number that no row has, if one is known.
+    pub(crate) fn free(self) -> Option<u32>
+        ensures { result ≡ self.free }
+    {
+        self.free
+    }
+
     /// Whether the number is known to be free.
     fn is_free(self, id: u32) -> bool
         ensures { result ≡ true → self.free ≡ Some id }

@@ -3,6 +3,7 @@
 
 mod deciding;
 mod known;
+mod new_object;
 mod open;
 mod reads;
 mod rows;

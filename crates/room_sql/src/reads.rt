@@ -11,11 +11,11 @@ ghost use Rattle.sqlite_schema.specs.declared.schema.Index.{Index};
 ghost use Rattle.room_tables.specs.Tables.{with_last};
 ghost use Rattle.room_tables.specs.Layout.{IsRoomDatabase};
 ghost use Rattle.room_tables.specs.Rows.{node_rows, named_rows, child_rows, entry_rows, doc_rows, session_rows};
-ghost use Rattle.room_tables.specs.Rows.{slot_rows, next_rows, HasEntryColumns};
-ghost use Rattle.room_tables.specs.Names.{ByName, counted_row};
+ghost use Rattle.room_tables.specs.Rows.{slot_rows, seq_rows, size_rows, next_rows, HasEntryColumns};
+ghost use Rattle.room_tables.specs.Names.{ByName, AreNameRows, counted_row};
 ghost use Rattle.room_tables.specs.Texts.{find_node_text, find_child_text, list_children_text, count_children_text};
 ghost use Rattle.room_tables.specs.Texts.{list_entries_text, find_doc_text, find_session_text, find_slot_text};
-ghost use Rattle.room_tables.specs.Texts.{find_next_text};
+ghost use Rattle.room_tables.specs.Texts.{find_next_text, list_names_text, find_seq_text, find_size_text};
 ghost use Rattle.room_sql.specs.Frames.{QueryAnswered};
 
 use sqlite::{Alter, Connection, Error, Row, params};
@@ -64,6 +64,19 @@ pub(crate) fn child_rows<S: Alter>(conn: &mut Connection<S>, parent: u32) -> Res
     )
 }
 
+/// The names and kinds of a folder's rows, in order of the names. No other column is read.
+pub(crate) fn name_rows<S: Alter>(conn: &mut Connection<S>, parent: u32) -> Result<Vec<Row>, Error>
+    ensures answered { QueryAnswered list_names_text (Int (pos parent) ∷ [])
+        (state S.Store conn.old) (state S.Store conn.new) result }
+    ensures rows { HasCleanDisk (state S.Store conn.new) → IsRoomDatabase (state S.Store conn.old).now
+        → IfOk result (λ rows. AreNameRows (state S.Store conn.old).now.trees parent rows.items) }
+{
+    conn.query_all(
+        "SELECT name, kind FROM node WHERE parent = ?1 ORDER BY name",
+        params![parent],
+    )
+}
+
 /// How many rows a folder has, as one row.
 pub(crate) fn count_rows<S: Alter>(conn: &mut Connection<S>, parent: u32) -> Result<Vec<Row>, Error>
     ensures answered { QueryAnswered count_children_text (Int (pos parent) ∷ [])
@@ -101,6 +114,16 @@ pub(crate) fn doc_rows<S: Alter>(conn: &mut Connection<S>, id: u32) -> Result<Ve
     conn.query_all("SELECT bytes FROM doc WHERE node = ?1", params![id])
 }
 
+/// How long a document is, in rows: none, or one. The bytes are not read.
+pub(crate) fn size_rows<S: Alter>(conn: &mut Connection<S>, id: u32) -> Result<Vec<Row>, Error>
+    ensures answered { QueryAnswered find_size_text (Int (pos id) ∷ [])
+        (state S.Store conn.old) (state S.Store conn.new) result }
+    ensures rows { HasCleanDisk (state S.Store conn.new) → IsRoomDatabase (state S.Store conn.old).now
+        → IfOk result (λ rows. IsPermutation (size_rows (state S.Store conn.old).now.trees id) rows.items) }
+{
+    conn.query_all("SELECT length(bytes) FROM doc WHERE node = ?1", params![id])
+}
+
 /// The rows of a session name: none, or one.
 pub(crate) fn session_rows<S: Alter>(conn: &mut Connection<S>, sid: &str) -> Result<Vec<Row>, Error>
     ensures answered { QueryAnswered find_session_text (Text sid.now ∷ [])
@@ -127,6 +150,23 @@ pub(crate) fn slot_rows<S: Alter>(
 {
     conn.query_all(
         "SELECT seq, request, reply FROM kept WHERE sid = ?1 AND slot = ?2",
+        params![sid, slot],
+    )
+}
+
+/// The number in the rows of a slot: none, or one. What else the slot keeps is not read.
+pub(crate) fn seq_rows<S: Alter>(
+    conn: &mut Connection<S>,
+    sid: &str,
+    slot: u32,
+) -> Result<Vec<Row>, Error>
+    ensures answered { QueryAnswered find_seq_text (Text sid.now ∷ Int (pos slot) ∷ [])
+        (state S.Store conn.old) (state S.Store conn.new) result }
+    ensures rows { HasCleanDisk (state S.Store conn.new) → IsRoomDatabase (state S.Store conn.old).now
+        → IfOk result (λ rows. IsPermutation (seq_rows (state S.Store conn.old).now.trees sid.now slot) rows.items) }
+{
+    conn.query_all(
+        "SELECT seq FROM kept WHERE sid = ?1 AND slot = ?2",
         params![sid, slot],
     )
 }

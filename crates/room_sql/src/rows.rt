@@ -2,16 +2,16 @@
 
 ghost use Rattle.std.specs.Prelude.{◌≡◌, ◌==◌, ℕ, pos, List, [], ◌∷◌, Some, None, map, slice_get, unwrap_or};
 ghost use Rattle.std.specs.Prelude.{option_map, IfOk, IfErr, IsTrue, string_bytes};
-ghost use Rattle.std.specs.List.{AllByRecursion};
+ghost use Rattle.std.specs.List.{AllByRecursion, filter_map};
 ghost use Rattle.sqlite_value.specs.Order.{column};
 ghost use Rattle.sqlite_value.specs.declared.value.Value.TheVariants.{Int, Text};
 ghost use Rattle.room_acl.specs.Entries.{who_from};
 ghost use Rattle.room_tables.specs.Rows.{number_in, text_in, name_of_text, name_in, parent_in, bytes_in, reply_in};
 ghost use Rattle.room_tables.specs.Rows.{kind_of, who_of, only, node_of, entry_of, doc_of, session_of, kept_of};
-ghost use Rattle.room_tables.specs.Rows.{HasEntryColumns};
+ghost use Rattle.room_tables.specs.Rows.{listed_of, seq_of, size_in, HasEntryColumns};
 ghost use Rattle.room_tables.specs.Names.{counted_row};
 ghost use Rattle.room_sql.specs.Columns.{IsFault, HasNumber, HasText, HasBytes, HasReply, HasParent, HasFlag};
-ghost use Rattle.room_sql.specs.Columns.{HasListFlags};
+ghost use Rattle.room_sql.specs.Columns.{HasListFlags, HasCount, IsNameRow};
 ghost use Rattle.room_sql.specs.Columns.{HasSlots, HasPrincipal, IsNameText, HasName, HasFlags, HasMask, IsNodeRow};
 ghost use Rattle.room_sql.specs.Columns.{IsLawfulEntryRow, IsSessionRow, IsKeptRow, IsOneNumber, IsOneCount};
 ghost use Rattle.room_records.specs.Names.{is_sid};
@@ -247,6 +247,32 @@ pub(crate) fn all_nodes(alloc: Global, rows: &[Row]) -> Result<Vec<Node>, Error>
     Ok(nodes)
 }
 
+/// What a row that shows name and kind lists: none where it has no name.
+fn listed_of(alloc: Global, row: &Row) -> Result<Option<(FileName, Kind)>, Error>
+    ensures value { IfOk result (λ listed. listed ≡ listed_of row.now) }
+    ensures refused { IfErr result (λ e. IsFault e → ¬ IsNameRow row.now) }
+{
+    let name = name_at(alloc, row, 0)?;
+    let kind = kind_at(row, 1)?;
+    match name {
+        Some(name) => Ok(Some((name, kind))),
+        None => Ok(None),
+    }
+}
+
+pub(crate) fn all_names(alloc: Global, rows: &[Row]) -> Result<Vec<(FileName, Kind)>, Error>
+    ensures value { IfOk result (λ names. names.items ≡ filter_map listed_of rows.now) }
+    ensures refused { IfErr result (λ e. IsFault e → ¬ AllByRecursion IsNameRow rows.now) }
+{
+    let mut names = Vec::new(alloc);
+    for row in rows {
+        if let Some(listed) = listed_of(alloc, row)? {
+            names.push(listed)?;
+        }
+    }
+    Ok(names)
+}
+
 /// The one row, as a node.
 pub(crate) fn one_node(alloc: Global, rows: &[Row]) -> Result<Option<Node>, Error>
     ensures value { IfOk result (λ node. node ≡ option_map node_of (only rows.now)) }
@@ -337,6 +363,17 @@ fn session_of(alloc: Global, sid: &Sid, row: &Row) -> Result<SessionRow, Error>
     })
 }
 
+/// How long a document is, and 0 where there is none.
+pub(crate) fn one_size(rows: &[Row]) -> Result<u64, Error>
+    ensures value { IfOk result (λ size. size ≡ size_in rows.now) }
+    ensures refused { IfErr result (λ e. IsFault e → ¬ AllByRecursion (HasCount 0) rows.now) }
+{
+    match rows {
+        [row] => row.get(0),
+        _ => Ok(0),
+    }
+}
+
 /// The one row, as the session of this name.
 pub(crate) fn one_session(
     alloc: Global,
@@ -389,6 +426,17 @@ pub(crate) fn one_kept(rows: &[Row]) -> Result<Option<Kept>, Error>
 {
     match rows {
         [row] => Ok(Some(kept_of(row)?)),
+        _ => Ok(None),
+    }
+}
+
+/// The number of the one row, none where there is no row.
+pub(crate) fn one_seq(rows: &[Row]) -> Result<Option<u32>, Error>
+    ensures value { IfOk result (λ seq. seq ≡ option_map seq_of (only rows.now)) }
+    ensures refused { IfErr result (λ e. IsFault e → ¬ AllByRecursion (HasNumber 0) rows.now) }
+{
+    match rows {
+        [row] => Ok(Some(number_at(row, 0)?)),
         _ => Ok(None),
     }
 }

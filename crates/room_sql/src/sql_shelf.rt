@@ -8,11 +8,11 @@ ghost use Rattle.room_sql.specs.Known.{KnowsNothing};
 
 use crate::known::Known;
 use crate::rows::{
-    all_entries, all_nodes, first_node, one_count, one_doc, one_kept, one_node, one_number,
-    one_session,
+    all_entries, all_names, all_nodes, first_node, one_count, one_doc, one_kept, one_node,
+    one_number, one_seq, one_session, one_size,
 };
 use crate::{deciding, reads, writes};
-use room_acl::{Decision, Entry, Mask, Standing, Subject};
+use room_acl::{Decision, Entry, Kind, Mask, Standing, Subject};
 use room_records::{Change, FileName, Node, SessionRow, Shelf, ShelfFault, Sid};
 use room_slots::Kept;
 use sqlite::{Alter, Connection, Error, ErrorCode};
@@ -84,20 +84,21 @@ fn fault(failures: &mut u64, known: &mut Known, error: Error) -> ShelfFault
 }
 
 impl<S: Alter> Shelf for SqlShelf<S> {
-    ghost use Rattle.std.specs.Prelude.{◌≡◌, ◌⊎◌, [], ◌∷◌, pos, unwrap_or, OnOk};
+    ghost use Rattle.std.specs.Prelude.{◌≡◌, ◌⊎◌, [], ◌∷◌, length, pos, unwrap_or, OnOk};
     ghost use Rattle.std.specs.List.{AllByRecursion};
     ghost use Rattle.sqlite_value.specs.declared.value.Value.TheVariants.{Int, Text};
     ghost use Rattle.room_acl.specs.Access.{decision};
     ghost use Rattle.room_records.specs.Records.{Records};
-    ghost use Rattle.room_records.specs.Rules.{ObjectRules};
+    ghost use Rattle.room_records.specs.Rules.{NodeRules};
     ghost use Rattle.room_records.specs.Changes.{apply_changes, RulesHoldAfterEach, Untouched};
     ghost use Rattle.room_records.specs.Shelf.{ShelfCall, ShelfRead, Tells, fault_in, AreChildren};
-    ghost use Rattle.room_records.specs.Shelf.{IsChildCount, IsChildNamed};
+    ghost use Rattle.room_records.specs.Shelf.{AreNames, IsChildCount, IsChildNamed};
+    ghost use Rattle.room_slots.specs.Slots.{kept_seq};
     ghost use Rattle.room_tables.specs.Texts.{find_node_text, find_child_text, list_children_text, count_children_text};
     ghost use Rattle.room_tables.specs.Texts.{list_entries_text, find_doc_text, find_session_text, find_slot_text};
-    ghost use Rattle.room_tables.specs.Texts.{find_next_text};
+    ghost use Rattle.room_tables.specs.Texts.{find_next_text, list_names_text, find_seq_text, find_size_text};
     ghost use Rattle.room_sql.specs.Columns.{HasBytes, IsNodeRow, IsLawfulEntryRow, IsSessionRow, IsKeptRow};
-    ghost use Rattle.room_sql.specs.Columns.{IsOneNumber, IsOneCount};
+    ghost use Rattle.room_sql.specs.Columns.{HasNumber, HasCount, IsNameRow, IsOneNumber, IsOneCount};
     ghost use Rattle.sqlite.specs.State.{Survives};
     ghost use Rattle.room_tables.specs.Steps.{StaysRoom};
     ghost use Rattle.room_sql.specs.SqlView.{sql_view, ReadCause, DecisionCause, CommitCause};
@@ -147,7 +148,7 @@ impl<S: Alter> Shelf for SqlShelf<S> {
 
     fn children(&mut self, parent: u32) -> Result<Vec<Node>, ShelfFault>
         ensures value { Tells (sql_view S.Store self.old) (sql_view S.Store self.new) result (λ records found.
-            ObjectRules records.objects → AreChildren records.objects parent found.items) }
+            NodeRules records.objects.node → AreChildren records.objects parent found.items) }
         ensures there { (sql_view S.Store self.new).is_intact → OnOk result (sql_view S.Store self.new).is_available }
         ensures frame { ShelfRead (sql_view S.Store self.old) (sql_view S.Store self.new) (fault_in result) }
         ensures cause { ReadCause S.Store self.old self.new result
@@ -164,9 +165,29 @@ impl<S: Alter> Shelf for SqlShelf<S> {
         }
     }
 
+    /// The name and the kind of a row are all that it reads: another column of no value of its type is no fault here.
+    fn names(&mut self, parent: u32) -> Result<Vec<(FileName, Kind)>, ShelfFault>
+        ensures value { Tells (sql_view S.Store self.old) (sql_view S.Store self.new) result (λ records found.
+            NodeRules records.objects.node → AreNames records.objects parent found.items) }
+        ensures there { (sql_view S.Store self.new).is_intact → OnOk result (sql_view S.Store self.new).is_available }
+        ensures frame { ShelfRead (sql_view S.Store self.old) (sql_view S.Store self.new) (fault_in result) }
+        ensures cause { ReadCause S.Store self.old self.new result
+            list_names_text (Int (pos parent) ∷ []) (AllByRecursion IsNameRow) }
+    {
+        let _outside = self.conn.is_autocommit();
+        let rows = match reads::name_rows(&mut self.conn, parent) {
+            Ok(rows) => rows,
+            Err(error) => return Err(fault(&mut self.failures, &mut self.known, error)),
+        };
+        match all_names(self.alloc, rows.as_slice()) {
+            Ok(found) => Ok(found),
+            Err(error) => Err(fault(&mut self.failures, &mut self.known, error)),
+        }
+    }
+
     fn child_count(&mut self, parent: u32) -> Result<u64, ShelfFault>
         ensures value { Tells (sql_view S.Store self.old) (sql_view S.Store self.new) result (λ records count.
-            ObjectRules records.objects → IsChildCount records.objects parent count) }
+            NodeRules records.objects.node → IsChildCount records.objects parent count) }
         ensures there { (sql_view S.Store self.new).is_intact → OnOk result (sql_view S.Store self.new).is_available }
         ensures frame { ShelfRead (sql_view S.Store self.old) (sql_view S.Store self.new) (fault_in result) }
         ensures cause { ReadCause S.Store self.old self.new result
@@ -247,6 +268,27 @@ impl<S: Alter> Shelf for SqlShelf<S> {
         }
     }
 
+    fn doc_size(&mut self, id: u32) -> Result<u64, ShelfFault>
+        ensures value { Tells (sql_view S.Store self.old) (sql_view S.Store self.new) result (λ records found.
+            found ≡ length (unwrap_or (records.objects.document id) [])) }
+        ensures there { (sql_view S.Store self.new).is_intact → OnOk result (sql_view S.Store self.new).is_available }
+        ensures frame { ShelfRead (sql_view S.Store self.old) (sql_view S.Store self.new) (fault_in result) }
+        ensures cause { ReadCause S.Store self.old self.new result
+            find_size_text (Int (pos id) ∷ []) (AllByRecursion (HasCount 0)) }
+    {
+        let _outside = self.conn.is_autocommit();
+        // The database is sound, so the column holds bytes.
+        let _live = self.conn.schema();
+        let rows = match reads::size_rows(&mut self.conn, id) {
+            Ok(rows) => rows,
+            Err(error) => return Err(fault(&mut self.failures, &mut self.known, error)),
+        };
+        match one_size(rows.as_slice()) {
+            Ok(found) => Ok(found),
+            Err(error) => Err(fault(&mut self.failures, &mut self.known, error)),
+        }
+    }
+
     fn session(&mut self, sid: &Sid) -> Result<Option<SessionRow>, ShelfFault>
         ensures value { Tells (sql_view S.Store self.old) (sql_view S.Store self.new)
             result (λ records found. found ≡ records.session sid.now) }
@@ -280,6 +322,25 @@ impl<S: Alter> Shelf for SqlShelf<S> {
             Err(error) => return Err(fault(&mut self.failures, &mut self.known, error)),
         };
         match one_kept(rows.as_slice()) {
+            Ok(found) => Ok(found),
+            Err(error) => Err(fault(&mut self.failures, &mut self.known, error)),
+        }
+    }
+
+    fn slot_seq(&mut self, sid: &Sid, slot: u32) -> Result<Option<u32>, ShelfFault>
+        ensures value { Tells (sql_view S.Store self.old) (sql_view S.Store self.new)
+            result (λ records found. found ≡ kept_seq (records.slot sid.now slot)) }
+        ensures there { (sql_view S.Store self.new).is_intact → OnOk result (sql_view S.Store self.new).is_available }
+        ensures frame { ShelfRead (sql_view S.Store self.old) (sql_view S.Store self.new) (fault_in result) }
+        ensures cause { ReadCause S.Store self.old self.new result find_seq_text
+            (Text sid.now ∷ Int (pos slot) ∷ []) (AllByRecursion (HasNumber 0)) }
+    {
+        let _outside = self.conn.is_autocommit();
+        let rows = match reads::seq_rows(&mut self.conn, sid.text(), slot) {
+            Ok(rows) => rows,
+            Err(error) => return Err(fault(&mut self.failures, &mut self.known, error)),
+        };
+        match one_seq(rows.as_slice()) {
             Ok(found) => Ok(found),
             Err(error) => Err(fault(&mut self.failures, &mut self.known, error)),
         }
@@ -329,7 +390,7 @@ impl<S: Alter> Shelf for SqlShelf<S> {
         ensures cause { CommitCause S.Store self.old self.new result changes.now }
     {
         let _outside = self.conn.is_autocommit();
-        match writes::commit(&mut self.conn, changes) {
+        match writes::commit(&mut self.conn, self.known.free(), changes) {
             Ok(()) => {
                 self.known = self.known.after(changes);
                 Ok(())

@@ -5,13 +5,12 @@ ghost use Rattle.sqlite_value.specs.declared.value.Value.TheVariants.{Int};
 ghost use Rattle.sqlite.specs.Effect.{Database, IsDatabase};
 ghost use Rattle.sqlite.specs.State.{HasCleanDisk, Survives};
 ghost use Rattle.sqlite.specs.Held.{state};
-ghost use Rattle.room_records.specs.declared.change.Change.TheVariants.{PutNext};
 ghost use Rattle.room_tables.specs.Rows.{records_of};
 ghost use Rattle.room_tables.specs.Layout.{IsRoomOfVersion1};
 ghost use Rattle.room_tables.specs.Upgrade.{others_than, IsShared, IsMoving, IsMovedOut, CopiesRow, IsMoved};
 ghost use Rattle.room_tables.specs.Upgrade.{IsUpgraded, MayBeUpgraded, MayBeMovedWith};
 ghost use Rattle.room_tables.specs.Texts.{copy_row_text, take_row_text};
-ghost use Rattle.room_sql.specs.Causes.{statement, writes_of, RunInTurn, make_writes, MovesRow, MovesInTurn};
+ghost use Rattle.room_sql.specs.Causes.{statement, next_write, RunInTurn, make_writes, MovesRow, MovesInTurn};
 ghost use Rattle.room_sql.specs.Causes.{UpgradeFails, CannotUpgrade};
 ghost use Rattle.room_sql.specs.Frames.{InsideFrame, CommitFrame};
 
@@ -116,7 +115,7 @@ fn move_room<S: Alter>(tx: &mut Transaction<'_, S>, next: u32) -> Result<(), Err
         (records_of (state S.Store tx.old.conn.now).now.trees).objects.next ≡ next →
         IsUpgraded (state S.Store tx.old.conn.now).now (state S.Store tx.new.conn.now).now)) }
     ensures ran { HasCleanDisk (state S.Store tx.new.conn.now) → tx.old.conn.now.in_transaction ≡ true →
-        MovesInTurn S.Store make_writes (writes_of (PutNext next)) tx.old.conn.now tx.new.conn.now result }
+        MovesInTurn S.Store make_writes (next_write next ∷ []) tx.old.conn.now tx.new.conn.now result }
 {
     move_slots(tx)?;
     put_next(tx, next)

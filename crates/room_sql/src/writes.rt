@@ -13,12 +13,17 @@ ghost use Rattle.room_records.specs.declared.change.Change.TheVariants.{PutSessi
 ghost use Rattle.room_tables.specs.Tables.{Upgraded, room_schema};
 ghost use Rattle.room_tables.specs.Rows.{version_rows, IsVersion};
 ghost use Rattle.room_tables.specs.Layout.{IsRoomDatabase};
-ghost use Rattle.room_tables.specs.Steps.{Steps, Lists, MayBecome, StaysRoom};
+ghost use Rattle.room_tables.specs.Rows.{records_of};
+ghost use Rattle.room_tables.specs.Steps.{Steps, SeesSound, Lists, MayBecome, StaysRoom};
 ghost use Rattle.room_sql.specs.Causes.{statement, statement_or, RanText, RunInTurn, writes_of, writes_of_all};
-ghost use Rattle.room_sql.specs.Causes.{entry_writes, entries_drop, IsShort, CommitFails};
+ghost use Rattle.room_sql.specs.Causes.{node_write, node_add, node_drop, entry_writes, entries_drop};
+ghost use Rattle.room_sql.specs.Causes.{doc_write, doc_add};
+ghost use Rattle.room_sql.specs.Causes.{session_write, slot_write, slots_drop, next_write, IsShort, CommitFails};
+ghost use Rattle.room_sql.specs.NewObject.{after_change, IsSo};
 ghost use Rattle.room_sql.specs.Frames.{InsideFrame, CommitFrame};
 ghost use Rattle.room_sql.specs.NodeRows.{AfterAll};
 
+use crate::new_object::NewObject;
 use crate::values::{
     entry_row, flag_number, group_text, kept_number, kept_reply, kept_request, kind_number,
     list_flags, name_text, node_number, owner_text, parent_value,
@@ -81,14 +86,41 @@ fn run_or<S: Alter>(
     }
 }
 
-/// Adds or replaces the row of the node's number. Entries and document stay.
+/// Replaces the row of the node's number, and adds it where there was none. Entries and document stay.
 pub(crate) fn put_node<S: Alter>(tx: &mut Transaction<'_, S>, node: &Node) -> Result<(), Error>
     ensures frame { InsideFrame S.Store tx.old tx.new result }
     ensures ok { HasCleanDisk (state S.Store tx.new.conn.now)
         → OnOk result (IsRoomDatabase (state S.Store tx.old.conn.now).now →
         Steps (state S.Store tx.old.conn.now) (state S.Store tx.new.conn.now) (apply_change (PutNode node.now))) }
     ensures ran { HasCleanDisk (state S.Store tx.new.conn.now) → tx.old.conn.now.in_transaction ≡ true
-        → RunInTurn S.Store (writes_of (PutNode node.now)) tx.old.conn.now tx.new.conn.now result }
+        → RunInTurn S.Store (node_write node.now ∷ []) tx.old.conn.now tx.new.conn.now result }
+{
+    let name = name_text(node);
+    let id = node_number(node);
+    let parent = parent_value(node);
+    let kind = kind_number(node);
+    let owner = owner_text(node);
+    let group = group_text(node);
+    let aclflag = list_flags(node);
+    run_or(
+        tx,
+        "UPDATE node SET parent = ?2, name = ?3, kind = ?4, owner = ?5, grp = ?6, aclflag = ?7 WHERE id = ?1",
+        "INSERT INTO node (id, parent, name, kind, owner, grp, aclflag) VALUES (?1, ?2, ?3, ?4, ?5, ?6, ?7)",
+        params![id, &parent, name, kind, owner, group, aclflag],
+    )
+}
+
+/// Adds the row of a node whose number no row has. An UPDATE that finds none costs a third as much again.
+fn put_new_node<S: Alter>(tx: &mut Transaction<'_, S>, node: &Node) -> Result<(), Error>
+    ensures frame { InsideFrame S.Store tx.old tx.new result }
+    ensures ok { HasCleanDisk (state S.Store tx.new.conn.now)
+        → OnOk result (IsRoomDatabase (state S.Store tx.old.conn.now).now →
+        Steps (state S.Store tx.old.conn.now) (state S.Store tx.new.conn.now) (apply_change (PutNode node.now))) }
+    ensures bare { HasCleanDisk (state S.Store tx.new.conn.now)
+        → OnOk result (IsRoomDatabase (state S.Store tx.old.conn.now).now → SeesSound (state S.Store tx.old.conn.now) →
+        (records_of (state S.Store tx.new.conn.now).now.trees).objects.entries node.now.id ≡ []) }
+    ensures ran { HasCleanDisk (state S.Store tx.new.conn.now) → tx.old.conn.now.in_transaction ≡ true
+        → RunInTurn S.Store (node_add node.now ∷ []) tx.old.conn.now tx.new.conn.now result }
 {
     let name = name_text(node);
     let id = node_number(node);
@@ -99,9 +131,7 @@ pub(crate) fn put_node<S: Alter>(tx: &mut Transaction<'_, S>, node: &Node) -> Re
     let aclflag = list_flags(node);
     run(
         tx,
-        "INSERT INTO node (id, parent, name, kind, owner, grp, aclflag) VALUES (?1, ?2, ?3, ?4, ?5, ?6, \
-         ?7) ON CONFLICT (id) DO UPDATE SET parent = excluded.parent, name = excluded.name, \
-         kind = excluded.kind, owner = excluded.owner, grp = excluded.grp, aclflag = excluded.aclflag",
+        "INSERT INTO node (id, parent, name, kind, owner, grp, aclflag) VALUES (?1, ?2, ?3, ?4, ?5, ?6, ?7)",
         params![id, &parent, name, kind, owner, group, aclflag],
     )
 }
@@ -113,7 +143,7 @@ fn drop_node<S: Alter>(tx: &mut Transaction<'_, S>, id: u32) -> Result<(), Error
         → OnOk result (IsRoomDatabase (state S.Store tx.old.conn.now).now →
         Steps (state S.Store tx.old.conn.now) (state S.Store tx.new.conn.now) (apply_change (DropNode id))) }
     ensures ran { HasCleanDisk (state S.Store tx.new.conn.now) → tx.old.conn.now.in_transaction ≡ true
-        → RunInTurn S.Store (writes_of (DropNode id)) tx.old.conn.now tx.new.conn.now result }
+        → RunInTurn S.Store (node_drop id ∷ []) tx.old.conn.now tx.new.conn.now result }
 {
     run(tx, "DELETE FROM node WHERE id = ?1", params![id])
 }
@@ -363,25 +393,65 @@ pub(crate) fn put_entries<S: Alter>(
         (apply_change (PutEntries id entries.now))) }
     ensures ran { HasCleanDisk (state S.Store tx.new.conn.now)
         → tx.old.conn.now.in_transaction ≡ true → length entries.now.items < 2 ^ 32
-        → RunInTurn S.Store (writes_of (PutEntries id entries.now)) tx.old.conn.now tx.new.conn.now result }
+        → RunInTurn S.Store (entries_drop id ∷ entry_writes id 0 entries.now.items)
+        tx.old.conn.now tx.new.conn.now result }
     ensures short { OnOk result (length entries.now.items < 2 ^ 32) }
 {
     clear_entries(tx, id)?;
     add_entries(tx, id, entries.as_slice())
 }
 
-/// Adds or replaces the document.
+/// Puts the entries of an object that was just added, and has none. Their places are 0, 1, 2, ..
+fn put_new_entries<S: Alter>(
+    tx: &mut Transaction<'_, S>,
+    id: u32,
+    entries: &Vec<Entry>,
+) -> Result<(), Error>
+    requires { HasCleanDisk (state S.Store tx.old.conn.now) → tx.old.conn.now.in_transaction ≡ true }
+    ensures frame { InsideFrame S.Store tx.old tx.new result }
+    ensures ok { HasCleanDisk (state S.Store tx.new.conn.now)
+        → OnOk result (IsRoomDatabase (state S.Store tx.old.conn.now).now →
+        (records_of (state S.Store tx.old.conn.now).now.trees).objects.entries id ≡ [] →
+        Steps (state S.Store tx.old.conn.now) (state S.Store tx.new.conn.now)
+        (apply_change (PutEntries id entries.now))) }
+    ensures ran { HasCleanDisk (state S.Store tx.new.conn.now)
+        → tx.old.conn.now.in_transaction ≡ true → length entries.now.items < 2 ^ 32
+        → RunInTurn S.Store (entry_writes id 0 entries.now.items) tx.old.conn.now tx.new.conn.now result }
+    ensures short { OnOk result (length entries.now.items < 2 ^ 32) }
+{
+    add_entries(tx, id, entries.as_slice())
+}
+
+/// Replaces the document, and adds it where there was none. An upsert costs more than the one statement that it comes
+/// to.
 fn put_doc<S: Alter>(tx: &mut Transaction<'_, S>, id: u32, bytes: &Vec<u8>) -> Result<(), Error>
     ensures frame { InsideFrame S.Store tx.old tx.new result }
     ensures ok { HasCleanDisk (state S.Store tx.new.conn.now)
         → OnOk result (IsRoomDatabase (state S.Store tx.old.conn.now).now →
         Steps (state S.Store tx.old.conn.now) (state S.Store tx.new.conn.now) (apply_change (PutDoc id bytes.now))) }
     ensures ran { HasCleanDisk (state S.Store tx.new.conn.now) → tx.old.conn.now.in_transaction ≡ true
-        → RunInTurn S.Store (writes_of (PutDoc id bytes.now)) tx.old.conn.now tx.new.conn.now result }
+        → RunInTurn S.Store (doc_write id bytes.now.items ∷ []) tx.old.conn.now tx.new.conn.now result }
+{
+    run_or(
+        tx,
+        "UPDATE doc SET bytes = ?2 WHERE node = ?1",
+        "INSERT INTO doc (node, bytes) VALUES (?1, ?2)",
+        params![id, bytes],
+    )
+}
+
+/// Adds the document of an object that was just added, and has none.
+fn put_new_doc<S: Alter>(tx: &mut Transaction<'_, S>, id: u32, bytes: &Vec<u8>) -> Result<(), Error>
+    ensures frame { InsideFrame S.Store tx.old tx.new result }
+    ensures ok { HasCleanDisk (state S.Store tx.new.conn.now)
+        → OnOk result (IsRoomDatabase (state S.Store tx.old.conn.now).now →
+        Steps (state S.Store tx.old.conn.now) (state S.Store tx.new.conn.now) (apply_change (PutDoc id bytes.now))) }
+    ensures ran { HasCleanDisk (state S.Store tx.new.conn.now) → tx.old.conn.now.in_transaction ≡ true
+        → RunInTurn S.Store (doc_add id bytes.now.items ∷ []) tx.old.conn.now tx.new.conn.now result }
 {
     run(
         tx,
-        "INSERT INTO doc (node, bytes) VALUES (?1, ?2) ON CONFLICT (node) DO UPDATE SET bytes = excluded.bytes",
+        "INSERT INTO doc (node, bytes) VALUES (?1, ?2)",
         params![id, bytes],
     )
 }
@@ -393,7 +463,7 @@ fn put_session<S: Alter>(tx: &mut Transaction<'_, S>, row: &SessionRow) -> Resul
         → OnOk result (IsRoomDatabase (state S.Store tx.old.conn.now).now →
         Steps (state S.Store tx.old.conn.now) (state S.Store tx.new.conn.now) (apply_change (PutSession row.now))) }
     ensures ran { HasCleanDisk (state S.Store tx.new.conn.now) → tx.old.conn.now.in_transaction ≡ true
-        → RunInTurn S.Store (writes_of (PutSession row.now)) tx.old.conn.now tx.new.conn.now result }
+        → RunInTurn S.Store (session_write row.now ∷ []) tx.old.conn.now tx.new.conn.now result }
 {
     let sid = row.sid.text();
     let owner = row.owner.text();
@@ -414,7 +484,7 @@ fn put_slot<S: Alter>(tx: &mut Transaction<'_, S>, row: &SlotRow) -> Result<(), 
         → OnOk result (IsRoomDatabase (state S.Store tx.old.conn.now).now →
         Steps (state S.Store tx.old.conn.now) (state S.Store tx.new.conn.now) (apply_change (PutSlot row.now))) }
     ensures ran { HasCleanDisk (state S.Store tx.new.conn.now) → tx.old.conn.now.in_transaction ≡ true
-        → RunInTurn S.Store (writes_of (PutSlot row.now)) tx.old.conn.now tx.new.conn.now result }
+        → RunInTurn S.Store (slot_write row.now ∷ []) tx.old.conn.now tx.new.conn.now result }
 {
     let sid = row.sid.text();
     let slot = row.slot;
@@ -436,13 +506,14 @@ fn drop_slots<S: Alter>(tx: &mut Transaction<'_, S>, sid: &Sid) -> Result<(), Er
         → OnOk result (IsRoomDatabase (state S.Store tx.old.conn.now).now →
         Steps (state S.Store tx.old.conn.now) (state S.Store tx.new.conn.now) (apply_change (DropSlots sid.now))) }
     ensures ran { HasCleanDisk (state S.Store tx.new.conn.now) → tx.old.conn.now.in_transaction ≡ true
-        → RunInTurn S.Store (writes_of (DropSlots sid.now)) tx.old.conn.now tx.new.conn.now result }
+        → RunInTurn S.Store (slots_drop sid.now ∷ []) tx.old.conn.now tx.new.conn.now result }
 {
     let sid = sid.text();
     run(tx, "DELETE FROM kept WHERE sid = ?1", params![sid])
 }
 
-/// Sets the next number, in a row of version 2. A table `slot` beside stays as it is.
+/// Sets the next number, in a row of version 2, and adds the row where there was none: an upsert costs more than that.
+/// A table `slot` beside stays as it is.
 pub(crate) fn put_next<S: Alter>(tx: &mut Transaction<'_, S>, next: u32) -> Result<(), Error>
     ensures frame { InsideFrame S.Store tx.old tx.new result }
     ensures ok { HasCleanDisk (state S.Store tx.new.conn.now)
@@ -455,29 +526,40 @@ pub(crate) fn put_next<S: Alter>(tx: &mut Transaction<'_, S>, next: u32) -> Resu
         × ((state S.Store tx.old.conn.now).now.schema ≡ room_schema Upgraded →
         (state S.Store tx.new.conn.now).now.trees 8 ≡ (state S.Store tx.old.conn.now).now.trees 8)) }
     ensures ran { HasCleanDisk (state S.Store tx.new.conn.now) → tx.old.conn.now.in_transaction ≡ true
-        → RunInTurn S.Store (writes_of (PutNext next)) tx.old.conn.now tx.new.conn.now result }
+        → RunInTurn S.Store (next_write next ∷ []) tx.old.conn.now tx.new.conn.now result }
 {
-    run(
+    run_or(
         tx,
-        "INSERT INTO room (one, version, next) VALUES (1, 2, ?1) ON CONFLICT (one) DO UPDATE SET version = \
-         excluded.version, next = excluded.next",
+        "UPDATE room SET version = 2, next = ?1 WHERE one = 1",
+        "INSERT INTO room (one, version, next) VALUES (1, 2, ?1)",
         params![next],
     )
 }
 
-fn apply<S: Alter>(tx: &mut Transaction<'_, S>, change: &Change) -> Result<(), Error>
+/// Makes a change. Where what is known of the object leaves no row to be sought, rows are added alone.
+fn apply<S: Alter>(
+    tx: &mut Transaction<'_, S>,
+    object: NewObject,
+    change: &Change,
+) -> Result<(), Error>
+    requires { HasCleanDisk (state S.Store tx.old.conn.now) → tx.old.conn.now.in_transaction ≡ true }
     ensures frame { InsideFrame S.Store tx.old tx.new result }
     ensures ok { HasCleanDisk (state S.Store tx.new.conn.now)
-        → OnOk result (IsRoomDatabase (state S.Store tx.old.conn.now).now →
-        Steps (state S.Store tx.old.conn.now) (state S.Store tx.new.conn.now) (apply_change change.now)) }
+        → OnOk result (IsRoomDatabase (state S.Store tx.old.conn.now).now → SeesSound (state S.Store tx.old.conn.now) →
+        IsSo object (state S.Store tx.old.conn.now).now.trees →
+        Steps (state S.Store tx.old.conn.now) (state S.Store tx.new.conn.now) (apply_change change.now)
+        × IsSo (after_change object change.now) (state S.Store tx.new.conn.now).now.trees) }
     ensures ran { HasCleanDisk (state S.Store tx.new.conn.now) → tx.old.conn.now.in_transaction ≡ true
-        → IsShort change.now → RunInTurn S.Store (writes_of change.now) tx.old.conn.now tx.new.conn.now result }
+        → IsShort change.now → RunInTurn S.Store (writes_of object change.now) tx.old.conn.now tx.new.conn.now result }
     ensures short { OnOk result (IsShort change.now) }
 {
     match change {
+        Change::PutNode(node) if object.is_free(node.id) => put_new_node(tx, node),
         Change::PutNode(node) => put_node(tx, node),
         Change::DropNode(id) => drop_node(tx, *id),
+        Change::PutEntries(id, entries) if object.is_bare(*id) => put_new_entries(tx, *id, entries),
         Change::PutEntries(id, entries) => put_entries(tx, *id, entries),
+        Change::PutDoc(id, bytes) if object.lacks_doc(*id) => put_new_doc(tx, *id, bytes),
         Change::PutDoc(id, bytes) => put_doc(tx, *id, bytes),
         Change::PutSession(row) => put_session(tx, row),
         Change::PutSlot(row) => put_slot(tx, row),
@@ -486,26 +568,38 @@ fn apply<S: Alter>(tx: &mut Transaction<'_, S>, change: &Change) -> Result<(), E
     }
 }
 
-fn apply_all<S: Alter>(tx: &mut Transaction<'_, S>, changes: &[Change]) -> Result<(), Error>
-    requires { tx.old.conn.now.in_transaction ≡ true }
+fn apply_all<S: Alter>(
+    tx: &mut Transaction<'_, S>,
+    object: NewObject,
+    changes: &[Change],
+) -> Result<(), Error>
+    requires inside { tx.old.conn.now.in_transaction ≡ true }
+    requires sound { SeesSound (state S.Store tx.old.conn.now) }
+    requires so { IsSo object (state S.Store tx.old.conn.now).now.trees }
     ensures frame { InsideFrame S.Store tx.old tx.new result }
     ensures ok { HasCleanDisk (state S.Store tx.new.conn.now)
         → OnOk result (IsRoomDatabase (state S.Store tx.old.conn.now).now →
         Steps (state S.Store tx.old.conn.now) (state S.Store tx.new.conn.now) (apply_changes changes.now)) }
     ensures ran { HasCleanDisk (state S.Store tx.new.conn.now) → AllByRecursion IsShort changes.now
-        → RunInTurn S.Store (writes_of_all changes.now) tx.old.conn.now tx.new.conn.now result }
+        → RunInTurn S.Store (writes_of_all object changes.now) tx.old.conn.now tx.new.conn.now result }
     ensures nodes { HasCleanDisk (state S.Store tx.new.conn.now)
         → OnOk result (IsRoomDatabase (state S.Store tx.old.conn.now).now → AfterAll changes.now
         ((state S.Store tx.old.conn.now).now.trees 1) ((state S.Store tx.new.conn.now).now.trees 1)) }
 {
+    let mut known = object;
     for change in changes {
-        apply(tx, change)?;
+        apply(tx, known, change)?;
+        known = known.after(change);
     }
     Ok(())
 }
 
-/// All changes in order, or none, also over a crash.
-pub(crate) fn commit<S: Alter>(conn: &mut Connection<S>, changes: &[Change]) -> Result<(), Error>
+/// All changes in order, or none, also over a crash. No row of `node` has the number that is free, if one is known.
+pub(crate) fn commit<S: Alter>(
+    conn: &mut Connection<S>,
+    free: Option<u32>,
+    changes: &[Change],
+) -> Result<(), Error>
     requires { conn.old.in_transaction ≡ false }
     ensures frame { CommitFrame S.Store (MayBecome changes.now) conn.old conn.new result }
     ensures ok { HasCleanDisk (state S.Store conn.new)
@@ -522,11 +616,13 @@ pub(crate) fn commit<S: Alter>(conn: &mut Connection<S>, changes: &[Change]) -> 
     ensures stays { Survives (state S.Store conn.old) (state S.Store conn.new)
         (StaysRoom (state S.Store conn.old).now) }
     ensures failed { HasCleanDisk (state S.Store conn.new) → AllByRecursion IsShort changes.now
-        → IfErr result (CommitFails S.Store changes.now conn.old conn.new) }
+        → IfErr result (CommitFails S.Store free changes.now conn.old conn.new) }
     ensures err { HasCleanDisk (state S.Store conn.new) → IsTrue (state S.Store conn.new).is_open
         → OnErr result ((state S.Store conn.new).now ≡ (state S.Store conn.old).committed) }
 {
+    // The database is sound.
+    let _live = conn.schema();
     let mut tx = conn.transaction();
-    apply_all(&mut tx, changes)?;
+    apply_all(&mut tx, NewObject::before_all(free), changes)?;
     tx.commit()
 }

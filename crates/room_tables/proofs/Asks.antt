@@ -8,7 +8,8 @@ use Rattle.std.proofs.lemmas.List.{length-map}
 use Rattle.sqlite_value.specs.declared.value.Value.TheVariants.{Null, Int, Text}
 use Rattle.sqlite_value.specs.Order.{Row, column}
 use Rattle.sqlite_trees.specs.Tree.{Trees, IsAscending}
-use Rattle.sqlite_sql.specs.Term.{Term, Env, holds}
+use Rattle.sqlite_sql.specs.Ops.{unary}
+use Rattle.sqlite_sql.specs.Term.{Term, Env, eval_all, holds}
 use Rattle.sqlite_sql.specs.Query.{IsAnswer, Output, output, key_cmp}
 use Rattle.sqlite_sql.specs.Group.{value_over, IsSummary}
 use Rattle.sqlite_sql.proofs.QueryLemmas.{key_cmp_total}
@@ -26,17 +27,18 @@ use Rattle.room_tables.specs.Texts.{list_children_text, list_children_query, cou
 use Rattle.room_tables.specs.Texts.{counted, all_rows, list_entries_text, list_entries_query, find_doc_text}
 use Rattle.room_tables.specs.Texts.{find_doc_query, find_session_text, find_session_query, find_slot_text}
 use Rattle.room_tables.specs.Texts.{find_slot_query, find_next_text, find_next_query, find_version_text}
-use Rattle.room_tables.specs.Texts.{find_version_query}
+use Rattle.room_tables.specs.Texts.{find_version_query, find_seq_text, find_seq_query, find_size_text, find_size_query}
 use Rattle.room_tables.specs.Rows.{has, has_text, is_child_named, is_slot, shown_node, node_rows, named_rows}
 use Rattle.room_tables.specs.Rows.{child_rows, shown_entry, entry_rows, IsEntryRow, HasEntryColumns, shown_doc}
 use Rattle.room_tables.specs.Rows.{doc_rows, shown_session, session_rows, shown_slot, slot_rows, shown_next, next_rows}
-use Rattle.room_tables.specs.Rows.{shown_version, version_rows, IsVersion}
+use Rattle.room_tables.specs.Rows.{shown_version, version_rows, IsVersion, shown_seq, seq_rows, shown_size, size_rows}
 use Rattle.room_tables.specs.Versions.{TellsVersion}
 use Rattle.room_tables.proofs.Meaning.{find_node_is, find_node_plain, find_child_is, find_child_plain, list_children_is}
 use Rattle.room_tables.proofs.Meaning.{list_children_plain, count_children_is, count_children_plain, list_entries_is}
 use Rattle.room_tables.proofs.Meaning.{list_entries_plain, find_doc_is, find_doc_plain, find_session_is}
 use Rattle.room_tables.proofs.Meaning.{find_session_plain, find_slot_is, find_slot_plain, find_next_is, find_next_plain}
-use Rattle.room_tables.proofs.Meaning.{find_version_is, find_version_plain}
+use Rattle.room_tables.proofs.Meaning.{find_version_is, find_version_plain, find_seq_is, find_seq_plain}
+use Rattle.room_tables.proofs.Meaning.{find_size_is, find_size_plain}
 use Rattle.room_tables.specs.Names.{name_keys, name_key, ByName, counted_row}
 use Rattle.room_tables.proofs.Queries.{passing, and_true, picked, found, listed, envs_are, sorted_keys}
 use Rattle.room_tables.proofs.Queries.{only_permuted}
@@ -134,6 +136,18 @@ asks_doc old new id rows room h =
     (picked (room_schema room.layout) old new find_doc_text _ 5 _ _ [] _ rows room.schema (find_doc_is room.layout)
     (find_doc_plain room.layout) refl h)
 
+size_is : (id : ℕ) (r : Row) → eval_all find_size_query.project ((Int (pos id) ∷ []) ∷ r ∷ []) ≡ shown_size r
+unfolding unary
+size_is id r = refl
+
+pub asks_size : (old new : State) (id : ℕ) (rows : List Row) → IsRoomDatabase old.now
+    → Shown find_size_text (Int (pos id) ∷ []) old new rows → IsPermutation (size_rows old.now.trees id) rows
+asks_size old new id rows room h =
+    found find_size_query (Int (pos id) ∷ []) (old.now.trees 5) rows
+    (has 0 id) shown_size (λ r. and_true (has 0 id r)) (size_is id)
+    (picked (room_schema room.layout) old new find_size_text _ 5 _ _ [] _ rows room.schema (find_size_is room.layout)
+    (find_size_plain room.layout) refl h)
+
 pub asks_session : (old new : State) (sid : List ℕ) (rows : List Row) → IsRoomDatabase old.now
     → Shown find_session_text (Text sid ∷ []) old new rows → IsPermutation (session_rows old.now.trees sid) rows
 asks_session old new sid rows room h =
@@ -152,6 +166,17 @@ asks_slot old new sid slot rows room h =
     shown_slot (λ r. ap (λ b. has_text 1 sid r && b) (and_true (has 2 slot r))) (λ r. refl)
     (picked (room_schema room.layout) old new find_slot_text _ (slots_tree room.layout) _ _ [] _ rows room.schema
     (find_slot_is room.layout) (find_slot_plain room.layout) (slots_seen room.layout old.now.trees) h))
+
+pub asks_seq : (old new : State) (sid : List ℕ) (slot : ℕ) (rows : List Row)
+    → IsRoomDatabase old.now → Shown find_seq_text (Text sid ∷ Int (pos slot) ∷ []) old new rows
+    → IsPermutation (seq_rows old.now.trees sid slot) rows
+asks_seq old new sid slot rows room h =
+    subst (λ all. IsPermutation (map shown_seq (filter (is_slot sid slot) all)) rows) (sym room.listed)
+    (found (find_seq_query (slots_tree room.layout)) (Text sid ∷ Int (pos slot) ∷ [])
+    (old.now.trees (slots_tree room.layout)) rows (is_slot sid slot)
+    shown_seq (λ r. ap (λ b. has_text 1 sid r && b) (and_true (has 2 slot r))) (λ r. refl)
+    (picked (room_schema room.layout) old new find_seq_text _ (slots_tree room.layout) _ _ [] _ rows room.schema
+    (find_seq_is room.layout) (find_seq_plain room.layout) (slots_seen room.layout old.now.trees) h))
 
 pub asks_next : (more : List Table) (others : List Index) (old new : State) (rows : List Row)
     → old.now.schema ≡ with_last more others

@@ -26,7 +26,7 @@ use Rattle.sqlite.specs.Effect.{Database}
 use Rattle.room_records.specs.declared.node.Node.{Node}
 use Rattle.room_records.specs.Names.{name_cmp}
 use Rattle.room_records.specs.Records.{ObjectRecords, IsChild}
-use Rattle.room_records.specs.Rules.{ObjectRules}
+use Rattle.room_records.specs.Rules.{NodeRules}
 use Rattle.room_records.specs.Shelf.{AreChildren, IsChildCount, IsChildNamed, InNameOrder, name_of}
 use Rattle.room_tables.specs.Rows.{has, is_child_named, only, number_in, parent_in, name_of_text, name_in, shown_node}
 use Rattle.room_tables.specs.Rows.{node_of, nodes_in, named_rows, child_rows, records_of}
@@ -149,8 +149,9 @@ record Shown (t : ObjectRecords) (p : ℕ) (s : Row) : Type 0 where
   has_text_in : column s 2 ≡ Text text
   child : IsChild t p (node_of s)
 
-child_shown : (db : Database) (p : ℕ) (rows : List Row) → IsRoomDatabase db → ObjectRules (records_of db.trees).objects
-    → IsPermutation (child_rows db.trees p) rows → AllByRecursion (Shown (records_of db.trees).objects p) rows
+child_shown : (db : Database) (p : ℕ) (rows : List Row) → IsRoomDatabase db
+    → NodeRules (records_of db.trees).objects.node → IsPermutation (child_rows db.trees p) rows
+    → AllByRecursion (Shown (records_of db.trees).objects p) rows
 child_shown db p rows room rules same = all_from (Shown (records_of db.trees).objects p) rows (λ s h.
     let shown = has_mapped shown_node (filter (has 2 p) (db.trees 1)) s (has_permuted _ rows s same h) in
     let r = shown.0 in
@@ -181,7 +182,7 @@ shown_name s t e = ap (λ v. unwrap_or (name_in v) []) e ∙ text_back t
 
 -- two rows of one folder that have one name have one number
 same_number : (t : ObjectRecords) (p : ℕ) (a b : Row) (x : Shown t p a) (y : Shown t p b)
-    → ObjectRules t → x.text ≡ y.text → x.id ≡ y.id
+    → NodeRules t.node → x.text ≡ y.text → x.id ≡ y.id
 same_number t p a b x y rules same =
     let name : (node_of a).name ≡ (node_of b).name = ap name_in (x.has_text_in ∙ ap Text same ∙ sym y.has_text_in) in
     sym (ap number_in x.has_id) ∙ rules.once (node_of a) (node_of b) x.child.stands
@@ -192,7 +193,7 @@ not_greater Less h apart = refl
 not_greater Equal h apart = absurd (apart refl)
 not_greater Greater h apart = absurd (true≢false h)
 
-in_order : (t : ObjectRecords) (p : ℕ) (rows : List Row) → ObjectRules t → AllByRecursion (Shown t p) rows
+in_order : (t : ObjectRecords) (p : ℕ) (rows : List Row) → NodeRules t.node → AllByRecursion (Shown t p) rows
     → IsAscending ByName rows → ((id : ℕ) → length (filter (has 0 id) rows) ≤ 1) → InNameOrder (map node_of rows)
 in_order t p [] rules all up once = tt
 in_order t p (a ∷ []) rules all up once = tt
@@ -225,7 +226,8 @@ in_order t p (a ∷ b ∷ rows) rules all up once =
         absurd (omega (arith, two, once x.id))
 
 pub are_children : (db : Database) (p : ℕ) (rows : List Row) → IsRoomDatabase db
-    → ObjectRules (records_of db.trees).objects → IsPermutation (child_rows db.trees p) rows → IsAscending ByName rows
+    → NodeRules (records_of db.trees).objects.node
+    → IsPermutation (child_rows db.trees p) rows → IsAscending ByName rows
     → AreChildren (records_of db.trees).objects p (map node_of rows)
 are_children db p rows room rules same up =
     let all = child_shown db p rows room rules same in
@@ -243,7 +245,7 @@ are_children db p rows room rules same up =
     }
 
 -- their number is that of the rows
-pub count_children : (db : Database) (p : ℕ) → IsRoomDatabase db → ObjectRules (records_of db.trees).objects
+pub count_children : (db : Database) (p : ℕ) → IsRoomDatabase db → NodeRules (records_of db.trees).objects.node
     → IsChildCount (records_of db.trees).objects p (length (child_rows db.trees p))
 count_children db p room rules =
     let cmp = λ (a b : Row). key_cmp 0 name_keys (name_key a) (name_key b) in

@@ -311,6 +311,14 @@ none_of l db ref table place id columns key fit none =
       | inr other ↦ ap not other
     ]))
 
+-- so an object that is not there has no entries
+pub no_entries : (l : Layout) (db : Database) (id : ℕ) → db.schema ≡ room_schema l → IsDatabase db
+    → filter (has 0 id) (db.trees 1) ≡ [] → filter (has 1 id) (db.trees 3) ≡ []
+no_entries l db id schema sound none =
+    ap (filter (has 1 id)) (sym (none_of l db.trees entry_ref entry_table 1 id refl (entry_parent l)
+    (all_weaker _ _ (λ r e. first_of_both _ _ e) (db.trees 3) (rows_pass ForeignKey db l schema sound).entry) none))
+    ∙ none_left (has 1 id) (has 1 id) (db.trees 3) (λ r h. h)
+
 none_taken : (l : Layout) → works (room_schema l) Enforced 0 1 [] [] ≡ []
 unfolding everything
 none_taken Fresh = refl
@@ -445,6 +453,7 @@ steps_drop old new id count room h =
       };
       schema = done.0 ∙ sym room.schema;
       version = version_stays _ _ it.room;
+      sound = λ _ _. done.1;
       records = same_records _ _
           (λ q. ap (λ rows. option_map node_of (only (map shown_node rows)))
           (rows_gone 0 id q (db 1) (new.now.trees 1) it.nodes) ∙ through

@@ -1,9 +1,10 @@
 -- What the statements do to the records.
 use Rattle.std.specs.declared.alloc.Global.{Global}
-use Rattle.std.proofs.Common.{Vec, ◌≡◌, ℕ, ℤ, pos, Bool, true, false, not, ◌==◌, cond, List, [], ◌∷◌, ◌++◌, map, filter}
+use Rattle.std.proofs.Common.{Vec, ◌≡◌, ◌≢◌, ◌≤◌, ℕ, suc, ℤ, pos, Bool, true, false, not, ◌==◌, cond}
+use Rattle.std.proofs.Common.{List, [], ◌∷◌, ◌++◌, map, filter}
 use Rattle.std.proofs.Common.{Option, None, Some, option_map, unwrap_or, Ok, refl, sym, ap, subst, ◌∙◌, arith}
 use Rattle.std.specs.List.{AllByRecursion}
-use Rattle.sqlite_value.specs.declared.value.Value.TheVariants.{Int, Blob}
+use Rattle.sqlite_value.specs.declared.value.Value.TheVariants.{Int}
 use Rattle.sqlite_value.specs.Order.{Row, column}
 use Rattle.sqlite_trees.specs.Tree.{rowid, has_rowid}
 use Rattle.sqlite_trees.proofs.TreeLemmas.{all-put_row}
@@ -17,16 +18,20 @@ use Rattle.room_records.specs.declared.change.Change.{Change}
 use Rattle.room_records.specs.declared.change.Change.TheVariants.{PutNode, PutNext, PutDoc}
 use Rattle.room_records.specs.Records.{Records}
 use Rattle.room_records.specs.Changes.{apply_change, apply_changes}
-use Rattle.sqlite.specs.Effect.{IsDatabase}
-use Rattle.room_tables.specs.Tables.{Upgraded, room_schema}
-use Rattle.room_tables.specs.Texts.{put_node_text, put_next_text, put_doc_text}
+use Rattle.sqlite.specs.Effect.{Database, IsDatabase}
+use Rattle.room_tables.specs.Tables.{Layout, Upgraded, room_schema}
+use Rattle.room_tables.specs.Texts.{change_node_text, add_node_text, change_next_text, add_next_text}
+use Rattle.room_tables.specs.Texts.{change_doc_text, add_doc_text}
 use Rattle.room_tables.specs.Rows.{has, only, parent_in, name_of_text, kind_of, shown_node, node_of, nodes_in}
 use Rattle.room_tables.specs.Rows.{entries_in, shown_doc, doc_of, documents_in, number_in, shown_next, next_in}
 use Rattle.room_tables.specs.Rows.{shown_version, version_rows, IsVersion, sessions_in, slots_in, records_of}
-use Rattle.room_tables.specs.Layout.{IsNumbered, IsRoomDatabase, parent_value, reply_value}
+use Rattle.room_tables.specs.Layout.{IsKeyed, IsNumbered, IsRoomDatabase, parent_value, reply_value}
 use Rattle.room_tables.specs.Steps.{Steps, kind_number}
-use Rattle.room_tables.proofs.Changes.{executes_inside}
-use Rattle.room_tables.proofs.Puts.{stored_node, node_params, puts_node, puts_next, puts_doc}
+use Rattle.room_tables.proofs.Changes.{executes_inside, Leaves}
+use Rattle.room_tables.proofs.Puts.{stored_node, node_params, ChangesNode, changes_node, adds_node}
+use Rattle.room_tables.proofs.Puts.{doc_params, PutsDoc, ChangesDoc}
+use Rattle.room_tables.proofs.Puts.{changes_doc, adds_doc, PutsNext, ChangesNext, changes_next, adds_next}
+use Rattle.room_tables.proofs.Upserts.{PutInto}
 use Rattle.room_tables.proofs.Filters.{filter_put, keyed_after, still_room, still_numbered, still_slots, version_stays}
 
 -- two records that agree at each key are one
@@ -89,18 +94,17 @@ node_back node name named =
       aclflag = node.aclflag;
     }) (kind_back node.kind)
 
-id_is : {i j : ℤ} → Int i ≡ Int j → i ≡ j
+pub id_is : {i j : ℤ} → Int i ≡ Int j → i ≡ j
 id_is e = cc
 
-pub steps_node : (old new : State) (node : Node) (name : List ℕ) (count : ℕ)
-    → IsRoomDatabase old.now → name_of_text name ≡ node.name
-    → ExecutesInside 0 put_node_text
-    (node_params node.id node.parent name (kind_number node.kind) node.owner node.group node.aclflag)
-    old new (Ok count) → Steps old new (apply_change (PutNode node))
-steps_node old new node name count room named h =
-    let ran = executes_inside put_node_text _ old new count h in
-    let done = puts_node room.layout old new node.id node.parent name (kind_number node.kind)
-    node.owner node.group node.aclflag count room.schema room.keyed.node ran.0 in
+-- the row of the node was put
+abbrev PutsNode : Layout → Node → List ℕ → (Row → Type 0) → Database → Database → Type 0
+PutsNode l node name Met old new = PutInto l old new 1 (λ r. r ≡ row_of_node node name) Met
+
+steps_put_node : (old new : State) (node : Node) (name : List ℕ) (Met : Row → Type 0) (room : IsRoomDatabase old.now)
+    → name_of_text name ≡ node.name → PutsNode room.layout node name Met old.now new.now
+    → Steps old new (apply_change (PutNode node))
+steps_put_node old new node name Met room named done =
     let it = done.put in
     let row = row_of_node node name in
     let id : it.id ≡ pos node.id = id_is (sym it.has_id ∙ ap rowid it.fits) in
@@ -113,6 +117,7 @@ steps_node old new node name count room named h =
           (all-filter IsNumbered (λ r. not (has_rowid it.id r)) (old.now.trees 1) room.numbered)));
       schema = done.schema ∙ sym room.schema;
       version = version_stays _ _ (o.room (omega arith));
+      sound = λ _ _. done.sound;
       records = same_records _ _
           (λ q. ap (λ rows. option_map node_of (only (map shown_node rows))) (filter_put 1 node.id q _ _ _ _ it id)
           ∙ through (λ rows. option_map node_of (only (map shown_node rows)))
@@ -127,14 +132,99 @@ steps_node old new node name count room named h =
           (still_slots 1 old.now new.now room done.schema done.sound (omega arith) o));
     }
 
+-- the parameters of a node's row
+abbrev pub params_of_node : Node → List ℕ → Row
+params_of_node node name =
+    node_params node.id node.parent name (kind_number node.kind) node.owner node.group node.aclflag
+
+steps_left_node : (old new : State) (room : IsRoomDatabase old.now)
+    → Leaves room.layout old.now new.now 1 (old.now.trees 1) → Steps old new (λ r. r)
+steps_left_node old new room it =
+    let o = it.others in
+    record {
+      room = still_room 1 old.now new.now room it.schema it.sound o (subst IsKeyed (sym it.rows_are) room.keyed.node)
+          (subst (AllByRecursion IsNumbered) (sym it.rows_are) room.numbered);
+      schema = it.schema ∙ sym room.schema;
+      version = version_stays _ _ (o.room (omega arith));
+      sound = λ _ _. it.sound;
+      records = same_records _ _
+          (λ q. ap (λ rows. nodes_in rows q) it.rows_are)
+          (λ q. ap (λ rows. entries_in rows q) (o.entry (omega arith)))
+          (λ q. ap (λ rows. documents_in rows q) (o.doc (omega arith)))
+          (ap next_in (o.room (omega arith)))
+          (λ sid. ap (λ rows. sessions_in rows sid) (o.session (omega arith)))
+          (λ sid slot. ap (λ rows. slots_in rows sid slot)
+          (still_slots 1 old.now new.now room it.schema it.sound (omega arith) o));
+    }
+
+-- what an UPDATE of a node leaves, by how many rows it changed
+pub node_changed : (old new : State) (node : Node) (name : List ℕ) (count : ℕ) (room : IsRoomDatabase old.now)
+    → ExecutesInside 0 change_node_text (params_of_node node name) old new (Ok count)
+    → ChangesNode room.layout node.id node.parent name (kind_number node.kind) node.owner node.group node.aclflag
+    count old.now new.now
+node_changed old new node name count room h =
+    changes_node room.layout old new node.id node.parent name (kind_number node.kind)
+    node.owner node.group node.aclflag count room.schema room.keyed.node
+    (executes_inside change_node_text _ old new count h).0
+
+pub steps_change_node : (old new : State) (node : Node) (name : List ℕ) (count : ℕ)
+    → IsRoomDatabase old.now → name_of_text name ≡ node.name
+    → ExecutesInside 0 change_node_text (params_of_node node name) old new (Ok (suc count))
+    → Steps old new (apply_change (PutNode node))
+steps_change_node old new node name count room named h =
+    steps_put_node old new node name _ room named (node_changed old new node name (suc count) room h)
+
+-- an INSERT alone adds the row of a node, whatever is said of the rows of its number: there is none
+pub node_added : (old new : State) (node : Node) (name : List ℕ) (count : ℕ) (Met : Row → Type 0)
+    (room : IsRoomDatabase old.now) → ExecutesInside 0 add_node_text (params_of_node node name) old new (Ok count)
+    → PutInto room.layout old.now new.now 1 (λ r. r ≡ row_of_node node name) Met
+node_added old new node name count Met room h =
+    adds_node room.layout old new node.id node.parent name (kind_number node.kind) node.owner node.group
+    node.aclflag count Met room.schema (executes_inside add_node_text _ old new count h).0
+
+pub steps_add_node : (old new : State) (node : Node) (name : List ℕ) (count : ℕ)
+    → IsRoomDatabase old.now → name_of_text name ≡ node.name
+    → ExecutesInside 0 add_node_text (params_of_node node name) old new (Ok count)
+    → Steps old new (apply_change (PutNode node))
+steps_add_node old new node name count room named h =
+    steps_put_node old new node name (λ _. ⊥) room named (node_added old new node name count (λ _. ⊥) room h)
+
+-- where an UPDATE changed none, the INSERT behind it adds the row
+pub steps_change_or_add : (old mid new : State) (node : Node) (name : List ℕ) (count : ℕ)
+    → IsRoomDatabase old.now → name_of_text name ≡ node.name
+    → ExecutesInside 0 change_node_text (params_of_node node name) old mid (Ok 0)
+    → ExecutesInside 0 add_node_text (params_of_node node name) mid new (Ok count)
+    → Steps old new (apply_change (PutNode node))
+steps_change_or_add old mid new node name count room named none one =
+    let a = steps_left_node old mid room (node_changed old mid node name 0 room none).leaves in
+    let b = steps_add_node mid new node name count a.room named one in
+    record {
+      room = b.room;
+      schema = b.schema ∙ a.schema;
+      records = b.records ∙ ap (apply_change (PutNode node)) a.records;
+      version = λ v. b.version (a.version v);
+      sound = λ s. b.sound (a.sound s);
+    }
+
+-- the rows of nodes are as they were, and then there is a row of this number
+pub left_then_added : (old mid new : State) (node : Node) (name : List ℕ) (count : ℕ) (Met : Row → Type 0)
+    (room : IsRoomDatabase old.now)
+    → ExecutesInside 0 change_node_text (params_of_node node name) old mid (Ok 0)
+    → ExecutesInside 0 add_node_text (params_of_node node name) mid new (Ok count)
+    → (mid.now.trees 1 ≡ old.now.trees 1)
+    × PutInto room.layout mid.now new.now 1 (λ r. r ≡ row_of_node node name) Met
+left_then_added old mid new node name count Met room none one =
+    let left = (node_changed old mid node name 0 room none).leaves in (
+      left.rows_are,
+      adds_node room.layout mid new node.id node.parent name (kind_number node.kind) node.owner node.group
+          node.aclflag count Met left.schema (executes_inside add_node_text _ mid new count one).0,
+    )
+
 -- ---- a document and the next number
 
-pub steps_doc : (old new : State) (id : ℕ) (bytes : Vec ℕ Global) (count : ℕ) → IsRoomDatabase old.now
-    → ExecutesInside 0 put_doc_text (Int (pos id) ∷ Blob bytes.items ∷ []) old new (Ok count)
-    → Steps old new (apply_change (PutDoc id bytes))
-steps_doc old new id bytes count room h =
-    let ran = executes_inside put_doc_text _ old new count h in
-    let done = puts_doc room.layout old new id bytes.items count room.schema room.keyed.doc ran.0 in
+steps_put_doc : (old new : State) (id : ℕ) (bytes : Vec ℕ Global) (room : IsRoomDatabase old.now)
+    → PutsDoc room.layout id bytes.items old.now new.now → Steps old new (apply_change (PutDoc id bytes))
+steps_put_doc old new id bytes room done =
     let it = done.put in
     let is : it.id ≡ pos id = id_is (sym it.has_id ∙ ap rowid it.fits) in
     let o = it.others in
@@ -143,6 +233,7 @@ steps_doc old new id bytes count room h =
           (still_numbered 5 old.now new.now room (omega arith) o);
       schema = done.schema ∙ sym room.schema;
       version = version_stays _ _ (o.room (omega arith));
+      sound = λ _ _. done.sound;
       records = same_records _ _
           (λ q. ap (λ rows. nodes_in rows q) (o.node (omega arith)))
           (λ q. ap (λ rows. entries_in rows q) (o.entry (omega arith)))
@@ -157,49 +248,189 @@ steps_doc old new id bytes count room h =
           (still_slots 5 old.now new.now room done.schema done.sound (omega arith) o));
     }
 
--- the next number is put into a row of version 2
-pub version_put : (old new : State) (n count : ℕ) → IsRoomDatabase old.now
-    → ExecutesInside 0 put_next_text (Int (pos n) ∷ []) old new (Ok count) → IsVersion 2 (version_rows new.now.trees)
-version_put old new n count room h =
-    let ran = executes_inside put_next_text _ old new count h in
-    let it = (puts_next room.layout old new n count room.schema room.keyed.room ran.0).put in
-    let is : it.id ≡ pos 1 = id_is (sym it.has_id ∙ ap rowid it.fits) in
-    ap (λ rows. option_map (λ row. column row 0) (only (map shown_version rows))) (filter_put 0 1 1 _ _ _ _ it is)
-    ∙ ap (λ r. Some (column (shown_version r) 0)) it.fits
+-- no row was changed, and the tables are as they were
+still_there : (tree : ℕ) (old new : Database) (room : IsRoomDatabase old) → tree ≤ 7 → 1 ≢ tree
+    → Leaves room.layout old new tree (old.trees tree) → IsKeyed (old.trees tree) → IsRoomDatabase new
+still_there tree old new room low apart it keyed =
+    still_room tree old new room it.schema it.sound it.others (subst IsKeyed (sym it.rows_are) keyed)
+    (still_numbered tree old new room apart it.others)
 
-pub steps_next : (old new : State) (n count : ℕ) → IsRoomDatabase old.now
-    → ExecutesInside 0 put_next_text (Int (pos n) ∷ []) old new (Ok count) → Steps old new (apply_change (PutNext n))
-steps_next old new n count room h =
-    let ran = executes_inside put_next_text _ old new count h in
-    let done = puts_next room.layout old new n count room.schema room.keyed.room ran.0 in
+steps_left_doc : (old new : State) (room : IsRoomDatabase old.now)
+    → Leaves room.layout old.now new.now 5 (old.now.trees 5) → Steps old new (λ r. r)
+steps_left_doc old new room it =
+    let o = it.others in
+    record {
+      room = still_there 5 old.now new.now room (omega arith) (omega arith) it room.keyed.doc;
+      schema = it.schema ∙ sym room.schema;
+      version = version_stays _ _ (o.room (omega arith));
+      sound = λ _ _. it.sound;
+      records = same_records _ _
+          (λ q. ap (λ rows. nodes_in rows q) (o.node (omega arith)))
+          (λ q. ap (λ rows. entries_in rows q) (o.entry (omega arith)))
+          (λ q. ap (λ rows. documents_in rows q) it.rows_are)
+          (ap next_in (o.room (omega arith)))
+          (λ sid. ap (λ rows. sessions_in rows sid) (o.session (omega arith)))
+          (λ sid slot. ap (λ rows. slots_in rows sid slot)
+          (still_slots 5 old.now new.now room it.schema it.sound (omega arith) o));
+    }
+
+-- what an UPDATE of the document leaves, by how many rows it changed
+doc_changed : (old new : State) (id : ℕ) (bytes : List ℕ) (count : ℕ) (room : IsRoomDatabase old.now)
+    → ExecutesInside 0 change_doc_text (doc_params id bytes) old new (Ok count)
+    → ChangesDoc room.layout id bytes count old.now new.now
+doc_changed old new id bytes count room h = changes_doc room.layout old new id bytes count room.schema room.keyed.doc
+    (executes_inside change_doc_text _ old new count h).0
+
+pub steps_change_doc : (old new : State) (id : ℕ) (bytes : Vec ℕ Global) (count : ℕ) → IsRoomDatabase old.now
+    → ExecutesInside 0 change_doc_text (doc_params id bytes.items) old new (Ok (suc count))
+    → Steps old new (apply_change (PutDoc id bytes))
+steps_change_doc old new id bytes count room h =
+    steps_put_doc old new id bytes room (doc_changed old new id bytes.items (suc count) room h)
+
+-- an INSERT alone
+pub steps_new_doc : (old new : State) (id : ℕ) (bytes : Vec ℕ Global) (count : ℕ) → IsRoomDatabase old.now
+    → ExecutesInside 0 add_doc_text (doc_params id bytes.items) old new (Ok count)
+    → Steps old new (apply_change (PutDoc id bytes))
+steps_new_doc old new id bytes count room h = steps_put_doc old new id bytes room
+    (adds_doc room.layout old new id bytes.items count room.schema (executes_inside add_doc_text _ old new count h).0)
+
+-- where it changed none, the INSERT behind it adds the row
+pub steps_add_doc : (old mid new : State) (id : ℕ) (bytes : Vec ℕ Global) (count : ℕ) → IsRoomDatabase old.now
+    → ExecutesInside 0 change_doc_text (doc_params id bytes.items) old mid (Ok 0)
+    → ExecutesInside 0 add_doc_text (doc_params id bytes.items) mid new (Ok count)
+    → Steps old new (apply_change (PutDoc id bytes))
+steps_add_doc old mid new id bytes count room none one =
+    let a = steps_left_doc old mid room (doc_changed old mid id bytes.items 0 room none).leaves in
+    let b = steps_new_doc mid new id bytes count a.room one in
+    record {
+      room = b.room;
+      schema = b.schema ∙ a.schema;
+      records = b.records ∙ ap (apply_change (PutDoc id bytes)) a.records;
+      version = λ v. b.version (a.version v);
+      sound = λ s. b.sound (a.sound s);
+    }
+
+-- the rows of nodes stay as they are
+pub doc_change_leaves_nodes : (old new : State) (id : ℕ) (bytes : List ℕ) (count : ℕ) → IsRoomDatabase old.now
+    → ExecutesInside 0 change_doc_text (doc_params id bytes) old new (Ok (suc count))
+    → new.now.trees 1 ≡ old.now.trees 1
+doc_change_leaves_nodes old new id bytes count room h =
+    (doc_changed old new id bytes (suc count) room h).put.others.node (omega arith)
+
+pub doc_new_leaves_nodes : (old new : State) (id : ℕ) (bytes : List ℕ) (count : ℕ) → IsRoomDatabase old.now
+    → ExecutesInside 0 add_doc_text (doc_params id bytes) old new (Ok count) → new.now.trees 1 ≡ old.now.trees 1
+doc_new_leaves_nodes old new id bytes count room h = (adds_doc room.layout old new id bytes count room.schema
+    (executes_inside add_doc_text _ old new count h).0).put.others.node (omega arith)
+
+pub doc_add_leaves_nodes : (old mid new : State) (id : ℕ) (bytes : List ℕ) (count : ℕ) → IsRoomDatabase old.now
+    → ExecutesInside 0 change_doc_text (doc_params id bytes) old mid (Ok 0)
+    → ExecutesInside 0 add_doc_text (doc_params id bytes) mid new (Ok count) → new.now.trees 1 ≡ old.now.trees 1
+doc_add_leaves_nodes old mid new id bytes count room none one =
+    let left = (doc_changed old mid id bytes 0 room none).leaves in
+    (adds_doc room.layout mid new id bytes count left.schema
+    (executes_inside add_doc_text _ mid new count one).0).put.others.node (omega arith)
+    ∙ left.others.node (omega arith)
+
+-- ---- the next number
+
+-- what a statement that sets the next number does: to the records, to the version, and to a table `slot` beside
+pub record SetsNext (old new : State) (n : ℕ) : Type 0 where
+  pub steps : Steps old new (apply_change (PutNext n))
+  pub version : IsVersion 2 (version_rows new.now.trees)
+  pub sound : IsDatabase new.now
+  pub beside : old.now.schema ≡ room_schema Upgraded → new.now.trees 8 ≡ old.now.trees 8
+  pub nodes : new.now.trees 1 ≡ old.now.trees 1
+
+sets_put : (old new : State) (n : ℕ) (room : IsRoomDatabase old.now) → PutsNext room.layout n old.now new.now
+    → (old.now.schema ≡ room_schema Upgraded → new.now.trees 8 ≡ old.now.trees 8) → SetsNext old new n
+sets_put old new n room done beside =
     let it = done.put in
     let is : it.id ≡ pos 1 = id_is (sym it.has_id ∙ ap rowid it.fits) in
     let o = it.others in
+    let version : IsVersion 2 (version_rows new.now.trees) =
+    ap (λ rows. option_map (λ row. column row 0) (only (map shown_version rows))) (filter_put 0 1 1 _ _ _ _ it is)
+    ∙ ap (λ r. Some (column (shown_version r) 0)) it.fits in
     record {
-      room = still_room 0 old.now new.now room done.schema done.sound o (keyed_after 0 _ _ _ _ it room.keyed.room)
-          (still_numbered 0 old.now new.now room (omega arith) o);
-      schema = done.schema ∙ sym room.schema;
-      version = λ _. version_put old new n count room h;
+      version = version;
+      sound = done.sound;
+      beside = beside;
+      nodes = o.node (omega arith);
+      steps = record {
+        room = still_room 0 old.now new.now room done.schema done.sound o (keyed_after 0 _ _ _ _ it room.keyed.room)
+            (still_numbered 0 old.now new.now room (omega arith) o);
+        schema = done.schema ∙ sym room.schema;
+        version = λ _. version;
+        sound = λ _ _. done.sound;
+        records = same_records _ _
+            (λ q. ap (λ rows. nodes_in rows q) (o.node (omega arith)))
+            (λ q. ap (λ rows. entries_in rows q) (o.entry (omega arith)))
+            (λ q. ap (λ rows. documents_in rows q) (o.doc (omega arith)))
+            (ap (λ rows. unwrap_or (option_map (λ row. number_in (column row 0)) (only (map shown_next rows))) 0)
+            (filter_put 0 1 1 _ _ _ _ it is) ∙ ap (λ r. number_in (column (shown_next r) 0)) it.fits)
+            (λ sid. ap (λ rows. sessions_in rows sid) (o.session (omega arith)))
+            (λ sid slot. ap (λ rows. slots_in rows sid slot)
+            (still_slots 0 old.now new.now room done.schema done.sound (omega arith) o));
+      };
+    }
+
+steps_left_next : (old new : State) (room : IsRoomDatabase old.now)
+    → Leaves room.layout old.now new.now 0 (old.now.trees 0) → Steps old new (λ r. r)
+steps_left_next old new room it =
+    let o = it.others in
+    record {
+      room = still_there 0 old.now new.now room (omega arith) (omega arith) it room.keyed.room;
+      schema = it.schema ∙ sym room.schema;
+      version = version_stays _ _ it.rows_are;
+      sound = λ _ _. it.sound;
       records = same_records _ _
           (λ q. ap (λ rows. nodes_in rows q) (o.node (omega arith)))
           (λ q. ap (λ rows. entries_in rows q) (o.entry (omega arith)))
           (λ q. ap (λ rows. documents_in rows q) (o.doc (omega arith)))
-          (ap (λ rows. unwrap_or (option_map (λ row. number_in (column row 0)) (only (map shown_next rows))) 0)
-          (filter_put 0 1 1 _ _ _ _ it is) ∙ ap (λ r. number_in (column (shown_next r) 0)) it.fits)
+          (ap next_in it.rows_are)
           (λ sid. ap (λ rows. sessions_in rows sid) (o.session (omega arith)))
           (λ sid slot. ap (λ rows. slots_in rows sid slot)
-          (still_slots 0 old.now new.now room done.schema done.sound (omega arith) o));
+          (still_slots 0 old.now new.now room it.schema it.sound (omega arith) o));
     }
 
--- the database is sound then, and a table `slot` is as it was
-pub next_beside : (old new : State) (n count : ℕ) → IsRoomDatabase old.now
-    → ExecutesInside 0 put_next_text (Int (pos n) ∷ []) old new (Ok count)
-    → IsDatabase new.now × (old.now.schema ≡ room_schema Upgraded → new.now.trees 8 ≡ old.now.trees 8)
-next_beside old new n count room h =
-    let ran = executes_inside put_next_text _ old new count h in (
-      (puts_next room.layout old new n count room.schema room.keyed.room ran.0).sound,
-      λ is. (puts_next Upgraded old new n count is room.keyed.room ran.0).put.tables.1.1.1.1.1.0 (omega arith),
-    )
+-- what an UPDATE leaves, by how many rows it changed
+next_changed : (old new : State) (n count : ℕ) (room : IsRoomDatabase old.now)
+    → ExecutesInside 0 change_next_text (Int (pos n) ∷ []) old new (Ok count)
+    → ChangesNext room.layout n count old.now new.now
+next_changed old new n count room h = changes_next room.layout old new n count room.schema room.keyed.room
+    (executes_inside change_next_text _ old new count h).0
+
+pub change_sets_next : (old new : State) (n count : ℕ) → IsRoomDatabase old.now
+    → ExecutesInside 0 change_next_text (Int (pos n) ∷ []) old new (Ok (suc count)) → SetsNext old new n
+change_sets_next old new n count room h = sets_put old new n room (next_changed old new n (suc count) room h)
+    (λ s. (changes_next Upgraded old new n (suc count) s room.keyed.room
+    (executes_inside change_next_text _ old new (suc count) h).0).put.tables.1.1.1.1.1.0 (omega arith))
+
+-- where it changed none, the INSERT behind it adds the row
+pub add_sets_next : (old mid new : State) (n count : ℕ) → IsRoomDatabase old.now
+    → ExecutesInside 0 change_next_text (Int (pos n) ∷ []) old mid (Ok 0)
+    → ExecutesInside 0 add_next_text (Int (pos n) ∷ []) mid new (Ok count) → SetsNext old new n
+add_sets_next old mid new n count room none one =
+    let first = (executes_inside change_next_text _ old mid 0 none).0 in
+    let second = (executes_inside add_next_text _ mid new count one).0 in
+    let left = next_changed old mid n 0 room none in
+    let a = steps_left_next old mid room left.leaves in
+    let b = sets_put mid new n a.room (adds_next a.room.layout mid new n count a.room.schema second)
+    (λ s. (adds_next Upgraded mid new n count s second).put.tables.1.1.1.1.1.0 (omega arith)) in
+    record {
+      version = b.version;
+      sound = b.sound;
+      beside = λ s.
+          let same = changes_next Upgraded old mid n 0 s room.keyed.room first in
+          b.beside same.leaves.schema ∙ same.tables.1.1.1.1.1.0 (omega arith);
+      nodes = b.nodes ∙ left.leaves.others.node (omega arith);
+      steps = record {
+        room = b.steps.room;
+        schema = b.steps.schema ∙ a.schema;
+        records = b.steps.records ∙ ap (apply_change (PutNext n)) a.records;
+        version = λ _. b.version;
+        sound = λ s. b.steps.sound (a.sound s);
+      };
+    }
 
 -- ---- changes in turn
 
@@ -217,16 +448,16 @@ steps_more old mid new changes more change is a b = record {
   records = b.records ∙ ap (apply_change change) a.records ∙ sym (all_pushed changes change (records_of old.now.trees))
       ∙ ap (λ cs. apply_changes cs (records_of old.now.trees)) (sym is);
   version = λ v. b.version (a.version v);
+  sound = λ s. b.sound (a.sound s);
 }
 
--- the same, with the text and the parameters as they are given
-pub steps_node_at : (old new : State) (node : Node) (name : List ℕ) (text : List ℕ) (params : Row) (count : ℕ)
-    → IsRoomDatabase old.now → name_of_text name ≡ node.name
-    → text ≡ put_node_text → params ≡ node_params node.id node.parent name (kind_number node.kind) node.owner node.group
-    node.aclflag → ExecutesInside 0 text params old new (Ok count) → Steps old new (apply_change (PutNode node))
-steps_node_at old new node name text params count room named text_is params_are h =
-    steps_node old new node name count room named (subst (λ p. ExecutesInside 0 put_node_text p old new (Ok count))
-    params_are (subst (λ t. ExecutesInside 0 t params old new (Ok count)) text_is h))
+-- the same, with the parameters as they are given
+pub steps_add_node_at : (old new : State) (node : Node) (name : List ℕ) (params : Row) (count : ℕ)
+    → IsRoomDatabase old.now → name_of_text name ≡ node.name → params ≡ params_of_node node name
+    → ExecutesInside 0 add_node_text params old new (Ok count) → Steps old new (apply_change (PutNode node))
+steps_add_node_at old new node name params count room named params_are h =
+    steps_add_node old new node name count room named
+    (subst (λ p. ExecutesInside 0 add_node_text p old new (Ok count)) params_are h)
 
 -- a parent's number is bound as it is
 pub bound_parent : (p : Option ℕ) → bound_value (parent_value p) ≡ parent_value p

@@ -8,6 +8,7 @@ pub mod Removed
 pub mod Queries
 pub mod Changes
 pub mod Upserts
+pub mod Writes
 pub mod Puts
 pub mod Takes
 pub mod Filters
@@ -17,6 +18,7 @@ pub mod Sessions
 pub mod Slots
 pub mod Placed
 pub mod Drops
+pub mod Bare
 pub mod Asks
 pub mod Selects
 pub mod Children
@@ -25,3 +27,5 @@ pub mod Copies
 pub mod Moves
 pub mod Reading
 pub mod Onward
+pub mod Names
+pub mod Sizes

@@ -20,12 +20,14 @@ use Rattle.room_tables.specs.Texts.{drop_slots_text, find_child_query, find_chil
 use Rattle.room_tables.specs.Texts.{find_next_query, find_next_text, find_node_query, find_node_text}
 use Rattle.room_tables.specs.Texts.{find_session_query, find_session_text, find_slot_query, find_slot_text}
 use Rattle.room_tables.specs.Texts.{find_version_query, find_version_text, list_children_query, list_children_text}
-use Rattle.room_tables.specs.Texts.{list_entries_query, list_entries_text, put_doc_clause, put_doc_terms, put_doc_text}
-use Rattle.room_tables.specs.Texts.{put_next_clause, put_next_terms, put_next_text, put_node_clause, put_node_terms}
-use Rattle.room_tables.specs.Texts.{put_node_text, put_session_clause, put_session_terms, put_session_text}
+use Rattle.room_tables.specs.Texts.{list_entries_query, list_entries_text, change_doc_query, change_doc_text}
+use Rattle.room_tables.specs.Texts.{add_doc_terms, add_doc_text, change_next_query, change_next_text, add_next_terms}
+use Rattle.room_tables.specs.Texts.{add_next_text, change_node_query, change_node_text, add_node_terms, add_node_text}
+use Rattle.room_tables.specs.Texts.{put_session_clause, put_session_terms, put_session_text}
 use Rattle.room_tables.specs.Texts.{change_slot_query, change_slot_text, add_slot_terms, add_slot_text}
 use Rattle.room_tables.specs.Texts.{read_entries_query, read_entries_text, copy_row_query, copy_row_text}
-use Rattle.room_tables.specs.Texts.{take_row_query, take_row_text}
+use Rattle.room_tables.specs.Texts.{take_row_query, take_row_text, list_names_query, list_names_text}
+use Rattle.room_tables.specs.Texts.{find_seq_query, find_seq_text, find_size_query, find_size_text}
 
 pub find_next_is : (more : List Table) (others : List Index)
     → command_of (understood (with_last more others) find_next_text)
@@ -84,6 +86,16 @@ pub list_children_plain : (l : Layout) → IsPlain (understood (room_schema l) l
 unfolding understood everything
 list_children_plain l = ((refl, refl), refl)
 
+pub list_names_is : (l : Layout) → command_of (understood (room_schema l) list_names_text)
+    ≡ Select (record { lets = []; body = list_names_query }) (codes "name" ∷ codes "kind" ∷ [])
+unfolding understood everything
+list_names_is l = refl
+
+pub list_names_plain : (l : Layout) → IsPlain (understood (room_schema l) list_names_text)
+    × (reads_listing (room_schema l) list_names_text ≡ false)
+unfolding understood everything
+list_names_plain l = ((refl, refl), refl)
+
 pub list_entries_is : (l : Layout) → command_of (understood (room_schema l) list_entries_text)
     ≡ Select (record { lets = []; body = list_entries_query })
     (codes "place" ∷ codes "type" ∷ codes "flag" ∷ codes "mask" ∷ codes "who" ∷ [])
@@ -116,6 +128,16 @@ pub find_doc_plain : (l : Layout) → IsPlain (understood (room_schema l) find_d
 unfolding understood everything
 find_doc_plain l = ((refl, refl), refl)
 
+pub find_size_is : (l : Layout) → command_of (understood (room_schema l) find_size_text)
+    ≡ Select (record { lets = []; body = find_size_query }) (codes "length(bytes)" ∷ [])
+unfolding understood everything
+find_size_is l = refl
+
+pub find_size_plain : (l : Layout) → IsPlain (understood (room_schema l) find_size_text)
+    × (reads_listing (room_schema l) find_size_text ≡ false)
+unfolding understood everything
+find_size_plain l = ((refl, refl), refl)
+
 pub find_session_is : (l : Layout) → command_of (understood (room_schema l) find_session_text)
     ≡ Select (record { lets = []; body = find_session_query }) (codes "owner" ∷ codes "slots" ∷ codes "open" ∷ [])
 unfolding understood everything
@@ -138,6 +160,18 @@ pub find_slot_plain : (l : Layout) → IsPlain (understood (room_schema l) find_
 unfolding understood everything
 find_slot_plain Fresh = ((refl, refl), refl)
 find_slot_plain Upgraded = ((refl, refl), refl)
+
+pub find_seq_is : (l : Layout) → command_of (understood (room_schema l) find_seq_text)
+    ≡ Select (record { lets = []; body = find_seq_query (slots_tree l) }) (codes "seq" ∷ [])
+unfolding understood everything
+find_seq_is Fresh = refl
+find_seq_is Upgraded = refl
+
+pub find_seq_plain : (l : Layout) → IsPlain (understood (room_schema l) find_seq_text)
+    × (reads_listing (room_schema l) find_seq_text ≡ false)
+unfolding understood everything
+find_seq_plain Fresh = ((refl, refl), refl)
+find_seq_plain Upgraded = ((refl, refl), refl)
 
 pub drop_node_is : (l : Layout) → command_of (understood (room_schema l) drop_node_text)
     ≡ Delete 1 (record { lets = []; body = drop_node_query })
@@ -203,38 +237,71 @@ pub add_four_plain : (l : Layout) → IsPlain (understood (room_schema l) add_fo
 unfolding understood everything
 add_four_plain l = (refl, refl)
 
-pub put_next_is : (l : Layout) → command_of (understood (room_schema l) put_next_text)
-    ≡ InsertOr 0 Abort (Values put_next_terms 4) (put_next_clause ∷ [])
+pub change_next_is : (l : Layout) → command_of (understood (room_schema l) change_next_text)
+    ≡ Update 0 (record { lets = []; body = change_next_query })
 unfolding understood everything
-put_next_is Fresh = refl
-put_next_is Upgraded = refl
+change_next_is Fresh = refl
+change_next_is Upgraded = refl
 
-pub put_next_plain : (l : Layout) → IsPlain (understood (room_schema l) put_next_text)
+pub change_next_plain : (l : Layout) → IsPlain (understood (room_schema l) change_next_text)
 unfolding understood everything
-put_next_plain Fresh = (refl, refl)
-put_next_plain Upgraded = (refl, refl)
+change_next_plain Fresh = (refl, refl)
+change_next_plain Upgraded = (refl, refl)
 
-pub put_node_is : (l : Layout) → command_of (understood (room_schema l) put_node_text)
-    ≡ InsertOr 1 Abort (Values put_node_terms 8) (put_node_clause ∷ [])
+pub add_next_is : (l : Layout) → command_of (understood (room_schema l) add_next_text)
+    ≡ Insert 0 (Values add_next_terms 4)
 unfolding understood everything
-put_node_is Fresh = refl
-put_node_is Upgraded = refl
+add_next_is Fresh = refl
+add_next_is Upgraded = refl
 
-pub put_node_plain : (l : Layout) → IsPlain (understood (room_schema l) put_node_text)
+pub add_next_plain : (l : Layout) → IsPlain (understood (room_schema l) add_next_text)
 unfolding understood everything
-put_node_plain Fresh = (refl, refl)
-put_node_plain Upgraded = (refl, refl)
+add_next_plain Fresh = (refl, refl)
+add_next_plain Upgraded = (refl, refl)
 
-pub put_doc_is : (l : Layout) → command_of (understood (room_schema l) put_doc_text)
-    ≡ InsertOr 3 Abort (Values put_doc_terms 3) (put_doc_clause ∷ [])
+pub change_node_is : (l : Layout) → command_of (understood (room_schema l) change_node_text)
+    ≡ Update 1 (record { lets = []; body = change_node_query })
 unfolding understood everything
-put_doc_is Fresh = refl
-put_doc_is Upgraded = refl
+change_node_is Fresh = refl
+change_node_is Upgraded = refl
 
-pub put_doc_plain : (l : Layout) → IsPlain (understood (room_schema l) put_doc_text)
+pub change_node_plain : (l : Layout) → IsPlain (understood (room_schema l) change_node_text)
 unfolding understood everything
-put_doc_plain Fresh = (refl, refl)
-put_doc_plain Upgraded = (refl, refl)
+change_node_plain Fresh = (refl, refl)
+change_node_plain Upgraded = (refl, refl)
+
+pub add_node_is : (l : Layout) → command_of (understood (room_schema l) add_node_text)
+    ≡ Insert 1 (Values add_node_terms 8)
+unfolding understood everything
+add_node_is Fresh = refl
+add_node_is Upgraded = refl
+
+pub add_node_plain : (l : Layout) → IsPlain (understood (room_schema l) add_node_text)
+unfolding understood everything
+add_node_plain Fresh = (refl, refl)
+add_node_plain Upgraded = (refl, refl)
+
+pub change_doc_is : (l : Layout) → command_of (understood (room_schema l) change_doc_text)
+    ≡ Update 3 (record { lets = []; body = change_doc_query })
+unfolding understood everything
+change_doc_is Fresh = refl
+change_doc_is Upgraded = refl
+
+pub change_doc_plain : (l : Layout) → IsPlain (understood (room_schema l) change_doc_text)
+unfolding understood everything
+change_doc_plain Fresh = (refl, refl)
+change_doc_plain Upgraded = (refl, refl)
+
+pub add_doc_is : (l : Layout) → command_of (understood (room_schema l) add_doc_text)
+    ≡ Insert 3 (Values add_doc_terms 3)
+unfolding understood everything
+add_doc_is Fresh = refl
+add_doc_is Upgraded = refl
+
+pub add_doc_plain : (l : Layout) → IsPlain (understood (room_schema l) add_doc_text)
+unfolding understood everything
+add_doc_plain Fresh = (refl, refl)
+add_doc_plain Upgraded = (refl, refl)
 
 pub put_session_is : (l : Layout) → command_of (understood (room_schema l) put_session_text)
     ≡ InsertOr 4 Abort (Values put_session_terms 5) (put_session_clause ∷ [])

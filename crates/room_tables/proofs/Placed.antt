@@ -169,6 +169,7 @@ lists_none old new id count room h =
       slots = λ q n. ap (λ l. slots_in l q n)
           (still_slots 3 old.now new.now room it.schema it.sound (omega arith) o);
       version = ap versions_in (o.room (omega arith));
+      sound = λ _. it.sound;
     }
 
 -- one row more of the object, at the next place: those of the object are in order, and those of the others as before
@@ -246,6 +247,7 @@ lists_more text old new id at count es batch before adds place back was h =
       slots = λ q n. ap (λ l. slots_in l q n)
           (still_slots 3 old.now new.now was.room it.schema it.sound (omega arith) o) ∙ was.slots q n;
       version = ap versions_in (o.room (omega arith)) ∙ was.version;
+      sound = λ _. it.sound;
     }
 
 -- what the records are then

@@ -1,29 +1,37 @@
--- The four upserts.
-use Rattle.std.proofs.Common.{◌≡◌, ℕ, ℤ, pos, Bool, true, false, ◌&&◌, ◌||◌, List, [], ◌∷◌, Option, None}
-use Rattle.std.proofs.Common.{Some, Ok, refl, sym, ap, ap₂, subst}
+-- What puts a row: an upsert of a session, and an UPDATE and an INSERT of a row of node, doc and room.
+use Rattle.std.proofs.Common.{◌≡◌, ◌==◌, ℕ, ℤ, pos, Bool, true, false, ◌&&◌, ◌||◌, List, [], ◌∷◌, length, Option, None}
+use Rattle.std.proofs.Common.{Some, Ok, refl, sym, ap, ap₂, subst, arith}
+use Rattle.std.proofs.lemmas.Bool.Decides.{nat_tests}
 use Rattle.sqlite_value.specs.declared.value.Value.TheVariants.{Null, Int, Text, Blob}
 use Rattle.sqlite_value.specs.Order.{Row, column}
 use Rattle.sqlite_value.specs.Keys.{first_key}
 use Rattle.sqlite_trees.specs.Tree.{rowid}
 use Rattle.sqlite_tied.specs.Compute.{everything}
-use Rattle.sqlite_rules.specs.Action.{works}
-use Rattle.sqlite_rules.specs.Edit.{next_rowid, with_rowid}
+use Rattle.sqlite_rules.specs.Action.{works, pairs}
+use Rattle.sqlite_rules.specs.Edit.{next_rowid, numbered}
 use Rattle.sqlite.specs.Rowids.TheVariants.{Chosen}
 use Rattle.sqlite_trees.specs.View.{is_int}
 use Rattle.sqlite_rules.specs.Keys.{conflicts}
 use Rattle.sqlite_rules.specs.Cast.{cast, cast_row}
 use Rattle.sqlite_schema.specs.declared.schema.Keys.TheVariants.{Enforced}
 use Rattle.sqlite.specs.Kind.TheVariants.{Integer}
+use Rattle.sqlite.specs.Effect.{Database}
 use Rattle.sqlite.specs.State.{State, Executes}
 use Rattle.room_tables.specs.Tables.{Layout, Fresh, Upgraded, room_schema, room_table, node_table, doc_table}
 use Rattle.room_tables.specs.Tables.{session_table}
-use Rattle.room_tables.specs.Texts.{put_node_text, put_node_terms, put_node_query, put_doc_text, put_doc_terms}
-use Rattle.room_tables.specs.Texts.{put_doc_query, put_next_text, put_next_terms, put_next_query, put_session_text}
-use Rattle.room_tables.specs.Texts.{put_session_terms, put_session_query}
+use Rattle.room_tables.specs.Texts.{change_node_text, change_node_query, add_node_text, add_node_terms}
+use Rattle.room_tables.specs.Texts.{change_doc_text, change_doc_query}
+use Rattle.room_tables.specs.Texts.{add_doc_text, add_doc_terms, change_next_text, change_next_query, add_next_text}
+use Rattle.room_tables.specs.Texts.{add_next_terms, put_session_text, put_session_terms, put_session_query}
 use Rattle.room_tables.specs.Rows.{has, has_text}
 use Rattle.room_tables.specs.Layout.{IsKeyed, parent_value}
-use Rattle.room_tables.proofs.Meaning.{put_node_is, put_node_plain, put_doc_is, put_doc_plain, put_next_is}
-use Rattle.room_tables.proofs.Meaning.{put_next_plain, put_session_is, put_session_plain}
+use Rattle.room_tables.proofs.Meaning.{change_node_is, change_node_plain, add_node_is, add_node_plain}
+use Rattle.room_tables.proofs.Meaning.{change_doc_is, change_doc_plain, add_doc_is}
+use Rattle.room_tables.proofs.Meaning.{add_doc_plain, change_next_is, change_next_plain, add_next_is, add_next_plain}
+use Rattle.room_tables.proofs.Meaning.{put_session_is, put_session_plain}
+use Rattle.room_tables.proofs.Queries.{and_true}
+use Rattle.room_tables.proofs.Takes.{set_off}
+use Rattle.room_tables.proofs.Writes.{IsUpdate, Changes, changes_row, adds_row}
 use Rattle.room_tables.proofs.Values.{has_int, has_text_value}
 use Rattle.room_tables.proofs.Changes.{cast_null, cast_int}
 use Rattle.room_tables.proofs.Upserts.{PutInto, IsUpsert, put}
@@ -52,45 +60,43 @@ cast_node : (id : ℕ) (parent : Option ℕ) (name : List ℕ) (kind : ℕ) (own
 cast_node id parent name kind owner group aclflag =
     rw (cast_int (pos id), cast_null, cast_parent parent, cast_int (pos kind), cast_int (pos aclflag))
 
-node_quiet : (l : Layout) (row : Row) → works (room_schema l) Enforced 0 1 [] (row ∷ []) ≡ []
+node_set_off : (l : Layout) (moves : List (Row × Row)) → set_off l 1 moves false ≡ []
 unfolding everything
-node_quiet Fresh row = refl
-node_quiet Upgraded row = refl
+node_set_off Fresh moves = refl
+node_set_off Upgraded moves = refl
 
-node_quiet_change : (l : Layout) (olds : List Row) (row : Row)
-    → works (room_schema l) Enforced 0 1 olds (row ∷ []) ≡ []
+none_set_off : (l : Layout) → set_off l 1 [] true ≡ []
 unfolding everything
-node_quiet_change Fresh olds row = refl
-node_quiet_change Upgraded olds row = refl
+none_set_off Fresh = refl
+none_set_off Upgraded = refl
 
-node_conflict : (l : Layout) (id : ℕ) (parent : Option ℕ) (name : List ℕ) (kind : ℕ) (owner group : List ℕ)
-    (aclflag : ℕ) (r : Row)
-    → conflicts (Some (0 ∷ [])) (room_schema l).indexes node_table
-    (stored_node id parent name kind owner group aclflag) r
-    ≡ true → has 0 id r ≡ true
-unfolding first_key
-node_conflict Fresh id parent name kind owner group aclflag r h = with_truth (has 0 id r) h
-node_conflict Upgraded id parent name kind owner group aclflag r h = with_truth (has 0 id r) h
+not_empty : {X : Type 0} (x : X) (xs : List X) → (length (x ∷ xs) == 0) ≡ false
+not_empty x xs = grind (arith, nat_tests)
+
+-- nothing goes with a node whose row is written: its number stays
+node_quiet : (l : Layout) (olds : List Row) (new : Row) (news : List Row)
+    → works (room_schema l) Enforced 0 1 olds (new ∷ news) ≡ []
+node_quiet l olds new news = subst (λ b. set_off l 1 (pairs olds (new ∷ news)) b ≡ [])
+    (sym (not_empty new news)) (node_set_off l (pairs olds (new ∷ news)))
+
+-- and nodes that are added set nothing off
+nodes_quiet : (l : Layout) (news : List Row) → works (room_schema l) Enforced 0 1 [] news ≡ []
+nodes_quiet l [] = none_set_off l
+nodes_quiet l (new ∷ news) = node_quiet l [] new news
 
 abbrev pub node_params : ℕ → Option ℕ → List ℕ → ℕ → List ℕ → List ℕ → ℕ → Row
 node_params id parent name kind owner group aclflag =
     Int (pos id) ∷ parent_value parent ∷ Text name ∷ Int (pos kind) ∷ Text owner ∷ Text group ∷ Int (pos aclflag) ∷ []
 
-node_upsert : (l : Layout) (id : ℕ) (parent : Option ℕ) (name : List ℕ) (kind : ℕ) (owner group : List ℕ) (aclflag : ℕ)
-    → IsUpsert l node_table (0 ∷ []) 7 put_node_query.project (node_params id parent name kind owner group aclflag)
-    (stored_node id parent name kind owner group aclflag)
-    (λ r. r ≡ stored_node id parent name kind owner group aclflag) (λ r. has 0 id r ≡ true)
-node_upsert l id parent name kind owner group aclflag = record {
-  uncounted = refl;
-  quiet_put = node_quiet l;
-  quiet_change = node_quiet_change l;
+node_update : (l : Layout) (id : ℕ) (parent : Option ℕ) (name : List ℕ) (kind : ℕ) (owner group : List ℕ) (aclflag : ℕ)
+    → IsUpdate l node_table id change_node_query.filter change_node_query.project
+    (node_params id parent name kind owner group aclflag)
+    (λ r. r ≡ stored_node id parent name kind owner group aclflag)
+node_update l id parent name kind owner group aclflag = record {
+  quiet = node_quiet l;
+  idle = none_set_off l;
   here = λ db. refl;
-  id = pos id;
-  has_id = refl;
-  cast = cast_node id parent name kind owner group aclflag;
-  fits = refl;
-  met = node_conflict l id parent name kind owner group aclflag;
-  there_at = λ v. refl;
+  test = λ r. and_true (has 0 id r);
   raw = λ there. rowid there ∷ Null ∷ parent_value parent ∷ Text name
       ∷ Int (pos kind) ∷ Text owner ∷ Text group ∷ Int (pos aclflag) ∷ [];
   reads = λ there. refl;
@@ -102,56 +108,65 @@ node_upsert l id parent name kind owner group aclflag = record {
       ∷ Text owner ∷ Text group ∷ Int (pos aclflag) ∷ []) (its_number id there i is met);
 }
 
-pub puts_node : (l : Layout) (old new : State) (id : ℕ) (parent : Option ℕ) (name : List ℕ) (kind : ℕ)
+-- what the count of an UPDATE tells
+abbrev pub ChangesNode : Layout → ℕ → Option ℕ → List ℕ → ℕ → List ℕ → List ℕ → ℕ → ℕ → Database → Database → Type 0
+ChangesNode l id parent name kind owner group aclflag = Changes l node_table id change_node_query.filter
+    change_node_query.project (node_params id parent name kind owner group aclflag)
+    (λ r. r ≡ stored_node id parent name kind owner group aclflag)
+
+pub changes_node : (l : Layout) (old new : State) (id : ℕ) (parent : Option ℕ) (name : List ℕ) (kind : ℕ)
     (owner group : List ℕ) (aclflag count : ℕ) → old.now.schema ≡ room_schema l → IsKeyed (old.now.trees 1)
-    → Executes put_node_text (node_params id parent name kind owner group aclflag) old new (Ok count)
-    → PutInto l old.now new.now 1 (λ r. r ≡ stored_node id parent name kind owner group aclflag)
-    (λ r. has 0 id r ≡ true)
-puts_node l old new id parent name kind owner group aclflag count schema keyed h =
-    put l old new 1 node_table (0 ∷ []) 7 put_node_query.project put_node_terms 8
-    count put_node_text (node_params id parent name kind owner group aclflag)
-    (stored_node id parent name kind owner group aclflag) (stored_node id parent name kind owner group aclflag) _ _
-    (node_upsert l id parent name kind owner group aclflag) refl schema keyed (put_node_is l) (put_node_plain l) refl
-    (ap (λ r. with_rowid Chosen (old.now.trees 1) r) (cast_node id parent name kind owner group aclflag)) h
+    → Executes change_node_text (node_params id parent name kind owner group aclflag) old new (Ok count)
+    → ChangesNode l id parent name kind owner group aclflag count old.now new.now
+changes_node l old new id parent name kind owner group aclflag count schema keyed h =
+    changes_row l node_table id change_node_query.filter change_node_query.project
+    (node_params id parent name kind owner group aclflag)
+    (λ r. r ≡ stored_node id parent name kind owner group aclflag)
+    (node_update l id parent name kind owner group aclflag) old new 1 count change_node_text refl
+    (change_node_is l) (change_node_plain l) schema keyed h
+
+-- an INSERT alone adds the row, and no row had its number
+pub adds_node : (l : Layout) (old new : State) (id : ℕ) (parent : Option ℕ) (name : List ℕ) (kind : ℕ)
+    (owner group : List ℕ) (aclflag count : ℕ) (Met : Row → Type 0) → old.now.schema ≡ room_schema l
+    → Executes add_node_text (node_params id parent name kind owner group aclflag) old new (Ok count)
+    → PutInto l old.now new.now 1 (λ r. r ≡ stored_node id parent name kind owner group aclflag) Met
+adds_node l old new id parent name kind owner group aclflag count Met schema h =
+    adds_row l old new 1 node_table add_node_terms 8 count add_node_text
+    (node_params id parent name kind owner group aclflag) (stored_node id parent name kind owner group aclflag)
+    (stored_node id parent name kind owner group aclflag) (pos id) _ Met refl schema refl (add_node_is l)
+    (add_node_plain l) (nodes_quiet l) refl
+    (ap (λ r. numbered Chosen (old.now.trees 1) (r ∷ [])) (cast_node id parent name kind owner group aclflag))
+    refl refl h
 
 -- ---- doc
 
 abbrev pub stored_doc : ℕ → List ℕ → Row
 stored_doc id bytes = Int (pos id) ∷ Null ∷ Blob bytes ∷ []
 
-doc_quiet : (l : Layout) (row : Row) → works (room_schema l) Enforced 0 5 [] (row ∷ []) ≡ []
+doc_set_off : (l : Layout) (moves : List (Row × Row)) (deletes : Bool) → set_off l 5 moves deletes ≡ []
 unfolding everything
-doc_quiet Fresh row = refl
-doc_quiet Upgraded row = refl
+doc_set_off Fresh moves true = refl
+doc_set_off Fresh moves false = refl
+doc_set_off Upgraded moves true = refl
+doc_set_off Upgraded moves false = refl
 
-doc_quiet_change : (l : Layout) (olds : List Row) (row : Row)
-    → works (room_schema l) Enforced 0 5 olds (row ∷ []) ≡ []
-unfolding everything
-doc_quiet_change Fresh olds row = refl
-doc_quiet_change Upgraded olds row = refl
-
-doc_conflict : (l : Layout) (id : ℕ) (bytes : List ℕ) (r : Row)
-    → conflicts (Some (0 ∷ [])) (room_schema l).indexes doc_table (stored_doc id bytes) r ≡ true → has 0 id r ≡ true
-unfolding first_key
-doc_conflict Fresh id bytes r h = with_truth (has 0 id r) h
-doc_conflict Upgraded id bytes r h = with_truth (has 0 id r) h
+-- nothing refers to a document
+doc_quiet : (l : Layout) (olds news : List Row) → works (room_schema l) Enforced 0 5 olds news ≡ []
+doc_quiet l olds news = doc_set_off l (pairs olds news) (length news == 0)
 
 cast_doc : (id : ℕ) (bytes : List ℕ) → cast_row doc_table (stored_doc id bytes) ≡ stored_doc id bytes
 cast_doc id bytes = rw (cast_int (pos id), cast_null)
 
-doc_upsert : (l : Layout) (id : ℕ) (bytes : List ℕ) → IsUpsert l doc_table (0 ∷ []) 2 put_doc_query.project
-    (Int (pos id) ∷ Blob bytes ∷ []) (stored_doc id bytes) (λ r. r ≡ stored_doc id bytes) (λ r. has 0 id r ≡ true)
-doc_upsert l id bytes = record {
-  uncounted = refl;
-  quiet_put = doc_quiet l;
-  quiet_change = doc_quiet_change l;
+abbrev pub doc_params : ℕ → List ℕ → Row
+doc_params id bytes = Int (pos id) ∷ Blob bytes ∷ []
+
+doc_update : (l : Layout) (id : ℕ) (bytes : List ℕ) → IsUpdate l doc_table id change_doc_query.filter
+    change_doc_query.project (doc_params id bytes) (λ r. r ≡ stored_doc id bytes)
+doc_update l id bytes = record {
+  quiet = λ olds new news. doc_quiet l olds (new ∷ news);
+  idle = doc_quiet l [] [];
   here = λ db. refl;
-  id = pos id;
-  has_id = refl;
-  cast = cast_doc id bytes;
-  fits = refl;
-  met = doc_conflict l id bytes;
-  there_at = λ v. refl;
+  test = λ r. and_true (has 0 id r);
   raw = λ there. rowid there ∷ Null ∷ Blob bytes ∷ [];
   reads = λ there. refl;
   renewed = λ there. rowid there ∷ Null ∷ Blob bytes ∷ [];
@@ -160,14 +175,30 @@ doc_upsert l id bytes = record {
   refits = λ there i is met. ap (λ v. v ∷ Null ∷ Blob bytes ∷ []) (its_number id there i is met);
 }
 
-pub puts_doc : (l : Layout) (old new : State) (id : ℕ) (bytes : List ℕ) (count : ℕ) → old.now.schema ≡ room_schema l
-    → IsKeyed (old.now.trees 5) → Executes put_doc_text (Int (pos id) ∷ Blob bytes ∷ []) old new (Ok count)
-    → PutInto l old.now new.now 5 (λ r. r ≡ stored_doc id bytes) (λ r. has 0 id r ≡ true)
-puts_doc l old new id bytes count schema keyed h =
-    put l old new 3 doc_table (0 ∷ []) 2 put_doc_query.project put_doc_terms 3 count put_doc_text
-    (Int (pos id) ∷ Blob bytes ∷ []) (stored_doc id bytes) (stored_doc id bytes) _ _
-    (doc_upsert l id bytes) refl schema keyed (put_doc_is l) (put_doc_plain l) refl
-    (ap (λ r. with_rowid Chosen (old.now.trees 5) r) (cast_doc id bytes)) h
+-- the document was put
+abbrev pub PutsDoc : Layout → ℕ → List ℕ → Database → Database → Type 0
+PutsDoc l id bytes old new = PutInto l old new 5 (λ r. r ≡ stored_doc id bytes) (λ r. has 0 id r ≡ true)
+
+-- what the count of an UPDATE tells
+abbrev pub ChangesDoc : Layout → ℕ → List ℕ → ℕ → Database → Database → Type 0
+ChangesDoc l id bytes = Changes l doc_table id change_doc_query.filter change_doc_query.project
+    (doc_params id bytes) (λ r. r ≡ stored_doc id bytes)
+
+pub changes_doc : (l : Layout) (old new : State) (id : ℕ) (bytes : List ℕ) (count : ℕ)
+    → old.now.schema ≡ room_schema l → IsKeyed (old.now.trees 5)
+    → Executes change_doc_text (doc_params id bytes) old new (Ok count)
+    → ChangesDoc l id bytes count old.now new.now
+changes_doc l old new id bytes count schema keyed h =
+    changes_row l doc_table id change_doc_query.filter change_doc_query.project (doc_params id bytes)
+    (λ r. r ≡ stored_doc id bytes) (doc_update l id bytes) old new 3 count change_doc_text refl
+    (change_doc_is l) (change_doc_plain l) schema keyed h
+
+pub adds_doc : (l : Layout) (old new : State) (id : ℕ) (bytes : List ℕ) (count : ℕ) → old.now.schema ≡ room_schema l
+    → Executes add_doc_text (doc_params id bytes) old new (Ok count) → PutsDoc l id bytes old.now new.now
+adds_doc l old new id bytes count schema h =
+    adds_row l old new 3 doc_table add_doc_terms 3 count add_doc_text (doc_params id bytes)
+    (stored_doc id bytes) (stored_doc id bytes) (pos id) _ _ refl schema refl (add_doc_is l) (add_doc_plain l)
+    (doc_quiet l []) refl (ap (λ r. numbered Chosen (old.now.trees 5) (r ∷ [])) (cast_doc id bytes)) refl refl h
 
 -- ---- the one row of room
 
@@ -175,39 +206,27 @@ puts_doc l old new id bytes count schema keyed h =
 abbrev pub stored_next : ℕ → Row
 stored_next n = Int (pos 1) ∷ Null ∷ Int (pos 2) ∷ Int (pos n) ∷ []
 
-next_quiet : (l : Layout) (row : Row) → works (room_schema l) Enforced 0 0 [] (row ∷ []) ≡ []
+next_set_off : (l : Layout) (moves : List (Row × Row)) (deletes : Bool) → set_off l 0 moves deletes ≡ []
 unfolding everything
-next_quiet Fresh row = refl
-next_quiet Upgraded row = refl
+next_set_off Fresh moves true = refl
+next_set_off Fresh moves false = refl
+next_set_off Upgraded moves true = refl
+next_set_off Upgraded moves false = refl
 
-next_quiet_change : (l : Layout) (olds : List Row) (row : Row)
-    → works (room_schema l) Enforced 0 0 olds (row ∷ []) ≡ []
-unfolding everything
-next_quiet_change Fresh olds row = refl
-next_quiet_change Upgraded olds row = refl
-
-next_conflict : (l : Layout) (n : ℕ) (r : Row)
-    → conflicts (Some (0 ∷ [])) (room_schema l).indexes room_table (stored_next n) r ≡ true → has 0 1 r ≡ true
-unfolding first_key
-next_conflict Fresh n r h = with_truth (has 0 1 r) h
-next_conflict Upgraded n r h = with_truth (has 0 1 r) h
+-- nothing refers to the row of room
+next_quiet : (l : Layout) (olds news : List Row) → works (room_schema l) Enforced 0 0 olds news ≡ []
+next_quiet l olds news = next_set_off l (pairs olds news) (length news == 0)
 
 cast_next : (n : ℕ) → cast_row room_table (stored_next n) ≡ stored_next n
 cast_next n = rw (cast_int (pos 1), cast_null, cast_int (pos 2), cast_int (pos n))
 
-next_upsert : (l : Layout) (n : ℕ) → IsUpsert l room_table (0 ∷ []) 1 put_next_query.project
-    (Int (pos n) ∷ []) (stored_next n) (λ r. r ≡ stored_next n) (λ r. has 0 1 r ≡ true)
-next_upsert l n = record {
-  uncounted = refl;
-  quiet_put = next_quiet l;
-  quiet_change = next_quiet_change l;
+next_update : (l : Layout) (n : ℕ) → IsUpdate l room_table 1 change_next_query.filter
+    change_next_query.project (Int (pos n) ∷ []) (λ r. r ≡ stored_next n)
+next_update l n = record {
+  quiet = λ olds new news. next_quiet l olds (new ∷ news);
+  idle = next_quiet l [] [];
   here = λ db. refl;
-  id = pos 1;
-  has_id = refl;
-  cast = cast_next n;
-  fits = refl;
-  met = next_conflict l n;
-  there_at = λ v. refl;
+  test = λ r. and_true (has 0 1 r);
   raw = λ there. rowid there ∷ Null ∷ Int (pos 2) ∷ Int (pos n) ∷ [];
   reads = λ there. refl;
   renewed = λ there. rowid there ∷ Null ∷ Int (pos 2) ∷ Int (pos n) ∷ [];
@@ -216,14 +235,29 @@ next_upsert l n = record {
   refits = λ there i is met. ap (λ v. v ∷ Null ∷ Int (pos 2) ∷ Int (pos n) ∷ []) (its_number 1 there i is met);
 }
 
-pub puts_next : (l : Layout) (old new : State) (n count : ℕ) → old.now.schema ≡ room_schema l
-    → IsKeyed (old.now.trees 0) → Executes put_next_text (Int (pos n) ∷ []) old new (Ok count)
-    → PutInto l old.now new.now 0 (λ r. r ≡ stored_next n) (λ r. has 0 1 r ≡ true)
-puts_next l old new n count schema keyed h =
-    put l old new 0 room_table (0 ∷ []) 1 put_next_query.project put_next_terms 4
-    count put_next_text (Int (pos n) ∷ []) (stored_next n) (stored_next n) _ _
-    (next_upsert l n) refl schema keyed (put_next_is l) (put_next_plain l) refl
-    (ap (λ r. with_rowid Chosen (old.now.trees 0) r) (cast_next n)) h
+-- the row was put
+abbrev pub PutsNext : Layout → ℕ → Database → Database → Type 0
+PutsNext l n old new = PutInto l old new 0 (λ r. r ≡ stored_next n) (λ r. has 0 1 r ≡ true)
+
+-- what the count of an UPDATE tells
+abbrev pub ChangesNext : Layout → ℕ → ℕ → Database → Database → Type 0
+ChangesNext l n = Changes l room_table 1 change_next_query.filter change_next_query.project
+    (Int (pos n) ∷ []) (λ r. r ≡ stored_next n)
+
+pub changes_next : (l : Layout) (old new : State) (n count : ℕ) → old.now.schema ≡ room_schema l
+    → IsKeyed (old.now.trees 0) → Executes change_next_text (Int (pos n) ∷ []) old new (Ok count)
+    → ChangesNext l n count old.now new.now
+changes_next l old new n count schema keyed h =
+    changes_row l room_table 1 change_next_query.filter change_next_query.project (Int (pos n) ∷ [])
+    (λ r. r ≡ stored_next n) (next_update l n) old new 0 count change_next_text refl
+    (change_next_is l) (change_next_plain l) schema keyed h
+
+pub adds_next : (l : Layout) (old new : State) (n count : ℕ) → old.now.schema ≡ room_schema l
+    → Executes add_next_text (Int (pos n) ∷ []) old new (Ok count) → PutsNext l n old.now new.now
+adds_next l old new n count schema h =
+    adds_row l old new 0 room_table add_next_terms 4 count add_next_text (Int (pos n) ∷ [])
+    (stored_next n) (stored_next n) (pos 1) _ _ refl schema refl (add_next_is l) (add_next_plain l)
+    (next_quiet l []) refl (ap (λ r. numbered Chosen (old.now.trees 0) (r ∷ [])) (cast_next n)) refl refl h
 
 -- ---- session
 

@@ -135,6 +135,7 @@ steps_session old new row count room h =
           (still_numbered 6 old.now new.now room (omega arith) o);
       schema = done.schema ∙ sym room.schema;
       version = version_stays _ _ (o.room (omega arith));
+      sound = λ _ _. done.sound;
       records = same_records _ _
           (λ q. ap (λ rows. nodes_in rows q) (o.node (omega arith)))
           (λ q. ap (λ rows. entries_in rows q) (o.entry (omega arith)))

@@ -101,6 +101,7 @@ steps_drop_slots old new sid count room h =
           (still_numbered (slots_tree l) old.now new.now room (apart l 1 (omega arith)) o);
       schema = it.schema ∙ sym room.schema;
       version = version_stays _ _ (o.room (apart l 0 (omega arith)));
+      sound = λ _ _. it.sound;
       records = same_records _ _
           (λ q. ap (λ rows. nodes_in rows q) (o.node (apart l 1 (omega arith))))
           (λ q. ap (λ rows. entries_in rows q) (o.entry (apart l 3 (omega arith))))
@@ -170,6 +171,7 @@ steps_put old new row room done =
           (still_numbered (slots_tree l) old.now new.now room (apart l 1 (omega arith)) o);
       schema = done.schema ∙ sym room.schema;
       version = version_stays _ _ (o.room (apart l 0 (omega arith)));
+      sound = λ _ _. done.sound;
       records = same_records _ _
           (λ q. ap (λ rows. nodes_in rows q) (o.node (apart l 1 (omega arith))))
           (λ q. ap (λ rows. entries_in rows q) (o.entry (apart l 3 (omega arith))))
@@ -202,6 +204,7 @@ steps_left old new room it =
           (still_numbered (slots_tree l) old.now new.now room (apart l 1 (omega arith)) o);
       schema = it.schema ∙ sym room.schema;
       version = version_stays _ _ (o.room (apart l 0 (omega arith)));
+      sound = λ _ _. it.sound;
       records = same_records _ _
           (λ q. ap (λ rows. nodes_in rows q) (o.node (apart l 1 (omega arith))))
           (λ q. ap (λ rows. entries_in rows q) (o.entry (apart l 3 (omega arith))))
@@ -243,6 +246,7 @@ steps_add_slot old mid new row count room none one =
       schema = b.schema ∙ a.schema;
       records = b.records ∙ ap (apply_change (PutSlot row)) a.records;
       version = λ v. b.version (a.version v);
+      sound = λ s. b.sound (a.sound s);
     }
 
 -- the rows of nodes stay as they are

@@ -33,7 +33,7 @@ entries_quiet Fresh olds = refl
 entries_quiet Upgraded olds = refl
 
 -- what is set off by rows of a table that went, and by those that came
-abbrev set_off : Layout → ℕ → List (Row × Row) → Bool → List Work
+abbrev pub set_off : Layout → ℕ → List (Row × Row) → Bool → List Work
 set_off l tree moves deletes = flat_map (λ child. filter_map (λ ref. work_by 0 tree moves child ref
     (deed_for Enforced deletes ref) (parent_key (room_schema l).tables ref)) child.references) (room_schema l).tables
 

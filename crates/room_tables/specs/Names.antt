@@ -1,12 +1,14 @@
 -- The order of rows of nodes, and a count as a row.
-use Rattle.std.specs.Prelude.{◌≡◌, ℕ, pos, false, min, List, [], ◌∷◌}
+use Rattle.std.specs.Prelude.{◌≡◌, ℕ, pos, false, min, List, [], ◌∷◌, map, IsPermutation}
 use Rattle.std.specs.Ordering.{is_gt}
 use Rattle.sqlite_value.specs.declared.value.Value.TheVariants.{Int}
 use Rattle.sqlite_value.specs.declared.keys.Key.{Key}
 use Rattle.sqlite_value.specs.declared.keys.Collation.TheVariants.{Binary}
 use Rattle.sqlite_value.specs.Keys.{ascending}
 use Rattle.sqlite_value.specs.Order.{Row, column}
+use Rattle.sqlite_trees.specs.Tree.{Trees, IsAscending}
 use Rattle.sqlite_sql.specs.Query.{key_cmp}
+use Rattle.room_tables.specs.Rows.{child_rows, name_and_kind}
 
 abbrev pub name_keys : List Key
 name_keys = ascending Binary ∷ []
@@ -18,6 +20,11 @@ name_key r = column r 2 ∷ []
 -- the name of the one is not above that of the other
 abbrev pub ByName : Row → Row → Type 0
 ByName a b = is_gt (key_cmp 0 name_keys (name_key a) (name_key b)) ≡ false
+
+-- these are the names and kinds of a folder's rows, in order of the names
+abbrev pub AreNameRows : Trees → ℕ → List Row → Type 0
+AreNameRows db parent rows = (nodes : List Row) × IsPermutation (child_rows db parent) nodes × IsAscending ByName nodes
+    × (rows ≡ map name_and_kind nodes)
 
 -- the greatest count that is told
 abbrev pub most : ℕ

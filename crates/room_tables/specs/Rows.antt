@@ -15,6 +15,7 @@ use Rattle.sqlite_trees.specs.Tree.{Trees, rowid}
 use Rattle.sqlite_trees.specs.Objects.{catalog_tree}
 use Rattle.sqlite_catalog.specs.Listing.{is_table_row}
 use Rattle.sqlite_sql.specs.Query.{key_cmp}
+use Rattle.sqlite_sql.specs.Text.{length_of}
 use Rattle.sqlite_schema.specs.Rules.{equal}
 use Rattle.sqlite_keyed.specs.Lists.{sort_by}
 use Rattle.room_acl.specs.declared.subject.Kind.{Kind}
@@ -108,6 +109,14 @@ named_rows db parent name = map shown_node (filter (is_child_named parent name) 
 abbrev pub child_rows : Trees → ℕ → List Row
 child_rows db parent = map shown_node (filter (has 2 parent) (db 1))
 
+-- the name and the kind alone, of a row as it is shown
+abbrev pub name_and_kind : Row → Row
+name_and_kind shown = column shown 2 ∷ column shown 3 ∷ []
+
+-- what such a row lists: none where it has no name
+abbrev pub listed_of : Row → Option (List ℕ × Kind)
+listed_of row = option_map (λ (name : List ℕ). (name, kind_of (number_in (column row 1)))) (name_in (column row 0))
+
 abbrev pub nodes_in : List Row → ℕ → Option Node
 nodes_in rows id = option_map node_of (only (map shown_node (filter (has 0 id) rows)))
 
@@ -151,6 +160,17 @@ doc_of row = bytes_in (column row 0)
 
 abbrev pub documents_in : List Row → ℕ → Option (List ℕ)
 documents_in rows id = option_map doc_of (only (map shown_doc (filter (has 0 id) rows)))
+
+-- how long the bytes are, as SQL's length() tells
+abbrev pub shown_size : Row → Row
+shown_size row = length_of (column row 2) ∷ []
+
+abbrev pub size_rows : Trees → ℕ → List Row
+size_rows db id = map shown_size (filter (has 0 id) (db 5))
+
+-- 0 where there is no row
+abbrev pub size_in : List Row → ℕ
+size_in rows = unwrap_or (option_map (λ row. number_in (column row 0)) (only rows)) 0
 
 -- ---- session: tree 6
 
@@ -199,6 +219,16 @@ is_slot sid slot row = has_text 1 sid row && has 2 slot row
 
 abbrev pub slot_rows : Trees → List ℕ → ℕ → List Row
 slot_rows db sid slot = map shown_slot (filter (is_slot sid slot) (slots_of db))
+
+-- the number alone
+abbrev pub shown_seq : Row → Row
+shown_seq row = column row 3 ∷ []
+
+abbrev pub seq_of : Row → ℕ
+seq_of row = number_in (column row 0)
+
+abbrev pub seq_rows : Trees → List ℕ → ℕ → List Row
+seq_rows db sid slot = map shown_seq (filter (is_slot sid slot) (slots_of db))
 
 abbrev pub slots_in : List Row → List ℕ → ℕ → Option KeptModel
 slots_in rows sid slot = option_map kept_of (only (map shown_slot (filter (is_slot sid slot) rows)))

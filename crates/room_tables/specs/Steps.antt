@@ -1,10 +1,10 @@
 -- Steps of a transaction on the records.
-use Rattle.std.specs.Prelude.{◌≡◌, ◌≢◌, ℕ, suc, pos, Bool, List, [], ◌∷◌, if◌then◌else◌}
+use Rattle.std.specs.Prelude.{◌≡◌, ◌≢◌, ℕ, suc, pos, Bool, List, [], ◌∷◌, if◌then◌else◌, IsTrue}
 use Rattle.std.specs.List.{AllByRecursion}
 use Rattle.sqlite_value.specs.declared.value.Value.TheVariants.{Int, Text}
 use Rattle.sqlite_value.specs.Order.{Row}
 use Rattle.sqlite_trees.specs.Tree.{Trees}
-use Rattle.sqlite.specs.Effect.{Database}
+use Rattle.sqlite.specs.Effect.{Database, IsDatabase}
 use Rattle.sqlite.specs.State.{State}
 use Rattle.room_acl.specs.declared.subject.Kind.{Kind}
 use Rattle.room_acl.specs.declared.subject.Kind.TheVariants.{File, Folder}
@@ -43,12 +43,17 @@ placed at (e ∷ es) = shown_as at e ∷ placed (suc at) es
 
 -- ---- steps
 
+-- while the connection is open, what it sees is sound: so it says of itself
+abbrev pub SeesSound : State → Type 0
+SeesSound s = IsTrue s.is_open → IsDatabase s.now
+
 -- inside a transaction the records were changed so, and the tables and a version 2 stayed
 pub record Steps (old new : State) (change : Records → Records) : Type 0 where
   pub room : IsRoomDatabase new.now
   pub schema : new.now.schema ≡ old.now.schema
   pub records : records_of new.now.trees ≡ change (records_of old.now.trees)
   pub version : IsVersion 2 (version_rows old.now.trees) → IsVersion 2 (version_rows new.now.trees)
+  pub sound : SeesSound old → SeesSound new
 
 -- a commit of these changes leaves such trees, where there was a room before
 abbrev pub MayBecome : List Change → Database → Trees → Type 0
@@ -71,3 +76,4 @@ pub record Lists (before : Database) (id : ℕ) (entries : List EntryModel) (db 
   pub sessions : (sid : List ℕ) → (records_of db.trees).session sid ≡ (records_of before.trees).session sid
   pub slots : (sid : List ℕ) (slot : ℕ) → (records_of db.trees).slot sid slot ≡ (records_of before.trees).slot sid slot
   pub version : version_rows db.trees ≡ version_rows before.trees
+  pub sound : IsDatabase before → IsDatabase db

@@ -4,9 +4,10 @@ use Rattle.sqlite_value.specs.declared.value.Value.TheVariants.{Null, Int}
 use Rattle.sqlite_value.specs.declared.keys.Collation.TheVariants.{Binary}
 use Rattle.sqlite_value.specs.declared.keys.Key.{Key}
 use Rattle.sqlite_value.specs.Keys.{ascending}
-use Rattle.sqlite_sql.specs.Term.{Term, lit, col, op2}
+use Rattle.sqlite_sql.specs.Term.{Term, lit, col, op1, op2}
 use Rattle.sqlite_sql.specs.Query.{Query, inner, end}
 use Rattle.sqlite_sql.specs.declared.ops.BinaryOp.TheVariants.{Compare}
+use Rattle.sqlite_sql.specs.declared.ops.UnaryOp.TheVariants.{Length}
 use Rattle.sqlite_sql.specs.declared.ops.CompareOp.TheVariants.{Eq}
 use Rattle.sqlite_schema.specs.declared.command.Upsert.{Upsert}
 use Rattle.sqlite_sql.specs.Group.{Aggregate, Grouping}
@@ -66,6 +67,12 @@ abbrev pub list_children_query : Query
 list_children_query = over_table 1 (equals (col 1 2) (col 0 0) ∷ [])
     (col 1 0 ∷ col 1 2 ∷ col 1 3 ∷ col 1 4 ∷ col 1 5 ∷ col 1 6 ∷ col 1 7 ∷ []) (by (col 1 3) ∷ [])
 
+abbrev pub list_names_text : List ℕ
+list_names_text = codes "SELECT name, kind FROM node WHERE parent = ?1 ORDER BY name"
+
+abbrev pub list_names_query : Query
+list_names_query = over_table 1 (equals (col 1 2) (col 0 0) ∷ []) (col 1 3 ∷ col 1 4 ∷ []) (by (col 1 3) ∷ [])
+
 abbrev pub list_entries_text : List ℕ
 list_entries_text =
     codes "SELECT place, type, flag, mask, who FROM entry WHERE node = ?1 ORDER BY place, type, flag, mask, who"
@@ -88,6 +95,13 @@ find_doc_text = codes "SELECT bytes FROM doc WHERE node = ?1"
 abbrev pub find_doc_query : Query
 find_doc_query = over_table 5 (equals (col 1 0) (col 0 0) ∷ []) (col 1 2 ∷ []) ([])
 
+-- how long the bytes are, which are not read
+abbrev pub find_size_text : List ℕ
+find_size_text = codes "SELECT length(bytes) FROM doc WHERE node = ?1"
+
+abbrev pub find_size_query : Query
+find_size_query = over_table 5 (equals (col 1 0) (col 0 0) ∷ []) (op1 Length (col 1 2) ∷ []) ([])
+
 abbrev pub find_session_text : List ℕ
 find_session_text = codes "SELECT owner, slots, open FROM session WHERE sid = ?1"
 
@@ -101,6 +115,13 @@ abbrev pub find_slot_query : ℕ → Query
 find_slot_query tree =
     over_table tree (equals (col 1 1) (col 0 0) ∷ equals (col 1 2) (col 0 1) ∷ [])
     (col 1 3 ∷ col 1 4 ∷ col 1 5 ∷ []) ([])
+
+abbrev pub find_seq_text : List ℕ
+find_seq_text = codes "SELECT seq FROM kept WHERE sid = ?1 AND slot = ?2"
+
+abbrev pub find_seq_query : ℕ → Query
+find_seq_query tree =
+    over_table tree (equals (col 1 1) (col 0 0) ∷ equals (col 1 2) (col 0 1) ∷ []) (col 1 3 ∷ []) ([])
 
 abbrev pub drop_node_text : List ℕ
 drop_node_text = codes "DELETE FROM node WHERE id = ?1"
@@ -152,49 +173,50 @@ add_four_text = codes
 abbrev pub add_four_terms : List Term
 add_four_terms = entry_terms 1 ++ entry_terms 6 ++ entry_terms 11 ++ entry_terms 16
 
-abbrev pub put_next_text : List ℕ
-put_next_text = codes
-    "INSERT INTO room (one, version, next) VALUES (1, 2, ?1) ON CONFLICT (one) DO UPDATE SET version = excluded.version, next = excluded.next"
+-- The row of version 2 is written over the one that is there; it is added only where none was changed. An upsert would
+-- cost more than what it comes to
+abbrev pub change_next_text : List ℕ
+change_next_text = codes "UPDATE room SET version = 2, next = ?1 WHERE one = 1"
 
-abbrev pub put_next_terms : List Term
-put_next_terms = lit (Int (pos 1)) ∷ lit Null ∷ lit (Int (pos 2)) ∷ col 0 0 ∷ []
+-- the rowid of each row that passes, and its values with those that are set
+abbrev pub change_next_query : Query
+change_next_query = over_table 0 (equals (col 1 0) (lit (Int (pos 1))) ∷ [])
+    (col 1 0 ∷ col 1 0 ∷ lit Null ∷ lit (Int (pos 2)) ∷ col 0 0 ∷ []) []
 
--- the update reads the parameters, then the rowid that is there in column 1, and the new row from column 2 on
-abbrev pub put_next_query : Query
-put_next_query =
-    over_table 0 (equals (col 1 0) (col 0 1) ∷ []) (col 1 0 ∷ col 1 0 ∷ lit Null ∷ col 0 4 ∷ col 0 5 ∷ []) []
+abbrev pub add_next_text : List ℕ
+add_next_text = codes "INSERT INTO room (one, version, next) VALUES (1, 2, ?1)"
 
-abbrev pub put_next_clause : Upsert
-put_next_clause = record { target = Some (0 ∷ []); update = Some (record { lets = []; body = put_next_query }) }
+abbrev pub add_next_terms : List Term
+add_next_terms = lit (Int (pos 1)) ∷ lit Null ∷ lit (Int (pos 2)) ∷ col 0 0 ∷ []
 
-abbrev pub put_node_text : List ℕ
-put_node_text = codes
-    "INSERT INTO node (id, parent, name, kind, owner, grp, aclflag) VALUES (?1, ?2, ?3, ?4, ?5, ?6, ?7) ON CONFLICT (id) DO UPDATE SET parent = excluded.parent, name = excluded.name, kind = excluded.kind, owner = excluded.owner, grp = excluded.grp, aclflag = excluded.aclflag"
+-- the row of a node is written over the one that is there, and is added only where none was changed
+abbrev pub change_node_text : List ℕ
+change_node_text = codes
+    "UPDATE node SET parent = ?2, name = ?3, kind = ?4, owner = ?5, grp = ?6, aclflag = ?7 WHERE id = ?1"
 
-abbrev pub put_node_terms : List Term
-put_node_terms = col 0 0 ∷ lit Null ∷ col 0 1 ∷ col 0 2 ∷ col 0 3 ∷ col 0 4 ∷ col 0 5 ∷ col 0 6 ∷ []
+abbrev pub change_node_query : Query
+change_node_query = over_table 1 (equals (col 1 0) (col 0 0) ∷ [])
+    (col 1 0 ∷ col 1 0 ∷ lit Null ∷ col 0 1 ∷ col 0 2 ∷ col 0 3 ∷ col 0 4 ∷ col 0 5 ∷ col 0 6 ∷ []) []
 
--- the update reads the parameters, then the rowid that is there in column 7, and the new row from column 8 on
-abbrev pub put_node_query : Query
-put_node_query = over_table 1 (equals (col 1 0) (col 0 7) ∷ [])
-    (col 1 0 ∷ col 1 0 ∷ lit Null ∷ col 0 10 ∷ col 0 11 ∷ col 0 12 ∷ col 0 13 ∷ col 0 14 ∷ col 0 15 ∷ []) []
+abbrev pub add_node_text : List ℕ
+add_node_text =
+    codes "INSERT INTO node (id, parent, name, kind, owner, grp, aclflag) VALUES (?1, ?2, ?3, ?4, ?5, ?6, ?7)"
 
-abbrev pub put_node_clause : Upsert
-put_node_clause = record { target = Some (0 ∷ []); update = Some (record { lets = []; body = put_node_query }) }
+abbrev pub add_node_terms : List Term
+add_node_terms = col 0 0 ∷ lit Null ∷ col 0 1 ∷ col 0 2 ∷ col 0 3 ∷ col 0 4 ∷ col 0 5 ∷ col 0 6 ∷ []
 
-abbrev pub put_doc_text : List ℕ
-put_doc_text =
-    codes "INSERT INTO doc (node, bytes) VALUES (?1, ?2) ON CONFLICT (node) DO UPDATE SET bytes = excluded.bytes"
+-- a document is written over the one that is there, and is added only where none was changed
+abbrev pub change_doc_text : List ℕ
+change_doc_text = codes "UPDATE doc SET bytes = ?2 WHERE node = ?1"
 
-abbrev pub put_doc_terms : List Term
-put_doc_terms = col 0 0 ∷ lit Null ∷ col 0 1 ∷ []
+abbrev pub change_doc_query : Query
+change_doc_query = over_table 5 (equals (col 1 0) (col 0 0) ∷ []) (col 1 0 ∷ col 1 0 ∷ lit Null ∷ col 0 1 ∷ []) []
 
--- the update reads the parameters, then the rowid that is there in column 2, and the new row from column 3 on
-abbrev pub put_doc_query : Query
-put_doc_query = over_table 5 (equals (col 1 0) (col 0 2) ∷ []) (col 1 0 ∷ col 1 0 ∷ lit Null ∷ col 0 5 ∷ []) []
+abbrev pub add_doc_text : List ℕ
+add_doc_text = codes "INSERT INTO doc (node, bytes) VALUES (?1, ?2)"
 
-abbrev pub put_doc_clause : Upsert
-put_doc_clause = record { target = Some (0 ∷ []); update = Some (record { lets = []; body = put_doc_query }) }
+abbrev pub add_doc_terms : List Term
+add_doc_terms = col 0 0 ∷ lit Null ∷ col 0 1 ∷ []
 
 abbrev pub put_session_text : List ℕ
 put_session_text = codes

@@ -26,4 +26,4 @@ pub mod ListsByRows
 pub mod RenewingLists
 pub mod RenewingParts
 pub mod RenewingChildren
-pub mod Told
+pub mod InTurn

@@ -104,7 +104,7 @@ module _ {t : ObjectRecords} {room : Room} {caller : SubjectModel} {path : Path}
   free : IsFree (apply_to_objects (PutNext (id + 1)) t) node above.id end.name
   free = record {
     fresh = fresh;
-    positive = (let first = is_present (t.node 1) stand.rules.has_root in
+    positive = (let first = is_present (t.node 1) stand.rules.nodes.has_root in
         let one = stand.rules.numbered 1 first.0 first.1 in omega (arith, one.2, numbered));
     below = omega (arith, new.number);
     parent = node_of above;

@@ -13,12 +13,13 @@ use Rattle.room_records.specs.declared.node.Node.{Node}
 use Rattle.room_records.specs.Names.{Name, Path}
 use Rattle.room_records.specs.Records.{ObjectRecords, IsChild}
 use Rattle.room_records.specs.Room.{Room, list_of, standing_of}
+use Rattle.room_records.specs.Shelf.{listed}
 use Rattle.room_records.specs.Rules.{ObjectRules}
 use Rattle.room_records.proofs.Folders.{pair_of, child_named}
 use Rattle.room_tree.specs.declared.loaded.LoadedObject.{LoadedObject}
 use Rattle.room_commands.specs.ReplyModel.{ReplyModel, Stat, Entries, Allowed}
 use Rattle.room_commands.specs.Effect.{object_or_default, attributes_of, size_of, or_no_object}
-use Rattle.room_tree.specs.LoadedObjects.{IsLoaded, node_of, listed}
+use Rattle.room_tree.specs.LoadedObjects.{IsLoaded, node_of}
 use Rattle.room_tree.proofs.Checking.{there}
 
 abbrev pub stat_of : Node → ℕ → ReplyModel

@@ -9,7 +9,7 @@ use Rattle.room_records.specs.declared.node.Node.{Node}
 use Rattle.room_records.specs.declared.change.Change.TheVariants.{PutNode}
 use Rattle.room_records.specs.Names.{Name, Path, IsFileName}
 use Rattle.room_records.specs.Records.{ObjectRecords, IsChild}
-use Rattle.room_records.specs.Rules.{ObjectRules}
+use Rattle.room_records.specs.Rules.{NodeRules, ObjectRules}
 use Rattle.room_records.specs.Changes.{apply_to_objects}
 use Rattle.room_records.specs.Room.{Object, Room, IsRoom, object_at, list_of}
 use Rattle.room_records.specs.Representation.{RepresentsRoom, NodeIsObject, RowsShowObject, HasPath, NamesUpwards}
@@ -46,19 +46,14 @@ module _ {t : ObjectRecords} (rules : ObjectRules t) {node : Node} {above : ℕ}
   in_folder other stands parent named =
       free.alone other (record { stands = stands; inside = parent ∙ free.inside }) (named ∙ free.named)
 
-  pub rules_put_new : ObjectRules later
-  rules_put_new = record {
-    numbered = λ id found stands. elim (back id found stands) [
-      | inl new ↦ (let number : found.id ≡ id = ap (λ (n : Node). n.id) (sym new.1) ∙ sym new.0 in
-          (number, omega (arith, new.0, free.positive), omega (arith, new.0, free.below)))
-      | inr old ↦ rules.numbered id found old
-    ];
+  nodes_put_new : NodeRules later.node
+  nodes_put_new = record {
     root = elim (some_or_none (t.node 1)) [
-      | inl none ↦ absurd (let f = rw none at rules.has_root in cc)
-      | inr found ↦ (rw (← found.1 ∙ sym (forth 1 found.0 found.1)) rules.root)
+      | inl none ↦ absurd (let f = rw none at rules.nodes.has_root in cc)
+      | inr found ↦ (rw (← found.1 ∙ sym (forth 1 found.0 found.1)) rules.nodes.root)
     ];
     has_root = elim (some_or_none (t.node 1)) [
-      | inl none ↦ absurd (let f = rw none at rules.has_root in cc)
+      | inl none ↦ absurd (let f = rw none at rules.nodes.has_root in cc)
       | inr found ↦ (rw (forth 1 found.0 found.1) refl)
     ];
     below = λ id found stands other. elim (back id found stands) [
@@ -72,7 +67,7 @@ module _ {t : ObjectRecords} (rules : ObjectRules t) {node : Node} {above : ℕ}
         named = ap (λ (n : Node). n.name) (sym new.1) ∙ free.named;
         lawful = free.lawful;
       }
-      | inr old ↦ (let under = rules.below id found old other in record {
+      | inr old ↦ (let under = rules.nodes.below id found old other in record {
         above = under.above;
         parent = under.parent;
         has_parent = under.has_parent;
@@ -92,9 +87,19 @@ module _ {t : ObjectRecords} (rules : ObjectRules t) {node : Node} {above : ℕ}
       | inr a_old ↦ elim (back b.id b b_stands) [
         | inl b_new ↦ absurd (in_folder a a_old (parents ∙ ap (λ (n : Node). n.parent) (sym b_new.1))
             (names ∙ ap (λ (n : Node). n.name) (sym b_new.1)))
-        | inr b_old ↦ rules.once a b a_old b_old parents names
+        | inr b_old ↦ rules.nodes.once a b a_old b_old parents names
       ]
     ];
+  }
+
+  pub rules_put_new : ObjectRules later
+  rules_put_new = record {
+    numbered = λ id found stands. elim (back id found stands) [
+      | inl new ↦ (let number : found.id ≡ id = ap (λ (n : Node). n.id) (sym new.1) ∙ sym new.0 in
+          (number, omega (arith, new.0, free.positive), omega (arith, new.0, free.below)))
+      | inr old ↦ rules.numbered id found old
+    ];
+    nodes = nodes_put_new;
     entries = λ id gone. elim (some_or_none (t.node id)) [
       | inl none ↦ rules.entries id none
       | inr found ↦ absurd (none_is_some found.0 (sym gone ∙ forth id found.0 found.1))

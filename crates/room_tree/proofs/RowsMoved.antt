@@ -9,7 +9,7 @@ use Rattle.room_records.specs.declared.node.Node.{Node}
 use Rattle.room_records.specs.declared.change.Change.TheVariants.{PutNode}
 use Rattle.room_records.specs.Names.{Name, Path, IsFileName}
 use Rattle.room_records.specs.Records.{ObjectRecords, IsChild}
-use Rattle.room_records.specs.Rules.{ObjectRules}
+use Rattle.room_records.specs.Rules.{NodeRules, ObjectRules}
 use Rattle.room_records.specs.Changes.{apply_to_objects}
 use Rattle.room_records.specs.Room.{Object, Room, IsRoom, object_at, list_of}
 use Rattle.room_records.specs.Representation.{RepresentsRoom, NodeIsObject, HasPath, NamesUpwards}
@@ -205,18 +205,10 @@ module _ {t : ObjectRecords} {room : Room} (stand : RepresentsRoom t room) {path
       let there = object_at_node t room stand to other.id other at stands in
       none_is_some there.0 (sym m.free ∙ there.1)
 
-  pub rules_moved : ObjectRules (apply_to_objects (PutNode now) t)
-  rules_moved = record {
-    numbered = λ id found stands. elim (back id found stands) [
-      | inl new ↦ (let old = stand.rules.numbered node.id node m.is_there.node_stands in (
-        ap (λ (n : Node). n.id) (sym new.1) ∙ m.id ∙ sym new.0,
-        omega (arith, new.0, old.1),
-        omega (arith, new.0, old.2),
-      ))
-      | inr old ↦ stand.rules.numbered id found old.1
-    ];
-    root = rw (away 1 (λ same. not_first (sym same))) stand.rules.root;
-    has_root = rw (away 1 (λ same. not_first (sym same))) stand.rules.has_root;
+  nodes_moved : NodeRules (apply_to_objects (PutNode now) t).node
+  nodes_moved = record {
+    root = rw (away 1 (λ same. not_first (sym same))) stand.rules.nodes.root;
+    has_root = rw (away 1 (λ same. not_first (sym same))) stand.rules.nodes.has_root;
     below = λ id found stands other. elim (back id found stands) [
       | inl new ↦ (let parent = forth above m.parent m.parent_stands in record {
         above = above;
@@ -228,7 +220,7 @@ module _ {t : ObjectRecords} {room : Room} (stand : RepresentsRoom t room) {path
         named = ap (λ (n : Node). n.name) (sym new.1) ∙ m.name;
         lawful = m.named;
       })
-      | inr old ↦ (let under = stand.rules.below id found old.1 other in
+      | inr old ↦ (let under = stand.rules.nodes.below id found old.1 other in
           let parent = forth under.above under.parent under.stands in record {
             above = under.above;
             parent = parent.0;
@@ -249,9 +241,22 @@ module _ {t : ObjectRecords} {room : Room} (stand : RepresentsRoom t room) {path
       | inr a_old ↦ elim (back b.id b b_stands) [
         | inl b_new ↦ absurd (alone a a_old.1 (parents ∙ ap (λ (n : Node). n.parent) (sym b_new.1))
             (names ∙ ap (λ (n : Node). n.name) (sym b_new.1)))
-        | inr b_old ↦ stand.rules.once a b a_old.1 b_old.1 parents names
+        | inr b_old ↦ stand.rules.nodes.once a b a_old.1 b_old.1 parents names
       ]
     ];
+  }
+
+  pub rules_moved : ObjectRules (apply_to_objects (PutNode now) t)
+  rules_moved = record {
+    numbered = λ id found stands. elim (back id found stands) [
+      | inl new ↦ (let old = stand.rules.numbered node.id node m.is_there.node_stands in (
+        ap (λ (n : Node). n.id) (sym new.1) ∙ m.id ∙ sym new.0,
+        omega (arith, new.0, old.1),
+        omega (arith, new.0, old.2),
+      ))
+      | inr old ↦ stand.rules.numbered id found old.1
+    ];
+    nodes = nodes_moved;
     entries = λ id gone. stand.rules.entries id (gone_before id gone);
     documents = λ id there.
         let owner = stand.rules.documents id there in

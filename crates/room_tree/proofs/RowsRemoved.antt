@@ -6,7 +6,7 @@ use Rattle.room_records.specs.declared.node.Node.{Node}
 use Rattle.room_records.specs.declared.change.Change.TheVariants.{DropNode}
 use Rattle.room_records.specs.Names.{Name, Path, IsPath}
 use Rattle.room_records.specs.Records.{ObjectRecords, IsChild}
-use Rattle.room_records.specs.Rules.{ObjectRules}
+use Rattle.room_records.specs.Rules.{NodeRules, ObjectRules}
 use Rattle.room_records.specs.Changes.{apply_to_objects}
 use Rattle.room_records.specs.Shelf.{name_of}
 use Rattle.room_records.specs.Room.{Object, Room, IsRoom, object_at, children, list_of}
@@ -57,14 +57,13 @@ module _ {t : ObjectRecords} {room : Room} (stand : RepresentsRoom t room) {path
   back : (k : ℕ) (found : Node) → later.node k ≡ Some found → (k ≢ id) × (t.node k ≡ Some found)
   back k found stands = grind (arith, common_steps, same_or_other, none_is_some, if_same, if_other)
 
-  rules_dropped : ObjectRules (apply_to_objects (DropNode id) t)
-  rules_dropped = record {
-    numbered = λ k found stands. stand.rules.numbered k found (back k found stands).1;
-    root = rw (if_other 1 id None (t.node 1) (λ same. not_first (sym same))) stand.rules.root;
-    has_root = rw (if_other 1 id None (t.node 1) (λ same. not_first (sym same))) stand.rules.has_root;
+  nodes_dropped : NodeRules (apply_to_objects (DropNode id) t).node
+  nodes_dropped = record {
+    root = rw (if_other 1 id None (t.node 1) (λ same. not_first (sym same))) stand.rules.nodes.root;
+    has_root = rw (if_other 1 id None (t.node 1) (λ same. not_first (sym same))) stand.rules.nodes.has_root;
     below = λ k found stands other.
         let before = back k found stands in
-        let under = stand.rules.below k found before.1 other in
+        let under = stand.rules.nodes.below k found before.1 other in
         record {
           above = under.above;
           parent = under.parent;
@@ -77,7 +76,13 @@ module _ {t : ObjectRecords} {room : Room} (stand : RepresentsRoom t room) {path
           lawful = under.lawful;
         };
     once = λ a b a_stands b_stands parents names.
-        stand.rules.once a b (back a.id a a_stands).1 (back b.id b b_stands).1 parents names;
+        stand.rules.nodes.once a b (back a.id a a_stands).1 (back b.id b b_stands).1 parents names;
+  }
+
+  rules_dropped : ObjectRules (apply_to_objects (DropNode id) t)
+  rules_dropped = record {
+    numbered = λ k found stands. stand.rules.numbered k found (back k found stands).1;
+    nodes = nodes_dropped;
     entries = λ k gone. elim (same_or_other k id) [
       | inl same ↦ if_same k id [] (t.entries k) same
       | inr other ↦ if_other k id [] (t.entries k) other

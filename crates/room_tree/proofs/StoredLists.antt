@@ -24,7 +24,7 @@ pub node_at_path : {t : ObjectRecords} {room : Room} → RepresentsRoom t room �
 node_at_path {t} stand path id at = elim (root_or_below path) [
   | inl root ↦ (
       let one : id ≡ 1 = rw root at at in
-      let first = is_present (t.node 1) stand.rules.has_root in
+      let first = is_present (t.node 1) stand.rules.nodes.has_root in
       (first.0, ap t.node one ∙ first.1))
   | inr end ↦ (
       let up = rw (ap reverse end.is ∙ reverse-append end.folder (end.name ∷ [])) at at in

@@ -6,7 +6,6 @@ use Rattle.room_acl.specs.Entries.{EntryModel}
 use Rattle.room_commands.specs.SetList.{clear_inherited}
 use Rattle.room_acl.specs.SubjectModel.{SubjectModel}
 use Rattle.room_records.specs.declared.node.Node.{Node}
-use Rattle.std.specs.Option.{option_map}
 use Rattle.room_records.specs.Names.{Name, Path}
 use Rattle.room_records.specs.Records.{ObjectRecords}
 use Rattle.room_records.specs.Shelf.{View}
@@ -62,10 +61,6 @@ kind_checks room path (Some Folder) = check_folder room path ∷ []
 -- the kind and a right
 abbrev pub use_checks : Room → SubjectModel → Path → Option Kind → ℕ → List (Option Refusal)
 use_checks room caller path kind wanted = kind_checks room path kind ++ check_right room caller path wanted ∷ []
-
--- what a listing shows of a node with a name
-abbrev pub listed : Node → Option (Name × Kind)
-listed node = option_map (λ (name : Name). (name, node.kind)) node.name
 
 -- the row of an object that is made at a path: the caller's, with the folder's group, and it follows
 pub record IsNewNode (caller : SubjectModel) (path : Path)

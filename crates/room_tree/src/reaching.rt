@@ -120,6 +120,16 @@ pub(crate) fn bytes_of<S: Shelf>(
     shelf.doc(loaded.id)
 }
 
+/// How many bytes a document has.
+pub(crate) fn count_bytes<S: Shelf>(shelf: &mut S, loaded: &LoadedObject) -> Result<u64, ShelfFault>
+    ensures value { OfRoom (S.view shelf.old) (S.view shelf.new) (λ t room. (path : PathModel)
+        → IsLoaded t room path loaded.now →
+        IfOk result (λ count. count ≡ length (bytes_at room path))) }
+    ensures frame { ShelfRead (S.view shelf.old) (S.view shelf.new) (fault_in result) }
+{
+    shelf.doc_size(loaded.id)
+}
+
 /// The size of a document, or how many are in a folder.
 pub(crate) fn size_of<S: Shelf>(shelf: &mut S, loaded: &LoadedObject) -> Result<u32, ShelfFault>
     ensures value { OfRoom (S.view shelf.old) (S.view shelf.new) (λ t room. (path : PathModel)
@@ -129,8 +139,8 @@ pub(crate) fn size_of<S: Shelf>(shelf: &mut S, loaded: &LoadedObject) -> Result<
 {
     match loaded.kind {
         Kind::File => {
-            let bytes = bytes_of(shelf, loaded)?;
-            Ok(as_size(bytes.len() as u64))
+            let count = count_bytes(shelf, loaded)?;
+            Ok(as_size(count))
         }
         Kind::Folder => {
             let count = count_children(shelf, loaded)?;

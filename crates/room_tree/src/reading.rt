@@ -1,13 +1,12 @@
 //! Commands that only read.
 ghost use Rattle.std.specs.Prelude.{◌≡◌, [], IfOk, bit_and};
-ghost use Rattle.std.specs.List.{filter_map};
 ghost use Rattle.room_records.specs.Room.{children};
 ghost use Rattle.room_records.specs.Names.{Path as PathModel};
 ghost use Rattle.room_records.specs.Shelf.{ShelfRead, fault_in};
 ghost use Rattle.room_commands.specs.CommandModel as C;
 ghost use Rattle.room_tree.specs.Plans.{Plans};
 ghost use Rattle.room_tree.specs.Stops.{stop_fault};
-ghost use Rattle.room_tree.specs.LoadedObjects.{OfRoom, IsLoaded, listed};
+ghost use Rattle.room_tree.specs.LoadedObjects.{OfRoom, IsLoaded};
 
 use crate::loaded::LoadedObject;
 use crate::planning::Outcome;
@@ -15,8 +14,8 @@ use crate::reaching::{bytes_of, reach, reach_to_use, size_of};
 use crate::refusal::Stop;
 use room_acl::{Kind, Mask, Subject, allowed_bits};
 use room_commands::Reply;
-use room_records::{FileName, Node, Path, Shelf, ShelfFault};
-use std::alloc::{AllocError, Global};
+use room_records::{FileName, Path, Shelf, ShelfFault};
+use std::alloc::Global;
 
 /// STAT: owner, group, list flags and size.
 pub(crate) fn plan_stat<S: Shelf>(
@@ -65,13 +64,12 @@ pub(crate) fn plan_list<S: Shelf>(
         Some(Kind::Folder),
         Mask::LIST_DIRECTORY,
     )?;
-    let names = names_in(alloc, shelf, &loaded)?;
+    let names = names_in(shelf, &loaded)?;
     Ok(Outcome::reading(alloc, Reply::Names(names)))
 }
 
 /// What is in a folder, by name.
 fn names_in<S: Shelf>(
-    alloc: Global,
     shelf: &mut S,
     loaded: &LoadedObject,
 ) -> Result<Vec<(FileName, Kind)>, ShelfFault>
@@ -80,22 +78,7 @@ fn names_in<S: Shelf>(
         IfOk result (λ names. names.items ≡ children room path)) }
     ensures frame { ShelfRead (S.view shelf.old) (S.view shelf.new) (fault_in result) }
 {
-    let nodes = shelf.children(loaded.id)?;
-    let names = listing(alloc, nodes)?;
-    Ok(names)
-}
-
-fn listing(alloc: Global, nodes: Vec<Node>) -> Result<Vec<(FileName, Kind)>, AllocError>
-    ensures { IfOk result (λ names. names.items ≡ filter_map listed nodes.items) }
-{
-    let mut names = Vec::new(alloc);
-    for node in nodes {
-        let Node { name, kind, .. } = node;
-        if let Some(name) = name {
-            names.push((name, kind))?;
-        }
-    }
-    Ok(names)
+    shelf.names(loaded.id)
 }
 
 /// READ: the bytes of a document.

@@ -1,13 +1,15 @@
 //! A shelf that remembers, beside the same shelf alone.
-use crate::play::{handed_down, must};
 use room_acl::{ListFlags, Mask, Standing, Subject, Who};
 use room_cache::CachedShelf;
 use room_commands::Command;
-use room_records::{Change, MemShelf, SessionRow, Shelf, ShelfFault, SlotCount, TripShelf};
+use room_records::{Change, MemShelf, Shelf, ShelfFault, Sid, TripShelf};
 use room_tree::plan;
 use std::alloc::Global;
 use std::test::Fail;
-use test_support::{SID, file_name, in_memory, named, path_of, session_name, subject};
+use test_support::{
+    SID, commit, file_name, handed_down, in_memory, must, named, path_of, session_name,
+    session_row, slot_row, subject,
+};
 
 /// What is asked of both shelves, and as whom.
 #[derive(Drop)]
@@ -37,14 +39,22 @@ fn asker_as(alloc: Global, user: &str, owner: &str, bits: u32) -> Result<Asker, 
 
 const NAMES: [&str; 7] = ["a", "b", "c", "d", "f", "g", "h"];
 
-/// The rows of one number, and of its children by name, as text.
+/// The rows of one number as text.
 fn told_of<S: Shelf>(asker: &Asker, shelf: &mut S, id: u32) -> Result<String, Fail> {
-    let alloc = asker.alloc;
     let node = shelf.node(id)?;
     let entries = shelf.entries(id)?;
     let decision = shelf.decide_at(id, &asker.ann, &asker.standing, asker.mask)?;
-    let count = shelf.child_count(id)?;
-    let mut text = format!(in alloc; "{id}: {node:?} {entries:?} {decision:?} {count}")?;
+    let size = shelf.doc_size(id)?;
+    Ok(format!(in asker.alloc; "{id}: {node:?} {entries:?} {decision:?} {size}")?)
+}
+
+/// What is in the folder of this number, as text: how much, the names with their kinds, and the children by name.
+fn told_in<S: Shelf>(asker: &Asker, shelf: &mut S, id: u32) -> Result<String, Fail> {
+    let alloc = asker.alloc;
+    let mut text = format!(in alloc; "in {id}: {}", shelf.child_count(id)?)?;
+    for (name, kind) in &shelf.names(id)? {
+        text.push_str(format!(in alloc; " {name:?} {kind:?}")?.as_str())?;
+    }
     for name in NAMES {
         let child = shelf.child(id, &file_name(alloc, name)?)?;
         text.push_str(format!(in alloc; " {child:?}")?.as_str())?;
@@ -52,12 +62,19 @@ fn told_of<S: Shelf>(asker: &Asker, shelf: &mut S, id: u32) -> Result<String, Fa
     Ok(text)
 }
 
-/// The session's row and the next number, as text.
+/// The session's row, what its first slots keep, and the next number, as text.
 fn told_beside<S: Shelf>(asker: &Asker, shelf: &mut S) -> Result<String, Fail> {
     let alloc = asker.alloc;
-    let session = shelf.session(&session_name(alloc, SID)?)?;
+    let sid = session_name(alloc, SID)?;
+    let session = shelf.session(&sid)?;
     let next = shelf.next_id()?;
-    Ok(format!(in alloc; "{session:?} {next}")?)
+    let mut text = format!(in alloc; "{session:?} {next}")?;
+    for slot in 0..3 {
+        let seq = shelf.slot_seq(&sid, slot)?;
+        let kept = shelf.slot(&sid, slot)?;
+        text.push_str(format!(in alloc; " {seq:?} {kept:?}")?.as_str())?;
+    }
+    Ok(text)
 }
 
 /// Both tell the same of their rows, also when they are asked again.
@@ -66,6 +83,8 @@ fn agree<S: Shelf>(asker: &Asker, shelf: &mut S, plain: &mut MemShelf) -> Result
         for id in 0..9 {
             let wanted = told_of(asker, plain, id)?;
             must(told_of(asker, shelf, id)? == wanted, wanted.as_str())?;
+            let wanted = told_in(asker, plain, id)?;
+            must(told_in(asker, shelf, id)? == wanted, wanted.as_str())?;
         }
         let wanted = told_beside(asker, plain)?;
         must(told_beside(asker, shelf)? == wanted, wanted.as_str())?;
@@ -119,7 +138,7 @@ fn command(alloc: Global, what: &str, path: &str, to: &str) -> Result<Command, F
 }
 
 /// Names that come and go, so that what is remembered of them becomes wrong.
-static COMMANDS: [(&str, &str, &str); 31] = [
+static COMMANDS: [(&str, &str, &str); 36] = [
     ("mkdir", "/a", ""),
     ("mkdir", "/a/b", ""),
     ("create", "/a/b/f", ""),
@@ -147,6 +166,11 @@ static COMMANDS: [(&str, &str, &str); 31] = [
     ("remove", "/c/f", ""),
     ("rename", "/c/g", "/c/f"),
     ("read", "/c/f", ""),
+    ("rename", "/c/f", "/a/d/f"),
+    ("list", "/c", ""),
+    ("list", "/a/d", ""),
+    ("rename", "/a/d/f", "/c/g"),
+    ("rename", "/a/d", "/c/d"),
     ("remove", "/a/b", ""),
     ("mkdir", "/h", ""),
     ("list", "/a", ""),
@@ -178,14 +202,20 @@ fn commands_over_a_shelf_that_remembers(rt: HostRuntime) -> Result<(), Fail> {
     Ok(())
 }
 
-/// The same row with its flag turned.
-fn session(alloc: Global, is_open: bool) -> Result<Change, Fail> {
-    Ok(Change::PutSession(SessionRow {
-        sid: session_name(alloc, SID)?,
-        owner: named(alloc, "ann")?,
-        slots: SlotCount::new(2).ok_or("two slots")?,
-        is_open,
-    }))
+/// What a slot keeps comes, rises and goes, beside another slot, and the session's row has its flag turned.
+fn change_beside(alloc: Global, at: u32) -> Result<Change, Fail> {
+    match at {
+        0 => slot_row(alloc, SID, 0, 1, None),
+        1 => session_row(alloc, SID, 2, true),
+        2 => slot_row(alloc, SID, 1, 1, None),
+        3 => slot_row(alloc, SID, 0, 2, None),
+        4 => session_row(alloc, SID, 2, false),
+        5 => slot_row(alloc, SID, 0, u32::MAX, Some(Vec::new(alloc))),
+        6 => slot_row(alloc, SID, 0, 0, None),
+        7 => Ok(Change::DropSlots(session_name(alloc, SID)?)),
+        8 => slot_row(alloc, SID, 1, 1, None),
+        _ => session_row(alloc, SID, 2, true),
+    }
 }
 
 #[test]
@@ -195,37 +225,50 @@ fn a_session_that_changes_is_not_the_one_of_before(rt: HostRuntime) -> Result<()
     let mut plain = in_memory(alloc)?;
     let mut shelf = CachedShelf::new(alloc, in_memory(alloc)?);
     agree(&asker, &mut shelf, &mut plain)?;
-    for is_open in [true, false, true] {
-        let changes = vec![in alloc; session(alloc, is_open)?]?;
-        plain.commit(changes.as_slice())?;
-        shelf.commit(changes.as_slice())?;
+    for at in 0..10 {
+        commit(&mut plain, vec![in alloc; change_beside(alloc, at)?]?)?;
+        commit(&mut shelf, vec![in alloc; change_beside(alloc, at)?]?)?;
         agree(&asker, &mut shelf, &mut plain)?;
     }
     Ok(())
 }
 
-/// Reads of the root that memory can answer.
-fn read_root<S: Shelf>(asker: &Asker, shelf: &mut S) -> Result<(), ShelfFault> {
+/// Reads of the root and of two slots that memory can answer.
+fn read_root<S: Shelf>(asker: &Asker, shelf: &mut S, sid: &Sid) -> Result<(), ShelfFault> {
     let _ = shelf.node(1)?;
+    let _ = shelf.names(1)?;
     let _ = shelf.decide_at(1, &asker.ann, &asker.standing, asker.mask)?;
     let _ = shelf.entries(1)?;
     let _ = shelf.next_id()?;
+    let _ = shelf.slot_seq(sid, 0)?;
+    let _ = shelf.slot_seq(sid, 1)?;
     Ok(())
 }
 
-/// Four calls reach the shelf inside, and the fifth, which fails, is the first that is not remembered.
+/// Seven calls reach the shelf inside, and a read of what a slot keeps, which tells its number too. The ninth, which
+/// fails, is the first that is not remembered.
 fn asks_once<S: Shelf>(asker: &Asker, shelf: &mut S) -> Result<(), Fail> {
+    let sid = session_name(asker.alloc, SID)?;
+    must(shelf.slot(&sid, 2)?.is_some(), "what is kept")?;
     for _ in 0..3 {
-        read_root(asker, shelf)?;
+        read_root(asker, shelf, &sid)?;
+        must(shelf.slot_seq(&sid, 2)? == Some(9), "the number")?;
     }
-    must(shelf.doc(1).is_err(), "the fifth call")
+    must(shelf.doc(1).is_err(), "the ninth call")
 }
 
 #[test]
 fn what_is_remembered_is_not_asked_again(rt: HostRuntime) -> Result<(), Fail> {
     let alloc = rt.alloc();
     let asker = new_asker(alloc)?;
-    let mut shelf = CachedShelf::new(alloc, TripShelf::new(in_memory(alloc)?, 5));
+    let mut inner = in_memory(alloc)?;
+    for slot in 0..3 {
+        commit(
+            &mut inner,
+            vec![in alloc; slot_row(alloc, SID, slot, 9, None)?]?,
+        )?;
+    }
+    let mut shelf = CachedShelf::new(alloc, TripShelf::new(inner, 9));
     let done = asks_once(&asker, &mut shelf);
     let inner = shelf.into_inner();
     let has_tripped = inner.has_tripped();
@@ -271,9 +314,10 @@ fn a_decision_is_not_asked_again(rt: HostRuntime) -> Result<(), Fail> {
     done
 }
 
-/// A session's row and two nodes, which memory can answer.
+/// A session's row, the root's names and two nodes in it, which memory can answer.
 fn read_rows<S: Shelf>(asker: &Asker, shelf: &mut S) -> Result<(), Fail> {
     let alloc = asker.alloc;
+    must(shelf.names(1)?.len() == 2, "the names")?;
     must(
         shelf.session(&session_name(alloc, SID)?)?.is_some(),
         "the session",
@@ -282,14 +326,22 @@ fn read_rows<S: Shelf>(asker: &Asker, shelf: &mut S) -> Result<(), Fail> {
     must(shelf.child(1, &file_name(alloc, "b")?)?.is_some(), "/b")
 }
 
-/// Three reads and a commit reach the shelf inside. The commit touches none of the rows, so the fifth call, which
-/// fails, is the one after them.
-fn keeps_over_a_commit<S: Shelf>(asker: &Asker, shelf: &mut S) -> Result<(), Fail> {
+/// Four reads and two commits reach the shelf inside. The commits touch none of the rows, and the numbers that they put
+/// in two slots are remembered, so the seventh call, which fails, is the one after them.
+fn keeps_over_commits<S: Shelf>(asker: &Asker, shelf: &mut S) -> Result<(), Fail> {
+    let alloc = asker.alloc;
+    let sid = session_name(alloc, SID)?;
     read_rows(asker, shelf)?;
-    let changes = vec![in asker.alloc; Change::DropSlots(session_name(asker.alloc, SID)?)]?;
-    shelf.commit(changes.as_slice())?;
+    let first = slot_row(alloc, SID, 0, 5, None)?;
+    commit(
+        shelf,
+        vec![in alloc; Change::DropSlots(sid.clone()?), first]?,
+    )?;
+    commit(shelf, vec![in alloc; slot_row(alloc, SID, 1, 7, None)?]?)?;
     read_rows(asker, shelf)?;
-    must(shelf.doc(1).is_err(), "the fifth call")
+    must(shelf.slot_seq(&sid, 0)? == Some(5), "slot 0")?;
+    must(shelf.slot_seq(&sid, 1)? == Some(7), "slot 1")?;
+    must(shelf.doc(1).is_err(), "the seventh call")
 }
 
 #[test]
@@ -300,10 +352,12 @@ fn a_commit_leaves_what_it_does_not_touch(rt: HostRuntime) -> Result<(), Fail> {
     for path in ["/a", "/b"] {
         let _ = run(&asker, &mut inner, &command(alloc, "mkdir", path, "")?)?;
     }
-    let changes = vec![in alloc; session(alloc, true)?]?;
-    inner.commit(changes.as_slice())?;
-    let mut shelf = CachedShelf::new(alloc, TripShelf::new(inner, 5));
-    let done = keeps_over_a_commit(&asker, &mut shelf);
+    commit(
+        &mut inner,
+        vec![in alloc; session_row(alloc, SID, 2, true)?]?,
+    )?;
+    let mut shelf = CachedShelf::new(alloc, TripShelf::new(inner, 7));
+    let done = keeps_over_commits(&asker, &mut shelf);
     let _ = shelf.into_inner().into_inner();
     done
 }

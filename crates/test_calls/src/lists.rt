@@ -1,7 +1,7 @@
 //! Each call that takes memory succeeds where there is memory.
-use room_acl::{Entry, Flags, Kind, Mask, Principal, Standing, Subject, Who, hand_down};
+use room_acl::{Kind, Principal, Standing, Subject, Who, hand_down};
 use std::test::Fail;
-use test_support::named;
+use test_support::{entry, named};
 
 #[test]
 fn copies_with_memory(rt: HostRuntime) -> Result<(), Fail> {
@@ -31,10 +31,7 @@ fn copies_with_memory(rt: HostRuntime) -> Result<(), Fail> {
 fn hands_down_with_memory(rt: HostRuntime) -> Result<(), Fail> {
     let alloc = rt.alloc();
     let eng = named(alloc, "eng")?;
-    let flags = Flags::new(67).ok_or("flags were refused")?;
-    let mask = Mask::new(1).ok_or("a mask was refused")?;
-    let who = Who::Members(eng).clone()?;
-    let entry = Entry::new(true, flags, mask, who).ok_or("an entry was refused")?;
+    let entry = entry(true, 67, 1, Who::Members(eng).clone()?)?;
     let entries = [entry.clone()?, entry];
     for (kind, bits) in [(Kind::File, 192), (Kind::Folder, 195)] {
         let given = hand_down(alloc, &entries, kind)?;

@@ -1,14 +1,8 @@
 //! A decision over entries that come one at a time.
-use room_acl::{Decision, Entry, Flags, Mask, Pending, Standing, Subject, Who};
+use room_acl::{Decision, Mask, Pending, Standing, Subject, Who};
 use std::alloc::Global;
 use std::test::Fail;
-use test_support::named;
-
-fn entry_of(allow: bool, bits: u32, who: Who) -> Result<Entry, Fail> {
-    let flags = Flags::new(0).ok_or("flags were refused")?;
-    let mask = Mask::new(bits).ok_or("a mask was refused")?;
-    Ok(Entry::new(allow, flags, mask, who).ok_or("an entry was refused")?)
-}
+use test_support::{entry, named};
 
 fn ann(alloc: Global) -> Result<Who, Fail> {
     Ok(Who::User(named(alloc, "ann")?))
@@ -29,12 +23,12 @@ fn a_decision_entry_by_entry(rt: HostRuntime) -> Result<(), Fail> {
     let mut pending = Pending::new(wanted, &subject, &standing);
     assert_eq!(rt; pending.left().bits(), 3);
     assert!(rt; pending.end() == Decision::Denied { bit: 1 });
-    pending.take(&entry_of(false, 2, ann(alloc)?)?, &subject, &standing);
+    pending.take(&entry(false, 0, 2, ann(alloc)?)?, &subject, &standing);
     assert_eq!(rt; pending.left().bits(), 1);
-    pending.take(&entry_of(true, 3, Who::Everyone)?, &subject, &standing);
+    pending.take(&entry(true, 0, 3, Who::Everyone)?, &subject, &standing);
     assert_eq!(rt; pending.left().bits(), 0);
     assert!(rt; pending.end() == Decision::Denied { bit: 2 });
-    pending.take(&entry_of(true, 4, ann(alloc)?)?, &subject, &standing);
+    pending.take(&entry(true, 0, 4, ann(alloc)?)?, &subject, &standing);
     assert_eq!(rt; pending.left().bits(), 0);
     assert!(rt; pending.end() == Decision::Denied { bit: 2 });
     Ok(())

@@ -1,13 +1,14 @@
 //! Each public call once, the limits, and generic code over two shelves.
-use room_acl::{Decision, Entry, Flags, Kind, ListFlags, Mask, Principal, Standing, Subject, Who};
+use room_acl::{Decision, Kind, Mask, Principal, Standing, Subject, Who};
 use room_records::{
-    Change, FileName, MemShelf, Node, Path, Roster, SessionRow, Shelf, ShelfFault, Sid, SlotCount,
-    SlotRow, TripShelf,
+    Change, FileName, MemShelf, Path, Roster, Shelf, ShelfFault, Sid, SlotCount, TripShelf,
 };
-use room_slots::Kept;
 use std::alloc::{AllocError, Global};
 use std::test::Fail;
-use test_support::{SID, file_name, in_memory, named, path_of, session_name, subject};
+use test_support::{
+    SID, commit, entry, file_name, in_memory, named, node_in_root, path_of, session_name,
+    session_row, slot_row, subject,
+};
 
 fn repeated(alloc: Global, part: &str, times: usize) -> Result<String, AllocError> {
     let mut text = String::new(alloc);
@@ -132,102 +133,25 @@ fn roster_within_its_limits(rt: HostRuntime) -> Result<(), Fail> {
     Ok(())
 }
 
-fn folder(alloc: Global, id: u32, name: &str, kind: Kind) -> Result<Node, Fail> {
-    Ok(Node {
-        id,
-        parent: Some(1),
-        name: Some(file_name(alloc, name)?),
-        kind,
-        owner: named(alloc, "ann")?,
-        group: named(alloc, "eng")?,
-        aclflag: ListFlags::new(0).ok_or("list flags")?,
-    })
-}
-
-fn entry() -> Result<Entry, Fail> {
-    let mask = Mask::new(1).ok_or("a mask")?;
-    let flags = Flags::new(0).ok_or("flags")?;
-    Ok(Entry::new(true, flags, mask, Who::Everyone).ok_or("an entry")?)
-}
-
-fn session_row(alloc: Global) -> Result<SessionRow, Fail> {
-    Ok(SessionRow {
-        sid: session_name(alloc, SID)?,
-        owner: named(alloc, "ann")?,
-        slots: SlotCount::new(2).ok_or("2 slots")?,
-        is_open: true,
-    })
-}
-
-fn slot_row(alloc: Global) -> Result<SlotRow, Fail> {
-    Ok(SlotRow {
-        sid: session_name(alloc, SID)?,
-        slot: 1,
-        kept: Kept {
-            seq: 1,
-            request: vec![in alloc; 1, 2]?,
-            reply: Some(vec![in alloc; 3]?),
-        },
-    })
-}
-
-fn push_objects(alloc: Global, changes: &mut Vec<Change>) -> Result<(), Fail> {
-    changes.push(Change::PutNext(4))?;
-    changes.push(Change::PutNode(folder(alloc, 2, "b", Kind::Folder)?))?;
-    changes.push(Change::PutNode(folder(alloc, 3, "a", Kind::File)?))?;
-    Ok(())
-}
-
-fn push_contents(alloc: Global, changes: &mut Vec<Change>) -> Result<(), Fail> {
-    changes.push(Change::PutEntries(2, vec![in alloc; entry()?]?))?;
-    changes.push(Change::PutDoc(3, vec![in alloc; 104, 105]?))?;
-    Ok(())
-}
-
-fn push_session(alloc: Global, changes: &mut Vec<Change>) -> Result<(), Fail> {
-    changes.push(Change::PutSession(session_row(alloc)?))?;
-    changes.push(Change::PutSlot(slot_row(alloc)?))?;
-    Ok(())
-}
-
-/// A change of each kind, so that the record rules hold after each.
-fn one_of_each(alloc: Global) -> Result<Vec<Change>, Fail> {
-    let mut changes = Vec::new(alloc);
-    push_objects(alloc, &mut changes)?;
-    push_contents(alloc, &mut changes)?;
-    push_session(alloc, &mut changes)?;
-    Ok(changes)
-}
-
-/// How many children the root has, listed and counted.
-fn count_children<S: Shelf>(shelf: &mut S) -> Result<(usize, u64), ShelfFault> {
-    let listed = shelf.children(1)?.len();
-    Ok((listed, shelf.child_count(1)?))
-}
-
-/// The size of the document of the root's child of this name.
-fn size_of<S: Shelf>(shelf: &mut S, name: &FileName) -> Result<usize, ShelfFault> {
-    let id = match shelf.child(1, name)? {
-        Some(node) => node.id,
-        None => 0,
-    };
-    let _ = shelf.node(id)?;
-    Ok(shelf.doc(id)?.len())
-}
-
-/// The lowest right of all that the entries of number 2 refuse, 0 where they refuse none.
-fn refused_at<S: Shelf>(shelf: &mut S, asked: &Asked) -> Result<u32, ShelfFault> {
-    match shelf.decide_at(2, &asked.subject, &asked.standing, Mask::ALL)? {
-        Decision::Allowed => Ok(0),
-        Decision::Denied { bit } => Ok(bit),
+/// A change of each kind that puts something, in an order in which the record rules hold after each.
+fn change(alloc: Global, at: u32) -> Result<Change, Fail> {
+    match at {
+        0 => Ok(Change::PutNext(4)),
+        1 => Ok(Change::PutNode(node_in_root(alloc, 2, "b", Kind::Folder)?)),
+        2 => Ok(Change::PutNode(node_in_root(alloc, 3, "a", Kind::File)?)),
+        3 => Ok(Change::PutEntries(2, vec![in alloc; entry(true, 0, 1, Who::Everyone)?]?)),
+        4 => Ok(Change::PutDoc(3, b"hi".to_vec(alloc)?)),
+        5 => session_row(alloc, SID, 2, true),
+        _ => slot_row(alloc, SID, 1, 1, Some(Vec::new(alloc))),
     }
 }
 
-/// Reads a session and a slot, and tells the next number.
-fn next_after<S: Shelf>(shelf: &mut S, sid: &Sid) -> Result<u32, ShelfFault> {
-    let _ = shelf.session(sid)?;
-    let _ = shelf.slot(sid, 1)?;
-    shelf.next_id()
+fn one_of_each(alloc: Global) -> Result<Vec<Change>, Fail> {
+    let mut changes = Vec::new(alloc);
+    for at in 0..7 {
+        changes.push(change(alloc, at)?)?;
+    }
+    Ok(changes)
 }
 
 /// What is asked for: a child, a session, and what an object of `ann` in `eng` allows a caller.
@@ -251,21 +175,90 @@ fn to_ask(alloc: Global) -> Result<Asked, Fail> {
     })
 }
 
-/// The root's children, listed and counted, the entries of number 2 and the lowest right that they refuse, the size of
-/// `/a`, and the next number.
-type Counts = (usize, u64, usize, u32, usize, u32);
+/// How many reads `read_back` makes.
+const READS: u64 = 13;
 
-/// Reads everything back, over any shelf.
-fn read_back<S: Shelf>(shelf: &mut S, asked: &Asked) -> Result<Counts, ShelfFault> {
-    let (listed, counted) = count_children(shelf)?;
-    let entries = shelf.entries(2)?.len();
-    let refused = refused_at(shelf, asked)?;
-    let size = size_of(shelf, &asked.name)?;
-    let next = next_after(shelf, &asked.sid)?;
-    Ok((listed, counted, entries, refused, size, next))
+/// What the reads tell.
+#[derive(Clone, Copy, Debug, PartialEq, Eq)]
+struct Told {
+    /// The root's children: those that are listed, named and counted.
+    children: (usize, usize, u64),
+    /// The entries of number 2, and the lowest right of all that they refuse, 0 where they refuse none.
+    entries: (usize, u32),
+    /// The size of `/a`, of its bytes and told alone.
+    size: (usize, u64),
+    /// The number that slot 1 keeps, read with what else it keeps, and alone.
+    kept: (Option<u32>, Option<u32>),
+    next: u32,
 }
 
-fn reads_as(alloc: Global, shelf: &mut MemShelf, wanted: Counts) -> Result<(), Fail> {
+const FRESH: Told = Told {
+    children: (0, 0, 0),
+    entries: (0, 1),
+    size: (0, 0),
+    kept: (None, None),
+    next: 2,
+};
+
+const COMMITTED: Told = Told {
+    children: (2, 2, 2),
+    entries: (1, 2),
+    size: (2, 2),
+    kept: (Some(1), Some(1)),
+    next: 4,
+};
+
+/// The file and the slots are gone.
+const DROPPED: Told = Told {
+    children: (1, 1, 1),
+    size: (0, 0),
+    kept: (None, None),
+    ..COMMITTED
+};
+
+fn children<S: Shelf>(shelf: &mut S) -> Result<(usize, usize, u64), ShelfFault> {
+    let listed = shelf.children(1)?.len();
+    let named = shelf.names(1)?.len();
+    Ok((listed, named, shelf.child_count(1)?))
+}
+
+fn entries<S: Shelf>(shelf: &mut S, asked: &Asked) -> Result<(usize, u32), ShelfFault> {
+    let count = shelf.entries(2)?.len();
+    match shelf.decide_at(2, &asked.subject, &asked.standing, Mask::ALL)? {
+        Decision::Allowed => Ok((count, 0)),
+        Decision::Denied { bit } => Ok((count, bit)),
+    }
+}
+
+/// The size of the document of the root's child of this name.
+fn size_of<S: Shelf>(shelf: &mut S, name: &FileName) -> Result<(usize, u64), ShelfFault> {
+    let id = match shelf.child(1, name)? {
+        Some(node) => node.id,
+        None => 0,
+    };
+    let _ = shelf.node(id)?;
+    Ok((shelf.doc(id)?.len(), shelf.doc_size(id)?))
+}
+
+/// Reads a session too.
+fn kept<S: Shelf>(shelf: &mut S, sid: &Sid) -> Result<(Option<u32>, Option<u32>), ShelfFault> {
+    let _ = shelf.session(sid)?;
+    let kept = shelf.slot(sid, 1)?;
+    Ok((kept.map(|kept| kept.seq), shelf.slot_seq(sid, 1)?))
+}
+
+/// Reads everything back, over any shelf.
+fn read_back<S: Shelf>(shelf: &mut S, asked: &Asked) -> Result<Told, ShelfFault> {
+    Ok(Told {
+        children: children(shelf)?,
+        entries: entries(shelf, asked)?,
+        size: size_of(shelf, &asked.name)?,
+        kept: kept(shelf, &asked.sid)?,
+        next: shelf.next_id()?,
+    })
+}
+
+fn reads_as(alloc: Global, shelf: &mut MemShelf, wanted: Told) -> Result<(), Fail> {
     let found = read_back(shelf, &to_ask(alloc)?)?;
     if found != wanted {
         return Err(Fail::new(format_args!("{found:?} and not {wanted:?}")));
@@ -273,24 +266,17 @@ fn reads_as(alloc: Global, shelf: &mut MemShelf, wanted: Counts) -> Result<(), F
     Ok(())
 }
 
-fn commit_one_of_each(alloc: Global, shelf: &mut MemShelf) -> Result<(), Fail> {
-    let changes = one_of_each(alloc)?;
-    Ok(shelf.commit(changes.as_slice())?)
-}
-
-fn drop_slots_and_the_file(alloc: Global, shelf: &mut MemShelf) -> Result<(), Fail> {
-    let gone = vec![in alloc;
-        Change::DropSlots(session_name(alloc, SID)?),
-        Change::DropNode(3),
-    ]?;
-    Ok(shelf.commit(gone.as_slice())?)
-}
-
-/// The root's first child by name.
-fn first_child(shelf: &mut MemShelf) -> Result<u32, Fail> {
+/// The root's children come in the order of their names: `a`, a file of number 3, and `b`, a folder.
+fn are_in_order(shelf: &mut MemShelf) -> Result<bool, Fail> {
     let children = shelf.children(1)?;
-    let first = children.first().ok_or("a child")?;
-    Ok(first.id)
+    let names = shelf.names(1)?;
+    let (first, first_kind) = names.first().ok_or("a name")?;
+    let (last, last_kind) = names.last().ok_or("a name")?;
+    Ok(
+        children.first().ok_or("a child")?.id == 3
+            && (first.text(), *first_kind) == ("a", Kind::File)
+            && (last.text(), *last_kind) == ("b", Kind::Folder),
+    )
 }
 
 fn is_open(alloc: Global, shelf: &mut MemShelf) -> Result<bool, Fail> {
@@ -298,28 +284,18 @@ fn is_open(alloc: Global, shelf: &mut MemShelf) -> Result<bool, Fail> {
     Ok(shelf.session(&sid)?.ok_or("a session")?.is_open)
 }
 
-/// The number that slot 1 keeps, 0 where it keeps none.
-fn kept_number(alloc: Global, shelf: &mut MemShelf) -> Result<u32, Fail> {
-    let sid = session_name(alloc, SID)?;
-    match shelf.slot(&sid, 1)? {
-        Some(kept) => Ok(kept.seq),
-        None => Ok(0),
-    }
-}
-
 #[test]
 fn rows_are_read_back(rt: HostRuntime) -> Result<(), Fail> {
-    let mut shelf = in_memory(rt.alloc())?;
-    reads_as(rt.alloc(), &mut shelf, (0, 0, 0, 1, 0, 2))?;
-    commit_one_of_each(rt.alloc(), &mut shelf)?;
-    reads_as(rt.alloc(), &mut shelf, (2, 2, 1, 2, 2, 4))?;
-    assert_eq!(rt; first_child(&mut shelf)?, 3);
-    assert!(rt; is_open(rt.alloc(), &mut shelf)?);
-    assert_eq!(rt; kept_number(rt.alloc(), &mut shelf)?, 1);
-    drop_slots_and_the_file(rt.alloc(), &mut shelf)?;
-    reads_as(rt.alloc(), &mut shelf, (1, 1, 1, 2, 0, 4))?;
-    assert_eq!(rt; kept_number(rt.alloc(), &mut shelf)?, 0);
-    Ok(())
+    let alloc = rt.alloc();
+    let mut shelf = in_memory(alloc)?;
+    reads_as(alloc, &mut shelf, FRESH)?;
+    commit(&mut shelf, one_of_each(alloc)?)?;
+    reads_as(alloc, &mut shelf, COMMITTED)?;
+    assert!(rt; are_in_order(&mut shelf)?);
+    assert!(rt; is_open(alloc, &mut shelf)?);
+    let gone = Change::DropSlots(session_name(alloc, SID)?);
+    commit(&mut shelf, vec![in alloc; gone, Change::DropNode(3)]?)?;
+    reads_as(alloc, &mut shelf, DROPPED)
 }
 
 /// What a shelf whose k-th call fails answered: whether the commit failed, and then whether a read did.
@@ -329,14 +305,15 @@ fn tripped(alloc: Global, shelf: &mut TripShelf<MemShelf>) -> Result<(bool, bool
     Ok((is_refused, read_back(shelf, &to_ask(alloc)?).is_err()))
 }
 
-/// Of eleven calls, a commit and ten reads, the k-th trips, and the rows are those of the commit where it did not.
+/// Of a commit and the reads behind it the k-th call trips, and the rows are those of the commit where it did not.
 fn trips_at(alloc: Global, k: u64) -> Result<(), Fail> {
     let mut shelf = TripShelf::new(in_memory(alloc)?, k);
     let answers = tripped(alloc, &mut shelf);
     let has_tripped = shelf.has_tripped();
     let mut inner = shelf.into_inner();
     let (is_refused, is_unread) = answers?;
-    if is_refused != (k == 1) || is_unread != (1 < k && k < 12) || has_tripped != (k < 12) {
+    let trips = k <= READS + 1;
+    if is_refused != (k == 1) || is_unread != (1 < k && trips) || has_tripped != trips {
         return Err(Fail::new(format_args!("call {k}")));
     }
     let count = inner.child_count(1)?;
@@ -348,7 +325,7 @@ fn trips_at(alloc: Global, k: u64) -> Result<(), Fail> {
 
 #[test]
 fn each_call_trips_in_turn(rt: HostRuntime) -> Result<(), Fail> {
-    for k in 1..13u64 {
+    for k in 1..READS + 3 {
         trips_at(rt.alloc(), k)?;
     }
     Ok(())
@@ -357,10 +334,10 @@ fn each_call_trips_in_turn(rt: HostRuntime) -> Result<(), Fail> {
 /// A commit, which is made again where it was refused: then nothing had changed.
 fn commit_and_again(alloc: Global, shelf: &mut MemShelf, changes: &[Change]) -> Result<(), Fail> {
     if shelf.commit(changes).is_err() {
-        reads_as(alloc, shelf, (0, 0, 0, 1, 0, 2))?;
+        reads_as(alloc, shelf, FRESH)?;
         shelf.commit(changes)?;
     }
-    reads_as(alloc, shelf, (2, 2, 1, 2, 2, 4))
+    reads_as(alloc, shelf, COMMITTED)
 }
 
 // `rt try --test --fail-alloc N` refuses growth N. Where it is one of the commit's own, nothing

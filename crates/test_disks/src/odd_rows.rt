@@ -34,6 +34,12 @@ const LIST: Step = Step(
     r#"{"code":0,"names":[["a","file"]]}"#,
 );
 
+/// The command of the third request.
+const APPEND: &str = r#"{"cmd":"APPEND","data":"IQ==","path":"/d/a"}"#;
+
+/// The third request again.
+const REPEAT: Step = Step(Ask::Run(3, APPEND), r#"{"code":0,"size":3}"#);
+
 /// It reads the root's list whole, and not only up to the entry that decides.
 const MKDIR: Step = Step(
     Ask::Run(4, r#"{"cmd":"MKDIR","path":"/e"}"#),
@@ -51,160 +57,62 @@ const SETLIST: Step = Step(
 
 /// What another program does to the rows, what mends them, and a request that meets them.
 #[derive(Clone, Copy)]
-struct Odd(&'static str, &'static str, Step);
+struct Odd<'a>(&'a str, &'a str, Step);
 
-static ODDS: [Odd; 31] = [
-    Odd(
-        "UPDATE node SET name = 'a/b' WHERE id = 3",
-        "UPDATE node SET name = 'a' WHERE id = 3",
-        LIST,
-    ),
-    Odd(
-        "UPDATE node SET name = '..' WHERE id = 3",
-        "UPDATE node SET name = 'a' WHERE id = 3",
-        LIST,
-    ),
-    Odd(
-        "UPDATE node SET name = NULL WHERE id = 3",
-        "UPDATE node SET name = 'a' WHERE id = 3",
-        LIST,
-    ),
-    Odd(
-        "UPDATE node SET kind = 2 WHERE id = 3",
-        "UPDATE node SET kind = 0 WHERE id = 3",
-        READ,
-    ),
-    Odd(
-        "UPDATE node SET kind = -1 WHERE id = 2",
-        "UPDATE node SET kind = 1 WHERE id = 2",
-        READ,
-    ),
-    Odd(
-        "UPDATE node SET kind = 'folder' WHERE id = 1",
-        "UPDATE node SET kind = 1 WHERE id = 1",
-        READ,
-    ),
-    Odd(
-        "UPDATE node SET aclflag = aclflag + 8 WHERE id = 3",
-        "UPDATE node SET aclflag = aclflag - 8 WHERE id = 3",
-        READ,
-    ),
-    Odd(
-        "UPDATE node SET aclflag = 256 WHERE id = 1",
-        "UPDATE node SET aclflag = 0 WHERE id = 1",
-        READ,
-    ),
-    Odd(
-        "UPDATE node SET owner = 'a/b' WHERE id = 3",
-        "UPDATE node SET owner = 'ann' WHERE id = 3",
-        READ,
-    ),
-    Odd(
-        "UPDATE node SET owner = '' WHERE id = 1",
-        "UPDATE node SET owner = 'ann' WHERE id = 1",
-        READ,
-    ),
-    Odd(
-        "UPDATE node SET grp = 'no group' WHERE id = 2",
-        "UPDATE node SET grp = 'eng' WHERE id = 2",
-        READ,
-    ),
-    Odd(
-        "UPDATE entry SET mask = mask + 2048",
-        "UPDATE entry SET mask = mask - 2048",
-        READ,
-    ),
-    Odd(
-        "UPDATE entry SET mask = mask + 2097152 WHERE node = 1",
-        "UPDATE entry SET mask = mask - 2097152 WHERE node = 1",
-        READ,
-    ),
-    Odd(
-        "UPDATE entry SET mask = -mask WHERE node = 1",
-        "UPDATE entry SET mask = -mask WHERE node = 1",
-        READ,
-    ),
-    Odd(
-        "UPDATE entry SET flag = flag + 16 WHERE node = 1",
-        "UPDATE entry SET flag = flag - 16 WHERE node = 1",
-        READ,
-    ),
-    Odd(
-        "UPDATE entry SET flag = flag + 256 WHERE node = 1",
-        "UPDATE entry SET flag = flag - 256 WHERE node = 1",
-        READ,
-    ),
-    Odd(
-        "UPDATE entry SET type = type + 2 WHERE node = 1",
-        "UPDATE entry SET type = type - 2 WHERE node = 1",
-        READ,
-    ),
-    Odd(
-        "UPDATE entry SET who = 'a/b' WHERE node = 1 AND place = 1",
-        "UPDATE entry SET who = 'GROUP@' WHERE node = 1 AND place = 1",
-        MKDIR,
-    ),
-    Odd(
-        "UPDATE entry SET flag = flag + 16 WHERE node = 3",
-        "UPDATE entry SET flag = flag - 16 WHERE node = 3",
-        READ,
-    ),
-    Odd(
-        "UPDATE entry SET type = 2 WHERE node = 2 AND place = 1",
-        "UPDATE entry SET type = 0 WHERE node = 2 AND place = 1",
-        SETLIST,
-    ),
-    Odd(
-        "UPDATE entry SET flag = flag + 16 WHERE node = 2",
-        "UPDATE entry SET flag = flag - 16 WHERE node = 2",
-        SETLIST,
-    ),
-    Odd(
-        "UPDATE entry SET mask = mask + 2048 WHERE node = 3 AND place = 1",
-        "UPDATE entry SET mask = mask - 2048 WHERE node = 3 AND place = 1",
-        SETLIST,
-    ),
-    Odd(
-        "UPDATE doc SET bytes = 'hi!'",
-        "UPDATE doc SET bytes = x'686921'",
-        READ,
-    ),
-    Odd(
-        "UPDATE session SET owner = 'a/b'",
-        "UPDATE session SET owner = 'ann'",
-        READ,
-    ),
-    Odd(
-        "UPDATE session SET slots = 0",
-        "UPDATE session SET slots = 2",
-        READ,
-    ),
-    Odd(
-        "UPDATE session SET open = 7",
-        "UPDATE session SET open = 1",
-        READ,
-    ),
-    Odd("UPDATE kept SET seq = -1", "UPDATE kept SET seq = 3", READ),
-    Odd(
-        "UPDATE kept SET seq = 4294967299",
-        "UPDATE kept SET seq = 3",
-        READ,
-    ),
-    Odd(
-        "UPDATE kept SET reply = 'text'",
-        "UPDATE kept SET reply = x'7b22636f6465223a302c2273697a65223a337d'",
-        READ,
-    ),
-    Odd(
-        "UPDATE room SET next = -1",
-        "UPDATE room SET next = 4",
-        MKDIR,
-    ),
-    Odd(
-        "UPDATE room SET next = NULL",
-        "UPDATE room SET next = 4",
-        MKDIR,
-    ),
+// The tables of them have a line for each: what is updated, and what mends it, both behind the word UPDATE.
+
+/// Rows that READ meets.
+const MET_BY_READ: &str = "\
+node SET kind = 2 WHERE id = 3; node SET kind = 0 WHERE id = 3
+node SET kind = -1 WHERE id = 2; node SET kind = 1 WHERE id = 2
+node SET kind = 'folder' WHERE id = 1; node SET kind = 1 WHERE id = 1
+node SET aclflag = aclflag + 8 WHERE id = 3; node SET aclflag = aclflag - 8 WHERE id = 3
+node SET aclflag = 256 WHERE id = 1; node SET aclflag = 0 WHERE id = 1
+node SET owner = 'a/b' WHERE id = 3; node SET owner = 'ann' WHERE id = 3
+node SET owner = '' WHERE id = 1; node SET owner = 'ann' WHERE id = 1
+node SET grp = 'no group' WHERE id = 2; node SET grp = 'eng' WHERE id = 2
+entry SET mask = mask + 2048; entry SET mask = mask - 2048
+entry SET mask = mask + 2097152 WHERE node = 1; entry SET mask = mask - 2097152 WHERE node = 1
+entry SET mask = -mask WHERE node = 1; entry SET mask = -mask WHERE node = 1
+entry SET flag = flag + 16 WHERE node = 1; entry SET flag = flag - 16 WHERE node = 1
+entry SET flag = flag + 256 WHERE node = 1; entry SET flag = flag - 256 WHERE node = 1
+entry SET type = type + 2 WHERE node = 1; entry SET type = type - 2 WHERE node = 1
+entry SET flag = flag + 16 WHERE node = 3; entry SET flag = flag - 16 WHERE node = 3
+doc SET bytes = 'hi!'; doc SET bytes = x'686921'
+session SET owner = 'a/b'; session SET owner = 'ann'
+session SET slots = 0; session SET slots = 2
+session SET open = 7; session SET open = 1
+kept SET seq = -1; kept SET seq = 3
+kept SET seq = 4294967299; kept SET seq = 3";
+
+/// A kept reply, which a repeat alone reads.
+const MET_BY_REPEAT: &str = "\
+kept SET reply = 'text'; kept SET reply = x'7b22636f6465223a302c2273697a65223a337d'";
+
+/// Names, which LIST reads.
+const MET_BY_LIST: &str = "\
+node SET name = 'a/b' WHERE id = 3; node SET name = 'a' WHERE id = 3
+node SET name = '..' WHERE id = 3; node SET name = 'a' WHERE id = 3
+node SET name = NULL WHERE id = 3; node SET name = 'a' WHERE id = 3";
+
+/// A row behind the one that decides, and the next number.
+const MET_BY_MKDIR: &str = "\
+entry SET who = 'a/b' WHERE node = 1 AND place = 1; entry SET who = 'GROUP@' WHERE node = 1 AND place = 1
+room SET next = -1; room SET next = 4
+room SET next = NULL; room SET next = 4";
+
+/// Rows of lists below the root, which SETLIST reads whole.
+const MET_BY_SETLIST: &str = "\
+entry SET type = 2 WHERE node = 2 AND place = 1; entry SET type = 0 WHERE node = 2 AND place = 1
+entry SET flag = flag + 16 WHERE node = 2; entry SET flag = flag - 16 WHERE node = 2
+entry SET mask = mask + 2048 WHERE node = 3 AND place = 1; entry SET mask = mask - 2048 WHERE node = 3 AND place = 1";
+
+static ODDS: [(&str, Step); 5] = [
+    (MET_BY_READ, READ),
+    (MET_BY_REPEAT, REPEAT),
+    (MET_BY_LIST, LIST),
+    (MET_BY_MKDIR, MKDIR),
+    (MET_BY_SETLIST, SETLIST),
 ];
 
 /// Plays the steps from a place up to another.
@@ -232,7 +140,7 @@ fn played(alloc: Global) -> Result<Connection<MemStore>, Fail> {
 fn ask_twice<P: Shelf>(
     alloc: Global,
     desk: &mut Desk<P>,
-    odd: &Odd,
+    odd: &Odd<'_>,
     wanted: bool,
 ) -> Result<(), Fail> {
     for _ in 0..2 {
@@ -247,7 +155,7 @@ fn ask_twice<P: Shelf>(
 fn asked_twice(
     alloc: Global,
     conn: Connection<MemStore>,
-    odd: &Odd,
+    odd: &Odd<'_>,
     wanted: bool,
 ) -> Result<Connection<MemStore>, Fail> {
     let mut desk = Desk::new(alloc, taken(alloc, conn)?);
@@ -274,7 +182,7 @@ fn is_as(
 fn waits(
     alloc: Global,
     conn: Connection<MemStore>,
-    odd: &Odd,
+    odd: &Odd<'_>,
 ) -> Result<Connection<MemStore>, Fail> {
     let mut conn = conn;
     conn.execute(odd.0, &[])?;
@@ -285,7 +193,12 @@ fn waits(
 }
 
 /// The rows are mended, and then the answer comes.
-fn goes_on(alloc: Global, conn: Connection<MemStore>, odd: &Odd, sound: &str) -> Result<(), Fail> {
+fn goes_on(
+    alloc: Global,
+    conn: Connection<MemStore>,
+    odd: &Odd<'_>,
+    sound: &str,
+) -> Result<(), Fail> {
     let mut conn = conn;
     conn.execute(odd.1, &[])?;
     is_as(alloc, &mut conn, sound, odd.1)?;
@@ -293,29 +206,41 @@ fn goes_on(alloc: Global, conn: Connection<MemStore>, odd: &Odd, sound: &str) ->
     Ok(())
 }
 
-fn waits_and_goes_on(alloc: Global, odd: &Odd) -> Result<(), Fail> {
+fn waits_and_goes_on(alloc: Global, odd: &Odd<'_>) -> Result<(), Fail> {
     let mut conn = played(alloc)?;
     let sound = contents(alloc, &mut conn)?;
     let conn = waits(alloc, conn, odd)?;
     goes_on(alloc, conn, odd, sound.as_str())
 }
 
+/// A line of the table: the two statements, of which a request meets what the first one leaves.
+fn meets(alloc: Global, line: &str, step: Step) -> Result<(), Fail> {
+    let (odd, sound) = line.split_once("; ").ok_or("one statement")?;
+    let odd = format!(in alloc; "UPDATE {odd}")?;
+    let sound = format!(in alloc; "UPDATE {sound}")?;
+    waits_and_goes_on(alloc, &Odd(odd.as_str(), sound.as_str(), step))
+}
+
 #[test]
 fn a_request_that_meets_an_odd_row_waits(rt: HostRuntime) -> Result<(), Fail> {
-    for odd in &ODDS {
-        waits_and_goes_on(rt.alloc(), odd)?;
+    for (lines, step) in &ODDS {
+        for line in lines.lines() {
+            meets(rt.alloc(), line, *step)?;
+        }
     }
     Ok(())
 }
 
-/// Rows behind the one that decides, of the root and of the folder on the way: READ reads neither.
-static BEHIND: [&str; 2] = [
+/// Rows behind the one that decides, of the root and of the folder on the way, and what the slot keeps beside its
+/// number: a new READ reads none of them.
+static BEHIND: [&str; 3] = [
     "UPDATE entry SET who = 'a/b' WHERE node = 1 AND place = 1",
     "UPDATE entry SET type = 2 WHERE node = 2 AND place = 1",
+    "UPDATE kept SET request = 1, reply = 'text'",
 ];
 
 #[test]
-fn an_odd_row_behind_the_deciding_one_is_not_met(rt: HostRuntime) -> Result<(), Fail> {
+fn an_odd_row_that_is_not_read_is_not_met(rt: HostRuntime) -> Result<(), Fail> {
     for sql in &BEHIND {
         let mut conn = played(rt.alloc())?;
         conn.execute(sql, &[])?;
@@ -326,7 +251,7 @@ fn an_odd_row_behind_the_deciding_one_is_not_met(rt: HostRuntime) -> Result<(), 
 
 /// The third request again, where no reply is kept.
 const AGAIN: Step = Step(
-    Ask::Run(3, r#"{"cmd":"APPEND","data":"IQ==","path":"/d/a"}"#),
+    Ask::Run(3, APPEND),
     r#"{"code":25,"error":"RETRY_UNCACHED"}"#,
 );
 

@@ -48,10 +48,10 @@ fn of_followers(alloc: Global, options: Options) -> Result<Trial, Fail> {
 
 /// A file stops so many times at least. Where a part of a write is to be done, so it is at a quarter of the stops at
 /// least: the others are at writes of one byte.
-fn stops(trial: &Trial, stop: Stop, least: u64) -> Result<(), Fail> {
-    let met = trial.stops(stop)?;
+fn stops(trial: &Trial, in_log: bool, part: Part, least: u64) -> Result<(), Fail> {
+    let met = trial.stops(Stop { in_log, part })?;
     is_within(met.stops, least, 2000, "stops")?;
-    let (from, to) = if stop.part.is_nothing() {
+    let (from, to) = if part.is_nothing() {
         (0, 0)
     } else {
         (met.stops / 4, met.stops)
@@ -61,15 +61,8 @@ fn stops(trial: &Trial, stop: Stop, least: u64) -> Result<(), Fail> {
 
 /// The log stops, and the database file, each so many times at least.
 fn both_stop(trial: &Trial, part: Part, in_log: u64, in_db: u64) -> Result<(), Fail> {
-    stops(trial, Stop { in_log: true, part }, in_log)?;
-    stops(
-        trial,
-        Stop {
-            in_log: false,
-            part,
-        },
-        in_db,
-    )
+    stops(trial, true, part, in_log)?;
+    stops(trial, false, part, in_db)
 }
 
 #[test]
@@ -81,27 +74,13 @@ fn a_new_room(rt: HostRuntime) -> Result<(), Fail> {
 #[test]
 fn a_new_room_with_a_busy_log(rt: HostRuntime) -> Result<(), Fail> {
     let trial = of_a_new_room(rt.alloc(), small())?;
-    stops(
-        &trial,
-        Stop {
-            in_log: true,
-            part: Part::Nothing,
-        },
-        60,
-    )
+    stops(&trial, true, Part::Nothing, 60)
 }
 
 #[test]
 fn a_new_room_with_a_busy_database_file(rt: HostRuntime) -> Result<(), Fail> {
     let trial = of_a_new_room(rt.alloc(), small())?;
-    stops(
-        &trial,
-        Stop {
-            in_log: false,
-            part: Part::Nothing,
-        },
-        20,
-    )
+    stops(&trial, false, Part::Nothing, 20)
 }
 
 /// The room is in the database file, or in the log.
@@ -117,27 +96,13 @@ fn a_fresh_room(rt: HostRuntime) -> Result<(), Fail> {
 #[test]
 fn a_fresh_room_with_a_busy_log(rt: HostRuntime) -> Result<(), Fail> {
     let trial = of_a_fresh_room(rt.alloc(), true, small())?;
-    stops(
-        &trial,
-        Stop {
-            in_log: true,
-            part: Part::Nothing,
-        },
-        40,
-    )
+    stops(&trial, true, Part::Nothing, 40)
 }
 
 #[test]
 fn a_fresh_room_with_a_busy_database_file(rt: HostRuntime) -> Result<(), Fail> {
     let trial = of_a_fresh_room(rt.alloc(), true, small())?;
-    stops(
-        &trial,
-        Stop {
-            in_log: false,
-            part: Part::Nothing,
-        },
-        20,
-    )
+    stops(&trial, false, Part::Nothing, 20)
 }
 
 #[test]
@@ -176,7 +141,7 @@ fn a_busy_new_room_and_torn_writes(rt: HostRuntime) -> Result<(), Fail> {
 fn a_list_and_torn_writes(rt: HostRuntime) -> Result<(), Fail> {
     let trial = of_followers(rt.alloc(), spilling())?;
     for part in [Part::OneByte, Part::Half, Part::AllButOne] {
-        stops(&trial, Stop { in_log: true, part }, 10)?;
+        stops(&trial, true, part, 10)?;
     }
     Ok(())
 }

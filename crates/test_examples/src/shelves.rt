@@ -80,27 +80,38 @@ pub fn do_step<S: Shelf>(
     }
 }
 
-/// A step of an earlier scene, which compares its answers itself.
-fn done<S: Shelf + Drop>(play: &Play<'_>, shelf: S, step: &Step) -> Result<S, Fault> {
+/// A step of an earlier scene, which compares its answers itself: how it ended, and the shelf then.
+fn done<S: Shelf>(play: &Play<'_>, shelf: S, step: &Step) -> (Result<(), Fault>, S) {
     let mut shelf = shelf;
     match step {
         Step::Ask(example) => {
             let (_, shelf) = answered(play, shelf, example.sent.as_slice());
-            Ok(shelf)
+            (Ok(()), shelf)
         }
         Step::Next(number) => {
-            set_next(play.alloc, &mut shelf, *number)?;
-            Ok(shelf)
+            let end = set_next(play.alloc, &mut shelf, *number);
+            (end, shelf)
         }
-        Step::Report { .. } | Step::Reopen => Ok(shelf),
+        Step::Report { .. } | Step::Reopen => (Ok(()), shelf),
     }
+}
+
+/// Does the steps of the earlier scenes: how that ended, and the shelf then.
+pub fn prepare<S: Shelf>(play: &Play<'_>, shelf: S) -> (Result<(), Fault>, S) {
+    let mut shelf = shelf;
+    for step in play.before {
+        let (end, next) = done(play, shelf, step);
+        shelf = next;
+        if end.is_err() {
+            return (end, shelf);
+        }
+    }
+    (Ok(()), shelf)
 }
 
 /// The room as the earlier scenes leave it.
 pub fn prepared<S: Shelf + Drop>(play: &Play<'_>, shelf: S) -> Result<S, Fault> {
-    let mut shelf = shelf;
-    for step in play.before {
-        shelf = done(play, shelf, step)?;
-    }
+    let (end, shelf) = prepare(play, shelf);
+    end?;
     Ok(shelf)
 }

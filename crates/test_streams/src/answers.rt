@@ -59,15 +59,13 @@ pub fn served<R: Read, W: Write>(
     }
 }
 
-/// These bytes were written, and a stream ended so.
-pub fn is_as(
-    end: &ServeEnd,
-    written: &[u8],
-    wanted: &str,
-    why: Why,
-    count: u64,
-    what: &str,
-) -> Result<(), Fail> {
+/// The bytes that must be written, how a stream ends then, and after how many answers.
+#[derive(Clone, Copy)]
+pub struct Due<'a>(pub &'a str, pub Why, pub u64);
+
+/// These bytes were written, and a stream ended as due.
+pub fn is_as(end: &ServeEnd, written: &[u8], due: Due<'_>, what: &str) -> Result<(), Fail> {
+    let Due(wanted, why, count) = due;
     if written != wanted.as_bytes() {
         return Err(Fail::new(format_args!("other bytes after {what}")));
     }

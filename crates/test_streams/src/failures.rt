@@ -1,6 +1,7 @@
 //! Streams that fail or are cut, read and written in pieces, and how often a reader is asked.
 use crate::answers::{
-    ANSWER, BAD_HTTP, BAD_REQUEST, BAD_ROUTE, BAD_SESSION, QUESTION, SERVERS, Server, is_as, served,
+    ANSWER, BAD_HTTP, BAD_REQUEST, BAD_ROUTE, BAD_SESSION, Due, QUESTION, SERVERS, Server, is_as,
+    served,
 };
 use room_desk::Desk;
 use room_wire::Why;
@@ -21,47 +22,39 @@ fn questions_without_a_room(rt: HostRuntime) -> Result<(), Fail> {
     let alloc = rt.alloc();
     let sent = format!(in alloc; "{QUESTION}{ROUTES}{NO_BODY}{QUESTION}")?;
     let want = format!(in alloc; "{ANSWER}{BAD_ROUTE}{BAD_ROUTE}{BAD_REQUEST}{ANSWER}")?;
+    let due = Due(want.as_str(), Why::Closed, 5);
     for step in [1, 7, 1000] {
         let mut writer = BoundedWriter::new(alloc, 10_000, step, Full::Fails);
         let mut reader = sent.as_bytes();
         let end = served(alloc, Server::Questions, &mut reader, &mut writer)?;
-        is_as(
-            &end,
-            writer.taken.as_slice(),
-            want.as_str(),
-            Why::Closed,
-            5,
-            "whole reads",
-        )?;
+        is_as(&end, writer.taken.as_slice(), due, "whole reads")?;
         let mut writer = BoundedWriter::new(alloc, 10_000, step, Full::TakesNone);
         let mut reader = ByteReader::new(sent.as_bytes());
         let end = served(alloc, Server::Questions, &mut reader, &mut writer)?;
-        is_as(
-            &end,
-            writer.taken.as_slice(),
-            want.as_str(),
-            Why::Closed,
-            5,
-            "small reads",
-        )?;
+        is_as(&end, writer.taken.as_slice(), due, "small reads")?;
     }
     Ok(())
+}
+
+/// What a reader gives is served as due.
+fn is_served<R: Read>(
+    alloc: Global,
+    server: Server,
+    reader: &mut R,
+    due: Due<'_>,
+    what: &str,
+) -> Result<(), Fail> {
+    let mut output = Vec::new(alloc);
+    let end = served(alloc, server, reader, &mut output)?;
+    is_as(&end, output.as_slice(), due, what)
 }
 
 /// Where no byte comes, none is written.
 #[test]
 fn empty_input(rt: HostRuntime) -> Result<(), Fail> {
+    let due = Due("", Why::Closed, 0);
     for server in SERVERS {
-        let mut output = Vec::new(rt.alloc());
-        let end = served(rt.alloc(), server, &mut "".as_bytes(), &mut output)?;
-        is_as(
-            &end,
-            output.as_slice(),
-            "",
-            Why::Closed,
-            0,
-            "an empty input",
-        )?;
+        is_served(rt.alloc(), server, &mut "".as_bytes(), due, "no input")?;
     }
     Ok(())
 }
@@ -84,16 +77,9 @@ fn is_answered_before(alloc: Global, server: Server, failing: Failing) -> Result
     let Failing(call, [first, second, third], count) = failing;
     let want = format!(in alloc; "{first}{second}{third}")?;
     let what = format!(in alloc; "call {call}, {server:?}")?;
-    let mut output = Vec::new(alloc);
-    let end = served(alloc, server, &mut Pieces::new(&pieces, call), &mut output)?;
-    is_as(
-        &end,
-        output.as_slice(),
-        want.as_str(),
-        Why::ReadFailed,
-        count,
-        what.as_str(),
-    )
+    let due = Due(want.as_str(), Why::ReadFailed, count);
+    let mut reader = Pieces::new(&pieces, call);
+    is_served(alloc, server, &mut reader, due, what.as_str())
 }
 
 #[test]
@@ -111,19 +97,10 @@ fn a_read_fails(rt: HostRuntime) -> Result<(), Fail> {
 fn ends_in_a_front(alloc: Global, server: Server, front: &str) -> Result<(), Fail> {
     let pieces = [QUESTION, front];
     let want = format!(in alloc; "{ANSWER}{BAD_HTTP}")?;
-    let mut output = Vec::new(alloc);
-    let end = served(alloc, server, &mut Pieces::new(&pieces, 0), &mut output)?;
-    is_as(
-        &end,
-        output.as_slice(),
-        want.as_str(),
-        Why::BadMessage,
-        1,
-        front,
-    )?;
-    let mut output = Vec::new(alloc);
-    let end = served(alloc, server, &mut Pieces::new(&pieces, 3), &mut output)?;
-    is_as(&end, output.as_slice(), ANSWER, Why::ReadFailed, 1, front)
+    let due = Due(want.as_str(), Why::BadMessage, 1);
+    is_served(alloc, server, &mut Pieces::new(&pieces, 0), due, front)?;
+    let due = Due(ANSWER, Why::ReadFailed, 1);
+    is_served(alloc, server, &mut Pieces::new(&pieces, 3), due, front)
 }
 
 /// Each proper front of a message but the empty one.
@@ -155,8 +132,10 @@ fn opens_nothing(alloc: Global, front: &str) -> Result<(), Fail> {
     let cut = desk.serve(&roster, &mut front.as_bytes(), &mut output);
     let end = desk.serve(&roster, &mut CLOSE.as_bytes(), &mut later);
     let _ = desk.into_shelf();
-    is_as(&cut, output.as_slice(), BAD_HTTP, Why::BadMessage, 0, front)?;
-    is_as(&end, later.as_slice(), BAD_SESSION, Why::Closed, 1, front)
+    let due = Due(BAD_HTTP, Why::BadMessage, 0);
+    is_as(&cut, output.as_slice(), due, front)?;
+    let due = Due(BAD_SESSION, Why::Closed, 1);
+    is_as(&end, later.as_slice(), due, front)
 }
 
 /// Each proper front of an OPEN but the empty one.
@@ -207,16 +186,8 @@ fn each_read_of_a_room_fails(rt: HostRuntime) -> Result<(), Fail> {
     for whole in 0..=PLANS.len() {
         let want = answers_to(rt.alloc(), whole)?;
         let mut reader = Pieces::new(&PLANS, (whole as u64).saturating_add(1));
-        let mut output = Vec::new(rt.alloc());
-        let end = served(rt.alloc(), Server::Room, &mut reader, &mut output)?;
-        is_as(
-            &end,
-            output.as_slice(),
-            want.as_str(),
-            Why::ReadFailed,
-            whole as u64,
-            "a read that fails",
-        )?;
+        let due = Due(want.as_str(), Why::ReadFailed, whole as u64);
+        is_served(rt.alloc(), Server::Room, &mut reader, due, "a failing read")?;
     }
     Ok(())
 }
@@ -233,14 +204,8 @@ fn a_room_byte_by_byte(rt: HostRuntime) -> Result<(), Fail> {
     let mut writer = BoundedWriter::new(alloc, 10_000, 1, Full::Fails);
     let mut reader = ByteReader::new(sent.as_bytes());
     let end = served(alloc, Server::Room, &mut reader, &mut writer)?;
-    is_as(
-        &end,
-        writer.taken.as_slice(),
-        want.as_str(),
-        Why::Closed,
-        4,
-        "a byte a call",
-    )
+    let due = Due(want.as_str(), Why::Closed, 4);
+    is_as(&end, writer.taken.as_slice(), due, "a byte a call")
 }
 
 /// After bytes that no message can begin with, nothing more is read.
@@ -249,16 +214,8 @@ fn no_read_after_a_bad_message(rt: HostRuntime) -> Result<(), Fail> {
     let pieces = ["no message\r\n", QUESTION];
     for server in SERVERS {
         let mut reader = Pieces::new(&pieces, 0);
-        let mut output = Vec::new(rt.alloc());
-        let end = served(rt.alloc(), server, &mut reader, &mut output)?;
-        is_as(
-            &end,
-            output.as_slice(),
-            BAD_HTTP,
-            Why::BadMessage,
-            0,
-            "a bad message",
-        )?;
+        let due = Due(BAD_HTTP, Why::BadMessage, 0);
+        is_served(rt.alloc(), server, &mut reader, due, "a bad message")?;
         assert_eq!(rt; reader.calls, 1, "{server:?}");
     }
     Ok(())
@@ -269,14 +226,8 @@ fn is_cut(alloc: Global, server: Server, full: Full, room: usize) -> Result<(), 
     let mut writer = BoundedWriter::new(alloc, room, 1000, full);
     let end = served(alloc, server, &mut QUESTION.as_bytes(), &mut writer)?;
     let front = ANSWER.get(..room).ok_or("a boundary")?;
-    is_as(
-        &end,
-        writer.taken.as_slice(),
-        front,
-        Why::WriteFailed,
-        1,
-        front,
-    )
+    let due = Due(front, Why::WriteFailed, 1);
+    is_as(&end, writer.taken.as_slice(), due, front)
 }
 
 #[test]
@@ -318,14 +269,8 @@ fn acts_once<R: Read, W: Write>(
     if end.why != why {
         return Err(Fail::new(format_args!("another end after {what}")));
     }
-    is_as(
-        &again,
-        output.as_slice(),
-        OPENED_AND_CREATED,
-        Why::Closed,
-        2,
-        what,
-    )
+    let due = Due(OPENED_AND_CREATED, Why::Closed, 2);
+    is_as(&again, output.as_slice(), due, what)
 }
 
 /// A client whose answers were lost, wholly or in part, sends its requests again: each acts once.

@@ -1,37 +1,26 @@
 //! Reports over writers and shelves that fail, and for rosters that no file of examples has.
 use room_acl::{Kind, ListFlags, hand_down};
-use room_records::{Change, MemShelf, Node, Roster, Shelf, TripShelf};
+use room_records::{Change, MemShelf, Roster, Shelf, TripShelf};
 use room_report::{ReportFault, access_report, list_report};
 use std::alloc::Global;
 use std::io::Write;
 use std::test::Fail;
 use test_stores::in_tables;
-use test_support::{BoundedWriter, Full, file_name, in_memory, named, roster};
+use test_support::{BoundedWriter, Full, commit, in_memory, named, node_in_root, roster};
 
-/// A folder `/plans` of `ann` and `eng`.
-fn plans(alloc: Global) -> Result<Node, Fail> {
-    Ok(Node {
-        id: 2,
-        parent: Some(1),
-        name: Some(file_name(alloc, "plans")?),
-        kind: Kind::Folder,
-        owner: named(alloc, "ann")?,
-        group: named(alloc, "eng")?,
-        aclflag: ListFlags::new(1).ok_or("no list flags")?,
-    })
-}
-
-/// A fresh room with that folder, which follows the root.
+/// A fresh room with a folder `/plans` of `ann` and `eng`, which follows the root.
 fn with_plans(alloc: Global) -> Result<MemShelf, Fail> {
     let mut shelf = in_memory(alloc)?;
     let root = shelf.entries(1)?;
     let list = hand_down(alloc, root.as_slice(), Kind::Folder)?;
+    let mut plans = node_in_root(alloc, 2, "plans", Kind::Folder)?;
+    plans.aclflag = ListFlags::new(1).ok_or("no list flags")?;
     let changes = vec![in alloc;
         Change::PutNext(3),
-        Change::PutNode(plans(alloc)?),
+        Change::PutNode(plans),
         Change::PutEntries(2, list),
     ]?;
-    shelf.commit(changes.as_slice())?;
+    commit(&mut shelf, changes)?;
     Ok(shelf)
 }
 

@@ -1,6 +1,5 @@
 //! Databases, made by texts, and what opens them as rooms.
-use room_records::{Change, Shelf};
-use room_sql::{OpenFault, SqlShelf};
+use room_sql::OpenFault;
 use sqlite::{Alter, Connection, MemStore};
 use std::alloc::Global;
 use std::test::Fail;
@@ -17,11 +16,6 @@ pub fn database(alloc: Global, statements: &str) -> Result<Connection<MemStore>,
 /// The number that a query shows.
 pub fn number<S: Alter>(conn: &mut Connection<S>, sql: &str) -> Result<i64, Fail> {
     Ok(conn.query_row(sql, &[])?.get(0)?)
-}
-
-/// A commit, which succeeds.
-pub fn commit(shelf: &mut SqlShelf<MemStore>, changes: Vec<Change>) -> Result<(), Fail> {
-    Ok(shelf.commit(changes.as_slice())?)
 }
 
 /// What opens a database as a room.

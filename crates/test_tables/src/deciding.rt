@@ -1,14 +1,14 @@
 //! How far a decision reads an object's list: row by row in order of place, up to the one that leaves nothing open. A
 //! row that is no entry shows itself to a decision that comes to it, and to no other.
 use crate::lists::LONGEST;
-use room_acl::{Decision, Entry, Flags, Mask, Standing, Who};
+use room_acl::{Decision, Entry, Mask, Standing, Who};
 use room_records::{Change, Shelf, ShelfFault};
 use room_sql::SqlShelf;
 use sqlite::{Alter, Connection, MemStore};
 use std::alloc::Global;
 use std::test::Fail;
 use test_stores::{in_tables, taken};
-use test_support::{in_memory, named, subject};
+use test_support::{commit, entry, in_memory, named, subject};
 
 /// A file whose list lets bob read, then denies everyone to read and write, and last lets bob write and append. The
 /// rows were written from the last place to the first.
@@ -111,12 +111,10 @@ fn rows_behind_the_deciding_one_are_not_read(rt: HostRuntime) -> Result<(), Fail
 
 /// A list of the most entries, of which the one at this place lets bob write, and the others cat.
 fn long_list(alloc: Global, place: usize) -> Result<Vec<Entry>, Fail> {
-    let flags = Flags::new(0).ok_or("no flags")?;
-    let mask = Mask::new(2).ok_or("no mask")?;
     let mut entries = Vec::new(alloc);
     for at in 0..LONGEST {
         let who = Who::User(named(alloc, if at == place { "bob" } else { "cat" })?);
-        entries.push(Entry::new(true, flags, mask, who).ok_or("no entry")?)?;
+        entries.push(entry(true, 0, 2, who)?)?;
     }
     Ok(entries)
 }
@@ -137,8 +135,10 @@ fn decision<S: Shelf>(
 
 /// The root gets the list that lets bob write at this place.
 fn put_long_list<S: Shelf>(alloc: Global, shelf: &mut S, place: usize) -> Result<(), Fail> {
-    let changes = vec![in alloc; Change::PutEntries(1, long_list(alloc, place)?)]?;
-    Ok(shelf.commit(changes.as_slice())?)
+    commit(
+        shelf,
+        vec![in alloc; Change::PutEntries(1, long_list(alloc, place)?)]?,
+    )
 }
 
 /// Where the root has the list that lets bob write at this place, bob may, and eve may not.

@@ -1,14 +1,15 @@
 //! Names and session names at their limits, as keys of the tables.
-use crate::databases::commit;
 use room_acl::{Kind, ListFlags};
-use room_records::{Change, Node, SessionRow, Shelf, Sid, SlotCount, SlotRow};
+use room_records::{Change, Node, SessionRow, Shelf, Sid};
 use room_slots::Kept;
 use room_sql::SqlShelf;
 use sqlite::MemStore;
 use std::alloc::Global;
 use std::test::Fail;
 use test_stores::{in_tables, taken};
-use test_support::{SID, file_name, named, session_name};
+use test_support::{
+    SID, commit, file_name, named, node_in_root, session_name, session_row, slot_row,
+};
 
 type Room = SqlShelf<MemStore>;
 
@@ -58,15 +59,10 @@ const SIDS: [&str; 5] = [
 
 /// A folder of this name in the root, of the longest principal.
 fn folder(alloc: Global, id: u32, name: &str) -> Result<Node, Fail> {
-    Ok(Node {
-        id,
-        parent: Some(1),
-        name: Some(file_name(alloc, name)?),
-        kind: Kind::Folder,
-        owner: named(alloc, "12345678901234567890123456789012")?,
-        group: named(alloc, "eng")?,
-        aclflag: ListFlags::new(7).ok_or("no list flags")?,
-    })
+    let mut folder = node_in_root(alloc, id, name, Kind::Folder)?;
+    folder.owner = named(alloc, "12345678901234567890123456789012")?;
+    folder.aclflag = ListFlags::new(7).ok_or("no list flags")?;
+    Ok(folder)
 }
 
 /// The numbers of the folders, which are not in the order of their names.
@@ -110,34 +106,27 @@ fn finds_each(alloc: Global, shelf: &mut Room) -> Result<(), Fail> {
     Ok(())
 }
 
-fn has_name(node: &Node, wanted: &str) -> Result<(), Fail> {
-    match &node.name {
-        Some(name) if name.text() == wanted => Ok(()),
-        _ => Err(Fail::new(format_args!("not {wanted}"))),
-    }
-}
-
-fn are_named(nodes: &[Node]) -> Result<(), Fail> {
-    if nodes.len() != NAMES.len() {
-        return Err(Fail::new("another number of names"));
-    }
-    for (node, wanted) in nodes.iter().zip(&NAMES) {
-        has_name(node, wanted)?;
-    }
-    Ok(())
-}
-
-/// The folder lists them in the order of their bytes.
-fn lists_in_order(shelf: &mut Room) -> Result<(), Fail> {
+/// Whether the folder lists them in the order of their bytes.
+fn are_listed<P: Shelf>(shelf: &mut P) -> Result<bool, Fail> {
     let children = shelf.children(1)?;
-    are_named(children.as_slice())
+    for (node, wanted) in children.iter().zip(&NAMES) {
+        match &node.name {
+            Some(name) if name.text() == *wanted => {}
+            _ => return Ok(false),
+        }
+    }
+    Ok(children.len() == NAMES.len())
 }
 
-fn counts_them(shelf: &mut Room) -> Result<(), Fail> {
-    if shelf.child_count(1)? != NAMES.len() as u64 {
-        return Err(Fail::new("another number of children"));
+/// The same of their names alone, with their kinds.
+fn are_named<P: Shelf>(shelf: &mut P) -> Result<bool, Fail> {
+    let names = shelf.names(1)?;
+    for ((name, kind), wanted) in names.iter().zip(&NAMES) {
+        if name.text() != *wanted || *kind != Kind::Folder {
+            return Ok(false);
+        }
     }
-    Ok(())
+    Ok(names.len() == NAMES.len())
 }
 
 /// A room in which these changes were made, taken again.
@@ -154,30 +143,16 @@ fn names_at_their_limits(rt: HostRuntime) -> Result<(), Fail> {
     assert_eq!(rt; (NAMES[14].len(), NAMES[18].len()), (64, 64));
     let mut shelf = room_with(alloc, all_folders(alloc)?)?;
     finds_each(alloc, &mut shelf)?;
-    lists_in_order(&mut shelf)?;
-    counts_them(&mut shelf)
+    assert!(rt; are_listed(&mut shelf)?);
+    assert!(rt; are_named(&mut shelf)?);
+    assert_eq!(rt; shelf.child_count(1)?, NAMES.len() as u64);
+    Ok(())
 }
 
-fn session(alloc: Global, text: &str, slots: u32) -> Result<Change, Fail> {
-    Ok(Change::PutSession(SessionRow {
-        sid: session_name(alloc, text)?,
-        owner: named(alloc, "ann")?,
-        slots: SlotCount::new(slots).ok_or("no number of slots")?,
-        is_open: slots < 3,
-    }))
-}
-
-/// What a slot keeps: the number, two bytes, and an empty reply, or none in slots behind the first.
+/// What a slot keeps: a number, and an empty reply, or none in slots behind the first.
 fn kept(alloc: Global, text: &str, slot: u32, seq: u32) -> Result<Change, Fail> {
-    Ok(Change::PutSlot(SlotRow {
-        sid: session_name(alloc, text)?,
-        slot,
-        kept: Kept {
-            seq,
-            request: vec![in alloc; 0u8, 255u8]?,
-            reply: (slot == 0).then(|| Vec::new(alloc)),
-        },
-    }))
+    let reply = (slot == 0).then(|| Vec::new(alloc));
+    slot_row(alloc, text, slot, seq, reply)
 }
 
 /// Two slots of each session, the last one with the last number.
@@ -185,7 +160,7 @@ fn all_sessions(alloc: Global) -> Result<Vec<Change>, Fail> {
     let mut changes = Vec::new(alloc);
     for (at, text) in SIDS.iter().enumerate() {
         let at = (at % 1000) as u32;
-        changes.push(session(alloc, text, at + 1)?)?;
+        changes.push(session_row(alloc, text, at + 1, at < 2)?)?;
         changes.push(kept(alloc, text, 0, at)?)?;
         changes.push(kept(alloc, text, u32::MAX, u32::MAX - at)?)?;
     }
@@ -205,7 +180,10 @@ fn has_kept(kept: &Kept, slot: u32, seq: u32) -> bool {
 }
 
 /// Whether a slot keeps this number; none where nothing is kept.
-fn keeps(shelf: &mut Room, sid: &Sid, slot: u32, wanted: Option<u32>) -> Result<bool, Fail> {
+fn keeps<P: Shelf>(shelf: &mut P, sid: &Sid, slot: u32, wanted: Option<u32>) -> Result<bool, Fail> {
+    if shelf.slot_seq(sid, slot)? != wanted {
+        return Ok(false);
+    }
     match (shelf.slot(sid, slot)?, wanted) {
         (Some(kept), Some(seq)) => Ok(has_kept(&kept, slot, seq)),
         (None, None) => Ok(true),

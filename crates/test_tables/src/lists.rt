@@ -1,13 +1,12 @@
 //! Lists of entries of each length about that of a batch are read back in order, and replaced by others.
-use crate::databases::commit;
-use room_acl::{Entry, Flags, Kind, ListFlags, Mask, Who};
-use room_records::{Change, Node, Shelf};
+use room_acl::{Entry, Kind, Who};
+use room_records::{Change, Shelf};
 use room_sql::SqlShelf;
 use sqlite::MemStore;
 use std::alloc::Global;
 use std::test::Fail;
 use test_stores::in_tables;
-use test_support::{are_same_entries, file_name, named};
+use test_support::{are_same_entries, commit, entry, named, node_in_root};
 
 /// The most entries that inheritance can give: 32 own ones, and those of 16 folders above.
 pub const LONGEST: usize = 544;
@@ -26,36 +25,22 @@ fn who(alloc: Global, number: usize) -> Result<Who, Fail> {
 }
 
 /// Another entry for each number.
-fn entry(alloc: Global, number: usize) -> Result<Entry, Fail> {
+fn entry_of(alloc: Global, number: usize) -> Result<Entry, Fail> {
     let who = who(alloc, number)?;
     let flags = match who {
         Who::Members(_) => 0x43,
         _ => 3,
     };
-    let flags = Flags::new(flags).ok_or("no flags")?;
-    let mask = Mask::new(RIGHTS[number % 4]).ok_or("no mask")?;
-    Ok(Entry::new(number % 3 > 0, flags, mask, who).ok_or("no entry")?)
+    entry(number % 3 > 0, flags, RIGHTS[number % 4], who)
 }
 
 /// So many entries, numbered from a number on.
 fn list(alloc: Global, from: usize, total: usize) -> Result<Vec<Entry>, Fail> {
     let mut entries = Vec::new(alloc);
     for index in 0..total {
-        entries.push(entry(alloc, from.wrapping_add(index))?)?;
+        entries.push(entry_of(alloc, from.wrapping_add(index))?)?;
     }
     Ok(entries)
-}
-
-fn folder(alloc: Global) -> Result<Node, Fail> {
-    Ok(Node {
-        id: 2,
-        parent: Some(1),
-        name: Some(file_name(alloc, "home")?),
-        kind: Kind::Folder,
-        owner: named(alloc, "ann")?,
-        group: named(alloc, "eng")?,
-        aclflag: ListFlags::new(0).ok_or("no flags")?,
-    })
 }
 
 /// Gives an object so many entries, numbered from a number on.
@@ -75,7 +60,8 @@ fn put(
 /// A room with a folder of three entries beside the root.
 fn room(alloc: Global) -> Result<SqlShelf<MemStore>, Fail> {
     let mut shelf = in_tables(alloc)?;
-    commit(&mut shelf, vec![in alloc; Change::PutNode(folder(alloc)?)]?)?;
+    let folder = node_in_root(alloc, 2, "home", Kind::Folder)?;
+    commit(&mut shelf, vec![in alloc; Change::PutNode(folder)]?)?;
     put(alloc, &mut shelf, 2, 70, 3)?;
     Ok(shelf)
 }

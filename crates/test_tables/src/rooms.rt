@@ -1,11 +1,12 @@
 //! Rooms that are made, taken and refused, and commits of which nothing stays or all.
-use crate::databases::{Opening, commit, database, is_answered, number};
+use crate::databases::{Opening, database, is_answered, number};
 use room_records::{Change, Node, Shelf};
 use room_sql::{OpenFault, SqlShelf};
 use sqlite::{Connection, MemStore};
 use std::alloc::Global;
 use std::test::Fail;
 use test_stores::{in_tables, made, taken};
+use test_support::{commit, must};
 
 type Room = SqlShelf<MemStore>;
 
@@ -37,12 +38,11 @@ fn root_is_there(shelf: &mut Room) -> Result<bool, Fail> {
     Ok(is_root(root.as_ref()))
 }
 
-/// The root's children, listed and counted.
-fn children(shelf: &mut Room) -> Result<usize, Fail> {
+/// The root's children, listed, named and counted.
+fn children<P: Shelf>(shelf: &mut P) -> Result<usize, Fail> {
     let listed = shelf.children(1)?.len();
-    if shelf.child_count(1)? != listed as u64 {
-        return Err(Fail::new("another number of children"));
-    }
+    must(shelf.names(1)?.len() == listed, "the names")?;
+    must(shelf.child_count(1)? == listed as u64, "the count")?;
     Ok(listed)
 }
 
@@ -128,18 +128,14 @@ fn changes(alloc: Global, at: usize) -> Result<Vec<Change>, Fail> {
     }
 }
 
-fn has_document(shelf: &mut Room, wanted: &[u8], what: &str) -> Result<(), Fail> {
-    if shelf.doc(1)?.as_slice() != wanted {
-        return Err(Fail::new(format_args!("{what}: another document")));
-    }
-    Ok(())
+fn has_document<P: Shelf>(shelf: &mut P, wanted: &[u8], what: &str) -> Result<(), Fail> {
+    must(shelf.doc(1)?.as_slice() == wanted, what)?;
+    must(shelf.doc_size(1)? == wanted.len() as u64, what)
 }
 
 fn is_as_told(shelf: &mut Room, changes: Vec<Change>, step: &Step) -> Result<(), Fail> {
     let Step(what, succeeds, document, wanted) = *step;
-    if shelf.commit(changes.as_slice()).is_ok() != succeeds {
-        return Err(Fail::new(format_args!("{what}: another answer")));
-    }
+    must(shelf.commit(changes.as_slice()).is_ok() == succeeds, what)?;
     has_document(shelf, document, what)?;
     shows(shelf, wanted, what)
 }

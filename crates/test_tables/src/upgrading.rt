@@ -201,6 +201,7 @@ fn odd_rows_stay_odd(rt: HostRuntime) -> Result<(), Fail> {
     let mut shelf = taken(alloc, conn)?;
     let sid = session_name(alloc, SID)?;
     assert_eq!(rt; shelf.slot(&sid, 1).err(), Some(ShelfFault::Store));
+    assert_eq!(rt; shelf.slot_seq(&sid, 1).err(), Some(ShelfFault::Store));
     let kept = shelf.slot(&sid, 2)?.ok_or("nothing is kept")?;
     assert_eq!(rt; kept.reply.map(|reply| reply.len()), Some(0));
     Ok(())

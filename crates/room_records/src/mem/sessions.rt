@@ -2,6 +2,7 @@
 ghost use Rattle.std.specs.Prelude.{◌≡◌, ◌==◌, ◌&&◌, ◌<◌, ℕ, List, None, Some, OnOk, IfOk, IsSome};
 ghost use Rattle.std.specs.Prelude.{◌≤◌, nat_lt, if◌then◌else◌};
 ghost use Rattle.std.specs.Str.{bytes_eq};
+ghost use Rattle.room_slots.specs.Slots.{kept_seq};
 ghost use Rattle.room_records.specs.Limits.{max_slots};
 ghost use Rattle.room_records.specs.Table.{HasSpace};
 ghost use Rattle.room_records.specs.Names.{name_cmp};
@@ -65,6 +66,17 @@ impl Sessions {
         let key = (sid.clone()?, slot);
         match self.kept.get(&key) {
             Some(kept) => Ok(Some(kept.clone()?)),
+            None => Ok(None),
+        }
+    }
+
+    /// The number that a slot keeps.
+    pub(crate) fn slot_seq(&self, sid: &Sid, slot: u32) -> Result<Option<u32>, AllocError>
+        ensures { IfOk result (λ found. found ≡ kept_seq (kept_in self.now.kept.slots sid.now slot)) }
+    {
+        let key = (sid.clone()?, slot);
+        match self.kept.get(&key) {
+            Some(kept) => Ok(Some(kept.seq)),
             None => Ok(None),
         }
     }

@@ -1,4 +1,5 @@
 -- What messages ask: routes, the caller, events and questions.
 pub mod Numerals
+pub mod Requests
 pub mod TargetTexts
 pub mod Targets

@@ -5,6 +5,7 @@ pub mod CommandBytes
 pub mod CommandLawful
 pub mod CommandParts
 pub mod CommandPaths
+pub mod CommandSame
 pub mod CommandTexts
 pub mod CommandUtf8
 pub mod Letters

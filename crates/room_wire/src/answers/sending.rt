@@ -60,7 +60,7 @@ fn head_of(status: StatusCode, size: usize, last: bool) -> ArrayString<192>
     head
 }
 
-/// Puts the head and the body behind one another, where the buffer has room for both. It never grows.
+/// Puts the head and the body behind one another, where the buffer holds both. It never grows.
 fn gather(buffer: &mut Vec<u8>, head: &[u8], body: &[u8]) -> bool
     ensures { IsTrue result → buffer.new.items ≡ head.now ++ body.now }
 {
@@ -71,7 +71,7 @@ fn gather(buffer: &mut Vec<u8>, head: &[u8], body: &[u8]) -> bool
     buffer.extend_from_slice(head).is_ok() && buffer.extend_from_slice(body).is_ok()
 }
 
-/// Writes a head and a body: in one write where the buffer has room for both and the writer takes them.
+/// Writes a head and a body: in one write where the buffer holds both and the writer takes them.
 fn send_both<W: Write>(writer: &mut W, buffer: &mut Vec<u8>, head: &[u8], body: &[u8]) -> bool
     ensures { Sent (W.contents writer.old) (W.contents writer.new) (head.now ++ body.now) result }
 {
@@ -83,7 +83,7 @@ fn send_both<W: Write>(writer: &mut W, buffer: &mut Vec<u8>, head: &[u8], body: 
 
 /// Writes one answer, and says whether all of it was taken.
 ///
-/// `buffer` is where the answer is put together; an answer that it has no room for takes two writes.
+/// `buffer` is where the answer is put together; an answer that is longer than it holds takes two writes.
 pub fn send_answer<W: Write>(
     writer: &mut W,
     buffer: &mut Vec<u8>,

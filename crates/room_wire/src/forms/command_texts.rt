@@ -15,8 +15,8 @@ ghost use Rattle.room_wire.specs.Forms.Texts as T;
 
 use crate::forms::letters::append_letters;
 use crate::forms::writing::{
-    SHORT, begun, ended, entries_member, number_member, room_for, text_member, with_quoted,
-    with_room,
+    SHORT_MEMBERS, begun, ended, entries_member, number_member, reserved, size_of_entries,
+    text_member, with_quoted,
 };
 use room_acl::{Entry, ListFlags, Mask, Principal};
 use room_commands::Command;
@@ -29,7 +29,7 @@ fn path_command(alloc: Global, name: &str, path: &Path) -> Result<Vec<u8>, Alloc
     ensures lawful { IsPath path.now }
 {
     let text = path.text(alloc)?;
-    let mut out = begun(alloc, text.len().saturating_add(SHORT))?;
+    let mut out = begun(alloc, text.len().saturating_add(SHORT_MEMBERS))?;
     text_member(&mut out, "cmd", name)?;
     text_member(&mut out, "path", text.as_str())?;
     ended(out)
@@ -47,7 +47,11 @@ fn bytes_command(
     ensures lawful { IfOk result (λ _. AreBytes bytes.now × IsPath path.now) }
 {
     let place = path.text(alloc)?;
-    let mut start = with_room(alloc, bytes.len(), place.len().saturating_add(SHORT))?;
+    let mut start = reserved(
+        alloc,
+        bytes.len(),
+        place.len().saturating_add(SHORT_MEMBERS),
+    )?;
     start.extend_from_slice(b"{\"cmd\":")?;
     let mut text = with_quoted(start, name)?;
     text.extend_from_slice(b",\"data\":\"")?;
@@ -70,7 +74,7 @@ fn rename_command(alloc: Global, path: &Path, to: &Path) -> Result<Vec<u8>, Allo
         from_text
             .len()
             .saturating_add(to_text.len())
-            .saturating_add(SHORT),
+            .saturating_add(SHORT_MEMBERS),
     )?;
     text_member(&mut out, "cmd", "RENAME")?;
     text_member(&mut out, "path", from_text.as_str())?;
@@ -90,7 +94,7 @@ fn chown_command(
         ∷ (codes "owner", string owner.now) ∷ at path.now ∷ []))) }
 {
     let text = path.text(alloc)?;
-    let mut out = begun(alloc, text.len().saturating_add(SHORT))?;
+    let mut out = begun(alloc, text.len().saturating_add(SHORT_MEMBERS))?;
     text_member(&mut out, "cmd", "CHOWN")?;
     text_member(&mut out, "group", group.text())?;
     text_member(&mut out, "owner", owner.text())?;
@@ -104,7 +108,7 @@ fn access_command(alloc: Global, mask: Mask, path: &Path) -> Result<Vec<u8>, All
     ensures lawful { IfOk result (λ _. IsMask mask × IsPath path.now) }
 {
     let text = path.text(alloc)?;
-    let mut out = begun(alloc, text.len().saturating_add(SHORT))?;
+    let mut out = begun(alloc, text.len().saturating_add(SHORT_MEMBERS))?;
     text_member(&mut out, "cmd", "ACCESS")?;
     number_member(&mut out, "mask", u64::from(mask.bits()))?;
     text_member(&mut out, "path", text.as_str())?;
@@ -123,7 +127,7 @@ fn set_list_command(
         ∷ (codes "entries", array (T.entries entries.now)) ∷ at path.now ∷ []))) }
 {
     let text = path.text(alloc)?;
-    let mut out = begun(alloc, room_for(entries.len()))?;
+    let mut out = begun(alloc, size_of_entries(entries.len()))?;
     number_member(&mut out, "aclflag", u64::from(aclflag.bits()))?;
     text_member(&mut out, "cmd", "SETLIST")?;
     entries_member(&mut out, entries)?;

@@ -12,7 +12,8 @@ ghost use Rattle.room_wire.specs.Forms.Writing.{Adds};
 
 use crate::forms::letters::append_letters;
 use crate::forms::writing::{
-    SHORT, begun, ended, entries_member, number_member, room_for, text_member, with_room,
+    SHORT_MEMBERS, begun, ended, entries_member, number_member, reserved, size_of_entries,
+    text_member,
 };
 use json::Writer;
 use room_acl::{Entry, Kind, ListFlags, Mask, Principal};
@@ -69,13 +70,13 @@ fn refusal_name(code: RefusalCode) -> &'static str
     }
 }
 
-/// Room for a name with its kind.
-const A_NAME: usize = 48;
+/// Bytes that are reserved for a child's name with its kind.
+const NAME_AND_KIND: usize = 48;
 
 fn done_text(alloc: Global) -> Result<Vec<u8>, AllocError>
     ensures { IfOk result (λ text. text.items ≡ compact_text (obj (ok ∷ []))) }
 {
-    let mut out = begun(alloc, SHORT)?;
+    let mut out = begun(alloc, SHORT_MEMBERS)?;
     number_member(&mut out, "code", 0)?;
     ended(out)
 }
@@ -83,7 +84,7 @@ fn done_text(alloc: Global) -> Result<Vec<u8>, AllocError>
 fn opened_text(alloc: Global, slots: u32) -> Result<Vec<u8>, AllocError>
     ensures { IfOk result (λ text. text.items ≡ compact_text (obj (ok ∷ (codes "slots", num slots) ∷ []))) }
 {
-    let mut out = begun(alloc, SHORT)?;
+    let mut out = begun(alloc, SHORT_MEMBERS)?;
     number_member(&mut out, "code", 0)?;
     number_member(&mut out, "slots", u64::from(slots))?;
     ended(out)
@@ -101,7 +102,7 @@ fn stat_text(
         ≡ compact_text (obj ((codes "aclflag", num aclflag) ∷ ok ∷ (codes "group", string group.now)
         ∷ (codes "kind", T.kind kind) ∷ (codes "owner", string owner.now) ∷ (codes "size", num size) ∷ []))) }
 {
-    let mut out = begun(alloc, SHORT)?;
+    let mut out = begun(alloc, SHORT_MEMBERS)?;
     number_member(&mut out, "aclflag", u64::from(aclflag.bits()))?;
     number_member(&mut out, "code", 0)?;
     text_member(&mut out, "group", group.text())?;
@@ -114,7 +115,7 @@ fn stat_text(
 fn size_text(alloc: Global, size: u32) -> Result<Vec<u8>, AllocError>
     ensures { IfOk result (λ text. text.items ≡ compact_text (obj (ok ∷ (codes "size", num size) ∷ []))) }
 {
-    let mut out = begun(alloc, SHORT)?;
+    let mut out = begun(alloc, SHORT_MEMBERS)?;
     number_member(&mut out, "code", 0)?;
     number_member(&mut out, "size", u64::from(size))?;
     ended(out)
@@ -124,7 +125,7 @@ fn size_text(alloc: Global, size: u32) -> Result<Vec<u8>, AllocError>
 fn bytes_text(alloc: Global, bytes: &[u8]) -> Result<Vec<u8>, AllocError>
     ensures { IfOk result (λ text. text.items ≡ compact_text (obj (ok ∷ (codes "data", T.bytes bytes.now) ∷ []))) }
 {
-    let mut text = with_room(alloc, bytes.len(), SHORT)?;
+    let mut text = reserved(alloc, bytes.len(), SHORT_MEMBERS)?;
     text.extend_from_slice(b"{\"code\":0,\"data\":\"")?;
     append_letters(&mut text, bytes)?;
     text.extend_from_slice(b"\"}")?;
@@ -136,7 +137,7 @@ fn entries_text(alloc: Global, aclflag: ListFlags, entries: &[Entry]) -> Result<
         ≡ compact_text (obj ((codes "aclflag", num aclflag) ∷ ok
         ∷ (codes "entries", array (T.entries entries.now)) ∷ []))) }
 {
-    let mut out = begun(alloc, room_for(entries.len()))?;
+    let mut out = begun(alloc, size_of_entries(entries.len()))?;
     number_member(&mut out, "aclflag", u64::from(aclflag.bits()))?;
     number_member(&mut out, "code", 0)?;
     entries_member(&mut out, entries)?;
@@ -146,7 +147,7 @@ fn entries_text(alloc: Global, aclflag: ListFlags, entries: &[Entry]) -> Result<
 fn allowed_text(alloc: Global, mask: Mask) -> Result<Vec<u8>, AllocError>
     ensures { IfOk result (λ text. text.items ≡ compact_text (obj ((codes "allowed", num mask) ∷ ok ∷ []))) }
 {
-    let mut out = begun(alloc, SHORT)?;
+    let mut out = begun(alloc, SHORT_MEMBERS)?;
     number_member(&mut out, "allowed", u64::from(mask.bits()))?;
     number_member(&mut out, "code", 0)?;
     ended(out)
@@ -157,7 +158,7 @@ fn refused_text(alloc: Global, code: RefusalCode) -> Result<Vec<u8>, AllocError>
         ≡ compact_text (obj ((codes "code", num (refusal_number code))
         ∷ (codes "error", string (refusal_name code)) ∷ []))) }
 {
-    let mut out = begun(alloc, SHORT)?;
+    let mut out = begun(alloc, SHORT_MEMBERS)?;
     number_member(&mut out, "code", refusal_number(code))?;
     text_member(&mut out, "error", refusal_name(code))?;
     ended(out)
@@ -175,7 +176,7 @@ fn refused_at_text(
         ∷ (codes "error", string (refusal_name code)) ∷ at path.now ∷ []))) }
 {
     let place = path.text(alloc)?;
-    let mut out = begun(alloc, place.len().saturating_add(SHORT))?;
+    let mut out = begun(alloc, place.len().saturating_add(SHORT_MEMBERS))?;
     number_member(&mut out, "bit", u64::from(bit))?;
     number_member(&mut out, "code", refusal_number(code))?;
     text_member(&mut out, "error", refusal_name(code))?;
@@ -211,7 +212,10 @@ fn names_text(alloc: Global, names: &[(FileName, Kind)]) -> Result<Vec<u8>, Allo
 {
     let mut out = begun(
         alloc,
-        names.len().saturating_mul(A_NAME).saturating_add(SHORT),
+        names
+            .len()
+            .saturating_mul(NAME_AND_KIND)
+            .saturating_add(SHORT_MEMBERS),
     )?;
     number_member(&mut out, "code", 0)?;
     names_member(&mut out, names)?;

@@ -15,19 +15,19 @@ use json::Writer;
 use room_acl::Entry;
 use std::alloc::{AllocError, Global};
 
-/// Room for the members of an object that are no list and no long text.
-pub(crate) const SHORT: usize = 128;
+/// Bytes that are reserved for the members of an object that are no list and no long text.
+pub(crate) const SHORT_MEMBERS: usize = 128;
 
-/// Room for so many entries beside them.
-pub(crate) fn room_for(entries: usize) -> usize {
-    entries.saturating_mul(64).saturating_add(SHORT)
+/// Bytes that are reserved for so many entries, 64 each, and the short members beside them.
+pub(crate) fn size_of_entries(entries: usize) -> usize {
+    entries.saturating_mul(64).saturating_add(SHORT_MEMBERS)
 }
 
-/// An object that has no member yet, with room for so many bytes.
-pub(crate) fn begun(alloc: Global, room: usize) -> Result<Writer, AllocError>
+/// An object that has no member yet, with so many bytes reserved for it.
+pub(crate) fn begun(alloc: Global, size: usize) -> Result<Writer, AllocError>
     ensures { IfOk result (λ out. (out.before ≡ []) × (out.tokens ≡ SpecToken.begin_object ∷ [])) }
 {
-    let mut out = Writer::new(Vec::with_capacity(alloc, room)?);
+    let mut out = Writer::new(Vec::with_capacity(alloc, size)?);
     out.begin_object()?;
     Ok(out)
 }
@@ -109,8 +109,8 @@ pub(crate) fn with_quoted(bytes: Vec<u8>, text: &str) -> Result<Vec<u8>, AllocEr
     Ok(out.into_inner())
 }
 
-/// An empty text with room for the letters of so many bytes, and for some more bytes.
-pub(crate) fn with_room(alloc: Global, bytes: usize, more: usize) -> Result<Vec<u8>, AllocError>
+/// An empty text. Reserved are the letters of so many bytes in base64, four for three bytes, and some more bytes.
+pub(crate) fn reserved(alloc: Global, bytes: usize, more: usize) -> Result<Vec<u8>, AllocError>
     ensures { IfOk result (λ text. text.items ≡ []) }
 {
     let letters = (bytes / 3).saturating_add(1).saturating_mul(4);

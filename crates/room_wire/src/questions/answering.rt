@@ -5,7 +5,9 @@ ghost use Rattle.room_wire.specs.Questions.CheckAnswers.{allowed_data, entries_d
 ghost use Rattle.room_wire.specs.Questions.CheckAnswers.{child_text, fault_text, bit_of};
 ghost use Rattle.room_wire.specs.Questions.QuestionModel.{question_model};
 
-use crate::forms::writing::{SHORT, begun, ended, entries_member, number_member, room_for};
+use crate::forms::writing::{
+    SHORT_MEMBERS, begun, ended, entries_member, number_member, size_of_entries,
+};
 use crate::questions::question::Question;
 use room_acl::{
     Decision, Entry, Kind, ListFault, Mask, Principal, Standing, Subject, allowed_bits, check_own,
@@ -16,7 +18,7 @@ use std::alloc::{AllocError, Global};
 fn allowed_text(alloc: Global, allowed: u32, bit: u32) -> Result<Vec<u8>, AllocError>
     ensures { IfOk result (λ text. text.items ≡ compact_text (allowed_data allowed bit)) }
 {
-    let mut out = begun(alloc, SHORT)?;
+    let mut out = begun(alloc, SHORT_MEMBERS)?;
     number_member(&mut out, "allowed", u64::from(allowed))?;
     number_member(&mut out, "bit", u64::from(bit))?;
     number_member(&mut out, "code", 0)?;
@@ -76,7 +78,7 @@ fn list_answer(
 fn entries_text(alloc: Global, entries: &[Entry]) -> Result<Vec<u8>, AllocError>
     ensures { IfOk result (λ text. text.items ≡ compact_text (entries_data entries.now)) }
 {
-    let mut out = begun(alloc, room_for(entries.len()))?;
+    let mut out = begun(alloc, size_of_entries(entries.len()))?;
     number_member(&mut out, "code", 0)?;
     entries_member(&mut out, entries)?;
     ended(out)

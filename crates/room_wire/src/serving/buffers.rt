@@ -4,8 +4,8 @@ ghost use Rattle.std.specs.Prelude.{◌≡◌, [], IfOk};
 use crate::serving::input::Input;
 use std::alloc::{AllocError, Global};
 
-/// Room for the longest answer: a reply with a document of 65,536 bytes in base64, and its head.
-const ANSWER_ROOM: usize = 90_112;
+/// The bytes of the output buffer, which holds a reply with a document of 65,536 bytes in base64, and its head.
+const ANSWER_BYTES: usize = 90_112;
 
 /// The buffers of serving, made once: no message makes them grow.
 #[derive(Drop)]
@@ -21,7 +21,7 @@ impl Buffers {
         ensures { IfOk result (λ buffers. buffers.input ≡ []) }
     {
         let input = Input::new(alloc)?;
-        let output = Vec::with_capacity(alloc, ANSWER_ROOM)?;
+        let output = Vec::with_capacity(alloc, ANSWER_BYTES)?;
         Ok(Buffers { input, output })
     }
 }

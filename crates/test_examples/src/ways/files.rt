@@ -7,7 +7,7 @@ use crate::fault::Fault;
 use crate::playing::Play;
 use crate::rooms::made;
 use crate::scenes::Step;
-use crate::shelves::{answered, do_step, expect_whole_lists, prepared};
+use crate::shelves::{answered, do_step, expect_whole_lists, prepare};
 use room_sql::SqlShelf;
 use sqlite::{Connection, FileStore, Options};
 use sqlite_disk::{Files, Memory};
@@ -94,11 +94,38 @@ fn take(
     }
 }
 
-pub fn play(play: &Play<'_>, differences: &mut Differences<'_>) -> Result<(), Fault> {
-    let shelf = prepared(play, in_files(play.alloc)?)?;
-    let mut shelf = reopened(play.alloc, shelf)?;
+/// The room as the earlier scenes leave it. (A call over any shelf that is dropped takes more steps here than the check
+/// of one function may.)
+fn prepared(play: &Play<'_>, shelf: FileRoom) -> Result<FileRoom, Fault> {
+    let (end, shelf) = prepare(play, shelf);
+    end?;
+    Ok(shelf)
+}
+
+/// The room after all steps.
+fn played(
+    play: &Play<'_>,
+    shelf: FileRoom,
+    differences: &mut Differences<'_>,
+) -> Result<FileRoom, Fault> {
+    let mut shelf = shelf;
     for step in play.steps {
         shelf = take(play, shelf, step, differences)?;
     }
+    Ok(shelf)
+}
+
+fn has_whole_lists(
+    play: &Play<'_>,
+    shelf: FileRoom,
+    differences: &mut Differences<'_>,
+) -> Result<(), Fault> {
+    let mut shelf = shelf;
     expect_whole_lists(play, &mut shelf, play.line, differences)
+}
+
+pub fn play(play: &Play<'_>, differences: &mut Differences<'_>) -> Result<(), Fault> {
+    let shelf = prepared(play, in_files(play.alloc)?)?;
+    let shelf = played(play, reopened(play.alloc, shelf)?, differences)?;
+    has_whole_lists(play, shelf, differences)
 }

@@ -6,7 +6,8 @@ use crate::scenes::Example;
 use room_desk::Desk;
 use room_records::{Roster, Shelf};
 use room_wire::{ServeEnd, Why};
-use std::io::{Error, ErrorKind, Read, Result as IoResult, Write};
+use std::io::{Read, Result as IoResult};
+use test_support::{BoundedWriter, Full};
 
 /// Gives pieces of these sizes one a read, and then what is left.
 #[derive(Drop)]
@@ -26,31 +27,6 @@ impl Read for Pieces<'_> {
         buf[..piece.len()].copy_from_slice(piece);
         self.rest = rest;
         Ok(piece.len())
-    }
-}
-
-/// Takes so many bytes, and then fails.
-#[derive(Drop)]
-struct BoundedWriter {
-    taken: Vec<u8>,
-    room: usize,
-}
-
-impl Write for BoundedWriter {
-    fn write(&mut self, buf: &[u8]) -> IoResult<usize> {
-        if self.room == 0 {
-            return Err(Error::from(ErrorKind::Other));
-        }
-        let count = buf.len().min(self.room);
-        if self.taken.extend_from_slice(&buf[..count]).is_err() {
-            return Err(Error::from(ErrorKind::OutOfMemory));
-        }
-        self.room -= count;
-        Ok(count)
-    }
-
-    fn flush(&mut self) -> IoResult<()> {
-        Ok(())
     }
 }
 
@@ -96,10 +72,7 @@ pub fn serve<S: Shelf>(play: &Play<'_>, shelf: S, line: Line<'_>) -> (Ended, S) 
     let mut desk = Desk::new(play.alloc, shelf);
     let Line { sent, sizes, room } = line;
     let mut reader = Pieces { rest: sent, sizes };
-    let mut writer = BoundedWriter {
-        taken: Vec::new(play.alloc),
-        room,
-    };
+    let mut writer = BoundedWriter::new(play.alloc, room, usize::MAX, Full::Fails);
     let end = served(&mut desk, play.roster, &mut reader, &mut writer);
     let written = writer.taken;
     (Ended { written, end }, desk.into_shelf())

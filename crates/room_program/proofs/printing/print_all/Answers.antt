@@ -1,6 +1,6 @@
 use Rattle.std.proofs.Common.{arith}
 use Rattle.std.proofs.lemmas.List.{take_rest, length-drop}
-use Rattle.room_program.proofs.Printed.{front_kept, front_some, front_more}
+use Rattle.room_wire.proofs.Lemmas.Answers.Sends.{front_kept, front_some, front_more}
 use Rattle.room_program.proofs.printing.print_all.Goals as goal
 
 pub returns-in-Ok-eq0 : goal.returns-in-Ok-eq0

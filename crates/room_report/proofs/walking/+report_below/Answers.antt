@@ -1,14 +1,13 @@
-use Rattle.std.proofs.Common.{ℕ, ◌+◌, ap, sym, ◌∙◌, subst, arith, List, [], ◌∷◌, ◌++◌, drop, append-nil}
+use Rattle.std.proofs.Common.{ℕ, ◌+◌, ap, sym, ◌∙◌, arith, List, [], ◌∷◌, ◌++◌, drop, append-nil}
 use Rattle.std.specs.List.{flat_map}
 use Rattle.std.proofs.lemmas.List.{length_push}
 use Rattle.std.proofs.KnownBytes.{Appends-trans}
-use Rattle.std.specs.Io.KnownBytes.{Appends}
 use Rattle.room_records.specs.declared.node.Node.{Node}
 use Rattle.room_records.specs.Records.{Records}
 use Rattle.room_records.specs.Shelf.{name_of}
 use Rattle.room_records.proofs.Shelves.{read_then}
 use Rattle.room_report.specs.Walk.{item_lines, text_below}
-use Rattle.room_report.proofs.Sent.{front_of_more, front_is, sent_front, front_then}
+use Rattle.room_report.proofs.Sent.{front_of_more, front_is, appends_is, sent_front, front_then}
 use Rattle.room_report.proofs.Written.{err_writes, so_far, cut, next, done, child_at, begins, text_of_item}
 use Rattle.room_report.proofs.walking.+report_below.Goals as goal
 
@@ -27,17 +26,14 @@ returns-then-is_leaf-clause-value g t c = λ intact laid_out r e room stand path
     let lines = item_lines report c.args.item.now in
     let text = text_of_item r room stand path c.args.item.now is report
     [] (c.is_leaf.ensures.leaf c.if-is_leaf.true r room stand path is long) in
-    let P : List ℕ → Type 0 =
-    λ bytes. Appends (g.W.Write.contents c.args.writer.now) (g.W.Write.contents c.write_item.new.writer) bytes in
-    subst P (sym (append-nil lines) ∙ sym text) c.in_ok-write_item.ensures.written
+    appends_is _ _ lines (text_below report room path) (sym (append-nil lines) ∙ sym text)
+    c.in_ok-write_item.ensures.written
 
 pub returns-in_err-nodes-clause-value : goal.returns-in_err-nodes-clause-value
 returns-in_err-nodes-clause-value g t c = λ intact laid_out r e room stand path is long.
     let report = c.args.report.now in
     let lines = item_lines report c.args.item.now in
     let text = begins r room stand path c.args.item.now is report in
-    let P : List ℕ → Type 0 =
-    λ bytes. Appends (g.W.Write.contents c.args.writer.now) (g.W.Write.contents c.write_item.new.writer) bytes in
     err_writes _ _ (text_below report room path)
     c.from_residual-in_err-nodes.result c.from_residual-in_err-nodes.ensures.0
     (front_is _ _ (lines ++ text.0) (text_below report room path) (sym text.1)
@@ -117,11 +113,10 @@ loop-node-preserved g t c = record {
       let deep = c.is_leaf.ensures.deep c.if-is_leaf.false in
       let wrote =
       c.in_ok-report_below.ensures.value intact declared' r same' room stand (path ++ name_of node ∷ []) item
-      (omega (arith, long, deep, length_push path (name_of node))) in
-      let P : List ℕ → Type 0 = λ bytes.
-      Appends (g.W.Write.contents c.args.writer.now) (g.W.Write.contents c.report_below.new.writer) bytes in (
+      (omega (arith, long, deep, length_push path (name_of node))) in (
         so.0,
-        subst P (sym (next child lines nodes i node c.loop-node-test.true c.node-item.is))
+        appends_is _ _ (so_far child lines nodes i ++ child node) (so_far child lines nodes (i + 1))
+            (sym (next child lines nodes i node c.loop-node-test.true c.node-item.is))
             (Appends-trans _ _ _ (so_far child lines nodes i) (child node) so.1 wrote),
       );
 }
@@ -134,7 +129,6 @@ returns-clause-value g t c = λ intact laid_out r e room stand path is long.
     let i = c.loop-node.node-index in
     let child : Node → List ℕ = λ n. text_below report room (path ++ name_of n ∷ []) in
     let so = c.loop-node.invariant.written intact laid_out r e room stand path is long in
-    let P : List ℕ → Type 0 =
-    λ bytes. Appends (g.W.Write.contents c.args.writer.now) (g.W.Write.contents c.loop-node.writer) bytes in
-    subst P (done child lines nodes i c.loop-node-test.false
+    appends_is _ _ (so_far child lines nodes i) (text_below report room path)
+    (done child lines nodes i c.loop-node-test.false
     ∙ sym (text_of_item r room stand path c.args.item.now is report nodes so.0)) so.1

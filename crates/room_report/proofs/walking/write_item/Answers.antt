@@ -1,7 +1,6 @@
-use Rattle.std.proofs.Common.{◌∙◌, List, ℕ, subst}
-use Rattle.std.specs.Io.KnownBytes.{Appends}
+use Rattle.std.proofs.Common.{◌∙◌}
 use Rattle.room_report.specs.Walk.{item_lines}
-use Rattle.room_report.proofs.Sent.{front_is}
+use Rattle.room_report.proofs.Sent.{front_is, appends_is}
 use Rattle.room_report.proofs.Written.{err_writes}
 use Rattle.room_report.proofs.walking.write_item.Goals as goal
 
@@ -13,6 +12,5 @@ returns-in_err-send-clause-written g c =
 
 pub returns-clause-written : goal.returns-clause-written
 returns-clause-written g c =
-    let P : List ℕ → Type 0 =
-    λ bytes. Appends (g.W.Write.contents c.args.writer.now) (g.W.Write.contents c.send.new.writer) bytes in
-    subst P (c.as_slice.ensures.value ∙ c.in_ok-lines.ensures) c.in_ok-send.ensures
+    appends_is _ _ c.as_slice.result.now (item_lines c.args.report.now c.args.item.now)
+    (c.as_slice.ensures.value ∙ c.in_ok-lines.ensures) c.in_ok-send.ensures

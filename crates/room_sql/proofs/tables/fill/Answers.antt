@@ -23,6 +23,7 @@ returns-clause-ok g c clean =
         records = three.0.records ∙ ap (apply_change (PutNext 2)) two.records
             ∙ ap (λ r. apply_change (PutNext 2) (apply_change (PutEntries 1 c.args.entries.now) r)) one.records;
         version = λ _. three.1;
+        sound = λ s. three.0.sound (two.sound (one.sound s));
       },
       three.1,
       (all.1 two.room).0,

@@ -1,4 +1,4 @@
-use Rattle.std.proofs.Common.{◌≡◌, Ok, Err, IfErr, true, refl, subst, rules, arith}
+use Rattle.std.proofs.Common.{◌≡◌, [], ◌∷◌, Ok, Err, IfErr, true, refl, subst, rules, arith}
 use Rattle.std.proofs.lemmas.Result.{IfErr-weaker}
 use Rattle.sqlite.specs.State.{HasCleanDisk, Survives}
 use Rattle.sqlite.specs.Held.{state}
@@ -8,8 +8,7 @@ use Rattle.sqlite.proofs.Callers.{survives_begin}
 use Rattle.room_tables.specs.Tables.{Upgraded, room_schema}
 use Rattle.room_tables.specs.Upgrade.{IsUpgraded, MayBeMovedWith}
 use Rattle.room_tables.proofs.Moves.{by_trees}
-use Rattle.room_records.specs.declared.change.Change.TheVariants.{PutNext}
-use Rattle.room_sql.specs.Causes.{writes_of, make_writes, MovesInTurn, UpgradeFails}
+use Rattle.room_sql.specs.Causes.{next_write, make_writes, MovesInTurn, UpgradeFails}
 use Rattle.room_sql.proofs.Turns.{err_passed, write_failed, end_failed}
 use Rattle.room_sql.proofs.upgrade.commit_move.Goals as goal
 
@@ -38,7 +37,7 @@ returns-in_err-move_room-clause-failed g c clean =
     let last = c.move_room.new.tx.conn.now in
     let end = c.drop-tx.new.self.0 in
     let e = c.in_err-move_room.field-0.0 in
-    let moves = MovesInTurn g.S.Store make_writes (writes_of (PutNext c.args.next)) in
+    let moves = MovesInTurn g.S.Store make_writes (next_write c.args.next ∷ []) in
     let same : end ≡ c.conn-1.given.0 = search rules in
     let late : HasCleanDisk (state g.S.Store end) = search rules in
     let early : HasCleanDisk (state g.S.Store last) = omega (arith, c.drop-tx.ensures.survives.clean) in
@@ -55,7 +54,7 @@ returns-clause-failed g c clean =
     let tx = c.transaction-tx.result.conn.now in
     let last = c.move_room.new.tx.conn.now in
     let end = c.commit.new.self.0 in
-    let moves = MovesInTurn g.S.Store make_writes (writes_of (PutNext c.args.next)) in
+    let moves = MovesInTurn g.S.Store make_writes (next_write c.args.next ∷ []) in
     let same : end ≡ c.conn-2-1.given.0 = search rules in
     let late : HasCleanDisk (state g.S.Store end) = search rules in
     let early : HasCleanDisk (state g.S.Store last) = omega (arith, c.commit.ensures.survives.clean) in

@@ -1,10 +1,9 @@
-use Rattle.std.proofs.Common.{[], sym, subst, arith}
+use Rattle.std.proofs.Common.{[], ◌∷◌, sym, subst, arith}
 use Rattle.sqlite.specs.State.{HasCleanDisk}
 use Rattle.sqlite.specs.Held.{state}
-use Rattle.room_records.specs.declared.change.Change.TheVariants.{PutNext}
 use Rattle.room_tables.proofs.Moves.{upgraded}
 use Rattle.room_tables.specs.Tables.{kept_text}
-use Rattle.room_sql.specs.Causes.{statement, writes_of, make_writes, MovesInTurn}
+use Rattle.room_sql.specs.Causes.{statement, next_write, make_writes, MovesInTurn}
 use Rattle.room_sql.proofs.Turns.{err_is, ok_then, both, moves_then, moves_passed}
 use Rattle.room_sql.proofs.upgrade.move_room.Goals as goal
 
@@ -29,7 +28,7 @@ pub returns-clause-ran : goal.returns-clause-ran
 returns-clause-ran g c clean inside =
     let d = c.move_slots.new.tx.conn.now in
     let early : HasCleanDisk (state g.S.Store d) = omega (arith, c.put_next.ensures.frame.crash.clean) in
-    moves_then g.S.Store (statement kept_text []) (writes_of (PutNext c.args.next))
+    moves_then g.S.Store (statement kept_text []) (next_write c.args.next ∷ [])
     c.args.tx.now.conn.now d c.put_next.new.tx.conn.now
     c.put_next.result (c.in_ok-move_slots.ensures.ran early inside)
     (c.put_next.ensures.ran clean (c.in_ok-move_slots.ensures.frame.inside early))
@@ -40,7 +39,7 @@ returns-in_err-move_slots-clause-ran g c clean inside =
     let d = c.move_slots.new.tx.conn.now in
     let e = c.in_err-move_slots.field-0.0 in
     let r = c.from_residual.result in
-    let after = writes_of (PutNext c.args.next) in
+    let after = next_write c.args.next ∷ [] in
     subst (MovesInTurn g.S.Store make_writes after a d)
     (sym (err_is e r c.from_residual.ensures.0 c.from_residual.ensures.1))
     (moves_passed g.S.Store (statement kept_text []) after a d e (c.in_err-move_slots.ensures.ran clean inside))

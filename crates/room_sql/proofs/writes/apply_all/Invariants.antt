@@ -7,6 +7,7 @@ use Rattle.room_records.specs.Changes.{apply_changes}
 use Rattle.room_tables.specs.Layout.{IsRoomDatabase}
 use Rattle.room_tables.specs.Steps.{Steps}
 use Rattle.room_sql.specs.Causes.{RunInTurn, writes_of_all, IsShort}
+use Rattle.room_sql.specs.NewObject.{IsSo}
 use Rattle.room_sql.specs.Frames.{InsideFrame}
 use Rattle.room_sql.specs.NodeRows.{AfterAll}
 use Rattle.room_sql.proofs.writes.apply_all.Given as goal
@@ -17,11 +18,12 @@ invariant-loop-change g l =
     let now = state g.S.Store l.tx.conn.now in
     record {
       frame : InsideFrame g.S.Store {T = Unit {0}} l.fn.tx l.tx (Ok tt);
-      done : HasCleanDisk now → IsRoomDatabase old.now → Steps old now (apply_changes (take l.change-index l.changes));
+      done : HasCleanDisk now → IsRoomDatabase old.now
+          → Steps old now (apply_changes (take l.change-index l.changes)) × IsSo l.known now.now.trees;
       nodes : HasCleanDisk now → IsRoomDatabase old.now
           → AfterAll (take l.change-index l.changes) (old.now.trees 1) (now.now.trees 1);
       -- what the statements of the rest make of it, those of all make of the start
       ran : HasCleanDisk now → AllByRecursion IsShort l.changes → (end : Held _) (out : Result (Unit {0}) Error)
-          → RunInTurn g.S.Store (writes_of_all (drop l.change-index l.changes)) l.tx.conn.now end out
-          → RunInTurn g.S.Store (writes_of_all l.changes) l.fn.tx.conn.now end out;
+          → RunInTurn g.S.Store (writes_of_all l.known (drop l.change-index l.changes)) l.tx.conn.now end out
+          → RunInTurn g.S.Store (writes_of_all l.fn.object l.changes) l.fn.tx.conn.now end out;
     }

@@ -9,6 +9,7 @@ use Rattle.room_tables.specs.Steps.{StaysRoom}
 use Rattle.room_tables.proofs.Changes.{fails_back, on_err}
 use Rattle.room_tables.proofs.Moves.{stays}
 use Rattle.room_sql.specs.Causes.{RunInTurn, writes_of_all, begun, CommitFails}
+use Rattle.room_sql.specs.NewObject.{before_all}
 use Rattle.room_sql.proofs.Turns.{err_passed, write_failed, end_failed}
 use Rattle.room_sql.proofs.writes.commit.Goals as goal
 
@@ -38,15 +39,17 @@ returns-in_err-apply_all-clause-failed g c clean short =
     let end = c.drop-tx.new.self.0 in
     let e = c.in_err-apply_all.field-0.0 in
     let changes = c.args.changes.now in
+    let writes = writes_of_all (before_all c.args.free) changes in
     let same : end ≡ c.conn-1.given.0 = search rules in
     let late : HasCleanDisk (state g.S.Store end) = search rules in
     let early : HasCleanDisk (state g.S.Store last) = omega (arith, c.drop-tx.ensures.survives.clean) in
-    let ran : RunInTurn g.S.Store (writes_of_all changes) tx last (Err e) =
-    c.in_err-apply_all.ensures.ran early short in
-    subst (λ h. IfErr c.from_residual.result (CommitFails g.S.Store changes c.args.conn.now h)) same
-    (err_passed e c.from_residual.result (CommitFails g.S.Store changes c.args.conn.now end)
+    let ran : RunInTurn g.S.Store writes tx last (Err e) =
+    subst (λ o. RunInTurn g.S.Store (writes_of_all o changes) tx last (Err e)) c.before_all.ensures
+    (c.in_err-apply_all.ensures.ran early short) in
+    subst (λ h. IfErr c.from_residual.result (CommitFails g.S.Store c.args.free changes c.args.conn.now h)) same
+    (err_passed e c.from_residual.result (CommitFails g.S.Store c.args.free changes c.args.conn.now end)
     c.from_residual.ensures.0 c.from_residual.ensures.1
-    (write_failed g.S.Store (RunInTurn g.S.Store (writes_of_all changes)) c.args.conn.now tx last end e
+    (write_failed g.S.Store (RunInTurn g.S.Store writes) c.args.conn.now tx last end e
     c.transaction-tx.ensures.begun ran (c.drop-tx.ensures.undone late) c.drop-tx.ensures.survives))
 
 pub returns-clause-failed : goal.returns-clause-failed
@@ -55,14 +58,17 @@ returns-clause-failed g c clean short =
     let last = c.apply_all.new.tx.conn.now in
     let end = c.commit.new.self.0 in
     let changes = c.args.changes.now in
+    let writes = writes_of_all (before_all c.args.free) changes in
     let same : end ≡ c.conn-2-1.given.0 = search rules in
     let late : HasCleanDisk (state g.S.Store end) = search rules in
     let early : HasCleanDisk (state g.S.Store last) = omega (arith, c.commit.ensures.survives.clean) in
-    let ran : RunInTurn g.S.Store (writes_of_all changes) tx last (Ok tt) = c.in_ok-apply_all.ensures.ran early short in
-    subst (λ h. IfErr c.commit.result (CommitFails g.S.Store changes c.args.conn.now h)) same
+    let ran : RunInTurn g.S.Store writes tx last (Ok tt) =
+    subst (λ o. RunInTurn g.S.Store (writes_of_all o changes) tx last (Ok tt)) c.before_all.ensures
+    (c.in_ok-apply_all.ensures.ran early short) in
+    subst (λ h. IfErr c.commit.result (CommitFails g.S.Store c.args.free changes c.args.conn.now h)) same
     (IfErr-weaker c.commit.result (FailsToCommit (state g.S.Store last) (state g.S.Store end))
-    (CommitFails g.S.Store changes c.args.conn.now end)
-    (λ e failed. end_failed g.S.Store (RunInTurn g.S.Store (writes_of_all changes)) c.args.conn.now tx last end e
+    (CommitFails g.S.Store c.args.free changes c.args.conn.now end)
+    (λ e failed. end_failed g.S.Store (RunInTurn g.S.Store writes) c.args.conn.now tx last end e
     c.transaction-tx.ensures.begun ran failed c.commit.ensures.survives.counts)
     (c.commit.ensures.err late))
 

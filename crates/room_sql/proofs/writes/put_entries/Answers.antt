@@ -1,9 +1,8 @@
-use Rattle.std.proofs.Common.{◌∙◌, ◌<◌, ◌^◌, [], ◌∷◌, length, sym, ap, subst, cond, ◌==◌, arith}
+use Rattle.std.proofs.Common.{◌<◌, ◌^◌, [], ◌∷◌, length, sym, subst, arith}
 use Rattle.std.proofs.lemmas.Result.{IfOk-weaker}
 use Rattle.sqlite.specs.State.{HasCleanDisk}
 use Rattle.sqlite.specs.Held.{state}
-use Rattle.room_tables.specs.Rows.{records_of, IsVersion}
-use Rattle.room_tables.proofs.Placed.{lists_records}
+use Rattle.room_tables.proofs.Bare.{lists_steps}
 use Rattle.room_sql.specs.Causes.{RunInTurn, entries_drop, entry_writes}
 use Rattle.room_sql.proofs.Turns.{turn_then, turn_passed}
 use Rattle.room_sql.proofs.writes.put_entries.Goals as goal
@@ -14,22 +13,10 @@ returns-clause-ok g c clean =
     let mid = state g.S.Store c.clear_entries.new.tx.conn.now in
     let new = state g.S.Store c.add_entries.new.tx.conn.now in
     let early : HasCleanDisk mid = omega (arith, c.add_entries.ensures.frame.crash.clean) in
-    let before = records_of old.now.trees in
     IfOk-weaker c.add_entries.result _ _ (λ _ all room.
-    let first = c.in_ok-clear_entries.ensures.ok early room in
-    let last = all old.now first in
-    record {
-      room = last.room;
-      schema = last.schema;
-      records = lists_records old.now c.args.id c.as_slice.result.now new.now last
-          ∙ ap (λ l. record before {
-            objects = record before.objects {
-              entries = λ q.
-                  cond (q == c.args.id) l (before.objects.entries q);
-            };
-          }) c.as_slice.ensures.value;
-      version = subst (IsVersion 2) (sym last.version);
-    }) (c.add_entries.ensures.ok clean)
+    lists_steps old new c.args.id c.args.entries.now c.as_slice.result.now c.as_slice.ensures.value
+    (λ is. (c.clear_entries.ensures.frame.kept early).was_open ((c.add_entries.ensures.frame.kept clean).was_open is))
+    (all old.now (c.in_ok-clear_entries.ensures.ok early room))) (c.add_entries.ensures.ok clean)
 
 pub returns-clause-ran : goal.returns-clause-ran
 returns-clause-ran g c clean inside short =

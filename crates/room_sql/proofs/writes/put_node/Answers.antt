@@ -1,17 +1,14 @@
-use Rattle.std.proofs.Common.{◌≡◌, ◌∙◌, ℕ, List, [], Option, unwrap_or, refl, sym, ap}
-use Rattle.sqlite.specs.Held.{state}
-use Rattle.room_tables.specs.Texts.{put_node_text}
-use Rattle.room_tables.proofs.Effects.{steps_node_at, bound_parent}
-use Rattle.room_sql.proofs.Turns.{ok_then, turn_as, name_back}
+use Rattle.std.proofs.Common.{◌≡◌, ◌∙◌, ℕ, List, [], Option, unwrap_or, sym, ap}
+use Rattle.room_tables.proofs.Effects.{bound_parent}
+use Rattle.room_sql.proofs.OrWrites.{node_steps}
+use Rattle.room_sql.proofs.Turns.{ok_then, name_back}
 use Rattle.room_sql.proofs.writes.put_node.Goals as goal
 
 pub returns-clause-ok : goal.returns-clause-ok
 returns-clause-ok g c clean =
-    ok_then c.run.result _ _ (c.run.ensures.done clean) (λ ran room.
-    steps_node_at (state g.S.Store c.args.tx.now.conn.now) (state g.S.Store c.run.new.tx.conn.now)
-    c.args.node.now c.name_text-name.result.now _ _ ran.0 room c.name_text-name.ensures
-    refl
-    (rw (
+    ok_then c.run_or.result _ _ (c.run_or.ensures.done clean) (λ ran room.
+    node_steps g.S.Store c.args.node.now c.name_text-name.result.now c.args.tx.now.conn.now c.run_or.new.tx.conn.now
+    c.name_text-name.ensures (rw (
       c.params-to_sql.ensures,
       c.params-to_sql-2.ensures,
       c.params-to_sql-3.ensures,
@@ -26,16 +23,14 @@ returns-clause-ok g c clean =
       c.owner_text-owner.ensures,
       c.group_text-group.ensures,
       c.list_flags-aclflag.ensures,
-    ) refl)
-    ran.1)
+    ) at ran) room)
 
 pub returns-clause-ran : goal.returns-clause-ran
 returns-clause-ran g c clean inside =
     let name : c.name_text-name.result.now ≡ unwrap_or c.args.node.now.name [] =
     sym (name_back c.name_text-name.result.now)
     ∙ ap (λ (o : Option (List ℕ)). unwrap_or o []) c.name_text-name.ensures in
-    turn_as g.S.Store put_node_text _ _ c.args.tx.now.conn.now c.run.new.tx.conn.now c.run.result
-    (rw (
+    rw (
       c.params-to_sql.ensures,
       c.params-to_sql-2.ensures,
       c.params-to_sql-3.ensures,
@@ -51,5 +46,4 @@ returns-clause-ran g c clean inside =
       c.group_text-group.ensures,
       c.list_flags-aclflag.ensures,
       name,
-    ) refl)
-    (c.run.ensures.ran clean inside)
+    ) at (c.run_or.ensures.ran clean inside)

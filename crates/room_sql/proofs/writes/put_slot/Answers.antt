@@ -1,5 +1,5 @@
 use Rattle.room_tables.proofs.Effects.{bound_reply}
-use Rattle.room_sql.proofs.SlotWrites.{slot_steps}
+use Rattle.room_sql.proofs.OrWrites.{slot_steps}
 use Rattle.room_sql.proofs.Turns.{ok_then}
 use Rattle.room_sql.proofs.writes.put_slot.Goals as goal
 

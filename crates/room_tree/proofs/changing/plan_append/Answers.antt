@@ -11,7 +11,7 @@ use Rattle.room_tree.proofs.FewRows.{few_document}
 use Rattle.room_commands.proofs.EffectIsRoom.{appended_is_room}
 use Rattle.room_commands.proofs.Rights.{all_none}
 use Rattle.room_tree.proofs.Stops.{handed_on, stopped_by, at_head, in_front, past_front}
-use Rattle.room_tree.proofs.Told.{both_tell}
+use Rattle.room_tree.proofs.InTurn.{both_tell}
 use Rattle.room_tree.proofs.changing.plan_append.Goals as goal
 
 pub returns-in_err-loaded-clause-effect : goal.returns-in_err-loaded-clause-effect

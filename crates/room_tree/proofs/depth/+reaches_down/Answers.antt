@@ -7,7 +7,7 @@ use Rattle.room_records.proofs.Lists.{all_at, all_append}
 use Rattle.room_records.proofs.Shelves.{read_then}
 use Rattle.room_tree.specs.Depths.{StandsBelow}
 use Rattle.room_tree.proofs.Depths.{itself_below, none_below_file, one_level_more, child_path, none_below_children}
-use Rattle.room_tree.proofs.Told.{both_tell}
+use Rattle.room_tree.proofs.InTurn.{both_tell}
 use Rattle.room_tree.proofs.depth.+reaches_down.Goals as goal
 
 pub returns-then-levels-eq0-clause-value : goal.returns-then-levels-eq0-clause-value
@@ -24,7 +24,7 @@ loop-node-init g m c = record {
   frame = c.in_ok-nodes.ensures.frame;
   children = λ available laid_out t e room stand.
       rw c.deref-node-items.ensures.value
-      (rw (← e) (c.in_ok-nodes.ensures.value available laid_out (rw e stand.rules)));
+      (rw (← e) (c.in_ok-nodes.ensures.value available laid_out (rw e stand.rules.nodes)));
   none = λ available laid_out t e room stand path node at stands kind. tt;
 }
 

@@ -5,7 +5,7 @@ use Rattle.room_commands.specs.declared.reply.RefusalCode.TheVariants.{Exist}
 use Rattle.room_commands.specs.Checks.{refuse_if, is_root, walk, check_absent, check_right}
 use Rattle.room_tree.proofs.Checking.{skip, off_root, none_passes, first_alone}
 use Rattle.room_tree.proofs.Stops.{handed_on, past_head, in_front, past_front, at_head}
-use Rattle.room_tree.proofs.Told.{both_tell}
+use Rattle.room_tree.proofs.InTurn.{both_tell}
 use Rattle.room_tree.proofs.making.folder_for_new.Goals as goal
 
 pub returns-in_err-above-clause-value : goal.returns-in_err-above-clause-value

@@ -4,7 +4,7 @@ use Rattle.room_records.proofs.Shelves.{read_then}
 use Rattle.room_tree.proofs.Checking.{limit_checks, new_checks}
 use Rattle.room_tree.proofs.Made.{mkdir_plans}
 use Rattle.room_tree.proofs.Stops.{handed_on, in_front, past_front}
-use Rattle.room_tree.proofs.Told.{both_tell}
+use Rattle.room_tree.proofs.InTurn.{both_tell}
 use Rattle.room_tree.proofs.making.plan_mkdir.Goals as goal
 
 pub returns-in_err-above-clause-effect : goal.returns-in_err-above-clause-effect

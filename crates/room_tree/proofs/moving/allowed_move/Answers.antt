@@ -5,7 +5,7 @@ use Rattle.room_tree.specs.Renames.{end_checks, move_rights}
 use Rattle.room_tree.proofs.Checking.{skip, stop, none_passes}
 use Rattle.room_tree.proofs.Renamed.{paths_pass}
 use Rattle.room_tree.proofs.Stops.{handed_on, past_head, in_front, past_front}
-use Rattle.room_tree.proofs.Told.{both_tell}
+use Rattle.room_tree.proofs.InTurn.{both_tell}
 use Rattle.room_tree.proofs.moving.allowed_move.Goals as goal
 
 pub returns-in_err-check_paths-clause-value : goal.returns-in_err-check_paths-clause-value

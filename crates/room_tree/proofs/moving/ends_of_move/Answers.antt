@@ -2,7 +2,7 @@ use Rattle.std.proofs.Common.{◌∙◌, [], ◌∷◌}
 use Rattle.room_commands.specs.Checks.{walk, check_absent}
 use Rattle.room_tree.proofs.Checking.{none_passes, found_checks}
 use Rattle.room_tree.proofs.Stops.{handed_on, in_front, past_front}
-use Rattle.room_tree.proofs.Told.{both_tell}
+use Rattle.room_tree.proofs.InTurn.{both_tell}
 use Rattle.room_tree.proofs.moving.ends_of_move.Goals as goal
 
 pub returns-in_err-found-clause-value : goal.returns-in_err-found-clause-value

@@ -10,7 +10,7 @@ use Rattle.room_tree.proofs.Checking.{none_passes}
 use Rattle.room_tree.proofs.Renamed.{rename_plans}
 use Rattle.room_tree.proofs.Renewed.{is_change}
 use Rattle.room_tree.proofs.Stops.{handed_on, in_front, past_front}
-use Rattle.room_tree.proofs.Told.{both_tell}
+use Rattle.room_tree.proofs.InTurn.{both_tell}
 use Rattle.room_tree.proofs.moving.plan_rename.Goals as goal
 
 pub returns-in_err-moving-clause-effect : goal.returns-in_err-moving-clause-effect

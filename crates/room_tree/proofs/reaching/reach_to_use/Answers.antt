@@ -2,7 +2,7 @@ use Rattle.std.proofs.Common.{◌∙◌}
 use Rattle.room_tree.specs.LoadedObjects.{use_checks}
 use Rattle.room_tree.proofs.Checking.{none_passes, found_checks}
 use Rattle.room_tree.proofs.Stops.{handed_on, in_front, past_front}
-use Rattle.room_tree.proofs.Told.{both_tell}
+use Rattle.room_tree.proofs.InTurn.{both_tell}
 use Rattle.room_tree.proofs.reaching.reach_to_use.Goals as goal
 
 pub returns-in_err-loaded-clause-value : goal.returns-in_err-loaded-clause-value

@@ -1,16 +1,14 @@
-use Rattle.std.proofs.Common.{◌≡◌, ◌<◌, ◌^◌, sym, ap, ◌∙◌, length, arith}
-use Rattle.room_commands.specs.Checks.{bytes_at}
+use Rattle.std.proofs.Common.{◌<◌, ◌^◌, sym, ap, ◌∙◌, arith}
 use Rattle.room_commands.specs.Effect.{size_of}
 use Rattle.room_tree.proofs.Checking.{few_bytes}
 use Rattle.room_tree.proofs.reaching.size_of.Goals as goal
 
-pub returns-in_ok-bytes-in-File-clause-value : goal.returns-in_ok-bytes-in-File-clause-value
-returns-in_ok-bytes-in-File-clause-value g c = λ available laid_out t e room stand path found.
-    let bytes = c.in_ok-bytes-in-File.ensures.value available laid_out t e room stand path found in
+pub returns-in_ok-count-in-File-clause-value : goal.returns-in_ok-count-in-File-clause-value
+returns-in_ok-count-in-File-clause-value g c = λ available laid_out t e room stand path found.
+    let count = c.in_ok-count-in-File.ensures.value available laid_out t e room stand path found in
     let few = few_bytes stand found in
-    let fits : c.len.result < 2 ^ 32 = omega (arith, c.len.ensures, ap length bytes, few) in
-    let long : c.len.result ≡ length (bytes_at room path) = omega (arith, c.len.ensures, ap length bytes) in
-    c.as_size.ensures fits ∙ long ∙ ap (size_of room path) (sym c.in-File.is)
+    let fits : c.in_ok-count-in-File.count < 2 ^ 32 = omega (arith, count, few) in
+    c.as_size.ensures fits ∙ count ∙ ap (size_of room path) (sym c.in-File.is)
 
 pub returns-in_ok-count-in-Folder-clause-value : goal.returns-in_ok-count-in-Folder-clause-value
 returns-in_ok-count-in-Folder-clause-value g c = λ available laid_out t e room stand path found.

@@ -3,7 +3,7 @@ use Rattle.room_commands.specs.CommandModel as C
 use Rattle.room_tree.proofs.Outcomes.{reading_plans}
 use Rattle.room_commands.specs.ReplyModel.{Names}
 use Rattle.room_tree.proofs.Stops.{handed_on}
-use Rattle.room_tree.proofs.Told.{both_tell}
+use Rattle.room_tree.proofs.InTurn.{both_tell}
 use Rattle.room_tree.proofs.reading.plan_list.Goals as goal
 
 pub returns-in_err-loaded-clause-effect : goal.returns-in_err-loaded-clause-effect

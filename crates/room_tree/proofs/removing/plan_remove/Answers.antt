@@ -10,7 +10,7 @@ use Rattle.room_commands.proofs.ChecksTell.{not_refused}
 use Rattle.room_commands.proofs.Rights.{all_none}
 use Rattle.room_tree.proofs.RowsRemoved.{remove_plans}
 use Rattle.room_tree.proofs.Stops.{handed_on, in_front}
-use Rattle.room_tree.proofs.Told.{both_tell}
+use Rattle.room_tree.proofs.InTurn.{both_tell}
 use Rattle.room_tree.proofs.removing.plan_remove.Goals as goal
 
 pub returns-in_err-loaded-clause-effect : goal.returns-in_err-loaded-clause-effect

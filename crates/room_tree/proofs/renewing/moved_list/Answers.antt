@@ -2,7 +2,7 @@ use Rattle.std.proofs.Common.{◌≡◌, ℕ, ap, sym, ◌∙◌, true, eqb, Opt
 use Rattle.std.specs.Option.{option_eq}
 use Rattle.std.proofs.lemmas.Bool.{eqb-true}
 use Rattle.room_tree.proofs.ListsByRows.{stays_in_folder, under_alike}
-use Rattle.room_tree.proofs.Told.{both_tell}
+use Rattle.room_tree.proofs.InTurn.{both_tell}
 use Rattle.room_tree.proofs.renewing.moved_list.Goals as goal
 
 is_in : (parent : Option ℕ) (folder : ℕ) → option_eq eqb parent (Some folder) ≡ true → parent ≡ Some folder

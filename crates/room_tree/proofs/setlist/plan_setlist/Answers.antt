@@ -11,7 +11,7 @@ use Rattle.room_tree.proofs.Checking.{none_passes, first_alone, there}
 use Rattle.room_tree.proofs.Marks.{kept_is}
 use Rattle.room_tree.proofs.Relisted.{setlist_plans}
 use Rattle.room_tree.proofs.Stops.{handed_on, in_front}
-use Rattle.room_tree.proofs.Told.{both_tell}
+use Rattle.room_tree.proofs.InTurn.{both_tell}
 use Rattle.room_tree.proofs.setlist.plan_setlist.Goals as goal
 
 pub returns-in_err-loaded-clause-effect : goal.returns-in_err-loaded-clause-effect

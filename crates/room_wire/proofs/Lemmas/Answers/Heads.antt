@@ -2,9 +2,7 @@
 use Rattle.std.proofs.Common.{◌≡◌, ◌≤◌, ℕ, List, [], ◌++◌, length, ap, ◌∙◌, append_assoc, arith}
 use Rattle.room_wire.specs.Answers.AnswerModel.{AnswerModel, Reply, Refused, phrase, refusal_status, answer_status}
 use Rattle.room_wire.specs.declared.answers.code.Code.{Code}
-use Rattle.room_wire.specs.declared.answers.code.Code.TheVariants.{BadSession, BadSlot, SeqMisordered, SeqFalseRetry}
-use Rattle.room_wire.specs.declared.answers.code.Code.TheVariants.{SessionTaken, Delay, BadHttp, BadRoute, UnknownUser}
-use Rattle.room_wire.specs.declared.answers.code.Code.TheVariants.{BadRequest, RetryUncached}
+use Rattle.room_wire.specs.declared.answers.code.Code.TheVariants.{BadSession}
 
 -- seven parts, one behind another
 pub seven_parts : (a b c d e f g : List ℕ) {b' d' f' g' h0 h1 h2 h3 h4 h5 h6 h7 : List ℕ}
@@ -23,16 +21,7 @@ seven_parts a b c d e f g {h0 = h0} {h1 = h1} {h2 = h2} {h3 = h3} {h4 = h4} {h5 
 
 code_phrase_fits : (code : Code) → length (phrase (refusal_status code)) ≤ 32
 code_phrase_fits BadSession = omega arith
-code_phrase_fits BadSlot = omega arith
-code_phrase_fits SeqMisordered = omega arith
-code_phrase_fits SeqFalseRetry = omega arith
-code_phrase_fits SessionTaken = omega arith
-code_phrase_fits RetryUncached = omega arith
-code_phrase_fits Delay = omega arith
-code_phrase_fits BadHttp = omega arith
-code_phrase_fits BadRoute = omega arith
-code_phrase_fits UnknownUser = omega arith
-code_phrase_fits BadRequest = omega arith
+code_phrase_fits code = omega arith
 
 pub phrase_fits : (answer : AnswerModel) → length (phrase (answer_status answer)) ≤ 32
 phrase_fits (Reply text) = omega arith

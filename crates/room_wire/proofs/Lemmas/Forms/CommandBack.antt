@@ -11,7 +11,7 @@ use Rattle.json.specs.Tree.{HasNumbers, ItemsHaveNumbers, depth, items_depth}
 use Rattle.json.proofs.Printed.Decimals.{IsNumber-decimal}
 use Rattle.json.proofs.Printed.Utf8.{are_ascii, IsUtf8-are_ascii}
 use Rattle.serde_json.specs.Data.{Data, string, array, no_members}
-use Rattle.serde_json.specs.Read.{read, of_json, of_items}
+use Rattle.serde_json.specs.Read.{read, max_depth, of_json, of_items}
 use Rattle.serde_json.specs.Written.{outline, items_outline, compact_text}
 use Rattle.base64.specs.Engines.{standard}
 use Rattle.base64.specs.GeneralPurpose.{encode_of}
@@ -34,7 +34,8 @@ use Rattle.room_wire.proofs.Lemmas.Forms.Bodies.{json_some}
 use Rattle.room_wire.proofs.Lemmas.Forms.CommandBytes.{bytes_back}
 use Rattle.room_wire.proofs.Lemmas.Forms.CommandParts.{path_back, list_flags_back, flags_small, mask_small, mask_back}
 use Rattle.room_wire.proofs.Lemmas.Forms.CommandParts.{principal_back, entries_back}
-use Rattle.room_wire.proofs.Lemmas.Forms.CommandTexts.{text_reads, number_back, put_all, object_back, item_back}
+use Rattle.room_wire.proofs.Lemmas.Forms.CommandTexts.{ReadsBack, text_reads, number_back, put_all, object_back}
+use Rattle.room_wire.proofs.Lemmas.Forms.CommandTexts.{item_back}
 use Rattle.room_wire.proofs.Lemmas.Forms.CommandUtf8.{HasUtf8, ItemsHaveUtf8, MembersHaveUtf8, one_then, text_is_utf8}
 use Rattle.room_wire.proofs.Lemmas.Forms.CommandUtf8.{digits_are_utf8}
 
@@ -60,18 +61,7 @@ command_back (C.Access mask p) h = (λ i. access_by (mask_back mask h.0 i) (path
 -- the text of a command says nothing of its reply, so it is kept
 keep_back : (c : CommandModel) → keep_at (command_data c) ≡ Some true
 keep_back (C.Stat p) = refl
-keep_back (C.ListNames p) = refl
-keep_back (C.Mkdir p) = refl
-keep_back (C.Create b p) = refl
-keep_back (C.Read p) = refl
-keep_back (C.Write b p) = refl
-keep_back (C.Append b p) = refl
-keep_back (C.Remove p) = refl
-keep_back (C.Rename p to) = refl
-keep_back (C.GetList p) = refl
-keep_back (C.SetList flags es p) = refl
-keep_back (C.Chown group owner p) = refl
-keep_back (C.Access mask p) = refl
+keep_back c = refl
 
 asked_back : (c : CommandModel) → IsLawful c → asked_in (command_data c) ≡ Some (c, true)
 asked_back c h = (λ i. asked_by (keep_back c i) (command_back c h i))
@@ -123,62 +113,81 @@ entries_depth : (es : List EntryModel) → items_depth (items_outline (entries e
 entries_depth [] = omega arith
 entries_depth (e ∷ es) = let zero = type_depth e.allow in let rest = entries_depth es in omega (arith, zero, rest)
 
--- of a value whose members are texts
-two_texts : (a b x y : List ℕ)
-    → put_all ((a, string x) ∷ (b, string y) ∷ []) no_members ≡ members ((a, string x) ∷ (b, string y) ∷ [])
-    → read (compact_text (obj ((a, string x) ∷ (b, string y) ∷ []))) ≡ Some (obj ((a, string x) ∷ (b, string y) ∷ []))
-two_texts a b x y order =
-    text_reads (obj ((a, string x) ∷ (b, string y) ∷ [])) (tt, (tt, tt)) (omega arith)
-    (object_back ((a, string x) ∷ (b, string y) ∷ []) (refl, (refl, tt)) order)
+abbrev Reads : List (List ℕ × Data) → Type 0
+Reads ms = read (compact_text (obj ms)) ≡ Some (obj ms)
 
-three_texts : (a b c x y z : List ℕ) → put_all ((a, string x) ∷ (b, string y) ∷ (c, string z) ∷ []) no_members
-    ≡ members ((a, string x) ∷ (b, string y) ∷ (c, string z) ∷ [])
-    → read (compact_text (obj ((a, string x) ∷ (b, string y) ∷ (c, string z) ∷ [])))
-    ≡ Some (obj ((a, string x) ∷ (b, string y) ∷ (c, string z) ∷ []))
-three_texts a b c x y z order =
-    text_reads (obj ((a, string x) ∷ (b, string y) ∷ (c, string z) ∷ [])) (tt, (tt, (tt, tt))) (omega arith)
-    (object_back ((a, string x) ∷ (b, string y) ∷ (c, string z) ∷ []) (refl, (refl, (refl, tt))) order)
+-- of a value whose members stand in order
+reads : (ms : List (List ℕ × Data)) → HasNumbers (outline (obj ms)) → depth (outline (obj ms)) ≤ max_depth
+    → AllByRecursion ReadsBack ms → put_all ms no_members ≡ members ms → Reads ms
+reads ms numbers shallow back order = text_reads (obj ms) numbers shallow (object_back ms back order)
 
-path_reads : (name : List ℕ) (p : Path)
-    → read (compact_text (obj (cmd name ∷ at p ∷ []))) ≡ Some (obj (cmd name ∷ at p ∷ []))
-path_reads name p = two_texts (codes "cmd") (codes "path") name (path_text p) refl
+path_reads : (name : List ℕ) (p : Path) → Reads (cmd name ∷ at p ∷ [])
+path_reads name p = reads (cmd name ∷ at p ∷ []) (tt, (tt, tt)) (omega arith) (refl, (refl, tt)) refl
 
-bytes_reads : (name b : List ℕ) (p : Path) → read (compact_text (obj (cmd name ∷ (codes "data", bytes b) ∷ at p ∷ [])))
-    ≡ Some (obj (cmd name ∷ (codes "data", bytes b) ∷ at p ∷ []))
-bytes_reads name b p =
-    three_texts (codes "cmd") (codes "data") (codes "path") name (encode_of standard b) (path_text p) refl
+bytes_reads : (name b : List ℕ) (p : Path) → Reads (cmd name ∷ (codes "data", bytes b) ∷ at p ∷ [])
+bytes_reads name b p = reads (cmd name ∷ (codes "data", bytes b) ∷ at p ∷ []) (tt, (tt, (tt, tt))) (omega arith)
+    (refl, (refl, (refl, tt))) refl
+
+-- the texts of SETLIST and ACCESS alone have numbers
+abbrev pub HasNoNumbers : CommandModel → Type 0
+HasNoNumbers (C.Stat p) = Unit {0}
+HasNoNumbers (C.ListNames p) = Unit {0}
+HasNoNumbers (C.Mkdir p) = Unit {0}
+HasNoNumbers (C.Create b p) = Unit {0}
+HasNoNumbers (C.Read p) = Unit {0}
+HasNoNumbers (C.Write b p) = Unit {0}
+HasNoNumbers (C.Append b p) = Unit {0}
+HasNoNumbers (C.Remove p) = Unit {0}
+HasNoNumbers (C.Rename p to) = Unit {0}
+HasNoNumbers (C.GetList p) = Unit {0}
+HasNoNumbers (C.SetList flags es p) = ⊥
+HasNoNumbers (C.Chown group owner p) = Unit {0}
+HasNoNumbers (C.Access mask p) = ⊥
+
+-- a text with no numbers is read as its value, whether its command is lawful or not
+pub plain_reads : (c : CommandModel) → HasNoNumbers c → read (command_text c) ≡ Some (command_data c)
+plain_reads (C.Stat p) h = path_reads (codes "STAT") p
+plain_reads (C.ListNames p) h = path_reads (codes "LIST") p
+plain_reads (C.Mkdir p) h = path_reads (codes "MKDIR") p
+plain_reads (C.Create b p) h = bytes_reads (codes "CREATE") b p
+plain_reads (C.Read p) h = path_reads (codes "READ") p
+plain_reads (C.Write b p) h = bytes_reads (codes "WRITE") b p
+plain_reads (C.Append b p) h = bytes_reads (codes "APPEND") b p
+plain_reads (C.Remove p) h = path_reads (codes "REMOVE") p
+plain_reads (C.Rename p to) h =
+    reads (cmd (codes "RENAME") ∷ at p ∷ (codes "to", path to) ∷ []) (tt, (tt, (tt, tt))) (omega arith)
+    (refl, (refl, (refl, tt))) refl
+plain_reads (C.GetList p) h = path_reads (codes "GETLIST") p
+plain_reads (C.SetList flags es p) h = absurd h
+plain_reads (C.Chown group owner p) h =
+    reads (cmd (codes "CHOWN") ∷ (codes "group", string group) ∷ (codes "owner", string owner) ∷ at p ∷ [])
+    (tt, (tt, (tt, (tt, tt)))) (omega arith) (refl, (refl, (refl, (refl, tt)))) refl
+plain_reads (C.Access mask p) h = absurd h
 
 command_reads : (c : CommandModel) → IsLawful c → read (command_text c) ≡ Some (command_data c)
-command_reads (C.Stat p) h = path_reads (codes "STAT") p
-command_reads (C.ListNames p) h = path_reads (codes "LIST") p
-command_reads (C.Mkdir p) h = path_reads (codes "MKDIR") p
-command_reads (C.Create b p) h = bytes_reads (codes "CREATE") b p
-command_reads (C.Read p) h = path_reads (codes "READ") p
-command_reads (C.Write b p) h = bytes_reads (codes "WRITE") b p
-command_reads (C.Append b p) h = bytes_reads (codes "APPEND") b p
-command_reads (C.Remove p) h = path_reads (codes "REMOVE") p
-command_reads (C.Rename p to) h =
-    three_texts (codes "cmd") (codes "path") (codes "to") (codes "RENAME") (path_text p) (path_text to) refl
-command_reads (C.GetList p) h = path_reads (codes "GETLIST") p
+command_reads (C.Stat p) h = plain_reads (C.Stat p) tt
+command_reads (C.ListNames p) h = plain_reads (C.ListNames p) tt
+command_reads (C.Mkdir p) h = plain_reads (C.Mkdir p) tt
+command_reads (C.Create b p) h = plain_reads (C.Create b p) tt
+command_reads (C.Read p) h = plain_reads (C.Read p) tt
+command_reads (C.Write b p) h = plain_reads (C.Write b p) tt
+command_reads (C.Append b p) h = plain_reads (C.Append b p) tt
+command_reads (C.Remove p) h = plain_reads (C.Remove p) tt
+command_reads (C.Rename p to) h = plain_reads (C.Rename p to) tt
+command_reads (C.GetList p) h = plain_reads (C.GetList p) tt
 command_reads (C.SetList flags es p) h =
     let small : flags < 2 ^ 64 = let low = h.0 in omega (arith, low) in
     let deep = entries_depth es in
     let read_all : of_json (outline (array (entries es))) ≡ Some (array (entries es)) =
     ap (option_map array) (entries_read es h.1) in
-    text_reads (command_data (C.SetList flags es p))
+    reads ((codes "aclflag", num flags) ∷ cmd (codes "SETLIST") ∷ (codes "entries", array (entries es)) ∷ at p ∷ [])
     (IsNumber-decimal flags small, (tt, (entries_have_numbers es h.1, (tt, tt)))) (omega (arith, deep))
-    (object_back ((codes "aclflag", num flags) ∷ cmd (codes "SETLIST")
-    ∷ (codes "entries", array (entries es)) ∷ at p ∷ [])
-    (number_back flags small, (refl, (read_all, (refl, tt)))) refl)
-command_reads (C.Chown group owner p) h =
-    text_reads (command_data (C.Chown group owner p)) (tt, (tt, (tt, (tt, tt)))) (omega arith)
-    (object_back (cmd (codes "CHOWN") ∷ (codes "group", string group) ∷ (codes "owner", string owner) ∷ at p ∷ [])
-    (refl, (refl, (refl, (refl, tt)))) refl)
+    (number_back flags small, (refl, (read_all, (refl, tt)))) refl
+command_reads (C.Chown group owner p) h = plain_reads (C.Chown group owner p) tt
 command_reads (C.Access mask p) h =
     let small : mask < 2 ^ 64 = let low = mask_small mask h.0 in omega (arith, low) in
-    text_reads (command_data (C.Access mask p)) (tt, (IsNumber-decimal mask small, (tt, tt))) (omega arith)
-    (object_back (cmd (codes "ACCESS") ∷ (codes "mask", num mask) ∷ at p ∷ [])
-    (refl, (number_back mask small, (refl, tt))) refl)
+    reads (cmd (codes "ACCESS") ∷ (codes "mask", num mask) ∷ at p ∷ []) (tt, (IsNumber-decimal mask small, (tt, tt)))
+    (omega arith) (refl, (number_back mask small, (refl, tt))) refl
 
 -- ---- the text is UTF-8
 
@@ -209,11 +218,9 @@ bytes_utf8 : (b : List ℕ) → IsUtf8 (encode_of standard b)
 bytes_utf8 b = IsUtf8-from_ascii _ (IsAscii-encode_of standard b)
 
 who_utf8 : (who : Who) → IsWho who → IsUtf8 (who_text who)
-who_utf8 Owner h = IsUtf8-are_ascii _ refl
-who_utf8 Group h = IsUtf8-are_ascii _ refl
-who_utf8 Everyone h = IsUtf8-are_ascii _ refl
 who_utf8 (User name) h = principal_utf8 name h
 who_utf8 (Members name) h = principal_utf8 name h
+who_utf8 who h = IsUtf8-are_ascii _ refl
 
 type_utf8 : (b : Bool) → HasUtf8 (entry_type b)
 type_utf8 true = digits_are_utf8 0 (omega arith)

@@ -112,10 +112,6 @@ who_fact flags text who e =
 entry_by : (e : EntryModel) (flags mask : Option ℕ) (allow : Option Bool) (text : Option (List ℕ))
     → ((n : ℕ) → flags ≡ Some n → IsFlags n) → ((n : ℕ) → mask ≡ Some n → IsMask n)
     → entry_of flags mask allow text ≡ Some e → IsEntry e
-entry_by e None mask allow text f m made = absurd cc
-entry_by e (Some flags) None allow text f m made = absurd cc
-entry_by e (Some flags) (Some mask) None text f m made = absurd cc
-entry_by e (Some flags) (Some mask) (Some allow) None f m made = absurd cc
 entry_by e (Some flags) (Some mask) (Some allow) (Some text) f m made =
     map_some (λ who. record { allow = allow; flags = flags; mask = mask; who = who })
     (who_from flags text) e made (λ who is same.
@@ -123,6 +119,7 @@ entry_by e (Some flags) (Some mask) (Some allow) (Some text) f m made =
     let lawful : IsEntry (record { allow = allow; flags = flags; mask = mask; who = who }) =
     record { flags = f flags refl; mask = m mask refl; who = named.0; kind = named.1 } in
     subst IsEntry same lawful)
+entry_by e flags mask allow text f m made = absurd cc
 
 entry_fact : (d : Data) (e : EntryModel) → entry_in d ≡ Some e → IsEntry e
 entry_fact d e made =
@@ -134,10 +131,9 @@ entries_by : (first : Option EntryModel) (rest : Option (List EntryModel)) (es :
     → ((e : EntryModel) → first ≡ Some e → IsEntry e)
     → ((more : List EntryModel) → rest ≡ Some more → AllByRecursion IsEntry more)
     → cons first rest ≡ Some es → AllByRecursion IsEntry es
-entries_by None rest es one all made = absurd cc
-entries_by (Some e) None es one all made = absurd cc
 entries_by (Some e) (Some more) es one all made =
     subst (AllByRecursion IsEntry) (same_Some (e ∷ more) es made) (one e refl, all more refl)
+entries_by first rest es one all made = absurd cc
 
 entries_fact : (ds : Items) (es : List EntryModel) → entries_in ds ≡ Some es → AllByRecursion IsEntry es
 entries_fact no_items es made = subst (AllByRecursion IsEntry) (same_Some [] es made) tt
@@ -152,64 +148,52 @@ entries_at_fact name d es e =
 
 of_path_lawful : (verb : PathVerb) (path : Path) → IsPath path → IsLawful (of_path verb path)
 of_path_lawful P.Stat path h = h
-of_path_lawful P.List path h = h
-of_path_lawful P.Mkdir path h = h
-of_path_lawful P.Read path h = h
-of_path_lawful P.Remove path h = h
-of_path_lawful P.GetList path h = h
+of_path_lawful verb path h = h
 
 of_bytes_lawful : (verb : BytesVerb) (bytes : List ℕ) (path : Path)
     → AreBytes (bytes_in (of_bytes verb bytes path)) → IsPath path → IsLawful (of_bytes verb bytes path)
 of_bytes_lawful B.Create bytes path fit h = (fit, h)
-of_bytes_lawful B.Write bytes path fit h = (fit, h)
-of_bytes_lawful B.Append bytes path fit h = (fit, h)
+of_bytes_lawful verb bytes path fit h = (fit, h)
 
 abbrev PathsAt : Option Path → Type 0
 PathsAt found = (path : Path) → found ≡ Some path → IsPath path
 
 bytes_by_fact : (verb : BytesVerb) (bytes : Option (List ℕ)) (path : Option Path) (c : CommandModel)
     → PathsAt path → AreBytes (bytes_in c) → bytes_by verb bytes path ≡ Some c → IsLawful c
-bytes_by_fact verb None path c paths fit made = absurd cc
-bytes_by_fact verb (Some bytes) None c paths fit made = absurd cc
 bytes_by_fact verb (Some bytes) (Some path) c paths fit made =
     let same = same_Some (of_bytes verb bytes path) c made in
     subst IsLawful same
     (of_bytes_lawful verb bytes path (subst (λ k. AreBytes (bytes_in k)) (sym same) fit) (paths path refl))
+bytes_by_fact verb bytes path c paths fit made = absurd cc
 
 rename_by_fact : (path to : Option Path) (c : CommandModel)
     → PathsAt path → PathsAt to → rename_by path to ≡ Some c → IsLawful c
-rename_by_fact None to c paths tos made = absurd cc
-rename_by_fact (Some path) None c paths tos made = absurd cc
 rename_by_fact (Some path) (Some to) c paths tos made =
     subst IsLawful (same_Some _ c made) (paths path refl, tos to refl)
+rename_by_fact path to c paths tos made = absurd cc
 
 set_list_by_fact : (flags : Option ℕ) (entries : Option (List EntryModel)) (path : Option Path) (c : CommandModel)
     → ((n : ℕ) → flags ≡ Some n → n < 8)
     → ((es : List EntryModel) → entries ≡ Some es → AllByRecursion IsEntry es)
     → PathsAt path → set_list_by flags entries path ≡ Some c → IsLawful c
-set_list_by_fact None entries path c low all paths made = absurd cc
-set_list_by_fact (Some flags) None path c low all paths made = absurd cc
-set_list_by_fact (Some flags) (Some entries) None c low all paths made = absurd cc
 set_list_by_fact (Some flags) (Some entries) (Some path) c low all paths made =
     subst IsLawful (same_Some _ c made) (low flags refl, all entries refl, paths path refl)
+set_list_by_fact flags entries path c low all paths made = absurd cc
 
 abbrev NamesAt : Option (List ℕ) → Type 0
 NamesAt found = (name : List ℕ) → found ≡ Some name → IsPrincipal name
 
 chown_by_fact : (group owner : Option (List ℕ)) (path : Option Path) (c : CommandModel)
     → NamesAt group → NamesAt owner → PathsAt path → chown_by group owner path ≡ Some c → IsLawful c
-chown_by_fact None owner path c groups owners paths made = absurd cc
-chown_by_fact (Some group) None path c groups owners paths made = absurd cc
-chown_by_fact (Some group) (Some owner) None c groups owners paths made = absurd cc
 chown_by_fact (Some group) (Some owner) (Some path) c groups owners paths made =
     subst IsLawful (same_Some _ c made) (groups group refl, owners owner refl, paths path refl)
+chown_by_fact group owner path c groups owners paths made = absurd cc
 
 access_by_fact : (mask : Option ℕ) (path : Option Path) (c : CommandModel)
     → ((n : ℕ) → mask ≡ Some n → IsMask n) → PathsAt path → access_by mask path ≡ Some c → IsLawful c
-access_by_fact None path c masks paths made = absurd cc
-access_by_fact (Some mask) None c masks paths made = absurd cc
 access_by_fact (Some mask) (Some path) c masks paths made =
     subst IsLawful (same_Some _ c made) (masks mask refl, paths path refl)
+access_by_fact mask path c masks paths made = absurd cc
 
 verb_fact : (verb : Verb) (d : Data) (c : CommandModel)
     → AreBytes (bytes_in c) → verb_command verb d ≡ Some c → IsLawful c
@@ -237,11 +221,10 @@ command_by_fact (Some verb) d c fit made = verb_fact verb d c fit made
 asked_by_fact : (keep : Option Bool) (command : Option CommandModel) (asked : CommandModel × Bool)
     → ((c : CommandModel) → AreBytes (bytes_in c) → command ≡ Some c → IsLawful c)
     → AreBytes (bytes_in asked.0) → asked_by keep command ≡ Some asked → IsLawful asked.0
-asked_by_fact None command asked lawful fit made = absurd cc
-asked_by_fact (Some keep) None asked lawful fit made = absurd cc
 asked_by_fact (Some keep) (Some c) asked lawful fit made =
     let same = ap (λ (a : CommandModel × Bool). a.0) (same_Some (c, keep) asked made) in
     subst IsLawful same (lawful c (subst (λ k. AreBytes (bytes_in k)) (sym same) fit) refl)
+asked_by_fact keep command asked lawful fit made = absurd cc
 
 pub asked_is_lawful : (body : List ℕ) (asked : CommandModel × Bool)
     → AreBytes (bytes_in asked.0) → command_of_body body ≡ Some asked → IsLawful asked.0

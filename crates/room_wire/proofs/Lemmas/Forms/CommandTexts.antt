@@ -26,7 +26,7 @@ text_reads d numbers shallow back =
 pub number_back : (n : ℕ) → n < 2 ^ 64 → of_json (json.number (decimal n)) ≡ Some (number (unsigned n))
 number_back n small = ap (option_map number) (number_of-decimal n small)
 
-abbrev ReadsBack : List ℕ × Data → Type 0
+abbrev pub ReadsBack : List ℕ × Data → Type 0
 ReadsBack m = of_json (outline m.1) ≡ Some m.1
 
 -- the members, put in one after another

@@ -2,7 +2,7 @@
 use Rattle.std.proofs.Common.{◌≡◌, ℕ, ◌+◌, List, [], ◌∷◌, length, map, refl, sym, ap, ◌∙◌, arith, Some, ◌==◌, String}
 use Rattle.std.specs.declared.alloc.Global.{Global}
 use Rattle.std.proofs.lemmas.List.{length-map}
-use Rattle.serde_json.specs.Data.{Data, Members, null, boolean, number, string, array, object}
+use Rattle.serde_json.specs.Data.{Data, Members, object}
 use Rattle.serde_json.specs.Find.{as_object}
 use Rattle.serde_json.specs.View.{view, members_of, members_view}
 use Rattle.serde_json.specs.declared.value.Value.{Value}
@@ -16,9 +16,5 @@ pub count_view : (ms : List (String Global × Value)) → count (members_view ms
 count_view ms = count_of (map (λ (m : String Global × Value). (m.0, view m.1)) ms) ∙ simp length-map
 
 pub object_is : (n : ℕ) (d : Data) (ms : Members) → Some ms ≡ as_object d → has_count n d ≡ (count ms == n)
-object_is n null ms e = cc
-object_is n (boolean b) ms e = cc
-object_is n (number x) ms e = cc
-object_is n (string s) ms e = cc
-object_is n (array ds) ms e = cc
 object_is n (object members) ms e = let same : ms ≡ members = cc in ap (λ k. count k == n) (sym same)
+object_is n d ms e = cc

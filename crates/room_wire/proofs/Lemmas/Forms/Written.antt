@@ -4,9 +4,11 @@ use Rattle.std.proofs.Common.{append_assoc, append-nil, codes, decimal}
 use Rattle.std.specs.Prelude.{flat_map, Result, Ok, Err, IfOk}
 use Rattle.std.proofs.lemmas.Grind.{flat_map-append}
 use Rattle.std.proofs.lemmas.List.{take_more, take_all}
+use Rattle.std.proofs.lemmas.Result.{IfOk-weaker}
 use Rattle.json.specs.Token.{Token, begin_object, end_object, begin_array, end_array, key, string, number}
 use Rattle.json.specs.Print.{print}
 use Rattle.json.specs.Tree.{json_tokens, items_tokens}
+use Rattle.json.specs.Written.{Written}
 use Rattle.serde_json.specs.Data.{Data}
 use Rattle.serde_json.specs.Written.{outline, items_outline, compact_text}
 use Rattle.serde_json.proofs.Texts.{print-outline}
@@ -14,12 +16,23 @@ use Rattle.room_acl.specs.declared.subject.Kind.{Kind}
 use Rattle.room_acl.specs.Entries.{EntryModel}
 use Rattle.room_records.specs.Names.{Name, Path, path_text}
 use Rattle.room_commands.specs.CommandModel as C
+use Rattle.room_wire.specs.Forms.Writing.{Adds}
 use Rattle.room_wire.specs.Forms.Texts.{entry, entries, named_child, named, command_data}
 
--- tokens that were written into an empty buffer
-pub text_of_tokens : (d : Data) (before : List ℕ) (ts : List Token) → before ≡ [] → ts ≡ json_tokens (outline d)
-    → before ++ print ts ≡ compact_text d
-text_of_tokens d before ts none same = (λ i. none i ++ print (same i)) ∙ print-outline d
+-- what was written into an empty buffer, and then these tokens
+infixl 10 ◌then◌
+pub ◌then◌ : {E : Type 0} {u : Unit {0}} {old new : Written} {ts us : List Token}
+    → (old.before ≡ []) × (old.tokens ≡ us) → Adds {E = E} (Ok u) old new ts
+    → (new.before ≡ []) × (new.tokens ≡ us ++ ts)
+◌then◌ {ts = ts} so add = (add.before ∙ so.0, add.written ∙ ap (λ us. us ++ ts) so.1)
+
+-- and the text of the object whose tokens they are
+pub text_of : {T E : Type 0} (d : Data) (r : Result T E) (items : T → List ℕ) {before : List ℕ} {ts us : List Token}
+    → (before ≡ []) × (ts ≡ us) → us ++ end_object ∷ [] ≡ json_tokens (outline d)
+    → IfOk r (λ text. items text ≡ before ++ print (ts ++ end_object ∷ []))
+    → IfOk r (λ text. items text ≡ compact_text d)
+text_of d r items so same written = IfOk-weaker r _ _
+    (λ _ is. is ∙ (λ i. so.0 i ++ print (so.1 i ++ end_object ∷ [])) ∙ ap print same ∙ print-outline d) written
 
 -- ---- items, one after another
 

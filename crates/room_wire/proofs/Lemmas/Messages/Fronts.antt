@@ -3,6 +3,7 @@ use Rattle.std.proofs.Common.{◌≡◌, ◌≤◌, ◌<◌, ℕ, ◌+◌, List,
 use Rattle.std.proofs.Common.{append_assoc, None, Some, append-nil, [], slice_range, min}
 use Rattle.std.proofs.lemmas.List.{take-append-drop, length-append, length-take-le, take_all, length-take, length-map}
 use Rattle.std.proofs.lemmas.List.Folds.{drop_split}
+use Rattle.std.proofs.lemmas.Option.{same_Some}
 use Rattle.httparse.proofs.RunLemmas.{length-slice_range}
 use Rattle.httparse.specs.Grammar.{RequestHead, IsRequestHead, print_request, ReadsRequest, HasNoRequest, Field}
 use Rattle.httparse.specs.Spans.{name_and_value, RequestOverflows, AreFieldsAt, header_bytes}
@@ -10,7 +11,7 @@ use Rattle.httparse.specs.declared.spans.HeaderSpan.{HeaderSpan}
 use Rattle.httparse.proofs.GrammarLemmas.{request_prefix_free}
 use Rattle.room_wire.specs.Messages.MessageModel.{MessageModel, body_after, print_message, Reads, NoMessage}
 use Rattle.room_wire.specs.Messages.MessageModel.{NeverMessage}
-use Rattle.room_wire.proofs.Lemmas.Messages.Seams.{same_front, front_in, some_inj}
+use Rattle.room_wire.proofs.Lemmas.Messages.Seams.{same_front, front_in}
 
 -- the head of a message at the front
 pub head_read : (bytes : List ℕ) (m : MessageModel) (rest : List ℕ)
@@ -24,7 +25,7 @@ message_prefix_free bytes more m k r q x y =
     let same = request_prefix_free bytes more m.head k.head (m.body ++ r)
     (k.body ++ q) (head_read bytes m r x) (head_read (bytes ++ more) k q y) in
     let lengths : length m.body ≡ length k.body =
-    some_inj _ _ (sym x.lawful.body ∙ ap body_after same.0 ∙ y.lawful.body) in
+    same_Some _ _ (sym x.lawful.body ∙ ap body_after same.0 ∙ y.lawful.body) in
     let bodies = same_front m.body k.body (r ++ more) q lengths (sym (append_assoc m.body r more) ∙ same.1) in
     ((λ i. record { head = same.0 i; body = bodies.0 i }), bodies.1)
 
@@ -72,14 +73,15 @@ pub none_yet : (input window : List ℕ) (len n : ℕ) (h : RequestHead) → Par
 none_yet input window len n h p states short m rest x =
     let y : Reads (input ++ []) m rest = record { lawful = x.lawful; whole = append-nil input ∙ x.whole } in
     let same = has_head input window len h p [] m rest y in
-    let lengths : n ≡ length m.body = some_inj _ _ (sym states ∙ ap body_after same ∙ x.lawful.body) in
+    let lengths : n ≡ length m.body = same_Some _ _ (sym states ∙ ap body_after same ∙ x.lawful.body) in
     let heads : len ≡ length (print_request m.head) = p.len_is ∙ ap (λ k. length (print_request k)) same in
     let whole = reads_length input m rest x in
     absurd (omega arith)
 
--- more fields than there is room for
-pub never_by_room : (input window : List ℕ) → window ≡ take 8192 input → RequestOverflows 32 window → NeverMessage input
-never_by_room input window e over more m rest x =
+-- more fields than a message may have
+pub never_by_overflow : (input window : List ℕ) → window ≡ take 8192 input → RequestOverflows 32 window
+    → NeverMessage input
+never_by_overflow input window e over more m rest x =
     let read = head_read (input ++ more) m rest x in
     let many = over (drop 8192 input ++ more) m.head (m.body ++ rest)
     (read.0, sym (window_front input window more e) ∙ read.1) in

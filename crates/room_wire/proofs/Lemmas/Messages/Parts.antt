@@ -2,12 +2,12 @@
 use Rattle.std.proofs.Common.{◌≡◌, ◌<◌, ℕ, ◌+◌, Bool, true, false, ◌||◌, ◌==◌, List, [], ◌∷◌, ◌++◌, length, take, drop}
 use Rattle.std.proofs.Common.{get_or, refl, sym, ap, ◌∙◌, arith, None, Some, cond, nat_lt, subst, ◌≤◌}
 use Rattle.std.proofs.lemmas.List.{take-append-drop, drop_more, length-take-le, get_or-take}
+use Rattle.std.proofs.Math.Bool.{or-false}
 use Rattle.std.proofs.lemmas.List.Quantifiers.{position-Some}
 use Rattle.std.proofs.lemmas.List.Elements.{All-from_get_or}
 use Rattle.std.proofs.lemmas.List.Splits.{slice_split_at}
 use Rattle.std.specs.List.{All, position, position_or_len, onto_first, slice_split, list_any}
 use Rattle.std.proofs.lemmas.Bool.Decides.{nat_tests}
-use Rattle.room_wire.proofs.Lemmas.Messages.Values.{or_false}
 use Rattle.room_wire.specs.Messages.Stream.{is_close, lists_close}
 
 -- the parts, where the first comma is here
@@ -42,4 +42,4 @@ none_fits n k e = grind (arith, nat_tests)
 
 pub close_none : (xs : List ℕ) → position (λ b. b == 44) xs ≡ None → lists_close xs ≡ is_close xs
 close_none xs e =
-    ap (list_any is_close) (none_split (λ b. b == 44) xs (none_fits _ _ e)) ∙ or_false (is_close xs)
+    ap (list_any is_close) (none_split (λ b. b == 44) xs (none_fits _ _ e)) ∙ or-false (is_close xs)

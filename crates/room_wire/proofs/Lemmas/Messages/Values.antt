@@ -1,7 +1,8 @@
 -- The values of the fields of one name, field by field.
 use Rattle.std.proofs.Common.{◌≡◌, ◌<◌, ℕ, ◌-◌, ◌+◌, Bool, true, false, ◌||◌, ◌&&◌, append-nil, List, [], ◌∷◌, ◌++◌}
 use Rattle.std.proofs.Common.{length, take, map, get_or, cond, refl, sym, ap, ◌∙◌, arith}
-use Rattle.std.proofs.lemmas.List.{take_more}
+use Rattle.std.proofs.lemmas.List.{take_more, map-append}
+use Rattle.std.proofs.Math.Bool.{or-false}
 use Rattle.std.proofs.lemmas.List.Folds.{list_all_at, list_any-append}
 use Rattle.std.proofs.lemmas.Bool.Decides.{nat_tests}
 use Rattle.std.specs.List.{list_all, list_any}
@@ -23,10 +24,6 @@ values_push name (other ∷ fields) field =
       | false ↦ values_push name fields field
     ]
 
-map_push : {A B : Type 0} (f : A → B) (xs : List A) (x : A) → map f (xs ++ x ∷ []) ≡ map f xs ++ f x ∷ []
-map_push f [] x = refl
-map_push f (y ∷ ys) x = ap (λ t. f y ∷ t) (map_push f ys x)
-
 -- one more field
 pub values_more : (name buf : List ℕ) (headers : List HeaderSpan) (i : ℕ) (d : HeaderSpan) → i < length headers
     → values_named name (map (header_bytes buf) (take (i + 1) headers))
@@ -34,7 +31,7 @@ pub values_more : (name buf : List ℕ) (headers : List HeaderSpan) (i : ℕ) (d
     (is_named name (header_bytes buf (get_or headers i d))) ((header_bytes buf (get_or headers i d)).1 ∷ []) []
 values_more name buf headers i d inside =
     ap (λ t. values_named name (map (header_bytes buf) t)) (take_more headers i d inside)
-    ∙ ap (values_named name) (map_push (header_bytes buf) (take i headers) (get_or headers i d))
+    ∙ ap (values_named name) (map-append (header_bytes buf) (take i headers) (get_or headers i d ∷ []))
     ∙ values_push name (map (header_bytes buf) (take i headers)) (header_bytes buf (get_or headers i d))
 
 pub found_other : (found : Found) (values : List (List ℕ)) (value : List ℕ)
@@ -58,19 +55,11 @@ digit_at ds i inside all = digit_is (get_or ds i 0) (passes (is_ascii_digit (get
 abbrev pub no_header : HeaderSpan
 no_header = record { name = record { start = 0; end = 0 }; value = record { start = 0; end = 0 } }
 
-pub or_true : (b : Bool) → true ≡ (b || true)
-or_true true = refl
-or_true false = refl
-
-pub or_false : (b : Bool) → (b || false) ≡ b
-or_false true = refl
-or_false false = refl
-
 -- a test over the values, one field more
 pub any_more : (p : List ℕ → Bool) (seen : List (List ℕ)) (value : List ℕ) (named passes before : Bool)
     → before ≡ list_any p seen → p value ≡ passes
     → (before || (named && passes)) ≡ list_any p (seen ++ cond named (value ∷ []) [])
 any_more p seen value true passes before e f =
-    (λ i. e i || sym f i) ∙ ap (λ b. list_any p seen || b) (sym (or_false (p value)))
+    (λ i. e i || sym f i) ∙ ap (λ b. list_any p seen || b) (sym (or-false (p value)))
     ∙ sym (list_any-append p seen (value ∷ []))
-any_more p seen value false passes before e f = or_false before ∙ e ∙ ap (list_any p) (sym (append-nil seen))
+any_more p seen value false passes before e f = or-false before ∙ e ∙ ap (list_any p) (sym (append-nil seen))

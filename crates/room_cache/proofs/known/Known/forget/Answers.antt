@@ -1,18 +1,22 @@
 use Rattle.std.proofs.Common.{refl, ap, sym, subst, inl, inr, Some, cond, [], ◌∷◌, rules}
 use Rattle.room_records.specs.declared.change.Change.{Change}
+use Rattle.room_records.specs.declared.change.Change.TheVariants.{PutSlot, DropSlots}
+use Rattle.room_records.specs.Changes.{apply_change}
 use Rattle.room_records.proofs.SessionKeys.{name_test}
 use Rattle.room_cache.specs.Known.{IsLeft}
 use Rattle.room_cache.proofs.Keys.{other_name}
+use Rattle.room_cache.proofs.Left.{others_left}
+use Rattle.room_cache.proofs.Seqs.{no_seqs}
 use Rattle.room_cache.proofs.known.Known.forget.Goals as goal
 
 pub returns-in-PutSession : goal.returns-in-PutSession
 returns-in-PutSession c =
     let row = c.in-PutSession.row in
     let P : Change → Type 0 = λ change. IsLeft (change ∷ []) c.args.self.now
-    (record c.args.self.now { sessions = c.forget-in-PutSession.new.self }) in
+    (record c.args.self.now { sessions = c.forget.new.self }) in
     subst P (sym c.in-PutSession.is) (record {
       sessions = λ sid held is.
-          let was = c.forget-in-PutSession.ensures sid held is in (
+          let was = c.forget.ensures sid held is in (
             was.0,
             (
               (λ r. elim (name_test sid row.sid) [
@@ -23,7 +27,26 @@ returns-in-PutSession c =
             ),
           );
       nodes = λ id node held. (held, ((λ r. refl), tt));
+      names = λ folder names held. (held, λ id. ((λ r. refl), tt));
       lists = λ id list held. (held, ((λ r. refl), tt));
       decisions = λ id made held. (held, ((λ r. refl), tt));
+      seqs = λ r are. are;
       next = search rules;
     })
+
+pub returns-in-PutSlot : goal.returns-in-PutSlot
+returns-in-PutSlot c =
+    let row = c.in-PutSlot.row in
+    let P : Change → Type 0 = λ change. IsLeft (change ∷ []) c.args.self.now c.replace_seq.new.self in
+    subst P (sym c.in-PutSlot.is) (others_left (PutSlot row) c.args.self.now c.replace_seq.new.self
+    c.replace_seq.ensures.others c.replace_seq.ensures.seqs
+    (λ r. refl) (λ r. refl))
+
+pub returns-in-DropSlots : goal.returns-in-DropSlots
+returns-in-DropSlots c =
+    let P : Change → Type 0 = λ change. IsLeft (change ∷ []) c.args.self.now
+    (record c.args.self.now { seqs = c.clear.new.self }) in
+    subst P (sym c.in-DropSlots.is) (others_left (DropSlots c.in-DropSlots.field-0) c.args.self.now
+    (record c.args.self.now { seqs = c.clear.new.self }) refl
+    (λ r are. no_seqs (apply_change (DropSlots c.in-DropSlots.field-0) r) c.clear.new.self c.clear.ensures)
+    (λ r. refl) (λ r. refl))

@@ -9,6 +9,7 @@ pub returns : goal.returns
 returns c = λ r is fits. record {
   sessions = fits.sessions;
   nodes = fits.nodes;
+  names = fits.names;
   lists = fits.lists;
   decisions = λ id made held d in_made. elim (c.keep-2.ensures id made held) [
     | inl before ↦ fits.decisions id made (c.take.ensures.rest id made before).0 d in_made
@@ -27,5 +28,6 @@ returns c = λ r is fits. record {
               subst R (sym same) is
         ])
   ];
+  seqs = fits.seqs;
   next = fits.next;
 }

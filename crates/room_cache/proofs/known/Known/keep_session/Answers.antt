@@ -10,7 +10,9 @@ returns-in-Ok-Ok c = λ r is fits. record {
         ∙ ap Some (sym (now.1 ∙ c.in-Ok-Ok.ensures'))
   ];
   nodes = fits.nodes;
+  names = fits.names;
   lists = fits.lists;
   decisions = fits.decisions;
+  seqs = fits.seqs;
   next = fits.next;
 }

@@ -1,7 +1,4 @@
-use Rattle.std.proofs.Common.{◌≡◌, ◌≢◌, ℕ, refl, ap, sym, ◌∙◌, None, Some}
-use Rattle.std.specs.Prelude.{◌==◌, if◌then◌else◌}
-use Rattle.room_records.specs.declared.node.Node.{Node}
-use Rattle.room_records.specs.Mem.{mem_records}
+use Rattle.std.proofs.Common.{◌≢◌, refl, sym, ◌∙◌, None, Some}
 use Rattle.room_records.specs.NodeIndex.{node_in}
 use Rattle.room_records.specs.Fresh.{no_records}
 use Rattle.room_records.proofs.RoomsMap.{none_is_some}
@@ -21,4 +18,5 @@ returns-clause-untouched c =
       next = λ leave. refl;
       session = λ sid leave. refl;
       slot = λ sid slot leave. refl;
+      kept = λ sid slot low. refl;
     }

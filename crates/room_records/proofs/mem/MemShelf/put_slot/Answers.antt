@@ -1,6 +1,8 @@
-use Rattle.std.proofs.Common.{◌≡◌, ◌<◌, ◌≤◌, ◌⊎◌, inl, inr, ℕ, refl, ap, sym, ◌∙◌, Bool, true, false, arith}
-use Rattle.std.specs.Prelude.{nat_lt}
-use Rattle.std.proofs.lemmas.Bool.{lt-ltb, ltb-true}
+use Rattle.std.proofs.Common.{◌≡◌, ◌≢◌, ◌<◌, ◌≤◌, ◌⊎◌, inl, inr, ℕ, refl, ap, sym, ◌∙◌, Bool, true, false, arith}
+use Rattle.std.proofs.Common.{Some, cond}
+use Rattle.std.specs.Prelude.{nat_lt, ◌==◌, ◌&&◌}
+use Rattle.std.specs.Str.{bytes_eq}
+use Rattle.std.proofs.lemmas.Bool.{lt-ltb, ltb-true, eqb-true, false_from_ne_true}
 use Rattle.room_records.specs.Limits.{max_slots}
 use Rattle.room_records.specs.Sessions.{session_in, kept_in}
 use Rattle.room_records.specs.Mem.{mem_records}
@@ -27,6 +29,10 @@ low_or_high a b = by (nat_lt a b) refl
         not_low : a < b → ⊥
         not_low low = let f : false ≡ true = sym is ∙ lt-ltb a b low in cc
 
+neither : {X : Type 0} (a b : Bool) (x y : X) → b ≡ false → cond (a && b) x y ≡ y
+neither true b x y is = ap (λ test. cond test x y) is
+neither false b x y is = refl
+
 pub returns-clause-untouched : goal.returns-clause-untouched
 returns-clause-untouched c = record {
   node = λ id leave. refl;
@@ -37,5 +43,16 @@ returns-clause-untouched c = record {
   slot = λ sid slot leave. elim (low_or_high c.args.row.slot max_slots) [
     | inl low ↦ c.put_slot.ensures.slots low sid slot ∙ leave.0 (mem_records c.args.self.now)
     | inr high ↦ ap (λ kept. kept_in kept sid slot) (c.put_slot.ensures.high high)
+  ];
+  kept = λ sid slot small. elim (low_or_high c.args.row.slot max_slots) [
+    | inl low ↦ c.put_slot.ensures.slots low sid slot
+    | inr high ↦
+        let row = c.args.row in
+        let other : slot ≢ row.slot = λ same. omega (arith, same, small, high) in
+        let no : (slot == row.slot) ≡ false =
+        false_from_ne_true (slot == row.slot) (λ e. other (eqb-true slot row.slot e)) in
+        ap (λ kept. kept_in kept sid slot) (c.put_slot.ensures.high high)
+        ∙ sym (neither (bytes_eq sid row.sid) (slot == row.slot) (Some row.kept)
+        (kept_in c.args.self.now.sessions.kept.slots sid slot) no)
   ];
 }

@@ -8,7 +8,7 @@ use Rattle.room_commands.specs.Checks.{refuse_if, check_depth, check_folder_full
 use Rattle.room_tree.proofs.Checking.{skip, first_alone}
 use Rattle.room_tree.proofs.Renamed.{same_folder, other_folder}
 use Rattle.room_tree.proofs.Stops.{handed_on, at_head}
-use Rattle.room_tree.proofs.Told.{both_tell}
+use Rattle.room_tree.proofs.InTurn.{both_tell}
 use Rattle.room_tree.proofs.moving.Move.check_limits.Goals as goal
 
 pub returns-in_err-check_depth-clause-value : goal.returns-in_err-check_depth-clause-value

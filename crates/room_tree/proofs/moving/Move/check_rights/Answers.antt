@@ -7,7 +7,7 @@ use Rattle.room_commands.specs.Checks.{first_refusal, check_removal, check_right
 use Rattle.room_tree.specs.Renames.{move_rights}
 use Rattle.room_tree.proofs.Checking.{skip, first_alone}
 use Rattle.room_tree.proofs.Stops.{handed_on, at_head, passes_by}
-use Rattle.room_tree.proofs.Told.{both_tell}
+use Rattle.room_tree.proofs.InTurn.{both_tell}
 use Rattle.room_tree.proofs.moving.Move.check_rights.Goals as goal
 
 pub returns-in_err-check_removal-clause-value : goal.returns-in_err-check_removal-clause-value

@@ -1,29 +1,14 @@
-use Rattle.std.proofs.Common.{rules, ◌∙◌, ◌≡◌}
-use Rattle.std.proofs.lemmas.Result.{IfOk-weaker}
-use Rattle.room_records.specs.Names.{path_text}
+use Rattle.std.proofs.Common.{◌≡◌, ◌∙◌, rules}
 use Rattle.room_commands.specs.CommandModel as C
 use Rattle.room_wire.specs.Forms.Texts.{command_data}
-use Rattle.room_wire.proofs.Lemmas.Forms.Written.{set_list_tokens, text_of_tokens}
+use Rattle.room_wire.proofs.Lemmas.Forms.Written.{set_list_tokens, text_of, ◌then◌}
 use Rattle.room_wire.proofs.forms.command_texts.set_list_command.Goals as goal
 
 pub returns-clause-value : goal.returns-clause-value
 returns-clause-value c =
-    let is0 : c.from.result ≡ c.args.aclflag = search rules in
-    let is1 : c.as_str.result.now ≡ path_text c.args.path.now = c.as_str.ensures.value ∙ c.in_ok-text.ensures.value in
-    IfOk-weaker c.ended.result _ _
-    (λ _ is. is ∙ text_of_tokens (command_data (C.SetList c.args.aclflag c.args.entries.now c.args.path.now)) _ _
-    (c.in_ok-text_member-2.ensures.before
-    ∙ c.in_ok-entries_member.ensures.written.before
-    ∙ c.in_ok-text_member.ensures.before
-    ∙ c.in_ok-number_member.ensures.before
-    ∙ c.in_ok-out.ensures.0)
-    (rw (
-      c.in_ok-text_member-2.ensures.written,
-      c.in_ok-entries_member.ensures.written.written,
-      c.in_ok-text_member.ensures.written,
-      c.in_ok-number_member.ensures.written,
-      c.in_ok-out.ensures.1,
-      is0,
-      is1,
-    ) (set_list_tokens c.args.aclflag c.args.entries.now c.args.path.now)))
-    c.ended.ensures
+    let is : c.from.result ≡ c.args.aclflag = search rules in
+    text_of (command_data (C.SetList c.args.aclflag c.args.entries.now c.args.path.now)) c.ended.result _
+    (c.in_ok-out.ensures then c.in_ok-number_member.ensures then c.in_ok-text_member.ensures
+    then c.in_ok-entries_member.ensures.written then c.in_ok-text_member-2.ensures)
+    (rw (is, c.as_str.ensures.value ∙ c.in_ok-text.ensures.value)
+    (set_list_tokens c.args.aclflag c.args.entries.now c.args.path.now)) c.ended.ensures

@@ -1,24 +1,13 @@
-use Rattle.std.proofs.Common.{refl, rules, ◌∙◌, ◌≡◌}
-use Rattle.std.proofs.lemmas.Result.{IfOk-weaker}
+use Rattle.std.proofs.Common.{◌≡◌, refl, rules}
 use Rattle.room_commands.specs.ReplyModel as R
 use Rattle.room_wire.specs.Forms.Texts.{reply_data}
-use Rattle.room_wire.proofs.Lemmas.Forms.Written.{text_of_tokens}
+use Rattle.room_wire.proofs.Lemmas.Forms.Written.{text_of, ◌then◌}
 use Rattle.room_wire.proofs.forms.replies.entries_text.Goals as goal
 
 pub returns : goal.returns
 returns c =
-    let is0 : c.from.result ≡ c.args.aclflag = search rules in
-    IfOk-weaker c.ended.result _ _
-    (λ _ is. is ∙ text_of_tokens (reply_data (R.Entries c.args.aclflag c.args.entries.now)) _ _
-    (c.in_ok-entries_member.ensures.written.before
-    ∙ c.in_ok-number_member-2.ensures.before
-    ∙ c.in_ok-number_member.ensures.before
-    ∙ c.in_ok-out.ensures.0)
-    (rw (
-      c.in_ok-entries_member.ensures.written.written,
-      c.in_ok-number_member-2.ensures.written,
-      c.in_ok-number_member.ensures.written,
-      c.in_ok-out.ensures.1,
-      is0,
-    ) refl))
-    c.ended.ensures
+    let is : c.from.result ≡ c.args.aclflag = search rules in
+    text_of (reply_data (R.Entries c.args.aclflag c.args.entries.now)) c.ended.result _
+    (c.in_ok-out.ensures then c.in_ok-number_member.ensures then c.in_ok-number_member-2.ensures
+    then c.in_ok-entries_member.ensures.written)
+    (rw is refl) c.ended.ensures

@@ -1,12 +1,13 @@
 use Rattle.std.proofs.Common.{◌≡◌, ℕ, Bool, List, ◌∷◌, ◌++◌, [], true, false, take, map, get_or, ap}
 use Rattle.std.proofs.Common.{cond, sym, ◌∙◌, codes, refl}
+use Rattle.std.proofs.Math.Bool.{or-true, or-false}
 use Rattle.std.specs.List.{list_any}
 use Rattle.std.specs.Char.{to_ascii_lowercase}
 use Rattle.std.specs.Prelude.{bytes_eq}
 use Rattle.httparse.specs.Spans.{header_bytes}
 use Rattle.room_wire.specs.Messages.Fields.{values_named, is_named}
 use Rattle.room_wire.specs.Messages.Stream.{lists_close}
-use Rattle.room_wire.proofs.Lemmas.Messages.Values.{values_more, no_header, any_more, or_true, or_false}
+use Rattle.room_wire.proofs.Lemmas.Messages.Values.{values_more, no_header, any_more}
 use Rattle.room_wire.proofs.messages.last.closes.Goals.{then-same_name+then-lists_close, else-same_name}
 use Rattle.room_wire.proofs.messages.last.closes.Goals.{else-same_name-via-then-same_name+else-lists_close}
 use Rattle.room_wire.proofs.messages.last.closes.Goals.{else-same_name-via-else-same_name}
@@ -31,15 +32,15 @@ loop-header-preserved c =
     ∙ ap (list_any lists_close) (sym (more ∙ ap (λ b. seen ++ cond b (header.1 ∷ []) []) (test ∙ e))) in
     elim c.if-same_name.branch [
       | then-same_name+then-lists_close w ↦
-          rw w.close-is (or_true c.loop-header.close ∙ add true true w.if-same_name.true
+          rw w.close-is (sym (or-true c.loop-header.close) ∙ add true true w.if-same_name.true
           (lists_close_of w.of-then-same_name.ensures w.lists_close.ensures ∙ w.if-lists_close.true))
       | else-same_name w ↦
           elim w.else-same_name.branch [
             | else-same_name-via-then-same_name+else-lists_close w' ↦
-                rw w.close-is (sym (or_false c.loop-header.close) ∙ add true false w'.if-same_name.true
+                rw w.close-is (sym (or-false c.loop-header.close) ∙ add true false w'.if-same_name.true
                 (lists_close_of w'.of-then-same_name.ensures w'.lists_close.ensures ∙ w'.if-lists_close.false))
             | else-same_name-via-else-same_name w' ↦
-                rw w.close-is (sym (or_false c.loop-header.close)
+                rw w.close-is (sym (or-false c.loop-header.close)
                 ∙ add false (lists_close header.1) w'.if-same_name.false refl)
           ]
     ]

@@ -1,6 +1,6 @@
 use Rattle.std.proofs.Common.{arith, inl}
 use Rattle.room_wire.proofs.Lemmas.Messages.Seams.{window_is, some_when, none_when}
-use Rattle.room_wire.proofs.Lemmas.Messages.Fronts.{none_empty, none_by_head, never_by_room, never_by_head}
+use Rattle.room_wire.proofs.Lemmas.Messages.Fronts.{none_empty, none_by_head, never_by_overflow, never_by_head}
 use Rattle.room_wire.proofs.Lemmas.Messages.Lacking.{lacks_head, lacks_all}
 use Rattle.room_wire.proofs.messages.taking.take_message.Goals as goal
 
@@ -16,7 +16,7 @@ returns-else-input-lt-MAX_HEAD c = (
 
 pub returns-in-Err : goal.returns-in-Err
 returns-in-Err c =
-    (never_by_room _ _ (window_is _ _ c.min.ensures) c.in-Err.ensures.no_room, some_when _ c.if-is_empty.ensures)
+    (never_by_overflow _ _ (window_is _ _ c.min.ensures) c.in-Err.ensures.no_room, some_when _ c.if-is_empty.ensures)
 
 pub returns-then-is_empty : goal.returns-then-is_empty
 returns-then-is_empty c = let none = none_when _ c.if-is_empty.ensures in

@@ -1,25 +1,13 @@
-use Rattle.std.proofs.Common.{refl, rules, ◌∙◌, ◌≡◌}
-use Rattle.std.proofs.lemmas.Result.{IfOk-weaker}
+use Rattle.std.proofs.Common.{◌≡◌, refl, rules}
 use Rattle.room_wire.specs.Questions.CheckAnswers.{allowed_data}
-use Rattle.room_wire.proofs.Lemmas.Forms.Written.{text_of_tokens}
+use Rattle.room_wire.proofs.Lemmas.Forms.Written.{text_of, ◌then◌}
 use Rattle.room_wire.proofs.questions.answering.allowed_text.Goals as goal
 
 pub returns : goal.returns
 returns c =
-    let is0 : c.from.result ≡ c.args.allowed = search rules in
-    let is1 : c.from-2.result ≡ c.args.bit = search rules in
-    IfOk-weaker c.ended.result _ _
-    (λ _ is. is ∙ text_of_tokens (allowed_data c.args.allowed c.args.bit) _ _
-    (c.in_ok-number_member-3.ensures.before
-    ∙ c.in_ok-number_member-2.ensures.before
-    ∙ c.in_ok-number_member.ensures.before
-    ∙ c.in_ok-out.ensures.0)
-    (rw (
-      c.in_ok-number_member-3.ensures.written,
-      c.in_ok-number_member-2.ensures.written,
-      c.in_ok-number_member.ensures.written,
-      c.in_ok-out.ensures.1,
-      is0,
-      is1,
-    ) refl))
-    c.ended.ensures
+    let allowed : c.from.result ≡ c.args.allowed = search rules in
+    let bit : c.from-2.result ≡ c.args.bit = search rules in
+    text_of (allowed_data c.args.allowed c.args.bit) c.ended.result _
+    (c.in_ok-out.ensures then c.in_ok-number_member.ensures then c.in_ok-number_member-2.ensures
+    then c.in_ok-number_member-3.ensures)
+    (rw (allowed, bit) refl) c.ended.ensures

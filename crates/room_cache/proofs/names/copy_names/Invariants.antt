@@ -1,0 +1,6 @@
+use Rattle.std.proofs.Common.{◌≡◌, take}
+use Rattle.room_cache.proofs.names.copy_names.Given as goal
+
+-- the names so far
+abbrev pub invariant-loop-named : goal.invariant-loop-named
+invariant-loop-named l = l.copy.items ≡ take l.named-index l.names

@@ -1,0 +1,60 @@
+//! Names of folders that are remembered.
+ghost use Rattle.std.specs.Prelude.{◌≡◌, ◌≤◌, ◌↔◌, IsSome, IfSome, IfOk, length};
+ghost use Rattle.room_records.specs.Limits.{max_children};
+
+use room_acl::Kind;
+use room_records::{FileName, MAX_CHILDREN};
+use std::alloc::{AllocError, Global};
+use std::marker::Model;
+
+/// The names and kinds of at most 256 nodes, as many as a folder of a room has.
+#[derive(Drop)]
+pub(crate) struct NameList {
+    names: Vec<(FileName, Kind)>,
+}
+
+impl Model for NameList {
+    ghost use Rattle.std.specs.Prelude.{◌≤◌, List, length};
+    ghost use Rattle.room_acl.specs.declared.subject.Kind.{Kind};
+    ghost use Rattle.room_records.specs.Limits.{max_children};
+    ghost use Rattle.room_records.specs.Names.{Name};
+
+    ghost Value = { List (Name × Kind) };
+
+    ghost view = { λ l. l.names.items };
+
+    ghost invariant = { λ l. length l.names.items ≤ max_children };
+}
+
+impl NameList {
+    /// `None` exactly where there are more names.
+    pub(crate) fn new(names: Vec<(FileName, Kind)>) -> Option<NameList>
+        ensures few { IsSome result ↔ (length names.items ≤ max_children) }
+        ensures value { IfSome result (λ list. list ≡ names.items) }
+    {
+        if names.len() as u64 > MAX_CHILDREN {
+            return None;
+        }
+        Some(NameList { names })
+    }
+
+    pub(crate) fn names(&self) -> &Vec<(FileName, Kind)>
+        ensures { result.now.items ≡ self.now }
+    {
+        &self.names
+    }
+}
+
+/// AllocError where memory is refused.
+pub(crate) fn copy_names(
+    alloc: Global,
+    names: &[(FileName, Kind)],
+) -> Result<Vec<(FileName, Kind)>, AllocError>
+    ensures { IfOk result (λ copy. copy.items ≡ names.now) }
+{
+    let mut copy = Vec::new(alloc);
+    for named in names {
+        copy.push((named.0.clone()?, named.1))?;
+    }
+    Ok(copy)
+}

@@ -1,0 +1,56 @@
+use Rattle.std.proofs.Common.{sym, subst, ◌∷◌, refl, inl, inr}
+use Rattle.room_records.specs.Records.{Records}
+use Rattle.room_records.specs.declared.shelf.ShelfFault.TheVariants.{Store}
+use Rattle.room_records.proofs.Shelves.{none_not_store}
+use Rattle.room_wire.specs.Asks.EventModel.{event_model}
+use Rattle.room_desk.specs.AnswerModel.{answer_model}
+use Rattle.room_desk.specs.Representation.{RepresentsHistory}
+use Rattle.room_desk.proofs.Calls.{one_call}
+use Rattle.room_desk.proofs.Crashes.{reports_change}
+use Rattle.room_desk.proofs.desk.Desk.handle_sent.Goals as goal
+
+-- an answer means that the store was there
+pub returns-in-Ok : goal.returns-in-Ok
+returns-in-Ok g c = λ tells. record {
+  frame = one_call _ _ _ c.answer.ensures.frame;
+  quiet = λ other. c.in-Ok.ensures.frame.quiet (none_not_store Store);
+  alive = λ k event is other. c.in-Ok.ensures.there k;
+  step = λ k start past stands.
+      let available = c.in-Ok.ensures.there k in
+      let stood = stands (c.answer.ensures.frame.was_available available) in
+      let step = c.in-Ok.ensures.step available stood.0 start past stood.1 tells in (
+        event_model c.args.event.now ∷ past,
+        inl (step.0, refl),
+        λ h. (c.answer.ensures.frame.laid_out h stood.0, step.1),
+      );
+  refused = λ h d away. c.in-Ok.ensures.refused h d away;
+  idle = λ h d start past stand idle. c.answer.ensures.idle h d start past stand idle;
+  crash = λ k start past stands. c.answer.ensures.crash k start past stands;
+  settled = λ k start past stands changes other.
+      let available = c.in-Ok.ensures.there k in
+      let stood = stands (c.answer.ensures.frame.was_available available) in
+      let step = c.in-Ok.ensures.step available stood.0 start past stood.1 tells in
+      c.in-Ok.ensures.settled k start past stands
+      (reports_change start past (event_model c.args.event.now) (answer_model c.in-Ok.answer) step.0 changes);
+}
+
+pub returns-in-Err : goal.returns-in-Err
+returns-in-Err g c = λ tells. record {
+  frame = one_call _ _ _ c.answer.ensures.frame;
+  quiet = λ other. absurd (other refl);
+  alive = λ k event is other. absurd (other refl);
+  step = λ k start past stands. (
+    past,
+    inr (refl, refl),
+    λ h.
+        let stood = stands (c.answer.ensures.frame.was_available h) in
+        let Stands : Records → Type 0 = λ r. RepresentsHistory start r past in (
+          c.answer.ensures.frame.laid_out h stood.0,
+          subst Stands (sym (c.in-Err.ensures.frame.undone h stood.0)) stood.1,
+        ),
+  );
+  refused = λ h d away. c.in-Err.ensures.frame.undone h d;
+  idle = λ h d start past stand idle. c.answer.ensures.idle h d start past stand idle;
+  crash = λ k start past stands. c.answer.ensures.crash k start past stands;
+  settled = λ k start past stands changes other. absurd (other refl);
+}

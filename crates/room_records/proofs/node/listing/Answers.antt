@@ -1,0 +1,28 @@
+use Rattle.std.proofs.Common.{◌≡◌, sym, ap, ◌∙◌, Option, Some, None, List, [], ◌∷◌, ◌++◌, append-nil}
+use Rattle.std.specs.List.{filter_map, cons_option}
+use Rattle.std.specs.Option.{option_map}
+use Rattle.std.proofs.lemmas.List.Elements.{filter_map-append}
+use Rattle.room_acl.specs.declared.subject.Kind.{Kind}
+use Rattle.room_records.specs.declared.node.Node.{Node}
+use Rattle.room_records.specs.Names.{Name}
+use Rattle.room_records.specs.Shelf.{listed}
+use Rattle.room_records.proofs.node.listing.Goals as goal
+use Rattle.room_records.proofs.node.listing.Goals.{in-Some-name+in_ok-push, in_default}
+
+one_more : (before after : List (Name × Kind)) (nodes : List Node) (node : Node) (name : Option Name)
+    → node.name ≡ name → before ≡ filter_map listed nodes
+    → after ≡ before ++ cons_option (option_map (λ (n : Name). (n, node.kind)) name) []
+    → after ≡ filter_map listed (nodes ++ node ∷ [])
+one_more before after nodes node name is so pushed =
+    pushed ∙ ap (λ (xs : List (Name × Kind)). xs ++ cons_option (option_map (λ (n : Name). (n, node.kind)) name) []) so
+    ∙ ap (λ found. filter_map listed nodes ++ cons_option (option_map (λ (n : Name). (n, node.kind)) found) []) (sym is)
+    ∙ sym (filter_map-append listed nodes (node ∷ []))
+
+pub loop-node-preserved : goal.loop-node-preserved
+loop-node-preserved c = elim c.match-name.branch [
+  | in-Some-name+in_ok-push w ↦
+      one_more c.loop-node.names.items c.match-name.names.items c.loop-node.yielded c.in-Some.node
+      (Some w.in-Some-name.name) w.in-Some-name.is c.loop-node.invariant (rw w.names-is w.in_ok-push.ensures.items)
+  | in_default w ↦ one_more c.loop-node.names.items c.match-name.names.items c.loop-node.yielded c.in-Some.node
+      None w.in_default.is c.loop-node.invariant (rw w.names-is (sym (append-nil c.loop-node.names.items)))
+]

@@ -1,0 +1,48 @@
+-- How long a document is: a column of a STRICT table that is a BLOB holds one, or NULL.
+use Rattle.std.proofs.Common.{◌≡◌, ℕ, true, true≢false, List, [], ◌∷◌, length, filter, map, option_map, unwrap_or}
+use Rattle.std.proofs.Common.{refl, sym}
+use Rattle.std.specs.List.{AllByRecursion}
+use Rattle.sqlite_value.specs.declared.value.Value.{Value}
+use Rattle.sqlite_value.specs.declared.value.Value.TheVariants.{Null, Int, Real, Text, Blob}
+use Rattle.sqlite_value.specs.Order.{Row, column}
+use Rattle.sqlite_sql.specs.Text.{length_of}
+use Rattle.sqlite_schema.specs.Rules.{is_of, passes}
+use Rattle.sqlite_schema.specs.declared.schema.Constraint.TheVariants.{Datatype}
+use Rattle.sqlite_schema.specs.declared.schema.Kind.TheVariants as kind
+use Rattle.sqlite_keyed.proofs.ListLemmas.{all-filter}
+use Rattle.sqlite_keyed.proofs.RuleLemmas.{first_of_both, second_of_both}
+use Rattle.sqlite.specs.Effect.{Database, IsDatabase}
+use Rattle.room_tables.specs.Tables.{Layout, room_schema, doc_table}
+use Rattle.room_tables.specs.Rows.{number_in, bytes_in, has, only, shown_doc, doc_of, shown_size, size_rows, size_in}
+use Rattle.room_tables.specs.Rows.{records_of}
+use Rattle.room_tables.specs.Layout.{IsRoomDatabase}
+use Rattle.room_tables.proofs.Each.{rows_pass}
+
+sized : (v : Value) → is_of kind.Blob v ≡ true → number_in (length_of v) ≡ length (bytes_in v)
+sized Null h = refl
+sized (Int n) h = absurd (true≢false (sym h))
+sized (Real x) h = absurd (true≢false (sym h))
+sized (Text t) h = absurd (true≢false (sym h))
+sized (Blob b) h = refl
+
+module _ (l : Layout) (db : Database) where
+  abbrev IsTyped : Row → Type 0
+  IsTyped r = passes Datatype (room_schema l) db.trees doc_table r ≡ true
+
+  sized_row : (r : Row) → IsTyped r → number_in (length_of (column r 2)) ≡ length (bytes_in (column r 2))
+  sized_row [] h = refl
+  sized_row (x ∷ []) h = refl
+  sized_row (x ∷ y ∷ []) h = refl
+  sized_row (x ∷ y ∷ v ∷ more) h = sized v (first_of_both _ _ (second_of_both _ _ (first_of_both _ _ h)))
+
+  sized_rows : (rows : List Row) → AllByRecursion IsTyped rows
+      → size_in (map shown_size rows) ≡ length (unwrap_or (option_map doc_of (only (map shown_doc rows))) [])
+  sized_rows [] all = refl
+  sized_rows (r ∷ []) all = sized_row r all.0
+  sized_rows (r ∷ s ∷ more) all = refl
+
+-- what the rows tell is how long the document of the records is
+pub same_size : (db : Database) (id : ℕ) → IsRoomDatabase db → IsDatabase db
+    → size_in (size_rows db.trees id) ≡ length (unwrap_or ((records_of db.trees).objects.document id) [])
+same_size db id room sound = sized_rows room.layout db (filter (has 0 id) (db.trees 5))
+    (all-filter _ (has 0 id) (db.trees 5) (rows_pass Datatype db room.layout room.schema sound).doc)

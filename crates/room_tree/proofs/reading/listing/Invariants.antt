@@ -1,7 +1,0 @@
-use Rattle.std.proofs.Common.{◌≡◌}
-use Rattle.std.specs.List.{filter_map}
-use Rattle.room_tree.specs.LoadedObjects.{listed}
-use Rattle.room_tree.proofs.reading.listing.Given as goal
-
-abbrev pub invariant-loop-node : goal.invariant-loop-node
-invariant-loop-node l = l.names.items ≡ filter_map listed l.yielded
