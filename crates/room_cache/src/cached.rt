@@ -23,7 +23,8 @@ use std::marker::Model;
 /// It remembers at most 256 rows of each kind, lists of up to 64 entries, 16 decisions of each of 256 objects, and up
 /// to 256 names in each of 256 folders: by the sizes of the types some 200 kB, lists of 1.5 MB at worst, names of
 /// 6.3 MB at worst, and decisions of 0.9 MB and 56 bytes for each group of each subject, 3.7 MB more with 16 groups
-/// each. Where memory is refused, a row is not remembered and the call is answered still.
+/// each. Where memory is refused for what would be remembered, the call is answered still; where it is refused for the
+/// copy that is the answer, the call answers `Memory`, and nothing is forgotten.
 #[derive(Drop)]
 pub struct CachedShelf<S: Shelf> {
     inner: S,

@@ -12,6 +12,7 @@ ghost use Rattle.room_desk.specs.Representation.{RepresentsHistory, StandsFor, S
 ghost use Rattle.room_desk.specs.Serving.{DeskCall, EventAnswered};
 
 use crate::requests::{SlotRequest, request};
+use crate::serving::Workspace;
 use crate::sessions::{close, open};
 use room_records::{Shelf, ShelfFault};
 use room_wire::{Answer, Code, Event};
@@ -22,6 +23,8 @@ use std::marker::Model;
 pub struct Desk<S: Shelf> {
     pub(crate) alloc: Global,
     pub(crate) shelf: S,
+    /// What the last stream left for the next.
+    pub(crate) workspace: Option<Workspace>,
 }
 
 impl<S: Shelf> Model for Desk<S> {
@@ -34,13 +37,21 @@ impl<S: Shelf> Desk<S> {
     pub fn new(alloc: Global, shelf: S) -> Desk<S>
         ensures { result ≡ shelf }
     {
-        Desk { alloc, shelf }
+        Desk {
+            alloc,
+            shelf,
+            workspace: None,
+        }
     }
 
     pub fn into_shelf(self) -> S
         ensures { result ≡ self }
     {
-        let Desk { alloc: _, shelf } = self;
+        let Desk {
+            alloc: _,
+            shelf,
+            workspace: _,
+        } = self;
         shelf
     }
 

@@ -18,7 +18,7 @@ use room_wire::{
 /// What a room looks up and never changes: its routes and its users.
 #[derive(Drop)]
 pub(crate) struct Lookup<'r> {
-    pub routes: Routes,
+    pub routes: &'r Routes,
     pub roster: &'r Roster,
 }
 
@@ -54,7 +54,7 @@ impl<S: Shelf> Desk<S> {
         ensures { (m : MessageModel) → Shows message.now m →
             MayAnswer S.view lookup.now.roster.now self.old m (answer_model result) self.new }
     {
-        match decode(self.alloc, message, &lookup.routes, lookup.roster) {
+        match decode(self.alloc, message, lookup.routes, lookup.roster) {
             Ok(Ask::Check(question)) => self.serve_question(&question),
             Ok(Ask::Event(event)) => self.serve_event(&event, message.body),
             Err(fault) => Answer::Refused(fault_code(fault)),

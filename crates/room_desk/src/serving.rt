@@ -1,5 +1,5 @@
 //! Serving a room over a reader and a writer.
-ghost use Rattle.std.specs.Prelude.{◌≡◌, []};
+ghost use Rattle.std.specs.Prelude.{◌≡◌};
 ghost use Rattle.room_records.specs.Room.{Room};
 ghost use Rattle.room_wire.specs.Serving.Ends.{Serves};
 ghost use Rattle.room_desk.specs.History.{History};
@@ -10,7 +10,25 @@ use crate::desk::Desk;
 use crate::service::Lookup;
 use room_records::{Roster, Shelf};
 use room_wire::{Buffers, Routes, ServeEnd, Why, serve_messages};
+use std::alloc::Global;
 use std::io::{Read, Write};
+
+/// What serving needs beside the room: made at the first stream, and kept for those after it.
+#[derive(Drop)]
+pub(crate) struct Workspace {
+    routes: Routes,
+    buffers: Buffers,
+}
+
+impl Workspace {
+    /// Nothing where memory is refused.
+    fn new(alloc: Global) -> Option<Workspace> {
+        let (Ok(routes), Ok(buffers)) = (Routes::new(alloc), Buffers::new(alloc)) else {
+            return None;
+        };
+        Some(Workspace { routes, buffers })
+    }
+}
 
 impl<S: Shelf> Desk<S> {
     /// Answers the messages of a stream until it ends.
@@ -36,36 +54,50 @@ impl<S: Shelf> Desk<S> {
             (W.contents writer.old) (W.contents writer.new) result.why result.count
             × StandsFor start next (S.view self.new) }
     {
-        let (Ok(routes), Ok(buffers)) = (Routes::new(self.alloc), Buffers::new(self.alloc)) else {
+        let Some(mut space) = self.take_workspace() else {
             return ServeEnd {
                 why: Why::Memory,
                 count: 0,
             };
         };
-        let lookup = Lookup { routes, roster };
-        self.serve_by(&lookup, buffers, reader, writer)
+        let end = self.serve_in(&mut space, roster, reader, writer);
+        self.workspace = Some(space);
+        end
+    }
+
+    /// What an earlier stream left, or else a new one.
+    fn take_workspace(&mut self) -> Option<Workspace>
+        ensures { self.new ≡ self.old }
+    {
+        match self.workspace.take() {
+            Some(space) => Some(space),
+            None => Workspace::new(self.alloc),
+        }
     }
 
     /// Serves by the routes and over the buffers that are made.
-    fn serve_by<R: Read, W: Write>(
+    fn serve_in<R: Read, W: Write>(
         &mut self,
-        lookup: &Lookup<'_>,
-        buffers: Buffers,
+        space: &mut Workspace,
+        roster: &Roster,
         reader: &mut R,
         writer: &mut W,
     ) -> ServeEnd
-        requires { buffers.input ≡ [] }
         ensures frame { DeskCall (S.view self.old) (S.view self.new) }
-        ensures messages { Serves (MayAnswer S.view lookup.now.roster.now) self.old self.new
+        ensures messages { Serves (MayAnswer S.view roster.now) self.old self.new
             (R.remaining reader.old) (R.remaining reader.new) (W.contents writer.old)
             (W.contents writer.new) result.why result.count }
         ensures run { (S.view self.new).is_intact → (start : Room) (past : History)
             → StandsFor start past (S.view self.old) →
-            (next : History) × Serves (AnswersMessage lookup.now.roster.now start)
+            (next : History) × Serves (AnswersMessage roster.now start)
             past next (R.remaining reader.old) (R.remaining reader.new)
             (W.contents writer.old) (W.contents writer.new) result.why result.count
             × StandsFor start next (S.view self.new) }
     {
-        serve_messages(self, lookup, buffers, reader, writer)
+        let lookup = Lookup {
+            routes: &space.routes,
+            roster,
+        };
+        serve_messages(self, &lookup, &mut space.buffers, reader, writer)
     }
 }

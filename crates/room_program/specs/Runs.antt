@@ -18,7 +18,7 @@ use Rattle.room_program.specs.Ends.{InitEnds, SelftestEnds, fault_in}
 use Rattle.room_program.specs.Rooms.{Reports, ServesRoom}
 use Rattle.room_program.specs.Replays.{Replays}
 use Rattle.room_program.specs.Faults.{fault_line, fault_of}
-use Rattle.room_wire.specs.Answers.Writers.{AppendsFront}
+use Rattle.room_records.specs.Writers.{AppendsFront}
 
 -- the three streams: the bytes that the input has left, and those that the outputs hold, where they are known
 pub record Streams : Type 0 where

@@ -12,7 +12,6 @@ mod making;
 mod names;
 mod network;
 mod opening;
-mod printing;
 mod replaying;
 mod reporting;
 mod rosters;

@@ -13,13 +13,12 @@ use crate::host::{FileConnection, Host};
 use crate::listening::Listener;
 use crate::machine::Machine;
 use crate::making::init;
-use crate::printing::print_all;
 use crate::replaying::replay;
 use crate::reporting::report;
 use crate::selftest::selftest;
 use crate::serving::serve;
 use room_cache::CachedShelf;
-use room_records::Shelf;
+use room_records::{Shelf, write_whole};
 use room_sql::SqlShelf;
 use room_wire::serve_checks;
 use room_words::{Job, ReportKind, WordsFault, read_words};
@@ -45,7 +44,7 @@ fn end_with<E: Write>(fault: Option<Fault>, errors: &mut E) -> u8
         None => DONE,
         Some(fault) => {
             // With standard error gone there is nobody left to tell.
-            let _ = print_all(errors, fault.line().as_bytes());
+            let _ = write_whole(errors, fault.line().as_bytes());
             FAULT
         }
     }
@@ -89,7 +88,7 @@ fn show<W: Write, E: Write>(text: &str, output: &mut W, errors: &mut E) -> u8
         (streams None (W.contents output.old) (E.contents errors.old))
         (streams None (W.contents output.new) (E.contents errors.new)) result }
 {
-    if print_all(output, text.as_bytes()) {
+    if write_whole(output, text.as_bytes()) {
         end_with(None, errors)
     } else {
         end_with(Some(Fault::WriteFailed), errors)
@@ -267,7 +266,7 @@ fn refuse_words<W: Write, E: Write>(fault: &WordsFault, output: &mut W, errors: 
 {
     match fault {
         WordsFault::Usage(text) => {
-            let _ = print_all(errors, text.as_bytes());
+            let _ = write_whole(errors, text.as_bytes());
             USAGE
         }
         WordsFault::Help(text) => { show(text.as_str(), output, errors) }

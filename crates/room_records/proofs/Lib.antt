@@ -17,3 +17,4 @@ pub mod RoomsChildren
 pub mod RoomsLists
 pub mod Folders
 pub mod RulesKept
+pub mod Writers

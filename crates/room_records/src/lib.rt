@@ -13,6 +13,7 @@ mod session;
 mod shelf;
 mod table;
 mod trip;
+mod writing;
 
 pub use change::Change;
 pub use fresh::{fresh_entries, fresh_root};
@@ -27,3 +28,4 @@ pub use roster::Roster;
 pub use session::{SessionRow, SlotRow};
 pub use shelf::{Shelf, ShelfFault};
 pub use trip::TripShelf;
+pub use writing::write_whole;

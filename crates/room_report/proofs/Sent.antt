@@ -1,35 +1,9 @@
 -- What a writer took, call after call.
-use Rattle.std.proofs.Common.{◌≡◌, ℕ, ◌+◌, List, [], ◌++◌, take, drop, refl, sym, ap, ◌∙◌, append_assoc}
-use Rattle.std.proofs.Common.{append-nil, Option, Result, Ok, Err}
-use Rattle.std.proofs.lemmas.List.{take-append-drop}
-use Rattle.std.proofs.Math.Seq.{take-add}
-use Rattle.std.proofs.KnownBytes.{Appends-trans, Appends-kept}
-use Rattle.std.specs.Io.KnownBytes.{Appends, Keeps}
+use Rattle.std.proofs.Common.{◌≡◌, ℕ, List, [], ◌++◌, refl, sym, ◌∙◌, append-nil, Option, Result, Ok, Err}
+use Rattle.std.specs.Io.KnownBytes.{Appends}
 use Rattle.std.specs.Prelude.{OnOk}
 use Rattle.room_report.specs.Lines.{IsBeginningOf}
 use Rattle.room_report.specs.Walk.{AppendsFront, Writes}
-
--- the writer took a part and then no more
-pub front_kept : (a b c : Option (List ℕ)) (bytes : List ℕ) (at : ℕ)
-    → Appends a b (take at bytes) → Keeps b c → AppendsFront a c bytes
-front_kept a b c bytes at h k =
-    (take at bytes, drop at bytes, sym (take-append-drop at bytes), Appends-kept a b c (take at bytes) h k)
-
--- and n bytes more
-pub front_more : (a b c : Option (List ℕ)) (bytes : List ℕ) (at n : ℕ) → Appends a b (take at bytes)
-    → Appends b c (take n (drop at bytes)) → Appends a c (take (at + n) bytes)
-front_more a b c bytes at n h k =
-    rw (take-add at n bytes) (Appends-trans a b c (take at bytes) (take n (drop at bytes)) h k)
-
--- the writer took n more, and no more
-pub front_some : (a b c : Option (List ℕ)) (bytes : List ℕ) (at n : ℕ)
-    → Appends a b (take at bytes) → Appends b c (take n (drop at bytes)) → AppendsFront a c bytes
-front_some a b c bytes at n h k =
-    (take (at + n) bytes, drop (at + n) bytes, sym (take-append-drop (at + n) bytes), front_more a b c bytes at n h k)
-
--- a part was written, and its front is a front of the whole
-pub front_of_more : (a b : Option (List ℕ)) (x y : List ℕ) → AppendsFront a b x → AppendsFront a b (x ++ y)
-front_of_more a b x y h = (h.0, h.1 ++ y, ap (λ t. t ++ y) h.2 ∙ append_assoc h.0 h.1 y, h.3)
 
 pub front_is : (a b : Option (List ℕ)) (x y : List ℕ) → x ≡ y → AppendsFront a b x → AppendsFront a b y
 front_is a b x y e h = rw (← e) h
@@ -40,12 +14,6 @@ appends_is a b x y e h = rw (← e) h
 -- what was written is a front of it and more
 pub sent_front : (a b : Option (List ℕ)) (x y : List ℕ) → Appends a b x → AppendsFront a b (x ++ y)
 sent_front a b x y h = (x, y, refl, h)
-
--- after x a front of y
-pub front_then : (a b c : Option (List ℕ)) (x y : List ℕ)
-    → Appends a b x → AppendsFront b c y → AppendsFront a c (x ++ y)
-front_then a b c x y h k =
-    (x ++ k.0, k.1, ap (λ t. x ++ t) k.2 ∙ sym (append_assoc x k.0 k.1), Appends-trans a b c x k.0 h k.3)
 
 -- what a call says of a report is what the report promises
 pub sent_whole : {X E : Type 0} (a b : Option (List ℕ)) (text other : List ℕ) (r : Result X E)

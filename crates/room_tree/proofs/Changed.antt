@@ -30,8 +30,9 @@ use Rattle.room_tree.specs.Renewals.{ChangesFewRows}
 use Rattle.room_commands.specs.ReplyModel.{reply_model}
 use Rattle.room_tree.proofs.Checking.{file_check, there}
 use Rattle.room_tree.proofs.Outcomes.{success_plans}
+use Rattle.room_commands.proofs.RoomsNew.{same_or_other_path}
 use Rattle.room_commands.proofs.RoomsObject.{elsewhere_unchanged}
-use Rattle.room_tree.proofs.RowsReplaced.{Replaces, replaced, replaced_keeps, changed_at, path_same_or_other}
+use Rattle.room_tree.proofs.RowsReplaced.{Replaces, replaced, replaced_keeps, changed_at}
 use Rattle.room_tree.proofs.StoredLists.{stored_list, list_part, lists_alike, same_parts}
 
 none_new : (t later : ObjectRecords) → SameShape t later → (id : ℕ) → IsNone (t.node id) → IsSome (later.node id) → ⊥
@@ -68,7 +69,7 @@ module _ {t : ObjectRecords} {room : Room} (stand : RepresentsRoom t room) {path
   parts_stay : (change found.object).own ≡ found.object.own → (change found.object).aclflag ≡ found.object.aclflag
       → (change found.object).kind ≡ found.object.kind
       → (p : Path) → list_part (object_at (with_object room path change) p) ≡ list_part (object_at room p)
-  parts_stay own aclflag kind p = elim (path_same_or_other p path) [
+  parts_stay own aclflag kind p = elim (same_or_other_path p path) [
     | inl same ↦
         let is_there = there found in
         ap (λ (q : Path). list_part (object_at (with_object room path change) q)) same

@@ -19,7 +19,7 @@ use Rattle.room_records.specs.Room.{Object, Room, IsRoom, object_at, parent_of, 
 use Rattle.room_records.specs.Representation.{RepresentsRoom, HasPath}
 use Rattle.room_records.proofs.Lists.{all_append}
 use Rattle.room_records.proofs.Paths.{object_at_node, child_is_at}
-use Rattle.room_records.proofs.RoomsMap.{some_is, none_is_some, Ends, ends, parent_of_end, nothing_below}
+use Rattle.room_records.proofs.RoomsMap.{some_is, none_is_some, Ends, parent_of_end, nothing_below}
 use Rattle.room_records.proofs.RoomsLists.{list_of_child, lists_by_objects_above}
 use Rattle.room_records.proofs.RulesKept.{if_same, if_other, rules_put_next, rules_put_doc}
 use Rattle.room_commands.specs.CommandModel as C
@@ -36,7 +36,7 @@ use Rattle.room_tree.specs.Renewals.{puts_new}
 use Rattle.room_commands.specs.ReplyModel.{Done, Size, reply_model}
 use Rattle.room_tree.proofs.Checking.{none_passes, limit_checks, new_checks}
 use Rattle.room_commands.proofs.ChecksTell.{not_refused, none_there}
-use Rattle.room_commands.proofs.EffectIsRoom.{changed_is_room, created_is_room}
+use Rattle.room_commands.proofs.EffectIsRoom.{changed_is_room, created_is_room, not_root_ends}
 use Rattle.room_tree.proofs.FewRows.{few_for_folder, few_for_document}
 use Rattle.room_tree.proofs.NewLists.{apply_append, rules_append, gives_list}
 use Rattle.room_tree.proofs.Outcomes.{success_plans}
@@ -57,17 +57,13 @@ before_next m n = grind (arith, nat_tests)
 below_by_test : (m n : ℕ) → nat_le m n ≡ false → n < m
 below_by_test m n h = grind (arith, nat_tests)
 
-pub ends_of : (path : Path) → is_root path ≡ false → Ends path
-ends_of [] h = cc
-ends_of (first ∷ rest) h = ends first rest
-
 module _ {t : ObjectRecords} {room : Room} {caller : SubjectModel} {path : Path} {above : LoadedObject} {kind : Kind}
     {id : ℕ} {node : Node} (stand : RepresentsRoom t room) (is_path : IsPath path) (root_off : is_root path ≡ false)
     (absent : object_at room path ≡ None) (found : IsLoaded t room (parent_of path) above) (number : id ≡ t.next)
     (few : t.next ≤ max_objects) (new : IsNewNode caller path above kind id node) (o : Object)
     (lawful : IsRoom (with_new room path o)) where
   end : Ends path
-  end = ends_of path root_off
+  end = not_root_ends path root_off
 
   in_folder : parent_of path ≡ end.folder
   in_folder = ap parent_of end.is ∙ parent_of_end end.folder end.name

@@ -32,10 +32,9 @@ use Rattle.room_tree.specs.Renames.{IsMove}
 use Rattle.room_tree.specs.Renewals.{list_below, PutsList}
 use Rattle.room_commands.specs.ReplyModel.{Done, reply_model}
 use Rattle.room_commands.proofs.ChecksTell.{absent_there, walk_ends_in_folder}
-use Rattle.room_commands.proofs.EffectIsRoom.{changed_is_room}
+use Rattle.room_commands.proofs.EffectIsRoom.{changed_is_room, not_root_ends, not_in_root}
 use Rattle.room_commands.proofs.RoomsRenamed.{rest_below}
 use Rattle.room_tree.proofs.ListsMoved.{list_of_stayed, list_of_moved, lists_of_moved}
-use Rattle.room_tree.proofs.Made.{ends_of}
 use Rattle.room_tree.proofs.Outcomes.{success_plans}
 use Rattle.room_tree.proofs.Renewed.{Puts, put, Relists, IsChangeOf, list_then, list_then_is, changes_list, puts_relist}
 use Rattle.room_tree.proofs.Renewed.{stored_at, nodes_stay, documents_stay, next_stays, relisted_at, relisted_off}
@@ -81,10 +80,6 @@ module _ {t : ObjectRecords} {room : Room} (stand : RepresentsRoom t room) {a b 
   other_folder other = other_path a b (λ same.
       other (reads_one t stand.rules (reverse a) here.id there.id
       is_here.is_there.at (rw same is_there.is_there.at)))
-
-not_in_root : (path : Path) → is_root path ≡ false → is_at_or_below [] path ≡ false
-not_in_root [] off = cc
-not_in_root (name ∷ path) off = refl
 
 module _ {t : ObjectRecords} {room : Room} (stand : RepresentsRoom t room) {path up : Path} {last : Name} {o : Object}
     {node now : Node} {above : ℕ} (m : MovesNode t room path up last o node now above) {list : List EntryModel}
@@ -148,7 +143,7 @@ rename_plans {t} {room} caller {path} {to} {move} now outcome stand is_path is_t
     let command = C.Rename path to in
     let a = all_none (checks room caller command) passed in
     let pass = paths_pass path to a.0 in
-    let last = ends_of to pass.to_below_root in
+    let last = not_root_ends to pass.to_below_root in
     let in_folder : parent_of to ≡ last.folder = ap parent_of last.is ∙ parent_of_end last.folder last.name in
     let is = row last.folder last.name last.is in
     let lawful = changed_is_room room caller command (is_path, is_to) stand.lawful passed in
@@ -159,7 +154,7 @@ rename_plans {t} {room} caller {path} {to} {move} now outcome stand is_path is_t
     let m : MovesNode t room path last.folder last.name found.loaded.object (node_of move.loaded) now move.into.id =
     record {
       is_there = found.loaded.is_there;
-      end = ends_of path pass.below_root;
+      end = not_root_ends path pass.below_root;
       off_root = not_in_root path pass.below_root;
       apart = ap (λ p. is_at_or_below p path) (sym last.is) ∙ pass.apart;
       free = ap (object_at room) (sym last.is) ∙ absent_there room to a.1.1.1.1.0;

@@ -27,8 +27,7 @@ use Rattle.room_tree.specs.Plans.{PlansEffect}
 use Rattle.room_commands.specs.ReplyModel.{Done, reply_model}
 use Rattle.room_acl.specs.SubjectModel.{SubjectModel}
 use Rattle.room_tree.proofs.FewRows.{few_dropped}
-use Rattle.room_commands.proofs.EffectIsRoom.{changed_is_room}
-use Rattle.room_tree.proofs.Made.{ends_of}
+use Rattle.room_commands.proofs.EffectIsRoom.{changed_is_room, not_root_ends}
 use Rattle.room_tree.proofs.Outcomes.{success_plans, none_and_some}
 use Rattle.room_commands.proofs.RoomsWithout.{at_removed, elsewhere_left, left_was_there}
 use Rattle.room_tree.proofs.RowsReplaced.{path_of_node, still_shows}
@@ -174,7 +173,7 @@ pub remove_plans : {t : ObjectRecords} {room : Room} (caller : SubjectModel) {pa
     → length (children room path) ≡ 0 → outcome.changes.items ≡ DropNode loaded.id ∷ []
     → reply_model outcome.reply ≡ Done → PlansEffect t room caller (C.Remove path) outcome
 remove_plans {t} {room} caller {path} {loaded} outcome stand found passed root_off is_path none planned replied =
-    let end = ends_of path root_off in
+    let end = not_root_ends path root_off in
     let empty = nothing_in_empty room path none in
     let lawful = changed_is_room room caller (C.Remove path) is_path stand.lawful passed in
     let node = node_of loaded in

@@ -1,31 +1,25 @@
 -- Rows where one object changed stand for the room with that object changed.
 use Rattle.std.proofs.lemmas.Grind.{common_steps}
-use Rattle.std.proofs.Common.{arith, ◌≡◌, ◌≢◌, ℕ, ◌+◌, refl, ap, sym, ◌∙◌, Bool, true, false, ◌⊎◌, inl, inr}
+use Rattle.std.proofs.Common.{arith, ◌≡◌, ◌≢◌, ℕ, ◌+◌, refl, ap, sym, ◌∙◌, inl, inr}
 use Rattle.std.proofs.Common.{reverse, Some, option_map}
 use Rattle.std.proofs.lemmas.List.{reverse-reverse}
 use Rattle.room_records.specs.declared.node.Node.{Node}
-use Rattle.room_records.specs.Names.{Path, path_eq}
+use Rattle.room_records.specs.Names.{Path}
 use Rattle.room_records.specs.Records.{ObjectRecords}
 use Rattle.room_records.specs.Rules.{ObjectRules}
 use Rattle.room_records.specs.Room.{Object, Room, IsRoom, object_at, list_of}
 use Rattle.room_records.specs.Representation.{RepresentsRoom, NodeIsObject, RowsShowObject, HasPath}
 use Rattle.room_records.proofs.Paths.{reads_one, one_path}
-use Rattle.room_records.proofs.RoomsMap.{some_is, same_path, path_itself}
+use Rattle.room_records.proofs.RoomsMap.{some_is}
 use Rattle.room_records.proofs.RulesKept.{same_or_other, SameShape, names_by_shape}
 use Rattle.room_commands.specs.Effect.{with_object}
+use Rattle.room_commands.proofs.RoomsNew.{same_or_other_path}
 use Rattle.room_commands.proofs.RoomsObject.{at_changed}
 
 -- a node has one path
 pub path_of_node : (t : ObjectRecords) → ObjectRules t → (a b : Path) (id : ℕ) → HasPath t a id → HasPath t b id → a ≡ b
 path_of_node t rules a b id at also =
     sym (reverse-reverse a) ∙ ap reverse (one_path t rules (reverse a) (reverse b) id at also) ∙ reverse-reverse b
-
-pub path_same_or_other : (a b : Path) → (a ≡ b) ⊎ (a ≡ b → ⊥)
-path_same_or_other a b = by_test (path_eq a b) refl
-  where
-    by_test : (test : Bool) → path_eq a b ≡ test → (a ≡ b) ⊎ (a ≡ b → ⊥)
-    by_test true e = inl (same_path a b e)
-    by_test false e = inr (λ same. let f : true ≡ false = sym (ap (path_eq a) (sym same) ∙ path_itself a) ∙ e in cc)
 
 -- a row that stays shows what it showed
 pub still_shows : {t later : ObjectRecords} {room after : Room} {path to : Path} {node : Node} {o : Object}
@@ -92,7 +86,7 @@ module _ {t later : ObjectRecords} {room after : Room} {path : Path} {o now_is :
           let before = stand.nodes id found (sym (r.nodes_away id other) ∙ stands) in
           (before.0, before.1, away_is id other found before.0 before.1 before.2)
     ];
-    objects = λ q p stands. elim (path_same_or_other q path) [
+    objects = λ q p stands. elim (same_or_other_path q path) [
       | inl same ↦
           let is : now_is ≡ p = some_is now_is p (sym r.at_path ∙ ap (object_at after) (sym same) ∙ stands) in
           let P : Path → Object → Type 0 = λ a b. (id : ℕ) × (found : Node) × NodeIsObject later after id found a b in

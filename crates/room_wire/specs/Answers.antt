@@ -1,4 +1,3 @@
 -- What messages are answered: codes, statuses, and the bytes of an answer.
 pub mod AnswerModel
 pub mod Codes
-pub mod Writers

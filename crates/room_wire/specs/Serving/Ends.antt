@@ -5,7 +5,7 @@ use Rattle.room_wire.specs.Answers.AnswerModel.{AnswerModel, bad_answer}
 use Rattle.room_wire.specs.Messages.MessageModel.{MessageModel, NoMessage, NeverMessage}
 use Rattle.room_wire.specs.Serving.Outputs.{Outputs}
 use Rattle.room_wire.specs.Messages.Stream.{Follows, Ended}
-use Rattle.room_wire.specs.Answers.Writers.{AppendsFront}
+use Rattle.room_records.specs.Writers.{AppendsFront}
 use Rattle.room_wire.specs.declared.serving.stop.Why.{Why}
 use Rattle.room_wire.specs.declared.serving.stop.Why.TheVariants.{Closed, BadMessage, ReadFailed, WriteFailed, Memory}
 use Rattle.room_wire.specs.declared.serving.stop.ServeEnd.{ServeEnd}

@@ -5,7 +5,7 @@ use Rattle.room_wire.specs.Answers.AnswerModel.{AnswerModel, answer_bytes}
 use Rattle.room_wire.specs.Messages.MessageModel.{MessageModel, NoMessage, NeverMessage}
 use Rattle.room_wire.specs.Messages.Stream.{Follows, Ended, is_last}
 use Rattle.room_wire.specs.Messages.Taken.{Shows}
-use Rattle.room_wire.specs.Answers.Writers.{Sent, AppendsFront}
+use Rattle.room_records.specs.Writers.{Sent, AppendsFront}
 use Rattle.room_wire.specs.declared.messages.message.Message.{Message}
 use Rattle.room_wire.specs.declared.serving.stop.RoundsEnd.{RoundsEnd}
 use Rattle.room_wire.specs.declared.serving.stop.RoundsEnd.TheVariants.{NeedsMore, Broken, Last, NotWritten}

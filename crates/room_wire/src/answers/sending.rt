@@ -1,28 +1,14 @@
 //! Sending answers.
 ghost use Rattle.std.specs.Prelude.{◌≡◌, ◌++◌, ◌≤◌, IsTrue, length};
 ghost use Rattle.room_wire.specs.Answers.AnswerModel.{answer_model, answer_bytes, head_text, phrase, end_text};
-ghost use Rattle.room_wire.specs.Answers.Writers.{Sent};
+ghost use Rattle.room_records.specs.Writers.{Sent};
 
 use crate::answers::answer::Answer;
 use arrayvec::ArrayString;
 use http::StatusCode;
 use itoa::Buffer;
+use room_records::write_whole;
 use std::io::Write;
-
-/// Writes all the bytes, in one write where the writer takes them. A write that fails or takes none ends it.
-fn send<W: Write>(writer: &mut W, bytes: &[u8]) -> bool
-    ensures { Sent (W.contents writer.old) (W.contents writer.new) bytes.now result }
-{
-    let mut at = 0;
-    while at < bytes.len() {
-        match writer.write(&bytes[at..]) {
-            Ok(0) => return false,
-            Ok(n) => at += n,
-            Err(_) => return false,
-        }
-    }
-    true
-}
 
 fn end_text(last: bool) -> &'static str
     ensures { result.now ≡ end_text last }
@@ -76,9 +62,9 @@ fn send_both<W: Write>(writer: &mut W, buffer: &mut Vec<u8>, head: &[u8], body: 
     ensures { Sent (W.contents writer.old) (W.contents writer.new) (head.now ++ body.now) result }
 {
     if gather(buffer, head, body) {
-        return send(writer, buffer.as_slice());
+        return write_whole(writer, buffer.as_slice());
     }
-    send(writer, head) && send(writer, body)
+    write_whole(writer, head) && write_whole(writer, body)
 }
 
 /// Writes one answer, and says whether all of it was taken.

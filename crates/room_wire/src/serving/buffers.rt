@@ -1,5 +1,4 @@
 //! The buffers of serving.
-ghost use Rattle.std.specs.Prelude.{◌≡◌, [], IfOk};
 
 use crate::serving::input::Input;
 use std::alloc::{AllocError, Global};
@@ -7,7 +6,7 @@ use std::alloc::{AllocError, Global};
 /// The bytes of the output buffer, which holds a reply with a document of 65,536 bytes in base64, and its head.
 const ANSWER_BYTES: usize = 90_112;
 
-/// The buffers of serving, made once: no message makes them grow.
+/// The buffers of serving, made once for any number of streams: no message makes them grow.
 #[derive(Drop)]
 pub struct Buffers {
     /// The bytes that have come and are not used yet.
@@ -17,9 +16,7 @@ pub struct Buffers {
 }
 
 impl Buffers {
-    pub fn new(alloc: Global) -> Result<Buffers, AllocError>
-        ensures { IfOk result (λ buffers. buffers.input ≡ []) }
-    {
+    pub fn new(alloc: Global) -> Result<Buffers, AllocError> {
         let input = Input::new(alloc)?;
         let output = Vec::with_capacity(alloc, ANSWER_BYTES)?;
         Ok(Buffers { input, output })

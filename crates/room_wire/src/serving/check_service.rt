@@ -83,12 +83,12 @@ pub fn serve_checks<R: Read, W: Write>(alloc: Global, reader: &mut R, writer: &m
     ensures { Serves MayAnswerCheck tt tt (R.remaining reader.old) (R.remaining reader.new)
         (W.contents writer.old) (W.contents writer.new) result.why result.count }
 {
-    let (Ok(route), Ok(buffers)) = (CheckRoute::new(alloc), Buffers::new(alloc)) else {
+    let (Ok(route), Ok(mut buffers)) = (CheckRoute::new(alloc), Buffers::new(alloc)) else {
         return ServeEnd {
             why: Why::Memory,
             count: 0,
         };
     };
     let mut service = CheckService { alloc };
-    serve_messages(&mut service, &route, buffers, reader, writer)
+    serve_messages(&mut service, &route, &mut buffers, reader, writer)
 }

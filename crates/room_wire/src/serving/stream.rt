@@ -140,22 +140,21 @@ fn serve_with<C, S: Service<C>, R: Read, W: Write>(
     }
 }
 
-/// Answers the messages of a stream by a service until the stream ends.
+/// Answers the messages of a stream by a service until the stream ends. What an earlier stream left in the buffers is no
+/// part of it.
 ///
 /// Each error of a read or write, and a write of 0 bytes, ends it at once; so do 2^64 - 1 reads.
 pub fn serve_messages<C, S: Service<C>, R: Read, W: Write>(
     service: &mut S,
     context: &C,
-    buffers: Buffers,
+    buffers: &mut Buffers,
     reader: &mut R,
     writer: &mut W,
 ) -> ServeEnd
-    requires { buffers.input ≡ [] }
     ensures { Serves (S.may_answer context.now) service.old
         service.new (R.remaining reader.old) (R.remaining reader.new)
         (W.contents writer.old) (W.contents writer.new) result.why result.count }
 {
-    let mut input = buffers.input;
-    let mut output = buffers.output;
-    serve_with(service, context, &mut input, &mut output, reader, writer)
+    buffers.input.clear();
+    serve_with(service, context, &mut buffers.input, &mut buffers.output, reader, writer)
 }

@@ -7,7 +7,8 @@ use Rattle.room_records.specs.Records.{Records}
 use Rattle.room_records.specs.Shelf.{name_of}
 use Rattle.room_records.proofs.Shelves.{read_then}
 use Rattle.room_report.specs.Walk.{item_lines, text_below}
-use Rattle.room_report.proofs.Sent.{front_of_more, front_is, appends_is, sent_front, front_then}
+use Rattle.room_records.proofs.Writers.{front_of_more, front_then}
+use Rattle.room_report.proofs.Sent.{front_is, appends_is, sent_front}
 use Rattle.room_report.proofs.Written.{err_writes, so_far, cut, next, done, child_at, begins, text_of_item}
 use Rattle.room_report.proofs.walking.+report_below.Goals as goal
 

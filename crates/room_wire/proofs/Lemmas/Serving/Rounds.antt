@@ -11,7 +11,7 @@ use Rattle.room_wire.specs.Messages.MessageModel.{MessageModel, Reads}
 use Rattle.room_wire.specs.Messages.Taken.{Shows}
 use Rattle.room_wire.specs.Serving.Outputs.{AnswersOne, Outputs}
 use Rattle.room_wire.specs.Messages.Stream.{Follows, Ended, is_last, closes}
-use Rattle.room_wire.specs.Answers.Writers.{Sent, AppendsFront}
+use Rattle.room_records.specs.Writers.{Sent, AppendsFront}
 use Rattle.room_wire.proofs.Lemmas.Messages.Streams.{follows_then, follows_ended, follows_one, ended_one}
 
 pub shown_last : (message : Message) (m : MessageModel) (last : Bool) → Shows message m

@@ -1,11 +1,11 @@
-//! Writing texts whole.
-ghost use Rattle.room_wire.specs.Answers.Writers.{Sent};
+//! Handing bytes to a writer.
+ghost use Rattle.room_records.specs.Writers.{Sent};
 
 use std::io::Write;
 
-/// Writes all the bytes, in as few writes as the writer takes. A write that fails or takes none
-/// ends it, and false says so.
-pub(crate) fn print_all<W: Write>(writer: &mut W, bytes: &[u8]) -> bool
+/// Writes all the bytes, in as few writes as the writer takes, and says whether it took them all. A write that fails or
+/// takes none ends it.
+pub fn write_whole<W: Write>(writer: &mut W, bytes: &[u8]) -> bool
     ensures { Sent (W.contents writer.old) (W.contents writer.new) bytes.now result }
 {
     let mut at = 0;

@@ -1,7 +1,7 @@
 use Rattle.std.proofs.Common.{arith}
 use Rattle.std.proofs.lemmas.List.{take_rest, length-drop}
-use Rattle.room_wire.proofs.Lemmas.Answers.Sends.{front_kept, front_some, front_more}
-use Rattle.room_wire.proofs.answers.sending.send.Goals as goal
+use Rattle.room_records.proofs.Writers.{front_kept, front_some, front_more}
+use Rattle.room_records.proofs.writing.write_whole.Goals as goal
 
 pub returns-in-Ok-eq0 : goal.returns-in-Ok-eq0
 returns-in-Ok-eq0 g c =
