@@ -156,5 +156,12 @@ pub fn serve_messages<C, S: Service<C>, R: Read, W: Write>(
         (W.contents writer.old) (W.contents writer.new) result.why result.count }
 {
     buffers.input.clear();
-    serve_with(service, context, &mut buffers.input, &mut buffers.output, reader, writer)
+    serve_with(
+        service,
+        context,
+        &mut buffers.input,
+        &mut buffers.output,
+        reader,
+        writer,
+    )
 }
