@@ -140,8 +140,8 @@ fn serve_with<C, S: Service<C>, R: Read, W: Write>(
     }
 }
 
-/// Answers the messages of a stream by a service until the stream ends. What an earlier stream left in the buffers is no
-/// part of it.
+/// Answers the messages of a stream by a service until the stream ends. What an earlier stream left in the buffers is
+/// no part of it.
 ///
 /// Each error of a read or write, and a write of 0 bytes, ends it at once; so do 2^64 - 1 reads.
 pub fn serve_messages<C, S: Service<C>, R: Read, W: Write>(
