@@ -23,11 +23,11 @@ impl Model for Principal {
     ghost invariant = { λ p. IsPrincipal (string_bytes p.text) };
 }
 
-/// The same names once more, in the same order and from the same allocator. AllocError where memory is refused.
-pub fn copy_principals(names: &Vec<Principal>) -> Result<Vec<Principal>, AllocError>
-    ensures { IfOk result (λ copy. copy.items ≡ names.now.items) }
+/// The same names once more, in the same order. AllocError where memory is refused.
+pub fn copy_principals(alloc: Global, names: &[Principal]) -> Result<Vec<Principal>, AllocError>
+    ensures { IfOk result (λ copy. copy.items ≡ names.now) }
 {
-    let mut copy = Vec::new(*names.allocator());
+    let mut copy = Vec::new(alloc);
     for name in names {
         copy.push(name.clone()?)?;
     }

@@ -37,7 +37,7 @@ impl Subject {
         ensures { IfOk result (λ copy. copy ≡ self.now) }
     {
         let name = self.name.clone()?;
-        let groups = copy_principals(&self.groups)?;
+        let groups = copy_principals(*self.groups.allocator(), &self.groups)?;
         Ok(Subject { name, groups })
     }
 }

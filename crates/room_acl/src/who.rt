@@ -1,5 +1,5 @@
 //! Whom an entry names.
-ghost use Rattle.std.specs.Prelude.{◌≡◌, ◌≢◌, true, false, IfOk, IfSome};
+ghost use Rattle.std.specs.Prelude.{◌≡◌, ◌≢◌, ℕ, true, false, IfOk, IfSome, IsTrue};
 ghost use Rattle.room_acl.specs.Bits.{identifier_group};
 ghost use Rattle.room_acl.specs.Principals.{principal_from};
 ghost use Rattle.room_acl.specs.Entries.{names_its_kind, named_who, who_from, who_of, who_text, IsWho};
@@ -58,7 +58,8 @@ impl Who {
 
     /// The name as a text, which is read back as the same: a special name, or the principal's own.
     pub fn text(&self) -> &str
-        ensures { result.now ≡ who_text self.now }
+        ensures value { result.now ≡ who_text self.now }
+        ensures back { (flags : ℕ) → IsTrue (names_its_kind flags self.now) → who_of flags result.now ≡ self.now }
     {
         match self {
             Who::Owner => OWNER,

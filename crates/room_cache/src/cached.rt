@@ -5,9 +5,8 @@ ghost use Rattle.room_cache.specs.Known.{Fits};
 
 use crate::decisions::Decided;
 use crate::known::Known;
-use crate::names::copy_names;
 use room_acl::{Decision, Entry, Kind, Mask, Standing, Subject, copy_entries, decide};
-use room_records::{Change, FileName, Node, SessionRow, Shelf, ShelfFault, Sid};
+use room_records::{Change, FileName, Node, SessionRow, Shelf, ShelfFault, Sid, copy_names};
 use room_slots::Kept;
 use std::alloc::Global;
 use std::marker::Model;

@@ -1,13 +1,12 @@
 //! Names of folders that are remembered.
-ghost use Rattle.std.specs.Prelude.{◌≡◌, ◌≤◌, ◌↔◌, IsSome, IfSome, IfOk, length};
+ghost use Rattle.std.specs.Prelude.{◌≡◌, ◌≤◌, ◌↔◌, IsSome, IfSome, length};
 ghost use Rattle.room_records.specs.Limits.{max_children};
 
 use room_acl::Kind;
 use room_records::{FileName, MAX_CHILDREN};
-use std::alloc::{AllocError, Global};
 use std::marker::Model;
 
-/// The names and kinds of at most 256 nodes, as many as a folder of a room has.
+/// The names and kinds of at most 256 nodes, as many as a folder of a room may have.
 #[derive(Drop)]
 pub(crate) struct NameList {
     names: Vec<(FileName, Kind)>,
@@ -43,18 +42,4 @@ impl NameList {
     {
         &self.names
     }
-}
-
-/// AllocError where memory is refused.
-pub(crate) fn copy_names(
-    alloc: Global,
-    names: &[(FileName, Kind)],
-) -> Result<Vec<(FileName, Kind)>, AllocError>
-    ensures { IfOk result (λ copy. copy.items ≡ names.now) }
-{
-    let mut copy = Vec::new(alloc);
-    for named in names {
-        copy.push((named.0.clone()?, named.1))?;
-    }
-    Ok(copy)
 }

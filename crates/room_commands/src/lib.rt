@@ -2,7 +2,6 @@
 #![tactic(auto)]
 
 mod command;
-mod copies;
 mod laws;
 mod reply;
 

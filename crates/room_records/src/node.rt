@@ -52,6 +52,20 @@ pub(crate) fn listing(alloc: Global, nodes: Vec<Node>) -> Result<Vec<(FileName, 
     Ok(names)
 }
 
+/// The same names and kinds once more, in the same order. AllocError where memory is refused.
+pub fn copy_names(
+    alloc: Global,
+    names: &[(FileName, Kind)],
+) -> Result<Vec<(FileName, Kind)>, AllocError>
+    ensures { IfOk result (λ copy. copy.items ≡ names.now) }
+{
+    let mut copy = Vec::new(alloc);
+    for named in names {
+        copy.push((named.0.clone()?, named.1))?;
+    }
+    Ok(copy)
+}
+
 pub(crate) fn copy_name(name: &Option<FileName>) -> Result<Option<FileName>, AllocError>
     ensures { IfOk result (λ copy. copy ≡ name.now) }
 {

@@ -1,7 +1,6 @@
 -- What the calls that walk a room for a report say.
 use Rattle.std.specs.Prelude.{◌≡◌, ℕ, Bool, true, false, List, [], ◌∷◌, ◌++◌, Option, Some, Result, Ok, Err, cond}
 use Rattle.std.specs.List.{flat_map, filter}
-use Rattle.std.specs.Io.KnownBytes.{Appends}
 use Rattle.room_acl.specs.SubjectModel.{SubjectModel}
 use Rattle.room_acl.specs.Access.{allowed_mask}
 use Rattle.room_records.specs.declared.node.Node.{Node}
@@ -10,6 +9,7 @@ use Rattle.room_records.specs.Records.{ObjectRecords}
 use Rattle.room_records.specs.Room.{Object, Room, object_at, list_of, standing_of}
 use Rattle.room_records.specs.Representation.{RepresentsRoom, HasPath}
 use Rattle.room_records.specs.Shelf.{View}
+use Rattle.room_records.specs.Writers.{Sent}
 pub use Rattle.room_records.specs.Writers.{AppendsFront}
 use Rattle.room_report.specs.declared.item.Item.{Item}
 use Rattle.room_report.specs.declared.lines.Report.{Report}
@@ -73,5 +73,5 @@ text_below report room path = flat_map (lines_of report room) (objects_below roo
 
 -- a writer took these bytes at Ok, and a beginning of them at Err
 abbrev pub Writes : {X E : Type 0} → Option (List ℕ) → Option (List ℕ) → List ℕ → Result X E → Type 0
-Writes old new bytes (Ok x) = Appends old new bytes
-Writes old new bytes (Err e) = AppendsFront old new bytes
+Writes old new bytes (Ok x) = Sent old new bytes true
+Writes old new bytes (Err e) = Sent old new bytes false

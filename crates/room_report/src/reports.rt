@@ -10,7 +10,7 @@ ghost use Rattle.room_report.specs.Lines.{access_text, list_text, IsBeginningOf}
 use crate::lines::Report;
 use crate::sending::WriteFailed;
 use crate::walking::report_room;
-use room_acl::{Principal, Subject};
+use room_acl::{Subject, copy_principals};
 use room_records::{Roster, Shelf, ShelfFault};
 use std::alloc::{AllocError, Global};
 use std::io::Write;
@@ -130,19 +130,8 @@ fn users_of(alloc: Global, roster: &Roster) -> Result<Vec<Subject>, AllocError>
             unreachable!()
         };
         let name = name.clone()?;
-        let groups = copies(alloc, groups)?;
+        let groups = copy_principals(alloc, groups)?;
         users.push(Subject { name, groups })?;
     }
     Ok(users)
-}
-
-/// The same names in the same order.
-fn copies(alloc: Global, names: &[Principal]) -> Result<Vec<Principal>, AllocError>
-    ensures { IfOk result (λ copies. copies.items ≡ names.now) }
-{
-    let mut copies = Vec::new(alloc);
-    for name in names {
-        copies.push(name.clone()?)?;
-    }
-    Ok(copies)
 }

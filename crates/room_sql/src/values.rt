@@ -8,7 +8,7 @@ ghost use Rattle.room_tables.specs.Rows.{name_of_text, who_of};
 ghost use Rattle.room_tables.specs.Layout.{parent_value, reply_value};
 ghost use Rattle.room_tables.specs.Steps.{kind_number, flag_of, type_of, shown_as, IsReadBack};
 
-use room_acl::{Entry, Kind, Who};
+use room_acl::{Entry, Kind};
 use room_records::Node;
 use room_slots::Kept;
 use sqlite::types::{ToSql, Value, ValueRef};
@@ -119,13 +119,7 @@ fn who_text(entry: &Entry) -> &str
     ensures value { result.now ≡ who_text entry.now.who }
     ensures back { who_of entry.now.flags result.now ≡ entry.now.who }
 {
-    match entry.who() {
-        Who::Owner => "OWNER@",
-        Who::Group => "GROUP@",
-        Who::Everyone => "EVERYONE@",
-        Who::User(name) => name.text(),
-        Who::Members(name) => name.text(),
-    }
+    entry.who().text()
 }
 
 /// The columns of an entry behind its node's number.

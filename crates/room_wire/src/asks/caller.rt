@@ -9,8 +9,7 @@ ghost use Rattle.std.specs.Prelude.{option_and_then};
 use crate::fault::WireFault;
 use crate::messages::fields::{Found, values_of};
 use crate::messages::message::Message;
-use crate::questions::answering::copies;
-use room_acl::{Principal, Subject};
+use room_acl::{Principal, Subject, copy_principals};
 use room_records::Roster;
 use std::alloc::{AllocError, Global};
 
@@ -34,7 +33,7 @@ fn user_called(
 {
     match roster.groups(&name) {
         Some(groups) => {
-            let groups = copies(alloc, groups)?;
+            let groups = copy_principals(alloc, groups)?;
             Ok(Some(Subject { name, groups }))
         }
         None => Ok(None),

@@ -11,7 +11,7 @@ use crate::forms::writing::{
 use crate::questions::question::Question;
 use room_acl::{
     Decision, Entry, Kind, ListFault, Mask, Principal, Standing, Subject, allowed_bits, check_own,
-    decide, hand_down,
+    copy_principals, decide, hand_down,
 };
 use std::alloc::{AllocError, Global};
 
@@ -34,21 +34,11 @@ fn bit_of(decision: Decision) -> u32
     }
 }
 
-pub(crate) fn copies(alloc: Global, names: &[Principal]) -> Result<Vec<Principal>, AllocError>
-    ensures { IfOk result (λ copies. copies.items ≡ names.now) }
-{
-    let mut copies = Vec::new(alloc);
-    for name in names {
-        copies.push(name.clone()?)?;
-    }
-    Ok(copies)
-}
-
 fn subject_of(alloc: Global, user: &Principal, groups: &[Principal]) -> Result<Subject, AllocError>
     ensures { IfOk result (λ s. s ≡ record { name = user.now; groups = groups.now }) }
 {
     let name = user.clone()?;
-    let groups = copies(alloc, groups)?;
+    let groups = copy_principals(alloc, groups)?;
     Ok(Subject { name, groups })
 }
 

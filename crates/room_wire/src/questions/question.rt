@@ -40,7 +40,7 @@ impl Question {
             } => Ok(Question::List {
                 entries: copy_entries(*entries.allocator(), entries)?,
                 group: group.clone()?,
-                groups: copy_principals(groups)?,
+                groups: copy_principals(*groups.allocator(), groups)?,
                 mask: *mask,
                 owner: owner.clone()?,
                 user: user.clone()?,

@@ -1,5 +1,5 @@
 use Rattle.std.proofs.Common.{◌≡◌, take}
-use Rattle.room_cache.proofs.names.copy_names.Given as goal
+use Rattle.room_records.proofs.node.copy_names.Given as goal
 
 -- the names so far
 abbrev pub invariant-loop-named : goal.invariant-loop-named
