@@ -23,7 +23,7 @@ use std::alloc::Global;
 /// Rows that are remembered, at most 256 of each kind.
 #[derive(Drop)]
 pub(crate) struct Known {
-    /// No fault came since a call was answered, so that the store is there if it is intact.
+    /// True only where no fault came since a call was answered, so that the store is there if it is intact.
     pub(crate) is_heard: bool,
     pub(crate) sessions: Rows<Sid, SessionRow>,
     pub(crate) nodes: Rows<u32, Node>,

@@ -16,7 +16,7 @@ pub(crate) enum RoundsEnd {
 /// Why serving ended.
 #[derive(Clone, Copy, Debug, PartialEq, Eq)]
 pub enum Why {
-    /// A last message was answered, or the input ended after a message.
+    /// A last message was answered, or the input ended where no byte waits.
     Closed,
     /// No message can come any more: the answer 40 was written.
     BadMessage,
