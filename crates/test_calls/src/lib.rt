@@ -1,9 +1,6 @@
-//! Public calls of the lower crates: each once, their limits, growths that are refused, copies, decisions and slots,
-//! and a shelf that remembers beside one that does not.
+//! Public calls of the lower crates: each once, their limits, growths that are refused, copies, decisions and slots.
 #![tactic(auto)]
 
-#[cfg(test)]
-mod caching;
 #[cfg(test)]
 mod copies;
 #[cfg(test)]
