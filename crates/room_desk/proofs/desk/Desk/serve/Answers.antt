@@ -3,12 +3,15 @@ use Rattle.room_desk.proofs.Messages.{memory_end}
 use Rattle.room_desk.proofs.desk.Desk.serve.Goals as goal
 
 pub returns-in_default-clause-frame : goal.returns-in_default-clause-frame
-returns-in_default-clause-frame g c = no_call (g.S.Shelf.view c.args.self.now)
+returns-in_default-clause-frame g c = rw c.take_workspace.ensures (no_call (g.S.Shelf.view c.args.self.now))
 
 pub returns-in_default-clause-run : goal.returns-in_default-clause-run
 returns-in_default-clause-run g c = λ intact start past stands. (
   past,
   memory_end c.args.roster.now start past (g.R.Read.remaining c.args.reader.now)
       (g.W.Write.contents c.args.writer.now),
-  stands,
+  rw c.take_workspace.ensures stands,
 )
+
+pub returns-clause-run : goal.returns-clause-run
+returns-clause-run g c = rw (c.self.view_is, ← c.take_workspace.ensures) c.serve_in-end.ensures.run
