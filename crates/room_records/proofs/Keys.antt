@@ -2,7 +2,7 @@
 use Rattle.std.proofs.Common.{◌≡◌, ℕ, refl, ap, sym, ◌∙◌, cond, inl, inr, ◌⊎◌, Option, None, Some}
 use Rattle.std.specs.Cmp.{IsTotalOrder}
 use Rattle.std.specs.Option.{option_cmp}
-use Rattle.std.specs.Ordering.{eq_by_cmp, nat_cmp}
+use Rattle.std.specs.Ordering.{eq_by_cmp, nat_cmp, ordering_reverse}
 use Rattle.std.specs.declared.cmp.Ordering.{Ordering}
 use Rattle.std.specs.declared.cmp.Ordering.TheVariants.{Less, Equal, Greater}
 use Rattle.std.proofs.lemmas.Bool.{both_ways, cases_Bool, cond-false, cond-true, false_from_ne_true}
@@ -10,7 +10,7 @@ use Rattle.std.proofs.lemmas.Cmp.{eq_by_cmp_equiv, nat_cmp_total, nat_list_cmp_t
 use Rattle.std.specs.Cmp.Lexicographic.{options_total}
 use Rattle.std.proofs.lemmas.Map.Lookups.{CmpEqualImpliesEq, exact_unsigned, exact_bytes, exact_pairs}
 use Rattle.std.proofs.lemmas.Map.Views.{tells_apart}
-use Rattle.room_records.specs.Names.{name_cmp}
+use Rattle.room_records.specs.Names.{Name, name_cmp}
 use Rattle.room_records.specs.NodeIndex.{PlaceKey, place_cmp}
 
 -- the three answers of an order
@@ -18,6 +18,10 @@ pub three_ways : (o : Ordering) → (o ≡ Less) ⊎ ((o ≡ Equal) ⊎ (o ≡ G
 three_ways Less = inl refl
 three_ways Equal = inr (inl refl)
 three_ways Greater = inr (inr refl)
+
+-- what is above a name has it below
+pub above_is : (a b : Name) → name_cmp a b ≡ Greater → name_cmp b a ≡ Less
+above_is a b e = nat_list_cmp_total.antisymm b a ∙ ap ordering_reverse e
 
 pub record Updated {K X : Type 0} (new old : K → Option X) (key : K) (value : Option X) : Type 0 where
   pub here : new key ≡ value

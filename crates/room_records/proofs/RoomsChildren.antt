@@ -6,7 +6,7 @@ use Rattle.std.specs.Map.{lookup, keys_of}
 use Rattle.std.specs.List.{AllByRecursion, IsDistinct, filter_map, cons_option}
 use Rattle.std.specs.List.Sorted.{IsStrictlySortedBy}
 use Rattle.std.specs.BTreeMap.{insert_entry}
-use Rattle.std.specs.Ordering.{is_eq, eq_by_cmp, ordering_reverse}
+use Rattle.std.specs.Ordering.{is_eq, eq_by_cmp}
 use Rattle.std.specs.Cmp.Lexicographic.{bytes_decides, texts_ties}
 use Rattle.std.proofs.Math.Bool.{and-true}
 use Rattle.std.proofs.lemmas.Cmp.{nat_list_cmp_total, nat_list_eq_equiv}
@@ -21,7 +21,7 @@ use Rattle.std.proofs.lemmas.Map.Views.{Contains-from_lookup, lookup-from_Contai
 use Rattle.room_acl.specs.declared.subject.Kind.{Kind}
 use Rattle.room_records.specs.Names.{Name, Path, name_cmp, name_eq, path_eq}
 use Rattle.room_records.specs.Room.{Object, Room, object_at, name_in, child_in, by_name, children}
-use Rattle.room_records.proofs.Keys.{three_ways}
+use Rattle.room_records.proofs.Keys.{above_is, three_ways}
 use Rattle.room_records.proofs.Options.{none_if}
 use Rattle.room_records.proofs.RoomsMap.{some_is, none_is_some}
 use Rattle.room_records.proofs.RulesKept.{some_or_none}
@@ -35,9 +35,6 @@ name_itself n = (bytes_decides n n).1 refl
 
 pub same_name : (a b : Name) → name_eq a b ≡ true → a ≡ b
 same_name a b = (bytes_decides a b).0
-
-above_is : (a b : Name) → name_cmp a b ≡ Greater → name_cmp b a ≡ Less
-above_is a b e = nat_list_cmp_total.antisymm b a ∙ ap ordering_reverse e
 
 pub above_all : (k first : Name) (ks : List Name) → name_cmp k first ≡ Less
     → AllByRecursion (λ y. name_cmp first y ≡ Less) ks → AllByRecursion (λ y. name_cmp k y ≡ Less) ks
