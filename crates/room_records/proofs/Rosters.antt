@@ -1,6 +1,6 @@
 -- Users in name order.
 use Rattle.std.proofs.Common.{◌≡◌, ℕ, ◌+◌, ◌<◌, ◌≤◌, refl, ap, sym, ◌∙◌, true, false, inl, inr, List, [], ◌∷◌}
-use Rattle.std.proofs.Common.{◌++◌, length, None, Some, Ok, Err, arith}
+use Rattle.std.proofs.Common.{◌++◌, length, get_or, None, Some, Ok, Err, arith}
 use Rattle.std.specs.List.{AllByRecursion, insert, slice_get}
 use Rattle.std.specs.Ordering.{ordering_reverse, is_eq}
 use Rattle.std.specs.declared.cmp.Ordering.{Ordering}
@@ -12,9 +12,10 @@ use Rattle.std.proofs.lemmas.Map.Text.{is_eq-slice_cmp}
 use Rattle.room_acl.specs.SubjectModel.{SubjectModel}
 use Rattle.room_records.specs.Limits.{max_users, max_groups}
 use Rattle.room_records.specs.Names.{Name, name_cmp}
-use Rattle.room_records.specs.Roster.{AreInNameOrder, IsRoster, user_named, may_join, with_user, AreBefore}
+use Rattle.room_records.specs.Roster.{AreInNameOrder, IsRoster, user_named, groups_of, may_join, with_user, AreBefore}
 use Rattle.room_records.specs.Roster.{StartsBehind, IsIndexOf}
 use Rattle.room_records.proofs.Keys.{above_is, three_ways}
+use Rattle.room_records.proofs.Lists.{read_at}
 
 pub greater_back : (a b : Name) → name_cmp a b ≡ Less → name_cmp b a ≡ Greater
 greater_back a b h = nat_list_cmp_total.antisymm b a ∙ ap ordering_reverse h
@@ -40,6 +41,13 @@ present users name place (front, user, back, are, at, before, equal) = (
     get_front : (xs : List SubjectModel) → slice_get (xs ++ user ∷ back) (length xs) ≡ Some user
     get_front [] = refl
     get_front (x ∷ xs) = get_front xs
+
+-- the groups of the user that was read at the place
+pub groups_read : (users : List SubjectModel) (name : Name) (place : ℕ) → IsIndexOf users name (Ok place)
+    → (read : SubjectModel) → read ≡ get_or users place read → Some read.groups ≡ groups_of users name
+groups_read users name place index read is =
+    let found = present users name place index in
+    rw (found.1, is ∙ read_at users place found.0 read found.2) refl
 
 order_behind : (front back : List SubjectModel) → AreInNameOrder (front ++ back) → AreInNameOrder back
 order_behind [] back order = order
