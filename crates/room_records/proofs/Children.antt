@@ -14,7 +14,7 @@ use Rattle.std.specs.BTreeMap.{IsOrdered, get, is_at}
 use Rattle.std.specs.BTreeMap.Range.{range_contains, entries_between}
 use Rattle.std.proofs.lemmas.Bool.{cases_Bool, cases_eq}
 use Rattle.std.proofs.lemmas.Cmp.{tied_itself, nat_cmp_total}
-use Rattle.std.proofs.lemmas.List.Elements.{All-contains}
+use Rattle.std.proofs.lemmas.List.Elements.{All-weaker, recursion_from_All}
 use Rattle.std.proofs.lemmas.Map.Keys.{sorted_head, sorted_tail}
 use Rattle.std.proofs.lemmas.Map.Views.{All-found, tells_apart}
 use Rattle.std.proofs.lemmas.Option.{option_and_then_some}
@@ -26,7 +26,7 @@ use Rattle.room_records.specs.Shelf.{AreChildren, IsChildNamed, InNameOrder, nam
 use Rattle.room_records.specs.Table.{value_in}
 use Rattle.room_records.specs.NodeIndex.{PlaceKey, Places, place_cmp, place_of, id_at}
 use Rattle.room_records.proofs.Keys.{place_total, exact_places}
-use Rattle.room_records.proofs.Lists.{all_of_contained, contains_later, contains_first}
+use Rattle.room_records.proofs.Lists.{contains_later, contains_first}
 use Rattle.room_records.proofs.NodePlaces.{IsIndex, place_parts}
 use Rattle.room_records.proofs.Paths.{root_alone}
 use Rattle.room_records.proofs.RoomsMap.{some_is, none_is_some}
@@ -190,9 +190,9 @@ named_by_rules t rules parent node child = elim (cases_eq node.id 1) [
 module _ (t : ObjectRecords) (places : Places) (index : IsIndex t.node (id_at places))
     (ordered : IsOrdered place_cmp places) where
   are_held : AllByRecursion (λ (e : PlaceEntry). id_at places e.0 ≡ e.1) places.entries
-  are_held = all_of_contained (λ (e : PlaceEntry). id_at places e.0 ≡ e.1) places.entries
-      (λ e has. ap value_in (All-contains (λ (e : PlaceEntry). get place_cmp places e.0 ≡ Some e.1)
-      places.entries e (All-found place_total places ordered) has))
+  are_held = recursion_from_All _ places.entries (All-weaker (λ (e : PlaceEntry). get place_cmp places e.0 ≡ Some e.1)
+      (λ (e : PlaceEntry). id_at places e.0 ≡ e.1) (λ e h. ap value_in h) places.entries
+      (All-found place_total places ordered))
 
   slot_of : (o : Option (Option ℕ)) (id : ℕ) → value_in o ≡ Some id → o ≡ Some (Some id)
   slot_of None id h = cc

@@ -9,13 +9,13 @@ use Rattle.std.specs.Str.{bytes_eq}
 use Rattle.std.proofs.lemmas.Bool.{and_right, le-leb, lt-ltb}
 use Rattle.std.proofs.lemmas.Cmp.{nat_list_cmp_total}
 use Rattle.std.proofs.lemmas.Map.Text.{is_eq-slice_cmp}
+use Rattle.std.proofs.lemmas.Option.{get_or_from_slice_get}
 use Rattle.room_acl.specs.SubjectModel.{SubjectModel}
 use Rattle.room_records.specs.Limits.{max_users, max_groups}
 use Rattle.room_records.specs.Names.{Name, name_cmp}
 use Rattle.room_records.specs.Roster.{AreInNameOrder, IsRoster, user_named, groups_of, may_join, with_user, AreBefore}
 use Rattle.room_records.specs.Roster.{StartsBehind, IsIndexOf}
 use Rattle.room_records.proofs.Keys.{above_is, three_ways}
-use Rattle.room_records.proofs.Lists.{read_at}
 
 pub greater_back : (a b : Name) → name_cmp a b ≡ Less → name_cmp b a ≡ Greater
 greater_back a b h = nat_list_cmp_total.antisymm b a ∙ ap ordering_reverse h
@@ -47,7 +47,7 @@ pub groups_read : (users : List SubjectModel) (name : Name) (place : ℕ) → Is
     → (read : SubjectModel) → read ≡ get_or users place read → Some read.groups ≡ groups_of users name
 groups_read users name place index read is =
     let found = present users name place index in
-    rw (found.1, is ∙ read_at users place found.0 read found.2) refl
+    rw (found.1, is ∙ get_or_from_slice_get users place found.0 read found.2) refl
 
 order_behind : (front back : List SubjectModel) → AreInNameOrder (front ++ back) → AreInNameOrder back
 order_behind [] back order = order
