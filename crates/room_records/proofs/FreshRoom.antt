@@ -1,8 +1,8 @@
 -- The fresh room is a room, and two rows stand for it.
-use Rattle.std.proofs.Common.{◌≡◌, ℕ, refl, true, false, Bool, List, [], ◌∷◌, ◌++◌, None, Some, length, ap}
+use Rattle.std.proofs.Common.{◌≡◌, ℕ, refl, false, inl, inr, List, [], ◌∷◌, ◌++◌, None, Some, length, ap}
 use Rattle.std.proofs.Common.{sym, ◌∙◌, ◌≤◌, arith, subst}
 use Rattle.std.specs.Prelude.{cond, ◌==◌}
-use Rattle.std.proofs.lemmas.Bool.{eqb-true}
+use Rattle.std.proofs.lemmas.Bool.{eq-eqb, ne_eqb}
 use Rattle.room_records.specs.declared.node.Node.{Node}
 use Rattle.room_records.specs.Fresh.{fresh_root}
 use Rattle.room_records.specs.Limits.{max_children}
@@ -11,6 +11,8 @@ use Rattle.room_records.specs.Records.{ObjectRecords}
 use Rattle.room_records.specs.Rules.{ObjectRules}
 use Rattle.room_records.specs.Room.{Object, IsRoom, fresh_object, fresh_room, fresh_entries, object_at, children}
 use Rattle.room_records.specs.Representation.{RepresentsRoom, NodeIsObject}
+use Rattle.room_records.proofs.RoomsMap.{some_is, none_is_some}
+use Rattle.room_records.proofs.RulesKept.{if_other, same_or_other}
 
 module _ (owner group : List ℕ) where
   abbrev pub root_object : Object
@@ -27,8 +29,7 @@ module _ (owner group : List ℕ) where
   pub fresh_is_room : IsRoom (fresh_room owner group)
   fresh_is_room = record {
     root = (root_object, refl, refl);
-    parents = λ path name o e.
-        absurd (let e' : None ≡ Some o = ap (λ b. cond b (Some root_object) None) (sym (not_root path name)) ∙ e in cc);
+    parents = λ path name o e. absurd (none_is_some o (rw (not_root path name) at e));
     once = (
       record { short = omega arith; names = tt },
       record { few_entries = omega arith; own_entries = refl; small = omega arith; folder = λ _. refl },
@@ -50,21 +51,16 @@ module _ (owner group : List ℕ) where
   }
 
   at_one : (id : ℕ) (node : Node) → rows.node id ≡ Some node → (id ≡ 1) × (root_node ≡ node)
-  at_one id node h = by (id == 1) refl h
-    where
-      by : (b : Bool) → (id == 1) ≡ b → cond b (Some root_node) None ≡ Some node → (id ≡ 1) × (root_node ≡ node)
-      by true e g = (eqb-true id 1 e, cc)
-      by false e g = absurd cc
-
-  no_parent : (node : Node) → root_node ≡ node → (parent : ℕ) → node.parent ≡ Some parent → ⊥
-  no_parent node e parent h = let g : None ≡ Some parent = ap (λ (n : Node). n.parent) e ∙ h in cc
+  at_one id node h = elim (same_or_other id 1) [
+    | inl one ↦ (one, some_is root_node node (rw (eq-eqb id 1 one) at h))
+    | inr other ↦ absurd (none_is_some node (rw (ne_eqb id 1 other) at h))
+  ]
 
   no_entries : (id : ℕ) → rows.node id ≡ None → rows.entries id ≡ []
-  no_entries id h = by (id == 1) h
-    where
-      by : (b : Bool) → cond b (Some root_node) None ≡ None → cond b fresh_entries [] ≡ []
-      by true g = absurd cc
-      by false g = refl
+  no_entries id h = elim (same_or_other id 1) [
+    | inl one ↦ absurd (none_is_some root_node (sym (rw (eq-eqb id 1 one) at h)))
+    | inr other ↦ if_other id 1 fresh_entries [] other
+  ]
 
   pub rules : ObjectRules rows
   rules = record {
@@ -91,19 +87,13 @@ module _ (owner group : List ℕ) where
 
   only_root : (path : Path) (o : Object) → object_at (fresh_room owner group) path ≡ Some o
       → (id : ℕ) × (node : Node) × NodeIsObject rows (fresh_room owner group) id node path o
-  only_root [] o h =
-      let P : Object → Type 0 = λ p. NodeIsObject rows (fresh_room owner group) 1 root_node [] p in
-      let e : root_object ≡ o = cc in
-      (1, root_node, subst P e meets_root)
+  only_root [] o h = rw (← some_is root_object o h) (1, root_node, meets_root)
   only_root (a ∷ path) o h = absurd cc
 
   node_there : (id : ℕ) (node : Node) → rows.node id ≡ Some node
       → (path : Path) × (o : Object) × NodeIsObject rows (fresh_room owner group) id node path o
   node_there id node h =
-      let p = at_one id node h in
-      let P : ℕ → Type 0 = λ i. NodeIsObject rows (fresh_room owner group) i root_node [] root_object in
-      let Q : Node → Type 0 = λ n. NodeIsObject rows (fresh_room owner group) id n [] root_object in
-      ([], root_object, subst Q p.1 (subst P (sym p.0) meets_root))
+      let only = at_one id node h in ([], root_object, rw (only.0, ← only.1) meets_root)
 
   pub fresh_stands : RepresentsRoom rows (fresh_room owner group)
   fresh_stands = record { rules = rules; lawful = fresh_is_room; nodes = node_there; objects = only_root; next = refl }

@@ -8,6 +8,7 @@ use Rattle.room_records.specs.Representation.{RepresentsRoom}
 use Rattle.room_records.specs.NodeIndex.{IsFreeFor}
 use Rattle.room_records.specs.Fresh.{fresh_records}
 use Rattle.room_records.proofs.FreshRoom.{fresh_stands, rules}
+use Rattle.room_records.proofs.RoomsMap.{none_is_some}
 
 pub fresh_rules : (owner group : List ℕ) → RulesHold (fresh_records owner group)
 fresh_rules owner group = record {
@@ -15,17 +16,12 @@ fresh_rules owner group = record {
   slots = record { sessions = λ sid row h. absurd cc; slots = λ sid slot h. absurd cc };
 }
 
-pub fresh_represents : (owner group : List ℕ)
-    → RepresentsRoom (fresh_records owner group).objects (fresh_room owner group)
-fresh_represents owner group = fresh_stands owner group
-
 pub rules_of : (r : Records) (owner group : List ℕ) → r ≡ fresh_records owner group → RulesHold r
-rules_of r owner group is = subst RulesHold (sym is) (fresh_rules owner group)
+rules_of r owner group is = rw is (fresh_rules owner group)
 
 pub represents_of : (r : Records) (owner group : List ℕ)
     → r ≡ fresh_records owner group → RepresentsRoom r.objects (fresh_room owner group)
-represents_of r owner group is = let P : Records → Type 0 = λ q. RepresentsRoom q.objects (fresh_room owner group) in
-    subst P (sym is) (fresh_represents owner group)
+represents_of r owner group is = rw is (fresh_stands owner group)
 
 pub free_of_none : (nodes : ℕ → Option Node) (node : Node) → ((id : ℕ) → nodes id ≡ None) → IsFreeFor nodes node
-free_of_none nodes node none = λ other is _ _. absurd (let h : None ≡ Some other = sym (none other.id) ∙ is in cc)
+free_of_none nodes node none = λ other is _ _. absurd (none_is_some other (sym (none other.id) ∙ is))

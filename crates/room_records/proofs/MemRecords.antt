@@ -1,14 +1,9 @@
 -- The records of a shelf in memory, after one of its tables changes.
-use Rattle.std.proofs.Common.{◌≡◌, ℕ, ◌<◌, refl, ap, sym, ◌∙◌, subst, true, false, Bool, cond, inl, inr, ◌⊎◌, List, []}
-use Rattle.std.proofs.Common.{◌∷◌, ◌++◌, Option, None, Some, IsSome, arith, nat_cmp}
-use Rattle.std.specs.Prelude.{◌==◌, ◌&&◌}
+use Rattle.std.proofs.Common.{◌≡◌, ℕ, ◌<◌, refl, ap, sym, ◌∙◌, cond, inl, inr, List, [], ◌∷◌, ◌++◌, Option, arith, nat_cmp}
+use Rattle.std.specs.Prelude.{◌==◌}
 use Rattle.std.specs.List.{AllByRecursion}
-use Rattle.std.specs.Ordering.{is_eq, eq_by_cmp}
-use Rattle.std.specs.Str.{bytes_eq}
-use Rattle.std.specs.declared.cmp.Ordering.{Ordering}
-use Rattle.std.specs.declared.cmp.Ordering.TheVariants.{Less, Equal, Greater}
-use Rattle.std.proofs.lemmas.Cmp.{tied_itself, nat_cmp_total}
-use Rattle.std.proofs.lemmas.Map.Lookups.{exact_unsigned}
+use Rattle.std.specs.Ordering.{eq_by_cmp}
+use Rattle.std.proofs.lemmas.Bool.{cases_Bool, eq-eqb}
 use Rattle.room_records.specs.declared.change.Change.{Change}
 use Rattle.room_records.specs.declared.change.Change.TheVariants.{PutNode, DropNode, PutEntries, PutDoc, PutSession}
 use Rattle.room_records.specs.declared.change.Change.TheVariants.{PutSlot, DropSlots, PutNext}
@@ -20,62 +15,23 @@ use Rattle.room_records.specs.Rules.{RulesHold}
 use Rattle.room_records.specs.Changes.{apply_change, apply_changes, RulesHoldAfterEach}
 use Rattle.room_records.specs.Sessions.{HaveSlotCounts}
 use Rattle.room_records.specs.Mem.{HasSpaceFor, KeepsSpace, AreSameChanges}
-use Rattle.room_records.proofs.SessionKeys.{number_test, name_test}
-
-number_key : (a k : ℕ) → eq_by_cmp nat_cmp a k ≡ (k == a)
-number_key a k = by (number_test k a)
-  where
-    differ : (o : Ordering) → nat_cmp a k ≡ o → (k ≡ a → ⊥) → is_eq o ≡ false
-    differ Less is apart = refl
-    differ Equal is apart = absurd (apart (sym (exact_unsigned a k is)))
-    differ Greater is apart = refl
-
-    by : ((k ≡ a) × ((k == a) ≡ true)) ⊎ ((k ≡ a → ⊥) × ((k == a) ≡ false)) → eq_by_cmp nat_cmp a k ≡ (k == a)
-    by (inl e) = ap is_eq (ap (nat_cmp a) e.0 ∙ tied_itself nat_cmp_total a) ∙ sym e.1
-    by (inr e) = differ (nat_cmp a k) refl e.0 ∙ sym e.1
+use Rattle.room_records.proofs.SessionKeys.{number_key}
+use Rattle.room_records.proofs.RoomsChildren.{name_itself}
 
 -- what is read of a table, after a value is put at a number
 pub read_put : {X Y : Type 0} (f : Option X → Y) (new old : ℕ → Option X) (key : ℕ) (value : Option X)
     → ((k : ℕ) → new k ≡ cond (eq_by_cmp nat_cmp key k) value (old k))
     → (k : ℕ) → f (new k) ≡ cond (k == key) (f value) (f (old k))
 read_put f new old key value h k =
-    ap f (h k) ∙ ap (λ b. f (cond b value (old k))) (number_key key k) ∙ inside (k == key)
-  where
-    inside : (b : Bool) → f (cond b value (old k)) ≡ cond b (f value) (f (old k))
-    inside true = refl
-    inside false = refl
+    rw (h k, number_key key k) (elim (cases_Bool (k == key)) [ inl same ↦ rw same refl | inr other ↦ rw other refl ])
 
 -- a slot row that keeps the rules is below the limit
 pub low_slot : (r : Records) (row : SlotRow) → HaveSlotCounts r.session
     → RulesHold (apply_change (PutSlot row) r) → row.slot < max_slots
 low_slot r row counted rules =
-    let here : bytes_eq row.sid row.sid ≡ true = self_name in
-    let there : (row.slot == row.slot) ≡ true = self_slot in
-    let some : IsSome
-    (cond (bytes_eq row.sid row.sid && (row.slot == row.slot)) (Some row.kept) (r.slot row.sid row.slot)) =
-    ap (λ b. is_some_of (cond b (Some row.kept) (r.slot row.sid row.slot))) (λ i. here i && there i) in
-    let found = rules.slots.slots row.sid row.slot some in
+    let found = rules.slots.slots row.sid row.slot
+    (rw (name_itself row.sid, eq-eqb row.slot row.slot refl) refl) in
     omega (arith, found.2, counted row.sid found.0 found.1)
-  where
-    is_some_of : {X : Type 0} → Option X → Bool
-    is_some_of None = false
-    is_some_of (Some x) = true
-
-    self_name : bytes_eq row.sid row.sid ≡ true
-    self_name = by (name_test row.sid row.sid)
-      where
-        by : ((row.sid ≡ row.sid) × (bytes_eq row.sid row.sid ≡ true))
-            ⊎ ((row.sid ≡ row.sid → ⊥) × (bytes_eq row.sid row.sid ≡ false)) → bytes_eq row.sid row.sid ≡ true
-        by (inl e) = e.1
-        by (inr e) = absurd (e.0 refl)
-
-    self_slot : (row.slot == row.slot) ≡ true
-    self_slot = by (number_test row.slot row.slot)
-      where
-        by : ((row.slot ≡ row.slot) × ((row.slot == row.slot) ≡ true))
-            ⊎ ((row.slot ≡ row.slot → ⊥) × ((row.slot == row.slot) ≡ false)) → (row.slot == row.slot) ≡ true
-        by (inl e) = e.1
-        by (inr e) = absurd (e.0 refl)
 
 pub space_kept : (old new : MemShelf) → KeepsSpace old new
     → (change : Change) → HasSpaceFor old change → HasSpaceFor new change
@@ -116,5 +72,4 @@ same_rules [] [] r same rules = tt
 same_rules [] (y ∷ changes) r same rules = absurd same
 same_rules (x ∷ steps) [] r same rules = absurd same
 same_rules (x ∷ steps) (y ∷ changes) r same rules =
-    let P : Records → Type 0 = λ q. RulesHold q × RulesHoldAfterEach steps q in
-    subst P (sym (same.0 r)) (rules.0, same_rules steps changes (apply_change y r) same.1 rules.1)
+    rw (same.0 r) (rules.0, same_rules steps changes (apply_change y r) same.1 rules.1)

@@ -2,6 +2,8 @@
 use Rattle.std.proofs.Common.{◌≡◌, ℕ, refl, ap, sym, ◌∙◌, true, false, Bool, List, [], ◌∷◌, ◌++◌, cond, length, arith}
 use Rattle.std.specs.Prelude.{IsTrue, not, ◌&&◌, nat_le, ◌==◌}
 use Rattle.std.specs.List.{AllByRecursion, flat_map, slice_split, onto_first, join_with_byte, list_all}
+use Rattle.std.proofs.lemmas.Bool.{and_parts, not-true}
+use Rattle.std.proofs.lemmas.List.{append-nil}
 use Rattle.std.proofs.lemmas.List.Splits.{join_with_byte-slice_split}
 use Rattle.room_records.specs.Names.{Name, Path, IsFileName, IsPath, path_text, is_name_byte}
 
@@ -9,40 +11,24 @@ abbrev is_slash : ℕ → Bool
 is_slash b = b == 47
 
 name_byte_is_no_slash : (b : ℕ) → IsTrue (is_name_byte b) → is_slash b ≡ false
-name_byte_is_no_slash b lawful = by (nat_le 32 b) (b == 47) (b == 127) lawful
-  where
-    by : (low slash del : Bool) → IsTrue (low && (not slash && not del)) → slash ≡ false
-    by true true del h = absurd cc
-    by true false del h = refl
-    by false slash del h = absurd cc
+name_byte_is_no_slash b lawful = not-true (b == 47) (and_parts _ _ (and_parts (nat_le 32 b) _ lawful).1).0
 
 -- the parts of names with a slash before each
 part_before : (name rest : List ℕ) (more : List (List ℕ)) → IsTrue (list_all is_name_byte name)
     → slice_split is_slash rest ≡ [] ∷ more → slice_split is_slash (name ++ rest) ≡ name ∷ more
 part_before [] rest more lawful parts = parts
 part_before (b ∷ name) rest more lawful parts =
-    let two = both (is_name_byte b) (list_all is_name_byte name) lawful in
-    ap (λ slash. cond slash ([] ∷ slice_split is_slash (name ++ rest))
-    (onto_first b (slice_split is_slash (name ++ rest)))) (name_byte_is_no_slash b two.0)
-    ∙ ap (onto_first b) (part_before name rest more two.1 parts)
-  where
-    both : (p q : Bool) → IsTrue (p && q) → IsTrue p × IsTrue q
-    both true q h = (refl, h)
-    both false q h = absurd cc
+    let two = and_parts (is_name_byte b) (list_all is_name_byte name) lawful in
+    rw (name_byte_is_no_slash b two.0, part_before name rest more two.1 parts) refl
 
 pub parts_of_path : (path : Path) → AllByRecursion IsFileName path
     → slice_split is_slash (flat_map (λ n. 47 ∷ n) path) ≡ [] ∷ path
 parts_of_path [] names = refl
 parts_of_path (name ∷ path) names =
-    ap (λ parts. [] ∷ parts)
-    (part_before name (flat_map (λ n. 47 ∷ n) path) path names.0.bytes (parts_of_path path names.1))
+    ap (λ parts. [] ∷ parts) (part_before name (flat_map (λ n. 47 ∷ n) path) path names.0.bytes (parts_of_path path names.1))
 
 joined : (name : Name) (path : Path) → join_with_byte 47 (name ∷ path) ≡ name ++ flat_map (λ n. 47 ∷ n) path
-joined name [] = sym (append_nil name)
-  where
-    append_nil : (xs : List ℕ) → xs ++ [] ≡ xs
-    append_nil [] = refl
-    append_nil (x ∷ xs) = ap (λ ys. x ∷ ys) (append_nil xs)
+joined name [] = sym (append-nil name)
 joined name (next ∷ path) = ap (λ rest. name ++ 47 ∷ rest) (joined next path)
 
 -- what the parts say of the text

@@ -27,20 +27,13 @@ list_of_root room o there = ap root_list there
 abbrev pub without_bytes : Option Object → Option Object
 without_bytes o = option_map (λ (found : Object). record found { bytes = [] }) o
 
-list_under_alike : (a b : Option Object) (above : List EntryModel)
-    → without_bytes a ≡ without_bytes b → list_under a above ≡ list_under b above
-list_under_alike a b above same = list_of_bare a above ∙ ap (λ o. list_under o above) same ∙ sym (list_of_bare b above)
-  where
-    list_of_bare : (o : Option Object) (l : List EntryModel) → list_under o l ≡ list_under (without_bytes o) l
-    list_of_bare None l = refl
-    list_of_bare (Some o) l = refl
+list_of_bare : (o : Option Object) (l : List EntryModel) → list_under o l ≡ list_under (without_bytes o) l
+list_of_bare None l = refl
+list_of_bare (Some o) l = refl
 
-root_list_alike : (a b : Option Object) → without_bytes a ≡ without_bytes b → root_list a ≡ root_list b
-root_list_alike a b same = root_of_bare a ∙ ap root_list same ∙ sym (root_of_bare b)
-  where
-    root_of_bare : (o : Option Object) → root_list o ≡ root_list (without_bytes o)
-    root_of_bare None = refl
-    root_of_bare (Some o) = refl
+root_of_bare : (o : Option Object) → root_list o ≡ root_list (without_bytes o)
+root_of_bare None = refl
+root_of_bare (Some o) = refl
 
 -- where two rooms differ in bytes alone, lists are the same
 pub lists_without_bytes : (room other : Room)
@@ -49,11 +42,13 @@ pub lists_without_bytes : (room other : Room)
 lists_without_bytes room other same path = upwards (reverse path)
   where
     upwards : (names : List Name) → list_upwards room names ≡ list_upwards other names
-    upwards [] = root_list_alike (object_at room []) (object_at other []) (same [])
+    upwards [] =
+        root_of_bare (object_at room []) ∙ ap root_list (same []) ∙ sym (root_of_bare (object_at other []))
     upwards (name ∷ above) =
-        ap (list_under (object_at room (reverse (name ∷ above)))) (upwards above)
-        ∙ list_under_alike (object_at room (reverse (name ∷ above))) (object_at other (reverse (name ∷ above)))
-        (list_upwards other above) (same (reverse (name ∷ above)))
+        let here = reverse (name ∷ above) in
+        list_of_bare (object_at room here) (list_upwards room above)
+        ∙ (λ i. list_under (same here i) (upwards above i))
+        ∙ sym (list_of_bare (object_at other here) (list_upwards other above))
 
 -- a list depends on the object and the folders above it alone
 pub lists_by_objects_above : (room other : Room) (path : Path)
@@ -68,22 +63,18 @@ lists_by_objects_above room other path same =
         → list_upwards room names ≡ list_upwards other names
     upwards [] alike = ap root_list (alike [] [] refl)
     upwards (name ∷ above) alike =
-        ap (list_under (object_at room (reverse (name ∷ above))))
-        (upwards above (λ front rest is. alike (name ∷ front) rest (ap (λ names. name ∷ names) is)))
-        ∙ ap (λ o. list_under o (list_upwards other above)) (alike [] (name ∷ above) refl)
+        let lists = upwards above (λ front rest is. alike (name ∷ front) rest (ap (λ names. name ∷ names) is)) in
+        (λ i. list_under (alike [] (name ∷ above) refl i) (lists i))
 
 -- below two folders with one list, in two rooms, lists are the same where the objects are
 pub lists_below : (room other : Room) (rest top there : Path) → list_of room top ≡ list_of other there
     → ((below : Path) → object_at room (top ++ below) ≡ object_at other (there ++ below))
     → list_of room (top ++ rest) ≡ list_of other (there ++ rest)
-lists_below room other [] top there lists objects =
-    ap (list_of room) (append-nil top) ∙ lists ∙ ap (list_of other) (sym (append-nil there))
+lists_below room other [] top there lists objects = rw (append-nil top, append-nil there) lists
 lists_below room other (name ∷ rest) top there lists objects =
     let here : list_of room (top ++ name ∷ []) ≡ list_of other (there ++ name ∷ []) =
-    list_in_folder room top name ∙ ap (list_under (object_at room (top ++ name ∷ []))) lists
-    ∙ ap (λ o. list_under o (list_of other there)) (objects (name ∷ [])) ∙ sym (list_in_folder other there name) in
-    ap (list_of room) (sym (append_assoc top (name ∷ []) rest))
-    ∙ lists_below room other rest (top ++ name ∷ []) (there ++ name ∷ []) here
-    (λ below. ap (object_at room) (append_assoc top (name ∷ []) below) ∙ objects (name ∷ below)
-    ∙ ap (object_at other) (sym (append_assoc there (name ∷ []) below)))
-    ∙ ap (list_of other) (append_assoc there (name ∷ []) rest)
+    list_in_folder room top name ∙ (λ i. list_under (objects (name ∷ []) i) (lists i))
+    ∙ sym (list_in_folder other there name) in
+    rw (← append_assoc top (name ∷ []) rest, ← append_assoc there (name ∷ []) rest)
+    (lists_below room other rest (top ++ name ∷ []) (there ++ name ∷ []) here
+    (λ below. rw (append_assoc top (name ∷ []) below, append_assoc there (name ∷ []) below) (objects (name ∷ below))))

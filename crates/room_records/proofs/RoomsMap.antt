@@ -3,11 +3,12 @@ use Rattle.std.proofs.Common.{◌≡◌, ◌-◌, refl, ap, sym, ◌∙◌, subs
 use Rattle.std.proofs.Common.{[], ◌∷◌, ◌++◌, take, length, append-nil, append_assoc, Option, None, Some}
 use Rattle.std.specs.Map.{lookup}
 use Rattle.std.proofs.lemmas.List.{take_at, length_push}
-use Rattle.std.proofs.lemmas.Bool.{false_from_ne_true}
+use Rattle.std.proofs.lemmas.Bool.{cases_Bool, false_from_ne_true}
 use Rattle.std.specs.Cmp.Lexicographic.{pointwise_decides, bytes_decides}
 use Rattle.room_acl.specs.declared.subject.Kind.TheVariants.{Folder}
 use Rattle.room_records.specs.Names.{Name, Path, IsPath, name_eq, path_eq}
 use Rattle.room_records.specs.Room.{Object, Room, IsRoom, IsObject, AreObjects, object_at, parent_of}
+use Rattle.room_records.proofs.Options.{none_if}
 
 pub some_is : {X : Type 0} (a b : X) → Some a ≡ Some b → a ≡ b
 some_is a b e = cc
@@ -28,7 +29,7 @@ other_path a b apart = false_from_ne_true (path_eq a b) (λ e. apart (same_path 
 pub parent_of_end : (path : Path) (name : Name) → parent_of (path ++ name ∷ []) ≡ path
 parent_of_end path name =
     let n : length (path ++ name ∷ []) - 1 ≡ length path = omega (arith, length_push path name) in
-    ap (λ k. take k (path ++ name ∷ [])) n ∙ take_at path (name ∷ []) (length path) refl
+    rw n (take_at path (name ∷ []) (length path) refl)
 
 -- a path other than the root is a folder's path and a name
 pub record Ends (path : Path) : Type 0 where
@@ -51,32 +52,25 @@ StandsIn (e ∷ es) path o = ((e.0 ≡ path) × (e.1 ≡ o)) ⊎ StandsIn es pat
 pub found_stands : (es : List (Path × Object)) (path : Path) (o : Object)
     → lookup (path_eq path) es ≡ Some o → StandsIn es path o
 found_stands [] path o h = none_is_some o h
-found_stands (e ∷ es) path o h = by_test (path_eq path e.0) refl h (found_stands es path o)
-  where
-    by_test : (b : Bool) → path_eq path e.0 ≡ b → cond b (Some e.1) (lookup (path_eq path) es) ≡ Some o
-        → (lookup (path_eq path) es ≡ Some o → StandsIn es path o) → StandsIn (e ∷ es) path o
-    by_test true here is rest = inl (sym (same_path path e.0 here), some_is e.1 o is)
-    by_test false there is rest = inr (rest is)
+found_stands (e ∷ es) path o h = elim (cases_Bool (path_eq path e.0)) [
+  | inl here ↦ inl (sym (same_path path e.0 here), some_is e.1 o (rw here at h))
+  | inr there ↦ inr (found_stands es path o (rw there at h))
+]
 
 -- and what stands there is found, since each path stands once
 pub standing_found : (es : List (Path × Object)) → AreObjects es
     → (path : Path) (o : Object) → StandsIn es path o → lookup (path_eq path) es ≡ Some o
 standing_found [] once path o stands = absurd stands
-standing_found (e ∷ es) once path o (inl here) =
-    ap (λ b. cond b (Some e.1) (lookup (path_eq path) es))
-    (ap (path_eq path) here.0 ∙ path_itself path) ∙ ap Some here.1
+standing_found (e ∷ es) once path o (inl here) = rw (here.0, path_itself path) (ap Some here.1)
 standing_found (e ∷ es) once path o (inr there) =
     let found = standing_found es once.3 path o there in
-    let apart : path_eq path e.0 ≡ false = other_path path e.0
-    (λ same. none_is_some o (sym once.2 ∙ ap (λ p. lookup (path_eq p) es) (sym same) ∙ found)) in
-    ap (λ b. cond b (Some e.1) (lookup (path_eq path) es)) apart ∙ found
+    rw (other_path path e.0 (λ same. none_is_some o (sym once.2 ∙ rw same at found))) found
 
 -- each object of the list is lawful, and has a lawful path
 pub object_is_lawful : (es : List (Path × Object)) → AreObjects es
     → (path : Path) (o : Object) → StandsIn es path o → IsPath path × IsObject o
 object_is_lawful [] once path o stands = absurd stands
-object_is_lawful (e ∷ es) once path o (inl here) =
-    (subst IsPath here.0 once.0, subst IsObject here.1 once.1)
+object_is_lawful (e ∷ es) once path o (inl here) = (rw here.0 at once.0, rw here.1 at once.1)
 object_is_lawful (e ∷ es) once path o (inr there) = object_is_lawful es once.3 path o there
 
 module _ (room : Room) (lawful : IsRoom room) where
@@ -89,24 +83,15 @@ module _ (room : Room) (lawful : IsRoom room) where
 
   -- nothing stands below what is not there
   pub nothing_below : (rest front : Path) → object_at room front ≡ None → object_at room (front ++ rest) ≡ None
-  nothing_below [] front none = ap (object_at room) (append-nil front) ∙ none
+  nothing_below [] front none = rw (append-nil front) none
   nothing_below (name ∷ rest) front none =
-      ap (object_at room) (sym (append_assoc front (name ∷ []) rest))
-      ∙ nothing_below rest (front ++ name ∷ []) (by_value (object_at room (front ++ name ∷ [])) refl)
-    where
-      by_value : (o : Option Object) → object_at room (front ++ name ∷ []) ≡ o → o ≡ None
-      by_value None e = refl
-      by_value (Some o) e = let above = lawful.parents front name o e in
-          absurd (none_is_some above.0 (sym none ∙ above.1))
+      rw (← append_assoc front (name ∷ []) rest) (nothing_below rest (front ++ name ∷ []) (none_if _ (λ o e.
+      let above = lawful.parents front name o e in none_is_some above.0 (sym none ∙ above.1))))
 
   -- nor below a file
   pub nothing_in_a_file : (path : Path) (o : Object) → object_at room path ≡ Some o
       → (o.kind ≡ Folder → ⊥) → (name : Name) → object_at room (path ++ name ∷ []) ≡ None
-  nothing_in_a_file path o is file name = by_value (object_at room (path ++ name ∷ [])) refl
-    where
-      by_value : (found : Option Object) → object_at room (path ++ name ∷ []) ≡ found → found ≡ None
-      by_value None e = refl
-      by_value (Some child) e =
-          let above = lawful.parents path name child e in
-          let same : above.0 ≡ o = some_is above.0 o (sym above.1 ∙ is) in
-          absurd (file (ap (λ (f : Object). f.kind) (sym same) ∙ above.2))
+  nothing_in_a_file path o is file name = none_if _ (λ child e.
+      let above = lawful.parents path name child e in
+      let same : above.0 ≡ o = some_is above.0 o (sym above.1 ∙ is) in
+      file (rw same at above.2))

@@ -1,24 +1,21 @@
 -- Users in name order.
-use Rattle.std.proofs.Common.{◌≡◌, ℕ, ◌+◌, ◌<◌, ◌≤◌, refl, ap, sym, ◌∙◌, subst, true, false, Bool, cond, List, [], ◌∷◌}
-use Rattle.std.proofs.Common.{◌++◌, length, Option, None, Some, Ok, Err, arith}
-use Rattle.std.specs.Prelude.{not, ◌&&◌, nat_le, nat_lt}
+use Rattle.std.proofs.Common.{◌≡◌, ℕ, ◌+◌, ◌<◌, ◌≤◌, refl, ap, sym, ◌∙◌, true, false, inl, inr, List, [], ◌∷◌}
+use Rattle.std.proofs.Common.{◌++◌, length, get_or, None, Some, Ok, Err, arith}
 use Rattle.std.specs.List.{AllByRecursion, insert, slice_get}
-use Rattle.std.specs.Option.{is_some}
-use Rattle.std.specs.Ordering.{ordering_reverse, is_eq, match_ordering}
+use Rattle.std.specs.Ordering.{ordering_reverse, is_eq}
 use Rattle.std.specs.declared.cmp.Ordering.{Ordering}
 use Rattle.std.specs.declared.cmp.Ordering.TheVariants.{Less, Equal, Greater}
 use Rattle.std.specs.Str.{bytes_eq}
-use Rattle.std.proofs.lemmas.Bool.{le-leb, lt-ltb}
+use Rattle.std.proofs.lemmas.Bool.{and_right, le-leb, lt-ltb}
 use Rattle.std.proofs.lemmas.Cmp.{nat_list_cmp_total}
 use Rattle.std.proofs.lemmas.Map.Text.{is_eq-slice_cmp}
+use Rattle.std.proofs.lemmas.Option.{get_or_from_slice_get}
 use Rattle.room_acl.specs.SubjectModel.{SubjectModel}
 use Rattle.room_records.specs.Limits.{max_users, max_groups}
 use Rattle.room_records.specs.Names.{Name, name_cmp}
-use Rattle.room_records.specs.Roster.{AreInNameOrder, IsRoster, user_named, may_join, with_user, AreBefore}
+use Rattle.room_records.specs.Roster.{AreInNameOrder, IsRoster, user_named, groups_of, may_join, with_user, AreBefore}
 use Rattle.room_records.specs.Roster.{StartsBehind, IsIndexOf}
-
-pub less_back : (a b : Name) → name_cmp a b ≡ Greater → name_cmp b a ≡ Less
-less_back a b h = nat_list_cmp_total.antisymm b a ∙ ap ordering_reverse h
+use Rattle.room_records.proofs.Keys.{above_is, three_ways}
 
 pub greater_back : (a b : Name) → name_cmp a b ≡ Less → name_cmp b a ≡ Greater
 greater_back a b h = nat_list_cmp_total.antisymm b a ∙ ap ordering_reverse h
@@ -31,21 +28,26 @@ named_behind : (name : Name) (front back : List SubjectModel)
     → AreBefore name front → user_named (front ++ back) name ≡ user_named back name
 named_behind name [] back before = refl
 named_behind name (user ∷ front) back before =
-    ap (λ b. cond b (Some user) (user_named (front ++ back) name)) (tested name user.name Greater before.0)
-    ∙ named_behind name front back before.1
+    rw (tested name user.name Greater before.0) (named_behind name front back before.1)
 
 pub present : (users : List SubjectModel) (name : Name) (place : ℕ) → IsIndexOf users name (Ok place)
     → (user : SubjectModel) × (user_named users name ≡ Some user) × (slice_get users place ≡ Some user)
 present users name place (front, user, back, are, at, before, equal) = (
   user,
-  ap (λ us. user_named us name) are ∙ named_behind name front (user ∷ back) before
-      ∙ ap (λ b. cond b (Some user) (user_named back name)) (tested name user.name Equal equal),
-  ap (λ us. slice_get us place) are ∙ ap (slice_get (front ++ user ∷ back)) (sym at) ∙ get_front front,
+  rw (are, named_behind name front (user ∷ back) before, tested name user.name Equal equal) refl,
+  rw (are, ← at) (get_front front),
 )
   where
     get_front : (xs : List SubjectModel) → slice_get (xs ++ user ∷ back) (length xs) ≡ Some user
     get_front [] = refl
     get_front (x ∷ xs) = get_front xs
+
+-- the groups of the user that was read at the place
+pub groups_read : (users : List SubjectModel) (name : Name) (place : ℕ) → IsIndexOf users name (Ok place)
+    → (read : SubjectModel) → read ≡ get_or users place read → Some read.groups ≡ groups_of users name
+groups_read users name place index read is =
+    let found = present users name place index in
+    rw (found.1, is ∙ get_or_from_slice_get users place found.0 read found.2) refl
 
 order_behind : (front back : List SubjectModel) → AreInNameOrder (front ++ back) → AreInNameOrder back
 order_behind [] back order = order
@@ -56,32 +58,27 @@ order_behind (a ∷ b ∷ front) back order = order_behind (b ∷ front) back or
 none_behind : (name : Name) (back : List SubjectModel) → AreInNameOrder back
     → StartsBehind name back → user_named back name ≡ None
 none_behind name [] order starts = refl
-none_behind name (a ∷ []) order starts = ap (λ b. cond b (Some a) None) (tested name a.name Less starts)
-none_behind name (a ∷ b ∷ back) order starts =
-    ap (λ t. cond t (Some a) (user_named (b ∷ back) name)) (tested name a.name Less starts)
-    ∙ none_behind name (b ∷ back) order.1 (nat_list_cmp_total.trans name a.name b.name starts order.0)
+none_behind name (a ∷ []) order starts = rw (tested name a.name Less starts) refl
+none_behind name (a ∷ b ∷ back) order starts = rw (tested name a.name Less starts)
+    (none_behind name (b ∷ back) order.1 (nat_list_cmp_total.trans name a.name b.name starts order.0))
 
 pub absent : (users : List SubjectModel) (name : Name) (place : ℕ) → AreInNameOrder users
     → IsIndexOf users name (Err place) → user_named users name ≡ None
 absent users name place order (front, back, are, at, before, starts) =
-    ap (λ us. user_named us name) are ∙ named_behind name front back before
-    ∙ none_behind name back (order_behind front back (subst AreInNameOrder are order)) starts
+    rw (are, named_behind name front back before)
+    (none_behind name back (order_behind front back (rw are at order)) starts)
 
 put_behind : (user : SubjectModel) (front back : List SubjectModel) → AreBefore user.name front
     → StartsBehind user.name back → with_user (front ++ back) user ≡ front ++ user ∷ back
 put_behind user [] [] before starts = refl
-put_behind user [] (other ∷ back) before starts =
-    ap (λ o. match_ordering o (user ∷ other ∷ back) (other ∷ back) (other ∷ with_user back user)) starts
+put_behind user [] (other ∷ back) before starts = rw starts refl
 put_behind user (other ∷ front) back before starts =
-    ap (λ o. match_ordering o (user ∷ other ∷ (front ++ back))
-    (other ∷ (front ++ back)) (other ∷ with_user (front ++ back) user)) before.0
-    ∙ ap (λ us. other ∷ us) (put_behind user front back before.1 starts)
+    rw before.0 (ap (λ us. other ∷ us) (put_behind user front back before.1 starts))
 
 pub inserted : (users : List SubjectModel) (user : SubjectModel) (place : ℕ)
     → IsIndexOf users user.name (Err place) → insert users place user ≡ with_user users user
 inserted users user place (front, back, are, at, before, starts) =
-    ap (λ us. insert us place user) are ∙ ap (λ i. insert (front ++ back) i user) (sym at) ∙ seam front
-    ∙ sym (put_behind user front back before starts) ∙ ap (λ us. with_user us user) (sym are)
+    rw (are, ← at) (seam front ∙ sym (put_behind user front back before starts))
   where
     seam : (xs : List SubjectModel) → insert (xs ++ back) (length xs) user ≡ xs ++ user ∷ back
     seam [] = refl
@@ -90,50 +87,39 @@ inserted users user place (front, back, are, at, before, starts) =
 head_less : (other user : SubjectModel) (users : List SubjectModel)
     → AreInNameOrder (other ∷ users) → name_cmp user.name other.name ≡ Greater
     → AreInNameOrder (with_user users user) → AreInNameOrder (other ∷ with_user users user)
-head_less other user [] order greater more = (less_back user.name other.name greater, tt)
-head_less other user (next ∷ users) order greater more = by (name_cmp user.name next.name) refl more
-  where
-    rest : Ordering → List SubjectModel
-    rest o = match_ordering o (user ∷ next ∷ users) (next ∷ users) (next ∷ with_user users user)
-
-    by : (o : Ordering) → name_cmp user.name next.name ≡ o → AreInNameOrder (rest o) → AreInNameOrder (other ∷ rest o)
-    by Less is h = (less_back user.name other.name greater, h)
-    by Equal is h = (order.0, h)
-    by Greater is h = (order.0, h)
+head_less other user [] order greater more = (above_is user.name other.name greater, tt)
+head_less other user (next ∷ users) order greater more = elim (three_ways (name_cmp user.name next.name)) [
+  | inl less ↦ rw less (above_is user.name other.name greater, rw less at more)
+  | inr (inl equal) ↦ rw equal (order.0, rw equal at more)
+  | inr (inr above) ↦ rw above (order.0, rw above at more)
+]
 
 order_with : (users : List SubjectModel) (user : SubjectModel)
     → AreInNameOrder users → AreInNameOrder (with_user users user)
 order_with [] user order = tt
-order_with (other ∷ users) user order =
-    by (name_cmp user.name other.name) refl (order_with users user (order_behind (other ∷ []) users order))
-  where
-    by : (o : Ordering) → name_cmp user.name other.name ≡ o → AreInNameOrder (with_user users user)
-        → AreInNameOrder (match_ordering o (user ∷ other ∷ users) (other ∷ users) (other ∷ with_user users user))
-    by Less is more = (is, order)
-    by Equal is more = order
-    by Greater is more = head_less other user users order is more
+order_with (other ∷ users) user order = elim (three_ways (name_cmp user.name other.name)) [
+  | inl less ↦ rw less (less, order)
+  | inr (inl equal) ↦ rw equal order
+  | inr (inr above) ↦ rw above (head_less other user users order above
+      (order_with users user (order_behind (other ∷ []) users order)))
+]
 
 length_with : (users : List SubjectModel) (user : SubjectModel) → length (with_user users user) ≤ length users + 1
 length_with [] user = omega arith
-length_with (other ∷ users) user = by (name_cmp user.name other.name) (length_with users user)
-  where
-    by : (o : Ordering) → length (with_user users user) ≤ length users + 1
-        → length (match_ordering o (user ∷ other ∷ users) (other ∷ users) (other ∷ with_user users user))
-        ≤ length (other ∷ users) + 1
-    by Less more = omega arith
-    by Equal more = omega arith
-    by Greater more = omega arith
+length_with (other ∷ users) user = elim (three_ways (name_cmp user.name other.name)) [
+  | inl less ↦ rw less (omega arith)
+  | inr (inl equal) ↦ rw equal (omega arith)
+  | inr (inr above) ↦ rw above (omega (arith, length_with users user))
+]
 
 all_with : (P : SubjectModel → Type 0) (users : List SubjectModel) (user : SubjectModel)
     → AllByRecursion P users → P user → AllByRecursion P (with_user users user)
 all_with P [] user all here = (here, tt)
-all_with P (other ∷ users) user all here = by (name_cmp user.name other.name) (all_with P users user all.1 here)
-  where
-    by : (o : Ordering) → AllByRecursion P (with_user users user)
-        → AllByRecursion P (match_ordering o (user ∷ other ∷ users) (other ∷ users) (other ∷ with_user users user))
-    by Less more = (here, all)
-    by Equal more = all
-    by Greater more = (all.0, more)
+all_with P (other ∷ users) user all here = elim (three_ways (name_cmp user.name other.name)) [
+  | inl less ↦ rw less (here, all)
+  | inr (inl equal) ↦ rw equal all
+  | inr (inr above) ↦ rw above (all.0, all_with P users user all.1 here)
+]
 
 pub roster_with : (users : List SubjectModel) (user : SubjectModel) → IsRoster users
     → length users < max_users → length user.groups ≤ max_groups → IsRoster (with_user users user)
@@ -143,28 +129,11 @@ roster_with users user roster few few_groups = record {
   few_groups = all_with (λ (u : SubjectModel). length u.groups ≤ max_groups) users user roster.few_groups few_groups;
 }
 
-not_there : {X : Type 0} (o : Option X) → o ≡ None → not (is_some o) ≡ true
-not_there o none = ap (λ p. not (is_some p)) none
-
-there : {X : Type 0} (o : Option X) (x : X) → o ≡ Some x → not (is_some o) ≡ false
-there o x some = ap (λ p. not (is_some p)) some
-
 pub joins : (users : List SubjectModel) (name : Name) (groups : List (List ℕ)) → length groups ≤ max_groups
     → length users < max_users → user_named users name ≡ None → true ≡ may_join users name groups
 joins users name groups few_groups few none =
-    let a : nat_le (length groups) max_groups ≡ true = le-leb (length groups) max_groups few_groups in
-    let b : nat_lt (length users) max_users ≡ true = lt-ltb (length users) max_users few in
-    let n : not (is_some (user_named users name)) ≡ true = not_there (user_named users name) none in
-    sym (λ i. a i && (b i && n i))
+    rw (le-leb (length groups) max_groups few_groups, lt-ltb (length users) max_users few, none) refl
 
 pub joins_not : (users : List SubjectModel) (name : Name) (groups : List (List ℕ)) (user : SubjectModel)
     → user_named users name ≡ Some user → false ≡ may_join users name groups
-joins_not users name groups user some =
-    let n : not (is_some (user_named users name)) ≡ false = there (user_named users name) user some in
-    sym (ap (λ b. nat_le (length groups) max_groups && (nat_lt (length users) max_users && b)) n
-    ∙ all_false (nat_le (length groups) max_groups) (nat_lt (length users) max_users))
-  where
-    all_false : (a b : Bool) → (a && (b && false)) ≡ false
-    all_false true true = refl
-    all_false true false = refl
-    all_false false b = refl
+joins_not users name groups user some = rw some (sym (and_right _ _ (and_right _ _ refl)))

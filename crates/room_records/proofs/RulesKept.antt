@@ -1,7 +1,7 @@
 -- The record rules after one change.
 use Rattle.std.proofs.Common.{◌≡◌, ◌≢◌, ℕ, ◌+◌, ◌≤◌, refl, ap, sym, ◌∙◌, subst, arith, Bool, true, false, cond, eqb}
 use Rattle.std.proofs.Common.{◌⊎◌, inl, inr, List, [], ◌∷◌, Option, None, Some, IsSome, IfSome, eq-eqb}
-use Rattle.std.proofs.lemmas.Bool.{eqb-true, false_from_ne_true}
+use Rattle.std.proofs.lemmas.Bool.{cases_eq, cond-false, cond-true, ne_eqb}
 use Rattle.room_acl.specs.declared.subject.Kind.TheVariants.{File}
 use Rattle.room_records.specs.declared.change.Change.TheVariants.{PutNode, PutEntries, PutDoc, PutNext}
 use Rattle.room_records.specs.declared.node.Node.{Node}
@@ -11,20 +11,17 @@ use Rattle.room_records.specs.Records.{ObjectRecords}
 use Rattle.room_records.specs.Rules.{NodeRules, ObjectRules, IsRoot}
 use Rattle.room_records.specs.Changes.{apply_to_objects}
 use Rattle.room_records.specs.Representation.{NamesUpwards}
+use Rattle.room_records.proofs.Options.{none_if}
 use Rattle.room_records.proofs.RoomsMap.{some_is, none_is_some}
 
 pub same_or_other : (a b : ℕ) → (a ≡ b) ⊎ (a ≢ b)
-same_or_other a b = by_test (eqb a b) refl
-  where
-    by_test : (test : Bool) → eqb a b ≡ test → (a ≡ b) ⊎ (a ≢ b)
-    by_test true e = inl (eqb-true a b e)
-    by_test false e = inr (λ same. let f : true ≡ false = sym (eq-eqb a b same) ∙ e in cc)
+same_or_other = cases_eq
 
 pub if_same : {X : Type 0} (a b : ℕ) (x y : X) → a ≡ b → cond (eqb a b) x y ≡ x
-if_same a b x y same = ap (λ test. cond test x y) (eq-eqb a b same)
+if_same a b x y same = cond-true _ x y (eq-eqb a b same)
 
 pub if_other : {X : Type 0} (a b : ℕ) (x y : X) → a ≢ b → cond (eqb a b) x y ≡ y
-if_other a b x y other = ap (λ test. cond test x y) (false_from_ne_true (eqb a b) (λ e. other (eqb-true a b e)))
+if_other a b x y other = cond-false _ x y (ne_eqb a b other)
 
 -- two rows of a node that stays where it is
 pub record SamePlace (now before : Node) : Type 0 where
@@ -45,8 +42,8 @@ pub record SameShape (t later : ObjectRecords) : Type 0 where
 
 pub shape_itself : (t later : ObjectRecords) → later.node ≡ t.node → SameShape t later
 shape_itself t later same = record {
-  back = λ id now stands. (now, sym (ap (λ (f : ℕ → Option Node). f id) same) ∙ stands, place_itself now);
-  forth = λ id before stands. (before, ap (λ (f : ℕ → Option Node). f id) same ∙ stands, place_itself before);
+  back = λ id now stands. (now, rw same at stands, place_itself now);
+  forth = λ id before stands. (before, rw same stands, place_itself before);
 }
 
 pub names_by_shape : (t later : ObjectRecords) → SameShape t later
@@ -66,28 +63,23 @@ is_some_of (Some x) h = (x, refl)
 
 module _ (t later : ObjectRecords) (rules : ObjectRules t) (shape : SameShape t later) where
   gone_before : (id : ℕ) → later.node id ≡ None → t.node id ≡ None
-  gone_before id gone = elim (some_or_none (t.node id)) [
-    | inl none ↦ none
-    | inr found ↦ absurd (let now = shape.forth id found.0 found.1 in none_is_some now.0 (sym gone ∙ now.1))
-  ]
+  gone_before id gone = none_if _ (λ before stands.
+      let now = shape.forth id before stands in none_is_some now.0 (sym gone ∙ now.1))
 
   nodes_by_shape : NodeRules later.node
   nodes_by_shape = record {
     root =
         let first = is_some_of (t.node 1) rules.nodes.has_root in
         let now = shape.forth 1 first.0 first.1 in
-        let Root : Option Node → Type 0 = λ o. IfSome o IsRoot in
-        let root : IsRoot first.0 = subst Root first.1 rules.nodes.root in
-        let root_now : IsRoot now.0 = record {
+        let root : IsRoot first.0 = rw first.1 at rules.nodes.root in
+        rw now.1 (record {
           no_parent = now.2.parent ∙ root.no_parent;
           no_name = now.2.name ∙ root.no_name;
           folder = now.2.kind ∙ root.folder;
-        } in
-        subst Root (sym now.1) root_now;
+        });
     has_root =
         let first = is_some_of (t.node 1) rules.nodes.has_root in
-        let now = shape.forth 1 first.0 first.1 in
-        let There : Option Node → Type 0 = λ o. IsSome o in subst There (sym now.1) refl;
+        rw (shape.forth 1 first.0 first.1).1 refl;
     below = λ id now stands other.
         let before = shape.back id now stands in
         let under = rules.nodes.below id before.0 before.1 other in
@@ -136,15 +128,13 @@ module _ (t : ObjectRecords) (rules : ObjectRules t) where
     back = λ id now found. elim (same_or_other id later.id) [
       | inl here ↦
           let is : later ≡ now = some_is later now (sym (if_same id later.id (Some later) (t.node id) here) ∙ found) in
-          let Place : Node → Type 0 = λ n. SamePlace n node in
-          (node, ap t.node (here ∙ same.id) ∙ stands, subst Place is same)
+          (node, ap t.node (here ∙ same.id) ∙ stands, rw (← is) same)
       | inr away ↦ (now, sym (if_other id later.id (Some later) (t.node id) away) ∙ found, place_itself now)
     ];
     forth = λ id before found. elim (same_or_other id later.id) [
       | inl here ↦
           let is : node ≡ before = some_is node before (sym stands ∙ ap t.node (sym (here ∙ same.id)) ∙ found) in
-          let Place : Node → Type 0 = λ n. SamePlace later n in
-          (later, if_same id later.id (Some later) (t.node id) here, subst Place is same)
+          (later, if_same id later.id (Some later) (t.node id) here, rw (← is) same)
       | inr away ↦ (before, if_other id later.id (Some later) (t.node id) away ∙ found, place_itself before)
     ];
   }
@@ -174,8 +164,7 @@ module _ (t : ObjectRecords) (rules : ObjectRules t) where
       rules.entries
       (λ k there. elim (same_or_other k id) [
         | inl here ↦ (node, ap t.node here ∙ stands, file)
-        | inr away ↦ (let There : Option (List ℕ) → Type 0 = λ o. IsSome o in
-            rules.documents k (subst There (if_other k id (Some bytes.items) (t.document k) away) there))
+        | inr away ↦ rules.documents k (rw (if_other k id (Some bytes.items) (t.document k) away) at there)
       ]) (omega arith) rules.next
 
   pub rules_put_next : (n : ℕ) → t.next ≤ n → n ≤ max_objects + 1 → ObjectRules (apply_to_objects (PutNext n) t)

@@ -20,18 +20,15 @@ left_by read (change ∷ changes) old leave =
 -- where the changes were made, each row that they leave is as it was
 pub untouched_by : (changes : List Change) (old new : Records)
     → new ≡ apply_changes changes old → Untouched changes old new
-untouched_by changes old new made = record {
-  node = λ id leave. ap (λ (r : Records). r.objects.node id) made ∙ left_by (λ r. r.objects.node id) changes old leave;
-  entries = λ id leave. ap (λ (r : Records). r.objects.entries id) made
-      ∙ left_by (λ r. r.objects.entries id) changes old leave;
-  document = λ id leave. ap (λ (r : Records). r.objects.document id) made
-      ∙ left_by (λ r. r.objects.document id) changes old leave;
-  next = λ leave. ap (λ (r : Records). r.objects.next) made ∙ left_by (λ r. r.objects.next) changes old leave;
-  session = λ sid leave. ap (λ (r : Records). r.session sid) made ∙ left_by (λ r. r.session sid) changes old leave;
-  slot = λ sid slot leave. ap (λ (r : Records). r.slot sid slot) made
-      ∙ left_by (λ r. r.slot sid slot) changes old leave;
-  kept = λ sid slot low. ap (λ (r : Records). r.slot sid slot) made;
-}
+untouched_by changes old new made = rw made (record {
+  node = λ id. left_by (λ r. r.objects.node id) changes old;
+  entries = λ id. left_by (λ r. r.objects.entries id) changes old;
+  document = λ id. left_by (λ r. r.objects.document id) changes old;
+  next = left_by (λ r. r.objects.next) changes old;
+  session = λ sid. left_by (λ r. r.session sid) changes old;
+  slot = λ sid slot. left_by (λ r. r.slot sid slot) changes old;
+  kept = λ sid slot low. refl;
+})
 
 pub untouched_itself : (r : Records) → Untouched [] r r
 untouched_itself r = untouched_by [] r r refl
@@ -88,6 +85,5 @@ untouched_by_same steps changes old new same stay = record {
   next = λ leave. stay.next (same_leave (λ r. r.objects.next) steps changes same leave);
   session = λ sid leave. stay.session sid (same_leave (λ r. r.session sid) steps changes same leave);
   slot = λ sid slot leave. stay.slot sid slot (same_leave (λ r. r.slot sid slot) steps changes same leave);
-  kept = λ sid slot low. stay.kept sid slot low
-      ∙ ap (λ (r : Records). r.slot sid slot) (same_after steps changes old same);
+  kept = λ sid slot low. rw (← same_after steps changes old same) (stay.kept sid slot low);
 }

@@ -1,6 +1,6 @@
 -- A table of users, read from the front.
 use Rattle.std.proofs.Common.{◌≡◌, ℕ, ◌≤◌, ◌<◌, length, false, IfSome, IfNone, Bor, List, [], ◌∷◌, ◌++◌, refl, sym, ap}
-use Rattle.std.proofs.Common.{◌∙◌, append_assoc, append-nil, arith, subst, lit≤, Option, Some, None, option_map, codes}
+use Rattle.std.proofs.Common.{◌∙◌, append_assoc, append-nil, arith, lit≤, Option, Some, None, option_map, codes}
 use Rattle.std.specs.Prelude.{String, string_bytes}
 use Rattle.std.specs.declared.alloc.Global.{Global}
 use Rattle.std.specs.declared.cmp.Ordering.{Ordering}
@@ -24,25 +24,10 @@ use Rattle.room_acl.specs.SubjectModel.{SubjectModel}
 use Rattle.room_records.specs.Limits.{max_users, max_groups}
 use Rattle.room_records.specs.Names.{name_cmp}
 use Rattle.room_records.specs.Roster.{AreBefore, IsRoster, may_join, with_user}
+use Rattle.room_records.proofs.Lists.{all_append}
 use Rattle.room_records.proofs.Rosters.{absent, joins, greater_back}
 use Rattle.room_roster.specs.Rosters.{list_of_names, table_of_users, document_with, user, IsNamed, IsNamedRoster}
-use Rattle.room_roster.proofs.NameLists.{all_here, all_last}
-
--- `done` are the users in front of `rest`
-pub record Reads (all rest : Members) (done : List SubjectModel) : Type 0 where
-  pub on : (more : List SubjectModel) → rest ≡ table_of_users more → all ≡ table_of_users (done ++ more)
-  pub back : (whole : List SubjectModel) → all ≡ table_of_users whole
-      → (more : List SubjectModel) × (whole ≡ done ++ more) × (rest ≡ table_of_users more)
-
-pub reads_none : (all : Members) → Reads all all []
-reads_none all = record { on = λ more e. e; back = λ whole e. (whole, refl, e) }
-
-pub reads_all : (all : Members) (done : List SubjectModel) → Reads all no_members done → all ≡ table_of_users done
-reads_all all done r = r.on [] refl ∙ ap table_of_users (append-nil done)
-
--- the member of a user
-abbrev Shows : List ℕ → Data → SubjectModel → Type 0
-Shows key d u = (key ≡ u.name) × (d ≡ array (list_of_names u.groups))
+use Rattle.room_roster.proofs.NameLists.{Reads, reads_none, all_here}
 
 pub list_of_names-injective : (xs ys : List (List ℕ)) → list_of_names xs ≡ list_of_names ys → xs ≡ ys
 list_of_names-injective [] [] e = refl
@@ -65,8 +50,9 @@ more_is rest done whole (other ∷ more) key groups d is whole_is r =
     let behind : rest ≡ table_of_users more = cc in
     (more, whole_is ∙ ap (λ u. done ++ u ∷ more) same ∙ sym (append_assoc done (user key groups ∷ []) more), behind)
 
-pub reads_more : (all rest : Members) (done : List SubjectModel) (key : List ℕ) (groups : List (List ℕ)) (d : Data) → d
-    ≡ array (list_of_names groups) → Reads all (member key d rest) done → Reads all rest (done ++ user key groups ∷ [])
+pub reads_more : (all rest : Members) (done : List SubjectModel) (key : List ℕ) (groups : List (List ℕ)) (d : Data)
+    → d ≡ array (list_of_names groups) → Reads table_of_users all (member key d rest) done
+    → Reads table_of_users all rest (done ++ user key groups ∷ [])
 reads_more all rest done key groups d is r = record {
   on = λ more e. r.on (user key groups ∷ more) (cc)
       ∙ ap table_of_users (sym (append_assoc done (user key groups ∷ []) more));
@@ -82,23 +68,19 @@ pub behind_none : (entries : List Entry) → Behind [] entries
 behind_none [] = tt
 behind_none (e ∷ entries) = (tt, behind_none entries)
 
-before_last : (key : List ℕ) (done : List SubjectModel) (u : SubjectModel)
-    → AreBefore key done → name_cmp key u.name ≡ Greater → AreBefore key (done ++ u ∷ [])
-before_last key [] u before here = (here, tt)
-before_last key (v ∷ done) u before here = (before.0, before_last key done u before.1 here)
-
 behind_more : (done : List SubjectModel) (u : SubjectModel) (k : String Global) (entries : List Entry)
     → string_bytes k ≡ u.name → AllByRecursion (λ y. string_cmp k y ≡ Less) (keys_of entries)
     → Behind done entries → Behind (done ++ u ∷ []) entries
 behind_more done u k [] is less behind = tt
 behind_more done u k (e ∷ entries) is less behind = (
-  before_last (string_bytes e.0) done u behind.0 (greater_back u.name (string_bytes e.0) (rw (← is) less.0)),
+  all_append (λ (v : SubjectModel). name_cmp (string_bytes e.0) v.name ≡ Greater) done (u ∷ []) behind.0
+      (greater_back u.name (string_bytes e.0) (rw (← is) less.0), tt),
   behind_more done u k entries is less.1 behind.1,
 )
 
 -- before each turn: these users were read, and what is left stands behind them
 pub record SoFar (all : Members) (rest : List Entry) (done : List SubjectModel) : Type 0 where
-  pub reads : Reads all (members_view rest) done
+  pub reads : Reads table_of_users all (members_view rest) done
   pub behind : Behind done rest
   pub sorted : IsStrictlySortedBy string_cmp (keys_of rest)
   pub lawful : IsNamedRoster done
@@ -106,7 +88,7 @@ pub record SoFar (all : Members) (rest : List Entry) (done : List SubjectModel) 
 pub first : (entries : List Entry) → IsStrictlySortedBy string_cmp (keys_of entries)
     → SoFar (members_view entries) entries []
 first entries sorted = record {
-  reads = reads_none (members_view entries);
+  reads = reads_none table_of_users (members_view entries);
   behind = behind_none entries;
   sorted = sorted;
   lawful = record {
@@ -118,68 +100,52 @@ first entries sorted = record {
 -- a user behind the others comes last
 last_of : (u : SubjectModel) (done : List SubjectModel) → AreBefore u.name done → with_user done u ≡ done ++ u ∷ []
 last_of u [] before = refl
-last_of u (other ∷ done) before =
-    ap (λ o. match_ordering o (u ∷ other ∷ done) (other ∷ done) (other ∷ with_user done u)) before.0
-    ∙ ap (λ us. other ∷ us) (last_of u done before.1)
+last_of u (other ∷ done) before = rw before.0 (ap (λ us. other ∷ us) (last_of u done before.1))
 
--- a user was added
-pub turn : (all : Members) (rest : List Entry) (done new : List SubjectModel) (e : Entry) (groups : List (List ℕ))
+-- a user was added, whose key the code read as a text
+pub turn : (all : Members) (rest : List Entry) (done new : List SubjectModel)
+    (e : Entry) (key : List ℕ) (groups : List (List ℕ)) → key ≡ string_bytes e.0
     → SoFar all (e ∷ rest) done → view e.1 ≡ array (list_of_names groups)
-    → IsNamed (user (string_bytes e.0) groups)
-    → new ≡ with_user done (user (string_bytes e.0) groups) → IsRoster new → SoFar all rest new
+    → IsNamed (user key groups) → new ≡ with_user done (user key groups) → IsRoster new → SoFar all rest new
 unfolding IsStrictlySortedBy
-turn all rest done new e groups so is named new_is roster =
+turn all rest done new e key groups key_is so is named new_is roster =
     let u = user (string_bytes e.0) groups in
-    let last : new ≡ done ++ u ∷ [] = new_is ∙ last_of u done so.behind.0 in
+    let last : new ≡ done ++ u ∷ [] = rw key_is at new_is ∙ last_of u done so.behind.0 in
     record {
       reads = rw last (reads_more all (members_view rest) done (string_bytes e.0) groups (view e.1) is so.reads);
       behind = rw last (behind_more done u e.0 rest refl so.sorted.0 so.behind.1);
       sorted = so.sorted.1;
-      lawful = record { roster = roster; named = rw last (all_last IsNamed done u so.lawful.named named) };
+      lawful = record {
+        roster = roster;
+        named = rw last (all_append IsNamed done (u ∷ []) so.lawful.named (rw key_is at named, tt));
+      };
     }
 
 -- a member that no user could be
-pub refused : (all : Members) (rest : List Entry) (done users : List SubjectModel) (e : Entry)
-    → SoFar all (e ∷ rest) done → all ≡ table_of_users users → IsNamedRoster users
+pub refused : (all : Members) (rest : List Entry) (done users : List SubjectModel) (e : Entry) (key : List ℕ)
+    → key ≡ string_bytes e.0 → SoFar all (e ∷ rest) done → all ≡ table_of_users users → IsNamedRoster users
     → ((groups : List (List ℕ)) → view e.1 ≡ array (list_of_names groups)
-    → IsNamed (user (string_bytes e.0) groups) → may_join done (string_bytes e.0) groups ≡ false) → ⊥
-refused all rest done users e so is lawful bad = let (more, users_are, rest_is) = so.reads.back users is in
+    → IsNamed (user key groups) → may_join done key groups ≡ false) → ⊥
+refused all rest done users e key key_is so is lawful bad = let (more, users_are, rest_is) = so.reads.back users is in
     at more users_are rest_is
   where
     at : (more : List SubjectModel) → users ≡ done ++ more → members_view (e ∷ rest) ≡ table_of_users more → ⊥
     at [] users_are rest_is = cc
     at (u ∷ more) users_are rest_is =
-        let key = string_bytes e.0 in
-        let name_is : key ≡ u.name = cc in
+        let bytes_are : string_bytes e.0 ≡ u.name = cc in
+        let name_is : key ≡ u.name = key_is ∙ bytes_are in
         let groups_are : view e.1 ≡ array (list_of_names u.groups) = cc in
-        let here : IsNamedRoster (done ++ u ∷ more) = subst IsNamedRoster users_are lawful in
+        let here : IsNamedRoster (done ++ u ∷ more) = rw users_are at lawful in
         let named : IsNamed u = all_here IsNamed done more u here.named in
         let few_groups : length u.groups ≤ max_groups =
         all_here (λ (v : SubjectModel). length v.groups ≤ max_groups) done more u here.roster.few_groups in
         let few : length (done ++ u ∷ more) ≤ max_users = here.roster.few in
         let room : length done < max_users = omega (arith, length-append done (u ∷ more)) in
         let none = absent done key (length done) so.lawful.roster.in_order
-        (done, [], sym (append-nil done), refl, so.behind.0, tt) in
+        (done, [], sym (append-nil done), refl, rw key_is so.behind.0, tt) in
         let yes = joins done key u.groups few_groups room none in
         let no = bad u.groups groups_are (rw name_is named.0, named.1) in
         cc
-
--- both, where the code read the key as a text
-pub turn_at : (all : Members) (rest : List Entry) (done new : List SubjectModel)
-    (e : Entry) (key : List ℕ) (groups : List (List ℕ)) → key ≡ string_bytes e.0
-    → SoFar all (e ∷ rest) done → view e.1 ≡ array (list_of_names groups)
-    → IsNamed (user key groups) → new ≡ with_user done (user key groups) → IsRoster new → SoFar all rest new
-turn_at all rest done new e key groups key_is so is named new_is roster =
-    turn all rest done new e groups so is (subst (λ (k : List ℕ). IsNamed (user k groups)) key_is named)
-    (subst (λ (k : List ℕ). new ≡ with_user done (user k groups)) key_is new_is) roster
-
-pub refused_at : (all : Members) (rest : List Entry) (done users : List SubjectModel) (e : Entry) (key : List ℕ)
-    → key ≡ string_bytes e.0 → SoFar all (e ∷ rest) done → all ≡ table_of_users users → IsNamedRoster users
-    → ((groups : List (List ℕ)) → view e.1 ≡ array (list_of_names groups)
-    → IsNamed (user key groups) → may_join done key groups ≡ false) → ⊥
-refused_at all rest done users e key key_is so is lawful bad = refused all rest done users e so is lawful
-    (λ groups groups_are named. subst (λ (k : List ℕ). may_join done k groups ≡ false) key_is
-    (bad groups groups_are (subst (λ (k : List ℕ). IsNamed (user k groups)) (sym key_is) named)))
 
 -- the one entry of a document
 abbrev pub users_key : List ℕ

@@ -10,7 +10,11 @@ use Rattle.clap.specs.Kinds.{Kinds, or_else, check_kinds}
 use Rattle.clap.specs.Faults.{level_fault, walk_fault, settle_fault, defaults_fault, check_fault, entered_fault}
 use Rattle.clap.specs.Takes.{is_given}
 use Rattle.clap.specs.Facts.{explicit_source}
+use Rattle.std.specs.Cmp.Lexicographic.{bytes_decides}
 use Rattle.std.specs.List.{list_any}
+use Rattle.std.specs.Str.{bytes_eq}
+use Rattle.std.proofs.lemmas.Bool.{both_ways, cases_Bool}
+use Rattle.std.proofs.lemmas.Option.{same_Some}
 use Rattle.std.specs.Box.{box_value}
 use Rattle.clap.specs.declared.parser.matches.SubCommand.{SubCommand}
 use Rattle.clap.specs.declared.parser.matches.ArgMatches.TheViews.{out-SubCommand}
@@ -45,109 +49,74 @@ taken_refused p words job (Usage text) none r = subst (λ (ks : Kinds). IsAmong 
 taken_refused p words job (Help text) none r = subst (λ (ks : Kinds). IsAmong r.0 ks) none r.1
 taken_refused p words job Memory none r = tt
 
-check_passes : (p : ValueParser) → fault_of (program_command p) (codes "check" ∷ []) ≡ []
-unfolding clap_on_literals program_command
-check_passes p = refl
-
-selftest_passes : (p : ValueParser) → fault_of (program_command p) (codes "selftest" ∷ []) ≡ []
-unfolding clap_on_literals program_command
-selftest_passes p = refl
-
-pub check_refused : (p : ValueParser) (words : List Text) (f : WordsFault)
-    → ReadsWith p words (Err f) → words ≡ codes "check" ∷ [] → IsReadAs Check (Err f)
-check_refused p words f r e = taken_refused p words Check f (ap (fault_of (program_command p)) e ∙ check_passes p) r
-
-pub selftest_refused : (p : ValueParser) (words : List Text) (f : WordsFault)
-    → ReadsWith p words (Err f) → words ≡ codes "selftest" ∷ [] → IsReadAs Selftest (Err f)
-selftest_refused p words f r e =
-    taken_refused p words Selftest f (ap (fault_of (program_command p)) e ∙ selftest_passes p) r
-
--- the row of each of these words
-check_row : (p : ValueParser) → option_map (λ (r : Text × List Row). r.0)
-    (subcommand_of (program_command p) (codes "check" ∷ [])) ≡ Some (codes "check")
-unfolding clap_on_literals program_command
-check_row p = refl
-
-selftest_row : (p : ValueParser) → option_map (λ (r : Text × List Row). r.0)
-    (subcommand_of (program_command p) (codes "selftest" ∷ [])) ≡ Some (codes "selftest")
-unfolding clap_on_literals program_command
-selftest_row p = refl
-
 named : (p : ValueParser) (words : List Text) (row : Text × List Row) (one : Text)
     → subcommand_of (program_command p) words ≡ Some row
     → option_map (λ (r : Text × List Row). r.0) (subcommand_of (program_command p) words) ≡ Some one → row.0 ≡ one
 named p words row one is e =
     let both : Some row.0 ≡ Some one = sym (ap (option_map (λ (r : Text × List Row). r.0)) is) ∙ e in cc
 
-apart : (name a b : Text) → name ≡ a → name ≡ b → slice_index a 0 ≡ slice_index b 0
-apart name a b ea eb = ap (λ (t : Text). slice_index t 0) (sym ea ∙ eb)
-
-apart_third : (name a b : Text) → name ≡ a → name ≡ b → slice_index a 2 ≡ slice_index b 2
-apart_third name a b ea eb = ap (λ (t : Text). slice_index t 2) (sym ea ∙ eb)
-
-clash : {X : Type 0} (n m : ℕ) → n < m → (n ≡ m) ⊎ (m ≡ n) → X
-clash n m less (inl e) = absurd (omega arith)
-clash n m less (inr e) = absurd (omega arith)
+-- one name is not two words
+clash : {X : Type 0} {name : Text} (a b : Text) → name ≡ a → name ≡ b → bytes_eq a b ≡ false → X
+clash a b is_a is_b differ = absurd (both_ways _ differ ((bytes_decides a b).1 (sym is_a ∙ is_b)))
 
 is_check : (row : Text × List Row) (r : Result Job WordsFault) → row.0 ≡ codes "check"
     → IfOk r (IsRowOf row) → IfErr r (λ f. f ≡ Memory) → IsReadAs Check r
 is_check row (Ok Check) e ok err = refl
-is_check row (Ok (Init db owner group)) e ok err =
-    clash 99 105 (lit< tt) (inl (apart row.0 (codes "check") (codes "init") e ok.0))
-is_check row (Ok (Replay roster owner group)) e ok err =
-    clash 99 114 (lit< tt) (inl (apart row.0 (codes "check") (codes "replay") e ok.0))
-is_check row (Ok (Serve db roster port count)) e ok err =
-    clash 99 115 (lit< tt) (inl (apart row.0 (codes "check") (codes "serve") e ok.0))
-is_check row (Ok (Report db roster kind)) e ok err =
-    clash 99 114 (lit< tt) (inl (apart row.0 (codes "check") (codes "report") e ok.0))
-is_check row (Ok Selftest) e ok err = clash 99 115 (lit< tt) (inl (apart row.0 (codes "check") (codes "selftest") e ok))
+is_check row (Ok (Init db owner group)) e ok err = clash (codes "check") (codes "init") e ok.0 refl
+is_check row (Ok (Replay roster owner group)) e ok err = clash (codes "check") (codes "replay") e ok.0 refl
+is_check row (Ok (Serve db roster port count)) e ok err = clash (codes "check") (codes "serve") e ok.0 refl
+is_check row (Ok (Report db roster kind)) e ok err = clash (codes "check") (codes "report") e ok.0 refl
+is_check row (Ok Selftest) e ok err = clash (codes "check") (codes "selftest") e ok refl
 is_check row (Err (Usage t)) e ok err = cc
 is_check row (Err (Help t)) e ok err = cc
 is_check row (Err Memory) e ok err = tt
 
 is_selftest : (row : Text × List Row) (r : Result Job WordsFault) → row.0 ≡ codes "selftest"
     → IfOk r (IsRowOf row) → IfErr r (λ f. f ≡ Memory) → IsReadAs Selftest r
-is_selftest row (Ok Check) e ok err = clash 99 115 (lit< tt) (inr (apart row.0 (codes "selftest") (codes "check") e ok))
-is_selftest row (Ok (Init db owner group)) e ok err =
-    clash 105 115 (lit< tt) (inr (apart row.0 (codes "selftest") (codes "init") e ok.0))
-is_selftest row (Ok (Replay roster owner group)) e ok err =
-    clash 114 115 (lit< tt) (inr (apart row.0 (codes "selftest") (codes "replay") e ok.0))
-is_selftest row (Ok (Serve db roster port count)) e ok err =
-    clash 108 114 (lit< tt) (inl (apart_third row.0 (codes "selftest") (codes "serve") e ok.0))
-is_selftest row (Ok (Report db roster kind)) e ok err =
-    clash 114 115 (lit< tt) (inr (apart row.0 (codes "selftest") (codes "report") e ok.0))
+is_selftest row (Ok Check) e ok err = clash (codes "selftest") (codes "check") e ok refl
+is_selftest row (Ok (Init db owner group)) e ok err = clash (codes "selftest") (codes "init") e ok.0 refl
+is_selftest row (Ok (Replay roster owner group)) e ok err = clash (codes "selftest") (codes "replay") e ok.0 refl
+is_selftest row (Ok (Serve db roster port count)) e ok err = clash (codes "selftest") (codes "serve") e ok.0 refl
+is_selftest row (Ok (Report db roster kind)) e ok err = clash (codes "selftest") (codes "report") e ok.0 refl
 is_selftest row (Ok Selftest) e ok err = refl
 is_selftest row (Err (Usage t)) e ok err = cc
 is_selftest row (Err (Help t)) e ok err = cc
 is_selftest row (Err Memory) e ok err = tt
 
-pub check_taken : (p : ValueParser) (words : List Text) (row : Text × List Row) (r : Result Job WordsFault)
-    → subcommand_of (program_command p) words ≡ Some row → IfOk r (IsRowOf row) → IfErr r (λ f. f ≡ Memory)
-    → words ≡ codes "check" ∷ [] → IsReadAs Check r
-check_taken p words row r is ok err e =
-    is_check row r (named p words row (codes "check") is (ap (λ (w : List Text).
-    option_map (λ (x : Text × List Row). x.0) (subcommand_of (program_command p) w)) e ∙ check_row p)) ok err
+-- a word that is a job's, with nothing behind it: it passes, has the row of its name, and that row is the job's alone
+pub record IsWordOf (p : ValueParser) (job : Job) (word : Text) : Type 0 where
+  passes : fault_of (program_command p) (word ∷ []) ≡ []
+  row : option_map (λ (r : Text × List Row). r.0) (subcommand_of (program_command p) (word ∷ [])) ≡ Some word
+  alone : (row : Text × List Row) (r : Result Job WordsFault) → row.0 ≡ word
+      → IfOk r (IsRowOf row) → IfErr r (λ f. f ≡ Memory) → IsReadAs job r
 
-pub selftest_taken : (p : ValueParser) (words : List Text) (row : Text × List Row) (r : Result Job WordsFault)
-    → subcommand_of (program_command p) words ≡ Some row → IfOk r (IsRowOf row) → IfErr r (λ f. f ≡ Memory)
-    → words ≡ codes "selftest" ∷ [] → IsReadAs Selftest r
-selftest_taken p words row r is ok err e =
-    is_selftest row r (named p words row (codes "selftest") is (ap (λ (w : List Text).
-    option_map (λ (x : Text × List Row). x.0) (subcommand_of (program_command p) w)) e ∙ selftest_row p)) ok err
+pub check_word : (p : ValueParser) → IsWordOf p Check (codes "check")
+unfolding clap_on_literals program_command
+check_word p = record { passes = refl; row = refl; alone = is_check }
+
+pub selftest_word : (p : ValueParser) → IsWordOf p Selftest (codes "selftest")
+unfolding clap_on_literals program_command
+selftest_word p = record { passes = refl; row = refl; alone = is_selftest }
+
+module _ {p : ValueParser} {job : Job} {word : Text} (own : IsWordOf p job word) (words : List Text) where
+  -- such words are refused for want of memory alone
+  pub word_refused : (f : WordsFault) → ReadsWith p words (Err f) → words ≡ word ∷ [] → IsReadAs job (Err f)
+  word_refused f r e = taken_refused p words job f (ap (fault_of (program_command p)) e ∙ own.passes) r
+
+  -- and else read as the job
+  pub word_taken : (row : Text × List Row) (r : Result Job WordsFault)
+      → subcommand_of (program_command p) words ≡ Some row → IfOk r (IsRowOf row) → IfErr r (λ f. f ≡ Memory)
+      → words ≡ word ∷ [] → IsReadAs job r
+  word_taken row r is ok err e = own.alone row r (named p words row word is (rw e own.row)) ok err
 
 -- a row has the name of a command
-found_by : (b : Bool) (s : Shape) (rest : Option Shape) (words : List Text) (row : Text × List Row) (names : List Text)
-    → (option_map (λ x. rows_at x words) rest ≡ Some row → IsOneOf row.0 names)
-    → option_map (λ x. rows_at x words) (cond b (Some s) rest) ≡ Some row → IsOneOf row.0 (s.name ∷ names)
-found_by true s rest words row names behind e = let same : row ≡ rows_at s words = cc in
-    inl (ap (λ (r : Text × List Row). r.0) same)
-found_by false s rest words row names behind e = inr (behind e)
-
 found_name : (test : Shape → Bool) (subs : List Shape) (words : List Text) (row : Text × List Row)
     → option_map (λ s. rows_at s words) (find test subs) ≡ Some row → IsOneOf row.0 (map (λ s. s.name) subs)
 found_name test [] words row e = cc
-found_name test (s ∷ subs) words row e =
-    found_by (test s) s (find test subs) words row (map (λ x. x.name) subs) (found_name test subs words row) e
+found_name test (s ∷ subs) words row e = elim (cases_Bool (test s)) [
+  | inl here ↦ inl (ap (λ (r : Text × List Row). r.0) (sym (same_Some _ _ (rw here at e))))
+  | inr there ↦ inr (found_name test subs words row (rw there at e))
+]
 
 entered_name : (a : App) (stop : Option (Text × List Text)) (row : Text × List Row)
     → entered a stop ≡ Some row → IsOneOf row.0 (map (λ s. s.name) a.subs)
@@ -160,8 +129,7 @@ names_are p = refl
 
 pub row_name : (p : ValueParser) (words : List Text) (row : Text × List Row)
     → subcommand_of (program_command p) words ≡ Some row → IsOneOf row.0 command_names
-row_name p words row e =
-    subst (λ (names : List Text). IsOneOf row.0 names) (names_are p) (entered_name (built (program_command p)) _ row e)
+row_name p words row e = rw (names_are p) at (entered_name (built (program_command p)) _ row e)
 
 -- a command is wanted
 or_else_none : (ks next : Kinds) → or_else ks next ≡ [] → next ≡ []
@@ -206,18 +174,12 @@ none_refused p words none e =
     level_wanted b.top (names_of b) nothing_held ws (is_some (entered b stop))
     (entered_fault b stop) (ap is_some none) (required_is p) e
 
--- a pair by its parts
-pub pair_is : (o : Option (Text × List Row)) (name : Text) (rows : List Row)
-    → Some name ≡ option_map (λ (p : Text × List Row). p.0) o
-    → Some rows ≡ option_map (λ (p : Text × List Row). p.1) o → o ≡ Some (name, rows)
-pair_is None name rows a b = cc
-pair_is (Some p) name rows a b = let x : name ≡ p.0 = cc in let y : rows ≡ p.1 = cc in λ i. Some (sym x i, sym y i)
-
--- the name that the parse met
-pub met_name : {Z : Type 0} (o : Option (Box SubCommand Z)) → option_map (λ b. (out-SubCommand (box_value b)).name.now)
-    o ≡ option_map (λ (p : Text × List Row). p.0) (subcommand_rows o)
-met_name None = refl
-met_name (Some b) = refl
+-- the row of the name and the values that the parse met
+pub met_row : {Z : Type 0} (o : Option (Box SubCommand Z)) (name : Text) (rows : List Row)
+    → Some name ≡ option_map (λ b. (out-SubCommand (box_value b)).name.now) o
+    → Some rows ≡ option_map (λ (p : Text × List Row). p.1) (subcommand_rows o) → subcommand_rows o ≡ Some (name, rows)
+met_row None name rows a b = cc
+met_row (Some s) name rows a b = λ i. Some (sym (same_Some _ _ a) i, sym (same_Some _ _ b) i)
 
 pub no_pair : (o : Option (Text × List Row)) → None ≡ option_map (λ (p : Text × List Row). p.1) o → o ≡ None
 no_pair None e = refl

@@ -1,4 +1,4 @@
-use Rattle.std.proofs.Common.{◌≡◌, sym, ap, ◌∙◌, Option, Some, None, List, [], ◌∷◌, ◌++◌, append-nil}
+use Rattle.std.proofs.Common.{◌≡◌, refl, sym, ap, ◌∙◌, Option, Some, None, List, [], ◌∷◌, ◌++◌, append-nil}
 use Rattle.std.specs.List.{filter_map, cons_option}
 use Rattle.std.specs.Option.{option_map}
 use Rattle.std.proofs.lemmas.List.Elements.{filter_map-append}
@@ -14,9 +14,7 @@ one_more : (before after : List (Name × Kind)) (nodes : List Node) (node : Node
     → after ≡ before ++ cons_option (option_map (λ (n : Name). (n, node.kind)) name) []
     → after ≡ filter_map listed (nodes ++ node ∷ [])
 one_more before after nodes node name is so pushed =
-    pushed ∙ ap (λ (xs : List (Name × Kind)). xs ++ cons_option (option_map (λ (n : Name). (n, node.kind)) name) []) so
-    ∙ ap (λ found. filter_map listed nodes ++ cons_option (option_map (λ (n : Name). (n, node.kind)) found) []) (sym is)
-    ∙ sym (filter_map-append listed nodes (node ∷ []))
+    pushed ∙ rw (so, filter_map-append listed nodes (node ∷ []), is) refl
 
 pub loop-node-preserved : goal.loop-node-preserved
 loop-node-preserved c = elim c.match-name.branch [

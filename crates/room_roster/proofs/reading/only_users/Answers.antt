@@ -1,7 +1,5 @@
-use Rattle.std.proofs.Common.{◌≡◌, sym, ap, ◌∙◌, option_map, Some, None, Bor}
-use Rattle.toml.specs.Data.{get_member}
-use Rattle.toml.specs.View.{view, members_view}
-use Rattle.toml.specs.declared.value.Value.{Value}
+use Rattle.std.proofs.Common.{sym, ◌∙◌}
+use Rattle.toml.specs.View.{members_view}
 use Rattle.toml.proofs.Views.{table_get}
 use Rattle.room_roster.proofs.UserTables.{users_key, one_member, some_users, no_users, found_users}
 use Rattle.room_roster.proofs.reading.only_users.Goals as goal
@@ -13,24 +11,17 @@ returns-then-len-ne1-clause-none c users e =
 pub returns-in-Some-clause-some : goal.returns-in-Some-clause-some
 returns-in-Some-clause-some c =
     let entries = c.args.document.now.entries in
-    let at = table_get c.get.result users_key entries c.get.ensures.value in
-    let found : get_member users_key (members_view entries) ≡ Some (view c.in-Some.users.now) =
-    sym at ∙ ap (option_map (λ (x : Bor Value). view x.now)) c.in-Some.is in
-    some_users entries c.in-Some.users.now c.as_table.result
-    (sym c.len.ensures.len ∙ c.if-len-ne1.false) found c.as_table.ensures
+    some_users entries c.in-Some.users.now c.as_table.result (sym c.len.ensures.len ∙ c.if-len-ne1.false)
+    (rw c.in-Some.is at (sym (table_get c.get.result users_key entries c.get.ensures.value))) c.as_table.ensures
 
 pub returns-in-Some-clause-none : goal.returns-in-Some-clause-none
 returns-in-Some-clause-none c =
     let entries = c.args.document.now.entries in
-    let at = table_get c.get.result users_key entries c.get.ensures.value in
-    let found : get_member users_key (members_view entries) ≡ Some (view c.in-Some.users.now) =
-    sym at ∙ ap (option_map (λ (x : Bor Value). view x.now)) c.in-Some.is in
-    no_users entries c.in-Some.users.now c.as_table.result found c.as_table.ensures
+    no_users entries c.in-Some.users.now c.as_table.result
+    (rw c.in-Some.is at (sym (table_get c.get.result users_key entries c.get.ensures.value))) c.as_table.ensures
 
 pub returns-in-None-clause-none : goal.returns-in-None-clause-none
 returns-in-None-clause-none c users e =
     let entries = c.args.document.now.entries in
-    let at = table_get c.get.result users_key entries c.get.ensures.value in
-    let none : get_member users_key (members_view entries) ≡ None =
-    sym at ∙ ap (option_map (λ (x : Bor Value). view x.now)) c.in-None.is in
-    cc (found_users (members_view entries) users e)
+    let none = rw c.in-None.is at (sym (table_get c.get.result users_key entries c.get.ensures.value)) in
+    cc (none, found_users (members_view entries) users e)

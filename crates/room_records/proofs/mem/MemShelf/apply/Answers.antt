@@ -20,36 +20,28 @@ made_alone change is old new same made =
 pub returns-in-PutEntries-clause-records : goal.returns-in-PutEntries-clause-records
 returns-in-PutEntries-clause-records c = λ rules.
     let old = mem_records c.args.self.now in
-    let read = read_put (λ o. unwrap_or (option_map (λ entries. entries.items) o) [])
-    (held nat_cmp c.put.new.self.slots) (held nat_cmp c.args.self.now.entries.slots)
-    c.in-PutEntries.id (Some c.in-PutEntries.entries) c.put.ensures.held in
+    let read = read_put (λ o. unwrap_or (option_map (λ entries. entries.items) o) []) _ _ _ _ c.put.ensures.held in
     (λ i. record old { objects = record old.objects { entries = λ id. read id i } })
     ∙ ap (λ change. apply_change change old) (sym c.in-PutEntries.is)
 
 pub returns-in-PutEntries-clause-untouched : goal.returns-in-PutEntries-clause-untouched
 returns-in-PutEntries-clause-untouched c =
     let old = mem_records c.args.self.now in
-    let read = read_put (λ o. unwrap_or (option_map (λ entries. entries.items) o) [])
-    (held nat_cmp c.put.new.self.slots) (held nat_cmp c.args.self.now.entries.slots)
-    c.in-PutEntries.id (Some c.in-PutEntries.entries) c.put.ensures.held in
+    let read = read_put (λ o. unwrap_or (option_map (λ entries. entries.items) o) []) _ _ _ _ c.put.ensures.held in
     made_alone c.args.change _ old _ c.in-PutEntries.is
     (λ i. record old { objects = record old.objects { entries = λ id. read id i } })
 
 pub returns-in-PutDoc-clause-records : goal.returns-in-PutDoc-clause-records
 returns-in-PutDoc-clause-records c = λ rules.
     let old = mem_records c.args.self.now in
-    let read = read_put (option_map (λ bytes. bytes.items))
-    (held nat_cmp c.put-in-PutDoc.new.self.slots) (held nat_cmp c.args.self.now.docs.slots)
-    c.in-PutDoc.id (Some c.in-PutDoc.bytes) c.put-in-PutDoc.ensures.held in
+    let read = read_put (option_map (λ bytes. bytes.items)) _ _ _ _ c.put-in-PutDoc.ensures.held in
     (λ i. record old { objects = record old.objects { document = λ id. read id i } })
     ∙ ap (λ change. apply_change change old) (sym c.in-PutDoc.is)
 
 pub returns-in-PutDoc-clause-untouched : goal.returns-in-PutDoc-clause-untouched
 returns-in-PutDoc-clause-untouched c =
     let old = mem_records c.args.self.now in
-    let read = read_put (option_map (λ bytes. bytes.items))
-    (held nat_cmp c.put-in-PutDoc.new.self.slots) (held nat_cmp c.args.self.now.docs.slots)
-    c.in-PutDoc.id (Some c.in-PutDoc.bytes) c.put-in-PutDoc.ensures.held in
+    let read = read_put (option_map (λ bytes. bytes.items)) _ _ _ _ c.put-in-PutDoc.ensures.held in
     made_alone c.args.change _ old _ c.in-PutDoc.is
     (λ i. record old { objects = record old.objects { document = λ id. read id i } })
 

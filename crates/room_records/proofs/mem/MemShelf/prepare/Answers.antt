@@ -17,14 +17,11 @@ loop-change-preserved c =
     ≡ take now.change-index c.args.changes.now ++ change ∷ [] =
     take_more c.args.changes.now now.change-index change c.loop-change-test.true
     ∙ ap (λ x. take now.change-index c.args.changes.now ++ x ∷ []) (sym c.change-item.is) in
-    let P : List Change → Type 0 = λ steps. AreSameChanges steps (take (now.change-index + 1) c.args.changes.now) in
-    let Q : List Change → Type 0 = λ changes. AreSameChanges (now.steps.items ++ step ∷ []) changes in
-    let R : List Change → Type 0 = λ steps. AllByRecursion (HasSpaceFor c.reserve.new.self) steps in
     record {
       same = c.reserve.ensures.same ∙ now.invariant.same;
-      steps = subst P (sym items) (subst Q (sym front) (same_push now.steps.items
-          (take now.change-index c.args.changes.now) step change now.invariant.steps c.in_ok-step.ensures));
-      room = subst R (sym items) (all_append (HasSpaceFor c.reserve.new.self) now.steps.items (step ∷ [])
+      steps = rw (items, front) (same_push now.steps.items (take now.change-index c.args.changes.now)
+          step change now.invariant.steps c.in_ok-step.ensures);
+      room = rw items (all_append (HasSpaceFor c.reserve.new.self) now.steps.items (step ∷ [])
           (spaces_kept now.self c.reserve.new.self c.reserve.ensures.kept now.steps.items now.invariant.room)
           (c.in_ok-reserve.ensures.room, tt));
     }

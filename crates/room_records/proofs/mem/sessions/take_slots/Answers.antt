@@ -1,5 +1,4 @@
-use Rattle.std.proofs.Common.{None, refl, ap, ◌∙◌, cond}
-use Rattle.std.specs.Ordering.{eq_by_cmp}
+use Rattle.std.proofs.Common.{refl}
 use Rattle.std.specs.Str.{bytes_eq}
 use Rattle.room_records.specs.Table.{held}
 use Rattle.room_records.specs.Sessions.{slot_cmp, kept_in}
@@ -15,12 +14,9 @@ loop-slot-init c = record {
 
 pub loop-slot-preserved : goal.loop-slot-preserved
 loop-slot-preserved c =
-    let now = c.loop-slot in
+    let now = c.loop-slot.invariant in
     record {
-      name = now.invariant.name;
-      slots = one_more (held slot_cmp c.take.new.self.slots) (held slot_cmp now.kept.slots) c.args.sid now.slot None
-          (λ k. c.take.ensures.held k ∙ ap (λ sid.
-          cond (eq_by_cmp slot_cmp (sid, now.slot) k) None (held slot_cmp now.kept.slots k)) now.invariant.name)
-          (held slot_cmp c.args.kept.now.slots) refl now.invariant.slots;
-      rooms = λ key room. c.take.ensures.kept key (now.invariant.rooms key room);
+      name = now.name;
+      slots = one_more _ _ _ _ _ (rw now.name at c.take.ensures.held) (held slot_cmp c.args.kept.now.slots) refl now.slots;
+      rooms = λ key room. c.take.ensures.kept key (now.rooms key room);
     }

@@ -14,9 +14,8 @@ length_map_now parts = length-map parts (λ p. p.now)
 
 pub returns-then-not-is_empty-clause-every : goal.returns-then-not-is_empty-clause-every
 returns-then-not-is_empty-clause-every c = λ path lawful is.
-    let cut : slice_split (λ b. b == 47) c.args.text.now
-    ≡ c.in-Some.front.now.now ∷ map (λ p. p.now) c.in-Some.parts.now = search rules in
-    let parts = parts_are_path c.args.text.now _ _ cut (λ e. search rules) path lawful is in
+    let parts = parts_are_path c.args.text.now c.in-Some.front.now.now (map (λ p. p.now) c.in-Some.parts.now)
+    (search rules) (λ e. search rules) path lawful is in
     elim c.then-not-is_empty.branch [
       | then-not-is_empty-via-then-not-is_empty w ↦ absurd (let e = ap length parts.no_front in search rules)
       | then-not-is_empty-via-else-not-is_empty+then-is_empty w ↦
@@ -28,26 +27,19 @@ returns-in-Some-2-clause-some c =
     let cut : slice_split (λ b. b == 47) c.args.text.now
     ≡ c.in-Some.front.now.now ∷ map (λ p. p.now) c.in-Some.parts.now = search rules in
     let names : c.in-Some-2.names.items ≡ map (λ p. p.now) c.in-Some.parts.now = search rules in
-    let P : List (List ℕ) → Type 0 = λ p. IsPath p in
-    let Q : List (List ℕ) → Type 0 = λ p. path_text p ≡ c.args.text.now in (
-      subst P (sym names) (search rules),
-      subst Q (sym names) (text_of_names c.args.text.now _ _ cut
-          (search rules) (λ none. let e = sym (length_map_now c.in-Some.parts.now) ∙ none in search rules)),
-    )
+    (rw names (search rules), rw names (text_of_names c.args.text.now _ _ cut
+        (search rules) (λ none. let e = sym (length_map_now c.in-Some.parts.now) ∙ none in search rules)))
 
 pub returns-in-Some-2-clause-every : goal.returns-in-Some-2-clause-every
 returns-in-Some-2-clause-every c = λ path lawful is.
-    let cut : slice_split (λ b. b == 47) c.args.text.now
-    ≡ c.in-Some.front.now.now ∷ map (λ p. p.now) c.in-Some.parts.now = search rules in
-    let parts = parts_are_path c.args.text.now _ _ cut (λ e. search rules) path lawful is in
+    let parts = parts_are_path c.args.text.now c.in-Some.front.now.now (map (λ p. p.now) c.in-Some.parts.now)
+    (search rules) (λ e. search rules) path lawful is in
     let names : c.in-Some-2.names.items ≡ map (λ p. p.now) c.in-Some.parts.now = search rules in
     ap Some (names ∙ parts.are)
 
 pub returns-clause-every : goal.returns-clause-every
 returns-clause-every c = λ path lawful is.
-    let cut : slice_split (λ b. b == 47) c.args.text.now
-    ≡ c.in-Some.front.now.now ∷ map (λ p. p.now) c.in-Some.parts.now = search rules in
-    let parts = parts_are_path c.args.text.now _ _ cut (λ e. search rules) path lawful is in
-    let P : List (List ℕ) → Type 0 = λ p. IsPath p in
+    let parts = parts_are_path c.args.text.now c.in-Some.front.now.now (map (λ p. p.now) c.in-Some.parts.now)
+    (search rules) (λ e. search rules) path lawful is in
     absurd (none_is_not_some c.in_ok-names.field-0 c.in-None.is
-    ((c.in_ok-names.ensures).lawful.1 (subst P (sym parts.are) lawful)))
+    (c.in_ok-names.ensures.lawful.1 (rw parts.are lawful)))

@@ -1,18 +1,16 @@
 use Rattle.std.proofs.Common.{◌≡◌, ap, sym, ◌∙◌, None, Some, nat_cmp, Option, ℕ, List, cond, Bor, refl, true, false}
 use Rattle.std.specs.Ordering.{eq_by_cmp}
 use Rattle.std.specs.Option.{option_map, option_copied, is_some}
-use Rattle.std.proofs.lemmas.Cmp.{nat_cmp_total}
-use Rattle.std.proofs.lemmas.Map.Lookups.{exact_unsigned}
 use Rattle.room_records.specs.declared.node.Node.{Node}
-use Rattle.room_records.specs.NodeIndex.{node_in, id_at, place_of, place_cmp, PlaceKey}
-use Rattle.room_records.proofs.Keys.{updated, place_total, exact_places}
-use Rattle.room_records.proofs.NodePlaces.{index_with_child, taken_is_not_free}
+use Rattle.room_records.specs.NodeIndex.{node_in, place_of}
+use Rattle.room_records.proofs.Keys.{put_number, put_place}
+use Rattle.room_records.proofs.NodePlaces.{index_of, index_with_child, taken_is_not_free}
 use Rattle.room_records.proofs.mem.nodes.NodeIndex.add_child.Goals as goal
 
 -- the place that the code makes is that of the node
 own_place : (node : Node) (parent made : ℕ) (name : Option (List ℕ)) → node.parent ≡ Some parent
     → made ≡ parent → name ≡ node.name → place_of node ≡ Some (made, name)
-own_place node parent made name h e n = ap (option_map (λ p. (p, node.name))) h ∙ (λ i. Some (sym e i, sym n i))
+own_place node parent made name h e n = rw (h, e, n) refl
 
 copied_some : {X : Type 0} (o : Option (Bor X)) → is_some o ≡ true → (x : X) × (option_copied o ≡ Some x)
 copied_some None h = absurd cc
@@ -24,12 +22,9 @@ copied_none (Some x) h = absurd cc
 
 pub returns-then-is_some-clause-nodes : goal.returns-then-is_some-clause-nodes
 returns-then-is_some-clause-nodes c = λ free.
-    let old = c.args.self.now in
     let node = c.args.node in
     let found = copied_some c.get.result (sym c.is_some.ensures ∙ c.if-is_some.true) in
-    absurd (taken_is_not_free (node_in old.nodes.slots) (id_at old.places.slots)
-    (record { numbered = old.numbered; placed = old.placed; at_place = old.at_place })
-    node (c.from.result, c.take.result) found.0 c.requires.absent
+    absurd (taken_is_not_free (index_of c.args.self.now) node c.requires.absent
     (own_place node c.args.parent c.from.result c.take.result c.requires.parent c.from.ensures c.take.ensures.value)
     (sym c.get.ensures ∙ found.1) free)
 
@@ -39,20 +34,13 @@ put-requires c = c.requires.room.place (c.from.result, c.take.result) (own_place
 
 pub invariant_of-self : goal.invariant_of-self
 invariant_of-self c =
-    let old = c.args.self.now in
     let node = c.args.node in
-    let place : PlaceKey = (c.from.result, c.take.result) in
-    let put = updated nat_cmp nat_cmp_total exact_unsigned
-    (node_in c.put-2.new.self.slots) (node_in old.nodes.slots) node.id (Some node)
-    (λ k. c.put-2.ensures.held k ∙ ap (λ name. cond (eq_by_cmp nat_cmp node.id k)
-    (Some (record node { name = name })) (node_in old.nodes.slots k)) c.take.ensures.value) in
-    let used = updated place_cmp place_total exact_places (id_at c.put.new.self.slots)
-    (id_at old.places.slots) place (Some node.id) c.put.ensures.held in
-    let index = index_with_child (node_in old.nodes.slots) (node_in c.put-2.new.self.slots) (id_at old.places.slots)
-    (record { numbered = old.numbered; placed = old.placed; at_place = old.at_place })
-    node c.requires.absent put place (id_at c.put.new.self.slots)
+    let index = index_with_child (index_of c.args.self.now) node c.requires.absent
+    (put_number (λ k. c.put-2.ensures.held k ∙ ap (λ name. cond (eq_by_cmp nat_cmp node.id k)
+    (Some (record node { name = name })) (node_in c.args.self.now.nodes.slots k)) c.take.ensures.value))
     (own_place node c.args.parent c.from.result c.take.result c.requires.parent c.from.ensures c.take.ensures.value)
-    (sym c.get.ensures ∙ copied_none c.get.result (sym c.is_some.ensures ∙ c.if-is_some.false)) used in
+    (sym c.get.ensures ∙ copied_none c.get.result (sym c.is_some.ensures ∙ c.if-is_some.false))
+    (put_place c.put.ensures.held) in
     record { numbered = index.numbered; placed = index.placed; at_place = index.at_place }
 
 pub returns-clause-kept : goal.returns-clause-kept
@@ -62,5 +50,4 @@ returns-clause-kept c = λ other room. record {
 }
 
 pub returns-clause-others : goal.returns-clause-others
-returns-clause-others c = (updated nat_cmp nat_cmp_total exact_unsigned (node_in c.put-2.new.self.slots)
-    (node_in c.args.self.now.nodes.slots) c.args.node.id _ c.put-2.ensures.held).other
+returns-clause-others c = (put_number c.put-2.ensures.held).other

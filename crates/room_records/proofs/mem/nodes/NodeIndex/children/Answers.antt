@@ -1,23 +1,16 @@
-use Rattle.std.proofs.Common.{◌≡◌, ◌++◌, ℕ, ap, sym, ◌∙◌, subst, Option, List, []}
+use Rattle.std.proofs.Common.{◌≡◌, ◌++◌, ap, sym, ◌∙◌, []}
 use Rattle.std.proofs.lemmas.List.{append-nil}
-use Rattle.room_records.specs.declared.node.Node.{Node}
-use Rattle.room_records.specs.Shelf.{AreChildren}
-use Rattle.room_records.specs.NodeIndex.{node_in, id_at}
+use Rattle.room_records.specs.NodeIndex.{node_in}
 use Rattle.room_records.proofs.Children.{children_are, shown, places_between}
-use Rattle.room_records.proofs.NodePlaces.{IsIndex}
+use Rattle.room_records.proofs.NodePlaces.{index_of}
 use Rattle.room_records.proofs.mem.nodes.NodeIndex.children.Goals as goal
 
 pub returns : goal.returns
 returns c = λ t same rules_hold.
     let self = c.args.self.now in
     let nodes = node_in self.nodes.slots in
-    let all = shown nodes (places_between c.args.parent self.places.slots.entries) in
-    let P : (ℕ → Option Node) → Type 0 = λ f. IsIndex f (id_at self.places.slots) in
-    let index =
-    subst P (sym same) (record { numbered = self.numbered; placed = self.placed; at_place = self.at_place }) in
-    let are = children_are t self.places.slots index c.range-slot-items.ensures.ordered rules_hold c.args.parent in
-    let end : c.loop-slot.slot-iterator ≡ [] = c.in-None.ensures.steps.0 in
-    let items : all ≡ c.loop-slot.found.items = sym c.loop-slot.invariant
-    ∙ ap (λ es. c.loop-slot.found.items ++ shown nodes es) end ∙ append-nil c.loop-slot.found.items in
-    let Q : List Node → Type 0 = λ found. AreChildren t c.args.parent found in
-    subst Q (ap (λ f. shown f (places_between c.args.parent self.places.slots.entries)) same ∙ items) are
+    let found = c.loop-slot.found.items in
+    let items : shown nodes (places_between c.args.parent self.places.slots.entries) ≡ found =
+    sym c.loop-slot.invariant ∙ rw c.in-None.ensures.steps.0 (append-nil found) in
+    rw (← items, ← same) (children_are t self.places.slots (rw same (index_of self))
+    c.range-slot-items.ensures.ordered rules_hold c.args.parent)

@@ -1,14 +1,9 @@
-use Rattle.room_records.specs.NodeIndex.{node_in, id_at}
-use Rattle.room_records.proofs.NodePlaces.{index_same}
+use Rattle.room_records.proofs.NodePlaces.{index_of, index_same}
 use Rattle.room_records.proofs.mem.nodes.NodeIndex.reserve.Goals as goal
 
 pub invariant_of-self-2 : goal.invariant_of-self-2
 invariant_of-self-2 c =
-    let old = c.args.self.now in
-    let index = index_same (node_in old.nodes.slots) (node_in c.reserve.new.self.slots)
-    (id_at old.places.slots) (id_at c.reserve-2.new.self.slots)
-    (record { numbered = old.numbered; placed = old.placed; at_place = old.at_place })
-    c.reserve.ensures.same c.reserve-2.ensures.same in
+    let index = index_same (index_of c.args.self.now) c.reserve.ensures.same c.reserve-2.ensures.same in
     record { numbered = index.numbered; placed = index.placed; at_place = index.at_place }
 
 pub returns-clause-kept : goal.returns-clause-kept

@@ -1,18 +1,14 @@
-use Rattle.room_records.specs.Table.{held}
-use Rattle.room_records.specs.Sessions.{slot_cmp}
 use Rattle.room_records.proofs.SessionKeys.{none_left, few_left}
 use Rattle.room_records.proofs.mem.sessions.Sessions.drop_slots.Goals as goal
 
 pub invariant_of-self : goal.invariant_of-self
 invariant_of-self c = record {
   counted = c.args.self.now.counted;
-  few = few_left (held slot_cmp c.take_slots.new.kept.slots) (held slot_cmp c.args.self.now.kept.slots)
-      c.args.sid c.args.self.now.few c.take_slots.ensures.slots;
+  few = few_left _ _ _ c.args.self.now.few c.take_slots.ensures.slots;
 }
 
 pub returns-clause-slots : goal.returns-clause-slots
-returns-clause-slots c = none_left (held slot_cmp c.take_slots.new.kept.slots)
-    (held slot_cmp c.args.self.now.kept.slots) c.args.sid c.args.self.now.few c.take_slots.ensures.slots
+returns-clause-slots c = none_left _ _ _ c.args.self.now.few c.take_slots.ensures.slots
 
 pub returns-clause-kept : goal.returns-clause-kept
 returns-clause-kept c = λ sid slot room. c.take_slots.ensures.kept (sid, slot) room

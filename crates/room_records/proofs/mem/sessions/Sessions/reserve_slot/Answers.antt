@@ -1,11 +1,8 @@
-use Rattle.std.proofs.Common.{Option, IsSome, subst}
-use Rattle.room_slots.specs.KeptModel.{KeptModel}
 use Rattle.room_records.proofs.mem.sessions.Sessions.reserve_slot.Goals as goal
 
 pub invariant_of-self : goal.invariant_of-self
 invariant_of-self c = record {
-  few = λ sid slot some. let P : Option KeptModel → Type 0 = λ o. IsSome o in
-      c.args.self.now.few sid slot (subst P (c.reserve.ensures.same (sid, slot)) some);
+  few = λ sid slot some. c.args.self.now.few sid slot (rw (c.reserve.ensures.same (sid, slot)) at some);
   counted = c.args.self.now.counted;
 }
 
