@@ -109,9 +109,11 @@ module _ (t : ObjectRecords) (places : PlaceKey → Option ℕ) (index : IsIndex
   next_shown e es held = elim (cases_Bool (is_place_in parent e.0)) [
     | inl inside ↦ elim (some_or_none (option_and_then t.node e.1)) [
       | inl none ↦ inl (rw (inside, none) refl)
-      | inr found ↦ inr (option_and_then_some t.node e.1 found.0 found.1 (λ id at is.
-          (found.0, rw (inside, found.1) refl,
-          is_at_place e.0 id found.0 (held ∙ at) (in_range parent e.0 inside) is)))
+      | inr found ↦ inr (option_and_then_some t.node e.1 found.0 found.1 (λ id at is. (
+        found.0,
+        rw (inside, found.1) refl,
+        is_at_place e.0 id found.0 (held ∙ at) (in_range parent e.0 inside) is,
+      )))
     ]
     | inr outside ↦ inl (rw outside refl)
   ]
@@ -151,16 +153,25 @@ module _ (t : ObjectRecords) (places : PlaceKey → Option ℕ) (index : IsIndex
   is_before named p q a b at_p at_q less =
       let m = named a at_p.child in
       let n = named b at_q.child in
-      rw (m.1, n.1) (rw (at_p.inside, at_q.inside, ← at_p.named, ← at_q.named, m.1, n.1,
-      tied_itself nat_cmp_total parent) at less)
+      rw (m.1, n.1) (rw (
+        at_p.inside,
+        at_q.inside,
+        ← at_p.named,
+        ← at_q.named,
+        m.1,
+        n.1,
+        tied_itself nat_cmp_total parent,
+      ) at less)
 
   all_before : AreNamed → (place : PlaceKey) (a : Node) → IsAt place a → (es : List PlaceEntry) → AreHeld es
       → AllByRecursion (λ k. place_cmp place k ≡ Less) (keys_of es) → AllByRecursion (IsBefore a) (children_in es)
   all_before named place a here [] held less = tt
   all_before named place a here (e ∷ es) held less = elim (next_shown e es held.0) [
     | inl same ↦ rw same (all_before named place a here es held.1 less.1)
-    | inr next ↦ rw next.1 (is_before named place e.0 a next.0 here next.2 less.0,
-        all_before named place a here es held.1 less.1)
+    | inr next ↦ rw next.1 (
+      is_before named place e.0 a next.0 here next.2 less.0,
+      all_before named place a here es held.1 less.1,
+    )
   ]
 
   put_first : (a : Node) (nodes : List Node) → AllByRecursion (IsBefore a) nodes

@@ -60,9 +60,9 @@ module _ {X : Type 0} where
     | inl less ↦ rw less ((less, above_all k e.0 (keys_of es) less rises.0), rises)
     | inr (inl equal) ↦ rw equal rises
     | inr (inr greater) ↦ rw greater (
-        all_keys_insert (λ y. name_cmp e.0 y ≡ Less) k v es rises.0 (above_is k e.0 greater),
-        insert_rises k v es rises.1,
-      )
+      all_keys_insert (λ y. name_cmp e.0 y ≡ Less) k v es rises.0 (above_is k e.0 greater),
+      insert_rises k v es rises.1,
+    )
   ]
 
   lookup_insert : (n k : Name) (v : X) (es : List (Name × X))

@@ -7,7 +7,7 @@ ghost use Rattle.room_records.specs.Table.{held, HasSpace};
 use std::alloc::{AllocError, Global};
 use std::collections::BTreeMap;
 
-/// Values by key. A slot without a value is room that was made ahead, and says nothing.
+/// Values by key. A slot without a value is space that was reserved, and says nothing.
 #[derive(Drop)]
 pub(crate) struct Table<K: Ord, X> {
     pub(crate) slots: BTreeMap<K, Option<X>>,
@@ -31,11 +31,11 @@ impl<K: Ord + Drop, X: Drop> Table<K, X> {
         }
     }
 
-    /// Makes room for a value at the key. It changes no value, also where memory is refused.
+    /// Reserves space for a value at the key. It changes no value, also where memory is refused.
     pub(crate) fn reserve(&mut self, key: K) -> Result<(), AllocError>
         ensures same { (k : K) → held K.cmp self.new.slots k ≡ held K.cmp self.old.slots k }
         ensures kept { (k : K) → HasSpace K.cmp self.old.slots k → HasSpace K.cmp self.new.slots k }
-        ensures room { OnOk result (HasSpace K.cmp self.new.slots key) }
+        ensures space { OnOk result (HasSpace K.cmp self.new.slots key) }
     {
         if !self.slots.contains_key(&key) {
             self.slots.insert(key, None)?;
@@ -43,7 +43,7 @@ impl<K: Ord + Drop, X: Drop> Table<K, X> {
         Ok(())
     }
 
-    /// Puts a value where room is, and gives back the old one.
+    /// Puts a value where space is, and gives back the old one.
     pub(crate) fn put(&mut self, key: &K, value: X) -> Option<X>
         requires { HasSpace K.cmp self.old.slots key.now }
         ensures held { (k : K) → held K.cmp self.new.slots k
@@ -57,7 +57,7 @@ impl<K: Ord + Drop, X: Drop> Table<K, X> {
         }
     }
 
-    /// Takes the value out, and leaves its room.
+    /// Takes the value out, and leaves its space.
     pub(crate) fn take(&mut self, key: &K) -> Option<X>
         ensures held { (k : K) → held K.cmp self.new.slots k
             ≡ cond (eq_by_cmp K.cmp key.now k) None (held K.cmp self.old.slots k) }
@@ -70,7 +70,7 @@ impl<K: Ord + Drop, X: Drop> Table<K, X> {
         }
     }
 
-    /// Gives the room back where no value is.
+    /// Gives the space back where no value is.
     pub(crate) fn clear_room(&mut self, key: &K)
         ensures { (k : K) → held K.cmp self.new.slots k ≡ held K.cmp self.old.slots k }
     {

@@ -17,12 +17,12 @@ use crate::session::SlotRow;
 use std::alloc::AllocError;
 
 impl MemShelf {
-    /// Copies the changes and makes room for them. It changes no record, also where memory is
+    /// Copies the changes and reserves space for them. It changes no record, also where memory is
     /// refused.
     pub(crate) fn prepare(&mut self, changes: &[Change]) -> Result<Vec<Change>, AllocError>
         ensures same { mem_records self.new ≡ mem_records self.old }
         ensures steps { IfOk result (λ steps. AreSameChanges steps.items changes.now) }
-        ensures room { IfOk result (λ steps. AllByRecursion (HasSpaceFor self.new) steps.items) }
+        ensures space { IfOk result (λ steps. AllByRecursion (HasSpaceFor self.new) steps.items) }
     {
         let mut steps = Vec::new(self.alloc);
         for change in changes {
@@ -33,11 +33,11 @@ impl MemShelf {
         Ok(steps)
     }
 
-    /// Makes room for a change. It changes no record, also where memory is refused.
+    /// Reserves space for a change. It changes no record, also where memory is refused.
     fn reserve(&mut self, change: &Change) -> Result<(), AllocError>
         ensures same { mem_records self.new ≡ mem_records self.old }
         ensures kept { KeepsSpace self.old self.new }
-        ensures room { OnOk result (HasSpaceFor self.new change.now) }
+        ensures space { OnOk result (HasSpaceFor self.new change.now) }
     {
         match change {
             Change::PutNode(node) => self.nodes.reserve(node),

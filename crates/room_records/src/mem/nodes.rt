@@ -38,12 +38,12 @@ impl NodeIndex {
         }
     }
 
-    /// Makes room for this node. It changes no node, also where memory is refused.
+    /// Reserves space for this node. It changes no node, also where memory is refused.
     pub(crate) fn reserve(&mut self, node: &Node) -> Result<(), AllocError>
         ensures same { (id : ℕ) → node_in self.new.nodes.slots id ≡ node_in self.old.nodes.slots id }
         ensures kept { (other : Node) → HasSpaceForNode self.old.nodes.slots self.old.places.slots other
             → HasSpaceForNode self.new.nodes.slots self.new.places.slots other }
-        ensures room { OnOk result (HasSpaceForNode self.new.nodes.slots self.new.places.slots node.now) }
+        ensures space { OnOk result (HasSpaceForNode self.new.nodes.slots self.new.places.slots node.now) }
     {
         self.nodes.reserve(node.id)?;
         let Some(parent) = node.parent else {
@@ -121,7 +121,7 @@ impl NodeIndex {
     /// Adds a node that is not there, at its place if no other node is there.
     pub(crate) fn add(&mut self, node: Node)
         requires absent { node_in self.old.nodes.slots node.id ≡ None }
-        requires room { HasSpaceForNode self.old.nodes.slots self.old.places.slots node }
+        requires space { HasSpaceForNode self.old.nodes.slots self.old.places.slots node }
         ensures nodes { IsFreeFor (node_in self.old.nodes.slots) node
             → (k : ℕ) → node_in self.new.nodes.slots k
             ≡ (if k == node.id then Some node else node_in self.old.nodes.slots k) }
@@ -140,7 +140,7 @@ impl NodeIndex {
 
     fn add_child(&mut self, node: Node, parent: u32)
         requires absent { node_in self.old.nodes.slots node.id ≡ None }
-        requires room { HasSpaceForNode self.old.nodes.slots self.old.places.slots node }
+        requires space { HasSpaceForNode self.old.nodes.slots self.old.places.slots node }
         requires parent { node.parent ≡ Some parent }
         ensures nodes { IsFreeFor (node_in self.old.nodes.slots) node
             → (k : ℕ) → node_in self.new.nodes.slots k

@@ -81,25 +81,25 @@ impl Sessions {
         }
     }
 
-    /// Makes room for a session row. It changes no row, also where memory is refused.
+    /// Reserves space for a session row. It changes no row, also where memory is refused.
     pub(crate) fn make_session_room(&mut self, sid: Sid) -> Result<(), AllocError>
         ensures sessions { (name : List ℕ) → session_in self.new.rows.slots name ≡ session_in self.old.rows.slots name }
         ensures slots { self.new.kept.slots ≡ self.old.kept.slots }
         ensures kept { (name : List ℕ) → HasSpace name_cmp self.old.rows.slots name
             → HasSpace name_cmp self.new.rows.slots name }
-        ensures room { OnOk result (HasSpace name_cmp self.new.rows.slots sid) }
+        ensures space { OnOk result (HasSpace name_cmp self.new.rows.slots sid) }
     {
         self.rows.reserve(sid)
     }
 
-    /// Makes room for a slot row. It changes no row, also where memory is refused.
+    /// Reserves space for a slot row. It changes no row, also where memory is refused.
     pub(crate) fn reserve_slot(&mut self, sid: Sid, slot: u32) -> Result<(), AllocError>
         ensures sessions { self.new.rows.slots ≡ self.old.rows.slots }
         ensures slots { (name : List ℕ) (number : ℕ)
             → kept_in self.new.kept.slots name number ≡ kept_in self.old.kept.slots name number }
         ensures kept { (name : List ℕ) (number : ℕ) → HasSpace slot_cmp self.old.kept.slots (name, number)
             → HasSpace slot_cmp self.new.kept.slots (name, number) }
-        ensures room { OnOk result (slot < max_slots → HasSpace slot_cmp self.new.kept.slots (sid, slot)) }
+        ensures space { OnOk result (slot < max_slots → HasSpace slot_cmp self.new.kept.slots (sid, slot)) }
     {
         if slot >= MAX_SLOTS {
             return Ok(());
@@ -112,7 +112,7 @@ impl Sessions {
         ensures { HaveSlotCounts (session_in self.now.rows.slots) }
     {}
 
-    /// Puts a session row where room is.
+    /// Puts a session row where space is.
     pub(crate) fn put_session(&mut self, row: SessionRow)
         requires { HasSpace name_cmp self.old.rows.slots row.sid }
         ensures sessions { (sid : List ℕ) → session_in self.new.rows.slots sid
@@ -136,7 +136,7 @@ impl Sessions {
         let _ = self.rows.put(&sid, cell);
     }
 
-    /// Puts a slot row where room is. A slot of 16 or more breaks the record rules, and is left out.
+    /// Puts a slot row where space is. A slot of 16 or more breaks the record rules, and is left out.
     pub(crate) fn put_slot(&mut self, row: SlotRow)
         requires { row.slot < max_slots → HasSpace slot_cmp self.old.kept.slots (row.sid, row.slot) }
         ensures slots { row.slot < max_slots → (sid : List ℕ) (slot : ℕ)
@@ -155,7 +155,7 @@ impl Sessions {
         let _ = self.kept.put(&key, kept);
     }
 
-    /// Takes all slot rows of a session out, and leaves their room.
+    /// Takes all slot rows of a session out, and leaves their space.
     pub(crate) fn drop_slots(&mut self, sid: Sid)
         ensures slots { (name : List ℕ) (slot : ℕ) → kept_in self.new.kept.slots name slot
             ≡ (if bytes_eq name sid then None else kept_in self.old.kept.slots name slot) }
@@ -167,7 +167,7 @@ impl Sessions {
     }
 }
 
-/// Takes the rows of the slots 0 to 15 of a session out, and leaves their room.
+/// Takes the rows of the slots 0 to 15 of a session out, and leaves their space.
 fn take_slots(kept: &mut Table<(Sid, u32), Kept>, sid: Sid)
     ensures slots { (name : List ℕ) (slot : ℕ) → kept_in kept.new.slots name slot
         ≡ (if bytes_eq name sid && nat_lt slot max_slots then None else kept_in kept.old.slots name slot) }

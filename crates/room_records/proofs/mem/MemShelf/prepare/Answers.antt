@@ -23,5 +23,5 @@ loop-change-preserved c =
           step change now.invariant.steps c.in_ok-step.ensures);
       room = rw items (all_append (HasSpaceFor c.reserve.new.self) now.steps.items (step ∷ [])
           (spaces_kept now.self c.reserve.new.self c.reserve.ensures.kept now.steps.items now.invariant.room)
-          (c.in_ok-reserve.ensures.room, tt));
+          (c.in_ok-reserve.ensures.space, tt));
     }

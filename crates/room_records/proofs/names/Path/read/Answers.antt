@@ -26,9 +26,11 @@ pub returns-in-Some-2-clause-some : goal.returns-in-Some-2-clause-some
 returns-in-Some-2-clause-some c =
     let cut : slice_split (λ b. b == 47) c.args.text.now
     ≡ c.in-Some.front.now.now ∷ map (λ p. p.now) c.in-Some.parts.now = search rules in
-    let names : c.in-Some-2.names.items ≡ map (λ p. p.now) c.in-Some.parts.now = search rules in
-    (rw names (search rules), rw names (text_of_names c.args.text.now _ _ cut
-        (search rules) (λ none. let e = sym (length_map_now c.in-Some.parts.now) ∙ none in search rules)))
+    let names : c.in-Some-2.names.items ≡ map (λ p. p.now) c.in-Some.parts.now = search rules in (
+      rw names (search rules),
+      rw names (text_of_names c.args.text.now _ _ cut
+          (search rules) (λ none. let e = sym (length_map_now c.in-Some.parts.now) ∙ none in search rules)),
+    )
 
 pub returns-in-Some-2-clause-every : goal.returns-in-Some-2-clause-every
 returns-in-Some-2-clause-every c = λ path lawful is.

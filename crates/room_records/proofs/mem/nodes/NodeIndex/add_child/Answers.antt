@@ -29,7 +29,7 @@ returns-then-is_some-clause-nodes c = λ free.
     (sym c.get.ensures ∙ found.1) free)
 
 pub put-requires : goal.put-requires
-put-requires c = c.requires.room.place (c.from.result, c.take.result) (own_place c.args.node
+put-requires c = c.requires.space.place (c.from.result, c.take.result) (own_place c.args.node
     c.args.parent c.from.result c.take.result c.requires.parent c.from.ensures c.take.ensures.value)
 
 pub invariant_of-self : goal.invariant_of-self
