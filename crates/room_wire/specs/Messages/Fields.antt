@@ -4,6 +4,7 @@ use Rattle.std.specs.Prelude.{if◌then◌else◌, nat_le, codes, bytes_eq}
 use Rattle.std.specs.List.{list_all}
 use Rattle.std.specs.Char.{is_ascii_digit, to_ascii_lowercase}
 use Rattle.std.specs.Str.Parse.{digits_value}
+use Rattle.room_wire.specs.Messages.Limits.{max_body}
 use Rattle.room_wire.specs.declared.messages.fields.Found.{Found}
 use Rattle.room_wire.specs.declared.messages.fields.Found.TheVariants.{Absent, One, Many}
 
@@ -21,10 +22,10 @@ values_named name (field ∷ fields) =
 abbrev pub is_length_text : List ℕ → Bool
 is_length_text text = nat_le 1 (length text) && (nat_le (length text) 10 && list_all is_ascii_digit text)
 
--- the length that a field's value states, at most 131,072
+-- the length that a field's value states, where it is one that a body may have
 abbrev pub stated_length : List ℕ → Option ℕ
 stated_length text = if is_length_text text
-    then (if nat_le (digits_value 10 text) 131072 then Some (digits_value 10 text) else None) else None
+    then (if nat_le (digits_value 10 text) max_body then Some (digits_value 10 text) else None) else None
 
 -- at most one field states the length
 abbrev pub length_by : List (List ℕ) → Option ℕ

@@ -5,6 +5,7 @@ use Rattle.httparse.specs.Spans.{header_bytes}
 use Rattle.room_wire.specs.declared.messages.message.Message.{Message}
 use Rattle.room_wire.specs.declared.messages.message.Take.{Take}
 use Rattle.room_wire.specs.declared.messages.message.Take.TheVariants.{Whole, More, Bad}
+use Rattle.room_wire.specs.Messages.Limits.{max_head, max_message}
 use Rattle.room_wire.specs.Messages.MessageModel.{MessageModel, Reads, NoMessage, NeverMessage, print_message}
 use Rattle.room_wire.specs.Messages.MessageModel.{fields_of, body_after}
 
@@ -19,7 +20,7 @@ pub record Shows (message : Message) (m : MessageModel) : Type 0 where
 
 -- the head is not whole, in fewer bytes than its limit, and `httparse` waits for the rest of it
 pub record LacksHead (bytes : List ℕ) : Type 0 where
-  pub short : length bytes < 8192
+  pub short : length bytes < max_head
   pub not_whole : HasNoRequest bytes
   pub unfinished : MayBecomeRequest bytes
 
@@ -28,7 +29,7 @@ pub record LacksBody (bytes : List ℕ) : Type 0 where
   pub head : RequestHead
   pub rest : List ℕ
   pub reads : ReadsRequest bytes head rest
-  pub head_fits : length (print_request head) ≤ 8192
+  pub head_fits : length (print_request head) ≤ max_head
   pub few_fields : length head.fields ≤ 32
   pub lacks : (size : ℕ) × (body_after head ≡ Some size) × (length rest < size)
 
@@ -37,5 +38,5 @@ pub record LacksBody (bytes : List ℕ) : Type 0 where
 -- stand there already. `Bad`: none can come
 abbrev pub Takes : List ℕ → Take → Type 0
 Takes bytes (Whole message) = (m : MessageModel) × Reads bytes m (drop message.size bytes) × Shows message m
-Takes bytes More = NoMessage bytes × (length bytes < 139264) × (LacksHead bytes ⊎ LacksBody bytes)
+Takes bytes More = NoMessage bytes × (length bytes < max_message) × (LacksHead bytes ⊎ LacksBody bytes)
 Takes bytes Bad = NeverMessage bytes × (0 < length bytes)

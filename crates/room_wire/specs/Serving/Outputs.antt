@@ -2,6 +2,7 @@
 use Rattle.std.specs.Prelude.{◌≡◌, ℕ, ◌<◌, ◌⊎◌, Bool, List, [], ◌∷◌, ◌++◌, length, Option}
 use Rattle.std.specs.Io.KnownBytes.{Appends}
 use Rattle.room_wire.specs.Answers.AnswerModel.{AnswerModel, answer_bytes}
+use Rattle.room_wire.specs.Messages.Limits.{max_message}
 use Rattle.room_wire.specs.Messages.MessageModel.{MessageModel, NoMessage, NeverMessage}
 use Rattle.room_wire.specs.Messages.Stream.{Follows, Ended, is_last}
 use Rattle.room_wire.specs.Messages.Taken.{Shows}
@@ -29,7 +30,7 @@ AnswersOne may_answer before after message last old new ok =
 -- what the rounds over the bytes at hand did: the messages, the rest, and what was written
 abbrev pub Rounds : List ℕ → List ℕ → (old new : Option (List ℕ)) → List MessageModel → List ℕ → RoundsEnd → Type 0
 Rounds bytes rest old new ms out NeedsMore =
-    Follows bytes ms rest × Appends old new out × NoMessage rest × (length rest < 139264)
+    Follows bytes ms rest × Appends old new out × NoMessage rest × (length rest < max_message)
 Rounds bytes rest old new ms out Broken =
     Follows bytes ms rest × Appends old new out × NeverMessage rest × (0 < length rest)
 Rounds bytes rest old new ms out Last = Ended bytes ms rest × Appends old new out

@@ -63,9 +63,8 @@ pub(crate) fn caller_of(
     let Found::One(value) = values_of(message.window, spans, b"room-user") else {
         return Err(WireFault::UnknownUser);
     };
-    match user_of(alloc, roster, value) {
-        Ok(Some(caller)) => Ok(caller),
-        Ok(None) => Err(WireFault::UnknownUser),
-        Err(_) => Err(WireFault::Memory),
+    match user_of(alloc, roster, value)? {
+        Some(caller) => Ok(caller),
+        None => Err(WireFault::UnknownUser),
     }
 }

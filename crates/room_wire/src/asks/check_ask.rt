@@ -17,10 +17,9 @@ use std::alloc::Global;
 pub(crate) fn read_question(alloc: Global, body: &[u8]) -> Result<Question, WireFault>
     ensures { Decodes (asked (question_of_body body.now)) result }
 {
-    match question_of_body(alloc, body) {
-        Ok(Some(question)) => Ok(question),
-        Ok(None) => Err(WireFault::BadRequest),
-        Err(_) => Err(WireFault::Memory),
+    match question_of_body(alloc, body)? {
+        Some(question) => Ok(question),
+        None => Err(WireFault::BadRequest),
     }
 }
 

@@ -85,10 +85,9 @@ fn read_event(
 fn check_ask(alloc: Global, body: &[u8]) -> Result<Ask, WireFault>
     ensures { DecodesAsk (question_asked (question_of_body body.now)) result }
 {
-    match question_of_body(alloc, body) {
-        Ok(Some(question)) => Ok(Ask::Check(question)),
-        Ok(None) => Err(WireFault::BadRequest),
-        Err(_) => Err(WireFault::Memory),
+    match question_of_body(alloc, body)? {
+        Some(question) => Ok(Ask::Check(question)),
+        None => Err(WireFault::BadRequest),
     }
 }
 

@@ -15,10 +15,9 @@ use std::alloc::{AllocError, Global};
 pub(crate) fn sid_in(alloc: Global, text: &str) -> Result<Sid, WireFault>
     ensures { ReadsAs (λ sid. sid) (sid_from text.now) result }
 {
-    match Sid::new(alloc, text) {
-        Ok(Some(sid)) => Ok(sid),
-        Ok(None) => Err(WireFault::BadRequest),
-        Err(_) => Err(WireFault::Memory),
+    match Sid::new(alloc, text)? {
+        Some(sid) => Ok(sid),
+        None => Err(WireFault::BadRequest),
     }
 }
 
@@ -73,9 +72,8 @@ fn slots_of_body(alloc: Global, body: &[u8]) -> Result<Option<SlotCount>, AllocE
 pub(crate) fn read_slots(alloc: Global, body: &[u8]) -> Result<SlotCount, WireFault>
     ensures { ReadsAs (λ slots. slots) (slots_of_body body.now) result }
 {
-    match slots_of_body(alloc, body) {
-        Ok(Some(slots)) => Ok(slots),
-        Ok(None) => Err(WireFault::BadRequest),
-        Err(_) => Err(WireFault::Memory),
+    match slots_of_body(alloc, body)? {
+        Some(slots) => Ok(slots),
+        None => Err(WireFault::BadRequest),
     }
 }

@@ -407,12 +407,11 @@ pub fn read_command(alloc: Global, body: &[u8]) -> Result<(Command, bool), WireF
     ensures value { ReadsCommand (command_of_body body.now) result }
     ensures lawful { IfOk result (λ asked. IsLawful (command_model asked.0)) }
 {
-    match command_of_body(alloc, body) {
-        Ok(Some((command, keep))) => {
+    match command_of_body(alloc, body)? {
+        Some((command, keep)) => {
             bytes_of_fit(&command);
             Ok((command, keep))
         }
-        Ok(None) => Err(WireFault::BadRequest),
-        Err(_) => Err(WireFault::Memory),
+        None => Err(WireFault::BadRequest),
     }
 }

@@ -5,6 +5,7 @@ ghost use Rattle.std.specs.Char.{to_ascii_lowercase, is_ascii_digit};
 ghost use Rattle.std.specs.Str.Parse.{digits_value};
 ghost use Rattle.httparse.specs.Spans.{IsHeaderWithin, header_bytes};
 ghost use Rattle.room_wire.specs.Messages.Fields.{stated_length, values_named, body_length, IsFound};
+ghost use Rattle.room_wire.specs.Messages.Limits.{max_body};
 
 use httparse::spans::HeaderSpan;
 
@@ -28,7 +29,7 @@ pub(crate) fn all_digits(text: &[u8]) -> bool
 /// The number, where it is at most MAX_BODY.
 fn number_within(digits: &[u8]) -> Option<usize>
     requires { IsTrue (list_all is_ascii_digit digits.now) }
-    ensures { result ≡ (if nat_le (digits_value 10 digits.now) MAX_BODY
+    ensures { result ≡ (if nat_le (digits_value 10 digits.now) max_body
         then Some (digits_value 10 digits.now) else None) }
 {
     let mut number: usize = 0;
@@ -44,7 +45,7 @@ fn number_within(digits: &[u8]) -> Option<usize>
 /// The length that a field's value states.
 fn stated_length(text: &[u8]) -> Option<usize>
     ensures value { result ≡ stated_length text.now }
-    ensures within { IfSome result (λ n. n ≤ MAX_BODY) }
+    ensures within { IfSome result (λ n. n ≤ max_body) }
 {
     if text.is_empty() || text.len() > 10 || !all_digits(text) {
         return None;
@@ -79,7 +80,7 @@ pub(crate) fn values_of<'b>(buf: &'b [u8], headers: &[HeaderSpan], name: &[u8]) 
 pub(crate) fn body_length(buf: &[u8], headers: &[HeaderSpan]) -> Option<usize>
     requires { All (IsHeaderWithin (length buf.now)) headers.now }
     ensures value { result ≡ body_length (map (header_bytes buf.now) headers.now) }
-    ensures within { IfSome result (λ n. n ≤ MAX_BODY) }
+    ensures within { IfSome result (λ n. n ≤ max_body) }
 {
     match values_of(buf, headers, b"transfer-encoding") {
         Found::Absent => match values_of(buf, headers, b"content-length") {

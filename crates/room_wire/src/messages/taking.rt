@@ -1,6 +1,7 @@
 //! Taking messages from the front of a stream.
 ghost use Rattle.std.specs.Prelude.{◌≡◌, ◌<◌, length, take, IsUtf8};
 ghost use Rattle.httparse.specs.Spans.{IsRequestWithin, IsRequestOf};
+ghost use Rattle.room_wire.specs.Messages.Limits.{max_head};
 ghost use Rattle.room_wire.specs.Messages.Taken.{Takes};
 
 use crate::messages::fields::body_length;
@@ -48,7 +49,7 @@ fn take_body<'a>(
     head: RequestSpans,
 ) -> Take<'a>
     requires some { 0 < length input.now }
-    requires window { window.now ≡ take 8192 input.now }
+    requires window { window.now ≡ take max_head input.now }
     requires within { IsRequestWithin window.now spans head }
     requires complete { IsRequestOf window.now spans head }
     ensures { Takes input.now result }

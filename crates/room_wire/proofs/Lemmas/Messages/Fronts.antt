@@ -9,6 +9,7 @@ use Rattle.httparse.specs.Grammar.{RequestHead, IsRequestHead, print_request, Re
 use Rattle.httparse.specs.Spans.{name_and_value, RequestOverflows, AreFieldsAt, header_bytes}
 use Rattle.httparse.specs.declared.spans.HeaderSpan.{HeaderSpan}
 use Rattle.httparse.proofs.GrammarLemmas.{request_prefix_free}
+use Rattle.room_wire.specs.Messages.Limits.{max_head}
 use Rattle.room_wire.specs.Messages.MessageModel.{MessageModel, body_after, print_message, Reads, NoMessage}
 use Rattle.room_wire.specs.Messages.MessageModel.{NeverMessage}
 use Rattle.room_wire.proofs.Lemmas.Messages.Seams.{same_front, front_in}
@@ -33,24 +34,25 @@ message_prefix_free bytes more m k r q x y =
 
 -- the window is the first 8,192 bytes of the input, and a head was read at its front
 pub record Parsed (input window : List ℕ) (len : ℕ) (h : RequestHead) : Type 0 where
-  pub window_is : window ≡ take 8192 input
+  pub window_is : window ≡ take max_head input
   pub reads : ReadsRequest window h (drop len window)
   pub len_is : len ≡ length (print_request h)
 
-window_front : (input window more : List ℕ) → window ≡ take 8192 input
-    → input ++ more ≡ window ++ (drop 8192 input ++ more)
+window_front : (input window more : List ℕ) → window ≡ take max_head input
+    → input ++ more ≡ window ++ (drop max_head input ++ more)
 window_front input window more e =
-    ap (λ t. t ++ more) (sym (take-append-drop 8192 input) ∙ ap (λ t. t ++ drop 8192 input) (sym e))
-    ∙ append_assoc window (drop 8192 input) more
+    ap (λ t. t ++ more) (sym (take-append-drop max_head input) ∙ ap (λ t. t ++ drop max_head input) (sym e))
+    ∙ append_assoc window (drop max_head input) more
 
 -- a message at the front has the head that was read
 pub has_head : (input window : List ℕ) (len : ℕ) (h : RequestHead) → Parsed input window len h
     → (more : List ℕ) (m : MessageModel) (rest : List ℕ) → Reads (input ++ more) m rest → h ≡ m.head
 has_head input window len h p more m rest x =
     let read = head_read (input ++ more) m rest x in
-    let read' : ReadsRequest (window ++ (drop 8192 input ++ more)) m.head (m.body ++ rest) =
+    let read' : ReadsRequest (window ++ (drop max_head input ++ more)) m.head (m.body ++ rest) =
     (read.0, sym (window_front input window more p.window_is) ∙ read.1) in
-    (request_prefix_free window (drop 8192 input ++ more) h m.head (drop len window) (m.body ++ rest) p.reads read').0
+    (request_prefix_free window (drop max_head input ++ more) h m.head (drop len window) (m.body ++ rest)
+    p.reads read').0
 
 -- the head's fields state no length
 pub never_by_fields : (input window : List ℕ) (len : ℕ) (h : RequestHead)
@@ -79,32 +81,32 @@ none_yet input window len n h p states short m rest x =
     absurd (omega arith)
 
 -- more fields than a message may have
-pub never_by_overflow : (input window : List ℕ) → window ≡ take 8192 input → RequestOverflows 32 window
+pub never_by_overflow : (input window : List ℕ) → window ≡ take max_head input → RequestOverflows 32 window
     → NeverMessage input
 never_by_overflow input window e over more m rest x =
     let read = head_read (input ++ more) m rest x in
-    let many = over (drop 8192 input ++ more) m.head (m.body ++ rest)
+    let many = over (drop max_head input ++ more) m.head (m.body ++ rest)
     (read.0, sym (window_front input window more e) ∙ read.1) in
     absurd (omega (arith, x.lawful.few_fields))
 
 -- 8,192 bytes hold no whole head
-pub never_by_head : (input window : List ℕ) → window ≡ take 8192 input
-    → 8192 ≤ length input → HasNoRequest window → NeverMessage input
+pub never_by_head : (input window : List ℕ) → window ≡ take max_head input
+    → max_head ≤ length input → HasNoRequest window → NeverMessage input
 never_by_head input window e long none more m rest x =
     let read = head_read (input ++ more) m rest x in
-    let size : length window ≡ 8192 = ap length e ∙ length-take-le 8192 input long in
+    let size : length window ≡ max_head = ap length e ∙ length-take-le max_head input long in
     let fits : length (print_request m.head) ≤ length window = omega (arith, x.lawful.head_fits) in
     none m.head (drop (length (print_request m.head)) window) (
       read.0,
       front_in (print_request m.head) (m.body ++ rest) window
-          (drop 8192 input ++ more) (sym read.1 ∙ window_front input window more e) fits,
+          (drop max_head input ++ more) (sym read.1 ∙ window_front input window more e) fits,
     )
 
 -- a short input without a whole head
-pub none_by_head : (input window : List ℕ) → window ≡ take 8192 input
-    → length input ≤ 8192 → HasNoRequest window → NoMessage input
+pub none_by_head : (input window : List ℕ) → window ≡ take max_head input
+    → length input ≤ max_head → HasNoRequest window → NoMessage input
 none_by_head input window e short none m rest x =
-    let whole : window ≡ input = e ∙ take_all 8192 input short in
+    let whole : window ≡ input = e ∙ take_all max_head input short in
     let read = head_read input m rest x in
     none m.head (m.body ++ rest) (read.0, whole ∙ read.1)
 
@@ -112,19 +114,19 @@ none_by_head input window e short none m rest x =
 pub after_head : (input window : List ℕ) (len : ℕ) (h : RequestHead)
     → Parsed input window len h → input ≡ print_request h ++ drop len input
 after_head input window len h p =
-    let whole : print_request h ++ (drop len window ++ (drop 8192 input ++ [])) ≡ input ++ [] =
-    sym (window_front input window [] p.window_is ∙ ap (λ t. t ++ (drop 8192 input ++ [])) p.reads.1
-    ∙ append_assoc (print_request h) (drop len window) (drop 8192 input ++ [])) in
-    let whole' : print_request h ++ (drop len window ++ (drop 8192 input ++ [])) ≡ input ++ [] = whole in
+    let whole : print_request h ++ (drop len window ++ (drop max_head input ++ [])) ≡ input ++ [] =
+    sym (window_front input window [] p.window_is ∙ ap (λ t. t ++ (drop max_head input ++ [])) p.reads.1
+    ∙ append_assoc (print_request h) (drop len window) (drop max_head input ++ [])) in
+    let whole' : print_request h ++ (drop len window ++ (drop max_head input ++ [])) ≡ input ++ [] = whole in
     let lengths : length (print_request h) ≤ length input =
     omega (arith, simp length-append at (ap length whole)) in
     subst (λ n. input ≡ print_request h ++ drop n input) (sym p.len_is)
-    (front_in (print_request h) (drop len window ++ (drop 8192 input ++ [])) input [] whole lengths)
+    (front_in (print_request h) (drop len window ++ (drop max_head input ++ [])) input [] whole lengths)
 
 -- the message that stands at the front
 pub message_at : (input window : List ℕ) (len size n : ℕ) (h : RequestHead)
     → Parsed input window len h → body_after h ≡ Some n → size ≡ len + n → size ≤ length input
-    → len ≤ 8192 → length h.fields ≤ 32
+    → len ≤ max_head → length h.fields ≤ 32
     → Reads input (record { head = h; body = slice_range input len size }) (drop size input)
 message_at input window len size n h p states size_is fits short few =
     let ordered : len ≤ size = omega arith in
@@ -149,10 +151,10 @@ message_size input len size n h len_is size_is fits =
     size_is ∙ sym (length-append (print_request h) (slice_range input len size)
     ∙ (λ i. sym len_is i + length-slice_range input len size ordered fits i) ∙ (omega arith))
 
-pub window_length : (input window : List ℕ) → window ≡ take 8192 input
-    → (length window ≤ 8192) × (length window ≤ length input)
+pub window_length : (input window : List ℕ) → window ≡ take max_head input
+    → (length window ≤ max_head) × (length window ≤ length input)
 window_length input window e =
-    let size : length window ≡ min 8192 (length input) = ap length e ∙ length-take 8192 input in
+    let size : length window ≡ min max_head (length input) = ap length e ∙ length-take max_head input in
     (omega arith, omega arith)
 
 -- at most as many fields as spans were written

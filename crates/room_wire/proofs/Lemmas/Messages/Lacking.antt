@@ -8,15 +8,16 @@ use Rattle.std.proofs.lemmas.Str.Ascii.{IsAscii-cons, IsAscii-nil}
 use Rattle.httparse.specs.Grammar.{RequestHead, IsRequestHead, is_token_byte, is_uri_byte, lf, print_request}
 use Rattle.httparse.specs.Grammar.{HasNoRequest, MayBecomeRequest}
 use Rattle.httparse.proofs.OpenLemmas.{letter_is_token}
+use Rattle.room_wire.specs.Messages.Limits.{max_head}
 use Rattle.room_wire.specs.Messages.MessageModel.{body_after}
 use Rattle.room_wire.specs.Messages.Taken.{LacksHead, LacksBody}
 use Rattle.room_wire.proofs.Lemmas.Messages.Fronts.{Parsed, after_head, head_size}
 
 -- a short input whose front is no whole head, and may become one
-pub lacks_head : (input window : List ℕ) → window ≡ take 8192 input → length input < 8192
+pub lacks_head : (input window : List ℕ) → window ≡ take max_head input → length input < max_head
     → HasNoRequest window → MayBecomeRequest window → LacksHead input
 lacks_head input window e short none may =
-    let whole : window ≡ input = e ∙ take_all 8192 input (omega arith) in
+    let whole : window ≡ input = e ∙ take_all max_head input (omega arith) in
     let None : List ℕ → Type 0 = λ bytes. HasNoRequest bytes in
     let May : List ℕ → Type 0 = λ bytes. MayBecomeRequest bytes in
     record { short = short; not_whole = subst None whole none; unfinished = subst May whole may }
@@ -48,7 +49,7 @@ lacks_all (b ∷ bytes) e = absurd (omega arith)
 -- a head that was read, whose body is longer than what follows
 pub lacks_body : (input window : List ℕ) (len n : ℕ) (h : RequestHead) → Parsed input window len h
     → body_after h ≡ Some n → len ≤ length input → length input < len + n
-    → len ≤ 8192 → length h.fields ≤ 32 → LacksBody input
+    → len ≤ max_head → length h.fields ≤ 32 → LacksBody input
 lacks_body input window len n h p states inside short fits few = record {
   head = h;
   rest = drop len input;

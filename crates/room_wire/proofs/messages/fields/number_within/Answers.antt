@@ -3,6 +3,7 @@ use Rattle.std.specs.Str.Parse.{digits_value}
 use Rattle.std.proofs.lemmas.Int.Digits.{digits_value_more}
 use Rattle.std.proofs.lemmas.Str.Parse.{digits_value-take-le}
 use Rattle.std.proofs.lemmas.Bool.Decides.{nat_tests}
+use Rattle.room_wire.specs.Messages.Limits.{max_body}
 use Rattle.room_wire.proofs.Lemmas.Messages.Values.{digit_at}
 use Rattle.room_wire.proofs.messages.fields.number_within.Goals as goal
 
@@ -13,7 +14,7 @@ returns-then-number-gt-MAX_BODY c =
     let digit = digit_at ds i c.loop-b-test.true c.requires in
     let step = digits_value_more 10 ds i c.loop-b-test.true in
     let front = digits_value-take-le 10 ds (i + 1) (omega arith) in
-    let large : 131072 < digits_value 10 ds = omega arith in
+    let large : max_body < digits_value 10 ds = omega arith in
     grind (arith, nat_tests)
 
 pub loop-b-preserved : goal.loop-b-preserved

@@ -1,5 +1,6 @@
 use Rattle.std.proofs.Common.{◌≡◌, ◌-◌, ◌^◌, ◌<◌, ℕ, List, min, length}
 use Rattle.std.specs.Io.KnownBytes.{Appends, Consumes}
+use Rattle.room_wire.specs.Messages.Limits.{max_message}
 use Rattle.room_wire.specs.Messages.MessageModel.{MessageModel, NoMessage}
 use Rattle.room_wire.specs.Serving.Outputs.{Outputs}
 use Rattle.room_wire.specs.Messages.Stream.{Follows}
@@ -9,7 +10,7 @@ abbrev pub invariant-reads : goal.invariant-reads
 invariant-reads g l =
     (bytes : List ℕ) × (ms : List MessageModel) × (out : List ℕ) × Follows bytes ms l.input
     × Outputs (g.S.Service.may_answer l.context) l.fn.service ms out l.service
-    × NoMessage l.input × (length l.input < 139264)
+    × NoMessage l.input × (length l.input < max_message)
     × Consumes (g.R.Read.remaining l.fn.reader) (g.R.Read.remaining l.reader) bytes
     × Appends (g.W.Write.contents l.fn.writer) (g.W.Write.contents l.writer) out
     × (l.count ≡ min (length ms) (2 ^ 64 - 1))
