@@ -55,8 +55,11 @@ listed_kind : (nodes : List Node) → InNameOrder nodes → (node : Node) → Co
     → lookup (name_eq (name_of node)) (map pair_of nodes) ≡ Some node.kind
 listed_kind nodes order node (k, below, is) =
     lookup-from_Contains nat_list_eq_equiv (name_of node) node.kind (map pair_of nodes)
-    (keys_apart (map pair_of nodes) (pairs_rise nodes order))
-    (k, omega (arith, below, length-map nodes pair_of), get_or-map pair_of nodes k node (pair_of node) below ∙ ap pair_of is)
+    (keys_apart (map pair_of nodes) (pairs_rise nodes order)) (
+      k,
+      omega (arith, below, length-map nodes pair_of),
+      get_or-map pair_of nodes k node (pair_of node) below ∙ ap pair_of is,
+    )
 
 module _ (t : ObjectRecords) (room : Room) (stand : RepresentsRoom t room)
     (path : Path) (id : ℕ) (at : HasPath t path id) where

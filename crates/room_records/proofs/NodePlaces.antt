@@ -6,7 +6,8 @@ use Rattle.std.proofs.lemmas.Option.{option_and_then_some}
 use Rattle.room_records.specs.declared.mem.nodes.NodeIndex.{NodeIndex}
 use Rattle.room_records.specs.declared.node.Node.{Node}
 use Rattle.room_records.specs.Names.{Name}
-use Rattle.room_records.specs.NodeIndex.{PlaceKey, node_in, id_at, place_of, IsNumbered, ArePlaced, AreAtPlace, IsFreeFor}
+use Rattle.room_records.specs.NodeIndex.{PlaceKey, node_in, id_at, place_of, IsNumbered, ArePlaced, AreAtPlace}
+use Rattle.room_records.specs.NodeIndex.{IsFreeFor}
 use Rattle.room_records.proofs.Keys.{Updated, same_place}
 use Rattle.room_records.proofs.RoomsMap.{some_is, none_is_some}
 

@@ -25,7 +25,8 @@ pub parts_of_path : (path : Path) → AllByRecursion IsFileName path
     → slice_split is_slash (flat_map (λ n. 47 ∷ n) path) ≡ [] ∷ path
 parts_of_path [] names = refl
 parts_of_path (name ∷ path) names =
-    ap (λ parts. [] ∷ parts) (part_before name (flat_map (λ n. 47 ∷ n) path) path names.0.bytes (parts_of_path path names.1))
+    ap (λ parts. [] ∷ parts)
+    (part_before name (flat_map (λ n. 47 ∷ n) path) path names.0.bytes (parts_of_path path names.1))
 
 joined : (name : Name) (path : Path) → join_with_byte 47 (name ∷ path) ≡ name ++ flat_map (λ n. 47 ∷ n) path
 joined name [] = sym (append-nil name)

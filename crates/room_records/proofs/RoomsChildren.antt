@@ -89,7 +89,8 @@ module _ {X : Type 0} where
   first_found : (e : Name × X) (es : List (Name × X)) → lookup (name_eq e.0) (e ∷ es) ≡ Some e.1
   first_found e es = rw (name_itself e.0) refl
 
-  not_missed : (e : Name × X) (es others : List (Name × X)) → AllByRecursion (λ y. name_cmp e.0 y ≡ Less) (keys_of others)
+  not_missed : (e : Name × X) (es others : List (Name × X))
+      → AllByRecursion (λ y. name_cmp e.0 y ≡ Less) (keys_of others)
       → lookup (name_eq e.0) (e ∷ es) ≡ lookup (name_eq e.0) others → ⊥
   not_missed e es others below same = none_is_some e.1 (sym (missed e.0 others below) ∙ sym same ∙ first_found e es)
 

@@ -88,7 +88,8 @@ module _ (new old : Name × ℕ → Option KeptModel) (name : Name) (at : ℕ) (
   one_more first none before sid slot =
       rw (put_slot_row sid slot, none, before sid slot) (one_fewer (bytes_eq sid name) slot at (first (sid, slot)))
 
-low_only : (same low : Bool) (o : Option KeptModel) → (IsSome o → low ≡ true) → cond (same && low) None o ≡ cond same None o
+low_only : (same low : Bool) (o : Option KeptModel) → (IsSome o → low ≡ true)
+    → cond (same && low) None o ≡ cond same None o
 low_only same low o some = grind arith
 
 there_before : (gone : Bool) (o : Option KeptModel) → IsSome (cond gone None o) → IsSome o

@@ -1,4 +1,5 @@
-use Rattle.std.proofs.Common.{◌≡◌, ◌<◌, ℕ, List, refl, sym, take, drop, get_or, suc, ◌∷◌, drop-cons, length, length-take, arith}
+use Rattle.std.proofs.Common.{◌≡◌, ◌<◌, ℕ, List, refl, sym, take, drop, get_or, suc, ◌∷◌, drop-cons, length}
+use Rattle.std.proofs.Common.{length-take, arith}
 use Rattle.std.specs.declared.cmp.Ordering.TheVariants.{Less, Equal}
 use Rattle.std.proofs.lemmas.List.{take-append-drop}
 use Rattle.room_acl.specs.SubjectModel.{SubjectModel}

@@ -7,5 +7,6 @@ use Rattle.room_roster.proofs.NameLists.{Reads}
 use Rattle.room_roster.proofs.groups.names.Given as goal
 
 abbrev pub invariant-loop-value : goal.invariant-loop-value
-invariant-loop-value l = Reads list_of_names (items_view l.values) (items_view (drop l.value-index l.values)) l.names.items
+invariant-loop-value l =
+    Reads list_of_names (items_view l.values) (items_view (drop l.value-index l.values)) l.names.items
     × AllByRecursion IsPrincipal l.names.items

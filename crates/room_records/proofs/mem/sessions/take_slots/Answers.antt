@@ -17,6 +17,7 @@ loop-slot-preserved c =
     let now = c.loop-slot.invariant in
     record {
       name = now.name;
-      slots = one_more _ _ _ _ _ (rw now.name at c.take.ensures.held) (held slot_cmp c.args.kept.now.slots) refl now.slots;
+      slots = one_more _ _ _ _ _ (rw now.name at c.take.ensures.held) (held slot_cmp c.args.kept.now.slots) refl
+          now.slots;
       rooms = λ key room. c.take.ensures.kept key (now.rooms key room);
     }
