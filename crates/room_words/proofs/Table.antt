@@ -1,9 +1,9 @@
 -- Words that are no row of the command table, and words that are.
-use Rattle.std.proofs.Common.{◌≡◌, ◌∙◌, ap, sym, Bool, true, false, cond, List, [], ◌∷◌, map, Option, Some, None}
-use Rattle.std.proofs.Common.{option_map, Result, Ok, Err, IfOk, IfErr, is_some, IfSome, ℕ, ◌<◌, ◌⊎◌, lit<, Box, codes}
-use Rattle.std.proofs.Common.{inl, inr, refl, subst, slice_index, arith}
+use Rattle.std.proofs.Common.{◌≡◌, ◌∙◌, ap, sym, Bool, true, false, List, [], ◌∷◌, map, Option, Some, None}
+use Rattle.std.proofs.Common.{option_map, Result, Ok, Err, IfOk, IfErr, is_some, IfSome, ℕ, Box, codes}
+use Rattle.std.proofs.Common.{inl, inr, refl}
 use Rattle.std.specs.Prelude.{find, not, ◌&&◌}
-use Rattle.clap.specs.Words.{Row, Shape, Text, fault_of, kind_of, subcommand_of, HasKind, IsAmong}
+use Rattle.clap.specs.Words.{Row, Shape, Text, fault_of, kind_of, subcommand_of, HasKind}
 use Rattle.std.specs.Str.Parse.{digits_value, without_leading_plus}
 use Rattle.clap.specs.Matches.{ReadsOne}
 use Rattle.clap.specs.Kinds.{Kinds, or_else, check_kinds}
@@ -22,8 +22,6 @@ use Rattle.clap.specs.Walk.{Names, Held, Rule, answers_to, walk, walk_from, fini
 use Rattle.clap.specs.Simple.{App, built, entered, rows_at, label_of, subcommand_rows, argument_words, names_of}
 use Rattle.clap.specs.declared.builder.value_parser.ValueParser.{ValueParser}
 use Rattle.clap.specs.declared.error.Error.{Error}
-use Rattle.clap.specs.declared.error.kind.ErrorKind.{ErrorKind}
-use Rattle.clap.specs.declared.error.kind.ErrorKind.TheVariants as kind
 use Rattle.clap.proofs.OnLiterals.{clap_on_literals}
 use Rattle.room_words.specs.declared.job.Job.{Job}
 use Rattle.room_words.specs.declared.job.Job.TheVariants.{Check, Init, Replay, Serve, Report, Selftest}
@@ -45,8 +43,8 @@ told p words e Memory h k = tt
 -- words that are not refused are refused for want of memory alone
 taken_refused : (p : ValueParser) (words : List Text) (job : Job) (f : WordsFault)
     → fault_of (program_command p) words ≡ [] → ReadsWith p words (Err f) → IsReadAs job (Err f)
-taken_refused p words job (Usage text) none r = subst (λ (ks : Kinds). IsAmong r.0 ks) none r.1
-taken_refused p words job (Help text) none r = subst (λ (ks : Kinds). IsAmong r.0 ks) none r.1
+taken_refused p words job (Usage text) none r = rw none at r.1
+taken_refused p words job (Help text) none r = rw none at r.1
 taken_refused p words job Memory none r = tt
 
 named : (p : ValueParser) (words : List Text) (row : Text × List Row) (one : Text)
@@ -136,12 +134,10 @@ or_else_none : (ks next : Kinds) → or_else ks next ≡ [] → next ≡ []
 or_else_none [] next e = e
 or_else_none (k ∷ ks) next e = cc
 
-wanted_true : (a c : Bool) → check_kinds a true c ≡ [] → ⊥
-wanted_true true c e = cc
-wanted_true false c e = cc
-
 wanted : (a b c : Bool) → b ≡ true → check_kinds a b c ≡ [] → ⊥
-wanted a b c is e = wanted_true a c (subst (λ (x : Bool). check_kinds a x c ≡ []) is e)
+wanted true true c is e = cc
+wanted false true c is e = cc
+wanted a false c is e = cc
 
 level_wanted : (s : Shape) (names : Names) (h : Held) (words : List Text) (has : Bool) (below : Kinds)
     → has ≡ false → s.subcommand_required ≡ true → level_fault s names h words has below ≡ [] → ⊥

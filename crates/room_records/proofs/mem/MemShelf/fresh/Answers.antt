@@ -15,18 +15,14 @@ add-requires-clause-absent c =
 
 pub returns-clause-rows : goal.returns-clause-rows
 returns-clause-rows c =
-    let empty = c.empty-shelf.result in
     let none : (id : ℕ) → node_in c.reserve.new.self.nodes.slots id ≡ None =
     λ id. c.reserve.ensures.same id ∙ ap (λ (r : Records). r.objects.node id) c.empty-shelf.ensures in
     let nodes =
     c.add.ensures.nodes (free_of_none (node_in c.reserve.new.self.nodes.slots) c.fresh_root-root.result none) in
-    let read = read_put (λ o. unwrap_or (option_map (λ e. e.items) o) [])
-    (held nat_cmp c.put.new.self.slots) (held nat_cmp c.reserve-2.new.self.slots) 1
-    (Some c.in_ok-entries.entries) c.put.ensures.held in
+    let read = read_put (λ o. unwrap_or (option_map (λ e. e.items) o) []) _ _ _ _ c.put.ensures.held in
     let no_entries : (id : ℕ)
     → unwrap_or (option_map (λ e. e.items) (held nat_cmp c.reserve-2.new.self.slots id)) [] ≡ [] =
-    λ id. ap (λ o. unwrap_or (option_map (λ e. e.items) o) []) (c.reserve-2.ensures.same id)
-    ∙ ap (λ (r : Records). r.objects.entries id) c.empty-shelf.ensures in
+    λ id. rw (c.reserve-2.ensures.same id) (ap (λ (r : Records). r.objects.entries id) c.empty-shelf.ensures) in
     λ i. record {
       objects = record {
         node = λ id. (nodes id
@@ -35,8 +31,8 @@ returns-clause-rows c =
         document = λ id. (c.empty-shelf.ensures i).objects.document id;
         next = (c.empty-shelf.ensures i).objects.next;
       };
-      session = λ sid. (c.empty-shelf.ensures i).session sid;
-      slot = λ sid slot. (c.empty-shelf.ensures i).slot sid slot;
+      session = (c.empty-shelf.ensures i).session;
+      slot = (c.empty-shelf.ensures i).slot;
     }
 
 pub returns-clause-rules : goal.returns-clause-rules
@@ -44,6 +40,3 @@ returns-clause-rules c = rules_of _ c.args.owner c.args.group (returns-clause-ro
 
 pub returns-clause-stands : goal.returns-clause-stands
 returns-clause-stands c = represents_of _ c.args.owner c.args.group (returns-clause-rows c)
-
-pub returns-clause-made : goal.returns-clause-made
-returns-clause-made c = record { available = tt; laid_out = tt; no_failure = refl; leaves = (_, refl) }

@@ -9,6 +9,3 @@ invariant_of-self c = record {
 
 pub returns-clause-slots : goal.returns-clause-slots
 returns-clause-slots c = none_left _ _ _ c.args.self.now.few c.take_slots.ensures.slots
-
-pub returns-clause-kept : goal.returns-clause-kept
-returns-clause-kept c = λ sid slot room. c.take_slots.ensures.kept (sid, slot) room
