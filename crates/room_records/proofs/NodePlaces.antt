@@ -31,20 +31,14 @@ index_same index same_nodes same_places = record {
 module _ {nodes new_nodes : ℕ → Option Node} {places : PlaceKey → Option ℕ}
     (index : IsIndex nodes places) {id : ℕ} (taken : Updated new_nodes nodes id None) where
   still : {k : ℕ} {node : Node} → new_nodes k ≡ Some node → (k ≡ id → ⊥) × (nodes k ≡ Some node)
-  still {k} {node} h = elim (cases_eq k id) [
-    | inl e ↦ absurd (none_is_some node (sym taken.here ∙ rw e at h))
-    | inr apart ↦ (apart, sym (taken.other k apart) ∙ h)
-  ]
+  still {k} {node} h = grind (arith, taken.here, taken.other k)
 
   -- without a node that has no place
   pub index_without : option_and_then place_of (nodes id) ≡ None → IsIndex new_nodes places
   index_without no_place = record {
     numbered = λ k node h. index.numbered k node (still h).1;
     placed = λ k node place h own. index.placed k node place (still h).1 own;
-    at_place = λ place k h. elim (cases_eq k id) [
-      | inl e ↦ absurd (none_is_some place (sym no_place ∙ rw e at (index.at_place place k h)))
-      | inr apart ↦ rw (taken.other k apart) (index.at_place place k h)
-    ];
+    at_place = λ place k h. grind (arith, taken.other k, index.at_place place k h);
   }
 
   -- without a node and its place
@@ -75,10 +69,7 @@ module _ {nodes new_nodes : ℕ → Option Node} {places : PlaceKey → Option �
     (put : Updated new_nodes nodes node.id (Some node)) where
   new_or_old : {k : ℕ} {other : Node} → new_nodes k ≡ Some other
       → ((k ≡ node.id) × (node ≡ other)) ⊎ (nodes k ≡ Some other)
-  new_or_old {k} {other} h = elim (cases_eq k node.id) [
-    | inl e ↦ inl (e, some_is node other (sym put.here ∙ rw e at h))
-    | inr apart ↦ inr (sym (put.other k apart) ∙ h)
-  ]
+  new_or_old {k} {other} h = grind (arith, put.here, put.other k)
 
   numbered_with : IsNumbered new_nodes
   numbered_with k other h = elim (new_or_old h) [
@@ -87,10 +78,7 @@ module _ {nodes new_nodes : ℕ → Option Node} {places : PlaceKey → Option �
   ]
 
   there : (q : PlaceKey) (k : ℕ) → places q ≡ Some k → option_and_then place_of (new_nodes k) ≡ Some q
-  there q k h = elim (cases_eq k node.id) [
-    | inl e ↦ absurd (none_is_some q (rw (e, absent) at (index.at_place q k h)))
-    | inr apart ↦ rw (put.other k apart) (index.at_place q k h)
-  ]
+  there q k h = grind (arith, put.other k, index.at_place q k h)
 
   -- with a node that has no place
   pub index_with : place_of node ≡ None → IsIndex new_nodes places

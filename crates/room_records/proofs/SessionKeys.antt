@@ -58,9 +58,7 @@ pub put_row : (new old : Name → Option SessionCell) (row : SessionRow) (cell :
     → ((k : Name) → new k ≡ cond (eq_by_cmp name_cmp row.sid k) (Some cell) (old k))
     → (sid : Name) → option_map (session_row sid) (new sid)
     ≡ cond (bytes_eq sid row.sid) (Some row) (option_map (session_row sid) (old sid))
-put_row new old row cell is h sid =
-    ap (option_map (session_row sid)) (h sid ∙ ap (λ b. cond b (Some cell) (old sid)) (name_key row.sid sid))
-    ∙ elim (name_test sid row.sid) [ inl e ↦ rw (e.1, e.0) (ap Some is) | inr e ↦ rw e.1 refl ]
+put_row new old row cell is h sid = grind (arith, h sid, name_key row.sid sid, name_test sid row.sid)
 
 one_fewer : (same : Bool) (slot at : ℕ) (o : Option KeptModel)
     → cond (same && (slot == at)) None (cond (same && nat_lt slot at) None o)
@@ -74,10 +72,7 @@ module _ (new old : Name × ℕ → Option KeptModel) (name : Name) (at : ℕ) (
   put_slot_row sid slot = h (sid, slot) ∙ ap (λ b. cond b value (old (sid, slot))) (slot_key name at sid slot)
 
   pub still_few : AreFewSlots (λ sid slot. old (sid, slot)) → at < max_slots → AreFewSlots (λ sid slot. new (sid, slot))
-  still_few few low sid slot some = elim (cases_Bool (bytes_eq sid name && (slot == at))) [
-    | inl here ↦ omega (arith, eqb-true slot at (and_parts _ _ here).1, low)
-    | inr other ↦ few sid slot (rw (put_slot_row sid slot, other) at some)
-  ]
+  still_few few low sid slot some = grind (arith, put_slot_row sid slot, few sid slot)
 
   -- one more slot taken out
   pub one_more : (first : Name × ℕ → Option KeptModel) → value ≡ None
@@ -92,8 +87,7 @@ low_only : (same low : Bool) (o : Option KeptModel) → (IsSome o → low ≡ tr
 low_only same low o some = grind arith
 
 there_before : (gone : Bool) (o : Option KeptModel) → IsSome (cond gone None o) → IsSome o
-there_before true o some = absurd (let no : false ≡ true = some in cc)
-there_before false o some = some
+there_before gone o some = grind arith
 
 -- without the slots below the limit a session has none
 module _ (new old : Name → ℕ → Option KeptModel) (name : Name) (few : AreFewSlots old) (h : (sid : Name) (slot : ℕ)
@@ -110,7 +104,4 @@ none_taken b slot o = grind arith
 
 pub still_counted : (new old : Name → Option SessionRow) (row : SessionRow) → HaveSlotCounts old → row.slots ≤ max_slots
     → ((sid : Name) → new sid ≡ cond (bytes_eq sid row.sid) (Some row) (old sid)) → HaveSlotCounts new
-still_counted new old row counted few h sid other is = elim (cases_Bool (bytes_eq sid row.sid)) [
-  | inl here ↦ (let same : row ≡ other = some_is row other (rw here at (sym (h sid) ∙ is)) in rw (← same) few)
-  | inr there ↦ counted sid other (rw there at (sym (h sid) ∙ is))
-]
+still_counted new old row counted few h sid other is = grind (arith, h sid, counted sid other)
