@@ -35,8 +35,7 @@ module _ {K : Type 0} {cmp : K → K → Ordering} (total : IsTotalOrder cmp) (e
       → ((k : K) → new k ≡ cond (eq_by_cmp cmp key k) value (old k)) → Updated new old key value
   updated {key = key} h = record {
     here = h key ∙ cond-true _ _ _ ((eq_by_cmp_equiv total).refl key);
-    other = λ k apart. h k
-        ∙ cond-false _ _ _ (false_from_ne_true _ (λ e. apart (sym (tells_apart exact key k e))));
+    other = λ k apart. grind (arith, h k, tells_apart exact key k);
   }
 
 exact_options : {X : Type 0} (R : X → X → Ordering) → CmpEqualImpliesEq R → CmpEqualImpliesEq (option_cmp R)

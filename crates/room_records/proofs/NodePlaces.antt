@@ -47,21 +47,9 @@ module _ {nodes new_nodes : ℕ → Option Node} {places : PlaceKey → Option �
       → Updated new_places places place None → IsIndex new_nodes new_places
   index_without_child {node} {place} is own freed = record {
     numbered = λ k other h. index.numbered k other (still h).1;
-    placed = λ k other q h here.
-        let before = index.placed k other q (still h).1 here in
-        elim (same_place q place) [
-          | inl e ↦ absurd ((still h).0 (some_is k id (sym (rw e at before) ∙ index.placed id node place is own)))
-          | inr apart ↦ freed.other q apart ∙ before
-        ];
-    at_place = λ q k h. elim (same_place q place) [
-      | inl e ↦ absurd (none_is_some k (sym freed.here ∙ rw e at h))
-      | inr apart ↦ (
-          let before = index.at_place q k (sym (freed.other q apart) ∙ h) in
-          elim (cases_eq k id) [
-            | inl e ↦ absurd (apart (some_is q place (sym before ∙ rw (e, is) own)))
-            | inr other ↦ rw (taken.other k other) before
-          ])
-    ];
+    placed = λ k other q h here. grind (arith, still h, same_place q place, freed.other q, index.placed k other q,
+        index.placed id node place is own);
+    at_place = λ q k h. grind (arith, same_place q place, freed.here, freed.other q, index.at_place q k, taken.other k);
   }
 
 module _ {nodes new_nodes : ℕ → Option Node} {places : PlaceKey → Option ℕ}
@@ -72,10 +60,7 @@ module _ {nodes new_nodes : ℕ → Option Node} {places : PlaceKey → Option �
   new_or_old {k} {other} h = grind (arith, put.here, put.other k)
 
   numbered_with : IsNumbered new_nodes
-  numbered_with k other h = elim (new_or_old h) [
-    | inl new ↦ rw (← new.1) (sym new.0)
-    | inr old ↦ index.numbered k other old
-  ]
+  numbered_with k other h = grind (arith, new_or_old h, index.numbered k other)
 
   there : (q : PlaceKey) (k : ℕ) → places q ≡ Some k → option_and_then place_of (new_nodes k) ≡ Some q
   there q k h = grind (arith, put.other k, index.at_place q k h)
@@ -84,10 +69,7 @@ module _ {nodes new_nodes : ℕ → Option Node} {places : PlaceKey → Option �
   pub index_with : place_of node ≡ None → IsIndex new_nodes places
   index_with no_place = record {
     numbered = numbered_with;
-    placed = λ k other q h here. elim (new_or_old h) [
-      | inl new ↦ absurd (none_is_some q (sym no_place ∙ rw (← new.1) at here))
-      | inr old ↦ index.placed k other q old here
-    ];
+    placed = λ k other q h here. grind (arith, new_or_old h, index.placed k other q);
     at_place = there;
   }
 
@@ -97,21 +79,9 @@ module _ {nodes new_nodes : ℕ → Option Node} {places : PlaceKey → Option �
       → Updated new_places places place (Some node.id) → IsIndex new_nodes new_places
   index_with_child {place} own free used = record {
     numbered = numbered_with;
-    placed = λ k other q h here. elim (new_or_old h) [
-      | inl new ↦ (
-          let q_is : place ≡ q = some_is place q (sym own ∙ rw (← new.1) at here) in rw (← q_is, new.0) used.here)
-      | inr old ↦ (
-          let before = index.placed k other q old here in
-          elim (same_place q place) [
-            | inl e ↦ absurd (none_is_some k (sym free ∙ rw e at before))
-            | inr apart ↦ used.other q apart ∙ before
-          ])
-    ];
-    at_place = λ q k h. elim (same_place q place) [
-      | inl e ↦ (
-          let k_is : node.id ≡ k = some_is node.id k (sym used.here ∙ rw e at h) in rw (← k_is, put.here, e) own)
-      | inr apart ↦ there q k (sym (used.other q apart) ∙ h)
-    ];
+    placed = λ k other q h here. grind (arith, new_or_old h, same_place q place, used.here, used.other q,
+        index.placed k other q);
+    at_place = λ q k h. grind (arith, same_place q place, used.here, used.other q, there q k, put.here);
   }
 
 pub place_parts : (parent : Option ℕ) (name : Option Name) (place : PlaceKey)
