@@ -45,8 +45,7 @@ abbrev pub places_between : ℕ → List PlaceEntry → List PlaceEntry
 places_between parent es = entries_between place_cmp (Included (parent, None)) (Excluded (parent + 1, None)) es
 
 none_first : (name : Option Name) → option_cmp name_cmp None name ≡ Greater → ⊥
-none_first None e = cc
-none_first (Some name) e = cc
+none_first name e = grind arith
 
 only_one : (p q : ℕ) (o : Ordering) → (o ≡ Greater → ⊥)
     → (is_le (ordering_then (nat_cmp p q) o) && not (is_le (ordering_then (nat_cmp (p + 1) q) o))) ≡ true → q ≡ p
@@ -206,8 +205,7 @@ module _ (t : ObjectRecords) (places : Places) (index : IsIndex t.node (id_at pl
       (All-found place_total places ordered))
 
   slot_of : (o : Option (Option ℕ)) (id : ℕ) → value_in o ≡ Some id → o ≡ Some (Some id)
-  slot_of None id h = cc
-  slot_of (Some slot) id h = ap Some h
+  slot_of o id h = grind arith
 
   pub children_are : NodeRules t.node → (parent : ℕ)
       → AreChildren t parent (shown t.node (places_between parent places.entries))

@@ -23,8 +23,7 @@ module _ (owner group : List ℕ) where
   not_root (a ∷ path) name = refl
 
   few_there : (path : Path) → length (children (fresh_room owner group) path) ≤ max_children
-  few_there [] = omega arith
-  few_there (a ∷ path) = omega arith
+  few_there path = grind arith
 
   pub fresh_is_room : IsRoom (fresh_room owner group)
   fresh_is_room = record {
@@ -51,16 +50,10 @@ module _ (owner group : List ℕ) where
   }
 
   at_one : (id : ℕ) (node : Node) → rows.node id ≡ Some node → (id ≡ 1) × (root_node ≡ node)
-  at_one id node h = elim (same_or_other id 1) [
-    | inl one ↦ (one, some_is root_node node (rw (eq-eqb id 1 one) at h))
-    | inr other ↦ absurd (none_is_some node (rw (ne_eqb id 1 other) at h))
-  ]
+  at_one id node h = grind arith
 
   no_entries : (id : ℕ) → rows.node id ≡ None → rows.entries id ≡ []
-  no_entries id h = elim (same_or_other id 1) [
-    | inl one ↦ absurd (none_is_some root_node (sym (rw (eq-eqb id 1 one) at h)))
-    | inr other ↦ if_other id 1 fresh_entries [] other
-  ]
+  no_entries id h = grind arith
 
   pub rules : ObjectRules rows
   rules = record {

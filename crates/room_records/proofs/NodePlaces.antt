@@ -32,20 +32,14 @@ index_same index same_nodes same_places = record {
 module _ {nodes new_nodes : ℕ → Option Node} {places : PlaceKey → Option ℕ}
     (index : IsIndex nodes places) {id : ℕ} (taken : Updated new_nodes nodes id None) where
   still : {k : ℕ} {node : Node} → new_nodes k ≡ Some node → (k ≡ id → ⊥) × (nodes k ≡ Some node)
-  still {k} {node} h = elim (cases_eq k id) [
-    | inl e ↦ absurd (none_is_some node (sym taken.here ∙ rw e at h))
-    | inr apart ↦ (apart, sym (taken.other k apart) ∙ h)
-  ]
+  still {k} {node} h = grind (arith, taken.here, taken.other k)
 
   -- without a node that has no place
   pub index_without : option_and_then place_of (nodes id) ≡ None → IsIndex new_nodes places
   index_without no_place = record {
     numbered = λ k node h. index.numbered k node (still h).1;
     placed = λ k node place h own. index.placed k node place (still h).1 own;
-    at_place = λ place k h. elim (cases_eq k id) [
-      | inl e ↦ absurd (none_is_some place (sym no_place ∙ rw e at (index.at_place place k h)))
-      | inr apart ↦ rw (taken.other k apart) (index.at_place place k h)
-    ];
+    at_place = λ place k h. grind (arith, taken.other k, index.at_place place k h);
   }
 
   -- without a node and its place
@@ -54,21 +48,15 @@ module _ {nodes new_nodes : ℕ → Option Node} {places : PlaceKey → Option �
       → Updated new_places places place None → IsIndex new_nodes new_places
   index_without_child {node} {place} is own freed = record {
     numbered = λ k other h. index.numbered k other (still h).1;
-    placed = λ k other q h here.
-        let before = index.placed k other q (still h).1 here in
-        elim (same_place q place) [
-          | inl e ↦ absurd ((still h).0 (some_is k id (sym (rw e at before) ∙ index.placed id node place is own)))
-          | inr apart ↦ freed.other q apart ∙ before
-        ];
-    at_place = λ q k h. elim (same_place q place) [
-      | inl e ↦ absurd (none_is_some k (sym freed.here ∙ rw e at h))
-      | inr apart ↦ (
-          let before = index.at_place q k (sym (freed.other q apart) ∙ h) in
-          elim (cases_eq k id) [
-            | inl e ↦ absurd (apart (some_is q place (sym before ∙ rw (e, is) own)))
-            | inr other ↦ rw (taken.other k other) before
-          ])
-    ];
+    placed = λ k other q h here. grind (
+      arith,
+      still h,
+      same_place q place,
+      freed.other q,
+      index.placed k other q,
+      index.placed id node place is own,
+    );
+    at_place = λ q k h. grind (arith, same_place q place, freed.here, freed.other q, index.at_place q k, taken.other k);
   }
 
 module _ {nodes new_nodes : ℕ → Option Node} {places : PlaceKey → Option ℕ}
@@ -76,31 +64,19 @@ module _ {nodes new_nodes : ℕ → Option Node} {places : PlaceKey → Option �
     (put : Updated new_nodes nodes node.id (Some node)) where
   new_or_old : {k : ℕ} {other : Node} → new_nodes k ≡ Some other
       → ((k ≡ node.id) × (node ≡ other)) ⊎ (nodes k ≡ Some other)
-  new_or_old {k} {other} h = elim (cases_eq k node.id) [
-    | inl e ↦ inl (e, some_is node other (sym put.here ∙ rw e at h))
-    | inr apart ↦ inr (sym (put.other k apart) ∙ h)
-  ]
+  new_or_old {k} {other} h = grind (arith, put.here, put.other k)
 
   numbered_with : IsNumbered new_nodes
-  numbered_with k other h = elim (new_or_old h) [
-    | inl new ↦ rw (← new.1) (sym new.0)
-    | inr old ↦ index.numbered k other old
-  ]
+  numbered_with k other h = grind (arith, new_or_old h, index.numbered k other)
 
   there : (q : PlaceKey) (k : ℕ) → places q ≡ Some k → option_and_then place_of (new_nodes k) ≡ Some q
-  there q k h = elim (cases_eq k node.id) [
-    | inl e ↦ absurd (none_is_some q (rw (e, absent) at (index.at_place q k h)))
-    | inr apart ↦ rw (put.other k apart) (index.at_place q k h)
-  ]
+  there q k h = grind (arith, put.other k, index.at_place q k h)
 
   -- with a node that has no place
   pub index_with : place_of node ≡ None → IsIndex new_nodes places
   index_with no_place = record {
     numbered = numbered_with;
-    placed = λ k other q h here. elim (new_or_old h) [
-      | inl new ↦ absurd (none_is_some q (sym no_place ∙ rw (← new.1) at here))
-      | inr old ↦ index.placed k other q old here
-    ];
+    placed = λ k other q h here. grind (arith, new_or_old h, index.placed k other q);
     at_place = there;
   }
 
@@ -110,21 +86,15 @@ module _ {nodes new_nodes : ℕ → Option Node} {places : PlaceKey → Option �
       → Updated new_places places place (Some node.id) → IsIndex new_nodes new_places
   index_with_child {place} own free used = record {
     numbered = numbered_with;
-    placed = λ k other q h here. elim (new_or_old h) [
-      | inl new ↦ (
-          let q_is : place ≡ q = some_is place q (sym own ∙ rw (← new.1) at here) in rw (← q_is, new.0) used.here)
-      | inr old ↦ (
-          let before = index.placed k other q old here in
-          elim (same_place q place) [
-            | inl e ↦ absurd (none_is_some k (sym free ∙ rw e at before))
-            | inr apart ↦ used.other q apart ∙ before
-          ])
-    ];
-    at_place = λ q k h. elim (same_place q place) [
-      | inl e ↦ (
-          let k_is : node.id ≡ k = some_is node.id k (sym used.here ∙ rw e at h) in rw (← k_is, put.here, e) own)
-      | inr apart ↦ there q k (sym (used.other q apart) ∙ h)
-    ];
+    placed = λ k other q h here. grind (
+      arith,
+      new_or_old h,
+      same_place q place,
+      used.here,
+      used.other q,
+      index.placed k other q,
+    );
+    at_place = λ q k h. grind (arith, same_place q place, used.here, used.other q, there q k, put.here);
   }
 
 pub place_parts : (parent : Option ℕ) (name : Option Name) (place : PlaceKey)

@@ -1,10 +1,9 @@
 -- Facts on options.
-use Rattle.std.proofs.Common.{◌≡◌, sym, refl, subst, Option, None, Some, IsSome, Result, Ok, Err}
+use Rattle.std.proofs.Common.{◌≡◌, arith, sym, refl, subst, Option, None, Some, IsSome, Result, Ok, Err}
 use Rattle.std.specs.Prelude.{IfOk}
 
 pub none_is_not_some : {X : Type 0} (o : Option X) → o ≡ None → IsSome o → ⊥
-none_is_not_some None none some = absurd cc
-none_is_not_some (Some x) none some = absurd cc
+none_is_not_some o none some = grind arith
 
 -- where there can be no value there is none
 pub none_if : {X : Type 0} (o : Option X) → ((x : X) → o ≡ Some x → ⊥) → o ≡ None

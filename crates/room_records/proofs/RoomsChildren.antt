@@ -68,18 +68,15 @@ module _ {X : Type 0} where
   lookup_insert : (n k : Name) (v : X) (es : List (Name × X))
       → lookup (name_eq n) (insert_entry name_cmp es k v) ≡ cond (name_eq n k) (Some v) (lookup (name_eq n) es)
   lookup_insert n k v [] = refl
-  lookup_insert n k v (e ∷ es) = elim (three_ways (name_cmp k e.0)) [
-    | inl less ↦ rw less refl
-    | inr (inl equal) ↦ rw (equal, exact_bytes k e.0 equal)
-        (elim (cases_Bool (name_eq n e.0)) [ inl here ↦ rw here refl | inr there ↦ rw there refl ])
-    | inr (inr greater) ↦ rw (greater, lookup_insert n k v es) (elim (cases_Bool (name_eq n e.0)) [
-      | inl here ↦ (
-          let apart : name_eq n k ≡ false =
-          rw (same_name n e.0 here) (texts_ties e.0 k ∙ ap is_eq (above_is k e.0 greater)) in
-          rw (here, apart) refl)
-      | inr there ↦ rw there refl
-    ])
-  ]
+  lookup_insert n k v (e ∷ es) = grind (
+    arith,
+    three_ways (name_cmp k e.0),
+    exact_bytes k e.0,
+    same_name n e.0,
+    texts_ties e.0 k,
+    above_is k e.0,
+    lookup_insert n k v es,
+  )
 
   missed : (n : Name) (es : List (Name × X))
       → AllByRecursion (λ y. name_cmp n y ≡ Less) (keys_of es) → lookup (name_eq n) es ≡ None
@@ -141,10 +138,7 @@ at_child [] n [] = refl
 at_child [] n (m ∷ []) = and-true (name_eq n m)
 at_child [] n (m ∷ other ∷ path) = and_right (name_eq n m) _ refl
 at_child (a ∷ folder) n [] = refl
-at_child (a ∷ folder) n (b ∷ path) = elim (cases_Bool (name_eq a b)) [
-  | inl same ↦ rw same (at_child folder n path)
-  | inr other ↦ rw other refl
-]
+at_child (a ∷ folder) n (b ∷ path) = grind (arith, at_child folder n path)
 
 abbrev kind_of_found : Option Object → Option Kind
 kind_of_found o = option_map (λ (found : Object). found.kind) o
@@ -152,13 +146,7 @@ kind_of_found o = option_map (λ (found : Object). found.kind) o
 lookup_listed : (folder : Path) (n : Name) (es : List (Path × Object))
     → lookup (name_eq n) (filter_map (child_in folder) es) ≡ kind_of_found (lookup (path_eq (folder ++ n ∷ [])) es)
 lookup_listed folder n [] = refl
-lookup_listed folder n (e ∷ es) = rw (at_child folder n e.0) (elim (some_or_none (name_in folder e.0)) [
-  | inl none ↦ rw none (lookup_listed folder n es)
-  | inr named ↦ rw named.1 (elim (cases_Bool (name_eq n named.0)) [
-    | inl here ↦ rw here refl
-    | inr there ↦ rw there (lookup_listed folder n es)
-  ])
-])
+lookup_listed folder n (e ∷ es) = grind (arith, at_child folder n e.0, lookup_listed folder n es)
 
 -- a name in a folder stands for the object at the longer path, with its kind
 pub kind_of_child : (room : Room) (folder : Path) (n : Name) →
@@ -167,8 +155,7 @@ kind_of_child room folder n =
     lookup_by_name n (filter_map (child_in folder) room.objects) ∙ lookup_listed folder n room.objects
 
 is_some_kind : (o : Option Object) → is_some (kind_of_found o) ≡ is_some o
-is_some_kind None = refl
-is_some_kind (Some o) = refl
+is_some_kind o = grind arith
 
 pub is_child : (room : Room) (folder : Path) (n : Name)
     → is_some (lookup (name_eq n) (children room folder)) ≡ is_some (object_at room (folder ++ n ∷ []))
@@ -198,36 +185,20 @@ no_more_children room later folder other among =
 length_insert : {X : Type 0} (k : Name) (v : X) (es : List (Name × X))
     → length (insert_entry name_cmp es k v) ≤ length es + 1
 length_insert k v [] = omega arith
-length_insert k v (e ∷ es) = elim (three_ways (name_cmp k e.0)) [
-  | inl less ↦ rw less (omega arith)
-  | inr (inl equal) ↦ rw equal (omega arith)
-  | inr (inr greater) ↦ rw greater (omega (arith, length_insert k v es))
-]
+length_insert k v (e ∷ es) = grind (arith, three_ways (name_cmp k e.0), length_insert k v es)
 
 length_insert_new : {X : Type 0} (k : Name) (v : X) (es : List (Name × X))
     → lookup (name_eq k) es ≡ None → length (insert_entry name_cmp es k v) ≡ length es + 1
 length_insert_new k v [] none = refl
-length_insert_new k v (e ∷ es) none = elim (cases_Bool (name_eq k e.0)) [
-  | inl here ↦ absurd (none_is_some e.1 (sym (rw here at none)))
-  | inr there ↦ elim (three_ways (name_cmp k e.0)) [
-    | inl less ↦ rw less (omega arith)
-    | inr (inl equal) ↦ absurd (both_ways _ there (texts_ties k e.0 ∙ ap is_eq equal))
-    | inr (inr greater) ↦ rw greater (omega (arith, length_insert_new k v es (rw there at none)))
-  ]
-]
+length_insert_new k v (e ∷ es) none =
+    grind (arith, three_ways (name_cmp k e.0), texts_ties k e.0, length_insert_new k v es)
 
 -- what is found where one name more may be
 found_with : (room : Room) (folder : Path) (n m : Name) (kind : Kind)
     → (n ≡ m) ⊎ IsSome (object_at room (folder ++ n ∷ []))
     → IsSome (lookup (name_eq n) (insert_entry name_cmp (children room folder) m kind))
 found_with room folder n m kind found =
-    rw (lookup_insert n m kind (children room folder)) (elim found [
-      | inl new ↦ rw (new, name_itself m) refl
-      | inr old ↦ elim (cases_Bool (name_eq n m)) [
-        | inl here ↦ rw here refl
-        | inr there ↦ rw there (is_child room folder n ∙ old)
-      ]
-    ])
+    grind (arith, lookup_insert n m kind (children room folder), name_itself m, is_child room folder n)
 
 -- and one more, where one name is new
 pub one_more_child : (room later : Room) (folder other : Path) (m : Name) (kind : Kind)
@@ -265,8 +236,7 @@ nothing_in_empty room folder empty n = none_if _ (λ o stands.
 
 kind_found : (o : Option Object) (kind : Kind) → kind_of_found o ≡ Some kind
     → (found : Object) × (o ≡ Some found) × (found.kind ≡ kind)
-kind_found None kind h = absurd (none_is_some kind h)
-kind_found (Some found) kind h = (found, refl, some_is found.kind kind h)
+kind_found o kind h = grind arith
 
 -- a name and a kind are listed exactly where an object of that kind is at the longer path
 pub listed_is_there : (room : Room) (folder : Path) (n : Name) (kind : Kind) → Contains (children room folder) (n, kind)

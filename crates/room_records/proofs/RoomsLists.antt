@@ -1,5 +1,5 @@
 -- The list of an object: in its own words, and what it depends on.
-use Rattle.std.proofs.Common.{◌≡◌, refl, ap, sym, ◌∙◌, cond, List, [], ◌∷◌, ◌++◌, reverse, Option, None, Some}
+use Rattle.std.proofs.Common.{◌≡◌, arith, refl, ap, sym, ◌∙◌, cond, List, [], ◌∷◌, ◌++◌, reverse, Option, None, Some}
 use Rattle.std.proofs.Common.{option_map, append-nil, append_assoc}
 use Rattle.std.proofs.lemmas.List.{reverse-append, reverse-reverse}
 use Rattle.room_acl.specs.Entries.{EntryModel}
@@ -28,12 +28,10 @@ abbrev pub without_bytes : Option Object → Option Object
 without_bytes o = option_map (λ (found : Object). record found { bytes = [] }) o
 
 list_of_bare : (o : Option Object) (l : List EntryModel) → list_under o l ≡ list_under (without_bytes o) l
-list_of_bare None l = refl
-list_of_bare (Some o) l = refl
+list_of_bare o l = grind arith
 
 root_of_bare : (o : Option Object) → root_list o ≡ root_list (without_bytes o)
-root_of_bare None = refl
-root_of_bare (Some o) = refl
+root_of_bare o = grind arith
 
 -- where two rooms differ in bytes alone, lists are the same
 pub lists_without_bytes : (room other : Room)

@@ -52,10 +52,7 @@ StandsIn (e ∷ es) path o = ((e.0 ≡ path) × (e.1 ≡ o)) ⊎ StandsIn es pat
 pub found_stands : (es : List (Path × Object)) (path : Path) (o : Object)
     → lookup (path_eq path) es ≡ Some o → StandsIn es path o
 found_stands [] path o h = none_is_some o h
-found_stands (e ∷ es) path o h = elim (cases_Bool (path_eq path e.0)) [
-  | inl here ↦ inl (sym (same_path path e.0 here), some_is e.1 o (rw here at h))
-  | inr there ↦ inr (found_stands es path o (rw there at h))
-]
+found_stands (e ∷ es) path o h = grind (arith, same_path path e.0, found_stands es path o)
 
 -- and what stands there is found, since each path stands once
 pub standing_found : (es : List (Path × Object)) → AreObjects es

@@ -106,11 +106,7 @@ order_with (other ∷ users) user order = elim (three_ways (name_cmp user.name o
 
 length_with : (users : List SubjectModel) (user : SubjectModel) → length (with_user users user) ≤ length users + 1
 length_with [] user = omega arith
-length_with (other ∷ users) user = elim (three_ways (name_cmp user.name other.name)) [
-  | inl less ↦ rw less (omega arith)
-  | inr (inl equal) ↦ rw equal (omega arith)
-  | inr (inr above) ↦ rw above (omega (arith, length_with users user))
-]
+length_with (other ∷ users) user = grind (arith, three_ways (name_cmp user.name other.name), length_with users user)
 
 all_with : (P : SubjectModel → Type 0) (users : List SubjectModel) (user : SubjectModel)
     → AllByRecursion P users → P user → AllByRecursion P (with_user users user)

@@ -58,8 +58,7 @@ some_or_none None = inl refl
 some_or_none (Some x) = inr (x, refl)
 
 is_some_of : {X : Type 0} (o : Option X) → IsSome o → (x : X) × (o ≡ Some x)
-is_some_of None h = let f = h in cc
-is_some_of (Some x) h = (x, refl)
+is_some_of o h = grind arith
 
 module _ (t later : ObjectRecords) (rules : ObjectRules t) (shape : SameShape t later) where
   gone_before : (id : ℕ) → later.node id ≡ None → t.node id ≡ None

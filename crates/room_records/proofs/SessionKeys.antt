@@ -29,14 +29,10 @@ exact_slots = exact_pairs name_cmp nat_cmp exact_bytes exact_unsigned
 
 -- names are the same where the test says so
 pub name_test : (a b : Name) → ((a ≡ b) × (bytes_eq a b ≡ true)) ⊎ ((a ≡ b → ⊥) × (bytes_eq a b ≡ false))
-name_test a b = elim (cases_Bool (bytes_eq a b)) [
-  | inl same ↦ inl ((bytes_decides a b).0 same, same)
-  | inr other ↦ inr (λ e. both_ways _ other ((bytes_decides a b).1 e), other)
-]
+name_test a b = grind (arith, bytes_decides a b)
 
 pub number_test : (a b : ℕ) → ((a ≡ b) × ((a == b) ≡ true)) ⊎ ((a ≡ b → ⊥) × ((a == b) ≡ false))
-number_test a b =
-    elim (cases_eq a b) [ inl e ↦ inl (e, eq-eqb a b e) | inr apart ↦ inr (apart, ne_eqb a b apart) ]
+number_test a b = grind arith
 
 -- the tests of keys are those of their orders
 pub number_key : (a k : ℕ) → eq_by_cmp nat_cmp a k ≡ (k == a)
@@ -58,14 +54,7 @@ pub put_row : (new old : Name → Option SessionCell) (row : SessionRow) (cell :
     → ((k : Name) → new k ≡ cond (eq_by_cmp name_cmp row.sid k) (Some cell) (old k))
     → (sid : Name) → option_map (session_row sid) (new sid)
     ≡ cond (bytes_eq sid row.sid) (Some row) (option_map (session_row sid) (old sid))
-put_row new old row cell is h sid =
-    ap (option_map (session_row sid)) (h sid ∙ ap (λ b. cond b (Some cell) (old sid)) (name_key row.sid sid))
-    ∙ elim (name_test sid row.sid) [ inl e ↦ rw (e.1, e.0) (ap Some is) | inr e ↦ rw e.1 refl ]
-
-one_fewer : (same : Bool) (slot at : ℕ) (o : Option KeptModel)
-    → cond (same && (slot == at)) None (cond (same && nat_lt slot at) None o)
-    ≡ cond (same && nat_lt slot (at + 1)) None o
-one_fewer same slot at o = grind arith
+put_row new old row cell is h sid = grind (arith, h sid, name_key row.sid sid, name_test sid row.sid)
 
 module _ (new old : Name × ℕ → Option KeptModel) (name : Name) (at : ℕ) (value : Option KeptModel)
     (h : (k : Name × ℕ) → new k ≡ cond (eq_by_cmp slot_cmp (name, at) k) value (old k)) where
@@ -74,10 +63,7 @@ module _ (new old : Name × ℕ → Option KeptModel) (name : Name) (at : ℕ) (
   put_slot_row sid slot = h (sid, slot) ∙ ap (λ b. cond b value (old (sid, slot))) (slot_key name at sid slot)
 
   pub still_few : AreFewSlots (λ sid slot. old (sid, slot)) → at < max_slots → AreFewSlots (λ sid slot. new (sid, slot))
-  still_few few low sid slot some = elim (cases_Bool (bytes_eq sid name && (slot == at))) [
-    | inl here ↦ omega (arith, eqb-true slot at (and_parts _ _ here).1, low)
-    | inr other ↦ few sid slot (rw (put_slot_row sid slot, other) at some)
-  ]
+  still_few few low sid slot some = grind (arith, put_slot_row sid slot, few sid slot)
 
   -- one more slot taken out
   pub one_more : (first : Name × ℕ → Option KeptModel) → value ≡ None
@@ -85,33 +71,20 @@ module _ (new old : Name × ℕ → Option KeptModel) (name : Name) (at : ℕ) (
       → old (sid, slot) ≡ cond (bytes_eq sid name && nat_lt slot at) None (first (sid, slot)))
       → (sid : Name) (slot : ℕ)
       → new (sid, slot) ≡ cond (bytes_eq sid name && nat_lt slot (at + 1)) None (first (sid, slot))
-  one_more first none before sid slot =
-      rw (put_slot_row sid slot, none, before sid slot) (one_fewer (bytes_eq sid name) slot at (first (sid, slot)))
-
-low_only : (same low : Bool) (o : Option KeptModel) → (IsSome o → low ≡ true)
-    → cond (same && low) None o ≡ cond same None o
-low_only same low o some = grind arith
-
-there_before : (gone : Bool) (o : Option KeptModel) → IsSome (cond gone None o) → IsSome o
-there_before true o some = absurd (let no : false ≡ true = some in cc)
-there_before false o some = some
+  one_more first none before sid slot = grind (arith, put_slot_row sid slot, before sid slot)
 
 -- without the slots below the limit a session has none
 module _ (new old : Name → ℕ → Option KeptModel) (name : Name) (few : AreFewSlots old) (h : (sid : Name) (slot : ℕ)
     → new sid slot ≡ cond (bytes_eq sid name && nat_lt slot max_slots) None (old sid slot)) where
   pub none_left : (sid : Name) (slot : ℕ) → new sid slot ≡ cond (bytes_eq sid name) None (old sid slot)
-  none_left sid slot = h sid slot ∙ low_only (bytes_eq sid name) (nat_lt slot max_slots) (old sid slot)
-      (λ some. lt-ltb slot max_slots (few sid slot some))
+  none_left sid slot = grind (arith, h sid slot, few sid slot)
 
   pub few_left : AreFewSlots new
-  few_left sid slot some = few sid slot (there_before _ _ (rw (h sid slot) at some))
+  few_left sid slot some = grind (arith, h sid slot, few sid slot)
 
 pub none_taken : (b : Bool) (slot : ℕ) (o : Option KeptModel) → o ≡ cond (b && nat_lt slot 0) None o
 none_taken b slot o = grind arith
 
 pub still_counted : (new old : Name → Option SessionRow) (row : SessionRow) → HaveSlotCounts old → row.slots ≤ max_slots
     → ((sid : Name) → new sid ≡ cond (bytes_eq sid row.sid) (Some row) (old sid)) → HaveSlotCounts new
-still_counted new old row counted few h sid other is = elim (cases_Bool (bytes_eq sid row.sid)) [
-  | inl here ↦ (let same : row ≡ other = some_is row other (rw here at (sym (h sid) ∙ is)) in rw (← same) few)
-  | inr there ↦ counted sid other (rw there at (sym (h sid) ∙ is))
-]
+still_counted new old row counted few h sid other is = grind (arith, h sid, counted sid other)

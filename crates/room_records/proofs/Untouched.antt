@@ -1,5 +1,5 @@
 -- Rows that changes do not touch.
-use Rattle.std.proofs.Common.{◌≡◌, ℕ, refl, ap, ◌∙◌, List, [], ◌∷◌, None, Some}
+use Rattle.std.proofs.Common.{◌≡◌, arith, ℕ, refl, ap, ◌∙◌, List, [], ◌∷◌, None, Some}
 use Rattle.std.specs.Prelude.{◌==◌, ◌&&◌, if◌then◌else◌}
 use Rattle.std.specs.Str.{bytes_eq}
 use Rattle.room_records.specs.declared.change.Change.{Change}
@@ -35,15 +35,7 @@ untouched_itself r = untouched_by [] r r refl
 
 kept_by_one : (change : Change) (sid : List ℕ) (slot : ℕ) (a b : Records) → a.slot sid slot ≡ b.slot sid slot
     → (apply_change change a).slot sid slot ≡ (apply_change change b).slot sid slot
-kept_by_one (PutSlot row) sid slot a b same =
-    ap (λ kept. if bytes_eq sid row.sid && (slot == row.slot) then Some row.kept else kept) same
-kept_by_one (DropSlots gone) sid slot a b same = ap (λ kept. if bytes_eq sid gone then None else kept) same
-kept_by_one (PutNode node) sid slot a b same = same
-kept_by_one (DropNode gone) sid slot a b same = same
-kept_by_one (PutEntries at entries) sid slot a b same = same
-kept_by_one (PutDoc at bytes) sid slot a b same = same
-kept_by_one (PutSession row) sid slot a b same = same
-kept_by_one (PutNext n) sid slot a b same = same
+kept_by_one change sid slot a b same = grind arith
 
 -- what a slot keeps after changes goes by what it kept before them
 kept_by : (changes : List Change) (sid : List ℕ) (slot : ℕ) (a b : Records)

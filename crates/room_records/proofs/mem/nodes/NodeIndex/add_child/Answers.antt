@@ -1,4 +1,5 @@
-use Rattle.std.proofs.Common.{◌≡◌, ap, sym, ◌∙◌, None, Some, nat_cmp, Option, ℕ, List, cond, Bor, refl, true, false}
+use Rattle.std.proofs.Common.{◌≡◌, arith, ap, sym, ◌∙◌, None, Some, nat_cmp, Option, ℕ, List, cond, refl, true, false}
+use Rattle.std.proofs.Common.{Bor}
 use Rattle.std.specs.Ordering.{eq_by_cmp}
 use Rattle.std.specs.Option.{option_map, option_copied, is_some}
 use Rattle.room_records.specs.declared.node.Node.{Node}
@@ -17,8 +18,7 @@ copied_some None h = absurd cc
 copied_some (Some x) h = (x.now, refl)
 
 copied_none : {X : Type 0} (o : Option (Bor X)) → is_some o ≡ false → option_copied o ≡ None
-copied_none None h = refl
-copied_none (Some x) h = absurd cc
+copied_none o h = grind arith
 
 pub returns-then-is_some-clause-nodes : goal.returns-then-is_some-clause-nodes
 returns-then-is_some-clause-nodes c = λ free.
