@@ -1,20 +1,18 @@
 -- What the queries answer.
 use Rattle.std.proofs.Common.{◌≡◌, ℕ, pos, Bool, true, ◌&&◌, List, [], ◌∷◌, length, map, filter}
 use Rattle.std.proofs.Common.{Some, option_map, refl, sym, ap, subst, ◌∙◌, IsPermutation}
-use Rattle.std.proofs.Common.{IsSorted}
 use Rattle.std.specs.List.{AllByRecursion, list_all, AllZip}
-use Rattle.std.proofs.lemmas.List.Sorted.{length_permutation}
+use Rattle.std.proofs.lemmas.List.Sorted.{length_permutation, IsPermutation-map}
 use Rattle.std.proofs.lemmas.List.{length-map}
 use Rattle.sqlite_value.specs.declared.value.Value.TheVariants.{Null, Int, Text}
 use Rattle.sqlite_value.specs.Order.{Row, column}
 use Rattle.sqlite_trees.specs.Tree.{Trees, IsAscending}
 use Rattle.sqlite_sql.specs.Ops.{unary}
 use Rattle.sqlite_sql.specs.Term.{Term, Env, eval_all, holds}
-use Rattle.sqlite_sql.specs.Query.{IsAnswer, Output, output, key_cmp}
+use Rattle.sqlite_sql.specs.Query.{IsAnswer, Output, output}
 use Rattle.sqlite_sql.specs.Group.{value_over, IsSummary}
-use Rattle.sqlite_sql.proofs.QueryLemmas.{key_cmp_total}
 use Rattle.sqlite_sql.specs.Program.{overlay}
-use Rattle.sqlite_keyed.proofs.ListLemmas.{filter_same, ascending_from_map}
+use Rattle.sqlite_keyed.proofs.ListLemmas.{filter_same, ascending-map}
 use Rattle.sqlite.specs.State.{State, Shown}
 use Rattle.sqlite.proofs.Callers.{reads_as, one_permutation}
 use Rattle.sqlite.specs.Table.{Table}
@@ -33,49 +31,30 @@ use Rattle.room_tables.specs.Rows.{child_rows, shown_entry, entry_rows, IsEntryR
 use Rattle.room_tables.specs.Rows.{doc_rows, shown_session, session_rows, shown_slot, slot_rows, shown_next, next_rows}
 use Rattle.room_tables.specs.Rows.{shown_version, version_rows, IsVersion, shown_seq, seq_rows, shown_size, size_rows}
 use Rattle.room_tables.specs.Versions.{TellsVersion}
-use Rattle.room_tables.proofs.Meaning.{find_node_is, find_node_plain, find_child_is, find_child_plain, list_children_is}
-use Rattle.room_tables.proofs.Meaning.{list_children_plain, count_children_is, count_children_plain, list_entries_is}
-use Rattle.room_tables.proofs.Meaning.{list_entries_plain, find_doc_is, find_doc_plain, find_session_is}
-use Rattle.room_tables.proofs.Meaning.{find_session_plain, find_slot_is, find_slot_plain, find_next_is, find_next_plain}
-use Rattle.room_tables.proofs.Meaning.{find_version_is, find_version_plain, find_seq_is, find_seq_plain}
-use Rattle.room_tables.proofs.Meaning.{find_size_is, find_size_plain}
-use Rattle.room_tables.specs.Names.{name_keys, name_key, ByName, counted_row}
-use Rattle.room_tables.proofs.Queries.{passing, and_true, picked, found, listed, envs_are, sorted_keys}
+use Rattle.room_tables.proofs.Meaning.{find_node_means, find_child_means, list_children_means, count_children_means}
+use Rattle.room_tables.proofs.Meaning.{list_entries_means, find_doc_means, find_size_means, find_session_means}
+use Rattle.room_tables.proofs.Meaning.{find_slot_means, find_seq_means, find_next_means, find_version_means}
+use Rattle.room_tables.specs.Names.{ByName, counted_row}
+use Rattle.room_tables.proofs.Queries.{passing, and_true, picked, found, asked, arranged, listed, envs_are}
 use Rattle.room_tables.proofs.Queries.{only_permuted}
 use Rattle.sqlite_rules.proofs.ListLemmas.{all_has, all_from}
 use Rattle.sqlite_rules.proofs.ProbeLemmas.{has_mapped}
 use Rattle.room_tables.proofs.Removed.{has_permuted}
-use Rattle.room_tables.proofs.Sorted.{ascending_from_sorted, all_permutation}
 use Rattle.room_tables.proofs.Placed.{exact_entries}
 
 pub asks_node : (old new : State) (id : ℕ) (rows : List Row) → IsRoomDatabase old.now
     → Shown find_node_text (Int (pos id) ∷ []) old new rows → IsPermutation (node_rows old.now.trees id) rows
 asks_node old new id rows room h =
-    found find_node_query (Int (pos id) ∷ []) (old.now.trees 1) rows
-    (has 0 id) shown_node (λ r. and_true (has 0 id r)) (λ r. refl)
-    (picked (room_schema room.layout) old new find_node_text _ 1 _ _ [] _ rows room.schema (find_node_is room.layout)
-    (find_node_plain room.layout) refl h)
+    asked (room_schema room.layout) old new find_node_text (Int (pos id) ∷ []) 1 _ _ _ rows (has 0 id) shown_node
+    room.schema (find_node_means room.layout) refl (λ r. and_true (has 0 id r)) (λ r. refl) h
 
 pub asks_child : (old new : State) (parent : ℕ) (name : List ℕ) (rows : List Row)
     → IsRoomDatabase old.now → Shown find_child_text (Int (pos parent) ∷ Text name ∷ []) old new rows
     → IsPermutation (named_rows old.now.trees parent name) rows
 asks_child old new parent name rows room h =
-    found find_child_query (Int (pos parent) ∷ Text name ∷ []) (old.now.trees 1) rows (is_child_named parent name)
-    shown_node (λ r. ap (λ b. has 2 parent r && b) (and_true (has_text 3 name r))) (λ r. refl)
-    (picked (room_schema room.layout) old new find_child_text _ 1 _ _ [] _ rows room.schema (find_child_is room.layout)
-    (find_child_plain room.layout) refl h)
-
-abbrev named_output : Row → Output
-named_output r = (column r 3 ∷ [], shown_node r)
-
-keys_are : (os : List Output) → AllByRecursion (λ (o : Output). o.0 ≡ name_key o.1) os
-    → map (λ (o : Output). o.0) os ≡ map name_key (map (λ (o : Output). o.1) os)
-keys_are [] all = refl
-keys_are (o ∷ os) all = Rattle.std.proofs.Common.ap₂ (λ a l. a ∷ l) all.0 (keys_are os all.1)
-
-named_parts : (rows : List Row) → AllByRecursion (λ (o : Output). o.0 ≡ name_key o.1) (map named_output rows)
-named_parts [] = tt
-named_parts (r ∷ rows) = (refl, named_parts rows)
+    asked (room_schema room.layout) old new find_child_text (Int (pos parent) ∷ Text name ∷ []) 1 _ _ _ rows
+    (is_child_named parent name) shown_node room.schema (find_child_means room.layout) refl
+    (λ r. ap (λ b. has 2 parent r && b) (and_true (has_text 3 name r))) (λ r. refl) h
 
 pub asks_children : (old new : State) (parent : ℕ) (rows : List Row)
     → IsRoomDatabase old.now → Shown list_children_text (Int (pos parent) ∷ []) old new rows
@@ -83,20 +62,10 @@ pub asks_children : (old new : State) (parent : ℕ) (rows : List Row)
 asks_children old new parent rows room h =
     let params = Int (pos parent) ∷ [] in
     let k = picked (room_schema room.layout) old new list_children_text params 1 _ _ list_children_query.order
-    _ rows room.schema (list_children_is room.layout) (list_children_plain room.layout) refl h in
-    let passed : passing list_children_query.filter params (old.now.trees 1) ≡ filter (has 2 parent) (old.now.trees 1) =
-    filter_same _ (has 2 parent) (λ r. and_true (has 2 parent r)) (old.now.trees 1) in
-    let same : IsPermutation (map named_output (filter (has 2 parent) (old.now.trees 1))) k.ordered =
-    subst (λ l. IsPermutation (map named_output l) k.ordered) passed k.same in
-    let parts = all_permutation _ _ _ same (named_parts (filter (has 2 parent) (old.now.trees 1))) in
-    let keys : map (λ (o : Output). o.0) k.ordered ≡ map name_key rows =
-    keys_are k.ordered parts ∙ ap (map name_key) (sym k.is) in
-    let sorted = subst (IsSorted (key_cmp 0 name_keys)) keys (sorted_keys name_keys k.ordered k.sorted) in
-    let up = ascending_from_sorted (key_cmp 0 name_keys) (key_cmp_total name_keys 0) (map name_key rows) sorted in (
-      found list_children_query params (old.now.trees 1) rows (has 2 parent) shown_node
-          (λ r. and_true (has 2 parent r)) (λ r. refl) k,
-      ascending_from_map _ name_key rows up,
-    )
+    _ rows room.schema (list_children_means room.layout) refl h in
+    let it = arranged list_children_query params (old.now.trees 1) rows (has 2 parent) (λ r. column r 3 ∷ []) shown_node
+    (λ r. and_true (has 2 parent r)) (λ r. refl) k in
+    rw it.3 (IsPermutation-map shown_node _ _ it.1, ascending-map ByName shown_node it.0 it.2)
 
 entry_typed : (found rows : List Row) → IsPermutation (map shown_entry found) rows
     → AllByRecursion HasEntryColumns rows → AllByRecursion IsEntryRow rows
@@ -122,7 +91,7 @@ pub asks_entries : (old new : State) (id : ℕ) (rows : List Row)
     → Shown list_entries_text (Int (pos id) ∷ []) old new rows → rows ≡ entry_rows old.now.trees id
 asks_entries old new id rows room typed h =
     let k = picked (room_schema room.layout) old new list_entries_text (Int (pos id) ∷ []) 3 _ _
-    list_entries_query.order _ rows room.schema (list_entries_is room.layout) (list_entries_plain room.layout) refl h in
+    list_entries_query.order _ rows room.schema (list_entries_means room.layout) refl h in
     let same = found list_entries_query (Int (pos id) ∷ []) (old.now.trees 3)
     rows (has 1 id) shown_entry (λ r. and_true (has 1 id r)) (λ r. refl) k in
     listed list_entries_query (Int (pos id) ∷ []) (old.now.trees 3) rows (has 1 id) shown_entry IsEntryRow
@@ -131,10 +100,8 @@ asks_entries old new id rows room typed h =
 pub asks_doc : (old new : State) (id : ℕ) (rows : List Row) → IsRoomDatabase old.now
     → Shown find_doc_text (Int (pos id) ∷ []) old new rows → IsPermutation (doc_rows old.now.trees id) rows
 asks_doc old new id rows room h =
-    found find_doc_query (Int (pos id) ∷ []) (old.now.trees 5) rows
-    (has 0 id) shown_doc (λ r. and_true (has 0 id r)) (λ r. refl)
-    (picked (room_schema room.layout) old new find_doc_text _ 5 _ _ [] _ rows room.schema (find_doc_is room.layout)
-    (find_doc_plain room.layout) refl h)
+    asked (room_schema room.layout) old new find_doc_text (Int (pos id) ∷ []) 5 _ _ _ rows (has 0 id) shown_doc
+    room.schema (find_doc_means room.layout) refl (λ r. and_true (has 0 id r)) (λ r. refl) h
 
 size_is : (id : ℕ) (r : Row) → eval_all find_size_query.project ((Int (pos id) ∷ []) ∷ r ∷ []) ≡ shown_size r
 unfolding unary
@@ -143,56 +110,46 @@ size_is id r = refl
 pub asks_size : (old new : State) (id : ℕ) (rows : List Row) → IsRoomDatabase old.now
     → Shown find_size_text (Int (pos id) ∷ []) old new rows → IsPermutation (size_rows old.now.trees id) rows
 asks_size old new id rows room h =
-    found find_size_query (Int (pos id) ∷ []) (old.now.trees 5) rows
-    (has 0 id) shown_size (λ r. and_true (has 0 id r)) (size_is id)
-    (picked (room_schema room.layout) old new find_size_text _ 5 _ _ [] _ rows room.schema (find_size_is room.layout)
-    (find_size_plain room.layout) refl h)
+    asked (room_schema room.layout) old new find_size_text (Int (pos id) ∷ []) 5 _ _ _ rows (has 0 id) shown_size
+    room.schema (find_size_means room.layout) refl (λ r. and_true (has 0 id r)) (size_is id) h
 
 pub asks_session : (old new : State) (sid : List ℕ) (rows : List Row) → IsRoomDatabase old.now
     → Shown find_session_text (Text sid ∷ []) old new rows → IsPermutation (session_rows old.now.trees sid) rows
 asks_session old new sid rows room h =
-    found find_session_query (Text sid ∷ []) (old.now.trees 6) rows (has_text 1 sid)
-    shown_session (λ r. and_true (has_text 1 sid r)) (λ r. refl)
-    (picked (room_schema room.layout) old new find_session_text _ 6 _ _ [] _ rows room.schema
-    (find_session_is room.layout) (find_session_plain room.layout) refl h)
+    asked (room_schema room.layout) old new find_session_text (Text sid ∷ []) 6 _ _ _ rows (has_text 1 sid) shown_session
+    room.schema (find_session_means room.layout) refl (λ r. and_true (has_text 1 sid r)) (λ r. refl) h
 
 pub asks_slot : (old new : State) (sid : List ℕ) (slot : ℕ) (rows : List Row)
     → IsRoomDatabase old.now → Shown find_slot_text (Text sid ∷ Int (pos slot) ∷ []) old new rows
     → IsPermutation (slot_rows old.now.trees sid slot) rows
 asks_slot old new sid slot rows room h =
     subst (λ all. IsPermutation (map shown_slot (filter (is_slot sid slot) all)) rows) (sym room.listed)
-    (found (find_slot_query (slots_tree room.layout)) (Text sid ∷ Int (pos slot) ∷ [])
-    (old.now.trees (slots_tree room.layout)) rows (is_slot sid slot)
-    shown_slot (λ r. ap (λ b. has_text 1 sid r && b) (and_true (has 2 slot r))) (λ r. refl)
-    (picked (room_schema room.layout) old new find_slot_text _ (slots_tree room.layout) _ _ [] _ rows room.schema
-    (find_slot_is room.layout) (find_slot_plain room.layout) (slots_seen room.layout old.now.trees) h))
+    (asked (room_schema room.layout) old new find_slot_text (Text sid ∷ Int (pos slot) ∷ []) (slots_tree room.layout)
+    _ _ _ rows (is_slot sid slot) shown_slot room.schema (find_slot_means room.layout)
+    (slots_seen room.layout old.now.trees) (λ r. ap (λ b. has_text 1 sid r && b) (and_true (has 2 slot r))) (λ r. refl) h)
 
 pub asks_seq : (old new : State) (sid : List ℕ) (slot : ℕ) (rows : List Row)
     → IsRoomDatabase old.now → Shown find_seq_text (Text sid ∷ Int (pos slot) ∷ []) old new rows
     → IsPermutation (seq_rows old.now.trees sid slot) rows
 asks_seq old new sid slot rows room h =
     subst (λ all. IsPermutation (map shown_seq (filter (is_slot sid slot) all)) rows) (sym room.listed)
-    (found (find_seq_query (slots_tree room.layout)) (Text sid ∷ Int (pos slot) ∷ [])
-    (old.now.trees (slots_tree room.layout)) rows (is_slot sid slot)
-    shown_seq (λ r. ap (λ b. has_text 1 sid r && b) (and_true (has 2 slot r))) (λ r. refl)
-    (picked (room_schema room.layout) old new find_seq_text _ (slots_tree room.layout) _ _ [] _ rows room.schema
-    (find_seq_is room.layout) (find_seq_plain room.layout) (slots_seen room.layout old.now.trees) h))
+    (asked (room_schema room.layout) old new find_seq_text (Text sid ∷ Int (pos slot) ∷ []) (slots_tree room.layout)
+    _ _ _ rows (is_slot sid slot) shown_seq room.schema (find_seq_means room.layout)
+    (slots_seen room.layout old.now.trees) (λ r. ap (λ b. has_text 1 sid r && b) (and_true (has 2 slot r))) (λ r. refl) h)
 
 pub asks_next : (more : List Table) (others : List Index) (old new : State) (rows : List Row)
     → old.now.schema ≡ with_last more others
     → Shown find_next_text [] old new rows → IsPermutation (next_rows old.now.trees) rows
 asks_next more others old new rows schema h =
-    found find_next_query [] (old.now.trees 0) rows (has 0 1) shown_next (λ r. and_true (has 0 1 r)) (λ r. refl)
-    (picked (with_last more others) old new find_next_text _ 0 _ _ [] _ rows schema (find_next_is more others)
-    (find_next_plain more others) refl h)
+    asked (with_last more others) old new find_next_text [] 0 _ _ _ rows (has 0 1) shown_next schema
+    (find_next_means more others) refl (λ r. and_true (has 0 1 r)) (λ r. refl) h
 
 pub asks_version : (more : List Table) (others : List Index) (old new : State) (rows : List Row)
     → old.now.schema ≡ with_last more others
     → Shown find_version_text [] old new rows → IsPermutation (version_rows old.now.trees) rows
 asks_version more others old new rows schema h =
-    found find_version_query [] (old.now.trees 0) rows (has 0 1) shown_version (λ r. and_true (has 0 1 r)) (λ r. refl)
-    (picked (with_last more others) old new find_version_text _ 0 _ _ [] _ rows schema (find_version_is more others)
-    (find_version_plain more others) refl h)
+    asked (with_last more others) old new find_version_text [] 0 _ _ _ rows (has 0 1) shown_version schema
+    (find_version_means more others) refl (λ r. and_true (has 0 1 r)) (λ r. refl) h
 
 -- a version that was told is that of the rows
 pub told_version : (more : List Table) (others : List Index) (old new : State) (n : ℕ)
@@ -257,8 +214,9 @@ pub asks_count : (old new : State) (parent : ℕ) (rows : List Row) → IsRoomDa
     → rows ≡ counted_row (length (child_rows old.now.trees parent)) ∷ []
 asks_count old new parent rows room h =
     let params = Int (pos parent) ∷ [] in
+    let means = count_children_means room.layout in
     let read = reads_as count_children_text params old new (room_schema room.layout) room.schema _
-    (count_children_is room.layout) (count_children_plain room.layout).0 (count_children_plain room.layout).1 rows h in
+    means.0.0 means.0.1 means.1 rows h in
     count_answer params (overlay old.now.trees []) rows (has 2 parent)
     (λ r. and_true (has 2 parent r)) (read.answer Null)
     ∙ ap (λ n. counted_row n ∷ []) (sym (length-map (filter (has 2 parent) (old.now.trees 1)) shown_node))

@@ -5,6 +5,7 @@ use Rattle.std.proofs.Common.{ap₂, subst, ◌∙◌, true≢false, arith, Orde
 use Rattle.std.specs.List.{AllByRecursion}
 use Rattle.std.specs.Ordering.{nat_cmp, ordering_then}
 use Rattle.std.specs.Cmp.Lexicographic.{slice_cmp}
+use Rattle.std.proofs.lemmas.Bool.{and_from}
 use Rattle.std.proofs.lemmas.Map.Lookups.{exact_bytes}
 use Rattle.std.proofs.lemmas.List.Sorted.{length_permutation, IsPermutation-sym}
 use Rattle.sqlite_value.specs.declared.value.Value.{Value}
@@ -101,13 +102,10 @@ pub no_child : (db : Database) (p : ℕ) (name : List ℕ) → IsRoomDatabase db
 no_child db p name room same node child named =
     let r = child_has_row db p node room child in
     let text : column r.0 3 ≡ Text name = name_is _ name (ap (λ (n : Node). n.name) r.3 ∙ named) in
-    let passes : is_child_named p name r.0 ≡ true = both _ _ r.2 (text_has 3 name r.0 text) in
+    let passes : is_child_named p name r.0 ≡ true = and_from _ _ r.2 (text_has 3 name r.0 text) in
     let here = mapped_has shown_node (filter (is_child_named p name) (db.trees 1))
     r.0 (has_kept (is_child_named p name) (db.trees 1) r.0 r.1 passes) in
     absurd (has_permuted [] (named_rows db.trees p name) (shown_node r.0) (IsPermutation-sym _ _ same) here)
-  where
-    both : (a b : Bool) → a ≡ true → b ≡ true → (a && b) ≡ true
-    both a b x y = rw x y
 
 pub one_child : (db : Database) (p : ℕ) (name : List ℕ) (row : Row) (rest : List Row)
     → IsRoomDatabase db → name ≢ [] → IsPermutation (named_rows db.trees p name) (row ∷ rest)

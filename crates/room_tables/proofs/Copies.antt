@@ -7,6 +7,7 @@ use Rattle.std.proofs.lemmas.List.Sorted.{IsPermutation-refl, IsPermutation-tran
 use Rattle.std.proofs.lemmas.List.Sorted.{IsPermutation-middle, IsPermutation-append_left, IsPermutation-append_right}
 use Rattle.std.proofs.lemmas.List.Sorted.{IsPermutation-filter_both, length_permutation}
 use Rattle.std.specs.List.{AllByRecursion, flat_map, filter_map}
+use Rattle.std.proofs.lemmas.Bool.{not-true}
 use Rattle.sqlite_value.specs.declared.keys.Collation.{Collation}
 use Rattle.sqlite_value.specs.declared.value.Value.{Value}
 use Rattle.sqlite_value.specs.declared.value.Value.TheVariants.{Null, Int, Real, Text, Blob}
@@ -42,11 +43,11 @@ use Rattle.room_tables.specs.Rows.{is_slot, shown_slot}
 use Rattle.room_tables.specs.Layout.{IsKeyed}
 use Rattle.room_tables.specs.Upgrade.{shows, has_id, others_than, IsShared, IsMoving, CopiesRow}
 use Rattle.room_tables.proofs.Each.{by_name, from_both}
-use Rattle.room_tables.proofs.Meaning.{copy_row_is, copy_row_plain, take_row_is, take_row_plain}
+use Rattle.room_tables.proofs.Meaning.{copy_row_means, take_row_means}
 use Rattle.room_tables.proofs.Queries.{Picks, passing, envs_are, found, and_true}
 use Rattle.room_tables.proofs.Removed.{one_row, has_permuted}
 use Rattle.room_tables.proofs.Values.{equal_is, equal_tied}
-use Rattle.room_tables.proofs.Changes.{Inserted, Leaves, new_rows, inserted, cleared, not_true, cast_null, cast_int}
+use Rattle.room_tables.proofs.Changes.{Inserted, Leaves, new_rows, inserted, cleared, cast_null, cast_int}
 use Rattle.room_tables.proofs.Filters.{put_is_one_more, keyed_put, keyed_filter}
 
 -- nothing refers to either table, so that no foreign key acts
@@ -178,7 +179,7 @@ copies : (old new : State) (count : ℕ) → old.now.schema ≡ room_schema Upgr
     → IsKeyed (old.now.trees 8) → Executes copy_row_text [] old new (Ok count) → Copied old new
 copies old new count has sound keyed h =
     let it = inserted Upgraded old new 6 (kept_table 10) copy_row_text [] _ count refl has refl
-    copy_row_is copy_row_plain kept_quiet h in
+    copy_row_means kept_quiet h in
     let db = old.now.trees in
     let k = first_of 8 copy_row_query.project copy_row_query.collations (overlay db []) [] it.given
     (it.source.answer Null) in
@@ -220,7 +221,7 @@ copies old new count has sound keyed h =
           it.changes ∙ ap length news,
           there,
           key ∙ ap Int (sym last),
-          subst (λ i. is_taken (db 10) (copy_of i r) ≡ false) (sym last) (not_true _ (first_of_both _ _ fresh)),
+          subst (λ i. is_taken (db 10) (copy_of i r) ≡ false) (sym last) (not-true _ (first_of_both _ _ fresh)),
           it.rows_are ∙ ap (put_all (db 10)) news ∙ ap (λ i. put_row (copy_of i r) (db 10)) (sym last),
         )
 
@@ -230,7 +231,7 @@ pub takes : (id : ℤ) (old new : State) (count : ℕ) → old.now.schema ≡ ro
     → Leaves Upgraded old.now new.now 8 (others_than id (old.now.trees 8))
 takes id old new count has keyed h =
     cleared Upgraded old new 5 slot_table take_row_text (Int id ∷ []) _ count (has_id id) refl has keyed
-    take_row_is take_row_plain refl slot_quiet (λ r. and_true (has_id id r)) h
+    take_row_means refl slot_quiet (λ r. and_true (has_id id r)) h
 
 -- ---- the rows of both tables
 

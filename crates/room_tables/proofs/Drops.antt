@@ -33,7 +33,6 @@ use Rattle.sqlite_keyed.proofs.ListLemmas.{filter_all, all_weaker, all-filter}
 use Rattle.sqlite.specs.Rowids.TheVariants.{Given}
 use Rattle.sqlite.specs.Table.{Table}
 use Rattle.sqlite.specs.Effect.{Database, IsDatabase}
-use Rattle.sqlite.specs.Command.TheVariants as command
 use Rattle.sqlite.specs.Rows.{Written}
 use Rattle.sqlite.specs.State.{State, Executes, ExecutesInside}
 use Rattle.sqlite.proofs.Callers.{runs_as, one_step, one_permutation}
@@ -49,11 +48,11 @@ use Rattle.room_tables.specs.Layout.{IsKeyed, IsNumbered, IsRoomDatabase}
 use Rattle.room_tables.specs.Steps.{Steps}
 use Rattle.room_tables.proofs.Each.{of_any, rows_pass, above}
 use Rattle.room_tables.proofs.Listed.{slots_listed}
-use Rattle.room_tables.proofs.Meaning.{drop_node_is, drop_node_plain}
+use Rattle.room_tables.proofs.Meaning.{drop_node_means}
 use Rattle.room_tables.proofs.Queries.{answer_is, found, and_true}
 use Rattle.room_tables.proofs.Values.{has_is, has_int, has_value, has_tied, has_not_null, equal_tied}
 use Rattle.room_tables.proofs.Removed.{one_row, removed_ids}
-use Rattle.room_tables.proofs.Changes.{Others, others_of, without, deletes, went, same_value, executes_inside}
+use Rattle.room_tables.proofs.Changes.{Others, others_of, without, wrote, went, same_value}
 use Rattle.room_tables.proofs.Filters.{none_left, others_left, not_both, keyed_filter, version_stays}
 use Rattle.room_tables.proofs.Effects.{same_records}
 
@@ -343,9 +342,9 @@ drops old new id count room h =
     let l = room.layout in
     let params = Int (pos id) ∷ [] in
     let db = old.now.trees in
-    let ran = runs_as drop_node_text params old new (room_schema l) room.schema
-    (command.Delete 1 (record { lets = []; body = drop_node_query })) (drop_node_is l) (drop_node_plain l) count h in
-    let w = deletes l old new 1 node_table _ _ params count refl room.schema ran in
+    let ran = runs_as drop_node_text params old new (room_schema l) room.schema _
+    (drop_node_means l).0 (drop_node_means l).1 count h in
+    let w = wrote l old new 1 node_table _ _ params count refl room.schema ran ran.changed in
     let given = went w.written in
     let edited_to = went given.2 in
     let trees : w.rows.trees ≡ edited_to.0 = ap (λ (it : Written). it.trees) (same_value edited_to.2) in
@@ -431,7 +430,7 @@ through f false x y = refl
 pub steps_drop : (old new : State) (id count : ℕ) → IsRoomDatabase old.now →
     ExecutesInside 0 drop_node_text (Int (pos id) ∷ []) old new (Ok count) → Steps old new (apply_change (DropNode id))
 steps_drop old new id count room h =
-    let done = drops old new id count room (executes_inside drop_node_text _ old new count h).0 in
+    let done = drops old new id count room h.0 in
     let it = done.2 in
     let listed = slots_listed new.now room.layout done.1 done.0 in
     let db = old.now.trees in

@@ -27,7 +27,7 @@ use Rattle.room_tables.specs.Rows.{entries_in, shown_doc, doc_of, documents_in, 
 use Rattle.room_tables.specs.Rows.{shown_version, version_rows, IsVersion, sessions_in, slots_in, records_of}
 use Rattle.room_tables.specs.Layout.{IsKeyed, IsNumbered, IsRoomDatabase, parent_value, reply_value}
 use Rattle.room_tables.specs.Steps.{Steps, kind_number}
-use Rattle.room_tables.proofs.Changes.{executes_inside, Leaves}
+use Rattle.room_tables.proofs.Changes.{Leaves}
 use Rattle.room_tables.proofs.Puts.{stored_node, node_params, ChangesNode, changes_node, adds_node}
 use Rattle.room_tables.proofs.Puts.{doc_params, PutsDoc, ChangesDoc}
 use Rattle.room_tables.proofs.Puts.{changes_doc, adds_doc, PutsNext, ChangesNext, changes_next, adds_next}
@@ -165,7 +165,7 @@ pub node_changed : (old new : State) (node : Node) (name : List ℕ) (count : �
 node_changed old new node name count room h =
     changes_node room.layout old new node.id node.parent name (kind_number node.kind)
     node.owner node.group node.aclflag count room.schema room.keyed.node
-    (executes_inside change_node_text _ old new count h).0
+    h.0
 
 pub steps_change_node : (old new : State) (node : Node) (name : List ℕ) (count : ℕ)
     → IsRoomDatabase old.now → name_of_text name ≡ node.name
@@ -180,7 +180,7 @@ pub node_added : (old new : State) (node : Node) (name : List ℕ) (count : ℕ)
     → PutInto room.layout old.now new.now 1 (λ r. r ≡ row_of_node node name) Met
 node_added old new node name count Met room h =
     adds_node room.layout old new node.id node.parent name (kind_number node.kind) node.owner node.group
-    node.aclflag count Met room.schema (executes_inside add_node_text _ old new count h).0
+    node.aclflag count Met room.schema h.0
 
 pub steps_add_node : (old new : State) (node : Node) (name : List ℕ) (count : ℕ)
     → IsRoomDatabase old.now → name_of_text name ≡ node.name
@@ -217,7 +217,7 @@ left_then_added old mid new node name count Met room none one =
     let left = (node_changed old mid node name 0 room none).leaves in (
       left.rows_are,
       adds_node room.layout mid new node.id node.parent name (kind_number node.kind) node.owner node.group
-          node.aclflag count Met left.schema (executes_inside add_node_text _ mid new count one).0,
+          node.aclflag count Met left.schema one.0,
     )
 
 -- ---- a document and the next number
@@ -279,7 +279,7 @@ doc_changed : (old new : State) (id : ℕ) (bytes : List ℕ) (count : ℕ) (roo
     → ExecutesInside 0 change_doc_text (doc_params id bytes) old new (Ok count)
     → ChangesDoc room.layout id bytes count old.now new.now
 doc_changed old new id bytes count room h = changes_doc room.layout old new id bytes count room.schema room.keyed.doc
-    (executes_inside change_doc_text _ old new count h).0
+    h.0
 
 pub steps_change_doc : (old new : State) (id : ℕ) (bytes : Vec ℕ Global) (count : ℕ) → IsRoomDatabase old.now
     → ExecutesInside 0 change_doc_text (doc_params id bytes.items) old new (Ok (suc count))
@@ -292,7 +292,7 @@ pub steps_new_doc : (old new : State) (id : ℕ) (bytes : Vec ℕ Global) (count
     → ExecutesInside 0 add_doc_text (doc_params id bytes.items) old new (Ok count)
     → Steps old new (apply_change (PutDoc id bytes))
 steps_new_doc old new id bytes count room h = steps_put_doc old new id bytes room
-    (adds_doc room.layout old new id bytes.items count room.schema (executes_inside add_doc_text _ old new count h).0)
+    (adds_doc room.layout old new id bytes.items count room.schema h.0)
 
 -- where it changed none, the INSERT behind it adds the row
 pub steps_add_doc : (old mid new : State) (id : ℕ) (bytes : Vec ℕ Global) (count : ℕ) → IsRoomDatabase old.now
@@ -320,7 +320,7 @@ doc_change_leaves_nodes old new id bytes count room h =
 pub doc_new_leaves_nodes : (old new : State) (id : ℕ) (bytes : List ℕ) (count : ℕ) → IsRoomDatabase old.now
     → ExecutesInside 0 add_doc_text (doc_params id bytes) old new (Ok count) → new.now.trees 1 ≡ old.now.trees 1
 doc_new_leaves_nodes old new id bytes count room h = (adds_doc room.layout old new id bytes count room.schema
-    (executes_inside add_doc_text _ old new count h).0).put.others.node (omega arith)
+    h.0).put.others.node (omega arith)
 
 pub doc_add_leaves_nodes : (old mid new : State) (id : ℕ) (bytes : List ℕ) (count : ℕ) → IsRoomDatabase old.now
     → ExecutesInside 0 change_doc_text (doc_params id bytes) old mid (Ok 0)
@@ -328,7 +328,7 @@ pub doc_add_leaves_nodes : (old mid new : State) (id : ℕ) (bytes : List ℕ) (
 doc_add_leaves_nodes old mid new id bytes count room none one =
     let left = (doc_changed old mid id bytes 0 room none).leaves in
     (adds_doc room.layout mid new id bytes count left.schema
-    (executes_inside add_doc_text _ mid new count one).0).put.others.node (omega arith)
+    one.0).put.others.node (omega arith)
     ∙ left.others.node (omega arith)
 
 -- ---- the next number
@@ -397,21 +397,21 @@ next_changed : (old new : State) (n count : ℕ) (room : IsRoomDatabase old.now)
     → ExecutesInside 0 change_next_text (Int (pos n) ∷ []) old new (Ok count)
     → ChangesNext room.layout n count old.now new.now
 next_changed old new n count room h = changes_next room.layout old new n count room.schema room.keyed.room
-    (executes_inside change_next_text _ old new count h).0
+    h.0
 
 pub change_sets_next : (old new : State) (n count : ℕ) → IsRoomDatabase old.now
     → ExecutesInside 0 change_next_text (Int (pos n) ∷ []) old new (Ok (suc count)) → SetsNext old new n
 change_sets_next old new n count room h = sets_put old new n room (next_changed old new n (suc count) room h)
     (λ s. (changes_next Upgraded old new n (suc count) s room.keyed.room
-    (executes_inside change_next_text _ old new (suc count) h).0).put.tables.1.1.1.1.1.0 (omega arith))
+    h.0).put.tables.1.1.1.1.1.0 (omega arith))
 
 -- where it changed none, the INSERT behind it adds the row
 pub add_sets_next : (old mid new : State) (n count : ℕ) → IsRoomDatabase old.now
     → ExecutesInside 0 change_next_text (Int (pos n) ∷ []) old mid (Ok 0)
     → ExecutesInside 0 add_next_text (Int (pos n) ∷ []) mid new (Ok count) → SetsNext old new n
 add_sets_next old mid new n count room none one =
-    let first = (executes_inside change_next_text _ old mid 0 none).0 in
-    let second = (executes_inside add_next_text _ mid new count one).0 in
+    let first = none.0 in
+    let second = one.0 in
     let left = next_changed old mid n 0 room none in
     let a = steps_left_next old mid room left.leaves in
     let b = sets_put mid new n a.room (adds_next a.room.layout mid new n count a.room.schema second)

@@ -5,7 +5,7 @@ use Rattle.std.proofs.Common.{inr, refl, sym, ap, subst, ◌∙◌, true≢false
 use Rattle.std.proofs.Common.{eq-eqb, IsPermutation}
 use Rattle.std.specs.List.{AllByRecursion}
 use Rattle.std.specs.Ordering.{match_ordering}
-use Rattle.std.proofs.lemmas.Bool.{cases_Bool, cases_eq}
+use Rattle.std.proofs.lemmas.Bool.{not-true, cases_Bool, cases_eq}
 use Rattle.std.proofs.lemmas.Bool.Decides.{nat_tests}
 use Rattle.std.proofs.lemmas.List.Sorted.{IsPermutation-refl, IsPermutation-cons, IsPermutation-trans}
 use Rattle.std.proofs.lemmas.List.Sorted.{IsPermutation-middle, IsPermutation-sym}
@@ -28,7 +28,7 @@ use Rattle.room_tables.specs.Layout.{IsKeyed, IsNumbered, IsRoomDatabase}
 use Rattle.room_tables.proofs.Each.{from_both, above}
 use Rattle.room_tables.proofs.Listed.{slots_listed}
 use Rattle.room_tables.proofs.Values.{has_is, has_one, int_has}
-use Rattle.room_tables.proofs.Changes.{not_true, without, Others}
+use Rattle.room_tables.proofs.Changes.{without, Others}
 use Rattle.room_tables.proofs.Upserts.{Put}
 
 -- a row that goes in where none has its rowid is one more row
@@ -71,7 +71,7 @@ put_alone p new rows passes none free =
 pub none_left : (p q : Row → Bool) (rows : List Row)
     → ((r : Row) → q r ≡ true → p r ≡ true) → filter q (without p rows) ≡ []
 none_left p q rows implied = filter_none q (without p rows) (all_from (λ r. q r ≡ false) (without p rows) (λ r h.
-    let gone : p r ≡ false = not_true _ (has_filtered (λ x. not (p x)) rows r h).1 in
+    let gone : p r ≡ false = not-true _ (has_filtered (λ x. not (p x)) rows r h).1 in
     elim (cases_Bool (q r)) [ inl passes ↦ absurd (true≢false (sym (implied r passes) ∙ gone)) | inr fails ↦ fails ]))
 
 -- and those of another test as before, where no row passes both

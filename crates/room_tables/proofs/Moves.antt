@@ -7,16 +7,14 @@ use Rattle.std.specs.List.{AllByRecursion}
 use Rattle.sqlite_value.specs.declared.value.Value.TheVariants.{Int}
 use Rattle.sqlite_value.specs.Order.{Row}
 use Rattle.sqlite_trees.specs.Tree.{Trees}
-use Rattle.sqlite.specs.Command.TheVariants.{CreateTable}
 use Rattle.sqlite.specs.Effect.{Database, IsDatabase}
 use Rattle.sqlite.specs.Schema.{Schema}
 use Rattle.sqlite.specs.State.{State, ExecutesInside}
-use Rattle.sqlite.proofs.Callers.{runs_as}
 use Rattle.room_slots.specs.KeptModel.{KeptModel}
 use Rattle.room_records.specs.declared.change.Change.TheVariants.{PutNext}
 use Rattle.room_records.specs.Changes.{apply_change}
 use Rattle.room_records.specs.Records.{Records}
-use Rattle.room_tables.specs.Tables.{Upgraded, first_schema, kept_table, kept_text}
+use Rattle.room_tables.specs.Tables.{Upgraded, room_schema, first_schema, kept_table, kept_text}
 use Rattle.room_tables.specs.Texts.{copy_row_text, take_row_text}
 use Rattle.room_tables.specs.Rows.{only, kept_of, nodes_in, entries_in, documents_in, next_in, sessions_in}
 use Rattle.room_tables.specs.Rows.{records_of, version_rows, IsVersion}
@@ -24,9 +22,8 @@ use Rattle.room_tables.specs.Layout.{IsKeyed, IsNumbered, IsRoomOfVersion1, IsRo
 use Rattle.room_tables.specs.Steps.{Steps}
 use Rattle.room_tables.specs.Upgrade.{shows, others_than, IsWidened, IsShared, IsMoving, IsMovedOut, CopiesRow}
 use Rattle.room_tables.specs.Upgrade.{IsMoved, IsUpgraded}
-use Rattle.room_tables.proofs.Making.{kept_is, kept_beside, beside_plain, beside_made}
+use Rattle.room_tables.proofs.Making.{kept_beside}
 use Rattle.room_tables.proofs.Creates.{makes}
-use Rattle.room_tables.proofs.Changes.{executes_inside}
 use Rattle.room_tables.proofs.Copies.{copy_moves, take_moves}
 use Rattle.room_tables.proofs.Listed.{slots_listed, slot_listed}
 use Rattle.room_tables.proofs.Queries.{only_permuted}
@@ -37,21 +34,19 @@ use Rattle.room_tables.proofs.Effects.{same_records}
 pub widens : (old new : State) (count : ℕ) → ExecutesInside 0 kept_text [] old new (Ok count)
     → old.now.schema ≡ first_schema → IsWidened old.now new.now
 widens old new count h has =
-    let w = runs_as kept_text [] old new first_schema has CreateTable kept_beside.0 beside_plain count
-    (executes_inside kept_text [] old new count h).0 in
-    let it = makes old new first_schema (kept_table 0) kept_text _ count has kept_is.2 refl (rw kept_beside.1 at w) in
-    record { schema = it.after ∙ beside_made; sound = it.sound; empty = it.empty; others = it.others }
+    let it = makes old new first_schema (room_schema Upgraded) (kept_table 0) kept_text count has kept_beside refl h in
+    record { schema = it.after; sound = it.sound; empty = it.empty; others = it.others }
 
 pub copied : (before : Database) (old new : State) (count : ℕ) → ExecutesInside 0 copy_row_text [] old new (Ok count)
     → IsMoving before old.now → CopiesRow before new
 copied before old new count h it =
-    copy_moves before old new count it (executes_inside copy_row_text [] old new count h).0
+    copy_moves before old new count it h.0
 
 pub taken : (before : Database) (id : ℤ) (old new : State) (count : ℕ)
     → ExecutesInside 0 take_row_text (Int id ∷ []) old new (Ok count)
     → IsShared before old.now (others_than id (old.now.trees 8)) → IsMoving before new.now
 taken before id old new count h it =
-    take_moves before id old new count it (executes_inside take_row_text (Int id ∷ []) old new count h).0
+    take_moves before id old new count it h.0
 
 -- ---- one after another
 

@@ -32,7 +32,7 @@ use Rattle.room_tables.specs.Steps.{type_of, IsReadBack, shown_as, placed, Lists
 use Rattle.room_tables.proofs.Sorted.{AtMost, ascending-sort_by, same_ascending}
 use Rattle.room_tables.proofs.Queries.{first_tie}
 use Rattle.room_tables.proofs.Values.{int_has}
-use Rattle.room_tables.proofs.Changes.{HasAll, executes_inside, without}
+use Rattle.room_tables.proofs.Changes.{HasAll, without}
 use Rattle.room_tables.proofs.Takes.{stored, bound_entries, AddsEntries, drops_entries}
 use Rattle.room_tables.proofs.Filters.{put_is_one_more, put_passed_over, none_left, others_left, not_both, keyed_put}
 use Rattle.room_tables.proofs.Filters.{keyed_filter, still_room, still_numbered, still_slots}
@@ -149,7 +149,7 @@ pub lists_none : (old new : State) (id count : ℕ) → IsRoomDatabase old.now
     → ExecutesInside 0 drop_entries_text (Int (pos id) ∷ []) old new (Ok count) → Lists old.now id [] new.now
 lists_none old new id count room h =
     let it = drops_entries room.layout old new id count room.schema room.keyed.entry
-    (executes_inside drop_entries_text _ old new count h).0 in
+    h.0 in
     let o = it.others in
     let rows = λ (q : ℕ). cleared_rows old.now.trees new.now.trees id q it.rows_are in
     let here : (id == id) ≡ true = eq-eqb id id refl in
@@ -229,7 +229,7 @@ pub lists_more : (text : List ℕ) (old new : State) (id at count : ℕ) (es bat
     → ExecutesInside 0 text (Int (pos id) ∷ bound_entries at batch) old new (Ok count)
     → Lists before id (es ++ batch) new.now
 lists_more text old new id at count es batch before adds place back was h =
-    let it = adds was.room.layout old new count was.room.schema (executes_inside text _ old new count h).0 in
+    let it = adds was.room.layout old new count was.room.schema h.0 in
     let o = it.others in
     let more = all_grown id at es batch (old.now.trees 3)
     (new.now.trees 3) place was.room.keyed.entry was.mine it.rows in

@@ -25,10 +25,8 @@ use Rattle.room_tables.specs.Texts.{add_doc_text, add_doc_terms, change_next_tex
 use Rattle.room_tables.specs.Texts.{add_next_terms, put_session_text, put_session_terms, put_session_query}
 use Rattle.room_tables.specs.Rows.{has, has_text}
 use Rattle.room_tables.specs.Layout.{IsKeyed, parent_value}
-use Rattle.room_tables.proofs.Meaning.{change_node_is, change_node_plain, add_node_is, add_node_plain}
-use Rattle.room_tables.proofs.Meaning.{change_doc_is, change_doc_plain, add_doc_is}
-use Rattle.room_tables.proofs.Meaning.{add_doc_plain, change_next_is, change_next_plain, add_next_is, add_next_plain}
-use Rattle.room_tables.proofs.Meaning.{put_session_is, put_session_plain}
+use Rattle.room_tables.proofs.Meaning.{change_node_means, add_node_means, change_doc_means, add_doc_means}
+use Rattle.room_tables.proofs.Meaning.{change_next_means, add_next_means, put_session_means}
 use Rattle.room_tables.proofs.Queries.{and_true}
 use Rattle.room_tables.proofs.Takes.{set_off}
 use Rattle.room_tables.proofs.Writes.{IsUpdate, Changes, changes_row, adds_row}
@@ -89,7 +87,7 @@ node_params id parent name kind owner group aclflag =
     Int (pos id) ∷ parent_value parent ∷ Text name ∷ Int (pos kind) ∷ Text owner ∷ Text group ∷ Int (pos aclflag) ∷ []
 
 node_update : (l : Layout) (id : ℕ) (parent : Option ℕ) (name : List ℕ) (kind : ℕ) (owner group : List ℕ) (aclflag : ℕ)
-    → IsUpdate l node_table id change_node_query.filter change_node_query.project
+    → IsUpdate l node_table (has 0 id) change_node_query.filter change_node_query.project
     (node_params id parent name kind owner group aclflag)
     (λ r. r ≡ stored_node id parent name kind owner group aclflag)
 node_update l id parent name kind owner group aclflag = record {
@@ -110,7 +108,7 @@ node_update l id parent name kind owner group aclflag = record {
 
 -- what the count of an UPDATE tells
 abbrev pub ChangesNode : Layout → ℕ → Option ℕ → List ℕ → ℕ → List ℕ → List ℕ → ℕ → ℕ → Database → Database → Type 0
-ChangesNode l id parent name kind owner group aclflag = Changes l node_table id change_node_query.filter
+ChangesNode l id parent name kind owner group aclflag = Changes l node_table (has 0 id) change_node_query.filter
     change_node_query.project (node_params id parent name kind owner group aclflag)
     (λ r. r ≡ stored_node id parent name kind owner group aclflag)
 
@@ -123,7 +121,7 @@ changes_node l old new id parent name kind owner group aclflag count schema keye
     (node_params id parent name kind owner group aclflag)
     (λ r. r ≡ stored_node id parent name kind owner group aclflag)
     (node_update l id parent name kind owner group aclflag) old new 1 count change_node_text refl
-    (change_node_is l) (change_node_plain l) schema keyed h
+    (change_node_means l) schema keyed h
 
 -- an INSERT alone adds the row, and no row had its number
 pub adds_node : (l : Layout) (old new : State) (id : ℕ) (parent : Option ℕ) (name : List ℕ) (kind : ℕ)
@@ -133,8 +131,7 @@ pub adds_node : (l : Layout) (old new : State) (id : ℕ) (parent : Option ℕ) 
 adds_node l old new id parent name kind owner group aclflag count Met schema h =
     adds_row l old new 1 node_table add_node_terms 8 count add_node_text
     (node_params id parent name kind owner group aclflag) (stored_node id parent name kind owner group aclflag)
-    (stored_node id parent name kind owner group aclflag) (pos id) _ Met refl schema refl (add_node_is l)
-    (add_node_plain l) (nodes_quiet l) refl
+    (stored_node id parent name kind owner group aclflag) (pos id) _ Met refl schema refl (add_node_means l) (nodes_quiet l) refl
     (ap (λ r. numbered Chosen (old.now.trees 1) (r ∷ [])) (cast_node id parent name kind owner group aclflag))
     refl refl h
 
@@ -160,7 +157,7 @@ cast_doc id bytes = rw (cast_int (pos id), cast_null)
 abbrev pub doc_params : ℕ → List ℕ → Row
 doc_params id bytes = Int (pos id) ∷ Blob bytes ∷ []
 
-doc_update : (l : Layout) (id : ℕ) (bytes : List ℕ) → IsUpdate l doc_table id change_doc_query.filter
+doc_update : (l : Layout) (id : ℕ) (bytes : List ℕ) → IsUpdate l doc_table (has 0 id) change_doc_query.filter
     change_doc_query.project (doc_params id bytes) (λ r. r ≡ stored_doc id bytes)
 doc_update l id bytes = record {
   quiet = λ olds new news. doc_quiet l olds (new ∷ news);
@@ -181,7 +178,7 @@ PutsDoc l id bytes old new = PutInto l old new 5 (λ r. r ≡ stored_doc id byte
 
 -- what the count of an UPDATE tells
 abbrev pub ChangesDoc : Layout → ℕ → List ℕ → ℕ → Database → Database → Type 0
-ChangesDoc l id bytes = Changes l doc_table id change_doc_query.filter change_doc_query.project
+ChangesDoc l id bytes = Changes l doc_table (has 0 id) change_doc_query.filter change_doc_query.project
     (doc_params id bytes) (λ r. r ≡ stored_doc id bytes)
 
 pub changes_doc : (l : Layout) (old new : State) (id : ℕ) (bytes : List ℕ) (count : ℕ)
@@ -191,13 +188,13 @@ pub changes_doc : (l : Layout) (old new : State) (id : ℕ) (bytes : List ℕ) (
 changes_doc l old new id bytes count schema keyed h =
     changes_row l doc_table id change_doc_query.filter change_doc_query.project (doc_params id bytes)
     (λ r. r ≡ stored_doc id bytes) (doc_update l id bytes) old new 3 count change_doc_text refl
-    (change_doc_is l) (change_doc_plain l) schema keyed h
+    (change_doc_means l) schema keyed h
 
 pub adds_doc : (l : Layout) (old new : State) (id : ℕ) (bytes : List ℕ) (count : ℕ) → old.now.schema ≡ room_schema l
     → Executes add_doc_text (doc_params id bytes) old new (Ok count) → PutsDoc l id bytes old.now new.now
 adds_doc l old new id bytes count schema h =
     adds_row l old new 3 doc_table add_doc_terms 3 count add_doc_text (doc_params id bytes)
-    (stored_doc id bytes) (stored_doc id bytes) (pos id) _ _ refl schema refl (add_doc_is l) (add_doc_plain l)
+    (stored_doc id bytes) (stored_doc id bytes) (pos id) _ _ refl schema refl (add_doc_means l)
     (doc_quiet l []) refl (ap (λ r. numbered Chosen (old.now.trees 5) (r ∷ [])) (cast_doc id bytes)) refl refl h
 
 -- ---- the one row of room
@@ -220,7 +217,7 @@ next_quiet l olds news = next_set_off l (pairs olds news) (length news == 0)
 cast_next : (n : ℕ) → cast_row room_table (stored_next n) ≡ stored_next n
 cast_next n = rw (cast_int (pos 1), cast_null, cast_int (pos 2), cast_int (pos n))
 
-next_update : (l : Layout) (n : ℕ) → IsUpdate l room_table 1 change_next_query.filter
+next_update : (l : Layout) (n : ℕ) → IsUpdate l room_table (has 0 1) change_next_query.filter
     change_next_query.project (Int (pos n) ∷ []) (λ r. r ≡ stored_next n)
 next_update l n = record {
   quiet = λ olds new news. next_quiet l olds (new ∷ news);
@@ -241,7 +238,7 @@ PutsNext l n old new = PutInto l old new 0 (λ r. r ≡ stored_next n) (λ r. ha
 
 -- what the count of an UPDATE tells
 abbrev pub ChangesNext : Layout → ℕ → ℕ → Database → Database → Type 0
-ChangesNext l n = Changes l room_table 1 change_next_query.filter change_next_query.project
+ChangesNext l n = Changes l room_table (has 0 1) change_next_query.filter change_next_query.project
     (Int (pos n) ∷ []) (λ r. r ≡ stored_next n)
 
 pub changes_next : (l : Layout) (old new : State) (n count : ℕ) → old.now.schema ≡ room_schema l
@@ -250,13 +247,13 @@ pub changes_next : (l : Layout) (old new : State) (n count : ℕ) → old.now.sc
 changes_next l old new n count schema keyed h =
     changes_row l room_table 1 change_next_query.filter change_next_query.project (Int (pos n) ∷ [])
     (λ r. r ≡ stored_next n) (next_update l n) old new 0 count change_next_text refl
-    (change_next_is l) (change_next_plain l) schema keyed h
+    (change_next_means l) schema keyed h
 
 pub adds_next : (l : Layout) (old new : State) (n count : ℕ) → old.now.schema ≡ room_schema l
     → Executes add_next_text (Int (pos n) ∷ []) old new (Ok count) → PutsNext l n old.now new.now
 adds_next l old new n count schema h =
     adds_row l old new 0 room_table add_next_terms 4 count add_next_text (Int (pos n) ∷ [])
-    (stored_next n) (stored_next n) (pos 1) _ _ refl schema refl (add_next_is l) (add_next_plain l)
+    (stored_next n) (stored_next n) (pos 1) _ _ refl schema refl (add_next_means l)
     (next_quiet l []) refl (ap (λ r. numbered Chosen (old.now.trees 0) (r ∷ [])) (cast_next n)) refl refl h
 
 -- ---- session
@@ -329,5 +326,5 @@ puts_session l old new sid owner slots open_flag count schema keyed h =
     (Null ∷ Text sid ∷ Text owner ∷ Int (pos slots) ∷ Int (pos open_flag) ∷ [])
     (stored_session (next_rowid (old.now.trees 6)) sid owner slots open_flag) _ _
     (session_upsert l (next_rowid (old.now.trees 6)) sid owner slots open_flag)
-    refl schema keyed (put_session_is l) (put_session_plain l) refl
+    refl schema keyed (put_session_means l) refl
     (rw (cast_null, cast_int (pos slots), cast_int (pos open_flag)) refl) h

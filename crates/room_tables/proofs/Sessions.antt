@@ -2,14 +2,12 @@
 use Rattle.std.proofs.Common.{◌≡◌, ◌≢◌, ℕ, ℤ, pos, Bool, true, false, not, ◌&&◌, ◌==◌, cond, List, [], ◌∷◌, map, filter}
 use Rattle.std.proofs.Common.{Some, option_map, Ok, inl, inr, refl, sym, ap, ap₂, subst, ◌∙◌, true≢false, arith}
 use Rattle.std.proofs.Common.{bytes_eq, Equal, Ordering, Less, Greater}
-use Rattle.std.specs.Ordering.{is_ne}
-use Rattle.std.proofs.lemmas.Bool.{cases_Bool}
+use Rattle.std.proofs.lemmas.Bool.{cases_Bool, not-true, and_from}
 use Rattle.std.proofs.lemmas.Slice.Eq.{bytes_eq-Decides}
 use Rattle.sqlite_value.specs.declared.value.Value.TheVariants.{Int, Text}
 use Rattle.sqlite_value.specs.Keys.{plain, first_key}
 use Rattle.sqlite_value.specs.Order.{Row, column, value_cmp}
 use Rattle.sqlite_trees.specs.Tree.{rowid, without_rowid, has_rowid}
-use Rattle.sqlite_sql.specs.Ops.{binary}
 use Rattle.sqlite_schema.specs.Rules.{passes, clashes, agree, differ, guards}
 use Rattle.sqlite_schema.specs.declared.schema.Constraint.TheVariants.{Unique}
 use Rattle.sqlite_rules.specs.Lists.{Has}
@@ -27,7 +25,7 @@ use Rattle.room_tables.specs.Rows.{documents_in, next_in, slots_in}
 use Rattle.room_tables.specs.Layout.{IsKeyed, IsRoomDatabase}
 use Rattle.room_tables.specs.Steps.{Steps, flag_of}
 use Rattle.room_tables.proofs.Each.{rows_pass}
-use Rattle.room_tables.proofs.Values.{has_text_value, has_text_one, text_has, truth_back}
+use Rattle.room_tables.proofs.Values.{has_text_value, has_text_one, text_has, same_ids}
 use Rattle.room_tables.proofs.Removed.{one_row}
 use Rattle.room_tables.proofs.Queries.{and_true}
 use Rattle.room_tables.proofs.Changes.{executes_inside}
@@ -37,34 +35,18 @@ use Rattle.room_tables.proofs.Filters.{put_passed_over, others_left_on, keyed_af
 use Rattle.room_tables.proofs.Filters.{still_numbered, still_slots, version_stays}
 use Rattle.room_tables.proofs.Effects.{same_records, through}
 
-pub not_false : (b : Bool) → not b ≡ true → b ≡ false
-not_false true h = sym h
-not_false false h = refl
-
 -- the rule of the one index of session
 unique_session : (l : Layout) (db : Database) (row : Row)
     → passes Unique (room_schema l) db.trees session_table row ≡ true
     → clashes plain (1 ∷ []) (db.trees 6) row ≡ false
 unique_session l db row h =
-    not_false _ (test_has (λ i. not (guards i session_table && clashes i.order i.columns (db.trees 6) row))
+    not-true _ (test_has (λ i. not (guards i session_table && clashes i.order i.columns (db.trees 6) row))
     (room_schema l).indexes session_index h (inr (inr (inl refl))))
 
 agree_on : (sid : List ℕ) (x y : Row) → has_text 1 sid x ≡ true
     → has_text 1 sid y ≡ true → agree plain (1 ∷ []) x (1 ∷ []) y ≡ true
 unfolding first_key
 agree_on sid x y p q = rw (has_text_value 1 sid y q) (and_true (has_text 1 sid x) ∙ p)
-
-is_not : (o : Ordering) → is_ne o ≡ false → o ≡ Equal
-is_not Less h = absurd (true≢false h)
-is_not Equal h = refl
-is_not Greater h = absurd (true≢false h)
-
-pub same_ids : (a b : ℤ) → differ (Int a) (Int b) ≡ false → value_cmp (Int a) (Int b) ≡ Equal
-unfolding binary
-same_ids a b h = is_not _ (sym (truth_back _) ∙ h)
-
-pub both_true : (a b : Bool) → a ≡ true → b ≡ true → (a && b) ≡ true
-both_true a b p q = rw p q
 
 pub session_once : (l : Layout) (db : Database) (sid : List ℕ) (x y : Row) → db.schema ≡ room_schema l
     → IsDatabase db → IsKeyed (db.trees 6) → Has (db.trees 6) x → Has (db.trees 6) y
@@ -73,7 +55,7 @@ session_once l db sid x y schema sound keyed in_x in_y p q =
     let clash = unique_session l db y (all_has _ (db.trees 6) y (rows_pass Unique db l schema sound).session in_y) in
     elim (cases_Bool (differ (rowid x) (rowid y))) [
       | inl apart ↦ absurd (true≢false (sym (some_from (λ other. agree plain (1 ∷ []) other (1 ∷ []) y
-          && differ (rowid other) (rowid y)) (db.trees 6) x in_x (both_true _ _ (agree_on sid x y p q) apart)) ∙ clash))
+          && differ (rowid other) (rowid y)) (db.trees 6) x in_x (and_from _ _ (agree_on sid x y p q) apart)) ∙ clash))
       | inr same ↦
           let i = int_is (rowid x) (all_has _ (db.trees 6) x keyed.ints in_x) in
           let j = int_is (rowid y) (all_has _ (db.trees 6) y keyed.ints in_y) in

@@ -3,7 +3,7 @@ use Rattle.std.proofs.Common.{◌≡◌, ◌≢◌, ◌≤◌, ℕ, suc, pos, Bo
 use Rattle.std.proofs.Common.{filter}
 use Rattle.std.proofs.Common.{Option, None, Some, option_map, Ok, inl, inr, refl, sym, ap, ap₂, subst, ◌∙◌, true≢false}
 use Rattle.std.proofs.Common.{arith, bytes_eq, Equal, is_eq}
-use Rattle.std.proofs.lemmas.Bool.{cases_Bool}
+use Rattle.std.proofs.lemmas.Bool.{cases_Bool, and_from}
 use Rattle.std.proofs.lemmas.Bool.Decides.{nat_tests}
 use Rattle.std.proofs.lemmas.Slice.Eq.{bytes_eq-Decides}
 use Rattle.sqlite_value.specs.declared.value.Value.TheVariants.{Text}
@@ -29,7 +29,7 @@ use Rattle.room_tables.proofs.Each.{above}
 use Rattle.room_tables.proofs.Listed.{slots_listed}
 use Rattle.room_tables.proofs.Values.{has_one, has_text_one}
 use Rattle.room_tables.proofs.Removed.{one_row}
-use Rattle.room_tables.proofs.Changes.{Leaves, without, executes_inside}
+use Rattle.room_tables.proofs.Changes.{Leaves, without}
 use Rattle.room_tables.proofs.Upserts.{Put}
 use Rattle.room_tables.proofs.Kept.{slot_values, its_slot, slot_once, PutsSlot, ChangesSlot}
 use Rattle.room_tables.proofs.Kept.{changes_slot, adds_slot}
@@ -37,7 +37,6 @@ use Rattle.room_tables.proofs.Takes.{drops_slots}
 use Rattle.room_tables.proofs.Filters.{put_passed_over, none_left, others_left, others_left_on, keyed_filter}
 use Rattle.room_tables.proofs.Filters.{keyed_after, still_room, still_numbered, version_stays}
 use Rattle.room_tables.proofs.Effects.{same_records, through}
-use Rattle.room_tables.proofs.Sessions.{both_true}
 
 -- where one of two tests of a slot fails, the rows of the two are apart
 slots_apart : (sid q : List ℕ) (slot n : ℕ) (r : Row) → (bytes_eq q sid && (n == slot)) ≡ false
@@ -48,7 +47,7 @@ slots_apart sid q slot n r differs h = elim (cases_Bool (is_slot sid slot r)) [
       let number : n ≡ slot = has_one 2 n slot r (second_of_both _ _ h) (second_of_both _ _ also) in
       let test : (n == slot) ≡ true = Rattle.std.proofs.Common.eq-eqb n slot number in
       absurd (true≢false
-      (sym (both_true (bytes_eq q sid) (n == slot) ((bytes_eq-Decides q sid).1 name) test) ∙ differs))
+      (sym (and_from (bytes_eq q sid) (n == slot) ((bytes_eq-Decides q sid).1 name) test) ∙ differs))
   | inr other ↦ other
 ]
 
@@ -90,7 +89,7 @@ pub steps_drop_slots : (old new : State) (sid : List ℕ) (count : ℕ) → IsRo
 steps_drop_slots old new sid count room h =
     let l = room.layout in
     let it = drops_slots l old new sid count room.schema room.keyed.slots
-    (executes_inside drop_slots_text _ old new count h).0 in
+    h.0 in
     let o = it.others in
     let keyed = subst IsKeyed (sym it.rows_are)
     (keyed_filter (λ r. not (has_text 1 sid r)) (old.now.trees (slots_tree l)) room.keyed.slots) in
@@ -224,7 +223,7 @@ changes_row : (old new : State) (row : SlotRow) (count : ℕ) (room : IsRoomData
     → ChangesSlot room.layout row.sid row.slot row.kept.seq row.kept.request row.kept.reply count old.now new.now
 changes_row old new row count room h =
     changes_slot room.layout row.sid row.slot row.kept.seq row.kept.request row.kept.reply
-    old new count room.schema room.keyed.slots (executes_inside change_slot_text _ old new count h).0
+    old new count room.schema room.keyed.slots h.0
 
 -- where it changed rows, the slot's row is put
 pub steps_change_slot : (old new : State) (row : SlotRow) (count : ℕ) → IsRoomDatabase old.now
@@ -238,9 +237,9 @@ pub steps_add_slot : (old mid new : State) (row : SlotRow) (count : ℕ) → IsR
     → ExecutesInside 0 add_slot_text (row_values row) mid new (Ok count)
     → Steps old new (apply_change (PutSlot row))
 steps_add_slot old mid new row count room none one =
-    let a = steps_left old mid room (changes_row old mid row 0 room none) in
+    let a = steps_left old mid room (changes_row old mid row 0 room none).leaves in
     let b = steps_put mid new row a.room (adds_slot a.room.layout row.sid row.slot row.kept.seq row.kept.request
-    row.kept.reply mid new count a.room.schema (executes_inside add_slot_text _ mid new count one).0) in
+    row.kept.reply mid new count a.room.schema one.0) in
     record {
       room = b.room;
       schema = b.schema ∙ a.schema;
@@ -260,8 +259,8 @@ pub add_leaves_nodes : (old mid new : State) (row : SlotRow) (count : ℕ) → I
     → ExecutesInside 0 change_slot_text (row_values row) old mid (Ok 0)
     → ExecutesInside 0 add_slot_text (row_values row) mid new (Ok count) → new.now.trees 1 ≡ old.now.trees 1
 add_leaves_nodes old mid new row count room none one =
-    let left = changes_row old mid row 0 room none in
+    let left = (changes_row old mid row 0 room none).leaves in
     let l = room.layout in
     (adds_slot l row.sid row.slot row.kept.seq row.kept.request row.kept.reply mid new count left.schema
-    (executes_inside add_slot_text _ mid new count one).0).put.others.node (apart l 1 (omega arith))
+    one.0).put.others.node (apart l 1 (omega arith))
     ∙ left.others.node (apart l 1 (omega arith))

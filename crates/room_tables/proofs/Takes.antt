@@ -20,9 +20,8 @@ use Rattle.room_tables.specs.Rows.{has, has_text}
 use Rattle.room_acl.specs.Entries.{EntryModel}
 use Rattle.room_tables.specs.Steps.{type_of, shown_as}
 use Rattle.room_tables.specs.Layout.{IsKeyed}
-use Rattle.room_tables.proofs.Meaning.{drop_entries_is, drop_entries_plain, drop_slots_is, drop_slots_plain}
-use Rattle.room_tables.proofs.Meaning.{add_entry_is, add_entry_plain, add_two_is}
-use Rattle.room_tables.proofs.Meaning.{add_two_plain, add_three_is, add_three_plain, add_four_is, add_four_plain}
+use Rattle.room_tables.proofs.Meaning.{drop_entries_means, drop_slots_means, add_entry_means, add_two_means}
+use Rattle.room_tables.proofs.Meaning.{add_three_means, add_four_means}
 use Rattle.room_tables.proofs.Queries.{and_true}
 use Rattle.room_tables.proofs.Changes.{Added, Leaves, without, cleared, unnumbered}
 use Rattle.room_tables.proofs.Changes.{inserted_all, cast_null, cast_int}
@@ -63,14 +62,14 @@ pub drops_entries : (l : Layout) (old new : State) (id count : ℕ) → old.now.
     → Leaves l old.now new.now 3 (without (has 1 id) (old.now.trees 3))
 drops_entries l old new id count schema keyed h =
     cleared l old new 2 entry_table drop_entries_text (Int (pos id) ∷ []) drop_entries_query.filter count (has 1 id)
-    refl schema keyed (drop_entries_is l) (drop_entries_plain l) refl (entries_quiet l) (λ r. and_true (has 1 id r)) h
+    refl schema keyed (drop_entries_means l) refl (entries_quiet l) (λ r. and_true (has 1 id r)) h
 
 pub drops_slots : (l : Layout) (old new : State) (sid : List ℕ) (count : ℕ) → old.now.schema ≡ room_schema l
     → IsKeyed (old.now.trees (slots_tree l)) → Executes drop_slots_text (Text sid ∷ []) old new (Ok count)
     → Leaves l old.now new.now (slots_tree l) (without (has_text 1 sid) (old.now.trees (slots_tree l)))
 drops_slots l old new sid count schema keyed h =
     cleared l old new (slots_place l) (slots_table l) drop_slots_text (Text sid ∷ []) (drop_slots_query 8).filter count
-    (has_text 1 sid) (slots_placed l) schema keyed (drop_slots_is l) (drop_slots_plain l)
+    (has_text 1 sid) (slots_placed l) schema keyed (drop_slots_means l)
     (slots_seen l old.now.trees) (λ olds. slots_quiet l olds []) (λ r. and_true (has_text 1 sid r)) h
 
 -- entries at places from a number on, as they are stored
@@ -107,14 +106,14 @@ AddsEntries l text node at es = (old new : State) (count : ℕ) → old.now.sche
 pub adds_one : (l : Layout) (node at : ℕ) (a : EntryModel) → AddsEntries l add_entry_text node at (a ∷ [])
 adds_one l node at a old new count schema h =
     inserted_all l old new 2 entry_table add_entry_text (Int (pos node) ∷ bound_entries at (a ∷ []))
-    (stored node at (a ∷ [])) add_entry_terms 7 count refl schema refl (add_entry_is l) (add_entry_plain l)
+    (stored node at (a ∷ [])) add_entry_terms 7 count refl schema refl (add_entry_means l)
     (entry_quiet l)
     (cast_stored node at (a ∷ [])) h
 
 pub adds_two : (l : Layout) (node at : ℕ) (a b : EntryModel) → AddsEntries l add_two_text node at (a ∷ b ∷ [])
 adds_two l node at a b old new count schema h =
     inserted_all l old new 2 entry_table add_two_text (Int (pos node) ∷ bound_entries at (a ∷ b ∷ []))
-    (stored node at (a ∷ b ∷ [])) add_two_terms 7 count refl schema refl (add_two_is l) (add_two_plain l)
+    (stored node at (a ∷ b ∷ [])) add_two_terms 7 count refl schema refl (add_two_means l)
     (entry_quiet l)
     (cast_stored node at (a ∷ b ∷ [])) h
 
@@ -122,7 +121,7 @@ pub adds_three : (l : Layout) (node at : ℕ) (a b c : EntryModel) → AddsEntri
 adds_three l node at a b c old new count schema h =
     inserted_all l old new 2 entry_table add_three_text
     (Int (pos node) ∷ bound_entries at (a ∷ b ∷ c ∷ [])) (stored node at (a ∷ b ∷ c ∷ []))
-    add_three_terms 7 count refl schema refl (add_three_is l) (add_three_plain l) (entry_quiet l)
+    add_three_terms 7 count refl schema refl (add_three_means l) (entry_quiet l)
     (cast_stored node at (a ∷ b ∷ c ∷ [])) h
 
 pub adds_four : (l : Layout) (node at : ℕ) (a b c d : EntryModel)
@@ -130,5 +129,5 @@ pub adds_four : (l : Layout) (node at : ℕ) (a b c d : EntryModel)
 adds_four l node at a b c d old new count schema h =
     inserted_all l old new 2 entry_table add_four_text (Int (pos node) ∷ bound_entries at (a ∷ b ∷ c ∷ d ∷ []))
     (stored node at (a ∷ b ∷ c ∷ d ∷ [])) add_four_terms 7 count
-    refl schema refl (add_four_is l) (add_four_plain l) (entry_quiet l)
+    refl schema refl (add_four_means l) (entry_quiet l)
     (cast_stored node at (a ∷ b ∷ c ∷ d ∷ [])) h

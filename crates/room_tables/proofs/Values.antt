@@ -1,6 +1,7 @@
 -- A column that has a number has no other.
 use Rattle.std.proofs.Common.{◌≡◌, ℕ, List, ℤ, pos, Bool, true, false, ◌||◌, ◌&&◌, cond, Some, refl, sym, ap}
 use Rattle.std.proofs.Common.{subst, ◌∙◌, Ordering, Less, Equal, Greater, is_eq, true≢false}
+use Rattle.std.specs.Ordering.{is_ne}
 use Rattle.std.proofs.lemmas.Map.Lookups.{exact_signed, exact_bytes}
 use Rattle.std.proofs.lemmas.Cmp.{alike_right, tied_back, tied_itself}
 use Rattle.sqlite_value.specs.declared.value.Value.{Value}
@@ -11,6 +12,7 @@ use Rattle.sqlite_value.proofs.OrderLemmas.{value_cmp_total}
 use Rattle.sqlite_sql.specs.declared.ops.UnaryOp.TheVariants.{ToInt}
 use Rattle.sqlite_sql.specs.Ops.{unary, binary, is_null, is_true, from_truth}
 use Rattle.sqlite_schema.specs.declared.schema.Kind.TheVariants.{Integer}
+use Rattle.sqlite_schema.specs.Rules.{differ}
 use Rattle.sqlite_trees.specs.View.{is_int}
 use Rattle.sqlite_rules.specs.Edit.{id_in}
 use Rattle.sqlite_rules.specs.Cast.{cast, as_integer}
@@ -107,6 +109,16 @@ cast_tied (Int m) n h = as_integer_tied (Int m) (Int n) h
 cast_tied (Real x) n h = as_integer_tied (Real x) (Int n) h
 cast_tied (Text t) n h = absurd (let bad = sym (value_cmp-apart (Text t) (Int n) (λ e. let f = e in cc)) ∙ h in cc)
 cast_tied (Blob b) n h = absurd (let bad = sym (value_cmp-apart (Blob b) (Int n) (λ e. let f = e in cc)) ∙ h in cc)
+
+is_not : (o : Ordering) → is_ne o ≡ false → o ≡ Equal
+is_not Less h = absurd (true≢false h)
+is_not Equal h = refl
+is_not Greater h = absurd (true≢false h)
+
+-- rowids that do not differ tie
+pub same_ids : (a b : ℤ) → differ (Int a) (Int b) ≡ false → value_cmp (Int a) (Int b) ≡ Equal
+unfolding binary
+same_ids a b h = is_not _ (sym (truth_back _) ∙ h)
 
 -- ---- texts
 
