@@ -53,7 +53,7 @@ use Rattle.room_tables.proofs.Queries.{answer_is, found, and_true}
 use Rattle.room_tables.proofs.Values.{has_is, has_int, has_value, has_tied, has_not_null, equal_tied}
 use Rattle.room_tables.proofs.Removed.{one_row, removed_ids}
 use Rattle.room_tables.proofs.Changes.{Others, others_of, without, wrote, went, same_value}
-use Rattle.room_tables.proofs.Filters.{none_left, others_left, not_both, keyed_filter, version_stays}
+use Rattle.room_tables.proofs.Filters.{none_left, rows_gone, through, keyed_filter, version_stays}
 use Rattle.room_tables.proofs.Effects.{same_records}
 
 -- ---- what the delete of one node sets off
@@ -409,23 +409,6 @@ drops old new id count room h =
         has_int id r (all_has _ (old.now.trees 1) r room.keyed.node.ints kept.0) kept.1
 
 -- ---- the records
-
--- the rows with a number are gone, and those with another stay
-rows_gone : (place id q : ℕ) (was is : List Row) → is ≡ without (has place id) was
-    → filter (has place q) is ≡ cond (q == id) [] (filter (has place q) was)
-rows_gone place id q was is e = elim (cases_eq q id) [
-  | inl same ↦
-      let test : (q == id) ≡ true = eq-eqb q id same in
-      rw (test, same) (ap (filter (has place id)) e ∙ none_left (has place id) (has place id) was (λ r h. h))
-  | inr apart ↦
-      let test : (q == id) ≡ false = grind (arith, nat_tests) in
-      rw test (ap (filter (has place q)) e
-      ∙ others_left (has place id) (has place q) was (λ r h. not_both place id q r apart h))
-]
-
-through : {X Y : Type 0} (f : X → Y) (b : Bool) (x y : X) → f (cond b x y) ≡ cond b (f x) (f y)
-through f true x y = refl
-through f false x y = refl
 
 pub steps_drop : (old new : State) (id count : ℕ) → IsRoomDatabase old.now →
     ExecutesInside 0 drop_node_text (Int (pos id) ∷ []) old new (Ok count) → Steps old new (apply_change (DropNode id))

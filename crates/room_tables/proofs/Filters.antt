@@ -5,8 +5,7 @@ use Rattle.std.proofs.Common.{inr, refl, sym, ap, subst, ◌∙◌, true≢false
 use Rattle.std.proofs.Common.{eq-eqb, IsPermutation}
 use Rattle.std.specs.List.{AllByRecursion}
 use Rattle.std.specs.Ordering.{match_ordering}
-use Rattle.std.proofs.lemmas.Bool.{not-true, cases_Bool, cases_eq}
-use Rattle.std.proofs.lemmas.Bool.Decides.{nat_tests}
+use Rattle.std.proofs.lemmas.Bool.{not-true, cases_eq, ne_eqb, false_from_ne_true}
 use Rattle.std.proofs.lemmas.List.Sorted.{IsPermutation-refl, IsPermutation-cons, IsPermutation-trans}
 use Rattle.std.proofs.lemmas.List.Sorted.{IsPermutation-middle, IsPermutation-sym}
 use Rattle.sqlite_value.specs.declared.value.Value.TheVariants.{Int}
@@ -19,6 +18,7 @@ use Rattle.sqlite_rules.specs.Lists.{Has}
 use Rattle.sqlite_keyed.proofs.ListLemmas.{IsPermutation-filter, filter-filter, filter_none}
 use Rattle.sqlite_keyed.proofs.ListLemmas.{ascending-filter, all-filter}
 use Rattle.sqlite_rules.proofs.ListLemmas.{all_from, has_filtered}
+use Rattle.sqlite_rules.proofs.TableLemmas.{has_put}
 use Rattle.sqlite.proofs.Callers.{one_permutation}
 use Rattle.sqlite.specs.Table.{Table}
 use Rattle.sqlite.specs.Effect.{Database, IsDatabase}
@@ -71,8 +71,8 @@ put_alone p new rows passes none free =
 pub none_left : (p q : Row → Bool) (rows : List Row)
     → ((r : Row) → q r ≡ true → p r ≡ true) → filter q (without p rows) ≡ []
 none_left p q rows implied = filter_none q (without p rows) (all_from (λ r. q r ≡ false) (without p rows) (λ r h.
-    let gone : p r ≡ false = not-true _ (has_filtered (λ x. not (p x)) rows r h).1 in
-    elim (cases_Bool (q r)) [ inl passes ↦ absurd (true≢false (sym (implied r passes) ∙ gone)) | inr fails ↦ fails ]))
+    false_from_ne_true _ (λ passes. true≢false
+    (sym (implied r passes) ∙ not-true _ (has_filtered (λ x. not (p x)) rows r h).1))))
 
 -- and those of another test as before, where no row passes both
 pub others_left : (p q : Row → Bool) (rows : List Row)
@@ -96,37 +96,62 @@ pub same_test : (id : ℕ) (r : Row) → has_rowid (pos id) r ≡ has 0 id r
 same_test id r = sym (has_is 0 id r)
 
 pub not_both : (place id q : ℕ) (r : Row) → q ≢ id → has place q r ≡ true → has place id r ≡ false
-not_both place id q r apart h =
-    elim (cases_Bool (has place id r)) [ inl also ↦ absurd (apart (has_one place q id r h also)) | inr other ↦ other ]
+not_both place id q r apart h = false_from_ne_true _ (λ also. apart (has_one place q id r h also))
+
+-- the rows with a number are gone, and those with another stay
+pub rows_gone : (place id q : ℕ) (was is : List Row) → is ≡ without (has place id) was
+    → filter (has place q) is ≡ cond (q == id) [] (filter (has place q) was)
+rows_gone place id q was is e = elim (cases_eq q id) [
+  | inl same ↦
+      rw (eq-eqb q id same, same) (ap (filter (has place id)) e
+      ∙ none_left (has place id) (has place id) was (λ r h. h))
+  | inr apart ↦
+      rw (ne_eqb q id apart) (ap (filter (has place q)) e
+      ∙ others_left (has place id) (has place q) was (λ r h. not_both place id q r apart h))
+]
+
+pub through : {X Y : Type 0} (f : X → Y) (b : Bool) (x y : X) → f (cond b x y) ≡ cond b (f x) (f y)
+through f true x y = refl
+through f false x y = refl
 
 -- ---- a row in the place of the one with its number
 
-pub filter_put : {l : Layout} (tree id q : ℕ) (db next : Trees) (Fits Met : Row → Type 0)
-    (it : Put l tree db next Fits Met)
-    → it.id ≡ pos id
-    → filter (has 0 q) (next tree) ≡ cond (q == id) (it.row ∷ []) (filter (has 0 q) (db tree))
-filter_put tree id q db next Fits Met it is = elim (cases_eq q id) [
-  | inl same ↦
-      let test : (q == id) ≡ true = eq-eqb q id same in
-      rw (test, same) (ap (filter (has 0 id)) it.rows ∙ put_alone (has 0 id) it.row left mine gone it.free)
-  | inr apart ↦
-      let test : (q == id) ≡ false = grind (arith, nat_tests) in
-      rw test (ap (filter (has 0 q)) it.rows ∙ put_passed_over (has 0 q) it.row left
-      (not_both 0 q id it.row (λ e. apart (sym e)) mine) it.free ∙ stay apart)
-]
-  where
-    left : List Row
-    left = without_rowid it.id (db tree)
+module _ {l : Layout} {tree : ℕ} {db next : Trees} {Fits Met : Row → Type 0} (it : Put l tree db next Fits Met) where
+  -- what is read of the rows with a number
+  pub filter_put : {X : Type 0} (f : List Row → X) (id q : ℕ) → it.id ≡ pos id
+      → f (filter (has 0 q) (next tree)) ≡ cond (q == id) (f (it.row ∷ [])) (f (filter (has 0 q) (db tree)))
+  filter_put f id q is = elim (cases_eq q id) [
+    | inl same ↦
+        rw (eq-eqb q id same, same) (ap f (ap (filter (has 0 id)) it.rows
+        ∙ put_alone (has 0 id) it.row left mine gone it.free))
+    | inr apart ↦
+        rw (ne_eqb q id apart) (ap f (ap (filter (has 0 q)) it.rows ∙ put_passed_over (has 0 q) it.row left
+        (not_both 0 q id it.row (λ e. apart (sym e)) mine) it.free ∙ stay apart))
+  ]
+    where
+      left : List Row
+      left = without_rowid it.id (db tree)
 
-    mine : has 0 id it.row ≡ true
-    mine = int_has 0 id it.row (it.has_id ∙ ap Int is)
+      mine : has 0 id it.row ≡ true
+      mine = int_has 0 id it.row (it.has_id ∙ ap Int is)
 
-    gone : filter (has 0 id) left ≡ []
-    gone = none_left (has_rowid it.id) (has 0 id) (db tree) (λ r h. ap (λ i. has_rowid i r) is ∙ same_test id r ∙ h)
+      gone : filter (has 0 id) left ≡ []
+      gone = none_left (has_rowid it.id) (has 0 id) (db tree) (λ r h. ap (λ i. has_rowid i r) is ∙ same_test id r ∙ h)
 
-    stay : q ≢ id → filter (has 0 q) left ≡ filter (has 0 q) (db tree)
-    stay apart = others_left (has_rowid it.id) (has 0 q) (db tree)
-        (λ r h. ap (λ i. has_rowid i r) is ∙ same_test id r ∙ not_both 0 id q r apart h)
+      stay : q ≢ id → filter (has 0 q) left ≡ filter (has 0 q) (db tree)
+      stay apart = others_left (has_rowid it.id) (has 0 q) (db tree)
+          (λ r h. ap (λ i. has_rowid i r) is ∙ same_test id r ∙ not_both 0 id q r apart h)
+
+  -- the rows that pass a test, which no row passes that was met, nor the one that was put
+  pub filter_apart : (q : Row → Bool) → q it.row ≡ false → ((r : Row) → Met r → q r ≡ false)
+      → filter q (next tree) ≡ filter q (db tree)
+  filter_apart q fails apart = ap (filter q) it.rows
+      ∙ put_passed_over q it.row (without_rowid it.id (db tree)) fails it.free
+      ∙ others_left_on (has_rowid it.id) q (db tree) (λ r there h.
+      false_from_ne_true _ (λ mine. true≢false (sym h ∙ apart r (it.gone r there mine))))
+
+  pub has_row : Has (next tree) it.row
+  has_row = subst (λ l. Has l it.row) (sym it.rows) (has_put it.row _)
 
 -- ---- the version
 
@@ -145,9 +170,9 @@ pub keyed_filter : (p : Row → Bool) (rows : List Row) → IsKeyed rows → IsK
 keyed_filter p rows keyed =
     record { table = ascending-filter _ p rows keyed.table; ints = all-filter _ p rows keyed.ints }
 
-pub keyed_after : {l : Layout} (tree : ℕ) (db next : Trees) (Fits Met : Row → Type 0)
+pub keyed_after : {l : Layout} {tree : ℕ} {db next : Trees} {Fits Met : Row → Type 0}
     → Put l tree db next Fits Met → IsKeyed (db tree) → IsKeyed (next tree)
-keyed_after tree db next Fits Met it keyed =
+keyed_after {l} {tree} {db} it keyed =
     subst IsKeyed (sym it.rows) (keyed_put it.row _ (subst (λ v. is_int v ≡ true) (sym it.has_id) refl)
     (keyed_filter (λ r. not (has_rowid it.id r)) (db tree) keyed))
 

@@ -28,7 +28,7 @@ use Rattle.room_tables.specs.Tables.{slots_index}
 use Rattle.room_tables.specs.Texts.{change_slot_text, change_slot_query, add_slot_text, add_slot_terms}
 use Rattle.room_tables.specs.Rows.{has, has_text, is_slot}
 use Rattle.room_tables.specs.Layout.{IsKeyed, reply_value}
-use Rattle.room_tables.proofs.Each.{rows_pass, slots_placed, slots_seen}
+use Rattle.room_tables.proofs.Each.{rows_pass, once_by, slots_placed, slots_seen}
 use Rattle.room_tables.proofs.Meaning.{change_slot_means, add_slot_means}
 use Rattle.room_tables.proofs.Values.{has_is, has_value, has_equal, has_text_value, text_has, cast_tied, same_ids}
 use Rattle.room_tables.proofs.Queries.{and_true}
@@ -62,16 +62,10 @@ its_rowid sid slot seq request reply r fits = ap (λ (r : Row). is_int (rowid r)
 
 -- ---- a session's name and a slot's number stand once together, by the rule UNIQUE
 
--- the rule of the one index of slot
-unique_slot : (l : Layout) (db : Database) (row : Row)
-    → passes Unique (room_schema l) db.trees (slots_table l) row ≡ true
-    → clashes plain (1 ∷ 2 ∷ []) (db.trees (slots_tree l)) row ≡ false
-unique_slot Fresh db row h =
-    not-true _ (test_has (λ i. not (guards i (slots_table Fresh) && clashes i.order i.columns (db.trees 8) row))
-    (room_schema Fresh).indexes (slots_index Fresh) h (inr (inr (inr (inl refl)))))
-unique_slot Upgraded db row h =
-    not-true _ (test_has (λ i. not (guards i (slots_table Upgraded) && clashes i.order i.columns (db.trees 10) row))
-    (room_schema Upgraded).indexes (slots_index Upgraded) h (inr (inr (inr (inr (inl refl))))))
+slots_indexed : (l : Layout)
+    → Has (room_schema l).indexes (slots_index l) × (guards (slots_index l) (slots_table l) ≡ true)
+slots_indexed Fresh = (inr (inr (inr (inl refl))), refl)
+slots_indexed Upgraded = (inr (inr (inr (inr (inl refl)))), refl)
 
 agree_on : (sid : List ℕ) (slot : ℕ) (x y : Row) → is_slot sid slot x ≡ true
     → is_slot sid slot y ≡ true → agree plain (1 ∷ 2 ∷ []) x (1 ∷ 2 ∷ []) y ≡ true
@@ -84,18 +78,9 @@ pub slot_once : (l : Layout) (db : Database) (sid : List ℕ) (slot : ℕ) (x y 
     → Has (db.trees (slots_tree l)) x → Has (db.trees (slots_tree l)) y
     → is_slot sid slot x ≡ true → is_slot sid slot y ≡ true → value_cmp (rowid x) (rowid y) ≡ Equal
 slot_once l db sid slot x y schema sound int_x int_y in_x in_y p q =
-    let clash = unique_slot l db y (all_has _ (db.trees (slots_tree l)) y
-    (rows_pass Unique db l schema sound).slots in_y) in
-    elim (cases_Bool (differ (rowid x) (rowid y))) [
-      | inl apart ↦ absurd (true≢false (sym (some_from (λ other. agree plain (1 ∷ 2 ∷ []) other (1 ∷ 2 ∷ []) y
-          && differ (rowid other) (rowid y)) (db.trees (slots_tree l)) x in_x
-          (and_from _ _ (agree_on sid slot x y p q) apart))
-          ∙ clash))
-      | inr same ↦
-          let i = int_is (rowid x) int_x in
-          let j = int_is (rowid y) int_y in
-          ap₂ value_cmp i j ∙ same_ids _ _ (ap₂ differ (sym i) (sym j) ∙ same)
-    ]
+    once_by l db (slots_table l) (slots_index l) x y (slots_indexed l).0 (slots_indexed l).1
+    (all_has _ (db.trees (slots_tree l)) y (rows_pass Unique db l schema sound).slots in_y) in_x
+    (agree_on sid slot x y p q) int_x int_y
 
 -- ---- an UPDATE
 

@@ -34,7 +34,7 @@ use Rattle.room_tables.proofs.Queries.{first_tie}
 use Rattle.room_tables.proofs.Values.{int_has}
 use Rattle.room_tables.proofs.Changes.{HasAll, without}
 use Rattle.room_tables.proofs.Takes.{stored, bound_entries, AddsEntries, drops_entries}
-use Rattle.room_tables.proofs.Filters.{put_is_one_more, put_passed_over, none_left, others_left, not_both, keyed_put}
+use Rattle.room_tables.proofs.Filters.{put_is_one_more, put_passed_over, rows_gone, not_both, keyed_put}
 use Rattle.room_tables.proofs.Filters.{keyed_filter, still_room, still_numbered, still_slots}
 use Rattle.room_tables.proofs.Effects.{same_records}
 
@@ -132,18 +132,6 @@ one_placed old new es e was more =
 
 -- ---- the statements
 
--- the rows of the entries of an object go
-pub cleared_rows : (db next : Trees) (id q : ℕ) → next 3 ≡ without (has 1 id) (db 3)
-    → filter (has 1 q) (next 3) ≡ cond (q == id) [] (filter (has 1 q) (db 3))
-cleared_rows db next id q is = elim (cases_eq q id) [
-  | inl same ↦
-      let test : (q == id) ≡ true = eq-eqb q id same in
-      rw (test, same) (ap (filter (has 1 id)) is ∙ none_left (has 1 id) (has 1 id) (db 3) (λ r h. h))
-  | inr apart ↦
-      let test : (q == id) ≡ false = grind (arith, nat_tests) in
-      rw test (ap (filter (has 1 q)) is ∙ others_left (has 1 id) (has 1 q) (db 3) (λ r h. not_both 1 id q r apart h))
-]
-
 -- no entry of the object is left, and all else is as it was
 pub lists_none : (old new : State) (id count : ℕ) → IsRoomDatabase old.now
     → ExecutesInside 0 drop_entries_text (Int (pos id) ∷ []) old new (Ok count) → Lists old.now id [] new.now
@@ -151,7 +139,7 @@ lists_none old new id count room h =
     let it = drops_entries room.layout old new id count room.schema room.keyed.entry
     h.0 in
     let o = it.others in
-    let rows = λ (q : ℕ). cleared_rows old.now.trees new.now.trees id q it.rows_are in
+    let rows = λ (q : ℕ). rows_gone 1 id q (old.now.trees 3) (new.now.trees 3) it.rows_are in
     let here : (id == id) ≡ true = eq-eqb id id refl in
     record {
       room = still_room 3 old.now new.now room it.schema it.sound o

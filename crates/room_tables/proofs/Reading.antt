@@ -36,17 +36,12 @@ use Rattle.room_tables.specs.Layout.{IsKeyed, IsRoomDatabase}
 use Rattle.room_tables.specs.Texts.{read_entries_text, read_entries_query}
 use Rattle.room_tables.proofs.Meaning.{read_entries_means}
 use Rattle.room_tables.proofs.Queries.{and_true, answer_is, arranged, first_tie}
+use Rattle.room_tables.proofs.Each.{rows_pass, once_by}
 use Rattle.room_tables.proofs.Removed.{has_permuted}
 use Rattle.room_tables.proofs.Sorted.{sorted_answer}
 use Rattle.room_tables.proofs.Values.{has_not_null, has_tied, same_ids}
 
 -- ---- a place stands once in an object's list, by UNIQUE and NOT NULL
-
-unique_entry : (l : Layout) (db : Database) (row : Row) → passes Unique (room_schema l) db.trees entry_table row ≡ true
-    → clashes plain (1 ∷ 2 ∷ []) (db.trees 3) row ≡ false
-unique_entry l db row h =
-    not-true _ (test_has (λ i. not (guards i entry_table && clashes i.order i.columns (db.trees 3) row))
-    (room_schema l).indexes entry_index h (inr (inl refl)))
 
 placed_entry : (l : Layout) (db : Database) (row : Row) → passes NotNull (room_schema l) db.trees entry_table row ≡ true
     → is_null (column row 2) ≡ false
@@ -71,23 +66,15 @@ entry_once : (l : Layout) (db : Database) (id : ℕ) (x y : Row) → db.schema �
     → Has (db.trees 3) x → Has (db.trees 3) y → has 1 id x ≡ true → has 1 id y ≡ true
     → value_cmp (column x 2) (column y 2) ≡ Equal → value_cmp (rowid x) (rowid y) ≡ Equal
 entry_once l db id x y schema sound keyed in_x in_y p q tie =
-    let keeps = subst (λ s. Keeps Unique s db.trees) schema (sound.obeys.rules Unique) in
-    let filled = subst (λ s. Keeps NotNull s db.trees) schema (sound.obeys.rules NotNull) in
-    let clash = unique_entry l db y (all_has _ (db.trees 3) y keeps.1.1.0 in_y) in
-    let some_x = placed_entry l db x (all_has _ (db.trees 3) x filled.1.1.0 in_x) in
-    let some_y = placed_entry l db y (all_has _ (db.trees 3) y filled.1.1.0 in_y) in
+    let filled = (rows_pass NotNull db l schema sound).entry in
+    let some_x = placed_entry l db x (all_has _ (db.trees 3) x filled in_x) in
+    let some_y = placed_entry l db y (all_has _ (db.trees 3) y filled in_y) in
     let nodes = tied_equal (column x 1) (column y 1) (has_not_null 1 id x p) (has_not_null 1 id y q)
     (has_tied 1 id x y p q) in
     let places = tied_equal (column x 2) (column y 2) some_x some_y tie in
-    elim (cases_Bool (differ (rowid x) (rowid y))) [
-      | inl apart ↦ absurd (true≢false
-          (sym (some_from (λ other. agree plain (1 ∷ 2 ∷ []) other (1 ∷ 2 ∷ []) y && differ (rowid other) (rowid y))
-          (db.trees 3) x in_x (and_from _ _ (agree_on x y nodes places) apart)) ∙ clash))
-      | inr same ↦
-          let i = int_is (rowid x) (all_has _ (db.trees 3) x keyed.ints in_x) in
-          let j = int_is (rowid y) (all_has _ (db.trees 3) y keyed.ints in_y) in
-          ap₂ value_cmp i j ∙ same_ids _ _ (ap₂ differ (sym i) (sym j) ∙ same)
-    ]
+    once_by l db entry_table entry_index x y (inr (inl refl)) refl
+    (all_has _ (db.trees 3) y (rows_pass Unique db l schema sound).entry in_y) in_x (agree_on x y nodes places)
+    (all_has _ (db.trees 3) x keyed.ints in_x) (all_has _ (db.trees 3) y keyed.ints in_y)
 
 -- ---- sorted by place is sorted by all that is shown
 
