@@ -195,9 +195,8 @@ pub node_changed : (old new : State) (node : Node) (name : List ℕ) (count : �
     → ChangesNode room.layout node.id node.parent name (kind_number node.kind) node.owner node.group node.aclflag
     count old.now new.now
 node_changed old new node name count room h =
-    changes_node room.layout old new node.id node.parent name (kind_number node.kind)
-    node.owner node.group node.aclflag count room.schema room.keyed.node
-    h.0
+    changes_node room.layout node.id node.parent name (kind_number node.kind) node.owner node.group node.aclflag
+    old new count room.schema room.keyed.node h.0
 
 pub steps_change_node : (old new : State) (node : Node) (name : List ℕ) (count : ℕ)
     → IsRoomDatabase old.now → name_of_text name ≡ node.name
@@ -211,8 +210,8 @@ pub node_added : (old new : State) (node : Node) (name : List ℕ) (count : ℕ)
     (room : IsRoomDatabase old.now) → ExecutesInside 0 add_node_text (params_of_node node name) old new (Ok count)
     → PutInto room.layout old.now new.now 1 (λ r. r ≡ row_of_node node name) Met
 node_added old new node name count Met room h =
-    adds_node room.layout old new node.id node.parent name (kind_number node.kind) node.owner node.group
-    node.aclflag count Met room.schema h.0
+    adds_node room.layout node.id node.parent name (kind_number node.kind) node.owner node.group node.aclflag
+    old new count Met room.schema h.0
 
 pub steps_add_node : (old new : State) (node : Node) (name : List ℕ) (count : ℕ)
     → IsRoomDatabase old.now → name_of_text name ≡ node.name
@@ -241,8 +240,8 @@ pub left_then_added : (old mid new : State) (node : Node) (name : List ℕ) (cou
 left_then_added old mid new node name count Met room none one =
     let left = (node_changed old mid node name 0 room none).leaves in (
       left.rows_are,
-      adds_node room.layout mid new node.id node.parent name (kind_number node.kind) node.owner node.group
-          node.aclflag count Met left.schema one.0,
+      adds_node room.layout node.id node.parent name (kind_number node.kind) node.owner node.group node.aclflag
+          mid new count Met left.schema one.0,
     )
 
 -- ---- a document and the next number

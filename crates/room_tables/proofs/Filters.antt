@@ -15,7 +15,7 @@ use Rattle.sqlite_trees.specs.View.{is_int}
 use Rattle.sqlite_trees.proofs.TreeLemmas.{IsTable-put_row, all-put_row}
 use Rattle.sqlite_rules.specs.Edit.{is_taken}
 use Rattle.sqlite_rules.specs.Lists.{Has}
-use Rattle.sqlite_keyed.proofs.ListLemmas.{IsPermutation-filter, filter-filter, filter_none}
+use Rattle.sqlite_keyed.proofs.ListLemmas.{IsPermutation-filter, filter-filter, filter_all, filter_none}
 use Rattle.sqlite_keyed.proofs.ListLemmas.{ascending-filter, all-filter}
 use Rattle.sqlite_rules.proofs.ListLemmas.{all_from, has_filtered}
 use Rattle.sqlite_rules.proofs.TableLemmas.{has_put}
@@ -98,16 +98,21 @@ same_test id r = sym (has_is 0 id r)
 pub not_both : (place id q : ℕ) (r : Row) → q ≢ id → has place q r ≡ true → has place id r ≡ false
 not_both place id q r apart h = false_from_ne_true _ (λ also. apart (has_one place q id r h also))
 
--- the rows with a number are gone, and those with another stay
-pub rows_gone : (place id q : ℕ) (was is : List Row) → is ≡ without (has place id) was
-    → filter (has place q) is ≡ cond (q == id) [] (filter (has place q) was)
-rows_gone place id q was is e = elim (cases_eq q id) [
+-- a test that no row passes leaves them all
+pub without_none : (p : Row → Bool) (rows : List Row) → ((r : Row) → Has rows r → p r ≡ true → ⊥) → without p rows ≡ rows
+without_none p rows none = filter_all _ rows
+    (all_from (λ r. not (p r) ≡ true) rows (λ r h. ap not (false_from_ne_true _ (none r h))))
+
+-- what is read of the rows with a number, where those with one are gone
+pub rows_gone : {X : Type 0} (f : List Row → X) (place id q : ℕ) (was is : List Row) → is ≡ without (has place id) was
+    → f (filter (has place q) is) ≡ cond (q == id) (f []) (f (filter (has place q) was))
+rows_gone f place id q was is e = elim (cases_eq q id) [
   | inl same ↦
-      rw (eq-eqb q id same, same) (ap (filter (has place id)) e
-      ∙ none_left (has place id) (has place id) was (λ r h. h))
+      rw (eq-eqb q id same, same) (ap f (ap (filter (has place id)) e
+      ∙ none_left (has place id) (has place id) was (λ r h. h)))
   | inr apart ↦
-      rw (ne_eqb q id apart) (ap (filter (has place q)) e
-      ∙ others_left (has place id) (has place q) was (λ r h. not_both place id q r apart h))
+      rw (ne_eqb q id apart) (ap f (ap (filter (has place q)) e
+      ∙ others_left (has place id) (has place q) was (λ r h. not_both place id q r apart h)))
 ]
 
 pub through : {X Y : Type 0} (f : X → Y) (b : Bool) (x y : X) → f (cond b x y) ≡ cond b (f x) (f y)

@@ -5,7 +5,7 @@ use Rattle.std.proofs.Common.{cond, inl, inr, eq-eqb, int_cmp, IsPermutation, Eq
 use Rattle.std.specs.List.{AllByRecursion}
 use Rattle.std.proofs.lemmas.Int.{ints}
 use Rattle.std.proofs.lemmas.List.{append-nil, append_assoc, length-append}
-use Rattle.std.proofs.lemmas.Bool.{cases_eq}
+use Rattle.std.proofs.lemmas.Bool.{cases_eq, ne_eqb}
 use Rattle.std.proofs.lemmas.Bool.Decides.{nat_tests}
 use Rattle.std.proofs.lemmas.Map.Lookups.{exact_signed, exact_bytes}
 use Rattle.std.proofs.lemmas.List.Sorted.{IsPermutation-map, IsPermutation-trans, IsPermutation-cons}
@@ -139,17 +139,15 @@ lists_none old new id count room h =
     let it = drops_entries room.layout old new id count room.schema room.keyed.entry
     h.0 in
     let o = it.others in
-    let rows = λ (q : ℕ). rows_gone 1 id q (old.now.trees 3) (new.now.trees 3) it.rows_are in
-    let here : (id == id) ≡ true = eq-eqb id id refl in
+    let rows = λ (q : ℕ). rows_gone in_order 1 id q (old.now.trees 3) (new.now.trees 3) it.rows_are in
     record {
       room = still_room 3 old.now new.now room it.schema it.sound o
           (subst IsKeyed (sym it.rows_are) (keyed_filter (λ r. not (has 1 id r)) (old.now.trees 3) room.keyed.entry))
           (still_numbered 3 old.now new.now room (omega arith) o);
       schema = it.schema ∙ sym room.schema;
-      mine = ap in_order (rows id ∙ ap (λ b. cond b [] (filter (has 1 id) (old.now.trees 3))) here);
+      mine = rw (eq-eqb id id refl) at (rows id);
       back = tt;
-      others = λ q apart. let other : (q == id) ≡ false = grind (arith, nat_tests) in
-          ap (λ l. map entry_of (in_order l)) (rows q ∙ ap (λ b. cond b [] (filter (has 1 q) (old.now.trees 3))) other);
+      others = λ q apart. ap (map entry_of) (rw (ne_eqb q id apart) at (rows q));
       nodes = λ q. ap (λ l. nodes_in l q) (o.node (omega arith));
       documents = λ q. ap (λ l. documents_in l q) (o.doc (omega arith));
       next = ap next_in (o.room (omega arith));
@@ -247,10 +245,6 @@ pub lists_records : (before : Database) (id : ℕ) (es : List EntryModel) (db : 
       };
     }
 lists_records before id es db it = same_records _ _ it.nodes (λ q. elim (cases_eq q id) [
-  | inl same ↦
-      let test : (q == id) ≡ true = eq-eqb q id same in
-      rw (test, same) (ap (map entry_of) it.mine ∙ read_back 0 es it.back)
-  | inr apart ↦
-      let test : (q == id) ≡ false = grind (arith, nat_tests) in
-      rw test (it.others q apart)
+  | inl same ↦ rw (eq-eqb q id same, same) (ap (map entry_of) it.mine ∙ read_back 0 es it.back)
+  | inr apart ↦ rw (ne_eqb q id apart) (it.others q apart)
 ]) it.documents it.next it.sessions it.slots

@@ -1,6 +1,6 @@
 -- What puts a row: an upsert of a session, and an UPDATE and an INSERT of a row of node, doc and room.
-use Rattle.std.proofs.Common.{◌≡◌, ◌==◌, ℕ, ℤ, pos, Bool, true, false, ◌&&◌, ◌||◌, List, [], ◌∷◌, length, Option, None}
-use Rattle.std.proofs.Common.{Some, Ok, refl, sym, ap, ap₂, subst, arith}
+use Rattle.std.proofs.Common.{◌≡◌, ◌==◌, ℕ, ℤ, pos, Bool, true, false, ◌&&◌, ◌||◌, List, [], ◌∷◌, length, drop, Option, None}
+use Rattle.std.proofs.Common.{Some, Ok, refl, sym, ap, ap₂, subst, arith, ◌∙◌}
 use Rattle.std.proofs.lemmas.Bool.Decides.{nat_tests}
 use Rattle.sqlite_value.specs.declared.value.Value.TheVariants.{Null, Int, Text, Blob}
 use Rattle.sqlite_value.specs.Order.{Row, column}
@@ -27,16 +27,12 @@ use Rattle.room_tables.specs.Rows.{has, has_text}
 use Rattle.room_tables.specs.Layout.{IsKeyed, parent_value}
 use Rattle.room_tables.proofs.Meaning.{change_node_means, add_node_means, change_doc_means, add_doc_means}
 use Rattle.room_tables.proofs.Meaning.{change_next_means, add_next_means, put_session_means}
-use Rattle.room_tables.proofs.Queries.{and_true}
-use Rattle.room_tables.proofs.Takes.{set_off}
+use Rattle.room_tables.proofs.Queries.{and_true, tidy}
+use Rattle.room_tables.proofs.Takes.{set_off, next_quiet, doc_quiet}
 use Rattle.room_tables.proofs.Writes.{IsUpdate, Changes, changes_row, adds_row}
 use Rattle.room_tables.proofs.Values.{has_int, has_text_value}
 use Rattle.room_tables.proofs.Changes.{cast_null, cast_int}
 use Rattle.room_tables.proofs.Upserts.{PutInto, IsUpsert, put}
-
-with_truth : (b : Bool) → ((b && true) || false) ≡ true → b ≡ true
-with_truth true h = refl
-with_truth false h = h
 
 -- the number of a row that has it
 its_number : (n : ℕ) (r : Row) (i : ℤ) → rowid r ≡ Int i → has 0 n r ≡ true → rowid r ≡ Int (pos n)
@@ -78,7 +74,7 @@ node_quiet l olds new news = subst (λ b. set_off l 1 (pairs olds (new ∷ news)
     (sym (not_empty new news)) (node_set_off l (pairs olds (new ∷ news)))
 
 -- and nodes that are added set nothing off
-nodes_quiet : (l : Layout) (news : List Row) → works (room_schema l) Enforced 0 1 [] news ≡ []
+pub nodes_quiet : (l : Layout) (news : List Row) → works (room_schema l) Enforced 0 1 [] news ≡ []
 nodes_quiet l [] = none_set_off l
 nodes_quiet l (new ∷ news) = node_quiet l [] new news
 
@@ -86,70 +82,56 @@ abbrev pub node_params : ℕ → Option ℕ → List ℕ → ℕ → List ℕ �
 node_params id parent name kind owner group aclflag =
     Int (pos id) ∷ parent_value parent ∷ Text name ∷ Int (pos kind) ∷ Text owner ∷ Text group ∷ Int (pos aclflag) ∷ []
 
-node_update : (l : Layout) (id : ℕ) (parent : Option ℕ) (name : List ℕ) (kind : ℕ) (owner group : List ℕ) (aclflag : ℕ)
-    → IsUpdate l node_table (has 0 id) change_node_query.filter change_node_query.project
-    (node_params id parent name kind owner group aclflag)
-    (λ r. r ≡ stored_node id parent name kind owner group aclflag)
-node_update l id parent name kind owner group aclflag = record {
-  quiet = node_quiet l;
-  idle = none_set_off l;
-  here = λ db. refl;
-  test = λ r. and_true (has 0 id r);
-  raw = λ there. rowid there ∷ Null ∷ parent_value parent ∷ Text name
-      ∷ Int (pos kind) ∷ Text owner ∷ Text group ∷ Int (pos aclflag) ∷ [];
-  reads = λ there. refl;
-  renewed = λ there. rowid there ∷ Null ∷ parent_value parent ∷ Text name
-      ∷ Int (pos kind) ∷ Text owner ∷ Text group ∷ Int (pos aclflag) ∷ [];
-  casts = λ there i is. rw (is, cast_int i, cast_null, cast_parent parent, cast_int (pos kind), cast_int (pos aclflag));
-  same_id = λ there. refl;
-  refits = λ there i is met. ap (λ v. v ∷ Null ∷ parent_value parent ∷ Text name ∷ Int (pos kind)
-      ∷ Text owner ∷ Text group ∷ Int (pos aclflag) ∷ []) (its_number id there i is met);
-}
+module _ (l : Layout) (id : ℕ) (parent : Option ℕ) (name : List ℕ) (kind : ℕ) (owner group : List ℕ) (aclflag : ℕ) where
+  abbrev params : Row
+  params = node_params id parent name kind owner group aclflag
 
--- what the count of an UPDATE tells
-abbrev pub ChangesNode : Layout → ℕ → Option ℕ → List ℕ → ℕ → List ℕ → List ℕ → ℕ → ℕ → Database → Database → Type 0
-ChangesNode l id parent name kind owner group aclflag = Changes l node_table (has 0 id) change_node_query.filter
-    change_node_query.project (node_params id parent name kind owner group aclflag)
-    (λ r. r ≡ stored_node id parent name kind owner group aclflag)
+  abbrev stored : Row
+  stored = stored_node id parent name kind owner group aclflag
 
-pub changes_node : (l : Layout) (old new : State) (id : ℕ) (parent : Option ℕ) (name : List ℕ) (kind : ℕ)
-    (owner group : List ℕ) (aclflag count : ℕ) → old.now.schema ≡ room_schema l → IsKeyed (old.now.trees 1)
-    → Executes change_node_text (node_params id parent name kind owner group aclflag) old new (Ok count)
-    → ChangesNode l id parent name kind owner group aclflag count old.now new.now
-changes_node l old new id parent name kind owner group aclflag count schema keyed h =
-    changes_row l node_table id change_node_query.filter change_node_query.project
-    (node_params id parent name kind owner group aclflag)
-    (λ r. r ≡ stored_node id parent name kind owner group aclflag)
-    (node_update l id parent name kind owner group aclflag) old new 1 count change_node_text refl
-    (change_node_means l) schema keyed h
+  node_update : IsUpdate l node_table (has 0 id) change_node_query.filter change_node_query.project params
+      (λ r. r ≡ stored)
+  node_update = record {
+    quiet = node_quiet l;
+    idle = nodes_quiet l [];
+    here = λ db. refl;
+    test = λ r. and_true (has 0 id r);
+    raw = λ there. rowid there ∷ Null ∷ drop 1 params;
+    reads = λ there. refl;
+    renewed = λ there. rowid there ∷ Null ∷ drop 1 params;
+    casts = λ there i is.
+        rw (is, cast_int i, cast_null, cast_parent parent, cast_int (pos kind), cast_int (pos aclflag));
+    same_id = λ there. refl;
+    refits = λ there i is met. ap (λ v. v ∷ Null ∷ drop 1 params) (its_number id there i is met);
+  }
 
--- an INSERT alone adds the row, and no row had its number
-pub adds_node : (l : Layout) (old new : State) (id : ℕ) (parent : Option ℕ) (name : List ℕ) (kind : ℕ)
-    (owner group : List ℕ) (aclflag count : ℕ) (Met : Row → Type 0) → old.now.schema ≡ room_schema l
-    → Executes add_node_text (node_params id parent name kind owner group aclflag) old new (Ok count)
-    → PutInto l old.now new.now 1 (λ r. r ≡ stored_node id parent name kind owner group aclflag) Met
-adds_node l old new id parent name kind owner group aclflag count Met schema h =
-    adds_row l old new 1 node_table add_node_terms 8 count add_node_text
-    (node_params id parent name kind owner group aclflag) (stored_node id parent name kind owner group aclflag)
-    (stored_node id parent name kind owner group aclflag) (pos id) _ Met refl schema refl (add_node_means l) (nodes_quiet l) refl
-    (ap (λ r. numbered Chosen (old.now.trees 1) (r ∷ [])) (cast_node id parent name kind owner group aclflag))
-    refl refl h
+  -- what the count of an UPDATE tells
+  abbrev pub ChangesNode : ℕ → Database → Database → Type 0
+  ChangesNode = Changes l node_table (has 0 id) change_node_query.filter change_node_query.project
+      (node_params id parent name kind owner group aclflag)
+      (λ r. r ≡ stored_node id parent name kind owner group aclflag)
+
+  pub changes_node : (old new : State) (count : ℕ) → old.now.schema ≡ room_schema l → IsKeyed (old.now.trees 1)
+      → Executes change_node_text (node_params id parent name kind owner group aclflag) old new (Ok count)
+      → ChangesNode count old.now new.now
+  changes_node old new count schema keyed h =
+      changes_row l node_table id change_node_query.filter change_node_query.project params (λ r. r ≡ stored)
+      node_update old new 1 count change_node_text refl (change_node_means l) schema keyed h
+
+  -- an INSERT alone adds the row, and no row had its number
+  pub adds_node : (old new : State) (count : ℕ) (Met : Row → Type 0) → old.now.schema ≡ room_schema l
+      → Executes add_node_text (node_params id parent name kind owner group aclflag) old new (Ok count)
+      → PutInto l old.now new.now 1 (λ r. r ≡ stored_node id parent name kind owner group aclflag) Met
+  adds_node old new count Met schema h =
+      adds_row l old new 1 node_table add_node_terms 8 count add_node_text params stored stored (pos id) _ Met refl
+      schema refl (add_node_means l) (nodes_quiet l) refl
+      (ap (λ r. numbered Chosen (old.now.trees 1) (r ∷ [])) (cast_node id parent name kind owner group aclflag))
+      refl refl h
 
 -- ---- doc
 
 abbrev pub stored_doc : ℕ → List ℕ → Row
 stored_doc id bytes = Int (pos id) ∷ Null ∷ Blob bytes ∷ []
-
-doc_set_off : (l : Layout) (moves : List (Row × Row)) (deletes : Bool) → set_off l 5 moves deletes ≡ []
-unfolding everything
-doc_set_off Fresh moves true = refl
-doc_set_off Fresh moves false = refl
-doc_set_off Upgraded moves true = refl
-doc_set_off Upgraded moves false = refl
-
--- nothing refers to a document
-doc_quiet : (l : Layout) (olds news : List Row) → works (room_schema l) Enforced 0 5 olds news ≡ []
-doc_quiet l olds news = doc_set_off l (pairs olds news) (length news == 0)
 
 cast_doc : (id : ℕ) (bytes : List ℕ) → cast_row doc_table (stored_doc id bytes) ≡ stored_doc id bytes
 cast_doc id bytes = rw (cast_int (pos id), cast_null)
@@ -203,17 +185,6 @@ adds_doc l old new id bytes count schema h =
 abbrev pub stored_next : ℕ → Row
 stored_next n = Int (pos 1) ∷ Null ∷ Int (pos 2) ∷ Int (pos n) ∷ []
 
-next_set_off : (l : Layout) (moves : List (Row × Row)) (deletes : Bool) → set_off l 0 moves deletes ≡ []
-unfolding everything
-next_set_off Fresh moves true = refl
-next_set_off Fresh moves false = refl
-next_set_off Upgraded moves true = refl
-next_set_off Upgraded moves false = refl
-
--- nothing refers to the row of room
-next_quiet : (l : Layout) (olds news : List Row) → works (room_schema l) Enforced 0 0 olds news ≡ []
-next_quiet l olds news = next_set_off l (pairs olds news) (length news == 0)
-
 cast_next : (n : ℕ) → cast_row room_table (stored_next n) ≡ stored_next n
 cast_next n = rw (cast_int (pos 1), cast_null, cast_int (pos 2), cast_int (pos n))
 
@@ -266,11 +237,6 @@ stored_session rowid sid owner slots open_flag =
 abbrev pub IsSession : List ℕ → List ℕ → ℕ → ℕ → Row → Type 0
 IsSession sid owner slots open_flag r = (rowid : ℤ) × (r ≡ stored_session rowid sid owner slots open_flag)
 
-session_quiet : (l : Layout) (row : Row) → works (room_schema l) Enforced 0 6 [] (row ∷ []) ≡ []
-unfolding everything
-session_quiet Fresh row = refl
-session_quiet Upgraded row = refl
-
 session_quiet_change : (l : Layout) (olds : List Row) (row : Row)
     → works (room_schema l) Enforced 0 6 olds (row ∷ []) ≡ []
 unfolding everything
@@ -281,8 +247,8 @@ session_conflict : (l : Layout) (rowid : ℤ) (sid owner : List ℕ) (slots open
     → conflicts (Some (1 ∷ [])) (room_schema l).indexes session_table (stored_session rowid sid owner slots open_flag) r
     ≡ true → has_text 1 sid r ≡ true
 unfolding first_key
-session_conflict Fresh rowid sid owner slots open_flag r h = with_truth (has_text 1 sid r) h
-session_conflict Upgraded rowid sid owner slots open_flag r h = with_truth (has_text 1 sid r) h
+session_conflict Fresh rowid sid owner slots open_flag r h = sym (tidy (has_text 1 sid r)) ∙ h
+session_conflict Upgraded rowid sid owner slots open_flag r h = sym (tidy (has_text 1 sid r)) ∙ h
 
 cast_session : (rowid : ℤ) (sid owner : List ℕ) (slots open_flag : ℕ) → cast_row session_table
     (stored_session rowid sid owner slots open_flag) ≡ stored_session rowid sid owner slots open_flag
@@ -294,7 +260,7 @@ session_upsert : (l : Layout) (rowid : ℤ) (sid owner : List ℕ) (slots open_f
     (IsSession sid owner slots open_flag) (λ r. has_text 1 sid r ≡ true)
 session_upsert l id sid owner slots open_flag = record {
   uncounted = refl;
-  quiet_put = session_quiet l;
+  quiet_put = session_quiet_change l [];
   quiet_change = session_quiet_change l;
   here = λ db. refl;
   id = id;

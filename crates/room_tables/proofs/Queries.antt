@@ -1,19 +1,19 @@
 -- What a query over one table answers, and that it changes nothing.
-use Rattle.std.proofs.Common.{◌≡◌, ℕ, ◌+◌, ◌<◌, arith, length, is_gt, Bool, true, false, ◌&&◌, cond, List, [], ◌∷◌}
+use Rattle.std.proofs.Common.{◌≡◌, ℕ, ◌+◌, ◌<◌, arith, length, is_gt, Bool, true, false, ◌&&◌, ◌||◌, cond, List, [], ◌∷◌}
 use Rattle.std.proofs.Common.{◌++◌, map, filter, flat_map, Option, None, Some, Ok, Err, Result, IfOk, IfErr, OnOk, ◌⊎◌}
 use Rattle.std.proofs.Common.{inl, inr, refl, Ordering, Less, Equal, Greater, sym, ap, subst, subst₂, ◌∙◌}
-use Rattle.std.proofs.Common.{IsPermutation, IsSorted}
+use Rattle.std.proofs.Common.{IsPermutation, IsSorted, negsuc}
 use Rattle.std.specs.List.{list_all, swap, AllByRecursion}
 use Rattle.std.proofs.Math.ListN.{set, get_or, get_or-map}
 use Rattle.std.proofs.lemmas.List.{length-map, map-set}
 use Rattle.std.proofs.lemmas.List.Sorted.{IsPermutation-refl, IsPermutation-trans, IsPermutation-swap, IsPermutation-keeps}
 use Rattle.std.proofs.lemmas.List.Sorted.{IsPermutation-map, length_permutation}
-use Rattle.sqlite_value.specs.declared.value.Value.TheVariants.{Null}
+use Rattle.sqlite_value.specs.declared.value.Value.TheVariants.{Null, Int}
 use Rattle.sqlite_value.specs.declared.keys.Key.{Key}
 use Rattle.sqlite_value.specs.declared.keys.Collation.{Collation}
 use Rattle.sqlite_value.specs.Order.{Row}
 use Rattle.sqlite_trees.specs.Tree.{Trees, IsAscending}
-use Rattle.sqlite_sql.specs.Term.{Term, holds}
+use Rattle.sqlite_sql.specs.Term.{Term, lit, holds}
 use Rattle.sqlite_sql.specs.Query.{Query, IsAnswer, Output, output, output_cmp, key_cmp}
 use Rattle.sqlite_sql.specs.Program.{overlay}
 use Rattle.sqlite_keyed.proofs.ListLemmas.{map-map, map_same, filter_same, ascending-map, ascending_from_map}
@@ -69,14 +69,14 @@ pub record Picks (q : Query) (params : Row) (rows : List Row) (shown : List Row)
   pub sorted : IsSorted (output_cmp q) ordered
   pub is : shown ≡ map (λ (o : Output). o.1) ordered
 
--- what a query over one table shows, whatever collations its columns have
-pub answer_of : (tree : ℕ) (terms project : List Term) (order : List (Term × Key)) (how : List Collation) (db : Trees)
-    (params : Row) (rows : List Row)
-    → IsAnswer (record (over_table tree terms project order) { collations = how }) db params rows
-    → Picks (record (over_table tree terms project order) { collations = how }) params
-    (passing terms params (db tree)) rows
-answer_of tree terms project order how db params rows a =
-    let q : Query = record (over_table tree terms project order) { collations = how } in
+-- what a query over one table shows, whatever collations its columns have, before a LIMIT
+pub answer_of : (tree : ℕ) (terms project : List Term) (order : List (Term × Key)) (how : List Collation) (limit : Term)
+    (db : Trees) (params : Row) (rows : List Row)
+    → (a : IsAnswer (record (over_table tree terms project order) { collations = how; limit = limit }) db params rows)
+    → Picks (record (over_table tree terms project order) { collations = how; limit = limit }) params
+    (passing terms params (db tree)) (map (λ (o : Output). o.1) a.ordered)
+answer_of tree terms project order how limit db params rows a =
+    let q : Query = record (over_table tree terms project order) { collations = how; limit = limit } in
     let kept : a.kept ≡ map (λ r. output q (params ∷ r ∷ [])) (passing terms params (db tree)) =
     a.distinct ∙ ap (map (output q)) (a.grouped ∙ envs_are terms params (db tree))
     ∙ map-map (output q) (λ r. params ∷ r ∷ []) (passing terms params (db tree)) in
@@ -84,18 +84,24 @@ answer_of tree terms project order how db params rows a =
       ordered = a.ordered;
       same = subst (λ k. IsPermutation k a.ordered) kept a.same;
       sorted = a.sorted;
-      is = a.shown;
+      is = refl;
     }
 
 pub answer_is : (tree : ℕ) (terms project : List Term)
     (order : List (Term × Key)) (db : Trees) (params : Row) (rows : List Row)
     → IsAnswer (over_table tree terms project order) db params rows
     → Picks (over_table tree terms project order) params (passing terms params (db tree)) rows
-answer_is tree terms project order = answer_of tree terms project order []
+answer_is tree terms project order db params rows a =
+    subst (Picks (over_table tree terms project order) params (passing terms params (db tree))) (sym a.shown)
+    (answer_of tree terms project order [] (lit (Int (negsuc 0))) db params rows a)
 
 pub and_true : (b : Bool) → (b && true) ≡ b
 and_true true = refl
 and_true false = refl
+
+pub tidy : (b : Bool) → ((b && true) || false) ≡ b
+tidy true = refl
+tidy false = refl
 
 -- what a text over one table answers
 pub picked : (schema : Schema) (old new : State) (sql : List ℕ) (params : Row) (tree : ℕ) (terms project : List Term)
@@ -244,22 +250,16 @@ unreturned_by schema text (Ok p) is h = rw is (unreturned_parsed schema p h _ re
 pub unreturned : (schema : Schema) (text : List ℕ)
     → is_query_text (first text) ≡ true → IsUnreturned (understood schema text)
 unfolding understood
-unreturned schema text h = go (reads_listing schema text) (compiled listing_schema text)
-    (unreturned_by listing_schema text _ refl h) (unreturned_by schema text _ refl h)
+unreturned schema text h = elim (reads_listing schema text)
+    as (λ b. IsUnreturned (cond b (if_select (compiled listing_schema text)) (compiled schema text))) [
+      | true ↦ selected (compiled listing_schema text) (unreturned_by listing_schema text _ refl h)
+      | false ↦ unreturned_by schema text _ refl h
+    ]
   where
-    if_selected : (r : Result Compiled CompileError) (c : Bool)
-        → IsUnreturned r → IsUnreturned (cond c r (Err NoSuchTable))
-    if_selected r true h = h
-    if_selected r false h = tt
-
     selected : (r : Result Compiled CompileError) → IsUnreturned r → IsUnreturned (if_select r)
-    selected (Ok c) h = if_selected (Ok c) (listing.is_select c.command) h
+    selected (Ok c) h = elim (listing.is_select c.command) as (λ b. IsUnreturned (cond b (Ok c) (Err NoSuchTable)))
+        [ true ↦ h | false ↦ tt ]
     selected (Err e) h = tt
-
-    go : (b : Bool) (r : Result Compiled CompileError) → IsUnreturned r
-        → IsUnreturned (compiled schema text) → IsUnreturned (cond b (if_select r) (compiled schema text))
-    go true r p q = selected r p
-    go false r p q = q
 
 pub query_commits_none : (sql : List ℕ) (params : Row) (s : State) (db : Trees)
     → is_query_text (first sql) ≡ true → ¬ CommitsShowing sql params s db
@@ -327,22 +327,6 @@ shown_open sql params old new rows h = shown h.0.returning h.2
         → ShowsRows old new sql h.0 (timed params h.0.formats h.1.now) rows o → old.is_open ≡ true
     shown None it = it.3.0.was_open
     shown (Some what) it = it.1.shown.was_open
-
--- and it shows an open connection still
-pub shown_alive : (sql : List ℕ) (params : Row) (old new : State) (rows : List Row)
-    → Shown sql params old new rows → new.is_open ≡ true
-unfolding Shown
-shown_alive sql params old new rows h = shown h.0.returning h.2
-  where
-    shown : (o : Option Returning)
-        → ShowsRows old new sql h.0 (timed params h.0.formats h.1.now) rows o → new.is_open ≡ true
-    shown None it = it.3.0.is_open
-    shown (Some what) it = it.1.shown.is_open
-
-pub query_alive : {V : Type 0} (items : V → List Row) (sql : List ℕ) (params : Row) (old new : State)
-    (r : Result V Error) → IfOk r (λ rows. Shown sql params old new (items rows)) → OnOk r (new.is_open ≡ true)
-query_alive items sql params old new (Ok rows) ok = shown_alive sql params old new (items rows) ok
-query_alive items sql params old new (Err e) ok = tt
 
 pub query_open : {V : Type 0} (items : V → List Row) (sql : List ℕ)
     (params : Row) (old new : State) (r : Result V Error)

@@ -46,16 +46,23 @@ entries_set_off Upgraded false = refl
 entry_quiet : (l : Layout) (news : List Row) → works (room_schema l) Enforced 0 3 [] news ≡ []
 entry_quiet l news = entries_set_off l (length news == 0)
 
-slots_set_off : (l : Layout) (moves : List (Row × Row)) (deletes : Bool) → set_off l (slots_tree l) moves deletes ≡ []
+unreferred_set_off : (l : Layout) (moves : List (Row × Row)) (deletes : Bool) → (set_off l 0 moves deletes ≡ [])
+    × (set_off l 5 moves deletes ≡ []) × (set_off l (slots_tree l) moves deletes ≡ [])
 unfolding everything
-slots_set_off Fresh moves true = refl
-slots_set_off Fresh moves false = refl
-slots_set_off Upgraded moves true = refl
-slots_set_off Upgraded moves false = refl
+unreferred_set_off Fresh moves true = (refl, refl, refl)
+unreferred_set_off Fresh moves false = (refl, refl, refl)
+unreferred_set_off Upgraded moves true = (refl, refl, refl)
+unreferred_set_off Upgraded moves false = (refl, refl, refl)
 
--- nothing refers to what slots keep
+-- nothing refers to the row of room, to a document, or to what slots keep
+pub next_quiet : (l : Layout) (olds news : List Row) → works (room_schema l) Enforced 0 0 olds news ≡ []
+next_quiet l olds news = (unreferred_set_off l (pairs olds news) (length news == 0)).0
+
+pub doc_quiet : (l : Layout) (olds news : List Row) → works (room_schema l) Enforced 0 5 olds news ≡ []
+doc_quiet l olds news = (unreferred_set_off l (pairs olds news) (length news == 0)).1
+
 pub slots_quiet : (l : Layout) (olds news : List Row) → works (room_schema l) Enforced 0 (slots_tree l) olds news ≡ []
-slots_quiet l olds news = slots_set_off l (pairs olds news) (length news == 0)
+slots_quiet l olds news = (unreferred_set_off l (pairs olds news) (length news == 0)).2
 
 pub drops_entries : (l : Layout) (old new : State) (id count : ℕ) → old.now.schema ≡ room_schema l
     → IsKeyed (old.now.trees 3) → Executes drop_entries_text (Int (pos id) ∷ []) old new (Ok count)
