@@ -10,7 +10,7 @@ use Rattle.room_records.specs.Fresh.{no_records}
 use Rattle.room_records.specs.Representation.{RepresentsRoom}
 use Rattle.room_records.proofs.FreshRoom.{root_node, fresh_stands}
 use Rattle.std.specs.List.{AllByRecursion}
-use Rattle.sqlite_trees.specs.Tree.{Trees}
+use Rattle.sqlite_trees.specs.Tree.{Trees, no_trees}
 use Rattle.sqlite.specs.Table.{Table}
 use Rattle.sqlite.specs.Schema.{Schema}
 use Rattle.sqlite.specs.Command.TheVariants.{CreateTable}
@@ -31,7 +31,7 @@ use Rattle.room_tables.specs.Rows.{version_rows, IsVersion}
 use Rattle.room_tables.proofs.Each.{by_name, from_both}
 use Rattle.room_tables.proofs.Listed.{slots_listed}
 use Rattle.room_tables.proofs.Making.{Makes, room_makes, node_makes, entry_makes, doc_makes, session_makes, kept_makes}
-use Rattle.room_tables.proofs.Effects.{same_records}
+use Rattle.room_tables.proofs.Effects.{read_same}
 use Rattle.room_tables.proofs.Changes.{went, same_value}
 
 pub record Made (old new : State) (schema next : Schema) : Type 0 where
@@ -124,13 +124,7 @@ made_room db it =
         keyed = from_both Fresh _ _ _ (λ t is _. subst IsKeyed (sym is) none) e e;
         numbered = subst (AllByRecursion IsNumbered) (sym e.node) tt;
       },
-      same_records _ _
-          (λ q. ap (λ rows. nodes_in rows q) e.node)
-          (λ q. ap (λ rows. entries_in rows q) e.entry)
-          (λ q. ap (λ rows. documents_in rows q) e.doc)
-          (ap next_in e.room)
-          (λ q. ap (λ rows. sessions_in rows q) e.session)
-          (λ q n. ap (λ rows. slots_in rows q n) (listed ∙ e.slots)),
+      read_same no_trees db.trees [] e (listed ∙ e.slots),
     )
 
 -- and then filled

@@ -91,12 +91,16 @@ steps_then {f = f} {g = g} p q = record {
 abbrev pub after : ℕ → Database → Database → Trees
 after tree old new = with_tree old.trees tree (new.trees tree)
 
-one_after : (tree : ℕ) (old new : Database) (t : Table) → (t.tree ≢ tree → new.trees t.tree ≡ old.trees t.tree)
-    → new.trees t.tree ≡ after tree old new t.tree
-one_after tree old new t far = elim (cases_eq t.tree tree) [
-  | inl here ↦ rw (eq-eqb t.tree tree here) (ap new.trees here)
-  | inr apart ↦ rw (ne_eqb t.tree tree apart) (far apart)
-]
+pub each_after : {l : Layout} (tree : ℕ) (old new : Database) → Others l tree old.trees new.trees
+    → OfEachTable l (λ (t : Table). new.trees t.tree ≡ after tree old new t.tree)
+each_after {l} tree old new others = from_both l _ _ _ (λ t far _. one t far) others others
+  where
+    one : (t : Table) → (t.tree ≢ tree → new.trees t.tree ≡ old.trees t.tree)
+        → new.trees t.tree ≡ after tree old new t.tree
+    one t far = elim (cases_eq t.tree tree) [
+      | inl here ↦ rw (eq-eqb t.tree tree here) (ap new.trees here)
+      | inr apart ↦ rw (ne_eqb t.tree tree apart) (far apart)
+    ]
 
 pub steps_at : (tree : ℕ) (old new : State) (room : IsRoomDatabase old.now) (change : Records → Records) → tree ≤ 7
     → new.now.schema ≡ room_schema room.layout → IsDatabase new.now
@@ -106,7 +110,7 @@ pub steps_at : (tree : ℕ) (old new : State) (room : IsRoomDatabase old.now) (c
     → read (after tree old.now new.now) (slots_of old.now.trees) ≡ change (records_of old.now.trees)
     → Steps old new change
 steps_at tree old new room change low schema sound others keyed numbered version is =
-    let each = from_both room.layout _ _ _ (λ t far _. one_after tree old.now new.now t far) others others in
+    let each = each_after tree old.now new.now others in
     record {
       room = still_room tree old.now new.now room schema sound others keyed
           (subst (AllByRecursion IsNumbered) (sym each.node) numbered);
@@ -378,14 +382,8 @@ all_pushed (c ∷ changes) change r = all_pushed changes change (apply_change c 
 -- one more change
 pub steps_more : (old mid new : State) (changes more : List Change) (change : Change) → more ≡ changes ++ change ∷ []
     → Steps old mid (apply_changes changes) → Steps mid new (apply_change change) → Steps old new (apply_changes more)
-steps_more old mid new changes more change is a b = record {
-  room = b.room;
-  schema = b.schema ∙ a.schema;
-  records = b.records ∙ ap (apply_change change) a.records ∙ sym (all_pushed changes change (records_of old.now.trees))
-      ∙ ap (λ cs. apply_changes cs (records_of old.now.trees)) (sym is);
-  version = λ v. b.version (a.version v);
-  sound = λ s. b.sound (a.sound s);
-}
+steps_more old mid new changes more change is a b = subst (Steps old new)
+    (λ i r. (sym (all_pushed changes change r) ∙ ap (λ cs. apply_changes cs r) (sym is)) i) (steps_then a b)
 
 -- the same, with the parameters as they are given
 pub steps_add_node_at : (old new : State) (node : Node) (name : List ℕ) (params : Row) (count : ℕ)

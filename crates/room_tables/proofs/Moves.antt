@@ -27,7 +27,7 @@ use Rattle.room_tables.proofs.Creates.{makes}
 use Rattle.room_tables.proofs.Copies.{copy_moves, take_moves}
 use Rattle.room_tables.proofs.Listed.{slots_listed, slot_listed}
 use Rattle.room_tables.proofs.Queries.{only_permuted}
-use Rattle.room_tables.proofs.Effects.{same_records}
+use Rattle.room_tables.proofs.Effects.{same_records, read_same, after, each_after}
 
 -- ---- each statement
 
@@ -80,12 +80,7 @@ none_moved a b wide room =
 pub all_moved : (a d : Database) → IsMovedOut a d → IsRoomOfVersion1 a → IsDatabase a → IsMoved a d
 all_moved a d out room sound =
     let it = out.0 in
-    let o = it.others in
-    let d0 : d.trees 0 ≡ a.trees 0 = o.room (omega arith) in
-    let d1 : d.trees 1 ≡ a.trees 1 = o.node (omega arith) in
-    let d3 : d.trees 3 ≡ a.trees 3 = o.entry (omega arith) in
-    let d5 : d.trees 5 ≡ a.trees 5 = o.doc (omega arith) in
-    let d6 : d.trees 6 ≡ a.trees 6 = o.session (omega arith) in
+    let o = each_after 10 a d it.others in
     let here = slots_listed d Upgraded it.sound it.schema in
     let there = slot_listed a sound room.schema in
     let k = room.keyed in
@@ -95,22 +90,18 @@ all_moved a d out room sound =
         schema = it.schema;
         listed = here;
         keyed = record {
-          room = subst IsKeyed (sym d0) k.0;
-          node = subst IsKeyed (sym d1) k.1.0;
-          entry = subst IsKeyed (sym d3) k.1.1.0;
-          doc = subst IsKeyed (sym d5) k.1.1.1.0;
-          session = subst IsKeyed (sym d6) k.1.1.1.1.0;
+          room = subst IsKeyed (sym o.room) k.0;
+          node = subst IsKeyed (sym o.node) k.1.0;
+          entry = subst IsKeyed (sym o.entry) k.1.1.0;
+          doc = subst IsKeyed (sym o.doc) k.1.1.1.0;
+          session = subst IsKeyed (sym o.session) k.1.1.1.1.0;
           slots = it.kept_keyed;
         };
-        numbered = subst (AllByRecursion IsNumbered) (sym d1) room.numbered;
+        numbered = subst (AllByRecursion IsNumbered) (sym o.node) room.numbered;
       };
       schema = it.schema;
-      records = same_records _ _
-          (λ q. ap (λ rows. nodes_in rows q) d1)
-          (λ q. ap (λ rows. entries_in rows q) d3)
-          (λ q. ap (λ rows. documents_in rows q) d5)
-          (ap next_in d0)
-          (λ q. ap (λ rows. sessions_in rows q) d6)
+      records = read_same (after 10 a d) d.trees _ o refl ∙ same_records _ _
+          (λ _. refl) (λ _. refl) (λ _. refl) refl (λ _. refl)
           (λ sid slot.
           let same = subst (λ rows. IsPermutation (shows sid slot (a.trees 8))
           (shows sid slot rows ++ shows sid slot (d.trees 10))) out.1 (it.slots sid slot) in
