@@ -1,8 +1,9 @@
 -- What the statements that write do to the tables.
 use Rattle.std.proofs.Common.{◌≡◌, ◌≢◌, ◌⊎◌, length, ◌/◌, MatchBool, is_lt, int_cmp, inl, inr, ℕ, ℤ, Bool, true, false}
 use Rattle.std.proofs.Common.{not, cond, List, [], ◌∷◌, map, drop, filter, slice_get, Option, None, Some, Ok, Err}
-use Rattle.std.proofs.Common.{Result, IfErr, OnErr, refl, sym, ap, subst, true≢false, ◌∙◌, unwrap_or}
+use Rattle.std.proofs.Common.{Result, IfErr, OnErr, refl, sym, ap, subst, true≢false, ◌∙◌, unwrap_or, arith}
 use Rattle.std.proofs.lemmas.Bool.{not-true, cases_Bool}
+use Rattle.std.proofs.lemmas.Grind.{common_steps}
 use Rattle.sqlite_value.specs.declared.value.Value.TheVariants.{Null, Int}
 use Rattle.sqlite_value.specs.Order.{Row}
 use Rattle.sqlite_trees.specs.Tree.{Trees, rowid, put_row}
@@ -89,8 +90,7 @@ wrote l old new at table command text params count place schema w changed =
     }
 
 either : (b : Bool) (x : Value) → cond b x x ≡ x
-either true x = refl
-either false x = refl
+either b x = grind (arith, common_steps)
 
 pub cast_null : cast Integer Null ≡ Null
 unfolding unary

@@ -6,6 +6,7 @@ use Rattle.std.specs.List.{AllByRecursion}
 use Rattle.std.specs.Ordering.{nat_cmp, ordering_then}
 use Rattle.std.specs.Cmp.Lexicographic.{slice_cmp}
 use Rattle.std.proofs.lemmas.Bool.{and_from}
+use Rattle.std.proofs.lemmas.Grind.{common_steps}
 use Rattle.std.proofs.lemmas.Map.Lookups.{exact_bytes}
 use Rattle.std.proofs.lemmas.List.Sorted.{length_permutation, IsPermutation-sym}
 use Rattle.sqlite_value.specs.declared.value.Value.{Value}
@@ -130,14 +131,9 @@ shown_once db p id rows room same =
     let all = filter (has 2 p) (db.trees 1) in
     let few : length (filter (has 0 id) (child_rows db.trees p)) ≤ 1 =
     subst (λ l. length l ≤ 1) (sym (filter-map (has 0 id) shown_node all))
-    (go (found_or_none all id (keyed_filter (has 2 p) (db.trees 1) room.keyed.node))) in
+    (elim (found_or_none all id (keyed_filter (has 2 p) (db.trees 1) room.keyed.node))
+    [ inl none ↦ rw none (omega arith) | inr one ↦ rw one.1 (omega arith) ]) in
     omega (arith, few, length_permutation _ _ (IsPermutation-filter (has 0 id) _ _ same))
-  where
-    go : (filter (has 0 id) (filter (has 2 p) (db.trees 1)) ≡ [])
-        ⊎ ((r : Row) × (filter (has 0 id) (filter (has 2 p) (db.trees 1)) ≡ r ∷ []))
-        → length (map shown_node (filter (has 0 id) (filter (has 2 p) (db.trees 1)))) ≤ 1
-    go (inl none) = rw none (omega arith)
-    go (inr one) = rw one.1 (omega arith)
 
 -- a row of a child, with its number and its name
 record Shown (t : ObjectRecords) (p : ℕ) (s : Row) : Type 0 where
@@ -187,9 +183,7 @@ same_number t p a b x y rules same =
     y.child.stands (x.child.inside ∙ sym y.child.inside) name ∙ ap number_in y.has_id
 
 not_greater : (o : Ordering) → is_gt (ordering_then o Equal) ≡ false → o ≢ Equal → o ≡ Less
-not_greater Less h apart = refl
-not_greater Equal h apart = absurd (apart refl)
-not_greater Greater h apart = absurd (true≢false h)
+not_greater o h apart = grind (arith, common_steps)
 
 in_order : (t : ObjectRecords) (p : ℕ) (rows : List Row) → NodeRules t.node → AllByRecursion (Shown t p) rows
     → IsAscending ByName rows → ((id : ℕ) → length (filter (has 0 id) rows) ≤ 1) → InNameOrder (map node_of rows)

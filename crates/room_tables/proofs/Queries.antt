@@ -6,6 +6,7 @@ use Rattle.std.proofs.Common.{IsPermutation, IsSorted, negsuc}
 use Rattle.std.specs.List.{list_all, swap, AllByRecursion}
 use Rattle.std.proofs.Math.ListN.{set, get_or, get_or-map}
 use Rattle.std.proofs.lemmas.List.{length-map, map-set}
+use Rattle.std.proofs.lemmas.Grind.{common_steps}
 use Rattle.std.proofs.lemmas.List.Sorted.{IsPermutation-refl, IsPermutation-trans, IsPermutation-swap, IsPermutation-keeps}
 use Rattle.std.proofs.lemmas.List.Sorted.{IsPermutation-map, length_permutation}
 use Rattle.sqlite_value.specs.declared.value.Value.TheVariants.{Null, Int}
@@ -96,12 +97,10 @@ answer_is tree terms project order db params rows a =
     (answer_of tree terms project order [] (lit (Int (negsuc 0))) db params rows a)
 
 pub and_true : (b : Bool) → (b && true) ≡ b
-and_true true = refl
-and_true false = refl
+and_true b = grind (arith, common_steps)
 
 pub tidy : (b : Bool) → ((b && true) || false) ≡ b
-tidy true = refl
-tidy false = refl
+tidy b = grind (arith, common_steps)
 
 -- what a text over one table answers
 pub picked : (schema : Schema) (old new : State) (sql : List ℕ) (params : Row) (tree : ℕ) (terms project : List Term)
@@ -139,9 +138,7 @@ asked schema old new sql params tree terms project names rows p show has means h
 
 -- two comparisons in turn
 pub first_tie : (a b : Ordering) → ordering_then a b ≡ Equal → (a ≡ Equal) × (b ≡ Equal)
-first_tie Less b h = absurd (cc)
-first_tie Equal b h = (refl, h)
-first_tie Greater b h = absurd (cc)
+first_tie a b h = grind (arith, common_steps)
 
 -- what is mapped and then moved is moved and then mapped
 map-swap : {X Y : Type 0} (f : X → Y) (xs : List X) (i j : ℕ) → map f (swap xs i j) ≡ swap (map f xs) i j
