@@ -33,6 +33,7 @@ use Rattle.sqlite.specs.State.{IsRolledBack, KeepsCommit, Shows}
 use Rattle.sqlite.specs.Steps.{FailsToCommit}
 use Rattle.sqlite.specs.declared.error.Error.{Error}
 use Rattle.sqlite.proofs.Callers.{runs_as, one_step}
+use Rattle.sqlite.proofs.InsideLemmas.{inside_keeps}
 use Rattle.std.specs.List.{AllByRecursion, list_all}
 use Rattle.sqlite_sql.specs.Term.{Term, col, holds}
 use Rattle.sqlite.specs.Rows.{stamped}
@@ -274,30 +275,16 @@ inserted_all l old new at table sql params tails terms width count place schema 
 
 -- ---- what an execute inside a transaction leaves
 
-keeps_if : (old new : State) → IsUnchanged old new ⊎ IsRolledBack old new → KeepsCommit old new
-keeps_if old new (inl same) = record { was_open = λ _. same.0.was_open; committed = λ _. same.0.committed_is }
-keeps_if old new (inr back) = record { was_open = back.was_open; committed = λ is. (back.undone is).1 }
-
-pub keeps_failed : (sql : List ℕ) (params : Row) (old new : State) (e : Error)
-    → ExecutesInside 0 sql params old new (Err e) → KeepsCommit old new
-keeps_failed sql params old new e (inl h) = keeps_if old new h.1
-keeps_failed sql params old new e (inr h) = keeps_if old new (inl h.2)
-
 pub executes_inside : (sql : List ℕ) (params : Row) (old new : State) (count : ℕ) → ExecutesInside 0 sql params
     old new (Ok count) → Executes sql params old new (Ok count) × Shows old new new.now old.committed true
 executes_inside sql params old new count h = (h.0, h.1)
-
-pub keeps_ran : (sql : List ℕ) (params : Row) (old new : State) (r : Result ℕ Error)
-    → ExecutesInside 0 sql params old new r → KeepsCommit old new
-keeps_ran sql params old new (Ok count) h = record { was_open = λ _. h.1.was_open; committed = λ _. h.1.committed_is }
-keeps_ran sql params old new (Err e) h = keeps_failed sql params old new e h
 
 -- with no transaction nothing is done, and in one the commit is kept
 pub keeps_all : (sql : List ℕ) (params : Row) (old new : State) (r : Result ℕ Error) (X : Type 0)
     → (old.in_transaction ≡ false → X × (new ≡ old))
     → (old.in_transaction ≡ true → ExecutesInside 0 sql params old new r) → KeepsCommit old new
 keeps_all sql params old new r X ended ran = elim (cases_Bool old.in_transaction) [
-  | inl inside ↦ keeps_ran sql params old new r (ran inside)
+  | inl inside ↦ inside_keeps old new 0 false sql params r (ran inside)
   | inr outside ↦ let same = (ended outside).1 in record {
     was_open = λ is.
         subst (λ (s : State). s.is_open ≡ true) same is;

@@ -9,6 +9,7 @@ use Rattle.std.proofs.lemmas.Bool.{and_from}
 use Rattle.std.proofs.lemmas.Grind.{common_steps}
 use Rattle.std.proofs.lemmas.Map.Lookups.{exact_bytes}
 use Rattle.std.proofs.lemmas.List.Sorted.{length_permutation, IsPermutation-sym}
+use Rattle.std.proofs.lemmas.Option.{same_Some}
 use Rattle.sqlite_value.specs.declared.value.Value.{Value}
 use Rattle.sqlite_value.specs.declared.value.Value.TheVariants.{Int, Text}
 use Rattle.sqlite_value.specs.Order.{Row, column, value_cmp}
@@ -40,9 +41,6 @@ use Rattle.room_tables.proofs.Sorted.{ascending-sort_by}
 use Rattle.room_tables.proofs.Filters.{keyed_filter}
 use Rattle.room_tables.proofs.Drops.{found_or_none}
 
-some_is : {X : Type 0} {a b : X} → Some a ≡ Some b → a ≡ b
-some_is e = cc
-
 -- ---- rows and nodes
 
 -- the row of a node, where there is one
@@ -54,16 +52,16 @@ row_of rows id node h = go (filter (has 0 id) rows) refl h
         → (r : Row) × Has rows r × (has 0 id r ≡ true) × (node_of (shown_node r) ≡ node)
     go [] e h = absurd (let bad = h in cc)
     go (r ∷ []) e h = let k = has_filtered (has 0 id) rows r (subst (λ l. Has l r) (sym e) (inl refl)) in
-        (r, k.0, k.1, some_is h)
+        (r, k.0, k.1, same_Some _ _ h)
     go (r ∷ s ∷ more) e h = absurd (let bad = h in cc)
 
 parent_is : (v : Value) (p : ℕ) → parent_in v ≡ Some p → v ≡ Int (pos p)
-parent_is (Int (pos n)) p h = ap (λ m. Int (pos m)) (some_is h)
+parent_is (Int (pos n)) p h = ap (λ m. Int (pos m)) (same_Some _ _ h)
 parent_is v p h = absurd (let bad = h in cc)
 
 name_is : (v : Value) (name : List ℕ) → name_in v ≡ Some name → v ≡ Text name
 name_is (Text []) name h = absurd (let bad = h in cc)
-name_is (Text (b ∷ bytes)) name h = ap Text (some_is h)
+name_is (Text (b ∷ bytes)) name h = ap Text (same_Some _ _ h)
 name_is v name h = absurd (let bad = h in cc)
 
 named_back : (name : List ℕ) → name ≢ [] → name_of_text name ≡ Some name

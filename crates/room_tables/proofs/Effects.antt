@@ -22,8 +22,7 @@ use Rattle.room_records.specs.Changes.{apply_change, apply_changes}
 use Rattle.sqlite.specs.Effect.{Database, IsDatabase}
 use Rattle.sqlite.specs.Table.{Table}
 use Rattle.room_tables.specs.Tables.{Layout, Upgraded, room_schema}
-use Rattle.room_tables.specs.Texts.{change_node_text, add_node_text, change_next_text, add_next_text}
-use Rattle.room_tables.specs.Texts.{change_doc_text, add_doc_text}
+use Rattle.room_tables.specs.Texts as T
 use Rattle.room_tables.specs.Rows.{has, only, parent_in, name_of_text, kind_of, shown_node, node_of, nodes_in}
 use Rattle.room_tables.specs.Rows.{entries_in, shown_doc, doc_of, documents_in, number_in, shown_next, next_in}
 use Rattle.room_tables.specs.Rows.{shown_version, version_rows, versions_in, IsVersion, sessions_in, slots_in, slots_of, records_of}
@@ -195,7 +194,7 @@ params_of_node node name =
 
 -- what an UPDATE of a node leaves, by how many rows it changed
 pub node_changed : (old new : State) (node : Node) (name : List ℕ) (count : ℕ) (room : IsRoomDatabase old.now)
-    → ExecutesInside 0 change_node_text (params_of_node node name) old new (Ok count)
+    → ExecutesInside 0 T.change_node_text (params_of_node node name) old new (Ok count)
     → ChangesNode room.layout node.id node.parent name (kind_number node.kind) node.owner node.group node.aclflag
     count old.now new.now
 node_changed old new node name count room h =
@@ -204,14 +203,14 @@ node_changed old new node name count room h =
 
 pub steps_change_node : (old new : State) (node : Node) (name : List ℕ) (count : ℕ)
     → IsRoomDatabase old.now → name_of_text name ≡ node.name
-    → ExecutesInside 0 change_node_text (params_of_node node name) old new (Ok (suc count))
+    → ExecutesInside 0 T.change_node_text (params_of_node node name) old new (Ok (suc count))
     → Steps old new (apply_change (PutNode node))
 steps_change_node old new node name count room named h =
     steps_put_node old new node name _ room named (node_changed old new node name (suc count) room h)
 
 -- an INSERT alone adds the row of a node, whatever is said of the rows of its number: there is none
 pub node_added : (old new : State) (node : Node) (name : List ℕ) (count : ℕ) (Met : Row → Type 0)
-    (room : IsRoomDatabase old.now) → ExecutesInside 0 add_node_text (params_of_node node name) old new (Ok count)
+    (room : IsRoomDatabase old.now) → ExecutesInside 0 T.add_node_text (params_of_node node name) old new (Ok count)
     → PutInto room.layout old.now new.now 1 (λ r. r ≡ row_of_node node name) Met
 node_added old new node name count Met room h =
     adds_node room.layout node.id node.parent name (kind_number node.kind) node.owner node.group node.aclflag
@@ -219,7 +218,7 @@ node_added old new node name count Met room h =
 
 pub steps_add_node : (old new : State) (node : Node) (name : List ℕ) (count : ℕ)
     → IsRoomDatabase old.now → name_of_text name ≡ node.name
-    → ExecutesInside 0 add_node_text (params_of_node node name) old new (Ok count)
+    → ExecutesInside 0 T.add_node_text (params_of_node node name) old new (Ok count)
     → Steps old new (apply_change (PutNode node))
 steps_add_node old new node name count room named h =
     steps_put_node old new node name (λ _. ⊥) room named (node_added old new node name count (λ _. ⊥) room h)
@@ -227,8 +226,8 @@ steps_add_node old new node name count room named h =
 -- where an UPDATE changed none, the INSERT behind it adds the row
 pub steps_change_or_add : (old mid new : State) (node : Node) (name : List ℕ) (count : ℕ)
     → IsRoomDatabase old.now → name_of_text name ≡ node.name
-    → ExecutesInside 0 change_node_text (params_of_node node name) old mid (Ok 0)
-    → ExecutesInside 0 add_node_text (params_of_node node name) mid new (Ok count)
+    → ExecutesInside 0 T.change_node_text (params_of_node node name) old mid (Ok 0)
+    → ExecutesInside 0 T.add_node_text (params_of_node node name) mid new (Ok count)
     → Steps old new (apply_change (PutNode node))
 steps_change_or_add old mid new node name count room named none one =
     let a = steps_left 1 old mid room (node_changed old mid node name 0 room none).leaves in
@@ -237,8 +236,8 @@ steps_change_or_add old mid new node name count room named none one =
 -- the rows of nodes are as they were, and then there is a row of this number
 pub left_then_added : (old mid new : State) (node : Node) (name : List ℕ) (count : ℕ) (Met : Row → Type 0)
     (room : IsRoomDatabase old.now)
-    → ExecutesInside 0 change_node_text (params_of_node node name) old mid (Ok 0)
-    → ExecutesInside 0 add_node_text (params_of_node node name) mid new (Ok count)
+    → ExecutesInside 0 T.change_node_text (params_of_node node name) old mid (Ok 0)
+    → ExecutesInside 0 T.add_node_text (params_of_node node name) mid new (Ok count)
     → (mid.now.trees 1 ≡ old.now.trees 1)
     × PutInto room.layout mid.now new.now 1 (λ r. r ≡ row_of_node node name) Met
 left_then_added old mid new node name count Met room none one =
@@ -263,28 +262,28 @@ steps_put_doc old new id bytes room done =
 
 -- what an UPDATE of the document leaves, by how many rows it changed
 doc_changed : (old new : State) (id : ℕ) (bytes : List ℕ) (count : ℕ) (room : IsRoomDatabase old.now)
-    → ExecutesInside 0 change_doc_text (doc_params id bytes) old new (Ok count)
+    → ExecutesInside 0 T.change_doc_text (doc_params id bytes) old new (Ok count)
     → ChangesDoc room.layout id bytes count old.now new.now
 doc_changed old new id bytes count room h = changes_doc room.layout old new id bytes count room.schema room.keyed.doc
     h.0
 
 pub steps_change_doc : (old new : State) (id : ℕ) (bytes : Vec ℕ Global) (count : ℕ) → IsRoomDatabase old.now
-    → ExecutesInside 0 change_doc_text (doc_params id bytes.items) old new (Ok (suc count))
+    → ExecutesInside 0 T.change_doc_text (doc_params id bytes.items) old new (Ok (suc count))
     → Steps old new (apply_change (PutDoc id bytes))
 steps_change_doc old new id bytes count room h =
     steps_put_doc old new id bytes room (doc_changed old new id bytes.items (suc count) room h)
 
 -- an INSERT alone
 pub steps_new_doc : (old new : State) (id : ℕ) (bytes : Vec ℕ Global) (count : ℕ) → IsRoomDatabase old.now
-    → ExecutesInside 0 add_doc_text (doc_params id bytes.items) old new (Ok count)
+    → ExecutesInside 0 T.add_doc_text (doc_params id bytes.items) old new (Ok count)
     → Steps old new (apply_change (PutDoc id bytes))
 steps_new_doc old new id bytes count room h = steps_put_doc old new id bytes room
     (adds_doc room.layout old new id bytes.items count room.schema h.0)
 
 -- where it changed none, the INSERT behind it adds the row
 pub steps_add_doc : (old mid new : State) (id : ℕ) (bytes : Vec ℕ Global) (count : ℕ) → IsRoomDatabase old.now
-    → ExecutesInside 0 change_doc_text (doc_params id bytes.items) old mid (Ok 0)
-    → ExecutesInside 0 add_doc_text (doc_params id bytes.items) mid new (Ok count)
+    → ExecutesInside 0 T.change_doc_text (doc_params id bytes.items) old mid (Ok 0)
+    → ExecutesInside 0 T.add_doc_text (doc_params id bytes.items) mid new (Ok count)
     → Steps old new (apply_change (PutDoc id bytes))
 steps_add_doc old mid new id bytes count room none one =
     let a = steps_left 5 old mid room (doc_changed old mid id bytes.items 0 room none).leaves in
@@ -292,19 +291,19 @@ steps_add_doc old mid new id bytes count room none one =
 
 -- the rows of nodes stay as they are
 pub doc_change_leaves_nodes : (old new : State) (id : ℕ) (bytes : List ℕ) (count : ℕ) → IsRoomDatabase old.now
-    → ExecutesInside 0 change_doc_text (doc_params id bytes) old new (Ok (suc count))
+    → ExecutesInside 0 T.change_doc_text (doc_params id bytes) old new (Ok (suc count))
     → new.now.trees 1 ≡ old.now.trees 1
 doc_change_leaves_nodes old new id bytes count room h =
     (doc_changed old new id bytes (suc count) room h).put.others.node (omega arith)
 
 pub doc_new_leaves_nodes : (old new : State) (id : ℕ) (bytes : List ℕ) (count : ℕ) → IsRoomDatabase old.now
-    → ExecutesInside 0 add_doc_text (doc_params id bytes) old new (Ok count) → new.now.trees 1 ≡ old.now.trees 1
+    → ExecutesInside 0 T.add_doc_text (doc_params id bytes) old new (Ok count) → new.now.trees 1 ≡ old.now.trees 1
 doc_new_leaves_nodes old new id bytes count room h = (adds_doc room.layout old new id bytes count room.schema
     h.0).put.others.node (omega arith)
 
 pub doc_add_leaves_nodes : (old mid new : State) (id : ℕ) (bytes : List ℕ) (count : ℕ) → IsRoomDatabase old.now
-    → ExecutesInside 0 change_doc_text (doc_params id bytes) old mid (Ok 0)
-    → ExecutesInside 0 add_doc_text (doc_params id bytes) mid new (Ok count) → new.now.trees 1 ≡ old.now.trees 1
+    → ExecutesInside 0 T.change_doc_text (doc_params id bytes) old mid (Ok 0)
+    → ExecutesInside 0 T.add_doc_text (doc_params id bytes) mid new (Ok count) → new.now.trees 1 ≡ old.now.trees 1
 doc_add_leaves_nodes old mid new id bytes count room none one =
     let left = (doc_changed old mid id bytes 0 room none).leaves in
     (adds_doc room.layout mid new id bytes count left.schema
@@ -342,21 +341,21 @@ sets_put old new n room done beside =
 
 -- what an UPDATE leaves, by how many rows it changed
 next_changed : (old new : State) (n count : ℕ) (room : IsRoomDatabase old.now)
-    → ExecutesInside 0 change_next_text (Int (pos n) ∷ []) old new (Ok count)
+    → ExecutesInside 0 T.change_next_text (Int (pos n) ∷ []) old new (Ok count)
     → ChangesNext room.layout n count old.now new.now
 next_changed old new n count room h = changes_next room.layout old new n count room.schema room.keyed.room
     h.0
 
 pub change_sets_next : (old new : State) (n count : ℕ) → IsRoomDatabase old.now
-    → ExecutesInside 0 change_next_text (Int (pos n) ∷ []) old new (Ok (suc count)) → SetsNext old new n
+    → ExecutesInside 0 T.change_next_text (Int (pos n) ∷ []) old new (Ok (suc count)) → SetsNext old new n
 change_sets_next old new n count room h = sets_put old new n room (next_changed old new n (suc count) room h)
     (λ s. (changes_next Upgraded old new n (suc count) s room.keyed.room
     h.0).put.tables.1.1.1.1.1.0 (omega arith))
 
 -- where it changed none, the INSERT behind it adds the row
 pub add_sets_next : (old mid new : State) (n count : ℕ) → IsRoomDatabase old.now
-    → ExecutesInside 0 change_next_text (Int (pos n) ∷ []) old mid (Ok 0)
-    → ExecutesInside 0 add_next_text (Int (pos n) ∷ []) mid new (Ok count) → SetsNext old new n
+    → ExecutesInside 0 T.change_next_text (Int (pos n) ∷ []) old mid (Ok 0)
+    → ExecutesInside 0 T.add_next_text (Int (pos n) ∷ []) mid new (Ok count) → SetsNext old new n
 add_sets_next old mid new n count room none one =
     let left = next_changed old mid n 0 room none in
     let a = steps_left 0 old mid room left.leaves in
@@ -388,10 +387,10 @@ steps_more old mid new changes more change is a b = subst (Steps old new)
 -- the same, with the parameters as they are given
 pub steps_add_node_at : (old new : State) (node : Node) (name : List ℕ) (params : Row) (count : ℕ)
     → IsRoomDatabase old.now → name_of_text name ≡ node.name → params ≡ params_of_node node name
-    → ExecutesInside 0 add_node_text params old new (Ok count) → Steps old new (apply_change (PutNode node))
+    → ExecutesInside 0 T.add_node_text params old new (Ok count) → Steps old new (apply_change (PutNode node))
 steps_add_node_at old new node name params count room named params_are h =
     steps_add_node old new node name count room named
-    (subst (λ p. ExecutesInside 0 add_node_text p old new (Ok count)) params_are h)
+    (subst (λ p. ExecutesInside 0 T.add_node_text p old new (Ok count)) params_are h)
 
 -- a parent's number is bound as it is
 pub bound_parent : (p : Option ℕ) → bound_value (parent_value p) ≡ parent_value p

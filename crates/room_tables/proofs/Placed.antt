@@ -38,6 +38,10 @@ use Rattle.room_tables.proofs.Filters.{put_is_one_more, put_passed_over, rows_go
 use Rattle.room_tables.proofs.Filters.{keyed_filter, still_room, still_numbered, still_slots}
 use Rattle.room_tables.proofs.Effects.{same_records}
 
+int_tied : (m n : ℕ) → value_cmp (Int (pos m)) (Int (pos n)) ≡ Equal → m ≡ n
+int_tied m n tie =
+    let same : pos m ≡ pos n = exact_signed _ _ (sym (value_cmp-Int (pos m) (pos n)) ∙ tie) in cc
+
 -- two rows of entries that tie are one
 exact_values : (p k f m q l g n : ℕ) (v w : List ℕ)
     → key_cmp 0 entry_keys (Int (pos p) ∷ Int (pos k) ∷ Int (pos f) ∷ Int (pos m) ∷ Text v ∷ [])
@@ -49,13 +53,8 @@ exact_values p k f m q l g n v w h =
     let two = first_tie _ _ one.1 in
     let three = first_tie _ _ two.1 in
     let four = first_tie _ _ three.1 in
-    let five = first_tie _ _ four.1 in
-    let a : pos p ≡ pos q = exact_signed _ _ (sym (value_cmp-Int (pos p) (pos q)) ∙ one.0) in
-    let b : pos k ≡ pos l = exact_signed _ _ (sym (value_cmp-Int (pos k) (pos l)) ∙ two.0) in
-    let c : pos f ≡ pos g = exact_signed _ _ (sym (value_cmp-Int (pos f) (pos g)) ∙ three.0) in
-    let d : pos m ≡ pos n = exact_signed _ _ (sym (value_cmp-Int (pos m) (pos n)) ∙ four.0) in
-    let e : v ≡ w = exact_bytes _ _ (sym (value_cmp-Text v w) ∙ five.0) in
-    cc
+    let last : v ≡ w = exact_bytes _ _ (sym (value_cmp-Text v w) ∙ (first_tie _ _ four.1).0) in
+    cc (int_tied p q one.0, int_tied k l two.0, int_tied f g three.0, int_tied m n four.0)
 
 pub exact_entries : (a b : Row) → IsEntryRow a → IsEntryRow b → key_cmp 0 entry_keys a b ≡ Equal → a ≡ b
 exact_entries a b p q tie = p.is ∙ exact_values p.place p.kind p.flags p.mask

@@ -17,12 +17,9 @@ use Rattle.sqlite_schema.specs.declared.schema.Keys.TheVariants.{Enforced}
 use Rattle.sqlite.specs.Kind.TheVariants.{Integer}
 use Rattle.sqlite.specs.Effect.{Database}
 use Rattle.sqlite.specs.State.{State, Executes}
+use Rattle.room_tables.specs.Texts as T
 use Rattle.room_tables.specs.Tables.{Layout, Fresh, Upgraded, room_schema, room_table, node_table, doc_table}
 use Rattle.room_tables.specs.Tables.{session_table}
-use Rattle.room_tables.specs.Texts.{change_node_text, change_node_query, add_node_text, add_node_terms}
-use Rattle.room_tables.specs.Texts.{change_doc_text, change_doc_query}
-use Rattle.room_tables.specs.Texts.{add_doc_text, add_doc_terms, change_next_text, change_next_query, add_next_text}
-use Rattle.room_tables.specs.Texts.{add_next_terms, put_session_text, put_session_terms, put_session_query}
 use Rattle.room_tables.specs.Rows.{has, has_text}
 use Rattle.room_tables.specs.Layout.{IsKeyed, parent_value}
 use Rattle.room_tables.proofs.Meaning.{change_node_means, add_node_means, change_doc_means, add_doc_means}
@@ -89,7 +86,7 @@ module _ (l : Layout) (id : ℕ) (parent : Option ℕ) (name : List ℕ) (kind :
   abbrev stored : Row
   stored = stored_node id parent name kind owner group aclflag
 
-  node_update : IsUpdate l node_table (has 0 id) change_node_query.filter change_node_query.project params
+  node_update : IsUpdate l node_table (has 0 id) T.change_node_query.filter T.change_node_query.project params
       (λ r. r ≡ stored)
   node_update = record {
     quiet = node_quiet l;
@@ -107,23 +104,23 @@ module _ (l : Layout) (id : ℕ) (parent : Option ℕ) (name : List ℕ) (kind :
 
   -- what the count of an UPDATE tells
   abbrev pub ChangesNode : ℕ → Database → Database → Type 0
-  ChangesNode = Changes l node_table (has 0 id) change_node_query.filter change_node_query.project
+  ChangesNode = Changes l node_table (has 0 id) T.change_node_query.filter T.change_node_query.project
       (node_params id parent name kind owner group aclflag)
       (λ r. r ≡ stored_node id parent name kind owner group aclflag)
 
   pub changes_node : (old new : State) (count : ℕ) → old.now.schema ≡ room_schema l → IsKeyed (old.now.trees 1)
-      → Executes change_node_text (node_params id parent name kind owner group aclflag) old new (Ok count)
+      → Executes T.change_node_text (node_params id parent name kind owner group aclflag) old new (Ok count)
       → ChangesNode count old.now new.now
   changes_node old new count schema keyed h =
-      changes_row l node_table id change_node_query.filter change_node_query.project params (λ r. r ≡ stored)
-      node_update old new 1 count change_node_text refl (change_node_means l) schema keyed h
+      changes_row l node_table id T.change_node_query.filter T.change_node_query.project params (λ r. r ≡ stored)
+      node_update old new 1 count T.change_node_text refl (change_node_means l) schema keyed h
 
   -- an INSERT alone adds the row, and no row had its number
   pub adds_node : (old new : State) (count : ℕ) (Met : Row → Type 0) → old.now.schema ≡ room_schema l
-      → Executes add_node_text (node_params id parent name kind owner group aclflag) old new (Ok count)
+      → Executes T.add_node_text (node_params id parent name kind owner group aclflag) old new (Ok count)
       → PutInto l old.now new.now 1 (λ r. r ≡ stored_node id parent name kind owner group aclflag) Met
   adds_node old new count Met schema h =
-      adds_row l old new 1 node_table add_node_terms 8 count add_node_text params stored stored (pos id) _ Met refl
+      adds_row l old new 1 node_table T.add_node_terms 8 count T.add_node_text params stored stored (pos id) _ Met refl
       schema refl (add_node_means l) (nodes_quiet l) refl
       (ap (λ r. numbered Chosen (old.now.trees 1) (r ∷ [])) (cast_node id parent name kind owner group aclflag))
       refl refl h
@@ -139,8 +136,8 @@ cast_doc id bytes = rw (cast_int (pos id), cast_null)
 abbrev pub doc_params : ℕ → List ℕ → Row
 doc_params id bytes = Int (pos id) ∷ Blob bytes ∷ []
 
-doc_update : (l : Layout) (id : ℕ) (bytes : List ℕ) → IsUpdate l doc_table (has 0 id) change_doc_query.filter
-    change_doc_query.project (doc_params id bytes) (λ r. r ≡ stored_doc id bytes)
+doc_update : (l : Layout) (id : ℕ) (bytes : List ℕ) → IsUpdate l doc_table (has 0 id) T.change_doc_query.filter
+    T.change_doc_query.project (doc_params id bytes) (λ r. r ≡ stored_doc id bytes)
 doc_update l id bytes = record {
   quiet = λ olds new news. doc_quiet l olds (new ∷ news);
   idle = doc_quiet l [] [];
@@ -160,22 +157,22 @@ PutsDoc l id bytes old new = PutInto l old new 5 (λ r. r ≡ stored_doc id byte
 
 -- what the count of an UPDATE tells
 abbrev pub ChangesDoc : Layout → ℕ → List ℕ → ℕ → Database → Database → Type 0
-ChangesDoc l id bytes = Changes l doc_table (has 0 id) change_doc_query.filter change_doc_query.project
+ChangesDoc l id bytes = Changes l doc_table (has 0 id) T.change_doc_query.filter T.change_doc_query.project
     (doc_params id bytes) (λ r. r ≡ stored_doc id bytes)
 
 pub changes_doc : (l : Layout) (old new : State) (id : ℕ) (bytes : List ℕ) (count : ℕ)
     → old.now.schema ≡ room_schema l → IsKeyed (old.now.trees 5)
-    → Executes change_doc_text (doc_params id bytes) old new (Ok count)
+    → Executes T.change_doc_text (doc_params id bytes) old new (Ok count)
     → ChangesDoc l id bytes count old.now new.now
 changes_doc l old new id bytes count schema keyed h =
-    changes_row l doc_table id change_doc_query.filter change_doc_query.project (doc_params id bytes)
-    (λ r. r ≡ stored_doc id bytes) (doc_update l id bytes) old new 3 count change_doc_text refl
+    changes_row l doc_table id T.change_doc_query.filter T.change_doc_query.project (doc_params id bytes)
+    (λ r. r ≡ stored_doc id bytes) (doc_update l id bytes) old new 3 count T.change_doc_text refl
     (change_doc_means l) schema keyed h
 
 pub adds_doc : (l : Layout) (old new : State) (id : ℕ) (bytes : List ℕ) (count : ℕ) → old.now.schema ≡ room_schema l
-    → Executes add_doc_text (doc_params id bytes) old new (Ok count) → PutsDoc l id bytes old.now new.now
+    → Executes T.add_doc_text (doc_params id bytes) old new (Ok count) → PutsDoc l id bytes old.now new.now
 adds_doc l old new id bytes count schema h =
-    adds_row l old new 3 doc_table add_doc_terms 3 count add_doc_text (doc_params id bytes)
+    adds_row l old new 3 doc_table T.add_doc_terms 3 count T.add_doc_text (doc_params id bytes)
     (stored_doc id bytes) (stored_doc id bytes) (pos id) _ _ refl schema refl (add_doc_means l)
     (doc_quiet l []) refl (ap (λ r. numbered Chosen (old.now.trees 5) (r ∷ [])) (cast_doc id bytes)) refl refl h
 
@@ -188,8 +185,8 @@ stored_next n = Int (pos 1) ∷ Null ∷ Int (pos 2) ∷ Int (pos n) ∷ []
 cast_next : (n : ℕ) → cast_row room_table (stored_next n) ≡ stored_next n
 cast_next n = rw (cast_int (pos 1), cast_null, cast_int (pos 2), cast_int (pos n))
 
-next_update : (l : Layout) (n : ℕ) → IsUpdate l room_table (has 0 1) change_next_query.filter
-    change_next_query.project (Int (pos n) ∷ []) (λ r. r ≡ stored_next n)
+next_update : (l : Layout) (n : ℕ) → IsUpdate l room_table (has 0 1) T.change_next_query.filter
+    T.change_next_query.project (Int (pos n) ∷ []) (λ r. r ≡ stored_next n)
 next_update l n = record {
   quiet = λ olds new news. next_quiet l olds (new ∷ news);
   idle = next_quiet l [] [];
@@ -209,21 +206,21 @@ PutsNext l n old new = PutInto l old new 0 (λ r. r ≡ stored_next n) (λ r. ha
 
 -- what the count of an UPDATE tells
 abbrev pub ChangesNext : Layout → ℕ → ℕ → Database → Database → Type 0
-ChangesNext l n = Changes l room_table (has 0 1) change_next_query.filter change_next_query.project
+ChangesNext l n = Changes l room_table (has 0 1) T.change_next_query.filter T.change_next_query.project
     (Int (pos n) ∷ []) (λ r. r ≡ stored_next n)
 
 pub changes_next : (l : Layout) (old new : State) (n count : ℕ) → old.now.schema ≡ room_schema l
-    → IsKeyed (old.now.trees 0) → Executes change_next_text (Int (pos n) ∷ []) old new (Ok count)
+    → IsKeyed (old.now.trees 0) → Executes T.change_next_text (Int (pos n) ∷ []) old new (Ok count)
     → ChangesNext l n count old.now new.now
 changes_next l old new n count schema keyed h =
-    changes_row l room_table 1 change_next_query.filter change_next_query.project (Int (pos n) ∷ [])
-    (λ r. r ≡ stored_next n) (next_update l n) old new 0 count change_next_text refl
+    changes_row l room_table 1 T.change_next_query.filter T.change_next_query.project (Int (pos n) ∷ [])
+    (λ r. r ≡ stored_next n) (next_update l n) old new 0 count T.change_next_text refl
     (change_next_means l) schema keyed h
 
 pub adds_next : (l : Layout) (old new : State) (n count : ℕ) → old.now.schema ≡ room_schema l
-    → Executes add_next_text (Int (pos n) ∷ []) old new (Ok count) → PutsNext l n old.now new.now
+    → Executes T.add_next_text (Int (pos n) ∷ []) old new (Ok count) → PutsNext l n old.now new.now
 adds_next l old new n count schema h =
-    adds_row l old new 0 room_table add_next_terms 4 count add_next_text (Int (pos n) ∷ [])
+    adds_row l old new 0 room_table T.add_next_terms 4 count T.add_next_text (Int (pos n) ∷ [])
     (stored_next n) (stored_next n) (pos 1) _ _ refl schema refl (add_next_means l)
     (next_quiet l []) refl (ap (λ r. numbered Chosen (old.now.trees 0) (r ∷ [])) (cast_next n)) refl refl h
 
@@ -255,7 +252,7 @@ cast_session : (rowid : ℤ) (sid owner : List ℕ) (slots open_flag : ℕ) → 
 cast_session rowid sid owner slots open_flag = rw (cast_int rowid, cast_int (pos slots), cast_int (pos open_flag))
 
 session_upsert : (l : Layout) (rowid : ℤ) (sid owner : List ℕ) (slots open_flag : ℕ)
-    → IsUpsert l session_table (1 ∷ []) 4 put_session_query.project (Text sid ∷ Text owner
+    → IsUpsert l session_table (1 ∷ []) 4 T.put_session_query.project (Text sid ∷ Text owner
     ∷ Int (pos slots) ∷ Int (pos open_flag) ∷ []) (stored_session rowid sid owner slots open_flag)
     (IsSession sid owner slots open_flag) (λ r. has_text 1 sid r ≡ true)
 session_upsert l id sid owner slots open_flag = record {
@@ -284,11 +281,11 @@ session_upsert l id sid owner slots open_flag = record {
 
 pub puts_session : (l : Layout) (old new : State) (sid owner : List ℕ) (slots open_flag count : ℕ)
     → old.now.schema ≡ room_schema l → IsKeyed (old.now.trees 6)
-    → Executes put_session_text (Text sid ∷ Text owner ∷ Int (pos slots) ∷ Int (pos open_flag) ∷ []) old new (Ok count)
+    → Executes T.put_session_text (Text sid ∷ Text owner ∷ Int (pos slots) ∷ Int (pos open_flag) ∷ []) old new (Ok count)
     → PutInto l old.now new.now 6 (IsSession sid owner slots open_flag) (λ r. has_text 1 sid r ≡ true)
 puts_session l old new sid owner slots open_flag count schema keyed h =
-    put l old new 4 session_table (1 ∷ []) 4 put_session_query.project put_session_terms 5 count
-    put_session_text (Text sid ∷ Text owner ∷ Int (pos slots) ∷ Int (pos open_flag) ∷ [])
+    put l old new 4 session_table (1 ∷ []) 4 T.put_session_query.project T.put_session_terms 5 count
+    T.put_session_text (Text sid ∷ Text owner ∷ Int (pos slots) ∷ Int (pos open_flag) ∷ [])
     (Null ∷ Text sid ∷ Text owner ∷ Int (pos slots) ∷ Int (pos open_flag) ∷ [])
     (stored_session (next_rowid (old.now.trees 6)) sid owner slots open_flag) _ _
     (session_upsert l (next_rowid (old.now.trees 6)) sid owner slots open_flag)

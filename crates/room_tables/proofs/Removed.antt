@@ -20,7 +20,7 @@ use Rattle.std.proofs.lemmas.List.Sorted.{IsPermutation-sym}
 use Rattle.sqlite_keyed.proofs.ListLemmas.{ascending-filter, filter_all}
 use Rattle.sqlite_keyed.proofs.RuleLemmas.{each_true}
 pub use Rattle.room_tables.specs.Layout.{IsKeyed}
-use Rattle.room_tables.proofs.Sorted.{all_permutation}
+use Rattle.sqlite_trees.proofs.ListLemmas.{all-permutation}
 use Rattle.room_tables.proofs.Values.{eq_is}
 
 abbrev among : List ℤ → Row → Bool
@@ -46,7 +46,7 @@ without_all_is (id ∷ ids) rows =
 
 pub has_permuted : {X : Type 0} (xs ys : List X) (x : X) → IsPermutation xs ys → Has ys x → Has xs x
 has_permuted xs ys x same =
-    all_has (Has xs) ys x (all_permutation (Has xs) xs ys same (all_from (Has xs) xs (λ e h. h)))
+    all_has (Has xs) ys x (all-permutation (Has xs) xs ys same (all_from (Has xs) xs (λ e h. h)))
 
 is_its_rowid : (r : Row) → is_int (rowid r) ≡ true → has_rowid (id_in (rowid r)) r ≡ true
 is_its_rowid r int = ap (λ v. is_eq (value_cmp (rowid r) v)) (sym (int_is (rowid r) int))

@@ -13,9 +13,7 @@ use Rattle.sqlite.specs.State.{State, Executes}
 use Rattle.room_tables.specs.Tables.{Layout, Fresh, Upgraded, room_schema, entry_table, slots_table, slots_tree}
 use Rattle.room_tables.specs.Tables.{slots_place}
 use Rattle.room_tables.proofs.Each.{slots_placed, slots_seen}
-use Rattle.room_tables.specs.Texts.{drop_entries_text, drop_entries_query, drop_slots_text, drop_slots_query}
-use Rattle.room_tables.specs.Texts.{add_entry_text, add_entry_terms, add_two_text}
-use Rattle.room_tables.specs.Texts.{add_two_terms, add_three_text, add_three_terms, add_four_text, add_four_terms}
+use Rattle.room_tables.specs.Texts as T
 use Rattle.room_tables.specs.Rows.{has, has_text}
 use Rattle.room_acl.specs.Entries.{EntryModel}
 use Rattle.room_tables.specs.Steps.{type_of, shown_as}
@@ -65,17 +63,17 @@ pub slots_quiet : (l : Layout) (olds news : List Row) → works (room_schema l) 
 slots_quiet l olds news = (unreferred_set_off l (pairs olds news) (length news == 0)).2
 
 pub drops_entries : (l : Layout) (old new : State) (id count : ℕ) → old.now.schema ≡ room_schema l
-    → IsKeyed (old.now.trees 3) → Executes drop_entries_text (Int (pos id) ∷ []) old new (Ok count)
+    → IsKeyed (old.now.trees 3) → Executes T.drop_entries_text (Int (pos id) ∷ []) old new (Ok count)
     → Leaves l old.now new.now 3 (without (has 1 id) (old.now.trees 3))
 drops_entries l old new id count schema keyed h =
-    cleared l old new 2 entry_table drop_entries_text (Int (pos id) ∷ []) drop_entries_query.filter count (has 1 id)
+    cleared l old new 2 entry_table T.drop_entries_text (Int (pos id) ∷ []) T.drop_entries_query.filter count (has 1 id)
     refl schema keyed (drop_entries_means l) refl (entries_quiet l) (λ r. and_true (has 1 id r)) h
 
 pub drops_slots : (l : Layout) (old new : State) (sid : List ℕ) (count : ℕ) → old.now.schema ≡ room_schema l
-    → IsKeyed (old.now.trees (slots_tree l)) → Executes drop_slots_text (Text sid ∷ []) old new (Ok count)
+    → IsKeyed (old.now.trees (slots_tree l)) → Executes T.drop_slots_text (Text sid ∷ []) old new (Ok count)
     → Leaves l old.now new.now (slots_tree l) (without (has_text 1 sid) (old.now.trees (slots_tree l)))
 drops_slots l old new sid count schema keyed h =
-    cleared l old new (slots_place l) (slots_table l) drop_slots_text (Text sid ∷ []) (drop_slots_query 8).filter count
+    cleared l old new (slots_place l) (slots_table l) T.drop_slots_text (Text sid ∷ []) (T.drop_slots_query 8).filter count
     (has_text 1 sid) (slots_placed l) schema keyed (drop_slots_means l)
     (slots_seen l old.now.trees) (λ olds. slots_quiet l olds []) (λ r. and_true (has_text 1 sid r)) h
 
@@ -110,31 +108,31 @@ AddsEntries l text node at es = (old new : State) (count : ℕ) → old.now.sche
     → Executes text (Int (pos node) ∷ bound_entries at es) old new (Ok count)
     → Added l old.now new.now 3 (stored node at es)
 
-pub adds_one : (l : Layout) (node at : ℕ) (a : EntryModel) → AddsEntries l add_entry_text node at (a ∷ [])
+pub adds_one : (l : Layout) (node at : ℕ) (a : EntryModel) → AddsEntries l T.add_entry_text node at (a ∷ [])
 adds_one l node at a old new count schema h =
-    inserted_all l old new 2 entry_table add_entry_text (Int (pos node) ∷ bound_entries at (a ∷ []))
-    (stored node at (a ∷ [])) add_entry_terms 7 count refl schema refl (add_entry_means l)
+    inserted_all l old new 2 entry_table T.add_entry_text (Int (pos node) ∷ bound_entries at (a ∷ []))
+    (stored node at (a ∷ [])) T.add_entry_terms 7 count refl schema refl (add_entry_means l)
     (entry_quiet l)
     (cast_stored node at (a ∷ [])) h
 
-pub adds_two : (l : Layout) (node at : ℕ) (a b : EntryModel) → AddsEntries l add_two_text node at (a ∷ b ∷ [])
+pub adds_two : (l : Layout) (node at : ℕ) (a b : EntryModel) → AddsEntries l T.add_two_text node at (a ∷ b ∷ [])
 adds_two l node at a b old new count schema h =
-    inserted_all l old new 2 entry_table add_two_text (Int (pos node) ∷ bound_entries at (a ∷ b ∷ []))
-    (stored node at (a ∷ b ∷ [])) add_two_terms 7 count refl schema refl (add_two_means l)
+    inserted_all l old new 2 entry_table T.add_two_text (Int (pos node) ∷ bound_entries at (a ∷ b ∷ []))
+    (stored node at (a ∷ b ∷ [])) T.add_two_terms 7 count refl schema refl (add_two_means l)
     (entry_quiet l)
     (cast_stored node at (a ∷ b ∷ [])) h
 
-pub adds_three : (l : Layout) (node at : ℕ) (a b c : EntryModel) → AddsEntries l add_three_text node at (a ∷ b ∷ c ∷ [])
+pub adds_three : (l : Layout) (node at : ℕ) (a b c : EntryModel) → AddsEntries l T.add_three_text node at (a ∷ b ∷ c ∷ [])
 adds_three l node at a b c old new count schema h =
-    inserted_all l old new 2 entry_table add_three_text
+    inserted_all l old new 2 entry_table T.add_three_text
     (Int (pos node) ∷ bound_entries at (a ∷ b ∷ c ∷ [])) (stored node at (a ∷ b ∷ c ∷ []))
-    add_three_terms 7 count refl schema refl (add_three_means l) (entry_quiet l)
+    T.add_three_terms 7 count refl schema refl (add_three_means l) (entry_quiet l)
     (cast_stored node at (a ∷ b ∷ c ∷ [])) h
 
 pub adds_four : (l : Layout) (node at : ℕ) (a b c d : EntryModel)
-    → AddsEntries l add_four_text node at (a ∷ b ∷ c ∷ d ∷ [])
+    → AddsEntries l T.add_four_text node at (a ∷ b ∷ c ∷ d ∷ [])
 adds_four l node at a b c d old new count schema h =
-    inserted_all l old new 2 entry_table add_four_text (Int (pos node) ∷ bound_entries at (a ∷ b ∷ c ∷ d ∷ []))
-    (stored node at (a ∷ b ∷ c ∷ d ∷ [])) add_four_terms 7 count
+    inserted_all l old new 2 entry_table T.add_four_text (Int (pos node) ∷ bound_entries at (a ∷ b ∷ c ∷ d ∷ []))
+    (stored node at (a ∷ b ∷ c ∷ d ∷ [])) T.add_four_terms 7 count
     refl schema refl (add_four_means l) (entry_quiet l)
     (cast_stored node at (a ∷ b ∷ c ∷ d ∷ [])) h
