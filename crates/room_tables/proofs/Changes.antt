@@ -79,7 +79,9 @@ wrote l old new at table command text params count place schema w changed =
     let all = subst (λ s. OnTable old.step_limit (mode_of old) params (record old.now { schema = s }) at
     (λ task. OnRows task (mode_of old) None command old.now.trees) (Ok (w.tally, new.now))) schema changed in
     let done = went (rw place at all) in
-    let told = same_value (went (went done.2).2).2 in
+    let tested = went done.2 in
+    let returned = went tested.2 in
+    let told = same_value returned.2 in
     record {
       rows = done.0;
       written = done.1;

@@ -36,7 +36,7 @@ use Rattle.room_tables.specs.Rows.{node_of, nodes_in, named_rows, child_rows, re
 use Rattle.room_tables.specs.Layout.{IsNumbered, IsRoomDatabase, parent_value}
 use Rattle.room_tables.specs.Names.{ByName, name_key, name_keys}
 use Rattle.room_tables.proofs.Values.{has_one, has_text_value, has_not_null, has_tied, int_has, text_has}
-use Rattle.room_tables.proofs.Removed.{one_row, has_permuted}
+use Rattle.room_tables.proofs.Removed.{one_row, shown_of, is_shown}
 use Rattle.room_tables.proofs.Sorted.{ascending-sort_by}
 use Rattle.room_tables.proofs.Filters.{keyed_filter}
 use Rattle.room_tables.proofs.Drops.{found_or_none}
@@ -102,22 +102,18 @@ no_child db p name room same node child named =
     let r = child_has_row db p node room child in
     let text : column r.0 3 ≡ Text name = name_is _ name (ap (λ (n : Node). n.name) r.3 ∙ named) in
     let passes : is_child_named p name r.0 ≡ true = and_from _ _ r.2 (text_has 3 name r.0 text) in
-    let here = mapped_has shown_node (filter (is_child_named p name) (db.trees 1))
-    r.0 (has_kept (is_child_named p name) (db.trees 1) r.0 r.1 passes) in
-    absurd (has_permuted [] (named_rows db.trees p name) (shown_node r.0) (IsPermutation-sym _ _ same) here)
+    absurd (is_shown shown_node (is_child_named p name) (db.trees 1) [] same r.0 r.1 passes)
 
 pub one_child : (db : Database) (p : ℕ) (name : List ℕ) (row : Row) (rest : List Row)
     → IsRoomDatabase db → name ≢ [] → IsPermutation (named_rows db.trees p name) (row ∷ rest)
     → IsChildNamed (records_of db.trees).objects p name (Some (node_of row))
 one_child db p name row rest room some same =
-    let shown = has_mapped shown_node (filter (is_child_named p name) (db.trees 1))
-    row (has_permuted _ (row ∷ rest) row same (inl refl)) in
+    let shown = shown_of shown_node (is_child_named p name) (db.trees 1) (row ∷ rest) same row (inl refl) in
     let r = shown.0 in
-    let kept = has_filtered (is_child_named p name) (db.trees 1) r shown.1 in
-    let text = has_text_value 3 name r (second_of_both (has 2 p r) _ kept.1) in
-    let child = row_is_child db p r room kept.0 (first_of_both (has 2 p r) _ kept.1) in (
-      subst (λ x. IsChild (records_of db.trees).objects p (node_of x)) (sym shown.2) child,
-      ap (λ x. (node_of x).name) shown.2 ∙ ap name_in text ∙ named_back name some,
+    let text = has_text_value 3 name r (second_of_both (has 2 p r) _ shown.2) in
+    let child = row_is_child db p r room shown.1 (first_of_both (has 2 p r) _ shown.2) in (
+      subst (λ x. IsChild (records_of db.trees).objects p (node_of x)) (sym shown.3) child,
+      ap (λ x. (node_of x).name) shown.3 ∙ ap name_in text ∙ named_back name some,
     )
 
 -- ---- all the children of a folder
@@ -145,15 +141,14 @@ child_shown : (db : Database) (p : ℕ) (rows : List Row) → IsRoomDatabase db
     → NodeRules (records_of db.trees).objects.node → IsPermutation (child_rows db.trees p) rows
     → AllByRecursion (Shown (records_of db.trees).objects p) rows
 child_shown db p rows room rules same = all_from (Shown (records_of db.trees).objects p) rows (λ s h.
-    let shown = has_mapped shown_node (filter (has 2 p) (db.trees 1)) s (has_permuted _ rows s same h) in
+    let shown = shown_of shown_node (has 2 p) (db.trees 1) rows same s h in
     let r = shown.0 in
-    let kept = has_filtered (has 2 p) (db.trees 1) r shown.1 in
-    let child = row_is_child db p r room kept.0 kept.1 in
-    let n = all_has IsNumbered (db.trees 1) r room.numbered kept.0 in
+    let child = row_is_child db p r room shown.1 shown.2 in
+    let n = all_has IsNumbered (db.trees 1) r room.numbered shown.1 in
     let node = node_of (shown_node r) in
     let below = rules.below node.id node child.stands (λ is.
     not_root node (subst (λ i. (records_of db.trees).objects.node i ≡ Some node) is child.stands) child.inside) in
-    subst (Shown (records_of db.trees).objects p) (sym shown.2) (record {
+    subst (Shown (records_of db.trees).objects p) (sym shown.3) (record {
       id = n.id;
       has_id = n.has_id;
       text = below.name;
@@ -226,9 +221,7 @@ are_children db p rows room rules same up =
           node_of rows (Rattle.sqlite_keyed.proofs.ListLemmas.all_weaker _ _ (λ s x. x.child) rows all);
       every = λ node child.
           let r = child_has_row db p node room child in
-          let here = mapped_has shown_node (filter (has 2 p) (db.trees 1))
-          r.0 (has_kept (has 2 p) (db.trees 1) r.0 r.1 r.2) in
-          let there = has_permuted rows (child_rows db.trees p) (shown_node r.0) (IsPermutation-sym _ _ same) here in
+          let there = is_shown shown_node (has 2 p) (db.trees 1) rows same r.0 r.1 r.2 in
           contains_had (map node_of rows) node
           (subst (Has (map node_of rows)) r.3 (mapped_has node_of rows (shown_node r.0) there));
       in_order = in_order (records_of db.trees).objects p rows rules all up (λ id. shown_once db p id rows room same);

@@ -249,13 +249,10 @@ drops_there l db next id there rows nodes entries docs only is h =
 
 -- ---- with no such node there is nothing that belongs to it
 
-entry_parent : (l : Layout) → parent_key (room_schema l).tables entry_ref ≡ Some (1, 0 ∷ [], plain)
+parents : (l : Layout) → (parent_key (room_schema l).tables entry_ref ≡ Some (1, 0 ∷ [], plain))
+    × (parent_key (room_schema l).tables doc_ref ≡ Some (1, 0 ∷ [], plain))
 unfolding everything
-entry_parent l = refl
-
-doc_parent : (l : Layout) → parent_key (room_schema l).tables doc_ref ≡ Some (1, 0 ∷ [], plain)
-unfolding everything
-doc_parent l = refl
+parents l = (refl, refl)
 
 held_by : (a b : Bool) → (a || b) ≡ true → a ≡ false → b ≡ true
 held_by a b h fails = rw fails at h
@@ -284,12 +281,21 @@ none_of l db ref table place id columns key fit none = without_none (has place i
     let p = has_its_node l db ref place r id columns key (all_has _ (db table.tree) r fit h) mine in
     subst (λ l. Has l p.0) none (has_kept (has 0 id) (db 1) p.0 p.1 p.2))
 
+nothing_refers : (l : Layout) (db : Database) (id : ℕ) → db.schema ≡ room_schema l → IsDatabase db
+    → filter (has 0 id) (db.trees 1) ≡ []
+    → (without (has 1 id) (db.trees 3) ≡ db.trees 3) × (without (has 0 id) (db.trees 5) ≡ db.trees 5)
+nothing_refers l db id schema sound none =
+    let keeps = rows_pass ForeignKey db l schema sound in (
+      none_of l db.trees entry_ref entry_table 1 id refl (parents l).0
+          (all_weaker _ _ (λ r e. first_of_both _ _ e) (db.trees 3) keeps.entry) none,
+      none_of l db.trees doc_ref doc_table 0 id refl (parents l).1
+          (all_weaker _ _ (λ r e. first_of_both _ _ e) (db.trees 5) keeps.doc) none,
+    )
+
 -- so an object that is not there has no entries
 pub no_entries : (l : Layout) (db : Database) (id : ℕ) → db.schema ≡ room_schema l → IsDatabase db
     → filter (has 0 id) (db.trees 1) ≡ [] → filter (has 1 id) (db.trees 3) ≡ []
-no_entries l db id schema sound none =
-    ap (filter (has 1 id)) (sym (none_of l db.trees entry_ref entry_table 1 id refl (entry_parent l)
-    (all_weaker _ _ (λ r e. first_of_both _ _ e) (db.trees 3) (rows_pass ForeignKey db l schema sound).entry) none))
+no_entries l db id schema sound none = ap (filter (has 1 id)) (sym (nothing_refers l db id schema sound none).0)
     ∙ none_left (has 1 id) (has 1 id) (db.trees 3) (λ r h. h)
 
 -- no row has the number, or one has
@@ -337,17 +343,12 @@ drops old new id count room h =
             ap (λ (t : Trees). t 1) now ∙ one.rows ∙ ap (λ l. without_all (db 1) (ids_of l)) rows in
             let entries : new.now.trees 3 ≡ db 3 = ap (λ (t : Trees). t 3) now ∙ o.entry (omega arith) in
             let docs : new.now.trees 5 ≡ db 5 = ap (λ (t : Trees). t 5) now ∙ o.doc (omega arith) in
-            let keeps = rows_pass ForeignKey new.now l schema ran.sound in
-            let none_now : filter (has 0 id) (new.now.trees 1) ≡ [] = ap (filter (has 0 id)) nodes ∙ none in
-            let no_entry = none_of l new.now.trees entry_ref entry_table 1 id refl (entry_parent l)
-            (all_weaker _ _ (λ r e. first_of_both _ _ e) (new.now.trees 3) keeps.entry) none_now in
-            let no_doc = none_of l new.now.trees doc_ref doc_table 0 id refl (doc_parent l)
-            (all_weaker _ _ (λ r e. first_of_both _ _ e) (new.now.trees 5) keeps.doc) none_now in
+            let alone = nothing_refers l new.now id schema ran.sound (ap (filter (has 0 id)) nodes ∙ none) in
             record {
               nodes = nodes ∙ sym (without_none (has 0 id) (db 1) (λ r j mine.
                   subst (λ l. Has l r) none (has_kept (has 0 id) (db 1) r j mine)));
-              entries = sym no_entry ∙ ap (without (has 1 id)) entries;
-              docs = sym no_doc ∙ ap (without (has 0 id)) docs;
+              entries = sym alone.0 ∙ ap (without (has 1 id)) entries;
+              docs = sym alone.1 ∙ ap (without (has 0 id)) docs;
               room = ap (λ (t : Trees). t 0) now ∙ o.room (omega arith);
               sessions = ap (λ (t : Trees). t 6) now ∙ o.session (omega arith);
               slots = ap (λ (t : Trees). t (slots_tree l)) now ∙ o.slots (omega (arith, above l));

@@ -54,7 +54,8 @@ exact_values p k f m q l g n v w h =
     let three = first_tie _ _ two.1 in
     let four = first_tie _ _ three.1 in
     let last : v ≡ w = exact_bytes _ _ (sym (value_cmp-Text v w) ∙ (first_tie _ _ four.1).0) in
-    cc (int_tied p q one.0, int_tied k l two.0, int_tied f g three.0, int_tied m n four.0)
+    λ i. Int (pos (int_tied p q one.0 i)) ∷ Int (pos (int_tied k l two.0 i)) ∷ Int (pos (int_tied f g three.0 i))
+    ∷ Int (pos (int_tied m n four.0 i)) ∷ Text (last i) ∷ []
 
 pub exact_entries : (a b : Row) → IsEntryRow a → IsEntryRow b → key_cmp 0 entry_keys a b ≡ Equal → a ≡ b
 exact_entries a b p q tie = p.is ∙ exact_values p.place p.kind p.flags p.mask

@@ -284,10 +284,9 @@ pub puts_session : (l : Layout) (old new : State) (sid owner : List ℕ) (slots 
     → Executes T.put_session_text (Text sid ∷ Text owner ∷ Int (pos slots) ∷ Int (pos open_flag) ∷ []) old new (Ok count)
     → PutInto l old.now new.now 6 (IsSession sid owner slots open_flag) (λ r. has_text 1 sid r ≡ true)
 puts_session l old new sid owner slots open_flag count schema keyed h =
-    put l old new 4 session_table (1 ∷ []) 4 T.put_session_query.project T.put_session_terms 5 count
-    T.put_session_text (Text sid ∷ Text owner ∷ Int (pos slots) ∷ Int (pos open_flag) ∷ [])
-    (Null ∷ Text sid ∷ Text owner ∷ Int (pos slots) ∷ Int (pos open_flag) ∷ [])
+    put l session_table (1 ∷ []) 4 T.put_session_query.project
+    (Text sid ∷ Text owner ∷ Int (pos slots) ∷ Int (pos open_flag) ∷ [])
     (stored_session (next_rowid (old.now.trees 6)) sid owner slots open_flag) _ _
-    (session_upsert l (next_rowid (old.now.trees 6)) sid owner slots open_flag)
-    refl schema keyed (put_session_means l) refl
-    (rw (cast_null, cast_int (pos slots), cast_int (pos open_flag)) refl) h
+    (session_upsert l (next_rowid (old.now.trees 6)) sid owner slots open_flag) old new 4 T.put_session_terms 5 count
+    T.put_session_text (Null ∷ Text sid ∷ Text owner ∷ Int (pos slots) ∷ Int (pos open_flag) ∷ [])
+    refl schema keyed (put_session_means l) refl (rw (cast_null, cast_int (pos slots), cast_int (pos open_flag)) refl) h

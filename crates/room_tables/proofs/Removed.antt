@@ -48,6 +48,19 @@ pub has_permuted : {X : Type 0} (xs ys : List X) (x : X) → IsPermutation xs ys
 has_permuted xs ys x same =
     all_has (Has xs) ys x (all-permutation (Has xs) xs ys same (all_from (Has xs) xs (λ e h. h)))
 
+-- what is shown of rows that pass a test, in some order: each is of such a row, and each such row is shown
+module _ (show : Row → Row) (p : Row → Bool) (all rows : List Row) (same : IsPermutation (map show (filter p all)) rows)
+  where
+    pub shown_of : (s : Row) → Has rows s → (r : Row) × Has all r × (p r ≡ true) × (s ≡ show r)
+    shown_of s h =
+        let f = has_mapped show (filter p all) s (has_permuted _ rows s same h) in
+        let k = has_filtered p all f.0 f.1 in
+        (f.0, k.0, k.1, f.2)
+
+    pub is_shown : (r : Row) → Has all r → p r ≡ true → Has rows (show r)
+    is_shown r there passes = has_permuted rows _ (show r) (IsPermutation-sym _ _ same)
+        (mapped_has show (filter p all) r (has_kept p all r there passes))
+
 is_its_rowid : (r : Row) → is_int (rowid r) ≡ true → has_rowid (id_in (rowid r)) r ≡ true
 is_its_rowid r int = ap (λ v. is_eq (value_cmp (rowid r) v)) (sym (int_is (rowid r) int))
     ∙ ap is_eq (tied_itself value_cmp_total (rowid r))
@@ -104,10 +117,8 @@ pub removed : (p : Row → Bool) (rows found : List Row) → IsKeyed rows
 removed p rows found keyed same = removed_ids p rows (ids_of found) keyed
     (λ id h.
     let f = has_mapped id_of found id h in
-    let g = has_mapped (λ r. rowid r ∷ []) (filter p rows) f.0 (has_permuted _ found f.0 same f.1) in
-    let r = has_filtered p rows g.0 g.1 in
-    let key : rowid g.0 ≡ Int (id_of g.0) = int_is (rowid g.0) (all_has _ rows g.0 keyed.ints r.0) in
-    (g.0, r.0, r.1, key ∙ ap Int (sym (f.2 ∙ ap id_of g.2))))
-    (λ r id h passes is. subst (Has (ids_of found)) (ap id_in is) (mapped_has id_of found (rowid r ∷ [])
-    (has_permuted found _ (rowid r ∷ []) (IsPermutation-sym _ _ same)
-    (mapped_has (λ x. rowid x ∷ []) (filter p rows) r (has_kept p rows r h passes)))))
+    let r = shown_of (λ r. rowid r ∷ []) p rows found same f.0 f.1 in
+    let key : rowid r.0 ≡ Int (id_of r.0) = int_is (rowid r.0) (all_has _ rows r.0 keyed.ints r.1) in
+    (r.0, r.1, r.2, key ∙ ap Int (sym (f.2 ∙ ap id_of r.3))))
+    (λ r id h passes is. subst (Has (ids_of found)) (ap id_in is)
+    (mapped_has id_of found (rowid r ∷ []) (is_shown (λ x. rowid x ∷ []) p rows found same r h passes)))

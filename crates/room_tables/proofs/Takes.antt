@@ -1,6 +1,6 @@
 -- The deletes that set nothing off, and the inserts.
 use Rattle.std.proofs.Common.{◌≡◌, ◌==◌, ℕ, suc, Bool, true, false, length, pos, List, [], ◌∷◌, ◌++◌}
-use Rattle.std.proofs.Common.{map, drop, Ok, refl, ap₂}
+use Rattle.std.proofs.Common.{map, drop, Ok, refl, ap, ap₂, ◌∙◌, ◌/◌}
 use Rattle.std.specs.List.{flat_map, filter_map}
 use Rattle.sqlite_value.specs.declared.value.Value.TheVariants.{Null, Int, Text}
 use Rattle.sqlite_value.specs.Order.{Row}
@@ -9,6 +9,11 @@ use Rattle.sqlite_rules.specs.Action.{Work, work_by, deed_for, pairs, works}
 use Rattle.sqlite_schema.specs.Rules.{parent_key}
 use Rattle.sqlite_rules.specs.Cast.{cast_row}
 use Rattle.sqlite_schema.specs.declared.schema.Keys.TheVariants.{Enforced}
+use Rattle.sqlite_sql.specs.Term.{Term}
+use Rattle.sqlite.specs.Command.TheVariants.{Insert}
+use Rattle.sqlite.specs.Source.TheVariants.{Values}
+use Rattle.sqlite.specs.Rows.{stamped}
+use Rattle.sqlite.specs.Effect.{value_rows}
 use Rattle.sqlite.specs.State.{State, Executes}
 use Rattle.room_tables.specs.Tables.{Layout, Fresh, Upgraded, room_schema, entry_table, slots_table, slots_tree}
 use Rattle.room_tables.specs.Tables.{slots_place}
@@ -18,7 +23,7 @@ use Rattle.room_tables.specs.Rows.{has, has_text}
 use Rattle.room_acl.specs.Entries.{EntryModel}
 use Rattle.room_tables.specs.Steps.{type_of, shown_as}
 use Rattle.room_tables.specs.Layout.{IsKeyed}
-use Rattle.room_tables.proofs.Meaning.{drop_entries_means, drop_slots_means, add_entry_means, add_two_means}
+use Rattle.room_tables.proofs.Meaning.{Means, drop_entries_means, drop_slots_means, add_entry_means, add_two_means}
 use Rattle.room_tables.proofs.Meaning.{add_three_means, add_four_means}
 use Rattle.room_tables.proofs.Queries.{and_true}
 use Rattle.room_tables.proofs.Changes.{Added, Leaves, without, cleared, unnumbered}
@@ -108,31 +113,26 @@ AddsEntries l text node at es = (old new : State) (count : ℕ) → old.now.sche
     → Executes text (Int (pos node) ∷ bound_entries at es) old new (Ok count)
     → Added l old.now new.now 3 (stored node at es)
 
+adds_entries : (l : Layout) (node at : ℕ) (es : List EntryModel) (text : List ℕ) (terms : List Term)
+    → Means (room_schema l) text (Insert 2 (Values terms 7))
+    → value_rows (stamped entry_table (Int (pos node) ∷ bound_entries at es)) 7 (length terms / 7) terms
+    ≡ unnumbered (stored node at es) → AddsEntries l text node at es
+adds_entries l node at es text terms means given old new count schema h =
+    inserted_all l old new 2 entry_table text (Int (pos node) ∷ bound_entries at es) (stored node at es) terms 7 count
+    refl schema refl means (entry_quiet l)
+    (ap (map (λ row. cast_row entry_table (drop 0 row))) given ∙ cast_stored node at es) h
+
 pub adds_one : (l : Layout) (node at : ℕ) (a : EntryModel) → AddsEntries l T.add_entry_text node at (a ∷ [])
-adds_one l node at a old new count schema h =
-    inserted_all l old new 2 entry_table T.add_entry_text (Int (pos node) ∷ bound_entries at (a ∷ []))
-    (stored node at (a ∷ [])) T.add_entry_terms 7 count refl schema refl (add_entry_means l)
-    (entry_quiet l)
-    (cast_stored node at (a ∷ [])) h
+adds_one l node at a = adds_entries l node at (a ∷ []) T.add_entry_text T.add_entry_terms (add_entry_means l) refl
 
 pub adds_two : (l : Layout) (node at : ℕ) (a b : EntryModel) → AddsEntries l T.add_two_text node at (a ∷ b ∷ [])
-adds_two l node at a b old new count schema h =
-    inserted_all l old new 2 entry_table T.add_two_text (Int (pos node) ∷ bound_entries at (a ∷ b ∷ []))
-    (stored node at (a ∷ b ∷ [])) T.add_two_terms 7 count refl schema refl (add_two_means l)
-    (entry_quiet l)
-    (cast_stored node at (a ∷ b ∷ [])) h
+adds_two l node at a b = adds_entries l node at (a ∷ b ∷ []) T.add_two_text T.add_two_terms (add_two_means l) refl
 
 pub adds_three : (l : Layout) (node at : ℕ) (a b c : EntryModel) → AddsEntries l T.add_three_text node at (a ∷ b ∷ c ∷ [])
-adds_three l node at a b c old new count schema h =
-    inserted_all l old new 2 entry_table T.add_three_text
-    (Int (pos node) ∷ bound_entries at (a ∷ b ∷ c ∷ [])) (stored node at (a ∷ b ∷ c ∷ []))
-    T.add_three_terms 7 count refl schema refl (add_three_means l) (entry_quiet l)
-    (cast_stored node at (a ∷ b ∷ c ∷ [])) h
+adds_three l node at a b c =
+    adds_entries l node at (a ∷ b ∷ c ∷ []) T.add_three_text T.add_three_terms (add_three_means l) refl
 
 pub adds_four : (l : Layout) (node at : ℕ) (a b c d : EntryModel)
     → AddsEntries l T.add_four_text node at (a ∷ b ∷ c ∷ d ∷ [])
-adds_four l node at a b c d old new count schema h =
-    inserted_all l old new 2 entry_table T.add_four_text (Int (pos node) ∷ bound_entries at (a ∷ b ∷ c ∷ d ∷ []))
-    (stored node at (a ∷ b ∷ c ∷ d ∷ [])) T.add_four_terms 7 count
-    refl schema refl (add_four_means l) (entry_quiet l)
-    (cast_stored node at (a ∷ b ∷ c ∷ d ∷ [])) h
+adds_four l node at a b c d =
+    adds_entries l node at (a ∷ b ∷ c ∷ d ∷ []) T.add_four_text T.add_four_terms (add_four_means l) refl

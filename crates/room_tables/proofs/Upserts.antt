@@ -219,53 +219,46 @@ module _ (l : Layout) (table : Table) (target : List ℕ) (n : ℕ) (project : L
           let tie = λ (a b : Row) (p : has_rowid id a ≡ true) (q : has_rowid id b ≡ true).
           alike_right value_cmp_total (rowid b) (Int id) (rowid a) (eq_is _ q) ∙ eq_is _ p in
           let only = one_row (has_rowid id) (db table.tree) r.0 keyed.table r.1 mine (λ a b _ _ p q. tie a b p q) in
-          let there_is : rowid there ≡ rowid r.0 = ap rowid r.3 in
           let alone = λ (o : Row) (k : Has (db table.tree) o) (p : has_rowid id o ≡ true).
           subst Met (sym (tied_same (db table.tree) o r.0 keyed.table k r.1 (tie o r.0 p mine))) met in
           updates_one limit db r.0 id w only is alone met (subst (λ v. Updates (task limit)
-          (record { lets = []; body = query }) (params ++ v ∷ shown table new) db (Ok w)) there_is x)
+          (record { lets = []; body = query }) (params ++ v ∷ shown table new) db (Ok w)) (ap rowid r.3) x)
 
       judged : (verdict : Option Refusal)
           → Judged (task limit) Abort (clause ∷ []) new db verdict (Ok w) → Done db w.trees
       judged None x = meets x.0 x.1 x.2
       judged (Some why) x = absurd (let e = x in cc)
 
--- an upsert of one row
-pub put : (l : Layout) (old new : State) (at : ℕ) (table : Table) (target : List ℕ) (n : ℕ) (project terms : List Term)
-    (width count : ℕ) (sql : List ℕ) (params source row : Row) (Fits Met : Row → Type 0)
-    (it : IsUpsert l table target n project params row Fits Met) → slice_get (room_schema l).tables at ≡ Some table
-    → old.now.schema ≡ room_schema l → IsKeyed (old.now.trees table.tree)
-    → Means (room_schema l) sql (InsertOr at Abort (Values terms width)
-    (clause l table target n project params row Fits Met it ∷ []))
-    → value_rows (stamped table params) width (length terms / width) terms ≡ source ∷ []
-    → with_rowid Chosen (old.now.trees table.tree) (cast_row table source) ≡ row
-    → Executes sql params old new (Ok count) → PutInto l old.now new.now table.tree Fits Met
-put l old new at table target n project terms width count sql params source
-    row Fits Met it place schema keyed means given_is row_is h =
-    let db = old.now.trees in
-    let k = clause l table target n project params row Fits Met it in
-    let ran = runs_as sql params old new (room_schema l) schema _ means.0 means.1 count h in
-    let w = wrote l old new at table _ _ params count place schema ran ran.changed in
-    let given = went w.written in
-    let counter = went given.2 in
-    let done = went counter.2 in
-    let counted = went done.2 in
-    let task_here = task l table target n project params row Fits Met it old.step_limit in
-    let each = subst (λ l. TriesEach task_here Abort (k ∷ []) l (count_of counter.0) (nothing db) (Ok done.0))
-    (given.1.1 ∙ given_is) done.1 in
-    let by_choice : rowids_for table (count_of counter.0) ≡ Chosen =
-    ap (λ b. cond b (Above (count_of counter.0)) Chosen) it.uncounted in
-    let new_is : with_rowid (rowids_for table (count_of counter.0)) (db table.tree) (cast_row table source) ≡ row =
-    ap (λ c. with_rowid c (db table.tree) (cast_row table source)) by_choice ∙ row_is in
-    let one = went (subst (λ r. Then (Tries task_here Abort (k ∷ []) r db) (λ x. TriesEach task_here Abort
-    (k ∷ []) [] (higher (count_of counter.0) r) (joined (nothing db) x)) (Ok done.0)) new_is each) in
-    let is_put = tries_one l table target n project params row Fits Met it old.step_limit db one.0 keyed one.1 in
-    let last : one.0.trees ≡ done.0.0.trees = ap (λ (x : Written × ℤ). x.0.trees) (sym (same_value one.2)) in
-    let trees : w.rows.trees ≡ one.0.trees = ap (λ (x : Written). x.trees) (same_value counted.2) ∙ not_counted
-    (task_on l old table params) done.0.0.trees counted.0 counter.0 _ it.uncounted counted.1 ∙ sym last in
-    let now : new.now.trees ≡ one.0.trees = ap (λ (d : Database). d.trees) w.now ∙ trees in
-    record {
-      schema = ap (λ (d : Database). d.schema) w.now;
-      sound = ran.sound;
-      put = subst (λ t. Put l table.tree db t Fits Met) (sym now) is_put;
-    }
+  -- an upsert of one row
+  pub put : (old last : State) (at : ℕ) (terms : List Term) (width count : ℕ) (sql : List ℕ) (source : Row)
+      → slice_get (room_schema l).tables at ≡ Some table → old.now.schema ≡ room_schema l
+      → IsKeyed (old.now.trees table.tree)
+      → Means (room_schema l) sql (InsertOr at Abort (Values terms width) (clause ∷ []))
+      → value_rows (stamped table params) width (length terms / width) terms ≡ source ∷ []
+      → with_rowid Chosen (old.now.trees table.tree) (cast_row table source) ≡ new
+      → Executes sql params old last (Ok count) → PutInto l old.now last.now table.tree Fits Met
+  put old last at terms width count sql source place schema keyed means given_is new_is h =
+      let db = old.now.trees in
+      let ran = runs_as sql params old last (room_schema l) schema _ means.0 means.1 count h in
+      let w = wrote l old last at table _ _ params count place schema ran ran.changed in
+      let given = went w.written in
+      let counter = went given.2 in
+      let done = went counter.2 in
+      let counted = went done.2 in
+      let here = task old.step_limit in
+      let each = subst (λ l. TriesEach here Abort (clause ∷ []) l (count_of counter.0) (nothing db) (Ok done.0))
+      (given.1.1 ∙ given_is) done.1 in
+      let is : with_rowid (rowids_for table (count_of counter.0)) (db table.tree) (cast_row table source) ≡ new =
+      ap (λ b. with_rowid (cond b (Above (count_of counter.0)) Chosen) (db table.tree) (cast_row table source))
+      it.uncounted ∙ new_is in
+      let one = went (subst (λ r. Then (Tries here Abort (clause ∷ []) r db) (λ x. TriesEach here Abort
+      (clause ∷ []) [] (higher (count_of counter.0) r) (joined (nothing db) x)) (Ok done.0)) is each) in
+      let trees : w.rows.trees ≡ one.0.trees = ap (λ (x : Written). x.trees) (same_value counted.2)
+      ∙ not_counted (task_on l old table params) done.0.0.trees counted.0 counter.0 _ it.uncounted counted.1
+      ∙ ap (λ (x : Written × ℤ). x.0.trees) (same_value one.2) in
+      record {
+        schema = ap (λ (d : Database). d.schema) w.now;
+        sound = ran.sound;
+        put = subst (Done db) (sym (ap (λ (d : Database). d.trees) w.now ∙ trees))
+            (tries_one old.step_limit db one.0 keyed one.1);
+      }

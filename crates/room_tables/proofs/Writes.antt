@@ -32,7 +32,7 @@ use Rattle.room_tables.specs.Rows.{has}
 use Rattle.room_tables.specs.Layout.{IsKeyed}
 use Rattle.room_tables.proofs.Values.{has_tied, eq_is}
 use Rattle.room_tables.proofs.Meaning.{Means}
-use Rattle.room_tables.proofs.Removed.{has_permuted, one_row}
+use Rattle.room_tables.proofs.Removed.{one_row, shown_of}
 use Rattle.room_tables.proofs.Queries.{Picks, passing, answer_is, found}
 use Rattle.room_tables.proofs.Changes.{Leaves, went, same_value, others_of, wrote, inserted, new_rows}
 use Rattle.room_tables.proofs.Upserts.{PutInto, put_new, put_over}
@@ -121,9 +121,8 @@ module _ (l : Layout) (table : Table) (p : Row → Bool) (terms project : List T
         read_from : (a : Row) → Has rows a → (r : Row) × Has (old.trees table.tree) r × (p r ≡ true) × (a ≡ read_of r)
             × (rowid r ≡ Int (id_in (rowid r)))
         read_from a h =
-            let f = has_mapped read_of (filter p (old.trees table.tree)) a (has_permuted _ rows a u.same h) in
-            let k = has_filtered p (old.trees table.tree) f.0 f.1 in
-            (f.0, k.0, k.1, f.2, int_is (rowid f.0) (all_has _ (old.trees table.tree) f.0 keyed.ints k.0))
+            let r = shown_of read_of p (old.trees table.tree) rows u.same a h in
+            (r.0, r.1, r.2, r.3, int_is (rowid r.0) (all_has _ (old.trees table.tree) r.0 keyed.ints r.1))
 
         -- and what was made of it
         pub made_fits : (a : Row) → Has rows a → Fits (cast_row table (drop 1 a))
