@@ -22,22 +22,19 @@ use Rattle.sqlite.specs.Kind.TheVariants.{Integer}
 use Rattle.sqlite.specs.Cast.{cast}
 use Rattle.sqlite.specs.Ops.{unary}
 use Rattle.sqlite_value.specs.declared.value.Value.{Value}
-use Rattle.sqlite.specs.Effect.{Database}
-use Rattle.sqlite.specs.Rows.{Edited, Counts, CountsIn, Gives, sequence, Written, Task, count_of}
-use Rattle.sqlite.specs.Rows.{rowids_for, last_id}
+use Rattle.sqlite.specs.Effect.{Database, value_rows, IsDatabase, IsSource}
+use Rattle.sqlite.specs.Rows.{Edited, Counts, CountsIn, Gives, sequence, Written, Task, count_of, rowids_for, last_id}
+use Rattle.sqlite.specs.Rows.{stamped}
 use Rattle.sqlite.specs.Does.{Tally, OnTable, OnRows, WritesRows}
 use Rattle.sqlite.specs.Table.{Table}
 use Rattle.sqlite.specs.Command.{Command}
-use Rattle.sqlite.specs.State.{State, mode_of, Writes, Executes, ExecutesInside, IsUnchanged}
-use Rattle.sqlite.specs.State.{IsRolledBack, KeepsCommit, Shows}
+use Rattle.sqlite.specs.State.{State, mode_of, Writes, Executes, ExecutesInside, KeepsCommit, Shows}
 use Rattle.sqlite.specs.Steps.{FailsToCommit}
 use Rattle.sqlite.specs.declared.error.Error.{Error}
 use Rattle.sqlite.proofs.Callers.{runs_as, one_step}
 use Rattle.sqlite.proofs.InsideLemmas.{inside_keeps}
 use Rattle.std.specs.List.{AllByRecursion, list_all}
 use Rattle.sqlite_sql.specs.Term.{Term, col, holds}
-use Rattle.sqlite.specs.Rows.{stamped}
-use Rattle.sqlite.specs.Effect.{value_rows, IsDatabase, IsSource}
 use Rattle.room_tables.specs.Tables.{Layout, room_schema}
 use Rattle.room_tables.specs.Texts.{over_table}
 use Rattle.room_tables.proofs.Queries.{Picks, passing, answer_is, found}

@@ -1,7 +1,7 @@
 -- The children of a folder, as the rows show them.
-use Rattle.std.proofs.Common.{◌≡◌, ◌≢◌, ◌⊎◌, inl, inr, ℕ, suc, ◌≤◌, pos, Bool, true, false, ◌&&◌, cond, List, [], ◌∷◌}
+use Rattle.std.proofs.Common.{◌≡◌, ◌≢◌, inl, inr, ℕ, suc, ◌≤◌, pos, Bool, true, false, cond, List, [], ◌∷◌}
 use Rattle.std.proofs.Common.{length, map, filter, slice_get, Option, None, Some, option_map, unwrap_or, refl, sym, ap}
-use Rattle.std.proofs.Common.{ap₂, subst, ◌∙◌, true≢false, arith, Ordering, Less, Equal, Greater, is_gt, IsPermutation}
+use Rattle.std.proofs.Common.{ap₂, subst, ◌∙◌, true≢false, arith, Ordering, Less, Equal, is_gt, IsPermutation}
 use Rattle.std.specs.List.{AllByRecursion}
 use Rattle.std.specs.Ordering.{nat_cmp, ordering_then}
 use Rattle.std.specs.Cmp.Lexicographic.{slice_cmp}
@@ -23,8 +23,8 @@ use Rattle.sqlite_keyed.proofs.ListLemmas.{IsPermutation-filter, filter-map}
 use Rattle.sqlite_keyed.proofs.RuleLemmas.{first_of_both, second_of_both}
 use Rattle.sqlite_keyed.proofs.SortLemmas.{IsPermutation-sort_by}
 use Rattle.sqlite_rules.specs.Lists.{Has}
-use Rattle.sqlite_rules.proofs.ListLemmas.{all_has, all_from, has_kept, has_filtered, contains_had}
-use Rattle.sqlite_rules.proofs.ProbeLemmas.{has_mapped, mapped_has}
+use Rattle.sqlite_rules.proofs.ListLemmas.{all_has, all_from, has_filtered, contains_had}
+use Rattle.sqlite_rules.proofs.ProbeLemmas.{mapped_has}
 use Rattle.sqlite.specs.Effect.{Database}
 use Rattle.room_records.specs.declared.node.Node.{Node}
 use Rattle.room_records.specs.Names.{name_cmp}

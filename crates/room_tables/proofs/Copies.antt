@@ -1,7 +1,7 @@
 -- A row of `slot` is copied into `kept`, and taken out of `slot`.
-use Rattle.std.proofs.Common.{◌≡◌, ◌≢◌, ◌⊎◌, inl, inr, ℕ, ℤ, pos, true, false, not, cond, List, [], ◌∷◌, ◌++◌, map}
-use Rattle.std.proofs.Common.{drop, take, filter, None, Ok, Bool, length, unwrap_or, is_eq, ◌==◌, refl, sym, ap, subst}
-use Rattle.std.proofs.Common.{◌∙◌, Equal, true≢false, IsPermutation, arith}
+use Rattle.std.proofs.Common.{◌≡◌, ◌≢◌, ◌⊎◌, inl, inr, ℕ, ℤ, true, false, not, cond, List, [], ◌∷◌, ◌++◌, map}
+use Rattle.std.proofs.Common.{drop, take, filter, None, Ok, length, unwrap_or, is_eq, refl, sym, ap, subst}
+use Rattle.std.proofs.Common.{◌∙◌, Equal, IsPermutation, arith}
 use Rattle.std.proofs.lemmas.Cmp.{tied_itself, alike_right}
 use Rattle.std.proofs.lemmas.List.Sorted.{IsPermutation-refl, IsPermutation-trans, IsPermutation-sym, IsPermutation-map}
 use Rattle.std.proofs.lemmas.List.Sorted.{IsPermutation-middle, IsPermutation-append_left, IsPermutation-append_right}
@@ -12,7 +12,7 @@ use Rattle.sqlite_value.specs.declared.value.Value.{Value}
 use Rattle.sqlite_value.specs.declared.value.Value.TheVariants.{Null, Int, Text}
 use Rattle.sqlite_value.specs.Order.{Row, column, value_cmp}
 use Rattle.sqlite_value.proofs.OrderLemmas.{value_cmp_total}
-use Rattle.sqlite_trees.specs.Tree.{Trees, rowid, put_row}
+use Rattle.sqlite_trees.specs.Tree.{rowid, put_row}
 use Rattle.sqlite_sql.specs.Program.{overlay}
 use Rattle.sqlite_sql.specs.Query.{Output}
 use Rattle.sqlite_tied.specs.Compute.{everything}
@@ -36,7 +36,7 @@ use Rattle.sqlite.specs.State.{State, Executes}
 use Rattle.sqlite.specs.Table.{Table}
 use Rattle.sqlite.specs.Effect.{Database, IsDatabase}
 use Rattle.room_tables.specs.Tables.{Upgraded, room_schema, slot_table, kept_table}
-use Rattle.room_tables.specs.Texts.{over_table, copy_row_text, copy_row_query, take_row_text}
+use Rattle.room_tables.specs.Texts.{copy_row_text, copy_row_query, take_row_text}
 use Rattle.room_tables.specs.Rows.{is_slot, shown_slot}
 use Rattle.room_tables.specs.Layout.{IsKeyed}
 use Rattle.room_tables.specs.Upgrade.{shows, has_id, others_than, IsShared, IsMoving, CopiesRow}

@@ -26,8 +26,7 @@ use Rattle.room_tables.specs.Fresh.{IsMade, IsFresh, IsFilled, filled}
 use Rattle.room_tables.specs.Steps.{Steps}
 use Rattle.room_records.specs.declared.node.Node.{Node}
 use Rattle.room_records.specs.Records.{Records}
-use Rattle.room_tables.specs.Rows.{nodes_in, entries_in, documents_in, next_in, sessions_in, slots_in, records_of}
-use Rattle.room_tables.specs.Rows.{version_rows, IsVersion}
+use Rattle.room_tables.specs.Rows.{records_of, version_rows, IsVersion}
 use Rattle.room_tables.proofs.Each.{by_name, from_both}
 use Rattle.room_tables.proofs.Listed.{slots_listed}
 use Rattle.room_tables.proofs.Making.{Makes, room_makes, node_makes, entry_makes, doc_makes, session_makes, kept_makes}

@@ -1,8 +1,7 @@
 -- What a DELETE of a node does, whose entries and document go with it by ON DELETE CASCADE.
-use Rattle.std.proofs.Common.{◌≡◌, ◌⊎◌, inl, inr, ℕ, zero, suc, ℤ, pos, Bool, true, false, not, ◌&&◌, ◌||◌, ◌==◌, cond}
-use Rattle.std.proofs.Common.{List, [], ◌∷◌, ◌++◌, length, map, filter, Some, option_map, Ok, refl, sym, ap, subst}
-use Rattle.std.proofs.Common.{subst₂, ◌∙◌, arith, true≢false, length-append, append-nil, codes, IsPermutation, Equal}
-use Rattle.std.proofs.Common.{is_eq, eq-eqb}
+use Rattle.std.proofs.Common.{◌≡◌, ◌⊎◌, inl, inr, ℕ, zero, suc, ℤ, pos, Bool, true, false, not, ◌||◌, List, [], ◌∷◌}
+use Rattle.std.proofs.Common.{◌++◌, length, map, filter, Some, option_map, Ok, refl, sym, ap, subst, subst₂, ◌∙◌, arith}
+use Rattle.std.proofs.Common.{length-append, append-nil, codes, IsPermutation, Equal, is_eq}
 use Rattle.std.specs.List.{AllByRecursion, list_any}
 use Rattle.std.proofs.lemmas.Bool.{or_from}
 use Rattle.std.proofs.lemmas.Cmp.{tied_itself, alike_right}
@@ -25,7 +24,7 @@ use Rattle.sqlite_rules.specs.Edit.{edit_of, taken_by, without_all}
 use Rattle.sqlite_rules.specs.Calls.{ids_of}
 use Rattle.sqlite_rules.specs.Action.{Work, works, loses, is_child_of, Leads, Acts, ActsOn, AreChildren}
 use Rattle.sqlite_rules.specs.Action.{Writes, action_edit}
-use Rattle.sqlite_rules.proofs.ListLemmas.{all_has, all_from, some_has, has_kept, has_filtered}
+use Rattle.sqlite_rules.proofs.ListLemmas.{all_has, some_has, has_kept, has_filtered}
 use Rattle.sqlite_rules.proofs.PlaceLemmas.{row_at_is}
 use Rattle.sqlite_keyed.proofs.RuleLemmas.{first_of_both}
 use Rattle.sqlite_keyed.proofs.ListLemmas.{filter_all, all_weaker, all-filter}

@@ -1,8 +1,7 @@
 -- What the statements do to the records.
 use Rattle.std.specs.declared.alloc.Global.{Global}
-use Rattle.std.proofs.Common.{Vec, ◌≡◌, ◌≢◌, ◌≤◌, ℕ, suc, ℤ, pos, Bool, true, false, not, ◌==◌, cond}
-use Rattle.std.proofs.Common.{List, [], ◌∷◌, ◌++◌, map, filter}
-use Rattle.std.proofs.Common.{Option, None, Some, option_map, unwrap_or, Ok, refl, sym, ap, subst, ◌∙◌, arith, inl, inr, eq-eqb}
+use Rattle.std.proofs.Common.{Vec, ◌≡◌, ◌≢◌, ◌≤◌, ℕ, suc, ℤ, pos, not, ◌==◌, cond, List, [], ◌∷◌, ◌++◌, map, Option}
+use Rattle.std.proofs.Common.{None, Some, option_map, unwrap_or, Ok, refl, sym, ap, subst, ◌∙◌, arith, inl, inr, eq-eqb}
 use Rattle.std.specs.List.{AllByRecursion}
 use Rattle.sqlite_value.specs.declared.value.Value.TheVariants.{Int}
 use Rattle.sqlite_value.specs.Order.{Row, column}
@@ -23,7 +22,7 @@ use Rattle.sqlite.specs.Effect.{Database, IsDatabase}
 use Rattle.sqlite.specs.Table.{Table}
 use Rattle.room_tables.specs.Tables.{Layout, Upgraded, room_schema}
 use Rattle.room_tables.specs.Texts as T
-use Rattle.room_tables.specs.Rows.{has, only, parent_in, name_of_text, kind_of, shown_node, node_of, nodes_in}
+use Rattle.room_tables.specs.Rows.{only, parent_in, name_of_text, kind_of, shown_node, node_of, nodes_in}
 use Rattle.room_tables.specs.Rows.{entries_in, shown_doc, doc_of, documents_in, number_in, shown_next, next_in}
 use Rattle.room_tables.specs.Rows.{shown_version, version_rows, versions_in, IsVersion, sessions_in, slots_in, slots_of, records_of}
 use Rattle.room_tables.specs.Layout.{IsKeyed, IsNumbered, IsRoomDatabase, OfEachTable, parent_value, reply_value}
@@ -31,9 +30,8 @@ use Rattle.room_tables.specs.Steps.{Steps, kind_number}
 use Rattle.room_tables.proofs.Each.{from_both}
 use Rattle.room_tables.proofs.Listed.{slots_listed}
 use Rattle.room_tables.proofs.Changes.{Leaves, Others}
-use Rattle.room_tables.proofs.Puts.{stored_node, node_params, ChangesNode, changes_node, adds_node}
-use Rattle.room_tables.proofs.Puts.{doc_params, PutsDoc, ChangesDoc}
-use Rattle.room_tables.proofs.Puts.{changes_doc, adds_doc, PutsNext, ChangesNext, changes_next, adds_next}
+use Rattle.room_tables.proofs.Puts.{stored_node, node_params, ChangesNode, changes_node, adds_node, doc_params, PutsDoc}
+use Rattle.room_tables.proofs.Puts.{ChangesDoc, changes_doc, adds_doc, PutsNext, ChangesNext, changes_next, adds_next}
 use Rattle.room_tables.proofs.Upserts.{PutInto}
 use Rattle.room_tables.proofs.Filters.{filter_put, keyed_after, still_room, still_slots, version_stays}
 

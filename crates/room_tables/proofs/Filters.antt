@@ -1,8 +1,7 @@
 -- Which rows pass a test after a row was put in or rows were taken out.
 use Rattle.std.proofs.Common.{◌≡◌, ◌≢◌, ◌≤◌, ℕ, pos, Bool, true, false, not, ◌||◌, ◌==◌, cond, List, [], ◌∷◌, filter}
-use Rattle.std.proofs.Common.{inl}
-use Rattle.std.proofs.Common.{inr, refl, sym, ap, subst, ◌∙◌, true≢false, Less, Equal, Greater, Ordering, is_eq, arith}
-use Rattle.std.proofs.Common.{eq-eqb, IsPermutation}
+use Rattle.std.proofs.Common.{inl, inr, refl, sym, ap, subst, ◌∙◌, true≢false, Less, Equal, Greater, Ordering, is_eq}
+use Rattle.std.proofs.Common.{arith, eq-eqb, IsPermutation}
 use Rattle.std.specs.List.{AllByRecursion}
 use Rattle.std.specs.Ordering.{match_ordering}
 use Rattle.std.proofs.lemmas.Bool.{not-true, cases_eq, ne_eqb, false_from_ne_true}

@@ -1,7 +1,7 @@
 -- What a slot keeps is written: an UPDATE changes its row, or an INSERT adds one.
-use Rattle.std.proofs.Common.{◌≡◌, ◌∙◌, ℕ, ℤ, pos, true, false, not, ◌&&◌, List, [], ◌∷◌, drop}
+use Rattle.std.proofs.Common.{◌≡◌, ◌∙◌, ℕ, ℤ, pos, true, false, ◌&&◌, List, [], ◌∷◌, drop}
 use Rattle.std.proofs.Common.{Option, Ok, Equal, inl, inr, refl, sym, ap, ap₂, subst, true≢false, is_eq}
-use Rattle.std.proofs.lemmas.Bool.{cases_Bool, not-true, and_from}
+use Rattle.std.proofs.lemmas.Bool.{not-true, and_from}
 use Rattle.std.proofs.lemmas.Cmp.{tied_itself}
 use Rattle.sqlite_value.specs.declared.value.Value.{Value}
 use Rattle.sqlite_value.specs.declared.value.Value.TheVariants.{Null, Int, Text, Blob}
@@ -10,15 +10,15 @@ use Rattle.sqlite_value.specs.Order.{Row, column, value_cmp}
 use Rattle.sqlite_value.proofs.OrderLemmas.{value_cmp_total}
 use Rattle.sqlite_trees.specs.Tree.{rowid, put_row}
 use Rattle.sqlite_trees.specs.View.{is_int}
-use Rattle.sqlite_schema.specs.Rules.{passes, clashes, agree, differ, guards}
+use Rattle.sqlite_schema.specs.Rules.{agree, guards}
 use Rattle.sqlite_schema.specs.declared.schema.Constraint.TheVariants.{Unique}
 use Rattle.sqlite_keyed.proofs.RuleLemmas.{first_of_both, second_of_both}
 use Rattle.sqlite_rules.specs.Lists.{Has}
 use Rattle.sqlite_rules.specs.Calls.{ids_of}
 use Rattle.sqlite_rules.specs.Cast.{cast, cast_row}
 use Rattle.sqlite_rules.specs.Edit.{edit_of, is_taken, left_by, next_rowid}
-use Rattle.sqlite_rules.proofs.ListLemmas.{all_has, some_from, test_has}
-use Rattle.sqlite_rules.proofs.TableLemmas.{int_is, has_put, put_all_adds}
+use Rattle.sqlite_rules.proofs.ListLemmas.{all_has, some_from}
+use Rattle.sqlite_rules.proofs.TableLemmas.{has_put, put_all_adds}
 use Rattle.sqlite.specs.Kind.TheVariants as kind
 use Rattle.sqlite.specs.Rowids.TheVariants.{Given}
 use Rattle.sqlite.specs.Effect.{Database, IsDatabase}
@@ -30,7 +30,7 @@ use Rattle.room_tables.specs.Rows.{has, has_text, is_slot}
 use Rattle.room_tables.specs.Layout.{IsKeyed, reply_value}
 use Rattle.room_tables.proofs.Each.{rows_pass, once_by, slots_placed, slots_seen}
 use Rattle.room_tables.proofs.Meaning.{change_slot_means, add_slot_means}
-use Rattle.room_tables.proofs.Values.{has_is, has_value, has_equal, has_text_value, text_has, cast_tied, same_ids}
+use Rattle.room_tables.proofs.Values.{has_is, has_value, has_equal, has_text_value, text_has, cast_tied}
 use Rattle.room_tables.proofs.Queries.{and_true}
 use Rattle.room_tables.proofs.Changes.{cast_null, cast_int}
 use Rattle.room_tables.proofs.Upserts.{PutInto}

@@ -1,6 +1,6 @@
 -- A room of version 1 becomes one of version 2 that has the same records.
 use Rattle.std.proofs.Common.{◌≡◌, ℕ, ℤ, List, [], ◌∷◌, ◌++◌, Option, option_map, Ok, refl, sym, ap, ap₂, subst, ◌∙◌}
-use Rattle.std.proofs.Common.{arith, IsPermutation}
+use Rattle.std.proofs.Common.{IsPermutation}
 use Rattle.std.proofs.lemmas.List.{append-nil}
 use Rattle.std.proofs.lemmas.List.Sorted.{IsPermutation-refl}
 use Rattle.std.specs.List.{AllByRecursion}
@@ -16,8 +16,7 @@ use Rattle.room_records.specs.Changes.{apply_change}
 use Rattle.room_records.specs.Records.{Records}
 use Rattle.room_tables.specs.Tables.{Upgraded, room_schema, first_schema, kept_table, kept_text}
 use Rattle.room_tables.specs.Texts.{copy_row_text, take_row_text}
-use Rattle.room_tables.specs.Rows.{only, kept_of, nodes_in, entries_in, documents_in, next_in, sessions_in}
-use Rattle.room_tables.specs.Rows.{records_of, version_rows, IsVersion}
+use Rattle.room_tables.specs.Rows.{only, kept_of, records_of, version_rows, IsVersion}
 use Rattle.room_tables.specs.Layout.{IsKeyed, IsNumbered, IsRoomOfVersion1, IsRoomOfVersion2}
 use Rattle.room_tables.specs.Steps.{Steps}
 use Rattle.room_tables.specs.Upgrade.{shows, others_than, IsWidened, IsShared, IsMoving, IsMovedOut, CopiesRow}

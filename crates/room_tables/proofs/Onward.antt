@@ -1,19 +1,15 @@
 -- A query whose rows are read one at a time: each call finds the connection as the first one did.
-use Rattle.std.proofs.Common.{◌≡◌, ℕ, true, List, [], None, Result, Ok, Err, inl, inr}
-use Rattle.std.proofs.Common.{sym, subst, ◌∙◌, arith}
+use Rattle.std.proofs.Common.{◌≡◌, ℕ, true, List, [], None, Result, Ok, Err, inl, inr, sym, subst}
 use Rattle.sqlite_value.specs.Order.{Row}
 use Rattle.sqlite_trees.specs.Tree.{Trees}
 use Rattle.sqlite_trees.specs.declared.store.Store.{Ghosts}
-use Rattle.sqlite_trees.specs.declared.error.StoreError.{StoreError}
-use Rattle.sqlite_trees.specs.declared.error.StoreError.TheVariants as fault
 use Rattle.sqlite_resolve.specs.Compile.{first}
 use Rattle.sqlite_resolve.specs.declared.compiled.Compiled.{Compiled}
 use Rattle.sqlite_resolve.specs.declared.error.CompileError.{CompileError}
 use Rattle.sqlite.specs.Clock.{timed}
 use Rattle.sqlite.specs.Effect.{Database, RefusesToRead}
 use Rattle.sqlite.specs.Listing.{understood, reads_listing, IsSourceOf}
-use Rattle.sqlite.specs.State.{State, Survives, Begins, FailsToQuery, FailsToShow, IsStatement, IsNoStatement, IsNotRun}
-use Rattle.sqlite.specs.State.{IsUnchanged, IsRolledBack, Fails, HasCause}
+use Rattle.sqlite.specs.State.{State, Survives, Begins, FailsToQuery, FailsToShow, IsStatement, IsNotRun, IsUnchanged}
 use Rattle.sqlite.specs.declared.error.Error.{Error}
 use Rattle.sqlite.specs.Held.{Held, state}
 use Rattle.sqlite.specs.Given.{HasGiven, HasBegun, Returns}

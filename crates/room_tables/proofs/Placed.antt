@@ -13,7 +13,7 @@ use Rattle.std.proofs.lemmas.List.Sorted.{IsPermutation-sym, IsPermutation-to_fr
 use Rattle.sqlite_value.specs.declared.value.Value.TheVariants.{Int, Text}
 use Rattle.sqlite_value.specs.Order.{Row, value_cmp}
 use Rattle.sqlite_value.proofs.OrderLemmas.{value_cmp-Int, value_cmp-Text}
-use Rattle.sqlite_trees.specs.Tree.{IsAscending, Trees, put_row}
+use Rattle.sqlite_trees.specs.Tree.{IsAscending, put_row}
 use Rattle.sqlite_sql.specs.Query.{key_cmp}
 use Rattle.sqlite_sql.proofs.QueryLemmas.{key_cmp_total}
 use Rattle.sqlite_keyed.specs.Lists.{sort_by}
@@ -32,7 +32,7 @@ use Rattle.room_tables.specs.Steps.{type_of, IsReadBack, shown_as, placed, Lists
 use Rattle.room_tables.proofs.Sorted.{AtMost, ascending-sort_by, same_ascending}
 use Rattle.room_tables.proofs.Queries.{first_tie}
 use Rattle.room_tables.proofs.Values.{int_has}
-use Rattle.room_tables.proofs.Changes.{HasAll, without}
+use Rattle.room_tables.proofs.Changes.{HasAll}
 use Rattle.room_tables.proofs.Takes.{stored, bound_entries, AddsEntries, drops_entries}
 use Rattle.room_tables.proofs.Filters.{put_is_one_more, put_passed_over, rows_gone, not_both, keyed_put}
 use Rattle.room_tables.proofs.Filters.{keyed_filter, still_room, still_numbered, still_slots}

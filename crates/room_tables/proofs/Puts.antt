@@ -1,5 +1,5 @@
 -- What puts a row: an upsert of a session, and an UPDATE and an INSERT of a row of node, doc and room.
-use Rattle.std.proofs.Common.{◌≡◌, ◌==◌, ℕ, ℤ, pos, Bool, true, false, ◌&&◌, ◌||◌, List, [], ◌∷◌, length, drop, Option, None}
+use Rattle.std.proofs.Common.{◌≡◌, ◌==◌, ℕ, ℤ, pos, true, false, List, [], ◌∷◌, length, drop, Option, None}
 use Rattle.std.proofs.Common.{Some, Ok, refl, sym, ap, ap₂, subst, arith, ◌∙◌}
 use Rattle.std.proofs.lemmas.Bool.Decides.{nat_tests}
 use Rattle.sqlite_value.specs.declared.value.Value.TheVariants.{Null, Int, Text, Blob}

@@ -1,7 +1,7 @@
 -- What a query over one table answers, and that it changes nothing.
 use Rattle.std.proofs.Common.{◌≡◌, ℕ, ◌+◌, ◌<◌, arith, length, is_gt, Bool, true, false, ◌&&◌, ◌||◌, cond, List, [], ◌∷◌}
 use Rattle.std.proofs.Common.{◌++◌, map, filter, flat_map, Option, None, Some, Ok, Err, Result, IfOk, IfErr, OnOk, ◌⊎◌}
-use Rattle.std.proofs.Common.{inl, inr, refl, Ordering, Less, Equal, Greater, sym, ap, subst, subst₂, ◌∙◌}
+use Rattle.std.proofs.Common.{inl, inr, refl, Ordering, Equal, sym, ap, subst, subst₂, ◌∙◌}
 use Rattle.std.proofs.Common.{IsPermutation, IsSorted, negsuc}
 use Rattle.std.specs.List.{list_all, swap, AllByRecursion}
 use Rattle.std.proofs.Math.ListN.{set, get_or, get_or-map}
@@ -14,7 +14,7 @@ use Rattle.sqlite_value.specs.declared.keys.Key.{Key}
 use Rattle.sqlite_value.specs.declared.keys.Collation.{Collation}
 use Rattle.sqlite_value.specs.Order.{Row}
 use Rattle.sqlite_trees.specs.Tree.{Trees, IsAscending}
-use Rattle.sqlite_sql.specs.Term.{Term, lit, holds}
+use Rattle.sqlite_sql.specs.Term.{Term, lit, holds, eval_all}
 use Rattle.sqlite_sql.specs.Query.{Query, IsAnswer, Output, output, output_cmp, key_cmp}
 use Rattle.sqlite_sql.specs.Program.{overlay}
 use Rattle.sqlite_keyed.proofs.ListLemmas.{map-map, map_same, filter_same, ascending-map, ascending_from_map}
@@ -26,11 +26,9 @@ use Rattle.sqlite.specs.State.{FailsToQuery, FailsToShow, IsNotRun}
 use Rattle.sqlite.specs.declared.error.Error.{Error}
 use Rattle.sqlite_schema.specs.declared.command.Returning.{Returning}
 use Rattle.sqlite.specs.Clock.{timed}
-use Rattle.sqlite.specs.Listing.{understood}
+use Rattle.sqlite.specs.Listing.{understood, reads_listing, if_select, listing_schema}
 use Rattle.sqlite.proofs.StateLemmas.{survives_weaker, unchanged}
 use Rattle.sqlite.proofs.Callers.{reads_as, one_permutation}
-use Rattle.sqlite_sql.specs.Term.{eval_all}
-use Rattle.sqlite.specs.Listing.{reads_listing, if_select, listing_schema}
 use Rattle.sqlite_resolve.specs.declared.compiled.Compiled.{Compiled}
 use Rattle.sqlite_resolve.specs.declared.error.CompileError.{CompileError}
 use Rattle.sqlite_resolve.specs.declared.error.CompileError.TheVariants.{NoSuchTable}

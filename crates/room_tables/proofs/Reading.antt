@@ -1,10 +1,10 @@
 -- The rows of an object's entries that are read in order of place are the first of its entries.
-use Rattle.std.proofs.Common.{◌≡◌, ℕ, pos, Bool, true, false, not, ◌&&◌, ◌||◌, cond, List, [], ◌∷◌, ◌++◌, map, filter}
-use Rattle.std.proofs.Common.{inl, inr, refl, sym, ap, ap₂, subst, subst₂, ◌∙◌, true≢false, IsPermutation, IsSorted}
+use Rattle.std.proofs.Common.{◌≡◌, ℕ, pos, Bool, true, false, not, ◌||◌, cond, List, [], ◌∷◌, ◌++◌, map, filter}
+use Rattle.std.proofs.Common.{inl, inr, refl, sym, ap, subst, subst₂, ◌∙◌, true≢false, IsPermutation}
 use Rattle.std.proofs.Common.{Equal, Less, Greater, Ordering, is_eq, Some}
-use Rattle.std.specs.Ordering.{ordering_then, is_ne, is_gt}
+use Rattle.std.specs.Ordering.{ordering_then, is_gt}
 use Rattle.std.specs.List.{AllByRecursion}
-use Rattle.std.proofs.lemmas.Bool.{cases_Bool, not-true, and_from}
+use Rattle.std.proofs.lemmas.Bool.{not-true}
 use Rattle.std.proofs.lemmas.Cmp.{tied_itself}
 use Rattle.std.proofs.lemmas.List.Sorted.{IsPermutation-map}
 use Rattle.sqlite_trees.specs.Tree.{IsAscending, rowid}
@@ -20,13 +20,12 @@ use Rattle.sqlite_sql.specs.Ops.{binary, is_null, is_true, from_truth}
 use Rattle.sqlite_sql.specs.Query.{key_cmp, IsAnswer}
 use Rattle.sqlite_sql.specs.Program.{overlay}
 use Rattle.sqlite_sql.proofs.QueryLemmas.{key_cmp_total}
-use Rattle.sqlite_schema.specs.Rules.{passes, Keeps, clashes, agree, differ, guards, equal}
+use Rattle.sqlite_schema.specs.Rules.{passes, agree, equal}
 use Rattle.sqlite_schema.specs.declared.schema.Constraint.TheVariants.{Unique, NotNull}
 use Rattle.sqlite_rules.specs.Lists.{Has}
-use Rattle.sqlite_rules.proofs.ListLemmas.{all_has, all_from, some_from, test_has, has_filtered}
+use Rattle.sqlite_rules.proofs.ListLemmas.{all_has, all_from, has_filtered}
 use Rattle.sqlite_rules.proofs.PlaceLemmas.{tied_same}
 use Rattle.sqlite_rules.proofs.ProbeLemmas.{has_mapped}
-use Rattle.sqlite_rules.proofs.TableLemmas.{int_is}
 use Rattle.sqlite.specs.State.{State, Shown, Begins}
 use Rattle.sqlite.specs.Effect.{Database, IsDatabase}
 use Rattle.sqlite.proofs.Callers.{reads_as, begins_as}
@@ -39,7 +38,7 @@ use Rattle.room_tables.proofs.Queries.{and_true, answer_is, arranged, first_tie}
 use Rattle.room_tables.proofs.Each.{rows_pass, once_by}
 use Rattle.room_tables.proofs.Removed.{has_permuted}
 use Rattle.room_tables.proofs.Sorted.{sorted_answer}
-use Rattle.room_tables.proofs.Values.{has_not_null, has_tied, same_ids}
+use Rattle.room_tables.proofs.Values.{has_not_null, has_tied}
 
 -- ---- a place stands once in an object's list, by UNIQUE and NOT NULL
 

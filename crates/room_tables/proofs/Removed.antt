@@ -1,5 +1,5 @@
 -- What a DELETE by a test leaves of a table.
-use Rattle.std.proofs.Common.{◌≡◌, ℤ, Bool, true, false, not, ◌||◌, cond, List, [], ◌∷◌, map, filter, inl, inr, refl}
+use Rattle.std.proofs.Common.{◌≡◌, ℤ, Bool, true, not, ◌||◌, cond, List, [], ◌∷◌, map, filter, inl, inr, refl}
 use Rattle.std.proofs.Common.{sym, ap, subst, ◌∙◌, true≢false, Less, Equal, is_eq, IsPermutation}
 use Rattle.std.specs.List.{list_any}
 use Rattle.std.proofs.lemmas.Bool.{cases_Bool, false_from_ne_true}

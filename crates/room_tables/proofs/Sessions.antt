@@ -1,18 +1,16 @@
 -- A session that is put: its name stands once, by the rule UNIQUE.
-use Rattle.std.proofs.Common.{◌≡◌, ◌≢◌, ℕ, ℤ, pos, Bool, true, false, not, ◌&&◌, ◌==◌, cond, List, [], ◌∷◌, map, filter}
-use Rattle.std.proofs.Common.{Some, option_map, Ok, inl, inr, refl, sym, ap, ap₂, subst, ◌∙◌, true≢false, arith}
-use Rattle.std.proofs.Common.{bytes_eq, Equal, Ordering, Less, Greater}
+use Rattle.std.proofs.Common.{◌≡◌, ℕ, ℤ, pos, Bool, true, false, ◌==◌, cond, List, [], ◌∷◌, map, filter, Some}
+use Rattle.std.proofs.Common.{option_map, Ok, inl, inr, refl, sym, ap, ◌∙◌, true≢false, arith, bytes_eq, Equal}
 use Rattle.std.proofs.lemmas.Bool.{cases_Bool, false_from_ne_true}
 use Rattle.std.proofs.lemmas.Slice.Eq.{bytes_eq-Decides}
 use Rattle.sqlite_value.specs.declared.value.Value.TheVariants.{Int, Text}
 use Rattle.sqlite_value.specs.Keys.{plain, first_key}
 use Rattle.sqlite_value.specs.Order.{Row, column, value_cmp}
-use Rattle.sqlite_trees.specs.Tree.{rowid, without_rowid, has_rowid}
-use Rattle.sqlite_schema.specs.Rules.{passes, clashes, agree, differ, guards}
+use Rattle.sqlite_trees.specs.Tree.{rowid}
+use Rattle.sqlite_schema.specs.Rules.{agree}
 use Rattle.sqlite_schema.specs.declared.schema.Constraint.TheVariants.{Unique}
 use Rattle.sqlite_rules.specs.Lists.{Has}
-use Rattle.sqlite_rules.proofs.ListLemmas.{all_has, some_from, test_has}
-use Rattle.sqlite_rules.proofs.TableLemmas.{int_is, has_put}
+use Rattle.sqlite_rules.proofs.ListLemmas.{all_has}
 use Rattle.sqlite.specs.Effect.{Database, IsDatabase}
 use Rattle.sqlite.specs.State.{State, ExecutesInside}
 use Rattle.room_records.specs.declared.session.SessionRow.{SessionRow}
@@ -20,12 +18,11 @@ use Rattle.room_records.specs.declared.change.Change.TheVariants.{PutSession}
 use Rattle.room_records.specs.Changes.{apply_change}
 use Rattle.room_tables.specs.Tables.{Layout, room_schema, session_table, session_index}
 use Rattle.room_tables.specs.Texts.{put_session_text}
-use Rattle.room_tables.specs.Rows.{has_text, only, shown_session, session_of, sessions_in, nodes_in, entries_in}
-use Rattle.room_tables.specs.Rows.{documents_in, next_in, slots_in}
+use Rattle.room_tables.specs.Rows.{has_text, only, shown_session, session_of, sessions_in}
 use Rattle.room_tables.specs.Layout.{IsKeyed, IsRoomDatabase}
 use Rattle.room_tables.specs.Steps.{Steps, flag_of}
 use Rattle.room_tables.proofs.Each.{rows_pass, once_by}
-use Rattle.room_tables.proofs.Values.{has_text_value, has_text_one, text_has, same_ids}
+use Rattle.room_tables.proofs.Values.{has_text_value, has_text_one, text_has}
 use Rattle.room_tables.proofs.Removed.{one_row}
 use Rattle.room_tables.proofs.Queries.{and_true}
 use Rattle.room_tables.proofs.Upserts.{Put}

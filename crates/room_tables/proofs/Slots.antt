@@ -1,6 +1,5 @@
 -- What slots keep, after rows were taken out or one was put.
-use Rattle.std.proofs.Common.{◌≡◌, ◌≢◌, ◌≤◌, ℕ, suc, pos, Bool, true, false, not, ◌&&◌, ◌==◌, cond, List, [], ◌∷◌, map}
-use Rattle.std.proofs.Common.{filter}
+use Rattle.std.proofs.Common.{◌≡◌, ◌≢◌, ◌≤◌, ℕ, suc, true, false, not, ◌&&◌, ◌==◌, cond, List, [], ◌∷◌, map, filter}
 use Rattle.std.proofs.Common.{Option, None, Some, option_map, Ok, inl, inr, refl, sym, ap, ap₂, subst, ◌∙◌, true≢false}
 use Rattle.std.proofs.Common.{arith, bytes_eq, eq-eqb}
 use Rattle.std.specs.List.{AllByRecursion}
@@ -9,10 +8,7 @@ use Rattle.std.proofs.lemmas.Bool.Decides.{nat_tests}
 use Rattle.std.proofs.lemmas.Slice.Eq.{bytes_eq-Decides}
 use Rattle.sqlite_value.specs.declared.value.Value.TheVariants.{Text}
 use Rattle.sqlite_value.specs.Order.{Row}
-use Rattle.sqlite_trees.specs.Tree.{without_rowid, has_rowid}
-use Rattle.sqlite_rules.specs.Lists.{Has}
 use Rattle.sqlite_rules.proofs.ListLemmas.{all_has}
-use Rattle.sqlite_rules.proofs.TableLemmas.{has_put}
 use Rattle.sqlite.specs.Effect.{Database, IsDatabase}
 use Rattle.sqlite_keyed.proofs.RuleLemmas.{first_of_both, second_of_both}
 use Rattle.sqlite.specs.State.{State, ExecutesInside}
@@ -33,8 +29,7 @@ use Rattle.room_tables.proofs.Values.{has_one, has_text_one}
 use Rattle.room_tables.proofs.Removed.{one_row}
 use Rattle.room_tables.proofs.Changes.{Others, without}
 use Rattle.room_tables.proofs.Upserts.{Put}
-use Rattle.room_tables.proofs.Kept.{slot_values, its_slot, slot_once, PutsSlot, ChangesSlot}
-use Rattle.room_tables.proofs.Kept.{changes_slot, adds_slot}
+use Rattle.room_tables.proofs.Kept.{slot_values, its_slot, slot_once, PutsSlot, ChangesSlot, changes_slot, adds_slot}
 use Rattle.room_tables.proofs.Takes.{drops_slots}
 use Rattle.room_tables.proofs.Filters.{filter_apart, has_row, through, none_left, others_left, keyed_filter}
 use Rattle.room_tables.proofs.Filters.{keyed_after, still_room, version_stays}

@@ -26,8 +26,7 @@ use Rattle.room_tables.specs.Layout.{IsKeyed}
 use Rattle.room_tables.proofs.Meaning.{Means, drop_entries_means, drop_slots_means, add_entry_means, add_two_means}
 use Rattle.room_tables.proofs.Meaning.{add_three_means, add_four_means}
 use Rattle.room_tables.proofs.Queries.{and_true}
-use Rattle.room_tables.proofs.Changes.{Added, Leaves, without, cleared, unnumbered}
-use Rattle.room_tables.proofs.Changes.{inserted_all, cast_null, cast_int}
+use Rattle.room_tables.proofs.Changes.{Added, Leaves, without, cleared, unnumbered, inserted_all, cast_null, cast_int}
 
 entries_quiet : (l : Layout) (olds : List Row) → works (room_schema l) Enforced 0 3 olds [] ≡ []
 unfolding everything

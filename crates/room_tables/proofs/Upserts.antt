@@ -1,5 +1,5 @@
 -- What an upsert does: it puts one row in, in the place of the row with its rowid.
-use Rattle.std.proofs.Common.{◌≡◌, ◌≢◌, inl, inr, ℕ, ℤ, Bool, true, false, ◌||◌, List, [], ◌∷◌, ◌++◌, ◌/◌, length}
+use Rattle.std.proofs.Common.{◌≡◌, ◌≢◌, inl, inr, ℕ, ℤ, true, false, List, [], ◌∷◌, ◌++◌, ◌/◌, length}
 use Rattle.std.proofs.Common.{map, slice_get, filter, Option, None, Some, Ok, refl, sym, ap, ap₂, subst, subst₂, ◌∙◌}
 use Rattle.std.proofs.Common.{IsPermutation, is_eq, cond, true≢false}
 use Rattle.std.specs.List.{AllByRecursion, list_all}
