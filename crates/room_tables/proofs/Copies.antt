@@ -46,7 +46,7 @@ use Rattle.room_tables.proofs.Queries.{answer_of, found, and_true}
 use Rattle.room_tables.proofs.Removed.{one_row, has_permuted}
 use Rattle.room_tables.proofs.Values.{equal_is, equal_tied}
 use Rattle.room_tables.proofs.Changes.{Inserted, Leaves, new_rows, inserted, cleared, cast_null, cast_int}
-use Rattle.room_tables.proofs.Takes.{slots_quiet}
+use Rattle.room_tables.proofs.Takes.{quiet}
 use Rattle.room_tables.proofs.Filters.{put_is_one_more, keyed_put, keyed_filter}
 
 -- no foreign key acts
@@ -132,7 +132,7 @@ copies : (old new : State) (count : ℕ) → old.now.schema ≡ room_schema Upgr
     → IsKeyed (old.now.trees 8) → Executes copy_row_text [] old new (Ok count) → Copied old new
 copies old new count has sound keyed h =
     let it = inserted Upgraded old new 6 (kept_table 10) copy_row_text [] _ count refl has refl
-    copy_row_means (slots_quiet Upgraded []) h in
+    copy_row_means (λ news. (quiet Upgraded 0 [] news).slots) h in
     let db = old.now.trees in
     let a = it.source.answer Null in
     let all = map (λ (o : Output). o.1) a.ordered in

@@ -48,6 +48,7 @@ use Rattle.room_tables.proofs.Each.{of_any, rows_pass, above}
 use Rattle.room_tables.proofs.Listed.{slots_listed}
 use Rattle.room_tables.proofs.Meaning.{drop_node_means}
 use Rattle.room_tables.proofs.Queries.{answer_is, found, and_true, tidy}
+use Rattle.room_tables.proofs.Takes.{quiet}
 use Rattle.room_tables.proofs.Puts.{nodes_quiet}
 use Rattle.room_tables.proofs.Values.{has_is, has_int, has_value, has_tied, has_not_null, equal_tied}
 use Rattle.room_tables.proofs.Removed.{one_row, removed_ids}
@@ -89,13 +90,6 @@ set_off : (l : Layout) (there : Row) (id : ℕ) → rowid there ≡ Int (pos id)
 unfolding everything
 set_off Fresh there id is = rw (loses_key there id is) refl
 set_off Upgraded there id is = rw (loses_key there id is) refl
-
--- and they set nothing off
-last_set_off : (l : Layout) (olds : List Row)
-    → (works (room_schema l) Enforced 1 3 olds [] ≡ []) × (works (room_schema l) Enforced 1 5 olds [] ≡ [])
-unfolding everything
-last_set_off Fresh olds = (refl, refl)
-last_set_off Upgraded olds = (refl, refl)
 
 -- the children of the node are its entries and its document
 entry_is_child : (there r : Row) (id : ℕ) → rowid there ≡ Int (pos id)
@@ -184,10 +178,10 @@ cascaded : (l : Layout) (n : ℕ) (db next : Trees) (there : Row) (id : ℕ)
     → rowid there ≡ Int (pos id) → IsKeyed (db 3) → IsKeyed (db 5)
     → Leads (room_schema l) Enforced n db (entry_work there ∷ doc_work there ∷ []) (Ok next) → Dropped l db next id (db 1)
 cascaded l n db next there id is entries docs h =
-    let first = (led l n db next doc_table doc_ref there (entry_work there ∷ []) (λ olds. (last_set_off l olds).1) h).1 in
+    let first = (led l n db next doc_table doc_ref there (entry_work there ∷ []) (λ olds. (quiet l 1 olds []).doc) h).1 in
     let o = first.others in
     let same_entries : first.mid 3 ≡ db 3 = o.entry (omega arith) in
-    let second = (led l _ first.mid next entry_table entry_ref there [] (λ olds. (last_set_off l olds).0) first.rest).1 in
+    let second = (led l _ first.mid next entry_table entry_ref there [] (λ olds. (quiet l 1 olds []).entry) first.rest).1 in
     let p = second.others in
     let end = settled l _ second.mid next second.rest in
     let doc_test = λ (r : Row). doc_is_child there r id is in

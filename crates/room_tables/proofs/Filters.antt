@@ -4,7 +4,7 @@ use Rattle.std.proofs.Common.{inl, inr, refl, sym, ap, subst, ◌∙◌, true≢
 use Rattle.std.proofs.Common.{arith, eq-eqb, IsPermutation}
 use Rattle.std.specs.List.{AllByRecursion}
 use Rattle.std.specs.Ordering.{match_ordering}
-use Rattle.std.proofs.lemmas.Bool.{not-true, cases_eq, ne_eqb, false_from_ne_true}
+use Rattle.std.proofs.lemmas.Bool.{cases_Bool, not-true, cases_eq, ne_eqb, false_from_ne_true}
 use Rattle.std.proofs.lemmas.List.Sorted.{IsPermutation-refl, IsPermutation-cons, IsPermutation-trans}
 use Rattle.std.proofs.lemmas.List.Sorted.{IsPermutation-middle, IsPermutation-sym}
 use Rattle.sqlite_value.specs.declared.value.Value.TheVariants.{Int}
@@ -82,14 +82,12 @@ others_left p q rows apart = filter-filter q (λ r. not (p r)) (λ r h. ap not (
 pub others_left_on : (p q : Row → Bool) (rows : List Row)
     → ((r : Row) → Has rows r → q r ≡ true → p r ≡ false) → filter q (without p rows) ≡ filter q rows
 others_left_on p q [] apart = refl
-others_left_on p q (r ∷ rows) apart = go (p r) refl (q r) refl (others_left_on p q rows (λ x h. apart x (inr h)))
-  where
-    go : (b : Bool) → p r ≡ b → (c : Bool) → q r ≡ c → filter q (without p rows) ≡ filter q rows
-        → filter q (cond (not b) (r ∷ without p rows) (without p rows)) ≡ cond c (r ∷ filter q rows) (filter q rows)
-    go true e true f more = absurd (true≢false (sym e ∙ apart r (inl refl) f))
-    go true e false f more = more
-    go false e true f more = rw f (ap (λ l. r ∷ l) more)
-    go false e false f more = rw f more
+others_left_on p q (r ∷ rows) apart =
+    let more = others_left_on p q rows (λ x h. apart x (inr h)) in
+    elim (cases_Bool (p r)) [
+      | inl gone ↦ rw (gone, false_from_ne_true (q r) (λ h. true≢false (sym gone ∙ apart r (inl refl) h))) more
+      | inr left ↦ rw left (ap (λ l. cond (q r) (r ∷ l) l) more)
+    ]
 
 pub same_test : (id : ℕ) (r : Row) → has_rowid (pos id) r ≡ has 0 id r
 same_test id r = sym (has_is 0 id r)

@@ -34,7 +34,7 @@ use Rattle.room_tables.proofs.Values.{has_is, has_value, has_equal, has_text_val
 use Rattle.room_tables.proofs.Queries.{and_true}
 use Rattle.room_tables.proofs.Changes.{cast_null, cast_int}
 use Rattle.room_tables.proofs.Upserts.{PutInto}
-use Rattle.room_tables.proofs.Takes.{slots_quiet}
+use Rattle.room_tables.proofs.Takes.{quiet}
 use Rattle.room_tables.proofs.Writes.{IsUpdate, Changes, edit, Updated, made_fits, changes_rows, adds_row}
 
 abbrev pub slot_values : List ℕ → ℕ → ℕ → List ℕ → Option (List ℕ) → Row
@@ -119,8 +119,8 @@ module _ (l : Layout) (sid : List ℕ) (slot seq : ℕ) (request : List ℕ) (re
   slot_update : IsUpdate l (slots_table l) (is_slot sid slot) (change_slot_query tree).filter
       (change_slot_query tree).project values Fits
   slot_update = record {
-    quiet = λ olds new news. slots_quiet l olds (new ∷ news);
-    idle = slots_quiet l [] [];
+    quiet = λ olds new news. (quiet l 0 olds (new ∷ news)).slots;
+    idle = (quiet l 0 [] []).slots;
     here = slots_seen l;
     test = λ r. ap (λ b. has_text 1 sid r && b) (and_true (has 2 slot r));
     raw = λ r. rowid r ∷ column r 1 ∷ column r 2 ∷ Int (pos seq) ∷ Blob request ∷ reply_value reply ∷ [];
@@ -176,6 +176,6 @@ module _ (l : Layout) (sid : List ℕ) (slot seq : ℕ) (request : List ℕ) (re
   adds_slot old new count schema h =
       let id = next_rowid (old.now.trees tree) in
       adds_row l old new (slots_place l) (slots_table l) add_slot_terms 6 count add_slot_text values (Null ∷ values)
-      (Int id ∷ values) id Fits _ (slots_placed l) schema refl (add_slot_means l) (slots_quiet l []) refl
+      (Int id ∷ values) id Fits _ (slots_placed l) schema refl (add_slot_means l) (λ news. (quiet l 0 [] news).slots) refl
       (rw (cast_null, cast_int (pos slot), cast_int (pos seq)) refl) refl
       (record { rowid = id; number = Int (pos slot); tied = tied_itself value_cmp_total (Int (pos slot)); is = refl }) h

@@ -25,7 +25,7 @@ use Rattle.room_tables.specs.Layout.{IsKeyed, parent_value}
 use Rattle.room_tables.proofs.Meaning.{change_node_means, add_node_means, change_doc_means, add_doc_means}
 use Rattle.room_tables.proofs.Meaning.{change_next_means, add_next_means, put_session_means}
 use Rattle.room_tables.proofs.Queries.{and_true, tidy}
-use Rattle.room_tables.proofs.Takes.{set_off, next_quiet, doc_quiet}
+use Rattle.room_tables.proofs.Takes.{set_off, quiet}
 use Rattle.room_tables.proofs.Writes.{IsUpdate, Changes, changes_row, adds_row}
 use Rattle.room_tables.proofs.Values.{has_int, has_text_value}
 use Rattle.room_tables.proofs.Changes.{cast_null, cast_int}
@@ -51,15 +51,10 @@ cast_node : (id : ℕ) (parent : Option ℕ) (name : List ℕ) (kind : ℕ) (own
 cast_node id parent name kind owner group aclflag =
     rw (cast_int (pos id), cast_null, cast_parent parent, cast_int (pos kind), cast_int (pos aclflag))
 
-node_set_off : (l : Layout) (moves : List (Row × Row)) → set_off l 1 moves false ≡ []
+node_set_off : (l : Layout) (moves : List (Row × Row)) → (set_off l 0 1 moves false ≡ []) × (set_off l 0 1 [] true ≡ [])
 unfolding everything
-node_set_off Fresh moves = refl
-node_set_off Upgraded moves = refl
-
-none_set_off : (l : Layout) → set_off l 1 [] true ≡ []
-unfolding everything
-none_set_off Fresh = refl
-none_set_off Upgraded = refl
+node_set_off Fresh moves = (refl, refl)
+node_set_off Upgraded moves = (refl, refl)
 
 not_empty : {X : Type 0} (x : X) (xs : List X) → (length (x ∷ xs) == 0) ≡ false
 not_empty x xs = grind (arith, nat_tests)
@@ -67,12 +62,12 @@ not_empty x xs = grind (arith, nat_tests)
 -- nothing goes with a node whose row is written: its number stays
 node_quiet : (l : Layout) (olds : List Row) (new : Row) (news : List Row)
     → works (room_schema l) Enforced 0 1 olds (new ∷ news) ≡ []
-node_quiet l olds new news = subst (λ b. set_off l 1 (pairs olds (new ∷ news)) b ≡ [])
-    (sym (not_empty new news)) (node_set_off l (pairs olds (new ∷ news)))
+node_quiet l olds new news = subst (λ b. set_off l 0 1 (pairs olds (new ∷ news)) b ≡ [])
+    (sym (not_empty new news)) (node_set_off l (pairs olds (new ∷ news))).0
 
 -- and nodes that are added set nothing off
 pub nodes_quiet : (l : Layout) (news : List Row) → works (room_schema l) Enforced 0 1 [] news ≡ []
-nodes_quiet l [] = none_set_off l
+nodes_quiet l [] = (node_set_off l []).1
 nodes_quiet l (new ∷ news) = node_quiet l [] new news
 
 abbrev pub node_params : ℕ → Option ℕ → List ℕ → ℕ → List ℕ → List ℕ → ℕ → Row
@@ -139,8 +134,8 @@ doc_params id bytes = Int (pos id) ∷ Blob bytes ∷ []
 doc_update : (l : Layout) (id : ℕ) (bytes : List ℕ) → IsUpdate l doc_table (has 0 id) T.change_doc_query.filter
     T.change_doc_query.project (doc_params id bytes) (λ r. r ≡ stored_doc id bytes)
 doc_update l id bytes = record {
-  quiet = λ olds new news. doc_quiet l olds (new ∷ news);
-  idle = doc_quiet l [] [];
+  quiet = λ olds new news. (quiet l 0 olds (new ∷ news)).doc;
+  idle = (quiet l 0 [] []).doc;
   here = λ db. refl;
   test = λ r. and_true (has 0 id r);
   raw = λ there. rowid there ∷ Null ∷ Blob bytes ∷ [];
@@ -174,7 +169,7 @@ pub adds_doc : (l : Layout) (old new : State) (id : ℕ) (bytes : List ℕ) (cou
 adds_doc l old new id bytes count schema h =
     adds_row l old new 3 doc_table T.add_doc_terms 3 count T.add_doc_text (doc_params id bytes)
     (stored_doc id bytes) (stored_doc id bytes) (pos id) _ _ refl schema refl (add_doc_means l)
-    (doc_quiet l []) refl (ap (λ r. numbered Chosen (old.now.trees 5) (r ∷ [])) (cast_doc id bytes)) refl refl h
+    (λ news. (quiet l 0 [] news).doc) refl (ap (λ r. numbered Chosen (old.now.trees 5) (r ∷ [])) (cast_doc id bytes)) refl refl h
 
 -- ---- the one row of room
 
@@ -188,8 +183,8 @@ cast_next n = rw (cast_int (pos 1), cast_null, cast_int (pos 2), cast_int (pos n
 next_update : (l : Layout) (n : ℕ) → IsUpdate l room_table (has 0 1) T.change_next_query.filter
     T.change_next_query.project (Int (pos n) ∷ []) (λ r. r ≡ stored_next n)
 next_update l n = record {
-  quiet = λ olds new news. next_quiet l olds (new ∷ news);
-  idle = next_quiet l [] [];
+  quiet = λ olds new news. (quiet l 0 olds (new ∷ news)).room;
+  idle = (quiet l 0 [] []).room;
   here = λ db. refl;
   test = λ r. and_true (has 0 1 r);
   raw = λ there. rowid there ∷ Null ∷ Int (pos 2) ∷ Int (pos n) ∷ [];
@@ -222,7 +217,7 @@ pub adds_next : (l : Layout) (old new : State) (n count : ℕ) → old.now.schem
 adds_next l old new n count schema h =
     adds_row l old new 0 room_table T.add_next_terms 4 count T.add_next_text (Int (pos n) ∷ [])
     (stored_next n) (stored_next n) (pos 1) _ _ refl schema refl (add_next_means l)
-    (next_quiet l []) refl (ap (λ r. numbered Chosen (old.now.trees 0) (r ∷ [])) (cast_next n)) refl refl h
+    (λ news. (quiet l 0 [] news).room) refl (ap (λ r. numbered Chosen (old.now.trees 0) (r ∷ [])) (cast_next n)) refl refl h
 
 -- ---- session
 

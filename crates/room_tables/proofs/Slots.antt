@@ -3,7 +3,7 @@ use Rattle.std.proofs.Common.{◌≡◌, ◌≢◌, ◌≤◌, ℕ, suc, true, f
 use Rattle.std.proofs.Common.{Option, None, Some, option_map, Ok, inl, inr, refl, sym, ap, ap₂, subst, ◌∙◌, true≢false}
 use Rattle.std.proofs.Common.{arith, bytes_eq, eq-eqb}
 use Rattle.std.specs.List.{AllByRecursion}
-use Rattle.std.proofs.lemmas.Bool.{cases_Bool, and_from, false_from_ne_true}
+use Rattle.std.proofs.lemmas.Bool.{cases_Bool, and_from, eqb-true, false_from_ne_true}
 use Rattle.std.proofs.lemmas.Bool.Decides.{nat_tests}
 use Rattle.std.proofs.lemmas.Slice.Eq.{bytes_eq-Decides}
 use Rattle.sqlite_value.specs.declared.value.Value.TheVariants.{Text}
@@ -44,10 +44,7 @@ slots_apart sid q slot n differs r h = false_from_ne_true _ (λ also.
     true≢false (sym (and_from _ (n == slot) ((bytes_eq-Decides q sid).1 name) (eq-eqb n slot number)) ∙ differs))
 
 names_same : (sid q : List ℕ) (slot n : ℕ) → (bytes_eq q sid && (n == slot)) ≡ true → (q ≡ sid) × (n ≡ slot)
-names_same sid q slot n h = (
-  (bytes_eq-Decides q sid).0 (first_of_both _ _ h),
-  (let t : (n == slot) ≡ true = second_of_both (bytes_eq q sid) (n == slot) h in grind (arith, nat_tests)),
-)
+names_same sid q slot n h = ((bytes_eq-Decides q sid).0 (first_of_both _ _ h), eqb-true n slot (second_of_both _ _ h))
 
 abbrev kept_in : List Row → Option KeptModel
 kept_in rows = option_map kept_of (only (map shown_slot rows))

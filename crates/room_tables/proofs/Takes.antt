@@ -28,50 +28,36 @@ use Rattle.room_tables.proofs.Meaning.{add_three_means, add_four_means}
 use Rattle.room_tables.proofs.Queries.{and_true}
 use Rattle.room_tables.proofs.Changes.{Added, Leaves, without, cleared, unnumbered, inserted_all, cast_null, cast_int}
 
-entries_quiet : (l : Layout) (olds : List Row) → works (room_schema l) Enforced 0 3 olds [] ≡ []
-unfolding everything
-entries_quiet Fresh olds = refl
-entries_quiet Upgraded olds = refl
-
 -- what is set off by rows of a table that went, and by those that came
-abbrev pub set_off : Layout → ℕ → List (Row × Row) → Bool → List Work
-set_off l tree moves deletes = flat_map (λ child. filter_map (λ ref. work_by 0 tree moves child ref
+abbrev pub set_off : Layout → ℕ → ℕ → List (Row × Row) → Bool → List Work
+set_off l depth tree moves deletes = flat_map (λ child. filter_map (λ ref. work_by depth tree moves child ref
     (deed_for Enforced deletes ref) (parent_key (room_schema l).tables ref)) child.references) (room_schema l).tables
 
-entries_set_off : (l : Layout) (deletes : Bool) → set_off l 3 [] deletes ≡ []
+-- a fact of the tables to which none refers
+pub record OfUnreferred (l : Layout) (P : ℕ → Type 0) : Type 0 where
+  pub room : P 0
+  pub entry : P 3
+  pub doc : P 5
+  pub slots : P (slots_tree l)
+
+none_set_off : (l : Layout) (depth : ℕ) (moves : List (Row × Row)) (deletes : Bool)
+    → OfUnreferred l (λ tree. set_off l depth tree moves deletes ≡ [])
 unfolding everything
-entries_set_off Fresh true = refl
-entries_set_off Fresh false = refl
-entries_set_off Upgraded true = refl
-entries_set_off Upgraded false = refl
+none_set_off Fresh depth moves true = record { room = refl; entry = refl; doc = refl; slots = refl }
+none_set_off Fresh depth moves false = record { room = refl; entry = refl; doc = refl; slots = refl }
+none_set_off Upgraded depth moves true = record { room = refl; entry = refl; doc = refl; slots = refl }
+none_set_off Upgraded depth moves false = record { room = refl; entry = refl; doc = refl; slots = refl }
 
-entry_quiet : (l : Layout) (news : List Row) → works (room_schema l) Enforced 0 3 [] news ≡ []
-entry_quiet l news = entries_set_off l (length news == 0)
-
-unreferred_set_off : (l : Layout) (moves : List (Row × Row)) (deletes : Bool) → (set_off l 0 moves deletes ≡ [])
-    × (set_off l 5 moves deletes ≡ []) × (set_off l (slots_tree l) moves deletes ≡ [])
-unfolding everything
-unreferred_set_off Fresh moves true = (refl, refl, refl)
-unreferred_set_off Fresh moves false = (refl, refl, refl)
-unreferred_set_off Upgraded moves true = (refl, refl, refl)
-unreferred_set_off Upgraded moves false = (refl, refl, refl)
-
--- nothing refers to the row of room, to a document, or to what slots keep
-pub next_quiet : (l : Layout) (olds news : List Row) → works (room_schema l) Enforced 0 0 olds news ≡ []
-next_quiet l olds news = (unreferred_set_off l (pairs olds news) (length news == 0)).0
-
-pub doc_quiet : (l : Layout) (olds news : List Row) → works (room_schema l) Enforced 0 5 olds news ≡ []
-doc_quiet l olds news = (unreferred_set_off l (pairs olds news) (length news == 0)).1
-
-pub slots_quiet : (l : Layout) (olds news : List Row) → works (room_schema l) Enforced 0 (slots_tree l) olds news ≡ []
-slots_quiet l olds news = (unreferred_set_off l (pairs olds news) (length news == 0)).2
+pub quiet : (l : Layout) (depth : ℕ) (olds news : List Row)
+    → OfUnreferred l (λ tree. works (room_schema l) Enforced depth tree olds news ≡ [])
+quiet l depth olds news = none_set_off l depth (pairs olds news) (length news == 0)
 
 pub drops_entries : (l : Layout) (old new : State) (id count : ℕ) → old.now.schema ≡ room_schema l
     → IsKeyed (old.now.trees 3) → Executes T.drop_entries_text (Int (pos id) ∷ []) old new (Ok count)
     → Leaves l old.now new.now 3 (without (has 1 id) (old.now.trees 3))
 drops_entries l old new id count schema keyed h =
     cleared l old new 2 entry_table T.drop_entries_text (Int (pos id) ∷ []) T.drop_entries_query.filter count (has 1 id)
-    refl schema keyed (drop_entries_means l) refl (entries_quiet l) (λ r. and_true (has 1 id r)) h
+    refl schema keyed (drop_entries_means l) refl (λ olds. (quiet l 0 olds []).entry) (λ r. and_true (has 1 id r)) h
 
 pub drops_slots : (l : Layout) (old new : State) (sid : List ℕ) (count : ℕ) → old.now.schema ≡ room_schema l
     → IsKeyed (old.now.trees (slots_tree l)) → Executes T.drop_slots_text (Text sid ∷ []) old new (Ok count)
@@ -79,7 +65,7 @@ pub drops_slots : (l : Layout) (old new : State) (sid : List ℕ) (count : ℕ) 
 drops_slots l old new sid count schema keyed h =
     cleared l old new (slots_place l) (slots_table l) T.drop_slots_text (Text sid ∷ []) (T.drop_slots_query 8).filter count
     (has_text 1 sid) (slots_placed l) schema keyed (drop_slots_means l)
-    (slots_seen l old.now.trees) (λ olds. slots_quiet l olds []) (λ r. and_true (has_text 1 sid r)) h
+    (slots_seen l old.now.trees) (λ olds. (quiet l 0 olds []).slots) (λ r. and_true (has_text 1 sid r)) h
 
 -- entries at places from a number on, as they are stored
 abbrev pub stored : ℕ → ℕ → List EntryModel → List Row
@@ -118,7 +104,7 @@ adds_entries : (l : Layout) (node at : ℕ) (es : List EntryModel) (text : List 
     ≡ unnumbered (stored node at es) → AddsEntries l text node at es
 adds_entries l node at es text terms means given old new count schema h =
     inserted_all l old new 2 entry_table text (Int (pos node) ∷ bound_entries at es) (stored node at es) terms 7 count
-    refl schema refl means (entry_quiet l)
+    refl schema refl means (λ news. (quiet l 0 [] news).entry)
     (ap (map (λ row. cast_row entry_table (drop 0 row))) given ∙ cast_stored node at es) h
 
 pub adds_one : (l : Layout) (node at : ℕ) (a : EntryModel) → AddsEntries l T.add_entry_text node at (a ∷ [])
