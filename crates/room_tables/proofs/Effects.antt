@@ -20,7 +20,7 @@ use Rattle.room_records.specs.Records.{Records}
 use Rattle.room_records.specs.Changes.{apply_change, apply_changes}
 use Rattle.sqlite.specs.Effect.{Database, IsDatabase}
 use Rattle.sqlite.specs.Table.{Table}
-use Rattle.room_tables.specs.Tables.{Layout, Upgraded, room_schema}
+use Rattle.room_tables.specs.Tables.{Layout, Upgraded, room_schema, node_table, doc_table}
 use Rattle.room_tables.specs.Texts as T
 use Rattle.room_tables.specs.Rows.{only, parent_in, name_of_text, kind_of, shown_node, node_of, nodes_in}
 use Rattle.room_tables.specs.Rows.{entries_in, shown_doc, doc_of, documents_in, number_in, shown_next, next_in}
@@ -30,8 +30,11 @@ use Rattle.room_tables.specs.Steps.{Steps, kind_number}
 use Rattle.room_tables.proofs.Each.{from_both}
 use Rattle.room_tables.proofs.Listed.{slots_listed}
 use Rattle.room_tables.proofs.Changes.{Leaves, Others}
-use Rattle.room_tables.proofs.Puts.{stored_node, node_params, ChangesNode, changes_node, adds_node, doc_params, PutsDoc}
-use Rattle.room_tables.proofs.Puts.{ChangesDoc, changes_doc, adds_doc, PutsNext, ChangesNext, changes_next, adds_next}
+use Rattle.room_tables.proofs.Meaning.{change_node_means, change_doc_means}
+use Rattle.room_tables.proofs.Writes.{changes_row}
+use Rattle.room_tables.proofs.Puts.{stored_node, node_params, node_update, ChangesNode, adds_node, doc_params}
+use Rattle.room_tables.proofs.Puts.{doc_update, PutsDoc, ChangesDoc, adds_doc, PutsNext, ChangesNext, changes_next}
+use Rattle.room_tables.proofs.Puts.{adds_next}
 use Rattle.room_tables.proofs.Upserts.{PutInto}
 use Rattle.room_tables.proofs.Filters.{filter_put, keyed_after, still_room, still_slots, version_stays}
 
@@ -196,8 +199,9 @@ pub node_changed : (old new : State) (node : Node) (name : List ℕ) (count : �
     → ChangesNode room.layout node.id node.parent name (kind_number node.kind) node.owner node.group node.aclflag
     count old.now new.now
 node_changed old new node name count room h =
-    changes_node room.layout node.id node.parent name (kind_number node.kind) node.owner node.group node.aclflag
-    old new count room.schema room.keyed.node h.0
+    changes_row room.layout node_table node.id T.change_node_query.filter T.change_node_query.project _ _
+    (node_update room.layout node.id node.parent name (kind_number node.kind) node.owner node.group node.aclflag)
+    old new 1 count T.change_node_text refl (change_node_means room.layout) room.schema room.keyed.node h.0
 
 pub steps_change_node : (old new : State) (node : Node) (name : List ℕ) (count : ℕ)
     → IsRoomDatabase old.now → name_of_text name ≡ node.name
@@ -262,8 +266,10 @@ steps_put_doc old new id bytes room done =
 doc_changed : (old new : State) (id : ℕ) (bytes : List ℕ) (count : ℕ) (room : IsRoomDatabase old.now)
     → ExecutesInside 0 T.change_doc_text (doc_params id bytes) old new (Ok count)
     → ChangesDoc room.layout id bytes count old.now new.now
-doc_changed old new id bytes count room h = changes_doc room.layout old new id bytes count room.schema room.keyed.doc
-    h.0
+doc_changed old new id bytes count room h =
+    changes_row room.layout doc_table id T.change_doc_query.filter T.change_doc_query.project _ _
+    (doc_update room.layout id bytes) old new 3 count T.change_doc_text refl (change_doc_means room.layout)
+    room.schema room.keyed.doc h.0
 
 pub steps_change_doc : (old new : State) (id : ℕ) (bytes : Vec ℕ Global) (count : ℕ) → IsRoomDatabase old.now
     → ExecutesInside 0 T.change_doc_text (doc_params id bytes.items) old new (Ok (suc count))

@@ -1,5 +1,5 @@
 -- What a slot keeps is written: an UPDATE changes its row, or an INSERT adds one.
-use Rattle.std.proofs.Common.{◌≡◌, ◌∙◌, ℕ, ℤ, pos, true, false, ◌&&◌, List, [], ◌∷◌, drop}
+use Rattle.std.proofs.Common.{◌≡◌, ◌∙◌, ℕ, ℤ, pos, Bool, true, false, ◌&&◌, List, [], ◌∷◌, drop}
 use Rattle.std.proofs.Common.{Option, Ok, Equal, inl, inr, refl, sym, ap, ap₂, subst, true≢false, is_eq}
 use Rattle.std.proofs.lemmas.Bool.{not-true, and_from}
 use Rattle.std.proofs.lemmas.Cmp.{tied_itself}
@@ -23,6 +23,7 @@ use Rattle.sqlite.specs.Kind.TheVariants as kind
 use Rattle.sqlite.specs.Rowids.TheVariants.{Given}
 use Rattle.sqlite.specs.Effect.{Database, IsDatabase}
 use Rattle.sqlite.specs.State.{State, Executes}
+use Rattle.room_records.specs.declared.session.SlotRow.{SlotRow}
 use Rattle.room_tables.specs.Tables.{Layout, Fresh, Upgraded, room_schema, slots_table, slots_tree, slots_place}
 use Rattle.room_tables.specs.Tables.{slots_index}
 use Rattle.room_tables.specs.Texts.{change_slot_text, change_slot_query, add_slot_text, add_slot_terms}
@@ -35,30 +36,25 @@ use Rattle.room_tables.proofs.Queries.{and_true}
 use Rattle.room_tables.proofs.Changes.{cast_null, cast_int}
 use Rattle.room_tables.proofs.Upserts.{PutInto}
 use Rattle.room_tables.proofs.Takes.{quiet}
-use Rattle.room_tables.proofs.Writes.{IsUpdate, Changes, edit, Updated, made_fits, changes_rows, adds_row}
+use Rattle.room_tables.proofs.Writes.{AtMostOne, IsUpdate, Changes, edit, Updated, made_fits, changes_rows, adds_row}
 
 abbrev pub slot_values : List ℕ → ℕ → ℕ → List ℕ → Option (List ℕ) → Row
 slot_values sid slot seq request reply =
     Text sid ∷ Int (pos slot) ∷ Int (pos seq) ∷ Blob request ∷ reply_value reply ∷ []
 
 -- the row of this slot, under some rowid, with a value that ties with the slot's number
-pub record IsSlot (sid : List ℕ) (slot seq : ℕ) (request : List ℕ) (reply : Option (List ℕ)) (r : Row) : Type 0 where
+pub record IsSlot (row : SlotRow) (r : Row) : Type 0 where
   pub rowid : ℤ
   pub number : Value
-  pub tied : value_cmp number (Int (pos slot)) ≡ Equal
-  pub is : r ≡ Int rowid ∷ Text sid ∷ number ∷ Int (pos seq) ∷ Blob request ∷ reply_value reply ∷ []
+  pub tied : value_cmp number (Int (pos row.slot)) ≡ Equal
+  pub is : r ≡ Int rowid ∷ Text row.sid ∷ number ∷ Int (pos row.kept.seq) ∷ Blob row.kept.request
+      ∷ reply_value row.kept.reply ∷ []
 
-pub its_slot : (sid : List ℕ) (slot seq : ℕ) (request : List ℕ) (reply : Option (List ℕ)) (r : Row)
-    → IsSlot sid slot seq request reply r → is_slot sid slot r ≡ true
-its_slot sid slot seq request reply r fits =
-    let name : has_text 1 sid r ≡ true = text_has 1 sid r (ap (λ (r : Row). column r 1) fits.is) in
-    let number : has 2 slot r ≡ true =
-    has_is 2 slot r ∙ ap (λ (r : Row). is_eq (value_cmp (column r 2) (Int (pos slot)))) fits.is ∙ ap is_eq fits.tied in
-    and_from _ _ name number
-
-its_rowid : (sid : List ℕ) (slot seq : ℕ) (request : List ℕ) (reply : Option (List ℕ)) (r : Row)
-    → IsSlot sid slot seq request reply r → is_int (rowid r) ≡ true
-its_rowid sid slot seq request reply r fits = ap (λ (r : Row). is_int (rowid r)) fits.is
+pub its_slot : (row : SlotRow) (r : Row) → IsSlot row r → is_slot row.sid row.slot r ≡ true
+its_slot row r fits =
+    let number : has 2 row.slot r ≡ true = has_is 2 row.slot r
+    ∙ ap (λ (r : Row). is_eq (value_cmp (column r 2) (Int (pos row.slot)))) fits.is ∙ ap is_eq fits.tied in
+    and_from _ _ (text_has 1 row.sid r (ap (λ (r : Row). column r 1) fits.is)) number
 
 -- ---- a session's name and a slot's number stand once together, by the rule UNIQUE
 
@@ -84,98 +80,95 @@ slot_once l db sid slot x y schema sound int_x int_y in_x in_y p q =
 
 -- ---- an UPDATE
 
-module _ (l : Layout) (sid : List ℕ) (slot seq : ℕ) (request : List ℕ) (reply : Option (List ℕ)) where
+module _ (l : Layout) (row : SlotRow) where
   abbrev tree : ℕ
   tree = slots_tree l
 
-  abbrev Fits : Row → Type 0
-  Fits = IsSlot sid slot seq request reply
+  abbrev is_its : Row → Bool
+  is_its = is_slot row.sid row.slot
 
   -- the slot's row was put
   abbrev pub PutsSlot : Database → Database → Type 0
-  PutsSlot old new = PutInto l old new (slots_tree l)
-      (IsSlot sid slot seq request reply) (λ r. is_slot sid slot r ≡ true)
+  PutsSlot old new = PutInto l old new (slots_tree l) (IsSlot row) (λ r. is_slot row.sid row.slot r ≡ true)
 
   abbrev values : Row
-  values = slot_values sid slot seq request reply
+  values = slot_values row.sid row.slot row.kept.seq row.kept.request row.kept.reply
 
   -- what the count of the rows that were changed tells: all is as it was, or the slot's row was put
   abbrev pub ChangesSlot : ℕ → Database → Database → Type 0
-  ChangesSlot = Changes l (slots_table l) (is_slot sid slot) (change_slot_query (slots_tree l)).filter
-      (change_slot_query (slots_tree l)).project (slot_values sid slot seq request reply)
-      (IsSlot sid slot seq request reply)
+  ChangesSlot = Changes l (slots_table l) (is_slot row.sid row.slot) (change_slot_query (slots_tree l)).filter
+      (change_slot_query (slots_tree l)).project
+      (slot_values row.sid row.slot row.kept.seq row.kept.request row.kept.reply) (IsSlot row)
 
-  fits : (r : Row) (id : ℤ) → rowid r ≡ Int id → is_slot sid slot r ≡ true
-      → Fits (rowid r ∷ cast kind.Text (column r 1) ∷ cast kind.Integer (column r 2) ∷ Int (pos seq) ∷ Blob request
-      ∷ reply_value reply ∷ [])
-  fits r id is met = record {
-    rowid = id;
-    number = cast kind.Integer (column r 2);
-    tied = cast_tied (column r 2) (pos slot) (has_value 2 slot r (second_of_both _ _ met));
-    is = ap₂ (λ v t. v ∷ t ∷ cast kind.Integer (column r 2) ∷ Int (pos seq) ∷ Blob request ∷ reply_value reply ∷ [])
-        is (ap (cast kind.Text) (has_text_value 1 sid r (first_of_both _ _ met)));
-  }
-
-  slot_update : IsUpdate l (slots_table l) (is_slot sid slot) (change_slot_query tree).filter
-      (change_slot_query tree).project values Fits
+  slot_update : IsUpdate l (slots_table l) is_its (change_slot_query tree).filter
+      (change_slot_query tree).project values (IsSlot row)
   slot_update = record {
     quiet = λ olds new news. (quiet l 0 olds (new ∷ news)).slots;
     idle = (quiet l 0 [] []).slots;
     here = slots_seen l;
-    test = λ r. ap (λ b. has_text 1 sid r && b) (and_true (has 2 slot r));
-    raw = λ r. rowid r ∷ column r 1 ∷ column r 2 ∷ Int (pos seq) ∷ Blob request ∷ reply_value reply ∷ [];
+    test = λ r. ap (λ b. has_text 1 row.sid r && b) (and_true (has 2 row.slot r));
+    raw = λ r. rowid r ∷ column r 1 ∷ column r 2 ∷ drop 2 values;
     reads = λ r. refl;
-    renewed = λ r. rowid r ∷ cast kind.Text (column r 1) ∷ cast kind.Integer (column r 2)
-        ∷ Int (pos seq) ∷ Blob request ∷ reply_value reply ∷ [];
-    casts = λ r id is. rw (is, cast_int id, cast_int (pos seq));
+    renewed = λ r. rowid r ∷ cast kind.Text (column r 1) ∷ cast kind.Integer (column r 2) ∷ drop 2 values;
+    casts = λ r id is. rw (is, cast_int id, cast_int (pos row.kept.seq));
     same_id = λ r. refl;
-    refits = fits;
+    refits = λ r id is met. record {
+      rowid = id;
+      number = cast kind.Integer (column r 2);
+      tied = cast_tied (column r 2) (pos row.slot) (has_value 2 row.slot r (second_of_both _ _ met));
+      is = ap₂ (λ v t. v ∷ t ∷ cast kind.Integer (column r 2) ∷ drop 2 values)
+          is (ap (cast kind.Text) (has_text_value 1 row.sid r (first_of_both _ _ met)));
+    };
   }
 
   -- one row is read at most: two would both stand under the slot's name and number then
   reads_one : (old new : Database) (count : ℕ) → IsKeyed (old.trees tree) → (rows : List Row)
-      → Updated l (slots_table l) (is_slot sid slot) _ _ values Fits slot_update old new count rows
-      → (a : Row) (more : List Row) → rows ≡ a ∷ more → more ≡ []
-  reads_one old new count keyed rows it a [] is = refl
-  reads_one old new count keyed rows it a (b ∷ more) is =
-      let e = edit l (slots_table l) (is_slot sid slot) (change_slot_query tree).filter (change_slot_query tree).project
-      values Fits old.trees rows in
-      let written = made_fits l (slots_table l) (is_slot sid slot) _ _ values Fits slot_update old new count rows
-      keyed it in
+      → Updated l (slots_table l) is_its _ _ values (IsSlot row) slot_update old new count rows → AtMostOne rows
+  reads_one old new count keyed [] it = tt
+  reads_one old new count keyed (a ∷ []) it = refl
+  reads_one old new count keyed (a ∷ b ∷ more) it =
+      let e = edit l (slots_table l) is_its (change_slot_query tree).filter (change_slot_query tree).project
+      values (IsSlot row) old.trees (a ∷ b ∷ more) in
+      let left = left_by old.trees e in
+      let written = made_fits l (slots_table l) is_its _ _ values (IsSlot row) slot_update old new count
+      (a ∷ b ∷ more) keyed it in
       let x = cast_row (slots_table l) (drop 1 a) in
       let y = cast_row (slots_table l) (drop 1 b) in
-      let p = written a (rw is (inl refl)) in
-      let q = written b (rw is (inr (inl refl))) in
-      let in_x : Has (new.trees tree) x = subst (λ all. Has all x) (sym it.step.rows)
-      (put_all_adds e.news (left_by old.trees e) x it.step.fresh (rw is (inl refl))) in
-      let in_y : Has (new.trees tree) y = subst (λ all. Has all y) (sym it.step.rows)
-      (put_all_adds e.news (left_by old.trees e) y it.step.fresh (rw is (inr (inl refl)))) in
-      let tie : value_cmp (rowid x) (rowid y) ≡ Equal = slot_once l new sid slot x y it.schema it.sound
-      (its_rowid _ _ _ _ _ x p) (its_rowid _ _ _ _ _ y q) in_x in_y
-      (its_slot _ _ _ _ _ x p) (its_slot _ _ _ _ _ y q) in
-      let fresh = (rw is at it.step.fresh) in
-      let free : is_taken (put_row x (left_by old.trees (edit_of old.trees (slots_table l) (ids_of (a ∷ b ∷ more)) Given 1
-      (a ∷ b ∷ more)))) y ≡ false = not-true _ (first_of_both _ _ (second_of_both _ _ fresh)) in
-      absurd (true≢false (sym (some_from (λ r. is_eq (value_cmp (rowid r) (rowid y))) _ x
-      (has_put x _) (ap is_eq tie)) ∙ free))
+      let p = written a (inl refl) in
+      let q = written b (inr (inl refl)) in
+      let in_x : Has (new.trees tree) x =
+      subst (λ all. Has all x) (sym it.step.rows) (put_all_adds e.news left x it.step.fresh (inl refl)) in
+      let in_y : Has (new.trees tree) y =
+      subst (λ all. Has all y) (sym it.step.rows) (put_all_adds e.news left y it.step.fresh (inr (inl refl))) in
+      let tie : value_cmp (rowid x) (rowid y) ≡ Equal = slot_once l new row.sid row.slot x y it.schema it.sound
+      (ap (λ (r : Row). is_int (rowid r)) p.is) (ap (λ (r : Row). is_int (rowid r)) q.is) in_x in_y
+      (its_slot row x p) (its_slot row y q) in
+      let free : is_taken (put_row x left) y ≡ false =
+      not-true _ (first_of_both _ _ (second_of_both _ _ it.step.fresh)) in
+      absurd (true≢false (sym (some_from (λ r. is_eq (value_cmp (rowid r) (rowid y))) (put_row x left) x
+      (has_put x left) (ap is_eq tie)) ∙ free))
 
   pub changes_slot : (old new : State) (count : ℕ) → old.now.schema ≡ room_schema l
       → IsKeyed (old.now.trees (slots_tree l))
-      → Executes change_slot_text (slot_values sid slot seq request reply) old new (Ok count)
-      → ChangesSlot count old.now new.now
+      → Executes change_slot_text (slot_values row.sid row.slot row.kept.seq row.kept.request row.kept.reply)
+      old new (Ok count) → ChangesSlot count old.now new.now
   changes_slot old new count schema keyed h =
-      changes_rows l (slots_table l) (is_slot sid slot) _ _ values Fits slot_update old new (slots_place l) count
-      change_slot_text (slots_placed l) (change_slot_means l) schema keyed
-      (reads_one old.now new.now count keyed) h
+      changes_rows l (slots_table l) is_its _ _ values (IsSlot row) slot_update old new (slots_place l) count
+      change_slot_text (slots_placed l) (change_slot_means l) schema keyed (reads_one old.now new.now count keyed) h
 
   -- ---- an INSERT
 
   pub adds_slot : (old new : State) (count : ℕ) → old.now.schema ≡ room_schema l
-      → Executes add_slot_text (slot_values sid slot seq request reply) old new (Ok count)
-      → PutsSlot old.now new.now
+      → Executes add_slot_text (slot_values row.sid row.slot row.kept.seq row.kept.request row.kept.reply)
+      old new (Ok count) → PutsSlot old.now new.now
   adds_slot old new count schema h =
       let id = next_rowid (old.now.trees tree) in
       adds_row l old new (slots_place l) (slots_table l) add_slot_terms 6 count add_slot_text values (Null ∷ values)
-      (Int id ∷ values) id Fits _ (slots_placed l) schema refl (add_slot_means l) (λ news. (quiet l 0 [] news).slots) refl
-      (rw (cast_null, cast_int (pos slot), cast_int (pos seq)) refl) refl
-      (record { rowid = id; number = Int (pos slot); tied = tied_itself value_cmp_total (Int (pos slot)); is = refl }) h
+      (Int id ∷ values) id (IsSlot row) _ (slots_placed l) schema refl (add_slot_means l)
+      (λ news. (quiet l 0 [] news).slots) refl
+      (rw (cast_null, cast_int (pos row.slot), cast_int (pos row.kept.seq)) refl) refl (record {
+        rowid = id;
+        number = Int (pos row.slot);
+        tied = tied_itself value_cmp_total (Int (pos row.slot));
+        is = refl;
+      }) h

@@ -81,7 +81,7 @@ module _ (l : Layout) (id : ℕ) (parent : Option ℕ) (name : List ℕ) (kind :
   abbrev stored : Row
   stored = stored_node id parent name kind owner group aclflag
 
-  node_update : IsUpdate l node_table (has 0 id) T.change_node_query.filter T.change_node_query.project params
+  pub node_update : IsUpdate l node_table (has 0 id) T.change_node_query.filter T.change_node_query.project params
       (λ r. r ≡ stored)
   node_update = record {
     quiet = node_quiet l;
@@ -102,13 +102,6 @@ module _ (l : Layout) (id : ℕ) (parent : Option ℕ) (name : List ℕ) (kind :
   ChangesNode = Changes l node_table (has 0 id) T.change_node_query.filter T.change_node_query.project
       (node_params id parent name kind owner group aclflag)
       (λ r. r ≡ stored_node id parent name kind owner group aclflag)
-
-  pub changes_node : (old new : State) (count : ℕ) → old.now.schema ≡ room_schema l → IsKeyed (old.now.trees 1)
-      → Executes T.change_node_text (node_params id parent name kind owner group aclflag) old new (Ok count)
-      → ChangesNode count old.now new.now
-  changes_node old new count schema keyed h =
-      changes_row l node_table id T.change_node_query.filter T.change_node_query.project params (λ r. r ≡ stored)
-      node_update old new 1 count T.change_node_text refl (change_node_means l) schema keyed h
 
   -- an INSERT alone adds the row, and no row had its number
   pub adds_node : (old new : State) (count : ℕ) (Met : Row → Type 0) → old.now.schema ≡ room_schema l
@@ -131,7 +124,7 @@ cast_doc id bytes = rw (cast_int (pos id), cast_null)
 abbrev pub doc_params : ℕ → List ℕ → Row
 doc_params id bytes = Int (pos id) ∷ Blob bytes ∷ []
 
-doc_update : (l : Layout) (id : ℕ) (bytes : List ℕ) → IsUpdate l doc_table (has 0 id) T.change_doc_query.filter
+pub doc_update : (l : Layout) (id : ℕ) (bytes : List ℕ) → IsUpdate l doc_table (has 0 id) T.change_doc_query.filter
     T.change_doc_query.project (doc_params id bytes) (λ r. r ≡ stored_doc id bytes)
 doc_update l id bytes = record {
   quiet = λ olds new news. (quiet l 0 olds (new ∷ news)).doc;
@@ -154,15 +147,6 @@ PutsDoc l id bytes old new = PutInto l old new 5 (λ r. r ≡ stored_doc id byte
 abbrev pub ChangesDoc : Layout → ℕ → List ℕ → ℕ → Database → Database → Type 0
 ChangesDoc l id bytes = Changes l doc_table (has 0 id) T.change_doc_query.filter T.change_doc_query.project
     (doc_params id bytes) (λ r. r ≡ stored_doc id bytes)
-
-pub changes_doc : (l : Layout) (old new : State) (id : ℕ) (bytes : List ℕ) (count : ℕ)
-    → old.now.schema ≡ room_schema l → IsKeyed (old.now.trees 5)
-    → Executes T.change_doc_text (doc_params id bytes) old new (Ok count)
-    → ChangesDoc l id bytes count old.now new.now
-changes_doc l old new id bytes count schema keyed h =
-    changes_row l doc_table id T.change_doc_query.filter T.change_doc_query.project (doc_params id bytes)
-    (λ r. r ≡ stored_doc id bytes) (doc_update l id bytes) old new 3 count T.change_doc_text refl
-    (change_doc_means l) schema keyed h
 
 pub adds_doc : (l : Layout) (old new : State) (id : ℕ) (bytes : List ℕ) (count : ℕ) → old.now.schema ≡ room_schema l
     → Executes T.add_doc_text (doc_params id bytes) old new (Ok count) → PutsDoc l id bytes old.now new.now

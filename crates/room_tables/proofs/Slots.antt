@@ -131,16 +131,12 @@ reply_back : (reply : Option (List ℕ)) → reply_in (reply_value reply) ≡ re
 reply_back None = refl
 reply_back (Some bytes) = refl
 
--- the row that was put is the slot's
-abbrev PutsRow : Layout → SlotRow → Database → Database → Type 0
-PutsRow l row = PutsSlot l row.sid row.slot row.kept.seq row.kept.request row.kept.reply
-
-steps_put : (old new : State) (row : SlotRow) (room : IsRoomDatabase old.now) → PutsRow room.layout row old.now new.now
+steps_put : (old new : State) (row : SlotRow) (room : IsRoomDatabase old.now) → PutsSlot room.layout row old.now new.now
     → Steps old new (apply_change (PutSlot row))
 steps_put old new row room done =
     let l = room.layout in
     let it = done.put in
-    let mine = its_slot row.sid row.slot row.kept.seq row.kept.request row.kept.reply it.row it.fits in
+    let mine = its_slot row it.row it.fits in
     let back : kept_of (shown_slot it.row) ≡ row.kept = ap (λ r. kept_of (shown_slot r)) it.fits.is
     ∙ (λ i. record row.kept { reply = reply_back row.kept.reply i }) in
     steps_slots old new room _ done.schema done.sound it.others (keyed_after it room.keyed.slots)
@@ -159,10 +155,9 @@ row_values row = slot_values row.sid row.slot row.kept.seq row.kept.request row.
 -- what an UPDATE leaves, by how many rows it changed
 changes_row : (old new : State) (row : SlotRow) (count : ℕ) (room : IsRoomDatabase old.now)
     → ExecutesInside 0 change_slot_text (row_values row) old new (Ok count)
-    → ChangesSlot room.layout row.sid row.slot row.kept.seq row.kept.request row.kept.reply count old.now new.now
+    → ChangesSlot room.layout row count old.now new.now
 changes_row old new row count room h =
-    changes_slot room.layout row.sid row.slot row.kept.seq row.kept.request row.kept.reply
-    old new count room.schema room.keyed.slots h.0
+    changes_slot room.layout row old new count room.schema room.keyed.slots h.0
 
 -- where it changed rows, the slot's row is put
 pub steps_change_slot : (old new : State) (row : SlotRow) (count : ℕ) → IsRoomDatabase old.now
@@ -177,8 +172,7 @@ pub steps_add_slot : (old mid new : State) (row : SlotRow) (count : ℕ) → IsR
     → Steps old new (apply_change (PutSlot row))
 steps_add_slot old mid new row count room none one =
     let a = steps_left _ old mid room (changes_row old mid row 0 room none).leaves in
-    steps_then a (steps_put mid new row a.room (adds_slot a.room.layout row.sid row.slot row.kept.seq row.kept.request
-    row.kept.reply mid new count a.room.schema one.0))
+    steps_then a (steps_put mid new row a.room (adds_slot a.room.layout row mid new count a.room.schema one.0))
 
 -- the rows of nodes stay as they are
 pub change_leaves_nodes : (old new : State) (row : SlotRow) (count : ℕ) → IsRoomDatabase old.now
@@ -193,6 +187,5 @@ pub add_leaves_nodes : (old mid new : State) (row : SlotRow) (count : ℕ) → I
 add_leaves_nodes old mid new row count room none one =
     let left = (changes_row old mid row 0 room none).leaves in
     let l = room.layout in
-    (adds_slot l row.sid row.slot row.kept.seq row.kept.request row.kept.reply mid new count left.schema
-    one.0).put.others.node (apart l 1 (omega arith))
+    (adds_slot l row mid new count left.schema one.0).put.others.node (apart l 1 (omega arith))
     ∙ left.others.node (apart l 1 (omega arith))

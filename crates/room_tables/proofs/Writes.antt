@@ -42,6 +42,10 @@ pub record Left (l : Layout) (old new : Database) (tree : ℕ) : Type 0 where
   pub tables : AllByRecursion (λ (t : Table). t.tree ≢ tree → new.trees t.tree ≡ old.trees t.tree)
       (room_schema l).tables
 
+abbrev pub AtMostOne : List Row → Type 0
+AtMostOne [] = Unit {0}
+AtMostOne (r ∷ more) = more ≡ []
+
 -- the parts of an UPDATE of the rows that pass a test: what it reads, and the row that it makes
 pub record IsUpdate (l : Layout) (table : Table) (p : Row → Bool) (terms project : List Term) (params : Row)
     (Fits : Row → Type 0) : Type 0 where
@@ -57,126 +61,126 @@ pub record IsUpdate (l : Layout) (table : Table) (p : Row → Bool) (terms proje
   pub same_id : (r : Row) → rowid (renewed r) ≡ rowid r
   pub refits : (r : Row) (i : ℤ) → rowid r ≡ Int i → p r ≡ true → Fits (renewed r)
 
-module _ (l : Layout) (table : Table) (p : Row → Bool) (terms project : List Term) (params : Row) (Fits : Row → Type 0)
-  where
-    -- what the count of the rows that were changed tells: all is as it was, or the row was put
-    abbrev pub Changes : ℕ → Database → Database → Type 0
-    Changes zero old new = Left l old new table.tree
-    Changes (suc n) old new = PutInto l old new table.tree Fits (λ r. p r ≡ true)
+module _ (l : Layout) (table : Table) (p : Row → Bool) (terms project : List Term) (params : Row)
+    (Fits : Row → Type 0) where
+  -- what the count of the rows that were changed tells: all is as it was, or the row was put
+  abbrev pub Changes : ℕ → Database → Database → Type 0
+  Changes zero old new = Left l old new table.tree
+  Changes (suc n) old new = PutInto l old new table.tree Fits (λ r. p r ≡ true)
 
-    abbrev query : Query
-    query = over_table table.tree terms project []
+  abbrev query : Query
+  query = over_table table.tree terms project []
 
-    abbrev pub edit : Trees → List Row → Edit
-    edit db rows = edit_of db table (ids_of rows) Given 1 rows
+  abbrev pub edit : Trees → List Row → Edit
+  edit db rows = edit_of db table (ids_of rows) Given 1 rows
 
-    module _ (it : IsUpdate l table p terms project params Fits) where
-      abbrev read_of : Row → Row
-      read_of r = rowid r ∷ it.raw r
+  module _ (it : IsUpdate l table p terms project params Fits) where
+    abbrev read_of : Row → Row
+    read_of r = rowid r ∷ it.raw r
 
-      -- no other row is changed with those that were read
-      still : (db : Trees) (rows : List Row)
-          → works (room_schema l) Enforced 0 table.tree (taken_by db (edit db rows)) (edit db rows).news ≡ []
-      still db [] = it.idle
-      still db (a ∷ more) = it.quiet (taken_by db (edit db (a ∷ more))) (cast_row table (drop 1 a))
-          (drop 1 (edit db (a ∷ more)).news)
+    -- no other row is changed with those that were read
+    still : (db : Trees) (rows : List Row)
+        → works (room_schema l) Enforced 0 table.tree (taken_by db (edit db rows)) (edit db rows).news ≡ []
+    still db [] = it.idle
+    still db (a ∷ more) = it.quiet (taken_by db (edit db (a ∷ more))) (cast_row table (drop 1 a))
+        (drop 1 (edit db (a ∷ more)).news)
 
-      -- the rows that the statement read, and what it made of them
-      pub record Updated (old new : Database) (count : ℕ) (rows : List Row) : Type 0 where
-        pub schema : new.schema ≡ room_schema l
-        pub sound : IsDatabase new
-        pub same : IsPermutation (map read_of (filter p (old.trees table.tree))) rows
-        pub counted : count ≡ length (edit old.trees rows).news
-        pub step : Applies (room_schema l) Enforced old.trees (edit old.trees rows) new.trees
+    -- the rows that the statement read, and what it made of them
+    pub record Updated (old new : Database) (count : ℕ) (rows : List Row) : Type 0 where
+      pub schema : new.schema ≡ room_schema l
+      pub sound : IsDatabase new
+      pub same : IsPermutation (map read_of (filter p (old.trees table.tree))) rows
+      pub counted : count ≡ length (edit old.trees rows).news
+      pub step : Applies (room_schema l) Enforced old.trees (edit old.trees rows) new.trees
 
-      reads_rows : (old new : State) (at count : ℕ) (text : List ℕ) → slice_get (room_schema l).tables at ≡ Some table
-          → Means (room_schema l) text (Update at (record { lets = []; body = query })) → old.now.schema ≡ room_schema l
-          → Executes text params old new (Ok count) → (rows : List Row) × Updated old.now new.now count rows
-      reads_rows old new at count text place means schema h =
-          let db = old.now.trees in
-          let ran = runs_as text params old new (room_schema l) schema _ means.0 means.1 count h in
-          let w = wrote l old new at table _ _ params count place schema ran ran.changed in
-          let read = went w.written in
-          let done = went read.2 in
-          let same = same_value done.2 in
-          let now : new.now.trees ≡ done.0 =
-          ap (λ (d : Database). d.trees) w.now ∙ ap (λ (x : Written). x.trees) same in
-          let picks = subst (λ all. Picks query params (passing terms params all) read.0) (it.here db)
-          (answer_is table.tree terms project [] (overlay db []) params read.0 (read.1.answer Null)) in (
-            read.0,
-            record {
-              schema = ap (λ (d : Database). d.schema) w.now;
-              sound = w.sound;
-              same = found query params (db table.tree) read.0 p read_of it.test it.reads picks;
-              counted = w.counted ∙ ap (λ (x : Written). length x.rows) same;
-              step = subst (Applies (room_schema l) Enforced db (edit db read.0)) (sym now)
-                  (one_step (room_schema l) Enforced db done.0 (edit db read.0) (still db read.0) done.1);
-            },
-          )
+    reads_rows : (old new : State) (at count : ℕ) (text : List ℕ) → slice_get (room_schema l).tables at ≡ Some table
+        → Means (room_schema l) text (Update at (record { lets = []; body = query })) → old.now.schema ≡ room_schema l
+        → Executes text params old new (Ok count) → (rows : List Row) × Updated old.now new.now count rows
+    reads_rows old new at count text place means schema h =
+        let db = old.now.trees in
+        let ran = runs_as text params old new (room_schema l) schema _ means.0 means.1 count h in
+        let w = wrote l old new at table _ _ params count place schema ran ran.changed in
+        let read = went w.written in
+        let done = went read.2 in
+        let same = same_value done.2 in
+        let now : new.now.trees ≡ done.0 =
+        ap (λ (d : Database). d.trees) w.now ∙ ap (λ (x : Written). x.trees) same in
+        let picks = subst (λ all. Picks query params (passing terms params all) read.0) (it.here db)
+        (answer_is table.tree terms project [] (overlay db []) params read.0 (read.1.answer Null)) in (
+          read.0,
+          record {
+            schema = ap (λ (d : Database). d.schema) w.now;
+            sound = w.sound;
+            same = found query params (db table.tree) read.0 p read_of it.test it.reads picks;
+            counted = w.counted ∙ ap (λ (x : Written). length x.rows) same;
+            step = subst (Applies (room_schema l) Enforced db (edit db read.0)) (sym now)
+                (one_step (room_schema l) Enforced db done.0 (edit db read.0) (still db read.0) done.1);
+          },
+        )
 
-      module _ (old new : Database) (count : ℕ) (rows : List Row) (keyed : IsKeyed (old.trees table.tree))
-          (u : Updated old new count rows) where
-        -- the row of the table that one of them was
-        read_from : (a : Row) → Has rows a → (r : Row) × Has (old.trees table.tree) r × (p r ≡ true) × (a ≡ read_of r)
-            × (rowid r ≡ Int (id_in (rowid r)))
-        read_from a h =
-            let r = shown_of read_of p (old.trees table.tree) rows u.same a h in
-            (r.0, r.1, r.2, r.3, int_is (rowid r.0) (all_has _ (old.trees table.tree) r.0 keyed.ints r.1))
+    module _ (old new : Database) (count : ℕ) (rows : List Row) (keyed : IsKeyed (old.trees table.tree))
+        (u : Updated old new count rows) where
+      -- the row of the table that one of them was
+      read_from : (a : Row) → Has rows a → (r : Row) × Has (old.trees table.tree) r × (p r ≡ true) × (a ≡ read_of r)
+          × (rowid r ≡ Int (id_in (rowid r)))
+      read_from a h =
+          let r = shown_of read_of p (old.trees table.tree) rows u.same a h in
+          (r.0, r.1, r.2, r.3, int_is (rowid r.0) (all_has _ (old.trees table.tree) r.0 keyed.ints r.1))
 
-        -- and what was made of it
-        pub made_fits : (a : Row) → Has rows a → Fits (cast_row table (drop 1 a))
-        made_fits a h =
-            let r = read_from a h in
-            subst Fits (sym (ap (λ x. cast_row table (drop 1 x)) r.3 ∙ it.casts r.0 _ r.4)) (it.refits r.0 _ r.4 r.2)
+      -- and what was made of it
+      pub made_fits : (a : Row) → Has rows a → Fits (cast_row table (drop 1 a))
+      made_fits a h =
+          let r = read_from a h in
+          subst Fits (sym (ap (λ x. cast_row table (drop 1 x)) r.3 ∙ it.casts r.0 _ r.4)) (it.refits r.0 _ r.4 r.2)
 
-        -- where rows that pass tie, one was read at most
-        pub read_once : ((x y : Row) → p x ≡ true → p y ≡ true → value_cmp (rowid x) (rowid y) ≡ Equal)
-            → (a : Row) (more : List Row) → rows ≡ a ∷ more → more ≡ []
-        read_once tie a more is =
-            let all = old.trees table.tree in
-            let r = read_from a (rw is (inl refl)) in
-            let alone = one_row p all r.0 keyed.table r.1 r.2 (λ x y _ _ m n. tie x y m n) in
-            ap (drop 1) (sym is ∙ one_permutation (read_of r.0) rows
-            (subst (λ l. IsPermutation (map read_of l) rows) alone u.same))
+    -- where rows that pass tie, one was read at most
+    pub read_once : (old new : Database) (count : ℕ) → IsKeyed (old.trees table.tree)
+        → ((x y : Row) → p x ≡ true → p y ≡ true → value_cmp (rowid x) (rowid y) ≡ Equal)
+        → (rows : List Row) → Updated old new count rows → AtMostOne rows
+    read_once old new count keyed tie [] u = tt
+    read_once old new count keyed tie (a ∷ more) u =
+        let all = old.trees table.tree in
+        let r = read_from old new count (a ∷ more) keyed u a (inl refl) in
+        let alone = one_row p all r.0 keyed.table r.1 r.2 (λ x y _ _ m n. tie x y m n) in
+        ap (drop 1) (one_permutation (read_of r.0) (a ∷ more)
+        (subst (λ l. IsPermutation (map read_of l) (a ∷ more)) alone u.same))
 
-      -- where one row is read at most, what was made of it is put in its place
-      counts : (old new : Database) (count : ℕ) (rows : List Row) → IsKeyed (old.trees table.tree)
-          → Updated old new count rows → ((a : Row) (more : List Row) → rows ≡ a ∷ more → more ≡ [])
-          → Changes count old new
-      counts old new count [] keyed u single = subst (λ n. Changes n old new) (sym u.counted) (record {
-        leaves = record {
+    -- where one row is read at most, what was made of it is put in its place
+    counts : (old new : Database) (count : ℕ) (rows : List Row) → IsKeyed (old.trees table.tree)
+        → Updated old new count rows → AtMostOne rows → Changes count old new
+    counts old new count [] keyed u single = subst (λ n. Changes n old new) (sym u.counted) (record {
+      leaves = record {
+        schema = u.schema;
+        sound = u.sound;
+        rows_are = u.step.rows;
+        others = others_of l table.tree old.trees new.trees u.step.tables;
+      };
+      tables = u.step.tables;
+    })
+    counts old new count (a ∷ more) keyed u single =
+        let all = old.trees table.tree in
+        let r = read_from old new count (a ∷ more) keyed u a (inl refl) in
+        let rows : a ∷ more ≡ read_of r.0 ∷ [] = ap₂ (λ x xs. x ∷ xs) r.3 single in
+        subst (λ n. Changes n old new) (sym u.counted) (record {
           schema = u.schema;
           sound = u.sound;
-          rows_are = u.step.rows;
-          others = others_of l table.tree old.trees new.trees u.step.tables;
-        };
-        tables = u.step.tables;
-      })
-      counts old new count (a ∷ more) keyed u single =
-          let all = old.trees table.tree in
-          let r = read_from old new count (a ∷ more) keyed u a (inl refl) in
-          let rows : a ∷ more ≡ read_of r.0 ∷ [] = ap₂ (λ x xs. x ∷ xs) r.3 (single a more refl) in
-          subst (λ n. Changes n old new) (sym u.counted) (record {
-            schema = u.schema;
-            sound = u.sound;
-            put = put_over l table old.trees new.trees (a ∷ more) r.0 (it.raw r.0) (it.renewed r.0) (id_in (rowid r.0))
-                Fits _ u.step rows (it.casts r.0 _ r.4) r.4 (it.same_id r.0 ∙ r.4) (it.refits r.0 _ r.4 r.2)
-                (λ other there mine.
-                let tie : value_cmp (rowid other) (rowid r.0) ≡ Equal =
-                ap (value_cmp (rowid other)) r.4 ∙ eq_is _ mine in
-                subst (λ x. p x ≡ true) (sym (tied_same all other r.0 keyed.table there r.1 tie)) r.2);
-          })
+          put = put_over l table old.trees new.trees (a ∷ more) r.0 (it.raw r.0) (it.renewed r.0) (id_in (rowid r.0))
+              Fits _ u.step rows (it.casts r.0 _ r.4) r.4 (it.same_id r.0 ∙ r.4) (it.refits r.0 _ r.4 r.2)
+              (λ other there mine.
+              let tie : value_cmp (rowid other) (rowid r.0) ≡ Equal =
+              ap (value_cmp (rowid other)) r.4 ∙ eq_is _ mine in
+              subst (λ x. p x ≡ true) (sym (tied_same all other r.0 keyed.table there r.1 tie)) r.2);
+        })
 
-      pub changes_rows : (old new : State) (at count : ℕ) (text : List ℕ)
-          → slice_get (room_schema l).tables at ≡ Some table
-          → Means (room_schema l) text (Update at (record { lets = []; body = over_table table.tree terms project [] }))
-          → old.now.schema ≡ room_schema l → IsKeyed (old.now.trees table.tree)
-          → ((rows : List Row) → Updated old.now new.now count rows
-          → (a : Row) (more : List Row) → rows ≡ a ∷ more → more ≡ [])
-          → Executes text params old new (Ok count) → Changes count old.now new.now
-      changes_rows old new at count text place means schema keyed single h =
-          let u = reads_rows old new at count text place means schema h in
-          counts old.now new.now count u.0 keyed u.1 (single u.0 u.1)
+    pub changes_rows : (old new : State) (at count : ℕ) (text : List ℕ)
+        → slice_get (room_schema l).tables at ≡ Some table
+        → Means (room_schema l) text (Update at (record { lets = []; body = over_table table.tree terms project [] }))
+        → old.now.schema ≡ room_schema l → IsKeyed (old.now.trees table.tree)
+        → ((rows : List Row) → Updated old.now new.now count rows → AtMostOne rows)
+        → Executes text params old new (Ok count) → Changes count old.now new.now
+    changes_rows old new at count text place means schema keyed single h =
+        let u = reads_rows old new at count text place means schema h in
+        counts old.now new.now count u.0 keyed u.1 (single u.0 u.1)
 
 -- an UPDATE of the row with a number: rowids differ, so that one is read at most
 pub changes_row : (l : Layout) (table : Table) (id : ℕ) (terms project : List Term) (params : Row)
@@ -187,8 +191,7 @@ pub changes_row : (l : Layout) (table : Table) (id : ℕ) (terms project : List 
     → Changes l table (has 0 id) terms project params Fits count old.now new.now
 changes_row l table id terms project params Fits it old new at count text place means schema keyed h =
     changes_rows l table (has 0 id) terms project params Fits it old new at count text place means schema keyed
-    (λ rows u. read_once l table (has 0 id) terms project params Fits it old.now new.now count rows keyed u
-    (has_tied 0 id)) h
+    (read_once l table (has 0 id) terms project params Fits it old.now new.now count keyed (has_tied 0 id)) h
 
 -- an INSERT of one row with a rowid of its own, which no row had
 pub adds_row : (l : Layout) (old new : State) (at : ℕ) (table : Table) (terms : List Term) (width count : ℕ)
