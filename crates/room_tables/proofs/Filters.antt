@@ -112,12 +112,6 @@ rows_gone f place id q was is e = elim (cases_eq q id) [
       ∙ others_left (has place id) (has place q) was (λ r h. not_both place id q r apart h)))
 ]
 
-pub through : {X Y : Type 0} (f : X → Y) (b : Bool) (x y : X) → f (cond b x y) ≡ cond b (f x) (f y)
-through f true x y = refl
-through f false x y = refl
-
--- ---- a row in the place of the one with its number
-
 module _ {l : Layout} {tree : ℕ} {db next : Trees} {Fits Met : Row → Type 0} (it : Put l tree db next Fits Met) where
   -- what is read of the rows with a number
   pub filter_put : {X : Type 0} (f : List Row → X) (id q : ℕ) → it.id ≡ pos id

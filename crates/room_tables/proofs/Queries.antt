@@ -111,29 +111,6 @@ picked schema old new sql params tree terms project order names rows has means h
     subst (λ all. Picks (over_table tree terms project order) params (passing terms params all) rows) here
     (answer_is tree terms project order (overlay old.now.trees []) params rows (read.answer Null))
 
--- the rows that pass a test are shown, in some order
-pub found : (q : Query) (params : Row) (all rows : List Row) (p : Row → Bool) (show : Row → Row)
-    → ((r : Row) → list_all (holds (params ∷ r ∷ [])) q.filter ≡ p r)
-    → ((r : Row) → eval_all q.project (params ∷ r ∷ []) ≡ show r)
-    → Picks q params (passing q.filter params all) rows → IsPermutation (map show (filter p all)) rows
-found q params all rows p show test shows k =
-    let passed : passing q.filter params all ≡ filter p all = filter_same _ p test all in
-    let is = map-map (λ (o : Output). o.1) (λ r. output q (params ∷ r ∷ [])) (passing q.filter params all)
-    ∙ map_same _ show shows (passing q.filter params all) ∙ ap (map show) passed in
-    subst₂ IsPermutation is (sym k.is) (IsPermutation-map (λ (o : Output). o.1) _ _ k.same)
-
--- so it is where the text has no ORDER BY
-pub asked : (schema : Schema) (old new : State) (sql : List ℕ) (params : Row) (tree : ℕ) (terms project : List Term)
-    (names : List (List ℕ)) (rows : List Row) (p : Row → Bool) (show : Row → Row)
-    → old.now.schema ≡ schema → IsQuery schema sql (over_table tree terms project []) names
-    → overlay old.now.trees [] tree ≡ old.now.trees tree
-    → ((r : Row) → list_all (holds (params ∷ r ∷ [])) terms ≡ p r)
-    → ((r : Row) → eval_all project (params ∷ r ∷ []) ≡ show r) → Shown sql params old new rows
-    → IsPermutation (map show (filter p (old.now.trees tree))) rows
-asked schema old new sql params tree terms project names rows p show has means here test shows h =
-    found (over_table tree terms project []) params (old.now.trees tree) rows p show test shows
-    (picked schema old new sql params tree terms project [] names rows has means here h)
-
 -- two comparisons in turn
 pub first_tie : (a b : Ordering) → ordering_then a b ≡ Equal → (a ≡ Equal) × (b ≡ Equal)
 first_tie a b h = grind (arith, common_steps)
@@ -178,6 +155,28 @@ arranged q params all rows p key show test shows k =
       ascending_from_map R out moved.0 (subst (IsAscending R) moved.2 up),
       k.is ∙ ap (map (λ (o : Output). o.1)) moved.2 ∙ map-map (λ (o : Output). o.1) out moved.0,
     )
+
+-- so they are shown, in some order
+pub found : (q : Query) (params : Row) (all rows : List Row) (p : Row → Bool) (show : Row → Row)
+    → ((r : Row) → list_all (holds (params ∷ r ∷ [])) q.filter ≡ p r)
+    → ((r : Row) → eval_all q.project (params ∷ r ∷ []) ≡ show r)
+    → Picks q params (passing q.filter params all) rows → IsPermutation (map show (filter p all)) rows
+found q params all rows p show test shows k =
+    let key = λ (r : Row). eval_all (map (λ k. k.0) q.order) (params ∷ r ∷ []) in
+    let it = arranged q params all rows p key show test (λ r. ap (λ s. (key r, s)) (shows r)) k in
+    rw it.3 (IsPermutation-map show _ _ it.1)
+
+-- what a text over one table that has no ORDER BY shows
+pub asked : (schema : Schema) (old new : State) (sql : List ℕ) (params : Row) (tree : ℕ) (terms project : List Term)
+    (names : List (List ℕ)) (rows : List Row) (p : Row → Bool) (show : Row → Row)
+    → old.now.schema ≡ schema → IsQuery schema sql (over_table tree terms project []) names
+    → overlay old.now.trees [] tree ≡ old.now.trees tree
+    → ((r : Row) → list_all (holds (params ∷ r ∷ [])) terms ≡ p r)
+    → ((r : Row) → eval_all project (params ∷ r ∷ []) ≡ show r) → Shown sql params old new rows
+    → IsPermutation (map show (filter p (old.now.trees tree))) rows
+asked schema old new sql params tree terms project names rows p show has means here test shows h =
+    found (over_table tree terms project []) params (old.now.trees tree) rows p show test shows
+    (picked schema old new sql params tree terms project [] names rows has means here h)
 
 -- Where ORDER BY names just what is shown, the answer is in the one order, if rows that tie are equal.
 pub listed : (q : Query) (params : Row) (all rows : List Row) (p : Row → Bool) (show : Row → Row) (P : Row → Type 0)

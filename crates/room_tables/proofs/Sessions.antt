@@ -27,7 +27,7 @@ use Rattle.room_tables.proofs.Removed.{one_row}
 use Rattle.room_tables.proofs.Queries.{and_true}
 use Rattle.room_tables.proofs.Upserts.{Put}
 use Rattle.room_tables.proofs.Puts.{IsSession, stored_session, puts_session}
-use Rattle.room_tables.proofs.Filters.{filter_apart, has_row, keyed_after, through}
+use Rattle.room_tables.proofs.Filters.{filter_apart, has_row, keyed_after}
 use Rattle.room_tables.proofs.Effects.{same_records, steps_at}
 
 agree_on : (sid : List ℕ) (x y : Row) → has_text 1 sid x ≡ true
@@ -45,17 +45,19 @@ session_once l db sid x y schema sound keyed in_x in_y p q =
 
 -- ---- the row in the place of the one with its name
 
-filter_session : (l : Layout) (sid q : List ℕ) (old new : Database) (Fits : Row → Type 0)
+-- what is read of the rows with a name
+filter_session : {X : Type 0} (f : List Row → X) (l : Layout) (sid q : List ℕ) (old new : Database) (Fits : Row → Type 0)
     (it : Put l 6 old.trees new.trees Fits (λ r. has_text 1 sid r ≡ true))
     → has_text 1 sid it.row ≡ true → new.schema ≡ room_schema l → IsDatabase new → IsKeyed (old.trees 6)
-    → filter (has_text 1 q) (new.trees 6) ≡ cond (bytes_eq q sid) (it.row ∷ []) (filter (has_text 1 q) (old.trees 6))
-filter_session l sid q old new Fits it mine schema sound keyed = elim (cases_Bool (bytes_eq q sid)) [
+    → f (filter (has_text 1 q) (new.trees 6))
+    ≡ cond (bytes_eq q sid) (f (it.row ∷ [])) (f (filter (has_text 1 q) (old.trees 6)))
+filter_session f l sid q old new Fits it mine schema sound keyed = elim (cases_Bool (bytes_eq q sid)) [
   | inl same ↦
       let is : q ≡ sid = (bytes_eq-Decides q sid).0 same in
       let table = keyed_after it keyed in
-      rw (same, is) (one_row (has_text 1 sid) (new.trees 6) it.row table.table (has_row it) mine
-      (λ x y a b p h. session_once l new sid x y schema sound table a b p h))
-  | inr differs ↦ rw differs (filter_apart it (has_text 1 q) (apart differs it.row mine) (apart differs))
+      rw (same, is) (ap f (one_row (has_text 1 sid) (new.trees 6) it.row table.table (has_row it) mine
+      (λ x y a b p h. session_once l new sid x y schema sound table a b p h)))
+  | inr differs ↦ rw differs (ap f (filter_apart it (has_text 1 q) (apart differs it.row mine) (apart differs)))
 ]
   where
     apart : bytes_eq q sid ≡ false → (r : Row) → has_text 1 sid r ≡ true → has_text 1 q r ≡ false
@@ -81,10 +83,8 @@ steps_session old new row count room h =
     let mine : has_text 1 row.sid it.row ≡ true = text_has 1 row.sid it.row (ap (λ (r : Row). column r 1) it.fits.1) in
     steps_at 6 old new room _ (omega arith) done.schema done.sound it.others (keyed_after it room.keyed.session)
     room.numbered (λ v. v) (same_records _ _ (λ _. refl) (λ _. refl) (λ _. refl) refl
-    (λ sid. ap (λ rows. option_map (session_of sid) (only (map shown_session rows)))
-    (filter_session room.layout row.sid sid old.now new.now _ it mine done.schema done.sound room.keyed.session)
-    ∙ through (λ rows. option_map (session_of sid) (only (map shown_session rows)))
-    (bytes_eq sid row.sid) (it.row ∷ []) (filter (has_text 1 sid) (old.now.trees 6)) ∙ found sid it.row it.fits)
+    (λ sid. filter_session (λ rows. option_map (session_of sid) (only (map shown_session rows))) room.layout row.sid sid
+    old.now new.now _ it mine done.schema done.sound room.keyed.session ∙ found sid it.row it.fits)
     (λ _ _. refl))
   where
     found : (sid : List ℕ) (r : Row) → IsSession row.sid row.owner row.slots (flag_of row.is_open) r

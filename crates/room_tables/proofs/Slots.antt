@@ -31,7 +31,7 @@ use Rattle.room_tables.proofs.Changes.{Others, without}
 use Rattle.room_tables.proofs.Upserts.{Put}
 use Rattle.room_tables.proofs.Kept.{slot_values, its_slot, slot_once, PutsSlot, ChangesSlot, changes_slot, adds_slot}
 use Rattle.room_tables.proofs.Takes.{drops_slots}
-use Rattle.room_tables.proofs.Filters.{filter_apart, has_row, through, none_left, others_left, keyed_filter}
+use Rattle.room_tables.proofs.Filters.{filter_apart, has_row, none_left, others_left, keyed_filter}
 use Rattle.room_tables.proofs.Filters.{keyed_after, still_room, version_stays}
 use Rattle.room_tables.proofs.Effects.{same_records, read, steps_then, steps_left}
 
@@ -108,23 +108,23 @@ steps_drop_slots old new sid count room h =
 
 -- ---- a row is put: its session's name and its number stand once together, by the rule UNIQUE
 
-filter_slot : (l : Layout) (sid q : List ℕ) (slot n : ℕ) (old new : Database) (Fits : Row → Type 0)
+filter_slot : {X : Type 0} (f : List Row → X) (l : Layout) (sid q : List ℕ) (slot n : ℕ) (old new : Database) (Fits : Row → Type 0)
     (it : Put l (slots_tree l) old.trees new.trees Fits (λ r. is_slot sid slot r ≡ true))
     → is_slot sid slot it.row ≡ true → new.schema ≡ room_schema l → IsDatabase new → IsKeyed (old.trees (slots_tree l))
-    → filter (is_slot q n) (new.trees (slots_tree l))
-    ≡ cond (bytes_eq q sid && (n == slot)) (it.row ∷ []) (filter (is_slot q n) (old.trees (slots_tree l)))
-filter_slot l sid q slot n old new Fits it mine schema sound keyed =
+    → f (filter (is_slot q n) (new.trees (slots_tree l)))
+    ≡ cond (bytes_eq q sid && (n == slot)) (f (it.row ∷ [])) (f (filter (is_slot q n) (old.trees (slots_tree l))))
+filter_slot f l sid q slot n old new Fits it mine schema sound keyed =
     elim (cases_Bool (bytes_eq q sid && (n == slot))) [
       | inl same ↦
           let names = names_same sid q slot n same in
           let rows = new.trees (slots_tree l) in
           let table = keyed_after it keyed in
-          rw same (ap₂ (λ s m. filter (is_slot s m) rows) names.0 names.1
+          rw same (ap f (ap₂ (λ s m. filter (is_slot s m) rows) names.0 names.1
           ∙ one_row (is_slot sid slot) rows it.row table.table (has_row it) mine
           (λ x y a b p h. slot_once l new sid slot x y schema sound
-          (all_has _ rows x table.ints a) (all_has _ rows y table.ints b) a b p h))
-      | inr differs ↦ rw differs (filter_apart it (is_slot q n) (slots_apart sid q slot n differs it.row mine)
-          (slots_apart sid q slot n differs))
+          (all_has _ rows x table.ints a) (all_has _ rows y table.ints b) a b p h)))
+      | inr differs ↦ rw differs (ap f (filter_apart it (is_slot q n) (slots_apart sid q slot n differs it.row mine)
+          (slots_apart sid q slot n differs)))
     ]
 
 reply_back : (reply : Option (List ℕ)) → reply_in (reply_value reply) ≡ reply
@@ -142,10 +142,7 @@ steps_put old new row room done =
     steps_slots old new room _ done.schema done.sound it.others (keyed_after it room.keyed.slots)
     (same_records _ _ (λ _. refl) (λ _. refl) (λ _. refl) refl (λ _. refl)
     (λ q n. ap (λ rows. slots_in rows q n) (slots_listed new.now l done.sound done.schema)
-    ∙ ap kept_in (filter_slot l row.sid q row.slot n old.now new.now _ it mine
-    done.schema done.sound room.keyed.slots)
-    ∙ through kept_in (bytes_eq q row.sid && (n == row.slot)) (it.row ∷ [])
-    (filter (is_slot q n) (old.now.trees (slots_tree l)))
+    ∙ filter_slot kept_in l row.sid q row.slot n old.now new.now _ it mine done.schema done.sound room.keyed.slots
     ∙ ap₂ (λ kept rows. cond (bytes_eq q row.sid && (n == row.slot)) (Some kept) (slots_in rows q n)) back
     (sym room.listed)))
 
