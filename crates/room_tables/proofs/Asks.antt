@@ -1,102 +1,67 @@
 -- What the queries answer.
 use Rattle.std.proofs.Common.{◌≡◌, ℕ, pos, Bool, true, ◌&&◌, List, [], ◌∷◌, length, map, filter}
 use Rattle.std.proofs.Common.{Some, option_map, refl, sym, ap, subst, ◌∙◌, IsPermutation}
-use Rattle.std.proofs.Common.{IsSorted}
 use Rattle.std.specs.List.{AllByRecursion, list_all, AllZip}
-use Rattle.std.proofs.lemmas.List.Sorted.{length_permutation}
+use Rattle.std.proofs.lemmas.List.Sorted.{length_permutation, IsPermutation-map}
 use Rattle.std.proofs.lemmas.List.{length-map}
+use Rattle.std.proofs.lemmas.Option.{same_Some}
 use Rattle.sqlite_value.specs.declared.value.Value.TheVariants.{Null, Int, Text}
 use Rattle.sqlite_value.specs.Order.{Row, column}
 use Rattle.sqlite_trees.specs.Tree.{Trees, IsAscending}
 use Rattle.sqlite_sql.specs.Ops.{unary}
 use Rattle.sqlite_sql.specs.Term.{Term, Env, eval_all, holds}
-use Rattle.sqlite_sql.specs.Query.{IsAnswer, Output, output, key_cmp}
+use Rattle.sqlite_sql.specs.Query.{IsAnswer, Output, output}
 use Rattle.sqlite_sql.specs.Group.{value_over, IsSummary}
-use Rattle.sqlite_sql.proofs.QueryLemmas.{key_cmp_total}
 use Rattle.sqlite_sql.specs.Program.{overlay}
-use Rattle.sqlite_keyed.proofs.ListLemmas.{filter_same, ascending_from_map}
+use Rattle.sqlite_keyed.proofs.ListLemmas.{filter_same, ascending-map}
 use Rattle.sqlite.specs.State.{State, Shown}
 use Rattle.sqlite.proofs.Callers.{reads_as, one_permutation}
 use Rattle.sqlite.specs.Table.{Table}
 use Rattle.sqlite_schema.specs.declared.schema.Index.{Index}
+use Rattle.room_tables.specs.Texts as T
 use Rattle.room_tables.specs.Tables.{room_schema, with_last, slots_tree}
 use Rattle.room_tables.specs.Layout.{IsRoomDatabase}
 use Rattle.room_tables.proofs.Each.{slots_seen}
-use Rattle.room_tables.specs.Texts.{find_node_text, find_node_query, find_child_text, find_child_query}
-use Rattle.room_tables.specs.Texts.{list_children_text, list_children_query, count_children_text, count_children_query}
-use Rattle.room_tables.specs.Texts.{counted, all_rows, list_entries_text, list_entries_query, find_doc_text}
-use Rattle.room_tables.specs.Texts.{find_doc_query, find_session_text, find_session_query, find_slot_text}
-use Rattle.room_tables.specs.Texts.{find_slot_query, find_next_text, find_next_query, find_version_text}
-use Rattle.room_tables.specs.Texts.{find_version_query, find_seq_text, find_seq_query, find_size_text, find_size_query}
 use Rattle.room_tables.specs.Rows.{has, has_text, is_child_named, is_slot, shown_node, node_rows, named_rows}
 use Rattle.room_tables.specs.Rows.{child_rows, shown_entry, entry_rows, IsEntryRow, HasEntryColumns, shown_doc}
 use Rattle.room_tables.specs.Rows.{doc_rows, shown_session, session_rows, shown_slot, slot_rows, shown_next, next_rows}
 use Rattle.room_tables.specs.Rows.{shown_version, version_rows, IsVersion, shown_seq, seq_rows, shown_size, size_rows}
 use Rattle.room_tables.specs.Versions.{TellsVersion}
-use Rattle.room_tables.proofs.Meaning.{find_node_is, find_node_plain, find_child_is, find_child_plain, list_children_is}
-use Rattle.room_tables.proofs.Meaning.{list_children_plain, count_children_is, count_children_plain, list_entries_is}
-use Rattle.room_tables.proofs.Meaning.{list_entries_plain, find_doc_is, find_doc_plain, find_session_is}
-use Rattle.room_tables.proofs.Meaning.{find_session_plain, find_slot_is, find_slot_plain, find_next_is, find_next_plain}
-use Rattle.room_tables.proofs.Meaning.{find_version_is, find_version_plain, find_seq_is, find_seq_plain}
-use Rattle.room_tables.proofs.Meaning.{find_size_is, find_size_plain}
-use Rattle.room_tables.specs.Names.{name_keys, name_key, ByName, counted_row}
-use Rattle.room_tables.proofs.Queries.{passing, and_true, picked, found, listed, envs_are, sorted_keys}
+use Rattle.room_tables.proofs.Meaning.{find_node_means, find_child_means, list_children_means, count_children_means}
+use Rattle.room_tables.proofs.Meaning.{list_entries_means, find_doc_means, find_size_means, find_session_means}
+use Rattle.room_tables.proofs.Meaning.{find_slot_means, find_seq_means, find_next_means, find_version_means}
+use Rattle.room_tables.specs.Names.{ByName, counted_row}
+use Rattle.room_tables.proofs.Queries.{passing, and_true, picked, found, asked, arranged, listed, envs_are}
 use Rattle.room_tables.proofs.Queries.{only_permuted}
 use Rattle.sqlite_rules.proofs.ListLemmas.{all_has, all_from}
 use Rattle.sqlite_rules.proofs.ProbeLemmas.{has_mapped}
 use Rattle.room_tables.proofs.Removed.{has_permuted}
-use Rattle.room_tables.proofs.Sorted.{ascending_from_sorted, all_permutation}
 use Rattle.room_tables.proofs.Placed.{exact_entries}
 
 pub asks_node : (old new : State) (id : ℕ) (rows : List Row) → IsRoomDatabase old.now
-    → Shown find_node_text (Int (pos id) ∷ []) old new rows → IsPermutation (node_rows old.now.trees id) rows
+    → Shown T.find_node_text (Int (pos id) ∷ []) old new rows → IsPermutation (node_rows old.now.trees id) rows
 asks_node old new id rows room h =
-    found find_node_query (Int (pos id) ∷ []) (old.now.trees 1) rows
-    (has 0 id) shown_node (λ r. and_true (has 0 id r)) (λ r. refl)
-    (picked (room_schema room.layout) old new find_node_text _ 1 _ _ [] _ rows room.schema (find_node_is room.layout)
-    (find_node_plain room.layout) refl h)
+    asked (room_schema room.layout) old new T.find_node_text (Int (pos id) ∷ []) 1 _ _ _ rows (has 0 id) shown_node
+    room.schema (find_node_means room.layout) refl (λ r. and_true (has 0 id r)) (λ r. refl) h
 
 pub asks_child : (old new : State) (parent : ℕ) (name : List ℕ) (rows : List Row)
-    → IsRoomDatabase old.now → Shown find_child_text (Int (pos parent) ∷ Text name ∷ []) old new rows
+    → IsRoomDatabase old.now → Shown T.find_child_text (Int (pos parent) ∷ Text name ∷ []) old new rows
     → IsPermutation (named_rows old.now.trees parent name) rows
 asks_child old new parent name rows room h =
-    found find_child_query (Int (pos parent) ∷ Text name ∷ []) (old.now.trees 1) rows (is_child_named parent name)
-    shown_node (λ r. ap (λ b. has 2 parent r && b) (and_true (has_text 3 name r))) (λ r. refl)
-    (picked (room_schema room.layout) old new find_child_text _ 1 _ _ [] _ rows room.schema (find_child_is room.layout)
-    (find_child_plain room.layout) refl h)
-
-abbrev named_output : Row → Output
-named_output r = (column r 3 ∷ [], shown_node r)
-
-keys_are : (os : List Output) → AllByRecursion (λ (o : Output). o.0 ≡ name_key o.1) os
-    → map (λ (o : Output). o.0) os ≡ map name_key (map (λ (o : Output). o.1) os)
-keys_are [] all = refl
-keys_are (o ∷ os) all = Rattle.std.proofs.Common.ap₂ (λ a l. a ∷ l) all.0 (keys_are os all.1)
-
-named_parts : (rows : List Row) → AllByRecursion (λ (o : Output). o.0 ≡ name_key o.1) (map named_output rows)
-named_parts [] = tt
-named_parts (r ∷ rows) = (refl, named_parts rows)
+    asked (room_schema room.layout) old new T.find_child_text (Int (pos parent) ∷ Text name ∷ []) 1 _ _ _ rows
+    (is_child_named parent name) shown_node room.schema (find_child_means room.layout) refl
+    (λ r. ap (λ b. has 2 parent r && b) (and_true (has_text 3 name r))) (λ r. refl) h
 
 pub asks_children : (old new : State) (parent : ℕ) (rows : List Row)
-    → IsRoomDatabase old.now → Shown list_children_text (Int (pos parent) ∷ []) old new rows
+    → IsRoomDatabase old.now → Shown T.list_children_text (Int (pos parent) ∷ []) old new rows
     → IsPermutation (child_rows old.now.trees parent) rows × IsAscending ByName rows
 asks_children old new parent rows room h =
     let params = Int (pos parent) ∷ [] in
-    let k = picked (room_schema room.layout) old new list_children_text params 1 _ _ list_children_query.order
-    _ rows room.schema (list_children_is room.layout) (list_children_plain room.layout) refl h in
-    let passed : passing list_children_query.filter params (old.now.trees 1) ≡ filter (has 2 parent) (old.now.trees 1) =
-    filter_same _ (has 2 parent) (λ r. and_true (has 2 parent r)) (old.now.trees 1) in
-    let same : IsPermutation (map named_output (filter (has 2 parent) (old.now.trees 1))) k.ordered =
-    subst (λ l. IsPermutation (map named_output l) k.ordered) passed k.same in
-    let parts = all_permutation _ _ _ same (named_parts (filter (has 2 parent) (old.now.trees 1))) in
-    let keys : map (λ (o : Output). o.0) k.ordered ≡ map name_key rows =
-    keys_are k.ordered parts ∙ ap (map name_key) (sym k.is) in
-    let sorted = subst (IsSorted (key_cmp 0 name_keys)) keys (sorted_keys name_keys k.ordered k.sorted) in
-    let up = ascending_from_sorted (key_cmp 0 name_keys) (key_cmp_total name_keys 0) (map name_key rows) sorted in (
-      found list_children_query params (old.now.trees 1) rows (has 2 parent) shown_node
-          (λ r. and_true (has 2 parent r)) (λ r. refl) k,
-      ascending_from_map _ name_key rows up,
-    )
+    let k = picked (room_schema room.layout) old new T.list_children_text params 1 _ _ T.list_children_query.order
+    _ rows room.schema (list_children_means room.layout) refl h in
+    let it = arranged T.list_children_query params (old.now.trees 1) rows (has 2 parent) (λ r. column r 3 ∷ []) shown_node
+    (λ r. and_true (has 2 parent r)) (λ r. refl) k in
+    rw it.3 (IsPermutation-map shown_node _ _ it.1, ascending-map ByName shown_node it.0 it.2)
 
 entry_typed : (found rows : List Row) → IsPermutation (map shown_entry found) rows
     → AllByRecursion HasEntryColumns rows → AllByRecursion IsEntryRow rows
@@ -119,80 +84,68 @@ entry_typed found rows same typed = all_from IsEntryRow rows (λ r h.
 
 pub asks_entries : (old new : State) (id : ℕ) (rows : List Row)
     → IsRoomDatabase old.now → AllByRecursion HasEntryColumns rows
-    → Shown list_entries_text (Int (pos id) ∷ []) old new rows → rows ≡ entry_rows old.now.trees id
+    → Shown T.list_entries_text (Int (pos id) ∷ []) old new rows → rows ≡ entry_rows old.now.trees id
 asks_entries old new id rows room typed h =
-    let k = picked (room_schema room.layout) old new list_entries_text (Int (pos id) ∷ []) 3 _ _
-    list_entries_query.order _ rows room.schema (list_entries_is room.layout) (list_entries_plain room.layout) refl h in
-    let same = found list_entries_query (Int (pos id) ∷ []) (old.now.trees 3)
+    let k = picked (room_schema room.layout) old new T.list_entries_text (Int (pos id) ∷ []) 3 _ _
+    T.list_entries_query.order _ rows room.schema (list_entries_means room.layout) refl h in
+    let same = found T.list_entries_query (Int (pos id) ∷ []) (old.now.trees 3)
     rows (has 1 id) shown_entry (λ r. and_true (has 1 id r)) (λ r. refl) k in
-    listed list_entries_query (Int (pos id) ∷ []) (old.now.trees 3) rows (has 1 id) shown_entry IsEntryRow
+    listed T.list_entries_query (Int (pos id) ∷ []) (old.now.trees 3) rows (has 1 id) shown_entry IsEntryRow
     (λ r. and_true (has 1 id r)) (λ r. refl) exact_entries (entry_typed _ rows same typed) k
 
 pub asks_doc : (old new : State) (id : ℕ) (rows : List Row) → IsRoomDatabase old.now
-    → Shown find_doc_text (Int (pos id) ∷ []) old new rows → IsPermutation (doc_rows old.now.trees id) rows
+    → Shown T.find_doc_text (Int (pos id) ∷ []) old new rows → IsPermutation (doc_rows old.now.trees id) rows
 asks_doc old new id rows room h =
-    found find_doc_query (Int (pos id) ∷ []) (old.now.trees 5) rows
-    (has 0 id) shown_doc (λ r. and_true (has 0 id r)) (λ r. refl)
-    (picked (room_schema room.layout) old new find_doc_text _ 5 _ _ [] _ rows room.schema (find_doc_is room.layout)
-    (find_doc_plain room.layout) refl h)
+    asked (room_schema room.layout) old new T.find_doc_text (Int (pos id) ∷ []) 5 _ _ _ rows (has 0 id) shown_doc
+    room.schema (find_doc_means room.layout) refl (λ r. and_true (has 0 id r)) (λ r. refl) h
 
-size_is : (id : ℕ) (r : Row) → eval_all find_size_query.project ((Int (pos id) ∷ []) ∷ r ∷ []) ≡ shown_size r
+size_is : (id : ℕ) (r : Row) → eval_all T.find_size_query.project ((Int (pos id) ∷ []) ∷ r ∷ []) ≡ shown_size r
 unfolding unary
 size_is id r = refl
 
 pub asks_size : (old new : State) (id : ℕ) (rows : List Row) → IsRoomDatabase old.now
-    → Shown find_size_text (Int (pos id) ∷ []) old new rows → IsPermutation (size_rows old.now.trees id) rows
+    → Shown T.find_size_text (Int (pos id) ∷ []) old new rows → IsPermutation (size_rows old.now.trees id) rows
 asks_size old new id rows room h =
-    found find_size_query (Int (pos id) ∷ []) (old.now.trees 5) rows
-    (has 0 id) shown_size (λ r. and_true (has 0 id r)) (size_is id)
-    (picked (room_schema room.layout) old new find_size_text _ 5 _ _ [] _ rows room.schema (find_size_is room.layout)
-    (find_size_plain room.layout) refl h)
+    asked (room_schema room.layout) old new T.find_size_text (Int (pos id) ∷ []) 5 _ _ _ rows (has 0 id) shown_size
+    room.schema (find_size_means room.layout) refl (λ r. and_true (has 0 id r)) (size_is id) h
 
 pub asks_session : (old new : State) (sid : List ℕ) (rows : List Row) → IsRoomDatabase old.now
-    → Shown find_session_text (Text sid ∷ []) old new rows → IsPermutation (session_rows old.now.trees sid) rows
+    → Shown T.find_session_text (Text sid ∷ []) old new rows → IsPermutation (session_rows old.now.trees sid) rows
 asks_session old new sid rows room h =
-    found find_session_query (Text sid ∷ []) (old.now.trees 6) rows (has_text 1 sid)
-    shown_session (λ r. and_true (has_text 1 sid r)) (λ r. refl)
-    (picked (room_schema room.layout) old new find_session_text _ 6 _ _ [] _ rows room.schema
-    (find_session_is room.layout) (find_session_plain room.layout) refl h)
+    asked (room_schema room.layout) old new T.find_session_text (Text sid ∷ []) 6 _ _ _ rows (has_text 1 sid) shown_session
+    room.schema (find_session_means room.layout) refl (λ r. and_true (has_text 1 sid r)) (λ r. refl) h
 
 pub asks_slot : (old new : State) (sid : List ℕ) (slot : ℕ) (rows : List Row)
-    → IsRoomDatabase old.now → Shown find_slot_text (Text sid ∷ Int (pos slot) ∷ []) old new rows
+    → IsRoomDatabase old.now → Shown T.find_slot_text (Text sid ∷ Int (pos slot) ∷ []) old new rows
     → IsPermutation (slot_rows old.now.trees sid slot) rows
 asks_slot old new sid slot rows room h =
     subst (λ all. IsPermutation (map shown_slot (filter (is_slot sid slot) all)) rows) (sym room.listed)
-    (found (find_slot_query (slots_tree room.layout)) (Text sid ∷ Int (pos slot) ∷ [])
-    (old.now.trees (slots_tree room.layout)) rows (is_slot sid slot)
-    shown_slot (λ r. ap (λ b. has_text 1 sid r && b) (and_true (has 2 slot r))) (λ r. refl)
-    (picked (room_schema room.layout) old new find_slot_text _ (slots_tree room.layout) _ _ [] _ rows room.schema
-    (find_slot_is room.layout) (find_slot_plain room.layout) (slots_seen room.layout old.now.trees) h))
+    (asked (room_schema room.layout) old new T.find_slot_text (Text sid ∷ Int (pos slot) ∷ []) (slots_tree room.layout)
+    _ _ _ rows (is_slot sid slot) shown_slot room.schema (find_slot_means room.layout)
+    (slots_seen room.layout old.now.trees) (λ r. ap (λ b. has_text 1 sid r && b) (and_true (has 2 slot r))) (λ r. refl) h)
 
 pub asks_seq : (old new : State) (sid : List ℕ) (slot : ℕ) (rows : List Row)
-    → IsRoomDatabase old.now → Shown find_seq_text (Text sid ∷ Int (pos slot) ∷ []) old new rows
+    → IsRoomDatabase old.now → Shown T.find_seq_text (Text sid ∷ Int (pos slot) ∷ []) old new rows
     → IsPermutation (seq_rows old.now.trees sid slot) rows
 asks_seq old new sid slot rows room h =
     subst (λ all. IsPermutation (map shown_seq (filter (is_slot sid slot) all)) rows) (sym room.listed)
-    (found (find_seq_query (slots_tree room.layout)) (Text sid ∷ Int (pos slot) ∷ [])
-    (old.now.trees (slots_tree room.layout)) rows (is_slot sid slot)
-    shown_seq (λ r. ap (λ b. has_text 1 sid r && b) (and_true (has 2 slot r))) (λ r. refl)
-    (picked (room_schema room.layout) old new find_seq_text _ (slots_tree room.layout) _ _ [] _ rows room.schema
-    (find_seq_is room.layout) (find_seq_plain room.layout) (slots_seen room.layout old.now.trees) h))
+    (asked (room_schema room.layout) old new T.find_seq_text (Text sid ∷ Int (pos slot) ∷ []) (slots_tree room.layout)
+    _ _ _ rows (is_slot sid slot) shown_seq room.schema (find_seq_means room.layout)
+    (slots_seen room.layout old.now.trees) (λ r. ap (λ b. has_text 1 sid r && b) (and_true (has 2 slot r))) (λ r. refl) h)
 
 pub asks_next : (more : List Table) (others : List Index) (old new : State) (rows : List Row)
     → old.now.schema ≡ with_last more others
-    → Shown find_next_text [] old new rows → IsPermutation (next_rows old.now.trees) rows
+    → Shown T.find_next_text [] old new rows → IsPermutation (next_rows old.now.trees) rows
 asks_next more others old new rows schema h =
-    found find_next_query [] (old.now.trees 0) rows (has 0 1) shown_next (λ r. and_true (has 0 1 r)) (λ r. refl)
-    (picked (with_last more others) old new find_next_text _ 0 _ _ [] _ rows schema (find_next_is more others)
-    (find_next_plain more others) refl h)
+    asked (with_last more others) old new T.find_next_text [] 0 _ _ _ rows (has 0 1) shown_next schema
+    (find_next_means more others) refl (λ r. and_true (has 0 1 r)) (λ r. refl) h
 
 pub asks_version : (more : List Table) (others : List Index) (old new : State) (rows : List Row)
     → old.now.schema ≡ with_last more others
-    → Shown find_version_text [] old new rows → IsPermutation (version_rows old.now.trees) rows
+    → Shown T.find_version_text [] old new rows → IsPermutation (version_rows old.now.trees) rows
 asks_version more others old new rows schema h =
-    found find_version_query [] (old.now.trees 0) rows (has 0 1) shown_version (λ r. and_true (has 0 1 r)) (λ r. refl)
-    (picked (with_last more others) old new find_version_text _ 0 _ _ [] _ rows schema (find_version_is more others)
-    (find_version_plain more others) refl h)
+    asked (with_last more others) old new T.find_version_text [] 0 _ _ _ rows (has 0 1) shown_version schema
+    (find_version_means more others) refl (λ r. and_true (has 0 1 r)) (λ r. refl) h
 
 -- a version that was told is that of the rows
 pub told_version : (more : List Table) (others : List Index) (old new : State) (n : ℕ)
@@ -212,53 +165,51 @@ told_another more others old new n schema told is =
 
 -- ---- the count
 
-some_is : {X : Type 0} {a b : X} → Some a ≡ Some b → a ≡ b
-some_is e = cc
-
-summarized : (order : List Env) (r : Row) → IsSummary counted order r → r ≡ counted_row (length order)
+summarized : (order : List Env) (r : Row) → IsSummary T.counted order r → r ≡ counted_row (length order)
 summarized order r (values, each, is) = is ∙ one values each
   where
-    one : (values : Row) → AllZip (λ a v. value_over order a ≡ Some v) (all_rows ∷ []) values
+    one : (values : Row) → AllZip (λ a v. value_over order a ≡ Some v) (T.all_rows ∷ []) values
         → values ≡ counted_row (length order)
     one [] each = absurd each
-    one (v ∷ []) each = ap (λ w. w ∷ []) (some_is (sym each.0))
-        ∙ ap counted_row (length-map order (Rattle.sqlite_sql.specs.Term.eval all_rows.argument))
+    one (v ∷ []) each = ap (λ w. w ∷ []) (same_Some _ _ (sym each.0))
+        ∙ ap counted_row (length-map order (Rattle.sqlite_sql.specs.Term.eval T.all_rows.argument))
     one (v ∷ w ∷ more) each = absurd each.1
 
 one_group : (order : List Env) (rows : List Row)
-    → AllZip (IsSummary counted) (order ∷ []) rows → rows ≡ counted_row (length order) ∷ []
+    → AllZip (IsSummary T.counted) (order ∷ []) rows → rows ≡ counted_row (length order) ∷ []
 one_group order [] h = absurd h
 one_group order (r ∷ []) h = ap (λ x. x ∷ []) (summarized order r h.0)
 one_group order (r ∷ s ∷ more) h = absurd h.1
 
 count_answer : (params : Row) (db : Trees) (rows : List Row) (p : Row → Bool)
-    → ((r : Row) → list_all (holds (params ∷ r ∷ [])) count_children_query.filter ≡ p r)
-    → IsAnswer count_children_query db params rows
+    → ((r : Row) → list_all (holds (params ∷ r ∷ [])) T.count_children_query.filter ≡ p r)
+    → IsAnswer T.count_children_query db params rows
     → rows ≡ counted_row (length (filter p (db 1))) ∷ []
 count_answer params db rows p test a =
     let g = a.grouped in
     let order = g.grouping.0 in
     let all : length order ≡ length (filter p (db 1)) =
-    length_permutation _ _ g.grouping.1 ∙ ap length (envs_are count_children_query.filter params (db 1))
-    ∙ length-map (passing count_children_query.filter params (db 1)) (λ r. params ∷ r ∷ [])
+    length_permutation _ _ g.grouping.1 ∙ ap length (envs_are T.count_children_query.filter params (db 1))
+    ∙ length-map (passing T.count_children_query.filter params (db 1)) (λ r. params ∷ r ∷ [])
     ∙ ap length (filter_same _ p test (db 1)) in
     let row = counted_row (length order) in
     let summed : g.rows ≡ row ∷ [] =
-    one_group order g.rows (subst (λ l. AllZip (IsSummary counted) l g.rows) g.grouping.2 g.summaries) in
+    one_group order g.rows (subst (λ l. AllZip (IsSummary T.counted) l g.rows) g.grouping.2 g.summaries) in
     let staged : a.staged ≡ (params ∷ row ∷ []) ∷ [] =
     g.having ∙ ap (λ l. filter (λ _. true) (map (λ r. params ∷ r ∷ []) l)) summed in
-    let kept : a.kept ≡ output count_children_query (params ∷ row ∷ []) ∷ [] =
-    a.distinct ∙ ap (map (output count_children_query)) staged in
+    let kept : a.kept ≡ output T.count_children_query (params ∷ row ∷ []) ∷ [] =
+    a.distinct ∙ ap (map (output T.count_children_query)) staged in
     let ordered = one_permutation _ a.ordered (subst (λ l. IsPermutation l a.ordered) kept a.same) in
     a.shown ∙ ap (map (λ (o : Output). o.1)) ordered ∙ ap (λ n. counted_row n ∷ []) all
 
 pub asks_count : (old new : State) (parent : ℕ) (rows : List Row) → IsRoomDatabase old.now
-    → Shown count_children_text (Int (pos parent) ∷ []) old new rows
+    → Shown T.count_children_text (Int (pos parent) ∷ []) old new rows
     → rows ≡ counted_row (length (child_rows old.now.trees parent)) ∷ []
 asks_count old new parent rows room h =
     let params = Int (pos parent) ∷ [] in
-    let read = reads_as count_children_text params old new (room_schema room.layout) room.schema _
-    (count_children_is room.layout) (count_children_plain room.layout).0 (count_children_plain room.layout).1 rows h in
+    let means = count_children_means room.layout in
+    let read = reads_as T.count_children_text params old new (room_schema room.layout) room.schema _
+    means.0.0 means.0.1 means.1 rows h in
     count_answer params (overlay old.now.trees []) rows (has 2 parent)
     (λ r. and_true (has 2 parent r)) (read.answer Null)
     ∙ ap (λ n. counted_row n ∷ []) (sym (length-map (filter (has 2 parent) (old.now.trees 1)) shown_node))

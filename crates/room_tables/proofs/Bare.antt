@@ -17,7 +17,6 @@ use Rattle.room_tables.specs.Texts.{add_node_text}
 use Rattle.room_tables.specs.Rows.{has, entry_of, in_order, entries_in, records_of, IsVersion}
 use Rattle.room_tables.specs.Layout.{IsRoomDatabase}
 use Rattle.room_tables.specs.Steps.{Steps, SeesSound, Lists}
-use Rattle.room_tables.proofs.Changes.{executes_inside}
 use Rattle.room_tables.proofs.Filters.{same_test}
 use Rattle.room_tables.proofs.Effects.{params_of_node, node_added, id_is}
 use Rattle.room_tables.proofs.Drops.{no_entries}
@@ -38,7 +37,7 @@ added_bare old new node name params count room params_are ran sound =
     ])) in
     ap (λ rows. entries_in rows node.id) (it.others.entry (omega arith))
     ∙ ap (λ rows. map entry_of (in_order rows)) (no_entries room.layout old.now node.id room.schema
-    (sound (executes_inside add_node_text _ old new count h).1.was_open) none)
+    (sound h.1.was_open) none)
 
 none_mapped : {X Y : Type 0} (f : X → Y) (xs : List X) → map f xs ≡ [] → xs ≡ []
 none_mapped f [] none = refl

@@ -1,8 +1,9 @@
 -- What the statements that write do to the tables.
 use Rattle.std.proofs.Common.{◌≡◌, ◌≢◌, ◌⊎◌, length, ◌/◌, MatchBool, is_lt, int_cmp, inl, inr, ℕ, ℤ, Bool, true, false}
 use Rattle.std.proofs.Common.{not, cond, List, [], ◌∷◌, map, drop, filter, slice_get, Option, None, Some, Ok, Err}
-use Rattle.std.proofs.Common.{Result, IfErr, OnErr, refl, sym, ap, subst, true≢false, ◌∙◌, unwrap_or}
-use Rattle.std.proofs.lemmas.Bool.{cases_Bool}
+use Rattle.std.proofs.Common.{Result, IfErr, OnErr, refl, sym, ap, subst, true≢false, ◌∙◌, unwrap_or, arith}
+use Rattle.std.proofs.lemmas.Bool.{not-true, cases_Bool}
+use Rattle.std.proofs.lemmas.Grind.{common_steps}
 use Rattle.sqlite_value.specs.declared.value.Value.TheVariants.{Null, Int}
 use Rattle.sqlite_value.specs.Order.{Row}
 use Rattle.sqlite_trees.specs.Tree.{Trees, rowid, put_row}
@@ -14,39 +15,32 @@ use Rattle.sqlite_rules.specs.Calls.{ids_of}
 use Rattle.sqlite_rules.specs.Action.{works}
 use Rattle.sqlite.specs.Rowids.TheVariants.{Chosen, Given, Above}
 use Rattle.sqlite_schema.specs.declared.schema.Keys.TheVariants.{Enforced}
-use Rattle.sqlite.specs.Command.TheVariants.{Insert, InsertOr, Update, Delete}
-use Rattle.sqlite_schema.specs.declared.command.Conflict.TheVariants.{Abort}
-use Rattle.sqlite_schema.specs.declared.command.Upsert.{Upsert}
+use Rattle.sqlite.specs.Command.TheVariants.{Insert, Delete}
 use Rattle.sqlite.specs.Source.{Source}
 use Rattle.sqlite.specs.Source.TheVariants.{Values}
 use Rattle.sqlite.specs.Kind.TheVariants.{Integer}
 use Rattle.sqlite.specs.Cast.{cast}
 use Rattle.sqlite.specs.Ops.{unary}
 use Rattle.sqlite_value.specs.declared.value.Value.{Value}
-use Rattle.sqlite.specs.Effect.{Database}
-use Rattle.sqlite.specs.Rows.{Edited, Counts, CountsIn, Gives, sequence, Written, Task, count_of}
-use Rattle.sqlite.specs.Rows.{rowids_for, last_id}
-use Rattle.sqlite.specs.Does.{Tally, Does, Concludes, WritesRows}
-use Rattle.sqlite.specs.declared.run.Mode.{Mode}
+use Rattle.sqlite.specs.Effect.{Database, value_rows, IsDatabase, IsSource}
+use Rattle.sqlite.specs.Rows.{Edited, Counts, CountsIn, Gives, sequence, Written, Task, count_of, rowids_for, last_id}
+use Rattle.sqlite.specs.Rows.{stamped}
+use Rattle.sqlite.specs.Does.{Tally, OnTable, OnRows, WritesRows}
 use Rattle.sqlite.specs.Table.{Table}
 use Rattle.sqlite.specs.Command.{Command}
-use Rattle.sqlite_schema.specs.declared.program.Program.{Program}
-use Rattle.sqlite.specs.State.{State, mode_of, Executes, Runs, ExecutesInside, IsUnchanged}
-use Rattle.sqlite.specs.State.{IsRolledBack, KeepsCommit, Shows}
+use Rattle.sqlite.specs.State.{State, mode_of, Writes, Executes, ExecutesInside, KeepsCommit, Shows}
 use Rattle.sqlite.specs.Steps.{FailsToCommit}
 use Rattle.sqlite.specs.declared.error.Error.{Error}
 use Rattle.sqlite.proofs.Callers.{runs_as, one_step}
+use Rattle.sqlite.proofs.InsideLemmas.{inside_keeps}
 use Rattle.std.specs.List.{AllByRecursion, list_all}
 use Rattle.sqlite_sql.specs.Term.{Term, col, holds}
-use Rattle.sqlite.specs.Rows.{stamped}
-use Rattle.sqlite.specs.Effect.{value_rows, IsDatabase, IsSource}
-use Rattle.sqlite.specs.Listing.{understood}
-use Rattle.sqlite.proofs.Callers.{IsPlain, command_of}
 use Rattle.room_tables.specs.Tables.{Layout, room_schema}
 use Rattle.room_tables.specs.Texts.{over_table}
 use Rattle.room_tables.proofs.Queries.{Picks, passing, answer_is, found}
 use Rattle.room_tables.specs.Layout.{IsKeyed, OfEachTable}
 use Rattle.room_tables.proofs.Each.{by_name}
+use Rattle.room_tables.proofs.Meaning.{Means}
 use Rattle.room_tables.proofs.Removed.{removed}
 
 -- a part that gave a value did not stop on the way
@@ -57,107 +51,46 @@ went (inr on) = on
 pub same_value : {B E : Type 0} {a b : B} → ◌≡◌ {A = Result B E} (Ok a) (Ok b) → a ≡ b
 same_value e = cc
 
--- what a statement on rows leaves is what its rows make
-concludes : (task : Task) (mode : Mode) (w : Written) (tally : Tally) (new : Database)
-    → Concludes task mode None w (Ok (tally, new)) → new ≡ record { schema = task.schema; trees = w.trees }
-concludes task mode w tally new h =
-    let tested = went h in
-    let returned = went tested.2 in
-    ap (λ (p : Tally × Database). p.1) (same_value returned.2)
-
--- and how many rows it tells of
-tells : (task : Task) (mode : Mode) (w : Written) (tally : Tally) (new : Database)
-    → Concludes task mode None w (Ok (tally, new)) → unwrap_or tally.rows 0 ≡ length w.rows
-tells task mode w tally new h =
-    let tested = went h in
-    let returned = went tested.2 in
-    ap (λ (p : Tally × Database). unwrap_or p.0.rows 0) (same_value returned.2)
-
 abbrev pub task_on : Layout → State → Table → Row → Task
 task_on l old table params =
     record { limit = old.step_limit; keys = Enforced; schema = room_schema l; table = table; params = params }
 
--- and what is counted is told of its rows
-concludes_with : (task : Task) (mode : Mode) (w : Written) (tally : Tally) (new : Database)
-    → Concludes task mode None w (Ok (tally, new)) → (tally.rows ≡ Some (length w.rows)) × (tally.last ≡ w.last)
-concludes_with task mode w tally new h =
-    let tested = went h in
-    let returned = went tested.2 in
-    let same = same_value returned.2 in (
-      ap (λ (p : Tally × Database). p.0.rows) same,
-      ap (λ (p : Tally × Database). p.0.last) same,
-    )
-
 -- the command ran on the rows of the table at this place, and what it left is sound
-pub record Wrote (l : Layout) (old new : State) (table : Table) (params : Row) (command : Command) : Type 0 where
+pub record Wrote (l : Layout) (old new : State) (table : Table) (params : Row) (command : Command) (count : ℕ) : Type 0 where
   pub rows : Written
   pub written : WritesRows (task_on l old table params) old.now.trees command (Ok rows)
   pub now : new.now ≡ record { schema = room_schema l; trees = rows.trees }
   pub sound : IsDatabase new.now
+  -- how many rows it tells of, and which rowid it put last
+  pub counted : count ≡ length rows.rows
+  pub changes : new.changes ≡ length rows.rows
+  pub last : new.last_rowid ≡ unwrap_or rows.last old.last_rowid
 
-pub deletes : (l : Layout) (old new : State) (at : ℕ) (table : Table) (q : Program) (text : List ℕ) (params : Row)
-    (count : ℕ)
-    → slice_get (room_schema l).tables at ≡ Some table → old.now.schema ≡ room_schema l
-    → Runs old new None (Delete at q) text params count → Wrote l old new table params (Delete at q)
-deletes l old new at table q text params count place schema w =
-    let all = subst (λ s. Does old.step_limit (mode_of old) params (record old.now { schema = s })
-    text None (Delete at q) (Ok (w.tally, new.now))) schema w.changed in
+pub wrote : (l : Layout) (old new : State) (at : ℕ) (table : Table) (command : Command) (text : List ℕ) (params : Row)
+    (count : ℕ) → slice_get (room_schema l).tables at ≡ Some table → old.now.schema ≡ room_schema l
+    → (w : Writes old new None command text params count)
+    → OnTable old.step_limit (mode_of old) params old.now at
+    (λ task. OnRows task (mode_of old) None command old.now.trees) (Ok (w.tally, new.now))
+    → Wrote l old new table params command count
+wrote l old new at table command text params count place schema w changed =
+    let all = subst (λ s. OnTable old.step_limit (mode_of old) params (record old.now { schema = s }) at
+    (λ task. OnRows task (mode_of old) None command old.now.trees) (Ok (w.tally, new.now))) schema changed in
     let done = went (rw place at all) in
+    let tested = went done.2 in
+    let returned = went tested.2 in
+    let told = same_value returned.2 in
     record {
       rows = done.0;
       written = done.1;
-      now = concludes (task_on l old table params) (mode_of old) done.0 w.tally new.now done.2;
+      now = ap (λ (p : Tally × Database). p.1) told;
       sound = w.sound;
+      counted = w.counted ∙ ap (λ (p : Tally × Database). unwrap_or p.0.rows 0) told;
+      changes = w.changes ∙ ap (λ (p : Tally × Database). unwrap_or p.0.rows old.changes) told;
+      last = w.last_rowid ∙ ap (λ (p : Tally × Database). unwrap_or p.0.last old.last_rowid) told;
     }
 
-pub updates : (l : Layout) (old new : State) (at : ℕ) (table : Table) (q : Program) (text : List ℕ) (params : Row)
-    (count : ℕ)
-    → slice_get (room_schema l).tables at ≡ Some table → old.now.schema ≡ room_schema l
-    → Runs old new None (Update at q) text params count
-    → (w : Wrote l old new table params (Update at q)) × (count ≡ length w.rows.rows)
-updates l old new at table q text params count place schema w =
-    let all = subst (λ s. Does old.step_limit (mode_of old) params (record old.now { schema = s })
-    text None (Update at q) (Ok (w.tally, new.now))) schema w.changed in
-    let done = went (rw place at all) in (
-      record {
-        rows = done.0;
-        written = done.1;
-        now = concludes (task_on l old table params) (mode_of old) done.0 w.tally new.now done.2;
-        sound = w.sound;
-      },
-      w.counted ∙ tells (task_on l old table params) (mode_of old) done.0 w.tally new.now done.2,
-    )
-
--- how many rows an INSERT put, and which rowid it put last
-record Counted (old new : State) (rows : Written) : Type 0 where
-  changes : new.changes ≡ length rows.rows
-  last : new.last_rowid ≡ unwrap_or rows.last old.last_rowid
-
-inserts : (l : Layout) (old new : State) (at : ℕ) (table : Table) (from : Source) (text : List ℕ) (params : Row)
-    (count : ℕ)
-    → slice_get (room_schema l).tables at ≡ Some table → old.now.schema ≡ room_schema l
-    → Runs old new None (Insert at from) text params count
-    → (w : Wrote l old new table params (Insert at from)) × Counted old new w.rows
-inserts l old new at table from text params count place schema w =
-    let all = subst (λ s. Does old.step_limit (mode_of old) params (record old.now { schema = s })
-    text None (Insert at from) (Ok (w.tally, new.now))) schema w.changed in
-    let done = went (rw place at all) in
-    let told = concludes_with (task_on l old table params) (mode_of old) done.0 w.tally new.now done.2 in (
-      record {
-        rows = done.0;
-        written = done.1;
-        now = concludes (task_on l old table params) (mode_of old) done.0 w.tally new.now done.2;
-        sound = w.sound;
-      },
-      record {
-        changes = w.changes ∙ ap (λ n. unwrap_or n old.changes) told.0;
-        last = w.last_rowid ∙ ap (λ i. unwrap_or i old.last_rowid) told.1;
-      },
-    )
-
 either : (b : Bool) (x : Value) → cond b x x ≡ x
-either true x = refl
-either false x = refl
+either b x = grind (arith, common_steps)
 
 pub cast_null : cast Integer Null ≡ Null
 unfolding unary
@@ -166,10 +99,6 @@ cast_null = either _ Null
 pub cast_int : (n : ℤ) → cast Integer (Int n) ≡ Int n
 unfolding unary
 cast_int n = either _ (Int n)
-
-pub not_true : (b : Bool) → not b ≡ true → b ≡ false
-not_true true h = sym h
-not_true false h = refl
 
 -- the other tables are as they were
 abbrev pub Others : Layout → ℕ → Trees → Trees → Type 0
@@ -196,27 +125,24 @@ pub cleared : (l : Layout) (old new : State) (at : ℕ) (table : Table) (sql : L
     (params : Row) (terms : List Term) (count : ℕ) (p : Row → Bool)
     → slice_get (room_schema l).tables at ≡ Some table → old.now.schema ≡ room_schema l
     → IsKeyed (old.now.trees table.tree)
-    → command_of (understood (room_schema l) sql)
-    ≡ Delete at (record { lets = []; body = over_table table.tree terms (col 1 0 ∷ []) [] })
-    → IsPlain (understood (room_schema l) sql)
+    → Means (room_schema l) sql
+    (Delete at (record { lets = []; body = over_table table.tree terms (col 1 0 ∷ []) [] }))
     → overlay old.now.trees [] table.tree ≡ old.now.trees table.tree
     → ((olds : List Row) → works (room_schema l) Enforced 0 table.tree olds [] ≡ [])
     → ((r : Row) → list_all (holds (params ∷ r ∷ [])) terms ≡ p r) → Executes sql params old new (Ok count)
     → Leaves l old.now new.now table.tree (without p (old.now.trees table.tree))
-cleared l old new at table sql params terms count p place schema keyed is plain here quiet test h =
+cleared l old new at table sql params terms count p place schema keyed means here quiet test h =
     let db = old.now.trees in
-    let q = over_table table.tree terms (col 1 0 ∷ []) [] in
-    let command = Delete at (record { lets = []; body = q }) in
-    let w = deletes l old new at table _ _ params count place schema
-    (runs_as sql params old new (room_schema l) schema command is plain count h) in
+    let ran = runs_as sql params old new (room_schema l) schema _ means.0 means.1 count h in
+    let w = wrote l old new at table _ _ params count place schema ran ran.changed in
     let given = went w.written in
     let edited_to = went given.2 in
     let trees : w.rows.trees ≡ edited_to.0 = ap (λ (it : Written). it.trees) (same_value edited_to.2) in
     let one = one_step (room_schema l) Enforced db edited_to.0
     (edit_of db table (ids_of given.0) Given 0 []) (quiet _) edited_to.1 in
-    let k = subst (λ all. Picks q params (passing terms params all) given.0) here
-    (answer_is table.tree terms (col 1 0 ∷ []) [] (overlay db []) params given.0 (given.1.answer Null)) in
-    let same = found q params (db table.tree) given.0 p (λ r. rowid r ∷ []) test (λ r. refl) k in
+    let k = subst (λ all. Picks (over_table table.tree terms (col 1 0 ∷ []) []) params (passing terms params all) given.0)
+    here (answer_is table.tree terms (col 1 0 ∷ []) [] (overlay db []) params given.0 (given.1.answer Null)) in
+    let same = found _ params (db table.tree) given.0 p (λ r. rowid r ∷ []) test (λ r. refl) k in
     record {
       schema = ap (λ (d : Database). d.schema) w.now;
       sound = w.sound;
@@ -249,7 +175,7 @@ all_chosen rows [] fresh = refl
 all_chosen rows (tail ∷ tails) fresh =
     let id = next_rowid rows in (
       id,
-      not_true _ (first_of_both _ _ fresh),
+      not-true _ (first_of_both _ _ fresh),
       all_chosen (put_row (Int id ∷ tail) rows) tails (second_of_both _ _ fresh),
     )
 
@@ -274,15 +200,13 @@ pub record Inserted (l : Layout) (old new : State) (table : Table) (params : Row
 -- an INSERT from any source, where no foreign key acts
 pub inserted : (l : Layout) (old new : State) (at : ℕ) (table : Table) (sql : List ℕ) (params : Row) (from : Source)
     (count : ℕ) → slice_get (room_schema l).tables at ≡ Some table → old.now.schema ≡ room_schema l
-    → table.is_counted ≡ false → command_of (understood (room_schema l) sql) ≡ Insert at from
-    → IsPlain (understood (room_schema l) sql)
+    → table.is_counted ≡ false → Means (room_schema l) sql (Insert at from)
     → ((news : List Row) → works (room_schema l) Enforced 0 table.tree [] news ≡ [])
     → Executes sql params old new (Ok count) → Inserted l old new table params from
-inserted l old new at table sql params from count place schema uncounted is plain quiet h =
+inserted l old new at table sql params from count place schema uncounted means quiet h =
     let db = old.now.trees in
-    let both = inserts l old new at table from _ params count place
-    schema (runs_as sql params old new (room_schema l) schema _ is plain count h) in
-    let w = both.0 in
+    let ran = runs_as sql params old new (room_schema l) schema _ means.0 means.1 count h in
+    let w = wrote l old new at table _ _ params count place schema ran ran.changed in
     let given = went w.written in
     let counter = went given.2 in
     let by_choice = λ (top : ℤ). ap (λ b. cond b (Above top) Chosen) uncounted in
@@ -308,8 +232,8 @@ inserted l old new at table sql params from count place schema uncounted is plai
       rows_are = ap (λ (t : Trees). t table.tree) to ∙ one.rows;
       tables = subst (λ (n : Trees). AllByRecursion (λ (t : Table). t.tree ≢ table.tree → n t.tree ≡ db t.tree)
           (room_schema l).tables) (sym to) one.tables;
-      changes = both.1.changes ∙ ap length rows;
-      last = both.1.last ∙ ap (λ i. unwrap_or i old.last_rowid)
+      changes = w.changes ∙ ap length rows;
+      last = w.last ∙ ap (λ i. unwrap_or i old.last_rowid)
           (ap (λ (it : Written). it.last) written ∙ ap last_id news);
     }
 
@@ -332,16 +256,14 @@ all_added rows new tails casts are fresh is =
 pub inserted_all : (l : Layout) (old new : State) (at : ℕ) (table : Table) (sql : List ℕ)
     (params : Row) (tails : List Row) (terms : List Term) (width count : ℕ)
     → slice_get (room_schema l).tables at ≡ Some table → old.now.schema ≡ room_schema l → table.is_counted ≡ false
-    → command_of (understood (room_schema l) sql) ≡ Insert at (Values terms width)
-    → IsPlain (understood (room_schema l) sql)
+    → Means (room_schema l) sql (Insert at (Values terms width))
     → ((news : List Row) → works (room_schema l) Enforced 0 table.tree [] news ≡ [])
     → map (λ row. cast_row table (drop 0 row))
     (value_rows (stamped table params) width (length terms / width) terms) ≡ unnumbered tails
     → Executes sql params old new (Ok count)
     → Added l old.now new.now table.tree tails
-inserted_all l old new at table sql params tails terms width count place schema uncounted is plain quiet cast_are h =
-    let it = inserted l old new at table sql params (Values terms width)
-    count place schema uncounted is plain quiet h in
+inserted_all l old new at table sql params tails terms width count place schema uncounted means quiet cast_are h =
+    let it = inserted l old new at table sql params (Values terms width) count place schema uncounted means quiet h in
     record {
       schema = it.schema;
       sound = it.sound;
@@ -350,48 +272,18 @@ inserted_all l old new at table sql params tails terms width count place schema 
       others = others_of l table.tree old.now.trees new.now.trees it.tables;
     }
 
-pub upserts : (l : Layout) (old new : State) (at : ℕ) (table : Table) (from : Source) (clauses : List Upsert)
-    (text : List ℕ)
-    (params : Row) (count : ℕ) → slice_get (room_schema l).tables at ≡ Some table → old.now.schema ≡ room_schema l
-    → Runs old new None (InsertOr at Abort from clauses) text params count
-    → Wrote l old new table params (InsertOr at Abort from clauses)
-upserts l old new at table from clauses text params count place schema w =
-    let all = subst (λ s. Does old.step_limit (mode_of old) params (record old.now { schema = s })
-    text None (InsertOr at Abort from clauses) (Ok (w.tally, new.now))) schema w.changed in
-    let done = went (rw place at all) in
-    record {
-      rows = done.0;
-      written = done.1;
-      now = concludes (task_on l old table params) (mode_of old) done.0 w.tally new.now done.2;
-      sound = w.sound;
-    }
-
 -- ---- what an execute inside a transaction leaves
-
-keeps_if : (old new : State) → IsUnchanged old new ⊎ IsRolledBack old new → KeepsCommit old new
-keeps_if old new (inl same) = record { was_open = λ _. same.0.was_open; committed = λ _. same.0.committed_is }
-keeps_if old new (inr back) = record { was_open = back.was_open; committed = λ is. (back.undone is).1 }
-
-pub keeps_failed : (sql : List ℕ) (params : Row) (old new : State) (e : Error)
-    → ExecutesInside 0 sql params old new (Err e) → KeepsCommit old new
-keeps_failed sql params old new e (inl h) = keeps_if old new h.1
-keeps_failed sql params old new e (inr h) = keeps_if old new (inl h.2)
 
 pub executes_inside : (sql : List ℕ) (params : Row) (old new : State) (count : ℕ) → ExecutesInside 0 sql params
     old new (Ok count) → Executes sql params old new (Ok count) × Shows old new new.now old.committed true
 executes_inside sql params old new count h = (h.0, h.1)
-
-pub keeps_ran : (sql : List ℕ) (params : Row) (old new : State) (r : Result ℕ Error)
-    → ExecutesInside 0 sql params old new r → KeepsCommit old new
-keeps_ran sql params old new (Ok count) h = record { was_open = λ _. h.1.was_open; committed = λ _. h.1.committed_is }
-keeps_ran sql params old new (Err e) h = keeps_failed sql params old new e h
 
 -- with no transaction nothing is done, and in one the commit is kept
 pub keeps_all : (sql : List ℕ) (params : Row) (old new : State) (r : Result ℕ Error) (X : Type 0)
     → (old.in_transaction ≡ false → X × (new ≡ old))
     → (old.in_transaction ≡ true → ExecutesInside 0 sql params old new r) → KeepsCommit old new
 keeps_all sql params old new r X ended ran = elim (cases_Bool old.in_transaction) [
-  | inl inside ↦ keeps_ran sql params old new r (ran inside)
+  | inl inside ↦ inside_keeps old new 0 false sql params r (ran inside)
   | inr outside ↦ let same = (ended outside).1 in record {
     was_open = λ is.
         subst (λ (s : State). s.is_open ≡ true) same is;

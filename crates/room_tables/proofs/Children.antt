@@ -1,12 +1,15 @@
 -- The children of a folder, as the rows show them.
-use Rattle.std.proofs.Common.{◌≡◌, ◌≢◌, ◌⊎◌, inl, inr, ℕ, suc, ◌≤◌, pos, Bool, true, false, ◌&&◌, cond, List, [], ◌∷◌}
+use Rattle.std.proofs.Common.{◌≡◌, ◌≢◌, inl, inr, ℕ, suc, ◌≤◌, pos, Bool, true, false, cond, List, [], ◌∷◌}
 use Rattle.std.proofs.Common.{length, map, filter, slice_get, Option, None, Some, option_map, unwrap_or, refl, sym, ap}
-use Rattle.std.proofs.Common.{ap₂, subst, ◌∙◌, true≢false, arith, Ordering, Less, Equal, Greater, is_gt, IsPermutation}
+use Rattle.std.proofs.Common.{ap₂, subst, ◌∙◌, true≢false, arith, Ordering, Less, Equal, is_gt, IsPermutation}
 use Rattle.std.specs.List.{AllByRecursion}
 use Rattle.std.specs.Ordering.{nat_cmp, ordering_then}
 use Rattle.std.specs.Cmp.Lexicographic.{slice_cmp}
+use Rattle.std.proofs.lemmas.Bool.{and_from}
+use Rattle.std.proofs.lemmas.Grind.{common_steps}
 use Rattle.std.proofs.lemmas.Map.Lookups.{exact_bytes}
 use Rattle.std.proofs.lemmas.List.Sorted.{length_permutation, IsPermutation-sym}
+use Rattle.std.proofs.lemmas.Option.{same_Some}
 use Rattle.sqlite_value.specs.declared.value.Value.{Value}
 use Rattle.sqlite_value.specs.declared.value.Value.TheVariants.{Int, Text}
 use Rattle.sqlite_value.specs.Order.{Row, column, value_cmp}
@@ -20,8 +23,8 @@ use Rattle.sqlite_keyed.proofs.ListLemmas.{IsPermutation-filter, filter-map}
 use Rattle.sqlite_keyed.proofs.RuleLemmas.{first_of_both, second_of_both}
 use Rattle.sqlite_keyed.proofs.SortLemmas.{IsPermutation-sort_by}
 use Rattle.sqlite_rules.specs.Lists.{Has}
-use Rattle.sqlite_rules.proofs.ListLemmas.{all_has, all_from, has_kept, has_filtered, contains_had}
-use Rattle.sqlite_rules.proofs.ProbeLemmas.{has_mapped, mapped_has}
+use Rattle.sqlite_rules.proofs.ListLemmas.{all_has, all_from, has_filtered, contains_had}
+use Rattle.sqlite_rules.proofs.ProbeLemmas.{mapped_has}
 use Rattle.sqlite.specs.Effect.{Database}
 use Rattle.room_records.specs.declared.node.Node.{Node}
 use Rattle.room_records.specs.Names.{name_cmp}
@@ -33,13 +36,10 @@ use Rattle.room_tables.specs.Rows.{node_of, nodes_in, named_rows, child_rows, re
 use Rattle.room_tables.specs.Layout.{IsNumbered, IsRoomDatabase, parent_value}
 use Rattle.room_tables.specs.Names.{ByName, name_key, name_keys}
 use Rattle.room_tables.proofs.Values.{has_one, has_text_value, has_not_null, has_tied, int_has, text_has}
-use Rattle.room_tables.proofs.Removed.{one_row, has_permuted}
+use Rattle.room_tables.proofs.Removed.{one_row, shown_of, is_shown}
 use Rattle.room_tables.proofs.Sorted.{ascending-sort_by}
 use Rattle.room_tables.proofs.Filters.{keyed_filter}
 use Rattle.room_tables.proofs.Drops.{found_or_none}
-
-some_is : {X : Type 0} {a b : X} → Some a ≡ Some b → a ≡ b
-some_is e = cc
 
 -- ---- rows and nodes
 
@@ -52,16 +52,16 @@ row_of rows id node h = go (filter (has 0 id) rows) refl h
         → (r : Row) × Has rows r × (has 0 id r ≡ true) × (node_of (shown_node r) ≡ node)
     go [] e h = absurd (let bad = h in cc)
     go (r ∷ []) e h = let k = has_filtered (has 0 id) rows r (subst (λ l. Has l r) (sym e) (inl refl)) in
-        (r, k.0, k.1, some_is h)
+        (r, k.0, k.1, same_Some _ _ h)
     go (r ∷ s ∷ more) e h = absurd (let bad = h in cc)
 
 parent_is : (v : Value) (p : ℕ) → parent_in v ≡ Some p → v ≡ Int (pos p)
-parent_is (Int (pos n)) p h = ap (λ m. Int (pos m)) (some_is h)
+parent_is (Int (pos n)) p h = ap (λ m. Int (pos m)) (same_Some _ _ h)
 parent_is v p h = absurd (let bad = h in cc)
 
 name_is : (v : Value) (name : List ℕ) → name_in v ≡ Some name → v ≡ Text name
 name_is (Text []) name h = absurd (let bad = h in cc)
-name_is (Text (b ∷ bytes)) name h = ap Text (some_is h)
+name_is (Text (b ∷ bytes)) name h = ap Text (same_Some _ _ h)
 name_is v name h = absurd (let bad = h in cc)
 
 named_back : (name : List ℕ) → name ≢ [] → name_of_text name ≡ Some name
@@ -101,26 +101,19 @@ pub no_child : (db : Database) (p : ℕ) (name : List ℕ) → IsRoomDatabase db
 no_child db p name room same node child named =
     let r = child_has_row db p node room child in
     let text : column r.0 3 ≡ Text name = name_is _ name (ap (λ (n : Node). n.name) r.3 ∙ named) in
-    let passes : is_child_named p name r.0 ≡ true = both _ _ r.2 (text_has 3 name r.0 text) in
-    let here = mapped_has shown_node (filter (is_child_named p name) (db.trees 1))
-    r.0 (has_kept (is_child_named p name) (db.trees 1) r.0 r.1 passes) in
-    absurd (has_permuted [] (named_rows db.trees p name) (shown_node r.0) (IsPermutation-sym _ _ same) here)
-  where
-    both : (a b : Bool) → a ≡ true → b ≡ true → (a && b) ≡ true
-    both a b x y = rw x y
+    let passes : is_child_named p name r.0 ≡ true = and_from _ _ r.2 (text_has 3 name r.0 text) in
+    absurd (is_shown shown_node (is_child_named p name) (db.trees 1) [] same r.0 r.1 passes)
 
 pub one_child : (db : Database) (p : ℕ) (name : List ℕ) (row : Row) (rest : List Row)
     → IsRoomDatabase db → name ≢ [] → IsPermutation (named_rows db.trees p name) (row ∷ rest)
     → IsChildNamed (records_of db.trees).objects p name (Some (node_of row))
 one_child db p name row rest room some same =
-    let shown = has_mapped shown_node (filter (is_child_named p name) (db.trees 1))
-    row (has_permuted _ (row ∷ rest) row same (inl refl)) in
+    let shown = shown_of shown_node (is_child_named p name) (db.trees 1) (row ∷ rest) same row (inl refl) in
     let r = shown.0 in
-    let kept = has_filtered (is_child_named p name) (db.trees 1) r shown.1 in
-    let text = has_text_value 3 name r (second_of_both (has 2 p r) _ kept.1) in
-    let child = row_is_child db p r room kept.0 (first_of_both (has 2 p r) _ kept.1) in (
-      subst (λ x. IsChild (records_of db.trees).objects p (node_of x)) (sym shown.2) child,
-      ap (λ x. (node_of x).name) shown.2 ∙ ap name_in text ∙ named_back name some,
+    let text = has_text_value 3 name r (second_of_both (has 2 p r) _ shown.2) in
+    let child = row_is_child db p r room shown.1 (first_of_both (has 2 p r) _ shown.2) in (
+      subst (λ x. IsChild (records_of db.trees).objects p (node_of x)) (sym shown.3) child,
+      ap (λ x. (node_of x).name) shown.3 ∙ ap name_in text ∙ named_back name some,
     )
 
 -- ---- all the children of a folder
@@ -132,14 +125,9 @@ shown_once db p id rows room same =
     let all = filter (has 2 p) (db.trees 1) in
     let few : length (filter (has 0 id) (child_rows db.trees p)) ≤ 1 =
     subst (λ l. length l ≤ 1) (sym (filter-map (has 0 id) shown_node all))
-    (go (found_or_none all id (keyed_filter (has 2 p) (db.trees 1) room.keyed.node))) in
+    (elim (found_or_none all id (keyed_filter (has 2 p) (db.trees 1) room.keyed.node))
+    [ inl none ↦ rw none (omega arith) | inr one ↦ rw one.1 (omega arith) ]) in
     omega (arith, few, length_permutation _ _ (IsPermutation-filter (has 0 id) _ _ same))
-  where
-    go : (filter (has 0 id) (filter (has 2 p) (db.trees 1)) ≡ [])
-        ⊎ ((r : Row) × (filter (has 0 id) (filter (has 2 p) (db.trees 1)) ≡ r ∷ []))
-        → length (map shown_node (filter (has 0 id) (filter (has 2 p) (db.trees 1)))) ≤ 1
-    go (inl none) = rw none (omega arith)
-    go (inr one) = rw one.1 (omega arith)
 
 -- a row of a child, with its number and its name
 record Shown (t : ObjectRecords) (p : ℕ) (s : Row) : Type 0 where
@@ -153,15 +141,14 @@ child_shown : (db : Database) (p : ℕ) (rows : List Row) → IsRoomDatabase db
     → NodeRules (records_of db.trees).objects.node → IsPermutation (child_rows db.trees p) rows
     → AllByRecursion (Shown (records_of db.trees).objects p) rows
 child_shown db p rows room rules same = all_from (Shown (records_of db.trees).objects p) rows (λ s h.
-    let shown = has_mapped shown_node (filter (has 2 p) (db.trees 1)) s (has_permuted _ rows s same h) in
+    let shown = shown_of shown_node (has 2 p) (db.trees 1) rows same s h in
     let r = shown.0 in
-    let kept = has_filtered (has 2 p) (db.trees 1) r shown.1 in
-    let child = row_is_child db p r room kept.0 kept.1 in
-    let n = all_has IsNumbered (db.trees 1) r room.numbered kept.0 in
+    let child = row_is_child db p r room shown.1 shown.2 in
+    let n = all_has IsNumbered (db.trees 1) r room.numbered shown.1 in
     let node = node_of (shown_node r) in
     let below = rules.below node.id node child.stands (λ is.
     not_root node (subst (λ i. (records_of db.trees).objects.node i ≡ Some node) is child.stands) child.inside) in
-    subst (Shown (records_of db.trees).objects p) (sym shown.2) (record {
+    subst (Shown (records_of db.trees).objects p) (sym shown.3) (record {
       id = n.id;
       has_id = n.has_id;
       text = below.name;
@@ -189,9 +176,7 @@ same_number t p a b x y rules same =
     y.child.stands (x.child.inside ∙ sym y.child.inside) name ∙ ap number_in y.has_id
 
 not_greater : (o : Ordering) → is_gt (ordering_then o Equal) ≡ false → o ≢ Equal → o ≡ Less
-not_greater Less h apart = refl
-not_greater Equal h apart = absurd (apart refl)
-not_greater Greater h apart = absurd (true≢false h)
+not_greater o h apart = grind (arith, common_steps)
 
 in_order : (t : ObjectRecords) (p : ℕ) (rows : List Row) → NodeRules t.node → AllByRecursion (Shown t p) rows
     → IsAscending ByName rows → ((id : ℕ) → length (filter (has 0 id) rows) ≤ 1) → InNameOrder (map node_of rows)
@@ -236,9 +221,7 @@ are_children db p rows room rules same up =
           node_of rows (Rattle.sqlite_keyed.proofs.ListLemmas.all_weaker _ _ (λ s x. x.child) rows all);
       every = λ node child.
           let r = child_has_row db p node room child in
-          let here = mapped_has shown_node (filter (has 2 p) (db.trees 1))
-          r.0 (has_kept (has 2 p) (db.trees 1) r.0 r.1 r.2) in
-          let there = has_permuted rows (child_rows db.trees p) (shown_node r.0) (IsPermutation-sym _ _ same) here in
+          let there = is_shown shown_node (has 2 p) (db.trees 1) rows same r.0 r.1 r.2 in
           contains_had (map node_of rows) node
           (subst (Has (map node_of rows)) r.3 (mapped_has node_of rows (shown_node r.0) there));
       in_order = in_order (records_of db.trees).objects p rows rules all up (λ id. shown_once db p id rows room same);

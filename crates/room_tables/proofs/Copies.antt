@@ -1,32 +1,31 @@
 -- A row of `slot` is copied into `kept`, and taken out of `slot`.
-use Rattle.std.proofs.Common.{◌≡◌, ◌≢◌, ◌⊎◌, inl, inr, ℕ, ℤ, pos, true, false, not, cond, List, [], ◌∷◌, ◌++◌, map}
-use Rattle.std.proofs.Common.{drop, take, filter, None, Ok, Bool, length, unwrap_or, is_eq, ◌==◌, refl, sym, ap, subst}
-use Rattle.std.proofs.Common.{◌∙◌, Equal, true≢false, IsPermutation, arith}
+use Rattle.std.proofs.Common.{◌≡◌, ◌≢◌, ◌⊎◌, inl, inr, ℕ, ℤ, true, false, not, cond, List, [], ◌∷◌, ◌++◌, map}
+use Rattle.std.proofs.Common.{drop, take, filter, None, Ok, length, unwrap_or, is_eq, refl, sym, ap, subst}
+use Rattle.std.proofs.Common.{◌∙◌, Equal, IsPermutation, arith}
 use Rattle.std.proofs.lemmas.Cmp.{tied_itself, alike_right}
 use Rattle.std.proofs.lemmas.List.Sorted.{IsPermutation-refl, IsPermutation-trans, IsPermutation-sym, IsPermutation-map}
 use Rattle.std.proofs.lemmas.List.Sorted.{IsPermutation-middle, IsPermutation-append_left, IsPermutation-append_right}
 use Rattle.std.proofs.lemmas.List.Sorted.{IsPermutation-filter_both, length_permutation}
-use Rattle.std.specs.List.{AllByRecursion, flat_map, filter_map}
-use Rattle.sqlite_value.specs.declared.keys.Collation.{Collation}
+use Rattle.std.specs.List.{AllByRecursion}
+use Rattle.std.proofs.lemmas.Bool.{not-true}
 use Rattle.sqlite_value.specs.declared.value.Value.{Value}
-use Rattle.sqlite_value.specs.declared.value.Value.TheVariants.{Null, Int, Real, Text, Blob}
+use Rattle.sqlite_value.specs.declared.value.Value.TheVariants.{Null, Int, Text}
 use Rattle.sqlite_value.specs.Order.{Row, column, value_cmp}
 use Rattle.sqlite_value.proofs.OrderLemmas.{value_cmp_total}
-use Rattle.sqlite_trees.specs.Tree.{Trees, rowid, put_row}
+use Rattle.sqlite_trees.specs.Tree.{rowid, put_row}
 use Rattle.sqlite_sql.specs.Program.{overlay}
-use Rattle.sqlite_sql.specs.Query.{Query, IsAnswer, Output, output}
-use Rattle.sqlite_sql.specs.Term.{Term, lit}
+use Rattle.sqlite_sql.specs.Query.{Output}
 use Rattle.sqlite_tied.specs.Compute.{everything}
-use Rattle.sqlite_keyed.proofs.ListLemmas.{map-map, IsPermutation-filter}
-use Rattle.sqlite_keyed.proofs.RuleLemmas.{first_of_both, second_of_both}
-use Rattle.sqlite_rules.specs.Action.{Work, work_by, deed_for, works}
+use Rattle.sqlite_keyed.proofs.ListLemmas.{filter_all, IsPermutation-filter}
+use Rattle.sqlite_keyed.proofs.RuleLemmas.{first_of_both, second_of_both, each_true}
+use Rattle.sqlite_rules.specs.Action.{works}
 use Rattle.sqlite_rules.specs.Cast.{cast, cast_row}
 use Rattle.sqlite_rules.specs.Edit.{id_in, is_taken, are_fresh, numbered, put_all}
 use Rattle.sqlite_rules.specs.Lists.{Has}
 use Rattle.sqlite_rules.proofs.ListLemmas.{all_has, all_from}
 use Rattle.sqlite_rules.proofs.ProbeLemmas.{has_mapped}
 use Rattle.sqlite_rules.proofs.TableLemmas.{int_is}
-use Rattle.sqlite_schema.specs.Rules.{is_of, are_typed, parent_key, Keeps}
+use Rattle.sqlite_schema.specs.Rules.{is_of, are_typed}
 use Rattle.sqlite_schema.specs.declared.schema.Constraint.TheVariants.{Datatype}
 use Rattle.sqlite_schema.specs.declared.schema.Keys.TheVariants.{Enforced}
 use Rattle.sqlite_schema.specs.declared.schema.Kind.TheVariants as kind
@@ -37,32 +36,20 @@ use Rattle.sqlite.specs.State.{State, Executes}
 use Rattle.sqlite.specs.Table.{Table}
 use Rattle.sqlite.specs.Effect.{Database, IsDatabase}
 use Rattle.room_tables.specs.Tables.{Upgraded, room_schema, slot_table, kept_table}
-use Rattle.room_tables.specs.Texts.{over_table, copy_row_text, copy_row_query, take_row_text}
+use Rattle.room_tables.specs.Texts.{copy_row_text, copy_row_query, take_row_text}
 use Rattle.room_tables.specs.Rows.{is_slot, shown_slot}
 use Rattle.room_tables.specs.Layout.{IsKeyed}
 use Rattle.room_tables.specs.Upgrade.{shows, has_id, others_than, IsShared, IsMoving, CopiesRow}
 use Rattle.room_tables.proofs.Each.{by_name, from_both}
-use Rattle.room_tables.proofs.Meaning.{copy_row_is, copy_row_plain, take_row_is, take_row_plain}
-use Rattle.room_tables.proofs.Queries.{Picks, passing, envs_are, found, and_true}
+use Rattle.room_tables.proofs.Meaning.{copy_row_means, take_row_means}
+use Rattle.room_tables.proofs.Queries.{answer_of, found, and_true}
 use Rattle.room_tables.proofs.Removed.{one_row, has_permuted}
 use Rattle.room_tables.proofs.Values.{equal_is, equal_tied}
-use Rattle.room_tables.proofs.Changes.{Inserted, Leaves, new_rows, inserted, cleared, not_true, cast_null, cast_int}
+use Rattle.room_tables.proofs.Changes.{Inserted, Leaves, new_rows, inserted, cleared, cast_null, cast_int}
+use Rattle.room_tables.proofs.Takes.{quiet}
 use Rattle.room_tables.proofs.Filters.{put_is_one_more, keyed_put, keyed_filter}
 
--- nothing refers to either table, so that no foreign key acts
-abbrev set_off : ℕ → List (Row × Row) → Bool → List Work
-set_off tree moves deletes = flat_map (λ child. filter_map (λ ref. work_by 0 tree moves child ref
-    (deed_for Enforced deletes ref) (parent_key (room_schema Upgraded).tables ref)) child.references)
-    (room_schema Upgraded).tables
-
-kept_set_off : (deletes : Bool) → set_off 10 [] deletes ≡ []
-unfolding everything
-kept_set_off true = refl
-kept_set_off false = refl
-
-kept_quiet : (news : List Row) → works (room_schema Upgraded) Enforced 0 10 [] news ≡ []
-kept_quiet news = kept_set_off (length news == 0)
-
+-- no foreign key acts
 slot_quiet : (olds : List Row) → works (room_schema Upgraded) Enforced 0 8 olds [] ≡ []
 unfolding everything
 slot_quiet olds = refl
@@ -74,17 +61,13 @@ tail_of r = column r 1 ∷ column r 2 ∷ column r 3 ∷ column r 4 ∷ column r
 
 text_stays : (v : Value) → is_of kind.Text v ≡ true → cast kind.Text v ≡ v
 text_stays Null h = refl
-text_stays (Int n) h = absurd (true≢false (sym h))
-text_stays (Real x) h = absurd (true≢false (sym h))
 text_stays (Text t) h = refl
-text_stays (Blob b) h = absurd (true≢false (sym h))
+text_stays _ h = absurd (let e = h in cc)
 
 int_stays : (v : Value) → is_of kind.Integer v ≡ true → cast kind.Integer v ≡ v
 int_stays Null h = cast_null
 int_stays (Int n) h = cast_int n
-int_stays (Real x) h = absurd (true≢false (sym h))
-int_stays (Text t) h = absurd (true≢false (sym h))
-int_stays (Blob b) h = absurd (true≢false (sym h))
+int_stays _ h = absurd (let e = h in cc)
 
 abbrev IsTyped : Row → Type 0
 IsTyped r = are_typed None 0 slot_table.columns (drop 1 r) ≡ true
@@ -111,35 +94,6 @@ copied_row : (id : ℤ) (r : Row) → IsTyped r → cast_row (kept_table 10) (co
 copied_row id r h = let s = stays r h in rw (cast_int id, s.0, s.1, s.2) refl
 
 -- ---- the row that is copied
-
--- an answer of at most one row: the first of some order
-record First (tree : ℕ) (q : Query) (params : Row) (db : Trees) (rows : List Row) : Type 0 where
-  all : List Row
-  first : rows ≡ take 1 all
-  picks : Picks q params (passing [] params (db tree)) all
-
-first_of : (tree : ℕ) (project : List Term) (how : List Collation) (db : Trees) (params : Row) (rows : List Row)
-    → IsAnswer (record (over_table tree [] project []) { collations = how; limit = lit (Int (pos 1)) }) db params rows
-    → First tree (record (over_table tree [] project []) { collations = how; limit = lit (Int (pos 1)) }) params db rows
-first_of tree project how db params rows a =
-    let q : Query = record (over_table tree [] project []) { collations = how; limit = lit (Int (pos 1)) } in
-    let kept : a.kept ≡ map (λ r. output q (params ∷ r ∷ [])) (passing [] params (db tree)) =
-    a.distinct ∙ ap (map (output q)) (a.grouped ∙ envs_are [] params (db tree))
-    ∙ map-map (output q) (λ r. params ∷ r ∷ []) (passing [] params (db tree)) in
-    record {
-      all = map (λ (o : Output). o.1) a.ordered;
-      first = a.shown;
-      picks = record {
-        ordered = a.ordered;
-        same = subst (λ k. IsPermutation k a.ordered) kept a.same;
-        sorted = a.sorted;
-        is = refl;
-      };
-    }
-
-all_pass : (rows : List Row) → filter (λ _. true) rows ≡ rows
-all_pass [] = refl
-all_pass (r ∷ rows) = ap (λ l. r ∷ l) (all_pass rows)
 
 abbrev given_row : Row → Row
 given_row r = rowid r ∷ tail_of r
@@ -178,18 +132,20 @@ copies : (old new : State) (count : ℕ) → old.now.schema ≡ room_schema Upgr
     → IsKeyed (old.now.trees 8) → Executes copy_row_text [] old new (Ok count) → Copied old new
 copies old new count has sound keyed h =
     let it = inserted Upgraded old new 6 (kept_table 10) copy_row_text [] _ count refl has refl
-    copy_row_is copy_row_plain kept_quiet h in
+    copy_row_means (λ news. (quiet Upgraded 0 [] news).slots) h in
     let db = old.now.trees in
-    let k = first_of 8 copy_row_query.project copy_row_query.collations (overlay db []) [] it.given
-    (it.source.answer Null) in
-    let moved = found copy_row_query [] (db 8) k.all (λ _. true) given_row (λ r. refl) (λ r. refl) k.picks in
-    let same : IsPermutation (map given_row (db 8)) k.all =
-    subst (λ l. IsPermutation (map given_row l) k.all) (all_pass (db 8)) moved in
+    let a = it.source.answer Null in
+    let all = map (λ (o : Output). o.1) a.ordered in
+    let moved = found copy_row_query [] (db 8) all (λ _. true) given_row (λ r. refl) (λ r. refl)
+    (answer_of 8 [] copy_row_query.project [] copy_row_query.collations copy_row_query.limit (overlay db []) [] it.given a)
+    in
+    let same : IsPermutation (map given_row (db 8)) all =
+    subst (λ l. IsPermutation (map given_row l) all) (filter_all _ (db 8) (each_true (db 8))) moved in
     record {
       schema = it.schema;
       sound = it.sound;
       others = it.tables;
-      which = elim (gave (db 8) k.all it.given same k.first) [
+      which = elim (gave (db 8) all it.given same a.shown) [
         | inl none ↦ inl (
           it.changes ∙ ap (λ l. length (new_rows db (kept_table 10) l)) none.0,
           none.1,
@@ -220,7 +176,7 @@ copies old new count has sound keyed h =
           it.changes ∙ ap length news,
           there,
           key ∙ ap Int (sym last),
-          subst (λ i. is_taken (db 10) (copy_of i r) ≡ false) (sym last) (not_true _ (first_of_both _ _ fresh)),
+          subst (λ i. is_taken (db 10) (copy_of i r) ≡ false) (sym last) (not-true _ (first_of_both _ _ fresh)),
           it.rows_are ∙ ap (put_all (db 10)) news ∙ ap (λ i. put_row (copy_of i r) (db 10)) (sym last),
         )
 
@@ -230,7 +186,7 @@ pub takes : (id : ℤ) (old new : State) (count : ℕ) → old.now.schema ≡ ro
     → Leaves Upgraded old.now new.now 8 (others_than id (old.now.trees 8))
 takes id old new count has keyed h =
     cleared Upgraded old new 5 slot_table take_row_text (Int id ∷ []) _ count (has_id id) refl has keyed
-    take_row_is take_row_plain refl slot_quiet (λ r. and_true (has_id id r)) h
+    take_row_means refl slot_quiet (λ r. and_true (has_id id r)) h
 
 -- ---- the rows of both tables
 

@@ -10,59 +10,51 @@ use Rattle.room_records.specs.Fresh.{no_records}
 use Rattle.room_records.specs.Representation.{RepresentsRoom}
 use Rattle.room_records.proofs.FreshRoom.{root_node, fresh_stands}
 use Rattle.std.specs.List.{AllByRecursion}
-use Rattle.sqlite_trees.specs.Tree.{Trees}
+use Rattle.sqlite_trees.specs.Tree.{Trees, no_trees}
 use Rattle.sqlite.specs.Table.{Table}
 use Rattle.sqlite.specs.Schema.{Schema}
 use Rattle.sqlite.specs.Command.TheVariants.{CreateTable}
-use Rattle.sqlite.specs.Compile.{table_defined_by}
-use Rattle.sqlite.specs.Change.{created, next_tree, is_used, KeepsRows}
+use Rattle.sqlite.specs.Change.{created, next_tree, KeepsRows}
 use Rattle.sqlite.specs.Does.{Tally, Does, lacks_sequence}
 use Rattle.sqlite.specs.Effect.{Database, IsDatabase}
-use Rattle.sqlite.specs.State.{State, mode_of, Writes, ExecutesInside}
+use Rattle.sqlite.specs.State.{State, mode_of, ExecutesInside}
 use Rattle.sqlite.proofs.Callers.{runs_as}
-use Rattle.room_tables.specs.Tables.{room_text, node_text, entry_text, doc_text, session_text, kept_text, room_table}
-use Rattle.room_tables.specs.Tables.{node_table, entry_table, doc_table, session_table, kept_table, schema_0, schema_1}
-use Rattle.room_tables.specs.Tables.{schema_2, schema_3, schema_4, schema_5, Fresh, room_schema}
+use Rattle.room_tables.specs.Tables.{room_text, node_text, entry_text, doc_text, session_text, kept_text, schema_0}
+use Rattle.room_tables.specs.Tables.{schema_1, schema_2, schema_3, schema_4, schema_5, Fresh, room_schema}
 use Rattle.room_tables.specs.Layout.{IsKeyed, IsNumbered, IsRoomDatabase}
 use Rattle.room_tables.specs.Fresh.{IsMade, IsFresh, IsFilled, filled}
 use Rattle.room_tables.specs.Steps.{Steps}
 use Rattle.room_records.specs.declared.node.Node.{Node}
 use Rattle.room_records.specs.Records.{Records}
-use Rattle.room_tables.specs.Rows.{nodes_in, entries_in, documents_in, next_in, sessions_in, slots_in, records_of}
-use Rattle.room_tables.specs.Rows.{version_rows, IsVersion}
+use Rattle.room_tables.specs.Rows.{records_of, version_rows, IsVersion}
 use Rattle.room_tables.proofs.Each.{by_name, from_both}
 use Rattle.room_tables.proofs.Listed.{slots_listed}
-use Rattle.room_tables.proofs.Making.{room_is, room_plain, room_made, node_is, node_plain, node_made, entry_is}
-use Rattle.room_tables.proofs.Making.{entry_plain, entry_made, doc_is, doc_plain, doc_made, session_is, session_plain}
-use Rattle.room_tables.proofs.Making.{session_made, kept_is, kept_plain, kept_made}
-use Rattle.room_tables.proofs.Effects.{same_records}
-use Rattle.room_tables.proofs.Changes.{went, same_value, executes_inside}
+use Rattle.room_tables.proofs.Making.{Makes, room_makes, node_makes, entry_makes, doc_makes, session_makes, kept_makes}
+use Rattle.room_tables.proofs.Effects.{read_same}
+use Rattle.room_tables.proofs.Changes.{went, same_value}
 
-pub record Made (old new : State) (schema : Schema) (table : Table) : Type 0 where
-  -- no table, index or view had the name
-  pub free : is_used schema table.name ≡ false
-  pub after : new.now.schema ≡ created schema table
+pub record Made (old new : State) (schema next : Schema) : Type 0 where
+  pub after : new.now.schema ≡ next
   pub sound : IsDatabase new.now
   pub empty : new.now.trees (next_tree schema) ≡ []
   pub others : KeepsRows schema.tables old.now.trees new.now.trees
 
-pub makes : (old new : State) (schema : Schema) (table : Table) (sql text : List ℕ) (count : ℕ)
-    → old.now.schema ≡ schema → table_defined_by text ≡ Ok table → lacks_sequence (created schema table) ≡ false
-    → Writes old new None CreateTable text [] count → Made old new schema table
-makes old new schema table sql text count has defined plain w =
-    let changed = subst (λ s. Does old.step_limit (mode_of old) [] (record old.now { schema = s })
-    text None CreateTable (Ok (w.tally, new.now))) has w.changed in
-    let all = went changed in
+pub makes : (old new : State) (schema next : Schema) (table : Table) (text : List ℕ) (count : ℕ)
+    → old.now.schema ≡ schema → Makes schema text table next → lacks_sequence next ≡ false
+    → ExecutesInside 0 text [] old new (Ok count) → Made old new schema next
+makes old new schema next table text count has it plain h =
+    let w = rw it.statement at (runs_as text [] old new schema has CreateTable it.command it.plain count h.0) in
+    let all = went (subst (λ s. Does old.step_limit (mode_of old) [] (record old.now { schema = s })
+    text None CreateTable (Ok (w.tally, new.now))) has w.changed) in
     let first = went all.1 in
     let made = first.1 in
-    let both : Ok made.table ≡ Ok table = sym made.defined ∙ defined in
+    let both : Ok made.table ≡ Ok table = sym made.defined ∙ it.defined in
     let same : made.table ≡ table = cc in
-    let is : first.0.schema ≡ created schema table = made.is ∙ ap (created schema) same in
+    let is : first.0.schema ≡ next = made.is ∙ ap (created schema) same ∙ it.made in
     let lacks : lacks_sequence first.0.schema ≡ false = ap lacks_sequence is ∙ plain in
     let now : new.now ≡ first.0 =
     ap (λ (p : Tally × Database). p.1) (same_value all.2) ∙ same_value (rw lacks at first.2) in
     record {
-      free = ap (λ (t : Table). is_used schema t.name) (sym same) ∙ made.free;
       after = ap (λ (d : Database). d.schema) now ∙ is;
       sound = w.sound;
       empty = ap (λ (d : Database). d.trees (next_tree schema)) now ∙ made.empty;
@@ -76,79 +68,46 @@ all_empty : (tables : List Table) (more : Table) (old new : Trees) → KeepsRows
 all_empty [] more old new same were is = (is, tt)
 all_empty (t ∷ tables) more old new same were is = (same.0 ∙ were.0, all_empty tables more old new same.1 were.1 is)
 
+step : (old new : State) (schema next : Schema) (table : Table) (text : List ℕ) (count : ℕ) → old.now.schema ≡ schema
+    → AllByRecursion (λ (t : Table). old.now.trees t.tree ≡ []) schema.tables → Makes schema text table next
+    → lacks_sequence next ≡ false → ExecutesInside 0 text [] old new (Ok count) → IsMade next new.now
+step old new schema next table text count has empty makes_it plain h =
+    let it = makes old new schema next table text count has makes_it plain h in
+    record {
+      schema = it.after;
+      sound = it.sound;
+      empty = subst (λ (s : Schema). AllByRecursion (λ (t : Table). new.now.trees t.tree ≡ []) s.tables) makes_it.made
+          (all_empty schema.tables (record table { tree = next_tree schema }) old.now.trees new.now.trees
+          it.others empty it.empty);
+    }
+
 pub room_step : (old new : State) (count : ℕ) → ExecutesInside 0 room_text [] old new (Ok count)
     → old.now.schema ≡ schema_0 → IsMade schema_1 new.now
-room_step old new count h was =
-    let w = runs_as room_text [] old new schema_0 was CreateTable room_is.0
-    room_plain count (executes_inside room_text [] old new count h).0 in
-    let it = makes old new schema_0 (record room_table { tree = 0 })
-    room_text _ count was room_is.2 refl (rw room_is.1 at w) in
-    record { schema = it.after ∙ room_made; empty = (it.empty, tt); sound = it.sound }
+room_step old new count h was = step old new schema_0 schema_1 _ room_text count was tt room_makes refl h
 
 pub node_step : (old new : State) (count : ℕ) → ExecutesInside 0 node_text [] old new (Ok count)
     → IsMade schema_1 old.now → IsMade schema_2 new.now
 node_step old new count h was =
-    let w = runs_as node_text [] old new schema_1 was.schema CreateTable node_is.0
-    node_plain count (executes_inside node_text [] old new count h).0 in
-    let it = makes old new schema_1 (record node_table { tree = 0 })
-    node_text _ count was.schema node_is.2 refl (rw node_is.1 at w) in
-    record {
-      schema = it.after ∙ node_made;
-      empty = all_empty schema_1.tables node_table old.now.trees new.now.trees it.others was.empty it.empty;
-      sound = it.sound;
-    }
+    step old new schema_1 schema_2 _ node_text count was.schema was.empty node_makes refl h
 
 pub entry_step : (old new : State) (count : ℕ) → ExecutesInside 0 entry_text [] old new (Ok count)
     → IsMade schema_2 old.now → IsMade schema_3 new.now
 entry_step old new count h was =
-    let w = runs_as entry_text [] old new schema_2 was.schema CreateTable entry_is.0
-    entry_plain count (executes_inside entry_text [] old new count h).0 in
-    let it = makes old new schema_2 (record entry_table { tree = 0 })
-    entry_text _ count was.schema entry_is.2 refl (rw entry_is.1 at w) in
-    record {
-      schema = it.after ∙ entry_made;
-      empty = all_empty schema_2.tables entry_table old.now.trees new.now.trees it.others was.empty it.empty;
-      sound = it.sound;
-    }
+    step old new schema_2 schema_3 _ entry_text count was.schema was.empty entry_makes refl h
 
 pub doc_step : (old new : State) (count : ℕ) → ExecutesInside 0 doc_text [] old new (Ok count)
     → IsMade schema_3 old.now → IsMade schema_4 new.now
-doc_step old new count h was =
-    let w = runs_as doc_text [] old new schema_3 was.schema CreateTable doc_is.0
-    doc_plain count (executes_inside doc_text [] old new count h).0 in
-    let it = makes old new schema_3 (record doc_table { tree = 0 })
-    doc_text _ count was.schema doc_is.2 refl (rw doc_is.1 at w) in
-    record {
-      schema = it.after ∙ doc_made;
-      empty = all_empty schema_3.tables doc_table old.now.trees new.now.trees it.others was.empty it.empty;
-      sound = it.sound;
-    }
+doc_step old new count h was = step old new schema_3 schema_4 _ doc_text count was.schema was.empty doc_makes refl h
 
 pub session_step : (old new : State) (count : ℕ) → ExecutesInside 0 session_text [] old new (Ok count)
     → IsMade schema_4 old.now → IsMade schema_5 new.now
 session_step old new count h was =
-    let w = runs_as session_text [] old new schema_4 was.schema CreateTable session_is.0
-    session_plain count (executes_inside session_text [] old new count h).0 in
-    let it = makes old new schema_4 (record session_table { tree = 0 })
-    session_text _ count was.schema session_is.2 refl (rw session_is.1 at w) in
-    record {
-      schema = it.after ∙ session_made;
-      empty = all_empty schema_4.tables session_table old.now.trees new.now.trees it.others was.empty it.empty;
-      sound = it.sound;
-    }
+    step old new schema_4 schema_5 _ session_text count was.schema was.empty session_makes refl h
 
 pub kept_step : (old new : State) (count : ℕ) → ExecutesInside 0 kept_text [] old new (Ok count)
     → IsMade schema_5 old.now → IsMade (room_schema Fresh) new.now
 kept_step old new count h was =
-    let w = runs_as kept_text [] old new schema_5 was.schema CreateTable kept_is.0
-    kept_plain count (executes_inside kept_text [] old new count h).0 in
-    let it = makes old new schema_5 (kept_table 0)
-    kept_text _ count was.schema kept_is.2 refl (rw kept_is.1 at w) in
-    record {
-      schema = it.after ∙ kept_made;
-      empty = all_empty schema_5.tables (kept_table 8) old.now.trees new.now.trees it.others was.empty it.empty;
-      sound = it.sound;
-    }
+    step old new schema_5 (room_schema Fresh) _ kept_text count was.schema was.empty kept_makes refl h
 
 -- tables that were just made
 pub made_room : (db : Database) → IsMade (room_schema Fresh) db
@@ -164,13 +123,7 @@ made_room db it =
         keyed = from_both Fresh _ _ _ (λ t is _. subst IsKeyed (sym is) none) e e;
         numbered = subst (AllByRecursion IsNumbered) (sym e.node) tt;
       },
-      same_records _ _
-          (λ q. ap (λ rows. nodes_in rows q) e.node)
-          (λ q. ap (λ rows. entries_in rows q) e.entry)
-          (λ q. ap (λ rows. documents_in rows q) e.doc)
-          (ap next_in e.room)
-          (λ q. ap (λ rows. sessions_in rows q) e.session)
-          (λ q n. ap (λ rows. slots_in rows q n) (listed ∙ e.slots)),
+      read_same no_trees db.trees [] e (listed ∙ e.slots),
     )
 
 -- and then filled

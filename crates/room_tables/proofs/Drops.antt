@@ -1,11 +1,9 @@
 -- What a DELETE of a node does, whose entries and document go with it by ON DELETE CASCADE.
-use Rattle.std.proofs.Common.{◌≡◌, ◌⊎◌, inl, inr, ℕ, zero, suc, ℤ, pos, Bool, true, false, not, ◌&&◌, ◌||◌, ◌==◌, cond}
-use Rattle.std.proofs.Common.{List, [], ◌∷◌, ◌++◌, length, map, filter, Some, option_map, Ok, refl, sym, ap, subst}
-use Rattle.std.proofs.Common.{subst₂, ◌∙◌, arith, true≢false, length-append, append-nil, codes, IsPermutation, Equal}
-use Rattle.std.proofs.Common.{is_eq, eq-eqb}
+use Rattle.std.proofs.Common.{◌≡◌, ◌⊎◌, inl, inr, ℕ, zero, suc, ℤ, pos, Bool, true, false, not, ◌||◌, List, [], ◌∷◌}
+use Rattle.std.proofs.Common.{◌++◌, length, map, filter, Some, option_map, Ok, refl, sym, ap, subst, subst₂, ◌∙◌, arith}
+use Rattle.std.proofs.Common.{length-append, append-nil, codes, IsPermutation, Equal, is_eq}
 use Rattle.std.specs.List.{AllByRecursion, list_any}
-use Rattle.std.proofs.lemmas.Bool.{cases_Bool, cases_eq}
-use Rattle.std.proofs.lemmas.Bool.Decides.{nat_tests}
+use Rattle.std.proofs.lemmas.Bool.{or_from}
 use Rattle.std.proofs.lemmas.Cmp.{tied_itself, alike_right}
 use Rattle.std.proofs.lemmas.List.Sorted.{length_permutation}
 use Rattle.sqlite_value.specs.declared.value.Value.TheVariants.{Null, Int}
@@ -26,14 +24,13 @@ use Rattle.sqlite_rules.specs.Edit.{edit_of, taken_by, without_all}
 use Rattle.sqlite_rules.specs.Calls.{ids_of}
 use Rattle.sqlite_rules.specs.Action.{Work, works, loses, is_child_of, Leads, Acts, ActsOn, AreChildren}
 use Rattle.sqlite_rules.specs.Action.{Writes, action_edit}
-use Rattle.sqlite_rules.proofs.ListLemmas.{all_has, all_from, some_has, has_kept, has_filtered}
+use Rattle.sqlite_rules.proofs.ListLemmas.{all_has, some_has, has_kept, has_filtered}
 use Rattle.sqlite_rules.proofs.PlaceLemmas.{row_at_is}
 use Rattle.sqlite_keyed.proofs.RuleLemmas.{first_of_both}
 use Rattle.sqlite_keyed.proofs.ListLemmas.{filter_all, all_weaker, all-filter}
 use Rattle.sqlite.specs.Rowids.TheVariants.{Given}
 use Rattle.sqlite.specs.Table.{Table}
 use Rattle.sqlite.specs.Effect.{Database, IsDatabase}
-use Rattle.sqlite.specs.Command.TheVariants as command
 use Rattle.sqlite.specs.Rows.{Written}
 use Rattle.sqlite.specs.State.{State, Executes, ExecutesInside}
 use Rattle.sqlite.proofs.Callers.{runs_as, one_step, one_permutation}
@@ -49,12 +46,14 @@ use Rattle.room_tables.specs.Layout.{IsKeyed, IsNumbered, IsRoomDatabase}
 use Rattle.room_tables.specs.Steps.{Steps}
 use Rattle.room_tables.proofs.Each.{of_any, rows_pass, above}
 use Rattle.room_tables.proofs.Listed.{slots_listed}
-use Rattle.room_tables.proofs.Meaning.{drop_node_is, drop_node_plain}
-use Rattle.room_tables.proofs.Queries.{answer_is, found, and_true}
+use Rattle.room_tables.proofs.Meaning.{drop_node_means}
+use Rattle.room_tables.proofs.Queries.{answer_is, found, and_true, tidy}
+use Rattle.room_tables.proofs.Takes.{quiet}
+use Rattle.room_tables.proofs.Puts.{nodes_quiet}
 use Rattle.room_tables.proofs.Values.{has_is, has_int, has_value, has_tied, has_not_null, equal_tied}
 use Rattle.room_tables.proofs.Removed.{one_row, removed_ids}
-use Rattle.room_tables.proofs.Changes.{Others, others_of, without, deletes, went, same_value, executes_inside}
-use Rattle.room_tables.proofs.Filters.{none_left, others_left, not_both, keyed_filter, version_stays}
+use Rattle.room_tables.proofs.Changes.{Others, others_of, without, wrote, went, same_value}
+use Rattle.room_tables.proofs.Filters.{none_left, without_none, rows_gone, keyed_filter, version_stays}
 use Rattle.room_tables.proofs.Effects.{same_records}
 
 -- ---- what the delete of one node sets off
@@ -91,20 +90,6 @@ set_off : (l : Layout) (there : Row) (id : ℕ) → rowid there ≡ Int (pos id)
 unfolding everything
 set_off Fresh there id is = rw (loses_key there id is) refl
 set_off Upgraded there id is = rw (loses_key there id is) refl
-
-entries_last : (l : Layout) (olds : List Row) → works (room_schema l) Enforced 1 3 olds [] ≡ []
-unfolding everything
-entries_last Fresh olds = refl
-entries_last Upgraded olds = refl
-
-docs_last : (l : Layout) (olds : List Row) → works (room_schema l) Enforced 1 5 olds [] ≡ []
-unfolding everything
-docs_last Fresh olds = refl
-docs_last Upgraded olds = refl
-
-tidy : (b : Bool) → ((b && true) || false) ≡ b
-tidy true = refl
-tidy false = refl
 
 -- the children of the node are its entries and its document
 entry_is_child : (there r : Row) (id : ℕ) → rowid there ≡ Int (pos id)
@@ -180,23 +165,23 @@ led l (suc n) db next table ref there front quiet h =
           one.0 one.1 h.3),
     )
 
--- the trees after the two actions
-record Cascaded (l : Layout) (db next : Trees) (id : ℕ) : Type 0 where
+-- the trees without the entries and the document of the node, whose rows are these now
+record Dropped (l : Layout) (db next : Trees) (id : ℕ) (rows : List Row) : Type 0 where
+  nodes : next 1 ≡ rows
   entries : next 3 ≡ without (has 1 id) (db 3)
   docs : next 5 ≡ without (has 0 id) (db 5)
-  nodes : next 1 ≡ db 1
   room : next 0 ≡ db 0
   sessions : next 6 ≡ db 6
   slots : next (slots_tree l) ≡ db (slots_tree l)
 
 cascaded : (l : Layout) (n : ℕ) (db next : Trees) (there : Row) (id : ℕ)
     → rowid there ≡ Int (pos id) → IsKeyed (db 3) → IsKeyed (db 5)
-    → Leads (room_schema l) Enforced n db (entry_work there ∷ doc_work there ∷ []) (Ok next) → Cascaded l db next id
+    → Leads (room_schema l) Enforced n db (entry_work there ∷ doc_work there ∷ []) (Ok next) → Dropped l db next id (db 1)
 cascaded l n db next there id is entries docs h =
-    let first = (led l n db next doc_table doc_ref there (entry_work there ∷ []) (docs_last l) h).1 in
+    let first = (led l n db next doc_table doc_ref there (entry_work there ∷ []) (λ olds. (quiet l 1 olds []).doc) h).1 in
     let o = first.others in
     let same_entries : first.mid 3 ≡ db 3 = o.entry (omega arith) in
-    let second = (led l _ first.mid next entry_table entry_ref there [] (entries_last l) first.rest).1 in
+    let second = (led l _ first.mid next entry_table entry_ref there [] (λ olds. (quiet l 1 olds []).entry) first.rest).1 in
     let p = second.others in
     let end = settled l _ second.mid next second.rest in
     let doc_test = λ (r : Row). doc_is_child there r id is in
@@ -218,15 +203,6 @@ cascaded l n db next there id is entries docs h =
           ∙ o.slots (omega (arith, above l));
     }
 
--- the database without the node, its entries and its document
-record Dropped (l : Layout) (db next : Trees) (id : ℕ) : Type 0 where
-  nodes : next 1 ≡ without (has 0 id) (db 1)
-  entries : next 3 ≡ without (has 1 id) (db 3)
-  docs : next 5 ≡ without (has 0 id) (db 5)
-  room : next 0 ≡ db 0
-  sessions : next 6 ≡ db 6
-  slots : next (slots_tree l) ≡ db (slots_tree l)
-
 without_number : (id : ℕ) (rows : List Row) → without_rowid (pos id) rows ≡ without (has 0 id) rows
 without_number id rows = Rattle.sqlite_keyed.proofs.ListLemmas.filter_same _ _ (λ r. ap not (sym (has_is 0 id r))) rows
 
@@ -234,13 +210,13 @@ without_number id rows = Rattle.sqlite_keyed.proofs.ListLemmas.filter_same _ _ (
 drops_there : (l : Layout) (db next : Trees) (id : ℕ) (there : Row) (rows : List Row) → IsKeyed (db 1) → IsKeyed (db 3)
     → IsKeyed (db 5) → filter (has 0 id) (db 1) ≡ there ∷ [] → rows ≡ (Int (pos id) ∷ []) ∷ []
     → Writes (room_schema l) Enforced db (edit_of db node_table (ids_of rows) Given 0 []) (Ok next)
-    → Dropped l db next id
+    → Dropped l db next id (without (has 0 id) (db 1))
 drops_there l db next id there rows nodes entries docs only is h =
     go (subst (λ found. Writes (room_schema l) Enforced db (edit_of db node_table (ids_of found) Given 0 [])
     (Ok next)) is h)
   where
     go : Writes (room_schema l) Enforced db (edit_of db node_table (pos id ∷ []) Given 0 []) (Ok next)
-        → Dropped l db next id
+        → Dropped l db next id (without (has 0 id) (db 1))
     go (inl refused) = absurd (let e = refused.2 in cc)
     go (inr (inl big)) = absurd (let e = big.3 in cc)
     go (inr (inr step)) =
@@ -266,21 +242,13 @@ drops_there l db next id there rows nodes entries docs only is h =
 
 -- ---- with no such node there is nothing that belongs to it
 
-entry_parent : (l : Layout) → parent_key (room_schema l).tables entry_ref ≡ Some (1, 0 ∷ [], plain)
+parents : (l : Layout) → (parent_key (room_schema l).tables entry_ref ≡ Some (1, 0 ∷ [], plain))
+    × (parent_key (room_schema l).tables doc_ref ≡ Some (1, 0 ∷ [], plain))
 unfolding everything
-entry_parent l = refl
-
-doc_parent : (l : Layout) → parent_key (room_schema l).tables doc_ref ≡ Some (1, 0 ∷ [], plain)
-unfolding everything
-doc_parent l = refl
+parents l = (refl, refl)
 
 held_by : (a b : Bool) → (a || b) ≡ true → a ≡ false → b ≡ true
-held_by true b h fails = absurd (true≢false fails)
-held_by false b h fails = h
-
-not_null : (b : Bool) → b ≡ false → (b || false) ≡ false
-not_null true h = absurd (true≢false h)
-not_null false h = refl
+held_by a b h fails = rw fails at h
 
 -- a row that refers to the node has it
 has_its_node : (l : Layout) (db : Trees) (ref : Reference) (place : ℕ) (row : Row) (id : ℕ)
@@ -290,7 +258,7 @@ has_its_node : (l : Layout) (db : Trees) (ref : Reference) (place : ℕ) (row : 
 unfolding first_key
 has_its_node l db ref place row id columns key fits mine =
     let there = subst₂ (λ c k. (has_null c row || is_held db c row k) ≡ true) columns key fits in
-    let held = held_by _ _ there (not_null _ (has_not_null place id row mine)) in
+    let held = held_by _ _ there (or_from _ false (has_not_null place id row mine) refl) in
     let p = some_has (λ parent. agree plain (0 ∷ []) parent (place ∷ []) row) (db 1) held in
     let tie = equal_tied (column p.0 0) (column row place) (first_of_both _ _ p.2) in
     let same : value_cmp (column p.0 0) (Int (pos id)) ≡ Equal =
@@ -302,27 +270,26 @@ none_of : (l : Layout) (db : Trees) (ref : Reference) (table : Table) (place id 
     → ref.columns ≡ place ∷ [] → parent_key (room_schema l).tables ref ≡ Some (1, 0 ∷ [], plain)
     → AllByRecursion (λ r. has_parent (room_schema l).tables db r ref ≡ true) (db table.tree)
     → filter (has 0 id) (db 1) ≡ [] → without (has place id) (db table.tree) ≡ db table.tree
-none_of l db ref table place id columns key fit none =
-    filter_all _ (db table.tree)
-    (all_from (λ r. not (has place id r) ≡ true) (db table.tree) (λ r h. elim (cases_Bool (has place id r)) [
-      | inl mine ↦
-          let p = has_its_node l db ref place r id columns key (all_has _ (db table.tree) r fit h) mine in
-          absurd (subst (λ l. Has l p.0) none (has_kept (has 0 id) (db 1) p.0 p.1 p.2))
-      | inr other ↦ ap not other
-    ]))
+none_of l db ref table place id columns key fit none = without_none (has place id) (db table.tree) (λ r h mine.
+    let p = has_its_node l db ref place r id columns key (all_has _ (db table.tree) r fit h) mine in
+    subst (λ l. Has l p.0) none (has_kept (has 0 id) (db 1) p.0 p.1 p.2))
+
+nothing_refers : (l : Layout) (db : Database) (id : ℕ) → db.schema ≡ room_schema l → IsDatabase db
+    → filter (has 0 id) (db.trees 1) ≡ []
+    → (without (has 1 id) (db.trees 3) ≡ db.trees 3) × (without (has 0 id) (db.trees 5) ≡ db.trees 5)
+nothing_refers l db id schema sound none =
+    let keeps = rows_pass ForeignKey db l schema sound in (
+      none_of l db.trees entry_ref entry_table 1 id refl (parents l).0
+          (all_weaker _ _ (λ r e. first_of_both _ _ e) (db.trees 3) keeps.entry) none,
+      none_of l db.trees doc_ref doc_table 0 id refl (parents l).1
+          (all_weaker _ _ (λ r e. first_of_both _ _ e) (db.trees 5) keeps.doc) none,
+    )
 
 -- so an object that is not there has no entries
 pub no_entries : (l : Layout) (db : Database) (id : ℕ) → db.schema ≡ room_schema l → IsDatabase db
     → filter (has 0 id) (db.trees 1) ≡ [] → filter (has 1 id) (db.trees 3) ≡ []
-no_entries l db id schema sound none =
-    ap (filter (has 1 id)) (sym (none_of l db.trees entry_ref entry_table 1 id refl (entry_parent l)
-    (all_weaker _ _ (λ r e. first_of_both _ _ e) (db.trees 3) (rows_pass ForeignKey db l schema sound).entry) none))
+no_entries l db id schema sound none = ap (filter (has 1 id)) (sym (nothing_refers l db id schema sound none).0)
     ∙ none_left (has 1 id) (has 1 id) (db.trees 3) (λ r h. h)
-
-none_taken : (l : Layout) → works (room_schema l) Enforced 0 1 [] [] ≡ []
-unfolding everything
-none_taken Fresh = refl
-none_taken Upgraded = refl
 
 -- no row has the number, or one has
 pub found_or_none : (rows : List Row) (id : ℕ) → IsKeyed rows
@@ -338,14 +305,14 @@ found_or_none rows id keyed = go (filter (has 0 id) rows) refl
 drops : (old new : State) (id count : ℕ) (room : IsRoomDatabase old.now) → Executes drop_node_text (Int (pos id) ∷ [])
     old new (Ok count)
     → (new.now.schema ≡ room_schema room.layout) × IsDatabase new.now
-    × Dropped room.layout old.now.trees new.now.trees id
+    × Dropped room.layout old.now.trees new.now.trees id (without (has 0 id) (old.now.trees 1))
 drops old new id count room h =
     let l = room.layout in
     let params = Int (pos id) ∷ [] in
     let db = old.now.trees in
-    let ran = runs_as drop_node_text params old new (room_schema l) room.schema
-    (command.Delete 1 (record { lets = []; body = drop_node_query })) (drop_node_is l) (drop_node_plain l) count h in
-    let w = deletes l old new 1 node_table _ _ params count refl room.schema ran in
+    let ran = runs_as drop_node_text params old new (room_schema l) room.schema _
+    (drop_node_means l).0 (drop_node_means l).1 count h in
+    let w = wrote l old new 1 node_table _ _ params count refl room.schema ran ran.changed in
     let given = went w.written in
     let edited_to = went given.2 in
     let trees : w.rows.trees ≡ edited_to.0 = ap (λ (it : Written). it.trees) (same_value edited_to.2) in
@@ -362,24 +329,19 @@ drops old new id count room h =
             nothing _ (subst (λ l. IsPermutation (map (λ r. rowid r ∷ []) l) given.0) none same) in
             let edit = edit_of db node_table (ids_of given.0) Given 0 [] in
             let quiet = subst (λ found. works (room_schema l) Enforced 0 1
-            (taken_by db (edit_of db node_table (ids_of found) Given 0 [])) [] ≡ []) (sym rows) (none_taken l) in
+            (taken_by db (edit_of db node_table (ids_of found) Given 0 [])) [] ≡ []) (sym rows) (nodes_quiet l []) in
             let one = one_step (room_schema l) Enforced db edited_to.0 edit quiet edited_to.1 in
             let o = others_of l 1 db edited_to.0 one.tables in
             let nodes : new.now.trees 1 ≡ db 1 =
             ap (λ (t : Trees). t 1) now ∙ one.rows ∙ ap (λ l. without_all (db 1) (ids_of l)) rows in
             let entries : new.now.trees 3 ≡ db 3 = ap (λ (t : Trees). t 3) now ∙ o.entry (omega arith) in
             let docs : new.now.trees 5 ≡ db 5 = ap (λ (t : Trees). t 5) now ∙ o.doc (omega arith) in
-            let keeps = rows_pass ForeignKey new.now l schema ran.sound in
-            let none_now : filter (has 0 id) (new.now.trees 1) ≡ [] = ap (filter (has 0 id)) nodes ∙ none in
-            let no_entry = none_of l new.now.trees entry_ref entry_table 1 id refl (entry_parent l)
-            (all_weaker _ _ (λ r e. first_of_both _ _ e) (new.now.trees 3) keeps.entry) none_now in
-            let no_doc = none_of l new.now.trees doc_ref doc_table 0 id refl (doc_parent l)
-            (all_weaker _ _ (λ r e. first_of_both _ _ e) (new.now.trees 5) keeps.doc) none_now in
+            let alone = nothing_refers l new.now id schema ran.sound (ap (filter (has 0 id)) nodes ∙ none) in
             record {
-              nodes = nodes ∙ sym (filter_all _ (db 1)
-                  (all_from (λ r. not (has 0 id r) ≡ true) (db 1) (λ r j. kept_apart r j none)));
-              entries = sym no_entry ∙ ap (without (has 1 id)) entries;
-              docs = sym no_doc ∙ ap (without (has 0 id)) docs;
+              nodes = nodes ∙ sym (without_none (has 0 id) (db 1) (λ r j mine.
+                  subst (λ l. Has l r) none (has_kept (has 0 id) (db 1) r j mine)));
+              entries = sym alone.0 ∙ ap (without (has 1 id)) entries;
+              docs = sym alone.1 ∙ ap (without (has 0 id)) docs;
               room = ap (λ (t : Trees). t 0) now ∙ o.room (omega arith);
               sessions = ap (λ (t : Trees). t 6) now ∙ o.session (omega arith);
               slots = ap (λ (t : Trees). t (slots_tree l)) now ∙ o.slots (omega (arith, above l));
@@ -388,7 +350,7 @@ drops old new id count room h =
             let key = keyed_there there.0 there.1 in
             let rows = one_permutation (Int (pos id) ∷ []) given.0 (subst (λ l. IsPermutation l given.0)
             (ap (map (λ r. rowid r ∷ [])) there.1 ∙ ap (λ v. (v ∷ []) ∷ []) key) same) in
-            subst (λ t. Dropped l db t id) (sym now) (drops_there l db edited_to.0 id there.0
+            subst (λ t. Dropped l db t id (without (has 0 id) (db 1))) (sym now) (drops_there l db edited_to.0 id there.0
             given.0 room.keyed.node room.keyed.entry room.keyed.doc there.1 rows edited_to.1)
       ],
     )
@@ -397,13 +359,6 @@ drops old new id count room h =
     nothing [] same = refl
     nothing (x ∷ l) same = absurd (omega (arith, length_permutation _ _ same))
 
-    kept_apart : (r : Row) → Has (old.now.trees 1) r
-        → filter (has 0 id) (old.now.trees 1) ≡ [] → not (has 0 id r) ≡ true
-    kept_apart r k none = elim (cases_Bool (has 0 id r)) [
-      | inl mine ↦ absurd (subst (λ l. Has l r) none (has_kept (has 0 id) (old.now.trees 1) r k mine))
-      | inr other ↦ ap not other
-    ]
-
     keyed_there : (r : Row) → filter (has 0 id) (old.now.trees 1) ≡ r ∷ [] → rowid r ≡ Int (pos id)
     keyed_there r only =
         let kept = has_filtered (has 0 id) (old.now.trees 1) r (subst (λ l. Has l r) (sym only) (inl refl)) in
@@ -411,27 +366,10 @@ drops old new id count room h =
 
 -- ---- the records
 
--- the rows with a number are gone, and those with another stay
-rows_gone : (place id q : ℕ) (was is : List Row) → is ≡ without (has place id) was
-    → filter (has place q) is ≡ cond (q == id) [] (filter (has place q) was)
-rows_gone place id q was is e = elim (cases_eq q id) [
-  | inl same ↦
-      let test : (q == id) ≡ true = eq-eqb q id same in
-      rw (test, same) (ap (filter (has place id)) e ∙ none_left (has place id) (has place id) was (λ r h. h))
-  | inr apart ↦
-      let test : (q == id) ≡ false = grind (arith, nat_tests) in
-      rw test (ap (filter (has place q)) e
-      ∙ others_left (has place id) (has place q) was (λ r h. not_both place id q r apart h))
-]
-
-through : {X Y : Type 0} (f : X → Y) (b : Bool) (x y : X) → f (cond b x y) ≡ cond b (f x) (f y)
-through f true x y = refl
-through f false x y = refl
-
 pub steps_drop : (old new : State) (id count : ℕ) → IsRoomDatabase old.now →
     ExecutesInside 0 drop_node_text (Int (pos id) ∷ []) old new (Ok count) → Steps old new (apply_change (DropNode id))
 steps_drop old new id count room h =
-    let done = drops old new id count room (executes_inside drop_node_text _ old new count h).0 in
+    let done = drops old new id count room h.0 in
     let it = done.2 in
     let listed = slots_listed new.now room.layout done.1 done.0 in
     let db = old.now.trees in
@@ -455,14 +393,9 @@ steps_drop old new id count room h =
       version = version_stays _ _ it.room;
       sound = λ _ _. done.1;
       records = same_records _ _
-          (λ q. ap (λ rows. option_map node_of (only (map shown_node rows)))
-          (rows_gone 0 id q (db 1) (new.now.trees 1) it.nodes) ∙ through
-          (λ rows. option_map node_of (only (map shown_node rows))) (q == id) [] (filter (has 0 q) (db 1)))
-          (λ q. ap (λ rows. map entry_of (in_order rows)) (rows_gone 1 id q (db 3) (new.now.trees 3) it.entries)
-          ∙ through (λ rows. map entry_of (in_order rows)) (q == id) [] (filter (has 1 q) (db 3)))
-          (λ q. ap (λ rows. option_map doc_of (only (map shown_doc rows)))
-          (rows_gone 0 id q (db 5) (new.now.trees 5) it.docs)
-          ∙ through (λ rows. option_map doc_of (only (map shown_doc rows))) (q == id) [] (filter (has 0 q) (db 5)))
+          (λ q. rows_gone (λ rows. option_map node_of (only (map shown_node rows))) 0 id q (db 1) _ it.nodes)
+          (λ q. rows_gone (λ rows. map entry_of (in_order rows)) 1 id q (db 3) _ it.entries)
+          (λ q. rows_gone (λ rows. option_map doc_of (only (map shown_doc rows))) 0 id q (db 5) _ it.docs)
           (ap next_in it.room)
           (λ q. ap (λ rows. sessions_in rows q) it.sessions)
           (λ q n. ap (λ rows. slots_in rows q n) (listed ∙ it.slots ∙ sym room.listed));

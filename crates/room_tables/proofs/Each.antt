@@ -1,16 +1,25 @@
 -- Facts of each table that a room is read from.
-use Rattle.std.proofs.Common.{◌≡◌, ◌<◌, true, [], slice_get, Some, refl, subst, arith}
+use Rattle.std.proofs.Common.{◌≡◌, ◌<◌, true, [], slice_get, Some, refl, subst, arith, sym, ap₂, ◌∙◌, inl, inr, Equal}
+use Rattle.std.proofs.Common.{true≢false, not, ◌&&◌}
 use Rattle.std.specs.List.{AllByRecursion}
-use Rattle.sqlite_trees.specs.Tree.{Trees}
+use Rattle.std.proofs.lemmas.Bool.{cases_Bool, not-true, and_from}
+use Rattle.sqlite_value.specs.Order.{Row, value_cmp}
+use Rattle.sqlite_trees.specs.Tree.{Trees, rowid}
+use Rattle.sqlite_trees.specs.View.{is_int}
 use Rattle.sqlite_sql.specs.Program.{overlay}
-use Rattle.sqlite_schema.specs.Rules.{passes, Keeps}
+use Rattle.sqlite_schema.specs.Rules.{passes, Keeps, guards, clashes, agree, differ}
 use Rattle.sqlite_schema.specs.declared.schema.Constraint.{Constraint}
+use Rattle.sqlite_schema.specs.declared.schema.Constraint.TheVariants.{Unique}
+use Rattle.sqlite_schema.specs.declared.schema.Index.{Index}
+use Rattle.sqlite_rules.specs.Lists.{Has}
+use Rattle.sqlite_rules.proofs.ListLemmas.{test_has, some_from}
+use Rattle.sqlite_rules.proofs.TableLemmas.{int_is}
 use Rattle.sqlite.specs.Table.{Table}
 use Rattle.sqlite.specs.Effect.{Database, IsDatabase}
 use Rattle.room_tables.specs.Tables.{Layout, Fresh, Upgraded, room_schema, room_table, node_table, entry_table}
-use Rattle.room_tables.specs.Tables.{doc_table}
-use Rattle.room_tables.specs.Tables.{session_table, slots_table, slots_tree, slots_place}
+use Rattle.room_tables.specs.Tables.{doc_table, session_table, slots_table, slots_tree, slots_place}
 use Rattle.room_tables.specs.Layout.{OfEachTable}
+use Rattle.room_tables.proofs.Values.{same_ids}
 
 slots_among : (l : Layout) (P : Table → Type 0) → AllByRecursion P (room_schema l).tables → P (slots_table l)
 slots_among Fresh P all = all.1.1.1.1.1.0
@@ -70,3 +79,23 @@ pub rows_pass : (rule : Constraint) (db : Database) (l : Layout) → db.schema �
 rows_pass rule db l schema sound =
     by_name l (λ (t : Table). AllByRecursion (λ row. passes rule (room_schema l) db.trees t row ≡ true)
     (db.trees t.tree)) (subst (λ s. Keeps rule s db.trees) schema (sound.obeys.rules rule))
+
+-- two rows that agree at the columns of an index that is UNIQUE have one rowid
+pub once_by : (l : Layout) (db : Database) (table : Table) (index : Index) (x y : Row)
+    → Has (room_schema l).indexes index → guards index table ≡ true
+    → passes Unique (room_schema l) db.trees table y ≡ true → Has (db.trees table.tree) x
+    → agree index.order index.columns x index.columns y ≡ true → is_int (rowid x) ≡ true → is_int (rowid y) ≡ true
+    → value_cmp (rowid x) (rowid y) ≡ Equal
+once_by l db table index x y listed guarded unique there same int_x int_y =
+    let free = rw guarded at (test_has
+    (λ i. not (guards i table && clashes i.order i.columns (db.trees table.tree) y)) (room_schema l).indexes index
+    unique listed) in
+    elim (cases_Bool (differ (rowid x) (rowid y))) [
+      | inl apart ↦ absurd (true≢false (sym (some_from (λ other. agree index.order index.columns other
+          index.columns y && differ (rowid other) (rowid y)) (db.trees table.tree) x there (and_from _ _ same apart))
+          ∙ not-true _ free))
+      | inr tied ↦
+          let i = int_is (rowid x) int_x in
+          let j = int_is (rowid y) int_y in
+          ap₂ value_cmp i j ∙ same_ids _ _ (ap₂ differ (sym i) (sym j) ∙ tied)
+    ]

@@ -1,12 +1,12 @@
 -- What the statements do to the records.
 use Rattle.std.specs.declared.alloc.Global.{Global}
-use Rattle.std.proofs.Common.{Vec, ◌≡◌, ◌≢◌, ◌≤◌, ℕ, suc, ℤ, pos, Bool, true, false, not, ◌==◌, cond}
-use Rattle.std.proofs.Common.{List, [], ◌∷◌, ◌++◌, map, filter}
-use Rattle.std.proofs.Common.{Option, None, Some, option_map, unwrap_or, Ok, refl, sym, ap, subst, ◌∙◌, arith}
+use Rattle.std.proofs.Common.{Vec, ◌≡◌, ◌≢◌, ◌≤◌, ℕ, suc, ℤ, pos, not, ◌==◌, cond, List, [], ◌∷◌, ◌++◌, map, Option}
+use Rattle.std.proofs.Common.{None, Some, option_map, unwrap_or, Ok, refl, sym, ap, subst, ◌∙◌, arith, inl, inr, eq-eqb}
 use Rattle.std.specs.List.{AllByRecursion}
 use Rattle.sqlite_value.specs.declared.value.Value.TheVariants.{Int}
 use Rattle.sqlite_value.specs.Order.{Row, column}
-use Rattle.sqlite_trees.specs.Tree.{rowid, has_rowid}
+use Rattle.sqlite_trees.specs.Tree.{Trees, rowid, has_rowid, with_tree}
+use Rattle.std.proofs.lemmas.Bool.{cases_eq, ne_eqb}
 use Rattle.sqlite_trees.proofs.TreeLemmas.{all-put_row}
 use Rattle.sqlite_keyed.proofs.ListLemmas.{all-filter}
 use Rattle.sqlite.specs.Values.{bound_value}
@@ -19,20 +19,24 @@ use Rattle.room_records.specs.declared.change.Change.TheVariants.{PutNode, PutNe
 use Rattle.room_records.specs.Records.{Records}
 use Rattle.room_records.specs.Changes.{apply_change, apply_changes}
 use Rattle.sqlite.specs.Effect.{Database, IsDatabase}
-use Rattle.room_tables.specs.Tables.{Layout, Upgraded, room_schema}
-use Rattle.room_tables.specs.Texts.{change_node_text, add_node_text, change_next_text, add_next_text}
-use Rattle.room_tables.specs.Texts.{change_doc_text, add_doc_text}
-use Rattle.room_tables.specs.Rows.{has, only, parent_in, name_of_text, kind_of, shown_node, node_of, nodes_in}
+use Rattle.sqlite.specs.Table.{Table}
+use Rattle.room_tables.specs.Tables.{Layout, Upgraded, room_schema, node_table, doc_table}
+use Rattle.room_tables.specs.Texts as T
+use Rattle.room_tables.specs.Rows.{only, parent_in, name_of_text, kind_of, shown_node, node_of, nodes_in}
 use Rattle.room_tables.specs.Rows.{entries_in, shown_doc, doc_of, documents_in, number_in, shown_next, next_in}
-use Rattle.room_tables.specs.Rows.{shown_version, version_rows, IsVersion, sessions_in, slots_in, records_of}
-use Rattle.room_tables.specs.Layout.{IsKeyed, IsNumbered, IsRoomDatabase, parent_value, reply_value}
+use Rattle.room_tables.specs.Rows.{shown_version, version_rows, versions_in, IsVersion, sessions_in, slots_in, slots_of, records_of}
+use Rattle.room_tables.specs.Layout.{IsKeyed, IsNumbered, IsRoomDatabase, OfEachTable, parent_value, reply_value}
 use Rattle.room_tables.specs.Steps.{Steps, kind_number}
-use Rattle.room_tables.proofs.Changes.{executes_inside, Leaves}
-use Rattle.room_tables.proofs.Puts.{stored_node, node_params, ChangesNode, changes_node, adds_node}
-use Rattle.room_tables.proofs.Puts.{doc_params, PutsDoc, ChangesDoc}
-use Rattle.room_tables.proofs.Puts.{changes_doc, adds_doc, PutsNext, ChangesNext, changes_next, adds_next}
+use Rattle.room_tables.proofs.Each.{from_both}
+use Rattle.room_tables.proofs.Listed.{slots_listed}
+use Rattle.room_tables.proofs.Changes.{Leaves, Others}
+use Rattle.room_tables.proofs.Meaning.{change_node_means, change_doc_means}
+use Rattle.room_tables.proofs.Writes.{changes_row}
+use Rattle.room_tables.proofs.Puts.{stored_node, node_params, node_update, ChangesNode, adds_node, doc_params}
+use Rattle.room_tables.proofs.Puts.{doc_update, PutsDoc, ChangesDoc, adds_doc, PutsNext, ChangesNext, changes_next}
+use Rattle.room_tables.proofs.Puts.{adds_next}
 use Rattle.room_tables.proofs.Upserts.{PutInto}
-use Rattle.room_tables.proofs.Filters.{filter_put, keyed_after, still_room, still_numbered, still_slots, version_stays}
+use Rattle.room_tables.proofs.Filters.{filter_put, keyed_after, still_room, still_slots, version_stays}
 
 -- two records that agree at each key are one
 pub same_records : (a b : Records) → ((q : ℕ) → a.objects.node q ≡ b.objects.node q)
@@ -45,9 +49,102 @@ same_records a b nodes entries documents next sessions slots = λ i. record {
   slot = λ sid slot. slots sid slot i;
 }
 
-pub through : {X Y : Type 0} (f : X → Y) (b : Bool) (x y : X) → f (cond b x y) ≡ cond b (f x) (f y)
-through f true x y = refl
-through f false x y = refl
+-- what is read of trees, and of the rows of what slots keep
+abbrev pub read : Trees → List Row → Records
+read db slots = record {
+  objects = record {
+    node = nodes_in (db 1);
+    entries = entries_in (db 3);
+    document = documents_in (db 5);
+    next = next_in (db 0);
+  };
+  session = sessions_in (db 6);
+  slot = slots_in slots;
+}
+
+-- it is the same where the tables are
+pub read_same : {l : Layout} (db next : Trees) (slots : List Row)
+    → OfEachTable l (λ (t : Table). next t.tree ≡ db t.tree) → slots_of next ≡ slots → records_of next ≡ read db slots
+read_same db next slots same is = λ i. record {
+  objects = record {
+    node = nodes_in (same.node i);
+    entries = entries_in (same.entry i);
+    document = documents_in (same.doc i);
+    next = next_in (same.room i);
+  };
+  session = sessions_in (same.session i);
+  slot = slots_in (is i);
+}
+
+-- ---- steps
+
+pub steps_then : {a b c : State} {f g : Records → Records} → Steps a b f → Steps b c g → Steps a c (λ r. g (f r))
+steps_then {f = f} {g = g} p q = record {
+  room = q.room;
+  schema = q.schema ∙ p.schema;
+  records = q.records ∙ ap g p.records;
+  version = λ v. q.version (p.version v);
+  sound = λ s. q.sound (p.sound s);
+}
+
+-- one of the first tables has other rows now
+abbrev pub after : ℕ → Database → Database → Trees
+after tree old new = with_tree old.trees tree (new.trees tree)
+
+pub each_after : {l : Layout} (tree : ℕ) (old new : Database) → Others l tree old.trees new.trees
+    → OfEachTable l (λ (t : Table). new.trees t.tree ≡ after tree old new t.tree)
+each_after {l} tree old new others = from_both l _ _ _ (λ t far _. one t far) others others
+  where
+    one : (t : Table) → (t.tree ≢ tree → new.trees t.tree ≡ old.trees t.tree)
+        → new.trees t.tree ≡ after tree old new t.tree
+    one t far = elim (cases_eq t.tree tree) [
+      | inl here ↦ rw (eq-eqb t.tree tree here) (ap new.trees here)
+      | inr apart ↦ rw (ne_eqb t.tree tree apart) (far apart)
+    ]
+
+pub steps_at : (tree : ℕ) (old new : State) (room : IsRoomDatabase old.now) (change : Records → Records) → tree ≤ 7
+    → new.now.schema ≡ room_schema room.layout → IsDatabase new.now
+    → Others room.layout tree old.now.trees new.now.trees → IsKeyed (new.now.trees tree)
+    → AllByRecursion IsNumbered (after tree old.now new.now 1)
+    → (IsVersion 2 (version_rows old.now.trees) → IsVersion 2 (versions_in (after tree old.now new.now 0)))
+    → read (after tree old.now new.now) (slots_of old.now.trees) ≡ change (records_of old.now.trees)
+    → Steps old new change
+steps_at tree old new room change low schema sound others keyed numbered version is =
+    let each = each_after tree old.now new.now others in
+    record {
+      room = still_room tree old.now new.now room schema sound others keyed
+          (subst (AllByRecursion IsNumbered) (sym each.node) numbered);
+      schema = schema ∙ sym room.schema;
+      version = λ v. version_stays _ _ each.room (version v);
+      sound = λ _ _. sound;
+      records = read_same (after tree old.now new.now) new.now.trees _ each
+          (still_slots tree old.now new.now room schema sound low others) ∙ is;
+    }
+
+-- no row was changed, and the records are as they were
+pub steps_left : (tree : ℕ) (old new : State) (room : IsRoomDatabase old.now)
+    → Leaves room.layout old.now new.now tree (old.now.trees tree) → Steps old new (λ r. r)
+steps_left tree old new room it =
+    let same = from_both room.layout _ _ _ (λ t far _. here t far) it.others it.others in
+    let listed = slots_listed new.now room.layout it.sound it.schema in
+    record {
+      room = record {
+        layout = room.layout;
+        schema = it.schema;
+        listed = listed;
+        keyed = from_both room.layout _ _ _ (λ t keyed is. subst IsKeyed (sym is) keyed) room.keyed same;
+        numbered = subst (AllByRecursion IsNumbered) (sym same.node) room.numbered;
+      };
+      schema = it.schema ∙ sym room.schema;
+      version = version_stays _ _ same.room;
+      sound = λ _ _. it.sound;
+      records = read_same old.now.trees new.now.trees _ same (listed ∙ same.slots ∙ sym room.listed);
+    }
+  where
+    here : (t : Table) → (t.tree ≢ tree → new.now.trees t.tree ≡ old.now.trees t.tree)
+        → new.now.trees t.tree ≡ old.now.trees t.tree
+    here t far = elim (cases_eq t.tree tree)
+        [ inl is ↦ subst (λ n. new.now.trees n ≡ old.now.trees n) (sym is) it.rows_are | inr apart ↦ far apart ]
 
 -- ---- a node
 
@@ -66,33 +163,7 @@ row_of_node node name = stored_node node.id node.parent name (kind_number node.k
 node_back : (node : Node) (name : List ℕ) → name_of_text name ≡ node.name
     → node_of (shown_node (row_of_node node name)) ≡ node
 node_back node name named =
-    ap (λ p. record {
-      id = node.id;
-      parent = p;
-      name = name_of_text name;
-      kind = kind_of (kind_number node.kind);
-      owner = node.owner;
-      group = node.group;
-      aclflag = node.aclflag;
-    }) (parent_back node.parent)
-    ∙ ap (λ n. record {
-      id = node.id;
-      parent = node.parent;
-      name = n;
-      kind = kind_of (kind_number node.kind);
-      owner = node.owner;
-      group = node.group;
-      aclflag = node.aclflag;
-    }) named
-    ∙ ap (λ k. record {
-      id = node.id;
-      parent = node.parent;
-      name = node.name;
-      kind = k;
-      owner = node.owner;
-      group = node.group;
-      aclflag = node.aclflag;
-    }) (kind_back node.kind)
+    λ i. record node { parent = parent_back node.parent i; name = named i; kind = kind_back node.kind i }
 
 pub id_is : {i j : ℤ} → Int i ≡ Int j → i ≡ j
 id_is e = cc
@@ -106,85 +177,50 @@ steps_put_node : (old new : State) (node : Node) (name : List ℕ) (Met : Row �
     → Steps old new (apply_change (PutNode node))
 steps_put_node old new node name Met room named done =
     let it = done.put in
-    let row = row_of_node node name in
     let id : it.id ≡ pos node.id = id_is (sym it.has_id ∙ ap rowid it.fits) in
     let is_numbered : IsNumbered it.row = subst IsNumbered (sym it.fits)
     (record { id = node.id; has_id = refl; parent = node.parent; has_parent = refl }) in
-    let o = it.others in
-    record {
-      room = still_room 1 old.now new.now room done.schema done.sound o (keyed_after 1 _ _ _ _ it room.keyed.node)
-          (subst (AllByRecursion IsNumbered) (sym it.rows) (all-put_row IsNumbered it.row _ is_numbered
-          (all-filter IsNumbered (λ r. not (has_rowid it.id r)) (old.now.trees 1) room.numbered)));
-      schema = done.schema ∙ sym room.schema;
-      version = version_stays _ _ (o.room (omega arith));
-      sound = λ _ _. done.sound;
-      records = same_records _ _
-          (λ q. ap (λ rows. option_map node_of (only (map shown_node rows))) (filter_put 1 node.id q _ _ _ _ it id)
-          ∙ through (λ rows. option_map node_of (only (map shown_node rows)))
-          (q == node.id) (it.row ∷ []) (filter (has 0 q) (old.now.trees 1))
-          ∙ ap (λ found. cond (q == node.id) (Some found) (nodes_in (old.now.trees 1) q))
-          (ap (λ r. node_of (shown_node r)) it.fits ∙ node_back node name named))
-          (λ q. ap (λ rows. entries_in rows q) (o.entry (omega arith)))
-          (λ q. ap (λ rows. documents_in rows q) (o.doc (omega arith)))
-          (ap next_in (o.room (omega arith)))
-          (λ sid. ap (λ rows. sessions_in rows sid) (o.session (omega arith)))
-          (λ sid slot. ap (λ rows. slots_in rows sid slot)
-          (still_slots 1 old.now new.now room done.schema done.sound (omega arith) o));
-    }
+    steps_at 1 old new room _ (omega arith) done.schema done.sound it.others (keyed_after it room.keyed.node)
+    (subst (AllByRecursion IsNumbered) (sym it.rows) (all-put_row IsNumbered it.row _ is_numbered
+    (all-filter IsNumbered (λ r. not (has_rowid it.id r)) (old.now.trees 1) room.numbered))) (λ v. v)
+    (same_records _ _ (λ q. filter_put it (λ rows. option_map node_of (only (map shown_node rows))) node.id q id
+    ∙ ap (λ found. cond (q == node.id) (Some found) (nodes_in (old.now.trees 1) q))
+    (ap (λ r. node_of (shown_node r)) it.fits ∙ node_back node name named))
+    (λ _. refl) (λ _. refl) refl (λ _. refl) (λ _ _. refl))
 
 -- the parameters of a node's row
 abbrev pub params_of_node : Node → List ℕ → Row
 params_of_node node name =
     node_params node.id node.parent name (kind_number node.kind) node.owner node.group node.aclflag
 
-steps_left_node : (old new : State) (room : IsRoomDatabase old.now)
-    → Leaves room.layout old.now new.now 1 (old.now.trees 1) → Steps old new (λ r. r)
-steps_left_node old new room it =
-    let o = it.others in
-    record {
-      room = still_room 1 old.now new.now room it.schema it.sound o (subst IsKeyed (sym it.rows_are) room.keyed.node)
-          (subst (AllByRecursion IsNumbered) (sym it.rows_are) room.numbered);
-      schema = it.schema ∙ sym room.schema;
-      version = version_stays _ _ (o.room (omega arith));
-      sound = λ _ _. it.sound;
-      records = same_records _ _
-          (λ q. ap (λ rows. nodes_in rows q) it.rows_are)
-          (λ q. ap (λ rows. entries_in rows q) (o.entry (omega arith)))
-          (λ q. ap (λ rows. documents_in rows q) (o.doc (omega arith)))
-          (ap next_in (o.room (omega arith)))
-          (λ sid. ap (λ rows. sessions_in rows sid) (o.session (omega arith)))
-          (λ sid slot. ap (λ rows. slots_in rows sid slot)
-          (still_slots 1 old.now new.now room it.schema it.sound (omega arith) o));
-    }
-
 -- what an UPDATE of a node leaves, by how many rows it changed
 pub node_changed : (old new : State) (node : Node) (name : List ℕ) (count : ℕ) (room : IsRoomDatabase old.now)
-    → ExecutesInside 0 change_node_text (params_of_node node name) old new (Ok count)
+    → ExecutesInside 0 T.change_node_text (params_of_node node name) old new (Ok count)
     → ChangesNode room.layout node.id node.parent name (kind_number node.kind) node.owner node.group node.aclflag
     count old.now new.now
 node_changed old new node name count room h =
-    changes_node room.layout old new node.id node.parent name (kind_number node.kind)
-    node.owner node.group node.aclflag count room.schema room.keyed.node
-    (executes_inside change_node_text _ old new count h).0
+    changes_row room.layout node_table node.id T.change_node_query.filter T.change_node_query.project _ _
+    (node_update room.layout node.id node.parent name (kind_number node.kind) node.owner node.group node.aclflag)
+    old new 1 count T.change_node_text refl (change_node_means room.layout) room.schema room.keyed.node h.0
 
 pub steps_change_node : (old new : State) (node : Node) (name : List ℕ) (count : ℕ)
     → IsRoomDatabase old.now → name_of_text name ≡ node.name
-    → ExecutesInside 0 change_node_text (params_of_node node name) old new (Ok (suc count))
+    → ExecutesInside 0 T.change_node_text (params_of_node node name) old new (Ok (suc count))
     → Steps old new (apply_change (PutNode node))
 steps_change_node old new node name count room named h =
     steps_put_node old new node name _ room named (node_changed old new node name (suc count) room h)
 
 -- an INSERT alone adds the row of a node, whatever is said of the rows of its number: there is none
 pub node_added : (old new : State) (node : Node) (name : List ℕ) (count : ℕ) (Met : Row → Type 0)
-    (room : IsRoomDatabase old.now) → ExecutesInside 0 add_node_text (params_of_node node name) old new (Ok count)
+    (room : IsRoomDatabase old.now) → ExecutesInside 0 T.add_node_text (params_of_node node name) old new (Ok count)
     → PutInto room.layout old.now new.now 1 (λ r. r ≡ row_of_node node name) Met
 node_added old new node name count Met room h =
-    adds_node room.layout old new node.id node.parent name (kind_number node.kind) node.owner node.group
-    node.aclflag count Met room.schema (executes_inside add_node_text _ old new count h).0
+    adds_node room.layout node.id node.parent name (kind_number node.kind) node.owner node.group node.aclflag
+    old new count Met room.schema h.0
 
 pub steps_add_node : (old new : State) (node : Node) (name : List ℕ) (count : ℕ)
     → IsRoomDatabase old.now → name_of_text name ≡ node.name
-    → ExecutesInside 0 add_node_text (params_of_node node name) old new (Ok count)
+    → ExecutesInside 0 T.add_node_text (params_of_node node name) old new (Ok count)
     → Steps old new (apply_change (PutNode node))
 steps_add_node old new node name count room named h =
     steps_put_node old new node name (λ _. ⊥) room named (node_added old new node name count (λ _. ⊥) room h)
@@ -192,32 +228,25 @@ steps_add_node old new node name count room named h =
 -- where an UPDATE changed none, the INSERT behind it adds the row
 pub steps_change_or_add : (old mid new : State) (node : Node) (name : List ℕ) (count : ℕ)
     → IsRoomDatabase old.now → name_of_text name ≡ node.name
-    → ExecutesInside 0 change_node_text (params_of_node node name) old mid (Ok 0)
-    → ExecutesInside 0 add_node_text (params_of_node node name) mid new (Ok count)
+    → ExecutesInside 0 T.change_node_text (params_of_node node name) old mid (Ok 0)
+    → ExecutesInside 0 T.add_node_text (params_of_node node name) mid new (Ok count)
     → Steps old new (apply_change (PutNode node))
 steps_change_or_add old mid new node name count room named none one =
-    let a = steps_left_node old mid room (node_changed old mid node name 0 room none).leaves in
-    let b = steps_add_node mid new node name count a.room named one in
-    record {
-      room = b.room;
-      schema = b.schema ∙ a.schema;
-      records = b.records ∙ ap (apply_change (PutNode node)) a.records;
-      version = λ v. b.version (a.version v);
-      sound = λ s. b.sound (a.sound s);
-    }
+    let a = steps_left 1 old mid room (node_changed old mid node name 0 room none).leaves in
+    steps_then a (steps_add_node mid new node name count a.room named one)
 
 -- the rows of nodes are as they were, and then there is a row of this number
 pub left_then_added : (old mid new : State) (node : Node) (name : List ℕ) (count : ℕ) (Met : Row → Type 0)
     (room : IsRoomDatabase old.now)
-    → ExecutesInside 0 change_node_text (params_of_node node name) old mid (Ok 0)
-    → ExecutesInside 0 add_node_text (params_of_node node name) mid new (Ok count)
+    → ExecutesInside 0 T.change_node_text (params_of_node node name) old mid (Ok 0)
+    → ExecutesInside 0 T.add_node_text (params_of_node node name) mid new (Ok count)
     → (mid.now.trees 1 ≡ old.now.trees 1)
     × PutInto room.layout mid.now new.now 1 (λ r. r ≡ row_of_node node name) Met
 left_then_added old mid new node name count Met room none one =
     let left = (node_changed old mid node name 0 room none).leaves in (
       left.rows_are,
-      adds_node room.layout mid new node.id node.parent name (kind_number node.kind) node.owner node.group
-          node.aclflag count Met left.schema (executes_inside add_node_text _ mid new count one).0,
+      adds_node room.layout node.id node.parent name (kind_number node.kind) node.owner node.group node.aclflag
+          mid new count Met left.schema one.0,
     )
 
 -- ---- a document and the next number
@@ -226,109 +255,63 @@ steps_put_doc : (old new : State) (id : ℕ) (bytes : Vec ℕ Global) (room : Is
     → PutsDoc room.layout id bytes.items old.now new.now → Steps old new (apply_change (PutDoc id bytes))
 steps_put_doc old new id bytes room done =
     let it = done.put in
-    let is : it.id ≡ pos id = id_is (sym it.has_id ∙ ap rowid it.fits) in
-    let o = it.others in
-    record {
-      room = still_room 5 old.now new.now room done.schema done.sound o (keyed_after 5 _ _ _ _ it room.keyed.doc)
-          (still_numbered 5 old.now new.now room (omega arith) o);
-      schema = done.schema ∙ sym room.schema;
-      version = version_stays _ _ (o.room (omega arith));
-      sound = λ _ _. done.sound;
-      records = same_records _ _
-          (λ q. ap (λ rows. nodes_in rows q) (o.node (omega arith)))
-          (λ q. ap (λ rows. entries_in rows q) (o.entry (omega arith)))
-          (λ q. ap (λ rows. option_map doc_of (only (map shown_doc rows))) (filter_put 5 id q _ _ _ _ it is)
-          ∙ through (λ rows. option_map doc_of (only (map shown_doc rows)))
-          (q == id) (it.row ∷ []) (filter (has 0 q) (old.now.trees 5))
-          ∙ ap (λ found. cond (q == id) (Some found) (documents_in (old.now.trees 5) q))
-          (ap (λ r. doc_of (shown_doc r)) it.fits))
-          (ap next_in (o.room (omega arith)))
-          (λ sid. ap (λ rows. sessions_in rows sid) (o.session (omega arith)))
-          (λ sid slot. ap (λ rows. slots_in rows sid slot)
-          (still_slots 5 old.now new.now room done.schema done.sound (omega arith) o));
-    }
-
--- no row was changed, and the tables are as they were
-still_there : (tree : ℕ) (old new : Database) (room : IsRoomDatabase old) → tree ≤ 7 → 1 ≢ tree
-    → Leaves room.layout old new tree (old.trees tree) → IsKeyed (old.trees tree) → IsRoomDatabase new
-still_there tree old new room low apart it keyed =
-    still_room tree old new room it.schema it.sound it.others (subst IsKeyed (sym it.rows_are) keyed)
-    (still_numbered tree old new room apart it.others)
-
-steps_left_doc : (old new : State) (room : IsRoomDatabase old.now)
-    → Leaves room.layout old.now new.now 5 (old.now.trees 5) → Steps old new (λ r. r)
-steps_left_doc old new room it =
-    let o = it.others in
-    record {
-      room = still_there 5 old.now new.now room (omega arith) (omega arith) it room.keyed.doc;
-      schema = it.schema ∙ sym room.schema;
-      version = version_stays _ _ (o.room (omega arith));
-      sound = λ _ _. it.sound;
-      records = same_records _ _
-          (λ q. ap (λ rows. nodes_in rows q) (o.node (omega arith)))
-          (λ q. ap (λ rows. entries_in rows q) (o.entry (omega arith)))
-          (λ q. ap (λ rows. documents_in rows q) it.rows_are)
-          (ap next_in (o.room (omega arith)))
-          (λ sid. ap (λ rows. sessions_in rows sid) (o.session (omega arith)))
-          (λ sid slot. ap (λ rows. slots_in rows sid slot)
-          (still_slots 5 old.now new.now room it.schema it.sound (omega arith) o));
-    }
+    steps_at 5 old new room _ (omega arith) done.schema done.sound it.others (keyed_after it room.keyed.doc)
+    room.numbered (λ v. v) (same_records _ _ (λ _. refl) (λ _. refl)
+    (λ q. filter_put it (λ rows. option_map doc_of (only (map shown_doc rows))) id q
+    (id_is (sym it.has_id ∙ ap rowid it.fits))
+    ∙ ap (λ found. cond (q == id) (Some found) (documents_in (old.now.trees 5) q))
+    (ap (λ r. doc_of (shown_doc r)) it.fits)) refl (λ _. refl) (λ _ _. refl))
 
 -- what an UPDATE of the document leaves, by how many rows it changed
 doc_changed : (old new : State) (id : ℕ) (bytes : List ℕ) (count : ℕ) (room : IsRoomDatabase old.now)
-    → ExecutesInside 0 change_doc_text (doc_params id bytes) old new (Ok count)
+    → ExecutesInside 0 T.change_doc_text (doc_params id bytes) old new (Ok count)
     → ChangesDoc room.layout id bytes count old.now new.now
-doc_changed old new id bytes count room h = changes_doc room.layout old new id bytes count room.schema room.keyed.doc
-    (executes_inside change_doc_text _ old new count h).0
+doc_changed old new id bytes count room h =
+    changes_row room.layout doc_table id T.change_doc_query.filter T.change_doc_query.project _ _
+    (doc_update room.layout id bytes) old new 3 count T.change_doc_text refl (change_doc_means room.layout)
+    room.schema room.keyed.doc h.0
 
 pub steps_change_doc : (old new : State) (id : ℕ) (bytes : Vec ℕ Global) (count : ℕ) → IsRoomDatabase old.now
-    → ExecutesInside 0 change_doc_text (doc_params id bytes.items) old new (Ok (suc count))
+    → ExecutesInside 0 T.change_doc_text (doc_params id bytes.items) old new (Ok (suc count))
     → Steps old new (apply_change (PutDoc id bytes))
 steps_change_doc old new id bytes count room h =
     steps_put_doc old new id bytes room (doc_changed old new id bytes.items (suc count) room h)
 
 -- an INSERT alone
 pub steps_new_doc : (old new : State) (id : ℕ) (bytes : Vec ℕ Global) (count : ℕ) → IsRoomDatabase old.now
-    → ExecutesInside 0 add_doc_text (doc_params id bytes.items) old new (Ok count)
+    → ExecutesInside 0 T.add_doc_text (doc_params id bytes.items) old new (Ok count)
     → Steps old new (apply_change (PutDoc id bytes))
 steps_new_doc old new id bytes count room h = steps_put_doc old new id bytes room
-    (adds_doc room.layout old new id bytes.items count room.schema (executes_inside add_doc_text _ old new count h).0)
+    (adds_doc room.layout old new id bytes.items count room.schema h.0)
 
 -- where it changed none, the INSERT behind it adds the row
 pub steps_add_doc : (old mid new : State) (id : ℕ) (bytes : Vec ℕ Global) (count : ℕ) → IsRoomDatabase old.now
-    → ExecutesInside 0 change_doc_text (doc_params id bytes.items) old mid (Ok 0)
-    → ExecutesInside 0 add_doc_text (doc_params id bytes.items) mid new (Ok count)
+    → ExecutesInside 0 T.change_doc_text (doc_params id bytes.items) old mid (Ok 0)
+    → ExecutesInside 0 T.add_doc_text (doc_params id bytes.items) mid new (Ok count)
     → Steps old new (apply_change (PutDoc id bytes))
 steps_add_doc old mid new id bytes count room none one =
-    let a = steps_left_doc old mid room (doc_changed old mid id bytes.items 0 room none).leaves in
-    let b = steps_new_doc mid new id bytes count a.room one in
-    record {
-      room = b.room;
-      schema = b.schema ∙ a.schema;
-      records = b.records ∙ ap (apply_change (PutDoc id bytes)) a.records;
-      version = λ v. b.version (a.version v);
-      sound = λ s. b.sound (a.sound s);
-    }
+    let a = steps_left 5 old mid room (doc_changed old mid id bytes.items 0 room none).leaves in
+    steps_then a (steps_new_doc mid new id bytes count a.room one)
 
 -- the rows of nodes stay as they are
 pub doc_change_leaves_nodes : (old new : State) (id : ℕ) (bytes : List ℕ) (count : ℕ) → IsRoomDatabase old.now
-    → ExecutesInside 0 change_doc_text (doc_params id bytes) old new (Ok (suc count))
+    → ExecutesInside 0 T.change_doc_text (doc_params id bytes) old new (Ok (suc count))
     → new.now.trees 1 ≡ old.now.trees 1
 doc_change_leaves_nodes old new id bytes count room h =
     (doc_changed old new id bytes (suc count) room h).put.others.node (omega arith)
 
 pub doc_new_leaves_nodes : (old new : State) (id : ℕ) (bytes : List ℕ) (count : ℕ) → IsRoomDatabase old.now
-    → ExecutesInside 0 add_doc_text (doc_params id bytes) old new (Ok count) → new.now.trees 1 ≡ old.now.trees 1
+    → ExecutesInside 0 T.add_doc_text (doc_params id bytes) old new (Ok count) → new.now.trees 1 ≡ old.now.trees 1
 doc_new_leaves_nodes old new id bytes count room h = (adds_doc room.layout old new id bytes count room.schema
-    (executes_inside add_doc_text _ old new count h).0).put.others.node (omega arith)
+    h.0).put.others.node (omega arith)
 
 pub doc_add_leaves_nodes : (old mid new : State) (id : ℕ) (bytes : List ℕ) (count : ℕ) → IsRoomDatabase old.now
-    → ExecutesInside 0 change_doc_text (doc_params id bytes) old mid (Ok 0)
-    → ExecutesInside 0 add_doc_text (doc_params id bytes) mid new (Ok count) → new.now.trees 1 ≡ old.now.trees 1
+    → ExecutesInside 0 T.change_doc_text (doc_params id bytes) old mid (Ok 0)
+    → ExecutesInside 0 T.add_doc_text (doc_params id bytes) mid new (Ok count) → new.now.trees 1 ≡ old.now.trees 1
 doc_add_leaves_nodes old mid new id bytes count room none one =
     let left = (doc_changed old mid id bytes 0 room none).leaves in
     (adds_doc room.layout mid new id bytes count left.schema
-    (executes_inside add_doc_text _ mid new count one).0).put.others.node (omega arith)
+    one.0).put.others.node (omega arith)
     ∙ left.others.node (omega arith)
 
 -- ---- the next number
@@ -346,90 +329,50 @@ sets_put : (old new : State) (n : ℕ) (room : IsRoomDatabase old.now) → PutsN
 sets_put old new n room done beside =
     let it = done.put in
     let is : it.id ≡ pos 1 = id_is (sym it.has_id ∙ ap rowid it.fits) in
-    let o = it.others in
     let version : IsVersion 2 (version_rows new.now.trees) =
-    ap (λ rows. option_map (λ row. column row 0) (only (map shown_version rows))) (filter_put 0 1 1 _ _ _ _ it is)
+    filter_put it (λ rows. option_map (λ row. column row 0) (only (map shown_version rows))) 1 1 is
     ∙ ap (λ r. Some (column (shown_version r) 0)) it.fits in
     record {
       version = version;
       sound = done.sound;
       beside = beside;
-      nodes = o.node (omega arith);
-      steps = record {
-        room = still_room 0 old.now new.now room done.schema done.sound o (keyed_after 0 _ _ _ _ it room.keyed.room)
-            (still_numbered 0 old.now new.now room (omega arith) o);
-        schema = done.schema ∙ sym room.schema;
-        version = λ _. version;
-        sound = λ _ _. done.sound;
-        records = same_records _ _
-            (λ q. ap (λ rows. nodes_in rows q) (o.node (omega arith)))
-            (λ q. ap (λ rows. entries_in rows q) (o.entry (omega arith)))
-            (λ q. ap (λ rows. documents_in rows q) (o.doc (omega arith)))
-            (ap (λ rows. unwrap_or (option_map (λ row. number_in (column row 0)) (only (map shown_next rows))) 0)
-            (filter_put 0 1 1 _ _ _ _ it is) ∙ ap (λ r. number_in (column (shown_next r) 0)) it.fits)
-            (λ sid. ap (λ rows. sessions_in rows sid) (o.session (omega arith)))
-            (λ sid slot. ap (λ rows. slots_in rows sid slot)
-            (still_slots 0 old.now new.now room done.schema done.sound (omega arith) o));
-      };
-    }
-
-steps_left_next : (old new : State) (room : IsRoomDatabase old.now)
-    → Leaves room.layout old.now new.now 0 (old.now.trees 0) → Steps old new (λ r. r)
-steps_left_next old new room it =
-    let o = it.others in
-    record {
-      room = still_there 0 old.now new.now room (omega arith) (omega arith) it room.keyed.room;
-      schema = it.schema ∙ sym room.schema;
-      version = version_stays _ _ it.rows_are;
-      sound = λ _ _. it.sound;
-      records = same_records _ _
-          (λ q. ap (λ rows. nodes_in rows q) (o.node (omega arith)))
-          (λ q. ap (λ rows. entries_in rows q) (o.entry (omega arith)))
-          (λ q. ap (λ rows. documents_in rows q) (o.doc (omega arith)))
-          (ap next_in it.rows_are)
-          (λ sid. ap (λ rows. sessions_in rows sid) (o.session (omega arith)))
-          (λ sid slot. ap (λ rows. slots_in rows sid slot)
-          (still_slots 0 old.now new.now room it.schema it.sound (omega arith) o));
+      nodes = it.others.node (omega arith);
+      steps = steps_at 0 old new room _ (omega arith) done.schema done.sound it.others (keyed_after it room.keyed.room)
+          room.numbered (λ _. version) (same_records _ _ (λ _. refl) (λ _. refl) (λ _. refl)
+          (filter_put it (λ rows. unwrap_or (option_map (λ row. number_in (column row 0)) (only (map shown_next rows))) 0)
+          1 1 is ∙ ap (λ r. number_in (column (shown_next r) 0)) it.fits) (λ _. refl) (λ _ _. refl));
     }
 
 -- what an UPDATE leaves, by how many rows it changed
 next_changed : (old new : State) (n count : ℕ) (room : IsRoomDatabase old.now)
-    → ExecutesInside 0 change_next_text (Int (pos n) ∷ []) old new (Ok count)
+    → ExecutesInside 0 T.change_next_text (Int (pos n) ∷ []) old new (Ok count)
     → ChangesNext room.layout n count old.now new.now
 next_changed old new n count room h = changes_next room.layout old new n count room.schema room.keyed.room
-    (executes_inside change_next_text _ old new count h).0
+    h.0
 
 pub change_sets_next : (old new : State) (n count : ℕ) → IsRoomDatabase old.now
-    → ExecutesInside 0 change_next_text (Int (pos n) ∷ []) old new (Ok (suc count)) → SetsNext old new n
+    → ExecutesInside 0 T.change_next_text (Int (pos n) ∷ []) old new (Ok (suc count)) → SetsNext old new n
 change_sets_next old new n count room h = sets_put old new n room (next_changed old new n (suc count) room h)
     (λ s. (changes_next Upgraded old new n (suc count) s room.keyed.room
-    (executes_inside change_next_text _ old new (suc count) h).0).put.tables.1.1.1.1.1.0 (omega arith))
+    h.0).put.tables.1.1.1.1.1.0 (omega arith))
 
 -- where it changed none, the INSERT behind it adds the row
 pub add_sets_next : (old mid new : State) (n count : ℕ) → IsRoomDatabase old.now
-    → ExecutesInside 0 change_next_text (Int (pos n) ∷ []) old mid (Ok 0)
-    → ExecutesInside 0 add_next_text (Int (pos n) ∷ []) mid new (Ok count) → SetsNext old new n
+    → ExecutesInside 0 T.change_next_text (Int (pos n) ∷ []) old mid (Ok 0)
+    → ExecutesInside 0 T.add_next_text (Int (pos n) ∷ []) mid new (Ok count) → SetsNext old new n
 add_sets_next old mid new n count room none one =
-    let first = (executes_inside change_next_text _ old mid 0 none).0 in
-    let second = (executes_inside add_next_text _ mid new count one).0 in
     let left = next_changed old mid n 0 room none in
-    let a = steps_left_next old mid room left.leaves in
-    let b = sets_put mid new n a.room (adds_next a.room.layout mid new n count a.room.schema second)
-    (λ s. (adds_next Upgraded mid new n count s second).put.tables.1.1.1.1.1.0 (omega arith)) in
+    let a = steps_left 0 old mid room left.leaves in
+    let b = sets_put mid new n a.room (adds_next a.room.layout mid new n count a.room.schema one.0)
+    (λ s. (adds_next Upgraded mid new n count s one.0).put.tables.1.1.1.1.1.0 (omega arith)) in
     record {
       version = b.version;
       sound = b.sound;
       beside = λ s.
-          let same = changes_next Upgraded old mid n 0 s room.keyed.room first in
+          let same = changes_next Upgraded old mid n 0 s room.keyed.room none.0 in
           b.beside same.leaves.schema ∙ same.tables.1.1.1.1.1.0 (omega arith);
       nodes = b.nodes ∙ left.leaves.others.node (omega arith);
-      steps = record {
-        room = b.steps.room;
-        schema = b.steps.schema ∙ a.schema;
-        records = b.steps.records ∙ ap (apply_change (PutNext n)) a.records;
-        version = λ _. b.version;
-        sound = λ s. b.steps.sound (a.sound s);
-      };
+      steps = steps_then a b.steps;
     }
 
 -- ---- changes in turn
@@ -442,22 +385,16 @@ all_pushed (c ∷ changes) change r = all_pushed changes change (apply_change c 
 -- one more change
 pub steps_more : (old mid new : State) (changes more : List Change) (change : Change) → more ≡ changes ++ change ∷ []
     → Steps old mid (apply_changes changes) → Steps mid new (apply_change change) → Steps old new (apply_changes more)
-steps_more old mid new changes more change is a b = record {
-  room = b.room;
-  schema = b.schema ∙ a.schema;
-  records = b.records ∙ ap (apply_change change) a.records ∙ sym (all_pushed changes change (records_of old.now.trees))
-      ∙ ap (λ cs. apply_changes cs (records_of old.now.trees)) (sym is);
-  version = λ v. b.version (a.version v);
-  sound = λ s. b.sound (a.sound s);
-}
+steps_more old mid new changes more change is a b = subst (Steps old new)
+    (λ i r. (sym (all_pushed changes change r) ∙ ap (λ cs. apply_changes cs r) (sym is)) i) (steps_then a b)
 
 -- the same, with the parameters as they are given
 pub steps_add_node_at : (old new : State) (node : Node) (name : List ℕ) (params : Row) (count : ℕ)
     → IsRoomDatabase old.now → name_of_text name ≡ node.name → params ≡ params_of_node node name
-    → ExecutesInside 0 add_node_text params old new (Ok count) → Steps old new (apply_change (PutNode node))
+    → ExecutesInside 0 T.add_node_text params old new (Ok count) → Steps old new (apply_change (PutNode node))
 steps_add_node_at old new node name params count room named params_are h =
     steps_add_node old new node name count room named
-    (subst (λ p. ExecutesInside 0 add_node_text p old new (Ok count)) params_are h)
+    (subst (λ p. ExecutesInside 0 T.add_node_text p old new (Ok count)) params_are h)
 
 -- a parent's number is bound as it is
 pub bound_parent : (p : Option ℕ) → bound_value (parent_value p) ≡ parent_value p

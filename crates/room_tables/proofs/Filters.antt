@@ -1,12 +1,10 @@
 -- Which rows pass a test after a row was put in or rows were taken out.
 use Rattle.std.proofs.Common.{◌≡◌, ◌≢◌, ◌≤◌, ℕ, pos, Bool, true, false, not, ◌||◌, ◌==◌, cond, List, [], ◌∷◌, filter}
-use Rattle.std.proofs.Common.{inl}
-use Rattle.std.proofs.Common.{inr, refl, sym, ap, subst, ◌∙◌, true≢false, Less, Equal, Greater, Ordering, is_eq, arith}
-use Rattle.std.proofs.Common.{eq-eqb, IsPermutation}
+use Rattle.std.proofs.Common.{inl, inr, refl, sym, ap, subst, ◌∙◌, true≢false, Less, Equal, Greater, Ordering, is_eq}
+use Rattle.std.proofs.Common.{arith, eq-eqb, IsPermutation}
 use Rattle.std.specs.List.{AllByRecursion}
 use Rattle.std.specs.Ordering.{match_ordering}
-use Rattle.std.proofs.lemmas.Bool.{cases_Bool, cases_eq}
-use Rattle.std.proofs.lemmas.Bool.Decides.{nat_tests}
+use Rattle.std.proofs.lemmas.Bool.{cases_Bool, not-true, cases_eq, ne_eqb, false_from_ne_true}
 use Rattle.std.proofs.lemmas.List.Sorted.{IsPermutation-refl, IsPermutation-cons, IsPermutation-trans}
 use Rattle.std.proofs.lemmas.List.Sorted.{IsPermutation-middle, IsPermutation-sym}
 use Rattle.sqlite_value.specs.declared.value.Value.TheVariants.{Int}
@@ -16,9 +14,10 @@ use Rattle.sqlite_trees.specs.View.{is_int}
 use Rattle.sqlite_trees.proofs.TreeLemmas.{IsTable-put_row, all-put_row}
 use Rattle.sqlite_rules.specs.Edit.{is_taken}
 use Rattle.sqlite_rules.specs.Lists.{Has}
-use Rattle.sqlite_keyed.proofs.ListLemmas.{IsPermutation-filter, filter-filter, filter_none}
+use Rattle.sqlite_keyed.proofs.ListLemmas.{IsPermutation-filter, filter-filter, filter_all, filter_none}
 use Rattle.sqlite_keyed.proofs.ListLemmas.{ascending-filter, all-filter}
 use Rattle.sqlite_rules.proofs.ListLemmas.{all_from, has_filtered}
+use Rattle.sqlite_rules.proofs.TableLemmas.{has_put}
 use Rattle.sqlite.proofs.Callers.{one_permutation}
 use Rattle.sqlite.specs.Table.{Table}
 use Rattle.sqlite.specs.Effect.{Database, IsDatabase}
@@ -28,7 +27,7 @@ use Rattle.room_tables.specs.Layout.{IsKeyed, IsNumbered, IsRoomDatabase}
 use Rattle.room_tables.proofs.Each.{from_both, above}
 use Rattle.room_tables.proofs.Listed.{slots_listed}
 use Rattle.room_tables.proofs.Values.{has_is, has_one, int_has}
-use Rattle.room_tables.proofs.Changes.{not_true, without, Others}
+use Rattle.room_tables.proofs.Changes.{without, Others}
 use Rattle.room_tables.proofs.Upserts.{Put}
 
 -- a row that goes in where none has its rowid is one more row
@@ -71,8 +70,8 @@ put_alone p new rows passes none free =
 pub none_left : (p q : Row → Bool) (rows : List Row)
     → ((r : Row) → q r ≡ true → p r ≡ true) → filter q (without p rows) ≡ []
 none_left p q rows implied = filter_none q (without p rows) (all_from (λ r. q r ≡ false) (without p rows) (λ r h.
-    let gone : p r ≡ false = not_true _ (has_filtered (λ x. not (p x)) rows r h).1 in
-    elim (cases_Bool (q r)) [ inl passes ↦ absurd (true≢false (sym (implied r passes) ∙ gone)) | inr fails ↦ fails ]))
+    false_from_ne_true _ (λ passes. true≢false
+    (sym (implied r passes) ∙ not-true _ (has_filtered (λ x. not (p x)) rows r h).1))))
 
 -- and those of another test as before, where no row passes both
 pub others_left : (p q : Row → Bool) (rows : List Row)
@@ -83,50 +82,72 @@ others_left p q rows apart = filter-filter q (λ r. not (p r)) (λ r h. ap not (
 pub others_left_on : (p q : Row → Bool) (rows : List Row)
     → ((r : Row) → Has rows r → q r ≡ true → p r ≡ false) → filter q (without p rows) ≡ filter q rows
 others_left_on p q [] apart = refl
-others_left_on p q (r ∷ rows) apart = go (p r) refl (q r) refl (others_left_on p q rows (λ x h. apart x (inr h)))
-  where
-    go : (b : Bool) → p r ≡ b → (c : Bool) → q r ≡ c → filter q (without p rows) ≡ filter q rows
-        → filter q (cond (not b) (r ∷ without p rows) (without p rows)) ≡ cond c (r ∷ filter q rows) (filter q rows)
-    go true e true f more = absurd (true≢false (sym e ∙ apart r (inl refl) f))
-    go true e false f more = more
-    go false e true f more = rw f (ap (λ l. r ∷ l) more)
-    go false e false f more = rw f more
+others_left_on p q (r ∷ rows) apart =
+    let more = others_left_on p q rows (λ x h. apart x (inr h)) in
+    elim (cases_Bool (p r)) [
+      | inl gone ↦ rw (gone, false_from_ne_true (q r) (λ h. true≢false (sym gone ∙ apart r (inl refl) h))) more
+      | inr left ↦ rw left (ap (λ l. cond (q r) (r ∷ l) l) more)
+    ]
 
 pub same_test : (id : ℕ) (r : Row) → has_rowid (pos id) r ≡ has 0 id r
 same_test id r = sym (has_is 0 id r)
 
 pub not_both : (place id q : ℕ) (r : Row) → q ≢ id → has place q r ≡ true → has place id r ≡ false
-not_both place id q r apart h =
-    elim (cases_Bool (has place id r)) [ inl also ↦ absurd (apart (has_one place q id r h also)) | inr other ↦ other ]
+not_both place id q r apart h = false_from_ne_true _ (λ also. apart (has_one place q id r h also))
 
--- ---- a row in the place of the one with its number
+-- a test that no row passes leaves them all
+pub without_none : (p : Row → Bool) (rows : List Row) → ((r : Row) → Has rows r → p r ≡ true → ⊥) → without p rows ≡ rows
+without_none p rows none = filter_all _ rows
+    (all_from (λ r. not (p r) ≡ true) rows (λ r h. ap not (false_from_ne_true _ (none r h))))
 
-pub filter_put : {l : Layout} (tree id q : ℕ) (db next : Trees) (Fits Met : Row → Type 0)
-    (it : Put l tree db next Fits Met)
-    → it.id ≡ pos id
-    → filter (has 0 q) (next tree) ≡ cond (q == id) (it.row ∷ []) (filter (has 0 q) (db tree))
-filter_put tree id q db next Fits Met it is = elim (cases_eq q id) [
+-- what is read of the rows with a number, where those with one are gone
+pub rows_gone : {X : Type 0} (f : List Row → X) (place id q : ℕ) (was is : List Row) → is ≡ without (has place id) was
+    → f (filter (has place q) is) ≡ cond (q == id) (f []) (f (filter (has place q) was))
+rows_gone f place id q was is e = elim (cases_eq q id) [
   | inl same ↦
-      let test : (q == id) ≡ true = eq-eqb q id same in
-      rw (test, same) (ap (filter (has 0 id)) it.rows ∙ put_alone (has 0 id) it.row left mine gone it.free)
+      rw (eq-eqb q id same, same) (ap f (ap (filter (has place id)) e
+      ∙ none_left (has place id) (has place id) was (λ r h. h)))
   | inr apart ↦
-      let test : (q == id) ≡ false = grind (arith, nat_tests) in
-      rw test (ap (filter (has 0 q)) it.rows ∙ put_passed_over (has 0 q) it.row left
-      (not_both 0 q id it.row (λ e. apart (sym e)) mine) it.free ∙ stay apart)
+      rw (ne_eqb q id apart) (ap f (ap (filter (has place q)) e
+      ∙ others_left (has place id) (has place q) was (λ r h. not_both place id q r apart h)))
 ]
-  where
-    left : List Row
-    left = without_rowid it.id (db tree)
 
-    mine : has 0 id it.row ≡ true
-    mine = int_has 0 id it.row (it.has_id ∙ ap Int is)
+module _ {l : Layout} {tree : ℕ} {db next : Trees} {Fits Met : Row → Type 0} (it : Put l tree db next Fits Met) where
+  -- what is read of the rows with a number
+  pub filter_put : {X : Type 0} (f : List Row → X) (id q : ℕ) → it.id ≡ pos id
+      → f (filter (has 0 q) (next tree)) ≡ cond (q == id) (f (it.row ∷ [])) (f (filter (has 0 q) (db tree)))
+  filter_put f id q is = elim (cases_eq q id) [
+    | inl same ↦
+        rw (eq-eqb q id same, same) (ap f (ap (filter (has 0 id)) it.rows
+        ∙ put_alone (has 0 id) it.row left mine gone it.free))
+    | inr apart ↦
+        rw (ne_eqb q id apart) (ap f (ap (filter (has 0 q)) it.rows ∙ put_passed_over (has 0 q) it.row left
+        (not_both 0 q id it.row (λ e. apart (sym e)) mine) it.free ∙ stay apart))
+  ]
+    where
+      left : List Row
+      left = without_rowid it.id (db tree)
 
-    gone : filter (has 0 id) left ≡ []
-    gone = none_left (has_rowid it.id) (has 0 id) (db tree) (λ r h. ap (λ i. has_rowid i r) is ∙ same_test id r ∙ h)
+      mine : has 0 id it.row ≡ true
+      mine = int_has 0 id it.row (it.has_id ∙ ap Int is)
 
-    stay : q ≢ id → filter (has 0 q) left ≡ filter (has 0 q) (db tree)
-    stay apart = others_left (has_rowid it.id) (has 0 q) (db tree)
-        (λ r h. ap (λ i. has_rowid i r) is ∙ same_test id r ∙ not_both 0 id q r apart h)
+      gone : filter (has 0 id) left ≡ []
+      gone = none_left (has_rowid it.id) (has 0 id) (db tree) (λ r h. ap (λ i. has_rowid i r) is ∙ same_test id r ∙ h)
+
+      stay : q ≢ id → filter (has 0 q) left ≡ filter (has 0 q) (db tree)
+      stay apart = others_left (has_rowid it.id) (has 0 q) (db tree)
+          (λ r h. ap (λ i. has_rowid i r) is ∙ same_test id r ∙ not_both 0 id q r apart h)
+
+  -- the rows that pass a test, which no row passes that was met, nor the one that was put
+  pub filter_apart : (q : Row → Bool) → q it.row ≡ false → ((r : Row) → Met r → q r ≡ false)
+      → filter q (next tree) ≡ filter q (db tree)
+  filter_apart q fails apart = ap (filter q) it.rows
+      ∙ put_passed_over q it.row (without_rowid it.id (db tree)) fails it.free
+      ∙ others_left_on (has_rowid it.id) q (db tree) (λ r there h.
+      false_from_ne_true _ (λ mine. true≢false (sym h ∙ apart r (it.gone r there mine))))
+
+  pub has_row : Has (next tree) it.row
+  has_row = subst (λ l. Has l it.row) (sym it.rows) (has_put it.row _)
 
 -- ---- the version
 
@@ -145,9 +166,9 @@ pub keyed_filter : (p : Row → Bool) (rows : List Row) → IsKeyed rows → IsK
 keyed_filter p rows keyed =
     record { table = ascending-filter _ p rows keyed.table; ints = all-filter _ p rows keyed.ints }
 
-pub keyed_after : {l : Layout} (tree : ℕ) (db next : Trees) (Fits Met : Row → Type 0)
+pub keyed_after : {l : Layout} {tree : ℕ} {db next : Trees} {Fits Met : Row → Type 0}
     → Put l tree db next Fits Met → IsKeyed (db tree) → IsKeyed (next tree)
-keyed_after tree db next Fits Met it keyed =
+keyed_after {l} {tree} {db} it keyed =
     subst IsKeyed (sym it.rows) (keyed_put it.row _ (subst (λ v. is_int v ≡ true) (sym it.has_id) refl)
     (keyed_filter (λ r. not (has_rowid it.id r)) (db tree) keyed))
 

@@ -1,8 +1,9 @@
 -- The list of objects names the trees as the schema does.
 use Rattle.std.proofs.Common.{◌≡◌, ℕ, ◌+◌, ◌-◌, Bool, true, false, cond, List, [], ◌∷◌, Option, Some, option_map, codes}
-use Rattle.std.proofs.Common.{unwrap_or, refl, ap, ap₂, ◌∙◌, arith, is_eq}
+use Rattle.std.proofs.Common.{unwrap_or, refl, ap, ap₂, ◌∙◌, arith, is_eq, inl, inr}
 use Rattle.std.specs.List.{find, AllZip}
 use Rattle.std.specs.Option.{option_or}
+use Rattle.std.proofs.lemmas.Bool.{cases_Bool}
 use Rattle.sqlite_value.specs.declared.value.Value.TheVariants.{Text}
 use Rattle.sqlite_value.specs.Order.{Row, value_cmp}
 use Rattle.sqlite_catalog.specs.Listing.{IsTableRow}
@@ -30,14 +31,10 @@ listed_as (r ∷ rows) (t ∷ tables) name h =
     let named : is_named name r ≡ is_eq (value_cmp (Text t.name) (Text name)) =
     ap (λ v. is_eq (value_cmp v (Text name))) h.0.described.name_is in
     let tree : tree_of r ≡ t.tree = ap (λ v. number_in v - 1) h.0.described.id ∙ one_less t.tree in
-    rw named (by_test (is_eq (value_cmp (Text t.name) (Text name))) r t (find (is_named name) rows)
-    (find (λ (u : Table). is_eq (value_cmp (Text u.name) (Text name))) tables) tree (listed_as rows tables name h.1))
-  where
-    by_test : (b : Bool) (r : Row) (t : Table) (x : Option Row) (y : Option Table) → tree_of r ≡ t.tree
-        → option_map tree_of x ≡ option_map (λ (u : Table). u.tree) y
-        → option_map tree_of (cond b (Some r) x) ≡ option_map (λ (u : Table). u.tree) (cond b (Some t) y)
-    by_test true r t x y tree more = ap Some tree
-    by_test false r t x y tree more = more
+    elim (cases_Bool (is_eq (value_cmp (Text t.name) (Text name)))) [
+      | inl found ↦ rw (named, found) (ap Some tree)
+      | inr other ↦ rw (named, other) (listed_as rows tables name h.1)
+    ]
 
 -- so it is in any sound database
 pub named_as : (db : Database) (name : List ℕ) → IsDatabase db

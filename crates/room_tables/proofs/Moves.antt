@@ -1,57 +1,51 @@
 -- A room of version 1 becomes one of version 2 that has the same records.
 use Rattle.std.proofs.Common.{◌≡◌, ℕ, ℤ, List, [], ◌∷◌, ◌++◌, Option, option_map, Ok, refl, sym, ap, ap₂, subst, ◌∙◌}
-use Rattle.std.proofs.Common.{arith, IsPermutation}
+use Rattle.std.proofs.Common.{IsPermutation}
 use Rattle.std.proofs.lemmas.List.{append-nil}
 use Rattle.std.proofs.lemmas.List.Sorted.{IsPermutation-refl}
 use Rattle.std.specs.List.{AllByRecursion}
 use Rattle.sqlite_value.specs.declared.value.Value.TheVariants.{Int}
 use Rattle.sqlite_value.specs.Order.{Row}
 use Rattle.sqlite_trees.specs.Tree.{Trees}
-use Rattle.sqlite.specs.Command.TheVariants.{CreateTable}
 use Rattle.sqlite.specs.Effect.{Database, IsDatabase}
 use Rattle.sqlite.specs.Schema.{Schema}
 use Rattle.sqlite.specs.State.{State, ExecutesInside}
-use Rattle.sqlite.proofs.Callers.{runs_as}
 use Rattle.room_slots.specs.KeptModel.{KeptModel}
 use Rattle.room_records.specs.declared.change.Change.TheVariants.{PutNext}
 use Rattle.room_records.specs.Changes.{apply_change}
 use Rattle.room_records.specs.Records.{Records}
-use Rattle.room_tables.specs.Tables.{Upgraded, first_schema, kept_table, kept_text}
+use Rattle.room_tables.specs.Tables.{Upgraded, room_schema, first_schema, kept_table, kept_text}
 use Rattle.room_tables.specs.Texts.{copy_row_text, take_row_text}
-use Rattle.room_tables.specs.Rows.{only, kept_of, nodes_in, entries_in, documents_in, next_in, sessions_in}
-use Rattle.room_tables.specs.Rows.{records_of, version_rows, IsVersion}
+use Rattle.room_tables.specs.Rows.{only, kept_of, records_of, version_rows, IsVersion}
 use Rattle.room_tables.specs.Layout.{IsKeyed, IsNumbered, IsRoomOfVersion1, IsRoomOfVersion2}
 use Rattle.room_tables.specs.Steps.{Steps}
 use Rattle.room_tables.specs.Upgrade.{shows, others_than, IsWidened, IsShared, IsMoving, IsMovedOut, CopiesRow}
 use Rattle.room_tables.specs.Upgrade.{IsMoved, IsUpgraded}
-use Rattle.room_tables.proofs.Making.{kept_is, kept_beside, beside_plain, beside_made}
+use Rattle.room_tables.proofs.Making.{kept_beside}
 use Rattle.room_tables.proofs.Creates.{makes}
-use Rattle.room_tables.proofs.Changes.{executes_inside}
 use Rattle.room_tables.proofs.Copies.{copy_moves, take_moves}
 use Rattle.room_tables.proofs.Listed.{slots_listed, slot_listed}
 use Rattle.room_tables.proofs.Queries.{only_permuted}
-use Rattle.room_tables.proofs.Effects.{same_records}
+use Rattle.room_tables.proofs.Effects.{same_records, read_same, after, each_after}
 
 -- ---- each statement
 
 pub widens : (old new : State) (count : ℕ) → ExecutesInside 0 kept_text [] old new (Ok count)
     → old.now.schema ≡ first_schema → IsWidened old.now new.now
 widens old new count h has =
-    let w = runs_as kept_text [] old new first_schema has CreateTable kept_beside.0 beside_plain count
-    (executes_inside kept_text [] old new count h).0 in
-    let it = makes old new first_schema (kept_table 0) kept_text _ count has kept_is.2 refl (rw kept_beside.1 at w) in
-    record { schema = it.after ∙ beside_made; sound = it.sound; empty = it.empty; others = it.others }
+    let it = makes old new first_schema (room_schema Upgraded) (kept_table 0) kept_text count has kept_beside refl h in
+    record { schema = it.after; sound = it.sound; empty = it.empty; others = it.others }
 
 pub copied : (before : Database) (old new : State) (count : ℕ) → ExecutesInside 0 copy_row_text [] old new (Ok count)
     → IsMoving before old.now → CopiesRow before new
 copied before old new count h it =
-    copy_moves before old new count it (executes_inside copy_row_text [] old new count h).0
+    copy_moves before old new count it h.0
 
 pub taken : (before : Database) (id : ℤ) (old new : State) (count : ℕ)
     → ExecutesInside 0 take_row_text (Int id ∷ []) old new (Ok count)
     → IsShared before old.now (others_than id (old.now.trees 8)) → IsMoving before new.now
 taken before id old new count h it =
-    take_moves before id old new count it (executes_inside take_row_text (Int id ∷ []) old new count h).0
+    take_moves before id old new count it h.0
 
 -- ---- one after another
 
@@ -85,12 +79,7 @@ none_moved a b wide room =
 pub all_moved : (a d : Database) → IsMovedOut a d → IsRoomOfVersion1 a → IsDatabase a → IsMoved a d
 all_moved a d out room sound =
     let it = out.0 in
-    let o = it.others in
-    let d0 : d.trees 0 ≡ a.trees 0 = o.room (omega arith) in
-    let d1 : d.trees 1 ≡ a.trees 1 = o.node (omega arith) in
-    let d3 : d.trees 3 ≡ a.trees 3 = o.entry (omega arith) in
-    let d5 : d.trees 5 ≡ a.trees 5 = o.doc (omega arith) in
-    let d6 : d.trees 6 ≡ a.trees 6 = o.session (omega arith) in
+    let o = each_after 10 a d it.others in
     let here = slots_listed d Upgraded it.sound it.schema in
     let there = slot_listed a sound room.schema in
     let k = room.keyed in
@@ -100,22 +89,18 @@ all_moved a d out room sound =
         schema = it.schema;
         listed = here;
         keyed = record {
-          room = subst IsKeyed (sym d0) k.0;
-          node = subst IsKeyed (sym d1) k.1.0;
-          entry = subst IsKeyed (sym d3) k.1.1.0;
-          doc = subst IsKeyed (sym d5) k.1.1.1.0;
-          session = subst IsKeyed (sym d6) k.1.1.1.1.0;
+          room = subst IsKeyed (sym o.room) k.0;
+          node = subst IsKeyed (sym o.node) k.1.0;
+          entry = subst IsKeyed (sym o.entry) k.1.1.0;
+          doc = subst IsKeyed (sym o.doc) k.1.1.1.0;
+          session = subst IsKeyed (sym o.session) k.1.1.1.1.0;
           slots = it.kept_keyed;
         };
-        numbered = subst (AllByRecursion IsNumbered) (sym d1) room.numbered;
+        numbered = subst (AllByRecursion IsNumbered) (sym o.node) room.numbered;
       };
       schema = it.schema;
-      records = same_records _ _
-          (λ q. ap (λ rows. nodes_in rows q) d1)
-          (λ q. ap (λ rows. entries_in rows q) d3)
-          (λ q. ap (λ rows. documents_in rows q) d5)
-          (ap next_in d0)
-          (λ q. ap (λ rows. sessions_in rows q) d6)
+      records = read_same (after 10 a d) d.trees _ o refl ∙ same_records _ _
+          (λ _. refl) (λ _. refl) (λ _. refl) refl (λ _. refl)
           (λ sid slot.
           let same = subst (λ rows. IsPermutation (shows sid slot (a.trees 8))
           (shows sid slot rows ++ shows sid slot (d.trees 10))) out.1 (it.slots sid slot) in

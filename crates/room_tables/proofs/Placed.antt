@@ -5,7 +5,7 @@ use Rattle.std.proofs.Common.{cond, inl, inr, eq-eqb, int_cmp, IsPermutation, Eq
 use Rattle.std.specs.List.{AllByRecursion}
 use Rattle.std.proofs.lemmas.Int.{ints}
 use Rattle.std.proofs.lemmas.List.{append-nil, append_assoc, length-append}
-use Rattle.std.proofs.lemmas.Bool.{cases_eq}
+use Rattle.std.proofs.lemmas.Bool.{cases_eq, ne_eqb}
 use Rattle.std.proofs.lemmas.Bool.Decides.{nat_tests}
 use Rattle.std.proofs.lemmas.Map.Lookups.{exact_signed, exact_bytes}
 use Rattle.std.proofs.lemmas.List.Sorted.{IsPermutation-map, IsPermutation-trans, IsPermutation-cons}
@@ -13,7 +13,7 @@ use Rattle.std.proofs.lemmas.List.Sorted.{IsPermutation-sym, IsPermutation-to_fr
 use Rattle.sqlite_value.specs.declared.value.Value.TheVariants.{Int, Text}
 use Rattle.sqlite_value.specs.Order.{Row, value_cmp}
 use Rattle.sqlite_value.proofs.OrderLemmas.{value_cmp-Int, value_cmp-Text}
-use Rattle.sqlite_trees.specs.Tree.{IsAscending, Trees, put_row}
+use Rattle.sqlite_trees.specs.Tree.{IsAscending, put_row}
 use Rattle.sqlite_sql.specs.Query.{key_cmp}
 use Rattle.sqlite_sql.proofs.QueryLemmas.{key_cmp_total}
 use Rattle.sqlite_keyed.specs.Lists.{sort_by}
@@ -32,11 +32,15 @@ use Rattle.room_tables.specs.Steps.{type_of, IsReadBack, shown_as, placed, Lists
 use Rattle.room_tables.proofs.Sorted.{AtMost, ascending-sort_by, same_ascending}
 use Rattle.room_tables.proofs.Queries.{first_tie}
 use Rattle.room_tables.proofs.Values.{int_has}
-use Rattle.room_tables.proofs.Changes.{HasAll, executes_inside, without}
+use Rattle.room_tables.proofs.Changes.{HasAll}
 use Rattle.room_tables.proofs.Takes.{stored, bound_entries, AddsEntries, drops_entries}
-use Rattle.room_tables.proofs.Filters.{put_is_one_more, put_passed_over, none_left, others_left, not_both, keyed_put}
+use Rattle.room_tables.proofs.Filters.{put_is_one_more, put_passed_over, rows_gone, not_both, keyed_put}
 use Rattle.room_tables.proofs.Filters.{keyed_filter, still_room, still_numbered, still_slots}
 use Rattle.room_tables.proofs.Effects.{same_records}
+
+int_tied : (m n : ℕ) → value_cmp (Int (pos m)) (Int (pos n)) ≡ Equal → m ≡ n
+int_tied m n tie =
+    let same : pos m ≡ pos n = exact_signed _ _ (sym (value_cmp-Int (pos m) (pos n)) ∙ tie) in cc
 
 -- two rows of entries that tie are one
 exact_values : (p k f m q l g n : ℕ) (v w : List ℕ)
@@ -49,13 +53,9 @@ exact_values p k f m q l g n v w h =
     let two = first_tie _ _ one.1 in
     let three = first_tie _ _ two.1 in
     let four = first_tie _ _ three.1 in
-    let five = first_tie _ _ four.1 in
-    let a : pos p ≡ pos q = exact_signed _ _ (sym (value_cmp-Int (pos p) (pos q)) ∙ one.0) in
-    let b : pos k ≡ pos l = exact_signed _ _ (sym (value_cmp-Int (pos k) (pos l)) ∙ two.0) in
-    let c : pos f ≡ pos g = exact_signed _ _ (sym (value_cmp-Int (pos f) (pos g)) ∙ three.0) in
-    let d : pos m ≡ pos n = exact_signed _ _ (sym (value_cmp-Int (pos m) (pos n)) ∙ four.0) in
-    let e : v ≡ w = exact_bytes _ _ (sym (value_cmp-Text v w) ∙ five.0) in
-    cc
+    let last : v ≡ w = exact_bytes _ _ (sym (value_cmp-Text v w) ∙ (first_tie _ _ four.1).0) in
+    λ i. Int (pos (int_tied p q one.0 i)) ∷ Int (pos (int_tied k l two.0 i)) ∷ Int (pos (int_tied f g three.0 i))
+    ∷ Int (pos (int_tied m n four.0 i)) ∷ Text (last i) ∷ []
 
 pub exact_entries : (a b : Row) → IsEntryRow a → IsEntryRow b → key_cmp 0 entry_keys a b ≡ Equal → a ≡ b
 exact_entries a b p q tie = p.is ∙ exact_values p.place p.kind p.flags p.mask
@@ -132,36 +132,22 @@ one_placed old new es e was more =
 
 -- ---- the statements
 
--- the rows of the entries of an object go
-pub cleared_rows : (db next : Trees) (id q : ℕ) → next 3 ≡ without (has 1 id) (db 3)
-    → filter (has 1 q) (next 3) ≡ cond (q == id) [] (filter (has 1 q) (db 3))
-cleared_rows db next id q is = elim (cases_eq q id) [
-  | inl same ↦
-      let test : (q == id) ≡ true = eq-eqb q id same in
-      rw (test, same) (ap (filter (has 1 id)) is ∙ none_left (has 1 id) (has 1 id) (db 3) (λ r h. h))
-  | inr apart ↦
-      let test : (q == id) ≡ false = grind (arith, nat_tests) in
-      rw test (ap (filter (has 1 q)) is ∙ others_left (has 1 id) (has 1 q) (db 3) (λ r h. not_both 1 id q r apart h))
-]
-
 -- no entry of the object is left, and all else is as it was
 pub lists_none : (old new : State) (id count : ℕ) → IsRoomDatabase old.now
     → ExecutesInside 0 drop_entries_text (Int (pos id) ∷ []) old new (Ok count) → Lists old.now id [] new.now
 lists_none old new id count room h =
     let it = drops_entries room.layout old new id count room.schema room.keyed.entry
-    (executes_inside drop_entries_text _ old new count h).0 in
+    h.0 in
     let o = it.others in
-    let rows = λ (q : ℕ). cleared_rows old.now.trees new.now.trees id q it.rows_are in
-    let here : (id == id) ≡ true = eq-eqb id id refl in
+    let rows = λ (q : ℕ). rows_gone in_order 1 id q (old.now.trees 3) (new.now.trees 3) it.rows_are in
     record {
       room = still_room 3 old.now new.now room it.schema it.sound o
           (subst IsKeyed (sym it.rows_are) (keyed_filter (λ r. not (has 1 id r)) (old.now.trees 3) room.keyed.entry))
           (still_numbered 3 old.now new.now room (omega arith) o);
       schema = it.schema ∙ sym room.schema;
-      mine = ap in_order (rows id ∙ ap (λ b. cond b [] (filter (has 1 id) (old.now.trees 3))) here);
+      mine = rw (eq-eqb id id refl) at (rows id);
       back = tt;
-      others = λ q apart. let other : (q == id) ≡ false = grind (arith, nat_tests) in
-          ap (λ l. map entry_of (in_order l)) (rows q ∙ ap (λ b. cond b [] (filter (has 1 q) (old.now.trees 3))) other);
+      others = λ q apart. ap (map entry_of) (rw (ne_eqb q id apart) at (rows q));
       nodes = λ q. ap (λ l. nodes_in l q) (o.node (omega arith));
       documents = λ q. ap (λ l. documents_in l q) (o.doc (omega arith));
       next = ap next_in (o.room (omega arith));
@@ -229,7 +215,7 @@ pub lists_more : (text : List ℕ) (old new : State) (id at count : ℕ) (es bat
     → ExecutesInside 0 text (Int (pos id) ∷ bound_entries at batch) old new (Ok count)
     → Lists before id (es ++ batch) new.now
 lists_more text old new id at count es batch before adds place back was h =
-    let it = adds was.room.layout old new count was.room.schema (executes_inside text _ old new count h).0 in
+    let it = adds was.room.layout old new count was.room.schema h.0 in
     let o = it.others in
     let more = all_grown id at es batch (old.now.trees 3)
     (new.now.trees 3) place was.room.keyed.entry was.mine it.rows in
@@ -259,10 +245,6 @@ pub lists_records : (before : Database) (id : ℕ) (es : List EntryModel) (db : 
       };
     }
 lists_records before id es db it = same_records _ _ it.nodes (λ q. elim (cases_eq q id) [
-  | inl same ↦
-      let test : (q == id) ≡ true = eq-eqb q id same in
-      rw (test, same) (ap (map entry_of) it.mine ∙ read_back 0 es it.back)
-  | inr apart ↦
-      let test : (q == id) ≡ false = grind (arith, nat_tests) in
-      rw test (it.others q apart)
+  | inl same ↦ rw (eq-eqb q id same, same) (ap (map entry_of) it.mine ∙ read_back 0 es it.back)
+  | inr apart ↦ rw (ne_eqb q id apart) (it.others q apart)
 ]) it.documents it.next it.sessions it.slots

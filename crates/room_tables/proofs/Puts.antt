@@ -1,6 +1,6 @@
 -- What puts a row: an upsert of a session, and an UPDATE and an INSERT of a row of node, doc and room.
-use Rattle.std.proofs.Common.{◌≡◌, ◌==◌, ℕ, ℤ, pos, Bool, true, false, ◌&&◌, ◌||◌, List, [], ◌∷◌, length, Option, None}
-use Rattle.std.proofs.Common.{Some, Ok, refl, sym, ap, ap₂, subst, arith}
+use Rattle.std.proofs.Common.{◌≡◌, ◌==◌, ℕ, ℤ, pos, true, false, List, [], ◌∷◌, length, drop, Option, None}
+use Rattle.std.proofs.Common.{Some, Ok, refl, sym, ap, ap₂, subst, arith, ◌∙◌}
 use Rattle.std.proofs.lemmas.Bool.Decides.{nat_tests}
 use Rattle.sqlite_value.specs.declared.value.Value.TheVariants.{Null, Int, Text, Blob}
 use Rattle.sqlite_value.specs.Order.{Row, column}
@@ -17,28 +17,19 @@ use Rattle.sqlite_schema.specs.declared.schema.Keys.TheVariants.{Enforced}
 use Rattle.sqlite.specs.Kind.TheVariants.{Integer}
 use Rattle.sqlite.specs.Effect.{Database}
 use Rattle.sqlite.specs.State.{State, Executes}
+use Rattle.room_tables.specs.Texts as T
 use Rattle.room_tables.specs.Tables.{Layout, Fresh, Upgraded, room_schema, room_table, node_table, doc_table}
 use Rattle.room_tables.specs.Tables.{session_table}
-use Rattle.room_tables.specs.Texts.{change_node_text, change_node_query, add_node_text, add_node_terms}
-use Rattle.room_tables.specs.Texts.{change_doc_text, change_doc_query}
-use Rattle.room_tables.specs.Texts.{add_doc_text, add_doc_terms, change_next_text, change_next_query, add_next_text}
-use Rattle.room_tables.specs.Texts.{add_next_terms, put_session_text, put_session_terms, put_session_query}
 use Rattle.room_tables.specs.Rows.{has, has_text}
 use Rattle.room_tables.specs.Layout.{IsKeyed, parent_value}
-use Rattle.room_tables.proofs.Meaning.{change_node_is, change_node_plain, add_node_is, add_node_plain}
-use Rattle.room_tables.proofs.Meaning.{change_doc_is, change_doc_plain, add_doc_is}
-use Rattle.room_tables.proofs.Meaning.{add_doc_plain, change_next_is, change_next_plain, add_next_is, add_next_plain}
-use Rattle.room_tables.proofs.Meaning.{put_session_is, put_session_plain}
-use Rattle.room_tables.proofs.Queries.{and_true}
-use Rattle.room_tables.proofs.Takes.{set_off}
+use Rattle.room_tables.proofs.Meaning.{change_node_means, add_node_means, change_doc_means, add_doc_means}
+use Rattle.room_tables.proofs.Meaning.{change_next_means, add_next_means, put_session_means}
+use Rattle.room_tables.proofs.Queries.{and_true, tidy}
+use Rattle.room_tables.proofs.Takes.{set_off, quiet}
 use Rattle.room_tables.proofs.Writes.{IsUpdate, Changes, changes_row, adds_row}
 use Rattle.room_tables.proofs.Values.{has_int, has_text_value}
 use Rattle.room_tables.proofs.Changes.{cast_null, cast_int}
 use Rattle.room_tables.proofs.Upserts.{PutInto, IsUpsert, put}
-
-with_truth : (b : Bool) → ((b && true) || false) ≡ true → b ≡ true
-with_truth true h = refl
-with_truth false h = h
 
 -- the number of a row that has it
 its_number : (n : ℕ) (r : Row) (i : ℤ) → rowid r ≡ Int i → has 0 n r ≡ true → rowid r ≡ Int (pos n)
@@ -60,15 +51,10 @@ cast_node : (id : ℕ) (parent : Option ℕ) (name : List ℕ) (kind : ℕ) (own
 cast_node id parent name kind owner group aclflag =
     rw (cast_int (pos id), cast_null, cast_parent parent, cast_int (pos kind), cast_int (pos aclflag))
 
-node_set_off : (l : Layout) (moves : List (Row × Row)) → set_off l 1 moves false ≡ []
+node_set_off : (l : Layout) (moves : List (Row × Row)) → (set_off l 0 1 moves false ≡ []) × (set_off l 0 1 [] true ≡ [])
 unfolding everything
-node_set_off Fresh moves = refl
-node_set_off Upgraded moves = refl
-
-none_set_off : (l : Layout) → set_off l 1 [] true ≡ []
-unfolding everything
-none_set_off Fresh = refl
-none_set_off Upgraded = refl
+node_set_off Fresh moves = (refl, refl)
+node_set_off Upgraded moves = (refl, refl)
 
 not_empty : {X : Type 0} (x : X) (xs : List X) → (length (x ∷ xs) == 0) ≡ false
 not_empty x xs = grind (arith, nat_tests)
@@ -76,83 +62,61 @@ not_empty x xs = grind (arith, nat_tests)
 -- nothing goes with a node whose row is written: its number stays
 node_quiet : (l : Layout) (olds : List Row) (new : Row) (news : List Row)
     → works (room_schema l) Enforced 0 1 olds (new ∷ news) ≡ []
-node_quiet l olds new news = subst (λ b. set_off l 1 (pairs olds (new ∷ news)) b ≡ [])
-    (sym (not_empty new news)) (node_set_off l (pairs olds (new ∷ news)))
+node_quiet l olds new news = subst (λ b. set_off l 0 1 (pairs olds (new ∷ news)) b ≡ [])
+    (sym (not_empty new news)) (node_set_off l (pairs olds (new ∷ news))).0
 
 -- and nodes that are added set nothing off
-nodes_quiet : (l : Layout) (news : List Row) → works (room_schema l) Enforced 0 1 [] news ≡ []
-nodes_quiet l [] = none_set_off l
+pub nodes_quiet : (l : Layout) (news : List Row) → works (room_schema l) Enforced 0 1 [] news ≡ []
+nodes_quiet l [] = (node_set_off l []).1
 nodes_quiet l (new ∷ news) = node_quiet l [] new news
 
 abbrev pub node_params : ℕ → Option ℕ → List ℕ → ℕ → List ℕ → List ℕ → ℕ → Row
 node_params id parent name kind owner group aclflag =
     Int (pos id) ∷ parent_value parent ∷ Text name ∷ Int (pos kind) ∷ Text owner ∷ Text group ∷ Int (pos aclflag) ∷ []
 
-node_update : (l : Layout) (id : ℕ) (parent : Option ℕ) (name : List ℕ) (kind : ℕ) (owner group : List ℕ) (aclflag : ℕ)
-    → IsUpdate l node_table id change_node_query.filter change_node_query.project
-    (node_params id parent name kind owner group aclflag)
-    (λ r. r ≡ stored_node id parent name kind owner group aclflag)
-node_update l id parent name kind owner group aclflag = record {
-  quiet = node_quiet l;
-  idle = none_set_off l;
-  here = λ db. refl;
-  test = λ r. and_true (has 0 id r);
-  raw = λ there. rowid there ∷ Null ∷ parent_value parent ∷ Text name
-      ∷ Int (pos kind) ∷ Text owner ∷ Text group ∷ Int (pos aclflag) ∷ [];
-  reads = λ there. refl;
-  renewed = λ there. rowid there ∷ Null ∷ parent_value parent ∷ Text name
-      ∷ Int (pos kind) ∷ Text owner ∷ Text group ∷ Int (pos aclflag) ∷ [];
-  casts = λ there i is. rw (is, cast_int i, cast_null, cast_parent parent, cast_int (pos kind), cast_int (pos aclflag));
-  same_id = λ there. refl;
-  refits = λ there i is met. ap (λ v. v ∷ Null ∷ parent_value parent ∷ Text name ∷ Int (pos kind)
-      ∷ Text owner ∷ Text group ∷ Int (pos aclflag) ∷ []) (its_number id there i is met);
-}
+module _ (l : Layout) (id : ℕ) (parent : Option ℕ) (name : List ℕ) (kind : ℕ) (owner group : List ℕ) (aclflag : ℕ) where
+  abbrev params : Row
+  params = node_params id parent name kind owner group aclflag
 
--- what the count of an UPDATE tells
-abbrev pub ChangesNode : Layout → ℕ → Option ℕ → List ℕ → ℕ → List ℕ → List ℕ → ℕ → ℕ → Database → Database → Type 0
-ChangesNode l id parent name kind owner group aclflag = Changes l node_table id change_node_query.filter
-    change_node_query.project (node_params id parent name kind owner group aclflag)
-    (λ r. r ≡ stored_node id parent name kind owner group aclflag)
+  abbrev stored : Row
+  stored = stored_node id parent name kind owner group aclflag
 
-pub changes_node : (l : Layout) (old new : State) (id : ℕ) (parent : Option ℕ) (name : List ℕ) (kind : ℕ)
-    (owner group : List ℕ) (aclflag count : ℕ) → old.now.schema ≡ room_schema l → IsKeyed (old.now.trees 1)
-    → Executes change_node_text (node_params id parent name kind owner group aclflag) old new (Ok count)
-    → ChangesNode l id parent name kind owner group aclflag count old.now new.now
-changes_node l old new id parent name kind owner group aclflag count schema keyed h =
-    changes_row l node_table id change_node_query.filter change_node_query.project
-    (node_params id parent name kind owner group aclflag)
-    (λ r. r ≡ stored_node id parent name kind owner group aclflag)
-    (node_update l id parent name kind owner group aclflag) old new 1 count change_node_text refl
-    (change_node_is l) (change_node_plain l) schema keyed h
+  pub node_update : IsUpdate l node_table (has 0 id) T.change_node_query.filter T.change_node_query.project params
+      (λ r. r ≡ stored)
+  node_update = record {
+    quiet = node_quiet l;
+    idle = nodes_quiet l [];
+    here = λ db. refl;
+    test = λ r. and_true (has 0 id r);
+    raw = λ there. rowid there ∷ Null ∷ drop 1 params;
+    reads = λ there. refl;
+    renewed = λ there. rowid there ∷ Null ∷ drop 1 params;
+    casts = λ there i is.
+        rw (is, cast_int i, cast_null, cast_parent parent, cast_int (pos kind), cast_int (pos aclflag));
+    same_id = λ there. refl;
+    refits = λ there i is met. ap (λ v. v ∷ Null ∷ drop 1 params) (its_number id there i is met);
+  }
 
--- an INSERT alone adds the row, and no row had its number
-pub adds_node : (l : Layout) (old new : State) (id : ℕ) (parent : Option ℕ) (name : List ℕ) (kind : ℕ)
-    (owner group : List ℕ) (aclflag count : ℕ) (Met : Row → Type 0) → old.now.schema ≡ room_schema l
-    → Executes add_node_text (node_params id parent name kind owner group aclflag) old new (Ok count)
-    → PutInto l old.now new.now 1 (λ r. r ≡ stored_node id parent name kind owner group aclflag) Met
-adds_node l old new id parent name kind owner group aclflag count Met schema h =
-    adds_row l old new 1 node_table add_node_terms 8 count add_node_text
-    (node_params id parent name kind owner group aclflag) (stored_node id parent name kind owner group aclflag)
-    (stored_node id parent name kind owner group aclflag) (pos id) _ Met refl schema refl (add_node_is l)
-    (add_node_plain l) (nodes_quiet l) refl
-    (ap (λ r. numbered Chosen (old.now.trees 1) (r ∷ [])) (cast_node id parent name kind owner group aclflag))
-    refl refl h
+  -- what the count of an UPDATE tells
+  abbrev pub ChangesNode : ℕ → Database → Database → Type 0
+  ChangesNode = Changes l node_table (has 0 id) T.change_node_query.filter T.change_node_query.project
+      (node_params id parent name kind owner group aclflag)
+      (λ r. r ≡ stored_node id parent name kind owner group aclflag)
+
+  -- an INSERT alone adds the row, and no row had its number
+  pub adds_node : (old new : State) (count : ℕ) (Met : Row → Type 0) → old.now.schema ≡ room_schema l
+      → Executes T.add_node_text (node_params id parent name kind owner group aclflag) old new (Ok count)
+      → PutInto l old.now new.now 1 (λ r. r ≡ stored_node id parent name kind owner group aclflag) Met
+  adds_node old new count Met schema h =
+      adds_row l old new 1 node_table T.add_node_terms 8 count T.add_node_text params stored stored (pos id) _ Met refl
+      schema refl (add_node_means l) (nodes_quiet l) refl
+      (ap (λ r. numbered Chosen (old.now.trees 1) (r ∷ [])) (cast_node id parent name kind owner group aclflag))
+      refl refl h
 
 -- ---- doc
 
 abbrev pub stored_doc : ℕ → List ℕ → Row
 stored_doc id bytes = Int (pos id) ∷ Null ∷ Blob bytes ∷ []
-
-doc_set_off : (l : Layout) (moves : List (Row × Row)) (deletes : Bool) → set_off l 5 moves deletes ≡ []
-unfolding everything
-doc_set_off Fresh moves true = refl
-doc_set_off Fresh moves false = refl
-doc_set_off Upgraded moves true = refl
-doc_set_off Upgraded moves false = refl
-
--- nothing refers to a document
-doc_quiet : (l : Layout) (olds news : List Row) → works (room_schema l) Enforced 0 5 olds news ≡ []
-doc_quiet l olds news = doc_set_off l (pairs olds news) (length news == 0)
 
 cast_doc : (id : ℕ) (bytes : List ℕ) → cast_row doc_table (stored_doc id bytes) ≡ stored_doc id bytes
 cast_doc id bytes = rw (cast_int (pos id), cast_null)
@@ -160,11 +124,11 @@ cast_doc id bytes = rw (cast_int (pos id), cast_null)
 abbrev pub doc_params : ℕ → List ℕ → Row
 doc_params id bytes = Int (pos id) ∷ Blob bytes ∷ []
 
-doc_update : (l : Layout) (id : ℕ) (bytes : List ℕ) → IsUpdate l doc_table id change_doc_query.filter
-    change_doc_query.project (doc_params id bytes) (λ r. r ≡ stored_doc id bytes)
+pub doc_update : (l : Layout) (id : ℕ) (bytes : List ℕ) → IsUpdate l doc_table (has 0 id) T.change_doc_query.filter
+    T.change_doc_query.project (doc_params id bytes) (λ r. r ≡ stored_doc id bytes)
 doc_update l id bytes = record {
-  quiet = λ olds new news. doc_quiet l olds (new ∷ news);
-  idle = doc_quiet l [] [];
+  quiet = λ olds new news. (quiet l 0 olds (new ∷ news)).doc;
+  idle = (quiet l 0 [] []).doc;
   here = λ db. refl;
   test = λ r. and_true (has 0 id r);
   raw = λ there. rowid there ∷ Null ∷ Blob bytes ∷ [];
@@ -181,24 +145,15 @@ PutsDoc l id bytes old new = PutInto l old new 5 (λ r. r ≡ stored_doc id byte
 
 -- what the count of an UPDATE tells
 abbrev pub ChangesDoc : Layout → ℕ → List ℕ → ℕ → Database → Database → Type 0
-ChangesDoc l id bytes = Changes l doc_table id change_doc_query.filter change_doc_query.project
+ChangesDoc l id bytes = Changes l doc_table (has 0 id) T.change_doc_query.filter T.change_doc_query.project
     (doc_params id bytes) (λ r. r ≡ stored_doc id bytes)
 
-pub changes_doc : (l : Layout) (old new : State) (id : ℕ) (bytes : List ℕ) (count : ℕ)
-    → old.now.schema ≡ room_schema l → IsKeyed (old.now.trees 5)
-    → Executes change_doc_text (doc_params id bytes) old new (Ok count)
-    → ChangesDoc l id bytes count old.now new.now
-changes_doc l old new id bytes count schema keyed h =
-    changes_row l doc_table id change_doc_query.filter change_doc_query.project (doc_params id bytes)
-    (λ r. r ≡ stored_doc id bytes) (doc_update l id bytes) old new 3 count change_doc_text refl
-    (change_doc_is l) (change_doc_plain l) schema keyed h
-
 pub adds_doc : (l : Layout) (old new : State) (id : ℕ) (bytes : List ℕ) (count : ℕ) → old.now.schema ≡ room_schema l
-    → Executes add_doc_text (doc_params id bytes) old new (Ok count) → PutsDoc l id bytes old.now new.now
+    → Executes T.add_doc_text (doc_params id bytes) old new (Ok count) → PutsDoc l id bytes old.now new.now
 adds_doc l old new id bytes count schema h =
-    adds_row l old new 3 doc_table add_doc_terms 3 count add_doc_text (doc_params id bytes)
-    (stored_doc id bytes) (stored_doc id bytes) (pos id) _ _ refl schema refl (add_doc_is l) (add_doc_plain l)
-    (doc_quiet l []) refl (ap (λ r. numbered Chosen (old.now.trees 5) (r ∷ [])) (cast_doc id bytes)) refl refl h
+    adds_row l old new 3 doc_table T.add_doc_terms 3 count T.add_doc_text (doc_params id bytes)
+    (stored_doc id bytes) (stored_doc id bytes) (pos id) _ _ refl schema refl (add_doc_means l)
+    (λ news. (quiet l 0 [] news).doc) refl (ap (λ r. numbered Chosen (old.now.trees 5) (r ∷ [])) (cast_doc id bytes)) refl refl h
 
 -- ---- the one row of room
 
@@ -206,25 +161,14 @@ adds_doc l old new id bytes count schema h =
 abbrev pub stored_next : ℕ → Row
 stored_next n = Int (pos 1) ∷ Null ∷ Int (pos 2) ∷ Int (pos n) ∷ []
 
-next_set_off : (l : Layout) (moves : List (Row × Row)) (deletes : Bool) → set_off l 0 moves deletes ≡ []
-unfolding everything
-next_set_off Fresh moves true = refl
-next_set_off Fresh moves false = refl
-next_set_off Upgraded moves true = refl
-next_set_off Upgraded moves false = refl
-
--- nothing refers to the row of room
-next_quiet : (l : Layout) (olds news : List Row) → works (room_schema l) Enforced 0 0 olds news ≡ []
-next_quiet l olds news = next_set_off l (pairs olds news) (length news == 0)
-
 cast_next : (n : ℕ) → cast_row room_table (stored_next n) ≡ stored_next n
 cast_next n = rw (cast_int (pos 1), cast_null, cast_int (pos 2), cast_int (pos n))
 
-next_update : (l : Layout) (n : ℕ) → IsUpdate l room_table 1 change_next_query.filter
-    change_next_query.project (Int (pos n) ∷ []) (λ r. r ≡ stored_next n)
+next_update : (l : Layout) (n : ℕ) → IsUpdate l room_table (has 0 1) T.change_next_query.filter
+    T.change_next_query.project (Int (pos n) ∷ []) (λ r. r ≡ stored_next n)
 next_update l n = record {
-  quiet = λ olds new news. next_quiet l olds (new ∷ news);
-  idle = next_quiet l [] [];
+  quiet = λ olds new news. (quiet l 0 olds (new ∷ news)).room;
+  idle = (quiet l 0 [] []).room;
   here = λ db. refl;
   test = λ r. and_true (has 0 1 r);
   raw = λ there. rowid there ∷ Null ∷ Int (pos 2) ∷ Int (pos n) ∷ [];
@@ -241,23 +185,23 @@ PutsNext l n old new = PutInto l old new 0 (λ r. r ≡ stored_next n) (λ r. ha
 
 -- what the count of an UPDATE tells
 abbrev pub ChangesNext : Layout → ℕ → ℕ → Database → Database → Type 0
-ChangesNext l n = Changes l room_table 1 change_next_query.filter change_next_query.project
+ChangesNext l n = Changes l room_table (has 0 1) T.change_next_query.filter T.change_next_query.project
     (Int (pos n) ∷ []) (λ r. r ≡ stored_next n)
 
 pub changes_next : (l : Layout) (old new : State) (n count : ℕ) → old.now.schema ≡ room_schema l
-    → IsKeyed (old.now.trees 0) → Executes change_next_text (Int (pos n) ∷ []) old new (Ok count)
+    → IsKeyed (old.now.trees 0) → Executes T.change_next_text (Int (pos n) ∷ []) old new (Ok count)
     → ChangesNext l n count old.now new.now
 changes_next l old new n count schema keyed h =
-    changes_row l room_table 1 change_next_query.filter change_next_query.project (Int (pos n) ∷ [])
-    (λ r. r ≡ stored_next n) (next_update l n) old new 0 count change_next_text refl
-    (change_next_is l) (change_next_plain l) schema keyed h
+    changes_row l room_table 1 T.change_next_query.filter T.change_next_query.project (Int (pos n) ∷ [])
+    (λ r. r ≡ stored_next n) (next_update l n) old new 0 count T.change_next_text refl
+    (change_next_means l) schema keyed h
 
 pub adds_next : (l : Layout) (old new : State) (n count : ℕ) → old.now.schema ≡ room_schema l
-    → Executes add_next_text (Int (pos n) ∷ []) old new (Ok count) → PutsNext l n old.now new.now
+    → Executes T.add_next_text (Int (pos n) ∷ []) old new (Ok count) → PutsNext l n old.now new.now
 adds_next l old new n count schema h =
-    adds_row l old new 0 room_table add_next_terms 4 count add_next_text (Int (pos n) ∷ [])
-    (stored_next n) (stored_next n) (pos 1) _ _ refl schema refl (add_next_is l) (add_next_plain l)
-    (next_quiet l []) refl (ap (λ r. numbered Chosen (old.now.trees 0) (r ∷ [])) (cast_next n)) refl refl h
+    adds_row l old new 0 room_table T.add_next_terms 4 count T.add_next_text (Int (pos n) ∷ [])
+    (stored_next n) (stored_next n) (pos 1) _ _ refl schema refl (add_next_means l)
+    (λ news. (quiet l 0 [] news).room) refl (ap (λ r. numbered Chosen (old.now.trees 0) (r ∷ [])) (cast_next n)) refl refl h
 
 -- ---- session
 
@@ -269,11 +213,6 @@ stored_session rowid sid owner slots open_flag =
 abbrev pub IsSession : List ℕ → List ℕ → ℕ → ℕ → Row → Type 0
 IsSession sid owner slots open_flag r = (rowid : ℤ) × (r ≡ stored_session rowid sid owner slots open_flag)
 
-session_quiet : (l : Layout) (row : Row) → works (room_schema l) Enforced 0 6 [] (row ∷ []) ≡ []
-unfolding everything
-session_quiet Fresh row = refl
-session_quiet Upgraded row = refl
-
 session_quiet_change : (l : Layout) (olds : List Row) (row : Row)
     → works (room_schema l) Enforced 0 6 olds (row ∷ []) ≡ []
 unfolding everything
@@ -284,20 +223,20 @@ session_conflict : (l : Layout) (rowid : ℤ) (sid owner : List ℕ) (slots open
     → conflicts (Some (1 ∷ [])) (room_schema l).indexes session_table (stored_session rowid sid owner slots open_flag) r
     ≡ true → has_text 1 sid r ≡ true
 unfolding first_key
-session_conflict Fresh rowid sid owner slots open_flag r h = with_truth (has_text 1 sid r) h
-session_conflict Upgraded rowid sid owner slots open_flag r h = with_truth (has_text 1 sid r) h
+session_conflict Fresh rowid sid owner slots open_flag r h = sym (tidy (has_text 1 sid r)) ∙ h
+session_conflict Upgraded rowid sid owner slots open_flag r h = sym (tidy (has_text 1 sid r)) ∙ h
 
 cast_session : (rowid : ℤ) (sid owner : List ℕ) (slots open_flag : ℕ) → cast_row session_table
     (stored_session rowid sid owner slots open_flag) ≡ stored_session rowid sid owner slots open_flag
 cast_session rowid sid owner slots open_flag = rw (cast_int rowid, cast_int (pos slots), cast_int (pos open_flag))
 
 session_upsert : (l : Layout) (rowid : ℤ) (sid owner : List ℕ) (slots open_flag : ℕ)
-    → IsUpsert l session_table (1 ∷ []) 4 put_session_query.project (Text sid ∷ Text owner
+    → IsUpsert l session_table (1 ∷ []) 4 T.put_session_query.project (Text sid ∷ Text owner
     ∷ Int (pos slots) ∷ Int (pos open_flag) ∷ []) (stored_session rowid sid owner slots open_flag)
     (IsSession sid owner slots open_flag) (λ r. has_text 1 sid r ≡ true)
 session_upsert l id sid owner slots open_flag = record {
   uncounted = refl;
-  quiet_put = session_quiet l;
+  quiet_put = session_quiet_change l [];
   quiet_change = session_quiet_change l;
   here = λ db. refl;
   id = id;
@@ -321,13 +260,12 @@ session_upsert l id sid owner slots open_flag = record {
 
 pub puts_session : (l : Layout) (old new : State) (sid owner : List ℕ) (slots open_flag count : ℕ)
     → old.now.schema ≡ room_schema l → IsKeyed (old.now.trees 6)
-    → Executes put_session_text (Text sid ∷ Text owner ∷ Int (pos slots) ∷ Int (pos open_flag) ∷ []) old new (Ok count)
+    → Executes T.put_session_text (Text sid ∷ Text owner ∷ Int (pos slots) ∷ Int (pos open_flag) ∷ []) old new (Ok count)
     → PutInto l old.now new.now 6 (IsSession sid owner slots open_flag) (λ r. has_text 1 sid r ≡ true)
 puts_session l old new sid owner slots open_flag count schema keyed h =
-    put l old new 4 session_table (1 ∷ []) 4 put_session_query.project put_session_terms 5 count
-    put_session_text (Text sid ∷ Text owner ∷ Int (pos slots) ∷ Int (pos open_flag) ∷ [])
-    (Null ∷ Text sid ∷ Text owner ∷ Int (pos slots) ∷ Int (pos open_flag) ∷ [])
+    put l session_table (1 ∷ []) 4 T.put_session_query.project
+    (Text sid ∷ Text owner ∷ Int (pos slots) ∷ Int (pos open_flag) ∷ [])
     (stored_session (next_rowid (old.now.trees 6)) sid owner slots open_flag) _ _
-    (session_upsert l (next_rowid (old.now.trees 6)) sid owner slots open_flag)
-    refl schema keyed (put_session_is l) (put_session_plain l) refl
-    (rw (cast_null, cast_int (pos slots), cast_int (pos open_flag)) refl) h
+    (session_upsert l (next_rowid (old.now.trees 6)) sid owner slots open_flag) old new 4 T.put_session_terms 5 count
+    T.put_session_text (Null ∷ Text sid ∷ Text owner ∷ Int (pos slots) ∷ Int (pos open_flag) ∷ [])
+    refl schema keyed (put_session_means l) refl (rw (cast_null, cast_int (pos slots), cast_int (pos open_flag)) refl) h

@@ -1,36 +1,34 @@
 -- What a query over one table answers, and that it changes nothing.
-use Rattle.std.proofs.Common.{◌≡◌, ℕ, ◌+◌, ◌<◌, arith, length, is_lt, Bool, true, false, ◌&&◌, cond, List, [], ◌∷◌}
+use Rattle.std.proofs.Common.{◌≡◌, ℕ, ◌+◌, ◌<◌, arith, length, is_gt, Bool, true, false, ◌&&◌, ◌||◌, cond, List, [], ◌∷◌}
 use Rattle.std.proofs.Common.{◌++◌, map, filter, flat_map, Option, None, Some, Ok, Err, Result, IfOk, IfErr, OnOk, ◌⊎◌}
-use Rattle.std.proofs.Common.{inl, inr, refl, Ordering, Less, Equal, Greater, sym, ap, ap₂, subst, subst₂, ◌∙◌}
-use Rattle.std.proofs.Common.{IsPermutation, IsSorted}
-use Rattle.std.specs.List.{list_all}
+use Rattle.std.proofs.Common.{inl, inr, refl, Ordering, Equal, sym, ap, subst, subst₂, ◌∙◌}
+use Rattle.std.proofs.Common.{IsPermutation, IsSorted, negsuc}
+use Rattle.std.specs.List.{list_all, swap, AllByRecursion}
+use Rattle.std.proofs.Math.ListN.{set, get_or, get_or-map}
+use Rattle.std.proofs.lemmas.List.{length-map, map-set}
+use Rattle.std.proofs.lemmas.Grind.{common_steps}
+use Rattle.std.proofs.lemmas.List.Sorted.{IsPermutation-refl, IsPermutation-trans, IsPermutation-swap, IsPermutation-keeps}
 use Rattle.std.proofs.lemmas.List.Sorted.{IsPermutation-map, length_permutation}
-use Rattle.sqlite_value.specs.declared.value.Value.TheVariants.{Null}
+use Rattle.sqlite_value.specs.declared.value.Value.TheVariants.{Null, Int}
 use Rattle.sqlite_value.specs.declared.keys.Key.{Key}
 use Rattle.sqlite_value.specs.declared.keys.Collation.{Collation}
 use Rattle.sqlite_value.specs.Order.{Row}
-use Rattle.sqlite_trees.specs.Tree.{Trees}
-use Rattle.sqlite_sql.specs.Term.{Term, holds}
+use Rattle.sqlite_trees.specs.Tree.{Trees, IsAscending}
+use Rattle.sqlite_sql.specs.Term.{Term, lit, holds, eval_all}
 use Rattle.sqlite_sql.specs.Query.{Query, IsAnswer, Output, output, output_cmp, key_cmp}
 use Rattle.sqlite_sql.specs.Program.{overlay}
-use Rattle.sqlite_keyed.proofs.ListLemmas.{map-map, map_same, filter_same}
+use Rattle.sqlite_keyed.proofs.ListLemmas.{map-map, map_same, filter_same, ascending-map, ascending_from_map}
 use Rattle.sqlite_keyed.specs.Lists.{sort_by}
-use Rattle.std.specs.List.{AllByRecursion}
-use Rattle.std.specs.Ordering.{ordering_then, on}
-use Rattle.std.proofs.lemmas.List.{get_or-map, length-map}
-use Rattle.sqlite_sql.proofs.QueryLemmas.{key_cmp_total}
+use Rattle.std.specs.Ordering.{ordering_then}
+use Rattle.sqlite_sql.proofs.QueryLemmas.{key_cmp_total, output_cmp_total}
 use Rattle.sqlite.specs.State.{State, Shown, ShowsRows, Survives, CommitsShowing, IsUnchanged, IsRolledBack}
 use Rattle.sqlite.specs.State.{FailsToQuery, FailsToShow, IsNotRun}
 use Rattle.sqlite.specs.declared.error.Error.{Error}
 use Rattle.sqlite_schema.specs.declared.command.Returning.{Returning}
 use Rattle.sqlite.specs.Clock.{timed}
-use Rattle.sqlite.specs.Listing.{understood}
+use Rattle.sqlite.specs.Listing.{understood, reads_listing, if_select, listing_schema}
 use Rattle.sqlite.proofs.StateLemmas.{survives_weaker, unchanged}
-use Rattle.sqlite.proofs.Callers.{IsPlain, reads_as, one_permutation}
-use Rattle.sqlite.proofs.Callers.{command_of}
-use Rattle.sqlite_schema.specs.declared.command.Command.TheVariants.{Select}
-use Rattle.sqlite_sql.specs.Term.{eval_all}
-use Rattle.sqlite.specs.Listing.{reads_listing, if_select, listing_schema}
+use Rattle.sqlite.proofs.Callers.{reads_as, one_permutation}
 use Rattle.sqlite_resolve.specs.declared.compiled.Compiled.{Compiled}
 use Rattle.sqlite_resolve.specs.declared.error.CompileError.{CompileError}
 use Rattle.sqlite_resolve.specs.declared.error.CompileError.TheVariants.{NoSuchTable}
@@ -45,7 +43,8 @@ use Rattle.sqlite.specs.Listing as listing
 use Rattle.sqlite_schema.specs.declared.schema.Schema.{Schema}
 use Rattle.room_tables.specs.Texts.{over_table}
 use Rattle.room_tables.specs.Rows.{only}
-use Rattle.room_tables.proofs.Sorted.{all_permutation, sorted_answer}
+use Rattle.room_tables.proofs.Meaning.{IsQuery}
+use Rattle.room_tables.proofs.Sorted.{AtMost, ascending_from_sorted, sorted_answer}
 
 -- the rows of the table that pass the terms
 abbrev pub passing : List Term → Row → List Row → List Row
@@ -69,14 +68,14 @@ pub record Picks (q : Query) (params : Row) (rows : List Row) (shown : List Row)
   pub sorted : IsSorted (output_cmp q) ordered
   pub is : shown ≡ map (λ (o : Output). o.1) ordered
 
--- what a query over one table shows, whatever collations its columns have
-pub answer_of : (tree : ℕ) (terms project : List Term) (order : List (Term × Key)) (how : List Collation) (db : Trees)
-    (params : Row) (rows : List Row)
-    → IsAnswer (record (over_table tree terms project order) { collations = how }) db params rows
-    → Picks (record (over_table tree terms project order) { collations = how }) params
-    (passing terms params (db tree)) rows
-answer_of tree terms project order how db params rows a =
-    let q : Query = record (over_table tree terms project order) { collations = how } in
+-- what a query over one table shows, whatever collations its columns have, before a LIMIT
+pub answer_of : (tree : ℕ) (terms project : List Term) (order : List (Term × Key)) (how : List Collation) (limit : Term)
+    (db : Trees) (params : Row) (rows : List Row)
+    → (a : IsAnswer (record (over_table tree terms project order) { collations = how; limit = limit }) db params rows)
+    → Picks (record (over_table tree terms project order) { collations = how; limit = limit }) params
+    (passing terms params (db tree)) (map (λ (o : Output). o.1) a.ordered)
+answer_of tree terms project order how limit db params rows a =
+    let q : Query = record (over_table tree terms project order) { collations = how; limit = limit } in
     let kept : a.kept ≡ map (λ r. output q (params ∷ r ∷ [])) (passing terms params (db tree)) =
     a.distinct ∙ ap (map (output q)) (a.grouped ∙ envs_are terms params (db tree))
     ∙ map-map (output q) (λ r. params ∷ r ∷ []) (passing terms params (db tree)) in
@@ -84,70 +83,100 @@ answer_of tree terms project order how db params rows a =
       ordered = a.ordered;
       same = subst (λ k. IsPermutation k a.ordered) kept a.same;
       sorted = a.sorted;
-      is = a.shown;
+      is = refl;
     }
 
 pub answer_is : (tree : ℕ) (terms project : List Term)
     (order : List (Term × Key)) (db : Trees) (params : Row) (rows : List Row)
     → IsAnswer (over_table tree terms project order) db params rows
     → Picks (over_table tree terms project order) params (passing terms params (db tree)) rows
-answer_is tree terms project order = answer_of tree terms project order []
+answer_is tree terms project order db params rows a =
+    subst (Picks (over_table tree terms project order) params (passing terms params (db tree))) (sym a.shown)
+    (answer_of tree terms project order [] (lit (Int (negsuc 0))) db params rows a)
 
 pub and_true : (b : Bool) → (b && true) ≡ b
-and_true true = refl
-and_true false = refl
+and_true b = grind (arith, common_steps)
+
+pub tidy : (b : Bool) → ((b && true) || false) ≡ b
+tidy b = grind (arith, common_steps)
 
 -- what a text over one table answers
 pub picked : (schema : Schema) (old new : State) (sql : List ℕ) (params : Row) (tree : ℕ) (terms project : List Term)
     (order : List (Term × Key)) (names : List (List ℕ)) (rows : List Row)
-    → old.now.schema ≡ schema
-    → command_of (understood schema sql)
-    ≡ Select (record { lets = []; body = over_table tree terms project order }) names
-    → IsPlain (understood schema sql) × (reads_listing schema sql ≡ false)
+    → old.now.schema ≡ schema → IsQuery schema sql (over_table tree terms project order) names
     → overlay old.now.trees [] tree ≡ old.now.trees tree → Shown sql params old new rows
     → Picks (over_table tree terms project order) params (passing terms params (old.now.trees tree)) rows
-picked schema old new sql params tree terms project order names rows has is plain here h =
-    let read = reads_as sql params old new schema has _ is plain.0 plain.1 rows h in
+picked schema old new sql params tree terms project order names rows has means here h =
+    let read = reads_as sql params old new schema has _ means.0.0 means.0.1 means.1 rows h in
     subst (λ all. Picks (over_table tree terms project order) params (passing terms params all) rows) here
     (answer_is tree terms project order (overlay old.now.trees []) params rows (read.answer Null))
 
--- the rows that pass a test are shown, in some order
+-- two comparisons in turn
+pub first_tie : (a b : Ordering) → ordering_then a b ≡ Equal → (a ≡ Equal) × (b ≡ Equal)
+first_tie a b h = grind (arith, common_steps)
+
+-- what is mapped and then moved is moved and then mapped
+map-swap : {X Y : Type 0} (f : X → Y) (xs : List X) (i j : ℕ) → map f (swap xs i j) ≡ swap (map f xs) i j
+map-swap f [] i j = refl
+map-swap f (d ∷ ys) i j =
+    map-set f (set (d ∷ ys) i (get_or (d ∷ ys) j d)) j (get_or (d ∷ ys) i d)
+    ∙ ap (λ l. set l j (f (get_or (d ∷ ys) i d))) (map-set f (d ∷ ys) i (get_or (d ∷ ys) j d)
+    ∙ ap (set (map f (d ∷ ys)) i) (sym (get_or-map f (d ∷ ys) j d)))
+    ∙ ap (set (set (map f (d ∷ ys)) i (get_or (map f (d ∷ ys)) j (f d))) j) (sym (get_or-map f (d ∷ ys) i d))
+
+moved_from : {X Y : Type 0} (f : X → Y) (xs : List X) (ys : List Y) → IsPermutation (map f xs) ys
+    → (zs : List X) × IsPermutation xs zs × (ys ≡ map f zs)
+moved_from {X} {Y} f xs ys = IsPermutation-keeps (map f xs)
+    (λ (l : List Y). (zs : List X) × IsPermutation xs zs × (l ≡ map f zs)) (xs, IsPermutation-refl xs, refl)
+    (λ l i j low high h.
+    let long : length l ≡ length h.0 = ap length h.2 ∙ length-map h.0 f in (
+      swap h.0 i j,
+      IsPermutation-trans _ _ _ h.1 (IsPermutation-swap h.0 _ i j (subst (λ n. i < n) long low)
+          (subst (λ n. j < n) long high) refl),
+      ap (λ (k : List Y). swap k i j) h.2 ∙ sym (map-swap f h.0 i j),
+    )) ys
+
+-- the rows that pass a test, in an order that rises by the keys of ORDER BY, and what is shown of them
+pub arranged : (q : Query) (params : Row) (all rows : List Row) (p : Row → Bool) (key show : Row → Row)
+    → ((r : Row) → list_all (holds (params ∷ r ∷ [])) q.filter ≡ p r)
+    → ((r : Row) → output q (params ∷ r ∷ []) ≡ (key r, show r)) → Picks q params (passing q.filter params all) rows
+    → (found : List Row) × IsPermutation (filter p all) found
+    × IsAscending (λ a b. is_gt (key_cmp 0 (map (λ k. k.1) q.order) (key a) (key b)) ≡ false) found
+    × (rows ≡ map show found)
+arranged q params all rows p key show test shows k =
+    let out : Row → Output = λ r. (key r, show r) in
+    let outs : map (λ r. output q (params ∷ r ∷ [])) (passing q.filter params all) ≡ map out (filter p all) =
+    map_same _ out shows _ ∙ ap (map out) (filter_same _ p test all) in
+    let moved = moved_from out (filter p all) k.ordered (subst (λ l. IsPermutation l k.ordered) outs k.same) in
+    let R = AtMost (output_cmp q) (output_cmp_total q) in
+    let up = ascending_from_sorted (output_cmp q) (output_cmp_total q) k.ordered k.sorted in (
+      moved.0,
+      moved.1,
+      ascending_from_map R out moved.0 (subst (IsAscending R) moved.2 up),
+      k.is ∙ ap (map (λ (o : Output). o.1)) moved.2 ∙ map-map (λ (o : Output). o.1) out moved.0,
+    )
+
+-- so they are shown, in some order
 pub found : (q : Query) (params : Row) (all rows : List Row) (p : Row → Bool) (show : Row → Row)
     → ((r : Row) → list_all (holds (params ∷ r ∷ [])) q.filter ≡ p r)
     → ((r : Row) → eval_all q.project (params ∷ r ∷ []) ≡ show r)
     → Picks q params (passing q.filter params all) rows → IsPermutation (map show (filter p all)) rows
 found q params all rows p show test shows k =
-    let passed : passing q.filter params all ≡ filter p all = filter_same _ p test all in
-    let is = map-map (λ (o : Output). o.1) (λ r. output q (params ∷ r ∷ [])) (passing q.filter params all)
-    ∙ map_same _ show shows (passing q.filter params all) ∙ ap (map show) passed in
-    subst₂ IsPermutation is (sym k.is) (IsPermutation-map (λ (o : Output). o.1) _ _ k.same)
+    let key = λ (r : Row). eval_all (map (λ k. k.0) q.order) (params ∷ r ∷ []) in
+    let it = arranged q params all rows p key show test (λ r. ap (λ s. (key r, s)) (shows r)) k in
+    rw it.3 (IsPermutation-map show _ _ it.1)
 
--- two comparisons in turn
-pub first_tie : (a b : Ordering) → ordering_then a b ≡ Equal → (a ≡ Equal) × (b ≡ Equal)
-first_tie Less b h = absurd (cc)
-first_tie Equal b h = (refl, h)
-first_tie Greater b h = absurd (cc)
-
-abbrev both : (Row → Row) → Row → Output
-both show row = (show row, show row)
-
-same_parts : (show : Row → Row) (rows : List Row) → AllByRecursion (λ (o : Output). o.1 ≡ o.0) (map (both show) rows)
-same_parts show [] = tt
-same_parts show (r ∷ rows) = (refl, same_parts show rows)
-
-parts_are : (os : List Output) → AllByRecursion (λ (o : Output). o.1 ≡ o.0) os
-    → map (λ (o : Output). o.1) os ≡ map (λ (o : Output). o.0) os
-parts_are [] all = refl
-parts_are (o ∷ os) all = ap₂ (λ a l. a ∷ l) all.0 (parts_are os all.1)
-
-pub sorted_keys : (keys : List Key) (os : List Output) → IsSorted (on (λ (o : Output). o.0) (key_cmp 0 keys)) os
-    → IsSorted (key_cmp 0 keys) (map (λ (o : Output). o.0) os)
-sorted_keys keys os sorted = λ k d low high.
-    let e : Output = (d, []) in
-    let more : k + 1 < length os = omega (arith, high, length-map os (λ (o : Output). o.0)) in
-    let here : k < length os = omega arith in
-    subst₂ (λ x y. is_lt (key_cmp 0 keys x y) ≡ false) (sym (get_or-map (λ (o : Output). o.0) os (k + 1) e d more))
-    (sym (get_or-map (λ (o : Output). o.0) os k e d here)) (sorted k e low more)
+-- what a text over one table that has no ORDER BY shows
+pub asked : (schema : Schema) (old new : State) (sql : List ℕ) (params : Row) (tree : ℕ) (terms project : List Term)
+    (names : List (List ℕ)) (rows : List Row) (p : Row → Bool) (show : Row → Row)
+    → old.now.schema ≡ schema → IsQuery schema sql (over_table tree terms project []) names
+    → overlay old.now.trees [] tree ≡ old.now.trees tree
+    → ((r : Row) → list_all (holds (params ∷ r ∷ [])) terms ≡ p r)
+    → ((r : Row) → eval_all project (params ∷ r ∷ []) ≡ show r) → Shown sql params old new rows
+    → IsPermutation (map show (filter p (old.now.trees tree))) rows
+asked schema old new sql params tree terms project names rows p show has means here test shows h =
+    found (over_table tree terms project []) params (old.now.trees tree) rows p show test shows
+    (picked schema old new sql params tree terms project [] names rows has means here h)
 
 -- Where ORDER BY names just what is shown, the answer is in the one order, if rows that tie are equal.
 pub listed : (q : Query) (params : Row) (all rows : List Row) (p : Row → Bool) (show : Row → Row) (P : Row → Type 0)
@@ -158,17 +187,11 @@ pub listed : (q : Query) (params : Row) (all rows : List Row) (p : Row → Bool)
     → rows ≡ sort_by (key_cmp 0 (map (λ k. k.1) q.order)) (map show (filter p all))
 listed q params all rows p show P test shows exact typed k =
     let keys : List Key = map (λ k. k.1) q.order in
-    let passed : passing q.filter params all ≡ filter p all = filter_same _ p test all in
-    let outs : map (λ r. output q (params ∷ r ∷ [])) (passing q.filter params all) ≡ map (both show) (filter p all) =
-    map_same _ (both show) shows _ ∙ ap (map (both show)) passed in
-    let same : IsPermutation (map (both show) (filter p all)) k.ordered =
-    subst (λ l. IsPermutation l k.ordered) outs k.same in
-    let parts = parts_are k.ordered (all_permutation _ _ _ same (same_parts show (filter p all))) in
-    let is : rows ≡ map (λ (o : Output). o.0) k.ordered = k.is ∙ parts in
-    let moved = subst₂ IsPermutation (map-map (λ (o : Output). o.0) (both show) (filter p all))
-    (sym is) (IsPermutation-map (λ (o : Output). o.0) _ _ same) in
-    sorted_answer (key_cmp 0 keys) (key_cmp_total keys 0) P exact _ rows typed moved
-    (subst (IsSorted (key_cmp 0 keys)) (sym is) (sorted_keys keys k.ordered k.sorted))
+    let it = arranged q params all rows p show show test shows k in
+    let up = ascending-map (AtMost (key_cmp 0 keys) (key_cmp_total keys 0)) show it.0 it.2 in
+    sorted_answer (key_cmp 0 keys) (key_cmp_total keys 0) P exact _ rows typed
+    (subst (IsPermutation (map show (filter p all))) (sym it.3) (IsPermutation-map show _ _ it.1))
+    (subst (IsAscending (AtMost (key_cmp 0 keys) (key_cmp_total keys 0))) (sym it.3) up)
 
 -- ---- a query commits nothing, whatever the schema
 
@@ -221,22 +244,16 @@ unreturned_by schema text (Ok p) is h = rw is (unreturned_parsed schema p h _ re
 pub unreturned : (schema : Schema) (text : List ℕ)
     → is_query_text (first text) ≡ true → IsUnreturned (understood schema text)
 unfolding understood
-unreturned schema text h = go (reads_listing schema text) (compiled listing_schema text)
-    (unreturned_by listing_schema text _ refl h) (unreturned_by schema text _ refl h)
+unreturned schema text h = elim (reads_listing schema text)
+    as (λ b. IsUnreturned (cond b (if_select (compiled listing_schema text)) (compiled schema text))) [
+      | true ↦ selected (compiled listing_schema text) (unreturned_by listing_schema text _ refl h)
+      | false ↦ unreturned_by schema text _ refl h
+    ]
   where
-    if_selected : (r : Result Compiled CompileError) (c : Bool)
-        → IsUnreturned r → IsUnreturned (cond c r (Err NoSuchTable))
-    if_selected r true h = h
-    if_selected r false h = tt
-
     selected : (r : Result Compiled CompileError) → IsUnreturned r → IsUnreturned (if_select r)
-    selected (Ok c) h = if_selected (Ok c) (listing.is_select c.command) h
+    selected (Ok c) h = elim (listing.is_select c.command) as (λ b. IsUnreturned (cond b (Ok c) (Err NoSuchTable)))
+        [ true ↦ h | false ↦ tt ]
     selected (Err e) h = tt
-
-    go : (b : Bool) (r : Result Compiled CompileError) → IsUnreturned r
-        → IsUnreturned (compiled schema text) → IsUnreturned (cond b (if_select r) (compiled schema text))
-    go true r p q = selected r p
-    go false r p q = q
 
 pub query_commits_none : (sql : List ℕ) (params : Row) (s : State) (db : Trees)
     → is_query_text (first sql) ≡ true → ¬ CommitsShowing sql params s db
@@ -304,22 +321,6 @@ shown_open sql params old new rows h = shown h.0.returning h.2
         → ShowsRows old new sql h.0 (timed params h.0.formats h.1.now) rows o → old.is_open ≡ true
     shown None it = it.3.0.was_open
     shown (Some what) it = it.1.shown.was_open
-
--- and it shows an open connection still
-pub shown_alive : (sql : List ℕ) (params : Row) (old new : State) (rows : List Row)
-    → Shown sql params old new rows → new.is_open ≡ true
-unfolding Shown
-shown_alive sql params old new rows h = shown h.0.returning h.2
-  where
-    shown : (o : Option Returning)
-        → ShowsRows old new sql h.0 (timed params h.0.formats h.1.now) rows o → new.is_open ≡ true
-    shown None it = it.3.0.is_open
-    shown (Some what) it = it.1.shown.is_open
-
-pub query_alive : {V : Type 0} (items : V → List Row) (sql : List ℕ) (params : Row) (old new : State)
-    (r : Result V Error) → IfOk r (λ rows. Shown sql params old new (items rows)) → OnOk r (new.is_open ≡ true)
-query_alive items sql params old new (Ok rows) ok = shown_alive sql params old new (items rows) ok
-query_alive items sql params old new (Err e) ok = tt
 
 pub query_open : {V : Type 0} (items : V → List Row) (sql : List ℕ)
     (params : Row) (old new : State) (r : Result V Error)

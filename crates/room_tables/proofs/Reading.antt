@@ -1,16 +1,14 @@
 -- The rows of an object's entries that are read in order of place are the first of its entries.
-use Rattle.std.proofs.Common.{◌≡◌, ℕ, pos, Bool, true, false, not, ◌&&◌, ◌||◌, cond, List, [], ◌∷◌, ◌++◌, map, filter}
-use Rattle.std.proofs.Common.{inl, inr, refl, sym, ap, ap₂, subst, subst₂, ◌∙◌, true≢false, IsPermutation, IsSorted}
+use Rattle.std.proofs.Common.{◌≡◌, ℕ, pos, Bool, true, false, not, ◌||◌, cond, List, [], ◌∷◌, ◌++◌, map, filter}
+use Rattle.std.proofs.Common.{inl, inr, refl, sym, ap, subst, subst₂, ◌∙◌, true≢false, IsPermutation}
 use Rattle.std.proofs.Common.{Equal, Less, Greater, Ordering, is_eq, Some}
-use Rattle.std.specs.Ordering.{ordering_then, is_ne, is_gt}
+use Rattle.std.specs.Ordering.{ordering_then, is_gt}
 use Rattle.std.specs.List.{AllByRecursion}
-use Rattle.std.proofs.lemmas.Bool.{cases_Bool}
+use Rattle.std.proofs.lemmas.Bool.{not-true}
 use Rattle.std.proofs.lemmas.Cmp.{tied_itself}
-use Rattle.std.proofs.lemmas.List.Sorted.{IsPermutation-sym, IsPermutation-trans}
+use Rattle.std.proofs.lemmas.List.Sorted.{IsPermutation-map}
 use Rattle.sqlite_trees.specs.Tree.{IsAscending, rowid}
-use Rattle.sqlite_keyed.specs.Lists.{sort_by}
-use Rattle.sqlite_keyed.proofs.SortLemmas.{IsPermutation-sort_by}
-use Rattle.sqlite_keyed.proofs.ListLemmas.{filter_same, ascending_from_map}
+use Rattle.sqlite_keyed.proofs.ListLemmas.{ascending-map}
 use Rattle.sqlite_keyed.proofs.RuleLemmas.{first_of_both, second_of_both}
 use Rattle.sqlite_value.specs.declared.value.Value.{Value}
 use Rattle.sqlite_value.specs.declared.value.Value.TheVariants.{Null, Int}
@@ -19,16 +17,15 @@ use Rattle.sqlite_value.specs.declared.keys.Collation.TheVariants.{Binary}
 use Rattle.sqlite_value.specs.Keys.{ascending, plain, first_key}
 use Rattle.sqlite_value.specs.Order.{Row, column, value_cmp}
 use Rattle.sqlite_sql.specs.Ops.{binary, is_null, is_true, from_truth}
-use Rattle.sqlite_sql.specs.Query.{key_cmp, Output, IsAnswer}
+use Rattle.sqlite_sql.specs.Query.{key_cmp, IsAnswer}
 use Rattle.sqlite_sql.specs.Program.{overlay}
 use Rattle.sqlite_sql.proofs.QueryLemmas.{key_cmp_total}
-use Rattle.sqlite_schema.specs.Rules.{passes, Keeps, clashes, agree, differ, guards, equal}
+use Rattle.sqlite_schema.specs.Rules.{passes, agree, equal}
 use Rattle.sqlite_schema.specs.declared.schema.Constraint.TheVariants.{Unique, NotNull}
 use Rattle.sqlite_rules.specs.Lists.{Has}
-use Rattle.sqlite_rules.proofs.ListLemmas.{all_has, all_from, some_from, test_has, has_filtered}
+use Rattle.sqlite_rules.proofs.ListLemmas.{all_has, all_from, has_filtered}
 use Rattle.sqlite_rules.proofs.PlaceLemmas.{tied_same}
 use Rattle.sqlite_rules.proofs.ProbeLemmas.{has_mapped}
-use Rattle.sqlite_rules.proofs.TableLemmas.{int_is}
 use Rattle.sqlite.specs.State.{State, Shown, Begins}
 use Rattle.sqlite.specs.Effect.{Database, IsDatabase}
 use Rattle.sqlite.proofs.Callers.{reads_as, begins_as}
@@ -36,27 +33,18 @@ use Rattle.room_tables.specs.Tables.{Layout, room_schema, entry_table, entry_ind
 use Rattle.room_tables.specs.Rows.{has, shown_entry, entry_keys, entry_rows}
 use Rattle.room_tables.specs.Layout.{IsKeyed, IsRoomDatabase}
 use Rattle.room_tables.specs.Texts.{read_entries_text, read_entries_query}
-use Rattle.room_tables.proofs.Meaning.{read_entries_is, read_entries_plain}
-use Rattle.room_tables.proofs.Queries.{passing, and_true, answer_is, found, sorted_keys, first_tie}
+use Rattle.room_tables.proofs.Meaning.{read_entries_means}
+use Rattle.room_tables.proofs.Queries.{and_true, answer_is, arranged, first_tie}
+use Rattle.room_tables.proofs.Each.{rows_pass, once_by}
 use Rattle.room_tables.proofs.Removed.{has_permuted}
-use Rattle.room_tables.proofs.Sorted.{ascending_from_sorted, ascending-sort_by, same_ascending, all_permutation}
-use Rattle.room_tables.proofs.Values.{has_not_null, has_tied, truth_back}
+use Rattle.room_tables.proofs.Sorted.{sorted_answer}
+use Rattle.room_tables.proofs.Values.{has_not_null, has_tied}
 
 -- ---- a place stands once in an object's list, by UNIQUE and NOT NULL
 
-not_false : (b : Bool) → not b ≡ true → b ≡ false
-not_false true h = sym h
-not_false false h = refl
-
-unique_entry : (l : Layout) (db : Database) (row : Row) → passes Unique (room_schema l) db.trees entry_table row ≡ true
-    → clashes plain (1 ∷ 2 ∷ []) (db.trees 3) row ≡ false
-unique_entry l db row h =
-    not_false _ (test_has (λ i. not (guards i entry_table && clashes i.order i.columns (db.trees 3) row))
-    (room_schema l).indexes entry_index h (inr (inl refl)))
-
 placed_entry : (l : Layout) (db : Database) (row : Row) → passes NotNull (room_schema l) db.trees entry_table row ≡ true
     → is_null (column row 2) ≡ false
-placed_entry l db row h = not_false _ (first_of_both _ _ (second_of_both (not (is_null (column row 1))) _ h))
+placed_entry l db row h = not-true _ (first_of_both _ _ (second_of_both (not (is_null (column row 1))) _ h))
 
 truth_is : (b : Bool) (o : Ordering) → b ≡ false → o ≡ Equal → is_true (cond b Null (from_truth (Some (is_eq o))))
     ≡ true
@@ -71,41 +59,21 @@ agree_on : (x y : Row) → equal Binary (column x 1) (column y 1) ≡ true → e
 unfolding first_key
 agree_on x y p q = rw (p, q) refl
 
-is_not : (o : Ordering) → is_ne o ≡ false → o ≡ Equal
-is_not Less h = absurd (true≢false h)
-is_not Equal h = refl
-is_not Greater h = absurd (true≢false h)
-
-same_ids : (a b : _) → differ (Int a) (Int b) ≡ false → value_cmp (Int a) (Int b) ≡ Equal
-unfolding binary
-same_ids a b h = is_not _ (sym (truth_back _) ∙ h)
-
-both_true : (a b : Bool) → a ≡ true → b ≡ true → (a && b) ≡ true
-both_true a b p q = rw p q
-
 -- two entries of an object that have one place are one row
 entry_once : (l : Layout) (db : Database) (id : ℕ) (x y : Row) → db.schema ≡ room_schema l → IsDatabase db
     → IsKeyed (db.trees 3)
     → Has (db.trees 3) x → Has (db.trees 3) y → has 1 id x ≡ true → has 1 id y ≡ true
     → value_cmp (column x 2) (column y 2) ≡ Equal → value_cmp (rowid x) (rowid y) ≡ Equal
 entry_once l db id x y schema sound keyed in_x in_y p q tie =
-    let keeps = subst (λ s. Keeps Unique s db.trees) schema (sound.obeys.rules Unique) in
-    let filled = subst (λ s. Keeps NotNull s db.trees) schema (sound.obeys.rules NotNull) in
-    let clash = unique_entry l db y (all_has _ (db.trees 3) y keeps.1.1.0 in_y) in
-    let some_x = placed_entry l db x (all_has _ (db.trees 3) x filled.1.1.0 in_x) in
-    let some_y = placed_entry l db y (all_has _ (db.trees 3) y filled.1.1.0 in_y) in
+    let filled = (rows_pass NotNull db l schema sound).entry in
+    let some_x = placed_entry l db x (all_has _ (db.trees 3) x filled in_x) in
+    let some_y = placed_entry l db y (all_has _ (db.trees 3) y filled in_y) in
     let nodes = tied_equal (column x 1) (column y 1) (has_not_null 1 id x p) (has_not_null 1 id y q)
     (has_tied 1 id x y p q) in
     let places = tied_equal (column x 2) (column y 2) some_x some_y tie in
-    elim (cases_Bool (differ (rowid x) (rowid y))) [
-      | inl apart ↦ absurd (true≢false
-          (sym (some_from (λ other. agree plain (1 ∷ 2 ∷ []) other (1 ∷ 2 ∷ []) y && differ (rowid other) (rowid y))
-          (db.trees 3) x in_x (both_true _ _ (agree_on x y nodes places) apart)) ∙ clash))
-      | inr same ↦
-          let i = int_is (rowid x) (all_has _ (db.trees 3) x keyed.ints in_x) in
-          let j = int_is (rowid y) (all_has _ (db.trees 3) y keyed.ints in_y) in
-          ap₂ value_cmp i j ∙ same_ids _ _ (ap₂ differ (sym i) (sym j) ∙ same)
-    ]
+    once_by l db entry_table entry_index x y (inr (inl refl)) refl
+    (all_has _ (db.trees 3) y (rows_pass Unique db l schema sound).entry in_y) in_x (agree_on x y nodes places)
+    (all_has _ (db.trees 3) x keyed.ints in_x) (all_has _ (db.trees 3) y keyed.ints in_y)
 
 -- ---- sorted by place is sorted by all that is shown
 
@@ -161,53 +129,30 @@ module _ (l : Layout) (db : Database) (id : ℕ) (schema : db.schema ≡ room_sc
   still_up [] all up = tt
   still_up (x ∷ xs) all up = (all_most x xs all.0 all.1 up.0, still_up xs all.1 up.1)
 
-  keys_are : (os : List Output) → AllByRecursion (λ (o : Output). o.0 ≡ place_key o.1) os → map (λ (o : Output). o.0) os
-      ≡ map place_key (map (λ (o : Output). o.1) os)
-  keys_are [] all = refl
-  keys_are (o ∷ os) all = ap₂ (λ a l. a ∷ l) all.0 (keys_are os all.1)
-
-  abbrev output_of : Row → Output
-  output_of r = (column r 2 ∷ [], shown_entry r)
-
-  parts_are : (rows : List Row) → AllByRecursion (λ (o : Output). o.0 ≡ place_key o.1) (map output_of rows)
-  parts_are [] = tt
-  parts_are (r ∷ rows) = (refl, parts_are rows)
-
   -- a whole answer is the entries in their order
   pub whole_answer : (rows : List Row) → IsAnswer read_entries_query (overlay db.trees []) (Int (pos id) ∷ []) rows
       → rows ≡ entry_rows db.trees id
   whole_answer rows a =
-      let params : Row = Int (pos id) ∷ [] in
       let k = answer_is 3 read_entries_query.filter read_entries_query.project read_entries_query.order
-      (overlay db.trees []) params rows a in
-      let passed : passing read_entries_query.filter params (db.trees 3) ≡ mine =
-      filter_same _ (has 1 id) (λ r. and_true (has 1 id r)) (db.trees 3) in
-      let same : IsPermutation (map output_of mine) k.ordered =
-      subst (λ l. IsPermutation (map output_of l) k.ordered) passed k.same in
-      let parts = all_permutation _ _ _ same (parts_are mine) in
-      let keys : map (λ (o : Output). o.0) k.ordered ≡ map place_key rows =
-      keys_are k.ordered parts ∙ ap (map place_key) (sym k.is) in
-      let sorted = subst (IsSorted (key_cmp 0 place_keys)) keys (sorted_keys place_keys k.ordered k.sorted) in
-      let up = ascending_from_map _ place_key rows
-      (ascending_from_sorted (key_cmp 0 place_keys) (key_cmp_total place_keys 0) (map place_key rows) sorted) in
-      let moved = found read_entries_query params (db.trees 3) rows (has 1 id) shown_entry (λ r. and_true (has 1 id r))
-      (λ r. refl) k in
-      let all = all_from (IsOf mine) rows (λ x h. let s =
-      has_mapped shown_entry mine x (has_permuted _ rows x moved h) in (s.0, s.1, s.2)) in
-      let cmp = key_cmp 0 entry_keys in
-      let total = key_cmp_total entry_keys 0 in
-      let back = IsPermutation-sym _ _ (IsPermutation-trans _ _ _
-      (IsPermutation-sort_by cmp total (map shown_entry mine)) moved) in
-      sym (same_ascending cmp total (IsOf mine) exact_all rows (sort_by cmp (map shown_entry mine)) all
-      (still_up rows all up) (ascending-sort_by cmp total (map shown_entry mine)) back)
+      (overlay db.trees []) (Int (pos id) ∷ []) rows a in
+      let it = arranged read_entries_query (Int (pos id) ∷ []) (db.trees 3) rows (has 1 id) (λ r. column r 2 ∷ [])
+      shown_entry (λ r. and_true (has 1 id r)) (λ r. refl) k in
+      let moved : IsPermutation (map shown_entry mine) rows =
+      subst (IsPermutation _) (sym it.3) (IsPermutation-map shown_entry _ _ it.1) in
+      let up : IsAscending (λ a b. is_gt (key_cmp 0 place_keys (place_key a) (place_key b)) ≡ false) rows =
+      subst (IsAscending _) (sym it.3) (ascending-map _ shown_entry it.0 it.2) in
+      let all = all_from (IsOf mine) rows (λ x h. has_mapped shown_entry mine x (has_permuted _ rows x moved h)) in
+      sorted_answer (key_cmp 0 entry_keys) (key_cmp_total entry_keys 0) (IsOf mine) exact_all (map shown_entry mine)
+      rows all moved (still_up rows all up)
 
 -- the rows that were read begin the entries
 pub read_begins : (s : State) (id : ℕ) (given : List Row) → IsRoomDatabase s.now → IsDatabase s.now
     → Begins read_entries_text (Int (pos id) ∷ []) s given → (tail : List Row)
     × (given ++ tail ≡ entry_rows s.now.trees id)
 read_begins s id given room sound h =
+    let means = read_entries_means room.layout in
     let read = begins_as read_entries_text (Int (pos id) ∷ []) s s (room_schema room.layout) room.schema _
-    (read_entries_is room.layout) (read_entries_plain room.layout).0 (read_entries_plain room.layout).1 given h in
+    means.0.0 means.0.1 means.1 given h in
     let start = read.1 in
     (start.0, whole_answer room.layout s.now id room.schema sound room.keyed.entry (given ++ start.0) (start.1 Null))
 
@@ -215,6 +160,7 @@ read_begins s id given room sound h =
 pub read_ends : (old new : State) (id : ℕ) (given : List Row) → IsRoomDatabase old.now → IsDatabase old.now
     → Shown read_entries_text (Int (pos id) ∷ []) old new given → given ≡ entry_rows old.now.trees id
 read_ends old new id given room sound h =
+    let means = read_entries_means room.layout in
     let read = reads_as read_entries_text (Int (pos id) ∷ []) old new (room_schema room.layout) room.schema _
-    (read_entries_is room.layout) (read_entries_plain room.layout).0 (read_entries_plain room.layout).1 given h in
+    means.0.0 means.0.1 means.1 given h in
     whole_answer room.layout old.now id room.schema sound room.keyed.entry given (read.answer Null)

@@ -1,8 +1,8 @@
 -- What a DELETE by a test leaves of a table.
-use Rattle.std.proofs.Common.{◌≡◌, ℤ, Bool, true, false, not, ◌||◌, cond, List, [], ◌∷◌, map, filter, inl, inr, refl}
-use Rattle.std.proofs.Common.{sym, ap, ◌∙◌, true≢false, Less, Equal, is_eq, IsPermutation}
+use Rattle.std.proofs.Common.{◌≡◌, ℤ, Bool, true, not, ◌||◌, cond, List, [], ◌∷◌, map, filter, inl, inr, refl}
+use Rattle.std.proofs.Common.{sym, ap, subst, ◌∙◌, true≢false, Less, Equal, is_eq, IsPermutation}
 use Rattle.std.specs.List.{list_any}
-use Rattle.std.proofs.lemmas.Bool.{cases_Bool}
+use Rattle.std.proofs.lemmas.Bool.{cases_Bool, false_from_ne_true}
 use Rattle.std.proofs.lemmas.Cmp.{tied_itself}
 use Rattle.sqlite_value.specs.declared.value.Value.TheVariants.{Int}
 use Rattle.sqlite_value.specs.Order.{Row, value_cmp}
@@ -17,9 +17,10 @@ use Rattle.sqlite_rules.proofs.ProbeLemmas.{has_mapped, mapped_has}
 use Rattle.sqlite_rules.proofs.PlaceLemmas.{tied_same}
 use Rattle.sqlite_rules.proofs.TableLemmas.{int_is}
 use Rattle.std.proofs.lemmas.List.Sorted.{IsPermutation-sym}
-use Rattle.sqlite_keyed.proofs.ListLemmas.{ascending-filter}
+use Rattle.sqlite_keyed.proofs.ListLemmas.{ascending-filter, filter_all}
+use Rattle.sqlite_keyed.proofs.RuleLemmas.{each_true}
 pub use Rattle.room_tables.specs.Layout.{IsKeyed}
-use Rattle.room_tables.proofs.Sorted.{all_permutation}
+use Rattle.sqlite_trees.proofs.ListLemmas.{all-permutation}
 use Rattle.room_tables.proofs.Values.{eq_is}
 
 abbrev among : List ℤ → Row → Bool
@@ -30,29 +31,35 @@ filter_on p q [] same = refl
 filter_on p q (x ∷ xs) same =
     rw (same x (inl refl)) (ap (λ l. cond (q x) (x ∷ l) l) (filter_on p q xs (λ y h. same y (inr h))))
 
-filter_none_kept : {X : Type 0} (xs : List X) → filter (λ _. true) xs ≡ xs
-filter_none_kept [] = refl
-filter_none_kept (x ∷ xs) = ap (λ l. x ∷ l) (filter_none_kept xs)
-
 two_filters : {X : Type 0} (p q : X → Bool) (xs : List X)
     → filter (λ x. not (q x)) (filter (λ x. not (p x)) xs) ≡ filter (λ x. not (p x || q x)) xs
 two_filters p q [] = refl
-two_filters p q (x ∷ xs) = go (p x) (two_filters p q xs)
-  where
-    go : (b : Bool) → filter (λ y. not (q y)) (filter (λ y. not (p y)) xs) ≡ filter (λ y. not (p y || q y)) xs
-        → filter (λ y. not (q y)) (cond (not b) (x ∷ filter (λ y. not (p y)) xs) (filter (λ y. not (p y)) xs))
-        ≡ cond (not (b || q x)) (x ∷ filter (λ y. not (p y || q y)) xs) (filter (λ y. not (p y || q y)) xs)
-    go true more = more
-    go false more = ap (λ l. cond (not (q x)) (x ∷ l) l) more
+two_filters p q (x ∷ xs) = elim (cases_Bool (p x)) [
+  | inl gone ↦ rw gone (two_filters p q xs)
+  | inr left ↦ rw left (ap (λ l. cond (not (q x)) (x ∷ l) l) (two_filters p q xs))
+]
 
 without_all_is : (ids : List ℤ) (rows : List Row) → without_all rows ids ≡ filter (λ r. not (among ids r)) rows
-without_all_is [] rows = sym (filter_none_kept rows)
+without_all_is [] rows = sym (filter_all _ rows (each_true rows))
 without_all_is (id ∷ ids) rows =
     without_all_is ids (without_rowid id rows) ∙ two_filters (has_rowid id) (among ids) rows
 
 pub has_permuted : {X : Type 0} (xs ys : List X) (x : X) → IsPermutation xs ys → Has ys x → Has xs x
 has_permuted xs ys x same =
-    all_has (Has xs) ys x (all_permutation (Has xs) xs ys same (all_from (Has xs) xs (λ e h. h)))
+    all_has (Has xs) ys x (all-permutation (Has xs) xs ys same (all_from (Has xs) xs (λ e h. h)))
+
+-- what is shown of rows that pass a test, in some order: each is of such a row, and each such row is shown
+module _ (show : Row → Row) (p : Row → Bool) (all rows : List Row) (same : IsPermutation (map show (filter p all)) rows)
+  where
+    pub shown_of : (s : Row) → Has rows s → (r : Row) × Has all r × (p r ≡ true) × (s ≡ show r)
+    shown_of s h =
+        let f = has_mapped show (filter p all) s (has_permuted _ rows s same h) in
+        let k = has_filtered p all f.0 f.1 in
+        (f.0, k.0, k.1, f.2)
+
+    pub is_shown : (r : Row) → Has all r → p r ≡ true → Has rows (show r)
+    is_shown r there passes = has_permuted rows _ (show r) (IsPermutation-sym _ _ same)
+        (mapped_has show (filter p all) r (has_kept p all r there passes))
 
 is_its_rowid : (r : Row) → is_int (rowid r) ≡ true → has_rowid (id_in (rowid r)) r ≡ true
 is_its_rowid r int = ap (λ v. is_eq (value_cmp (rowid r) v)) (sym (int_is (rowid r) int))
@@ -60,38 +67,6 @@ is_its_rowid r int = ap (λ v. is_eq (value_cmp (rowid r) v)) (sym (int_is (rowi
 
 abbrev id_of : Row → ℤ
 id_of r = id_in (rowid r)
-
--- what goes where rows are taken by the rowids of those that pass
-pub removed : (p : Row → Bool) (rows found : List Row) → IsKeyed rows
-    → IsPermutation (map (λ r. rowid r ∷ []) (filter p rows)) found
-    → without_all rows (ids_of found) ≡ filter (λ r. not (p r)) rows
-removed p rows found keyed same =
-    without_all_is (ids_of found) rows
-    ∙ filter_on (λ r. not (among (ids_of found) r)) (λ r. not (p r)) rows (λ x h. ap not (agrees x h (p x) refl))
-  where
-    back : (x : Row) → Has rows x → p x ≡ false → among (ids_of found) x ≡ false
-    back x h fails = elim (cases_Bool (among (ids_of found) x)) [
-      | inl any ↦
-          let i = some_has (λ id. has_rowid id x) (ids_of found) any in
-          let f = has_mapped id_of found i.0 i.1 in
-          let g = has_mapped (λ r. rowid r ∷ []) (filter p rows) f.0 (has_permuted _ found f.0 same f.1) in
-          let r = has_filtered p rows g.0 g.1 in
-          let id : i.0 ≡ id_of g.0 = f.2 ∙ ap id_of g.2 in
-          let tie : value_cmp (rowid x) (rowid g.0) ≡ Equal =
-          eq_is _ (ap (λ v. is_eq (value_cmp (rowid x) v))
-          (int_is (rowid g.0) (all_has _ rows g.0 keyed.ints r.0) ∙ ap Int (sym id)) ∙ i.2) in
-          let one = tied_same rows x g.0 keyed.table h r.0 tie in
-          absurd (true≢false (sym (ap p one ∙ r.1) ∙ fails))
-      | inr none ↦ none
-    ]
-
-    agrees : (x : Row) → Has rows x → (b : Bool) → p x ≡ b → among (ids_of found) x ≡ p x
-    agrees x h true passes =
-        let there = mapped_has (λ r. rowid r ∷ []) (filter p rows) x (has_kept p rows x h passes) in
-        let found_it = has_permuted found _ (rowid x ∷ []) (IsPermutation-sym _ _ same) there in
-        some_from (λ id. has_rowid id x) (ids_of found) (id_of x) (mapped_has id_of found (rowid x ∷ []) found_it)
-        (is_its_rowid x (all_has _ rows x keyed.ints h)) ∙ sym passes
-    agrees x h false fails = back x h fails ∙ sym fails
 
 -- the one row with a number, where it is there
 pub one_row : (p : Row → Bool) (rows : List Row) (r : Row) → IsTable rows → Has rows r → p r ≡ true
@@ -112,30 +87,38 @@ one_row p rows r table there passes tie = same_list (filter p rows) (λ x h. let
         ap (λ z. value_cmp (rowid x) (rowid z)) (f ∙ sym e) ∙ tied_itself value_cmp_total (rowid x) in
         absurd (let bad = sym low ∙ tied in cc)
 
--- the same where the rowids are given
+-- what goes where rows are taken by rowids: those that pass, where the rowids are theirs
 pub removed_ids : (p : Row → Bool) (rows : List Row) (ids : List ℤ) → IsKeyed rows
     → ((id : ℤ) → Has ids id → (r : Row) × Has rows r × (p r ≡ true) × (rowid r ≡ Int id))
     → ((r : Row) (id : ℤ) → Has rows r → p r ≡ true → rowid r ≡ Int id → Has ids id)
     → without_all rows ids ≡ filter (λ r. not (p r)) rows
 removed_ids p rows ids keyed sound complete =
-    without_all_is ids rows ∙ filter_on (λ r. not (among ids r))
-    (λ r. not (p r)) rows (λ x h. ap not (agrees x h (p x) refl))
+    without_all_is ids rows
+    ∙ filter_on (λ r. not (among ids r)) (λ r. not (p r)) rows (λ x h. ap not (agrees x h))
   where
-    back : (x : Row) → Has rows x → p x ≡ false → among ids x ≡ false
-    back x h fails = elim (cases_Bool (among ids x)) [
-      | inl any ↦
+    agrees : (x : Row) → Has rows x → among ids x ≡ p x
+    agrees x h = elim (cases_Bool (p x)) [
+      | inl passes ↦
+          let int = all_has _ rows x keyed.ints h in
+          some_from (λ id. has_rowid id x) ids (id_of x)
+          (complete x (id_of x) h passes (int_is (rowid x) int)) (is_its_rowid x int) ∙ sym passes
+      | inr fails ↦ false_from_ne_true (among ids x) (λ any.
           let i = some_has (λ id. has_rowid id x) ids any in
           let r = sound i.0 i.1 in
           let tie : value_cmp (rowid x) (rowid r.0) ≡ Equal =
           eq_is _ (ap (λ v. is_eq (value_cmp (rowid x) v)) r.3 ∙ i.2) in
-          let one = tied_same rows x r.0 keyed.table h r.1 tie in
-          absurd (true≢false (sym (ap p one ∙ r.2) ∙ fails))
-      | inr none ↦ none
+          true≢false (sym (ap p (tied_same rows x r.0 keyed.table h r.1 tie) ∙ r.2) ∙ fails)) ∙ sym fails
     ]
 
-    agrees : (x : Row) → Has rows x → (b : Bool) → p x ≡ b → among ids x ≡ p x
-    agrees x h true passes =
-        let int = all_has _ rows x keyed.ints h in
-        some_from (λ id. has_rowid id x) ids (id_of x)
-        (complete x (id_of x) h passes (int_is (rowid x) int)) (is_its_rowid x int) ∙ sym passes
-    agrees x h false fails = back x h fails ∙ sym fails
+-- so it is where a query found them
+pub removed : (p : Row → Bool) (rows found : List Row) → IsKeyed rows
+    → IsPermutation (map (λ r. rowid r ∷ []) (filter p rows)) found
+    → without_all rows (ids_of found) ≡ filter (λ r. not (p r)) rows
+removed p rows found keyed same = removed_ids p rows (ids_of found) keyed
+    (λ id h.
+    let f = has_mapped id_of found id h in
+    let r = shown_of (λ r. rowid r ∷ []) p rows found same f.0 f.1 in
+    let key : rowid r.0 ≡ Int (id_of r.0) = int_is (rowid r.0) (all_has _ rows r.0 keyed.ints r.1) in
+    (r.0, r.1, r.2, key ∙ ap Int (sym (f.2 ∙ ap id_of r.3))))
+    (λ r id h passes is. subst (Has (ids_of found)) (ap id_in is)
+    (mapped_has id_of found (rowid r ∷ []) (is_shown (λ x. rowid x ∷ []) p rows found same r h passes)))

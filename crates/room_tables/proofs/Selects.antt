@@ -2,64 +2,61 @@
 use Rattle.std.proofs.Common.{◌≡◌, true, refl}
 use Rattle.sqlite_tied.specs.Compute.{everything}
 use Rattle.sqlite_resolve.specs.Compile.{first}
-use Rattle.room_tables.specs.Texts.{find_version_text, find_node_text, find_child_text, list_children_text}
-use Rattle.room_tables.specs.Texts.{count_children_text, list_entries_text, find_doc_text, find_session_text}
-use Rattle.room_tables.specs.Texts.{find_slot_text, find_next_text, read_entries_text, list_names_text, find_seq_text}
-use Rattle.room_tables.specs.Texts.{find_size_text}
+use Rattle.room_tables.specs.Texts as T
 use Rattle.room_tables.proofs.Queries.{is_query_text}
 
-pub find_node_selects : is_query_text (first find_node_text) ≡ true
+pub find_node_selects : is_query_text (first T.find_node_text) ≡ true
 unfolding everything
 find_node_selects = refl
 
-pub find_child_selects : is_query_text (first find_child_text) ≡ true
+pub find_child_selects : is_query_text (first T.find_child_text) ≡ true
 unfolding everything
 find_child_selects = refl
 
-pub list_children_selects : is_query_text (first list_children_text) ≡ true
+pub list_children_selects : is_query_text (first T.list_children_text) ≡ true
 unfolding everything
 list_children_selects = refl
 
-pub list_names_selects : is_query_text (first list_names_text) ≡ true
+pub list_names_selects : is_query_text (first T.list_names_text) ≡ true
 unfolding everything
 list_names_selects = refl
 
-pub count_children_selects : is_query_text (first count_children_text) ≡ true
+pub count_children_selects : is_query_text (first T.count_children_text) ≡ true
 unfolding everything
 count_children_selects = refl
 
-pub list_entries_selects : is_query_text (first list_entries_text) ≡ true
+pub list_entries_selects : is_query_text (first T.list_entries_text) ≡ true
 unfolding everything
 list_entries_selects = refl
 
-pub read_entries_selects : is_query_text (first read_entries_text) ≡ true
+pub read_entries_selects : is_query_text (first T.read_entries_text) ≡ true
 unfolding everything
 read_entries_selects = refl
 
-pub find_doc_selects : is_query_text (first find_doc_text) ≡ true
+pub find_doc_selects : is_query_text (first T.find_doc_text) ≡ true
 unfolding everything
 find_doc_selects = refl
 
-pub find_size_selects : is_query_text (first find_size_text) ≡ true
+pub find_size_selects : is_query_text (first T.find_size_text) ≡ true
 unfolding everything
 find_size_selects = refl
 
-pub find_session_selects : is_query_text (first find_session_text) ≡ true
+pub find_session_selects : is_query_text (first T.find_session_text) ≡ true
 unfolding everything
 find_session_selects = refl
 
-pub find_slot_selects : is_query_text (first find_slot_text) ≡ true
+pub find_slot_selects : is_query_text (first T.find_slot_text) ≡ true
 unfolding everything
 find_slot_selects = refl
 
-pub find_seq_selects : is_query_text (first find_seq_text) ≡ true
+pub find_seq_selects : is_query_text (first T.find_seq_text) ≡ true
 unfolding everything
 find_seq_selects = refl
 
-pub find_next_selects : is_query_text (first find_next_text) ≡ true
+pub find_next_selects : is_query_text (first T.find_next_text) ≡ true
 unfolding everything
 find_next_selects = refl
 
-pub find_version_selects : is_query_text (first find_version_text) ≡ true
+pub find_version_selects : is_query_text (first T.find_version_text) ≡ true
 unfolding everything
 find_version_selects = refl

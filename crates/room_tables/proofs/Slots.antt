@@ -1,17 +1,14 @@
 -- What slots keep, after rows were taken out or one was put.
-use Rattle.std.proofs.Common.{◌≡◌, ◌≢◌, ◌≤◌, ℕ, suc, pos, Bool, true, false, not, ◌&&◌, ◌==◌, cond, List, [], ◌∷◌, map}
-use Rattle.std.proofs.Common.{filter}
+use Rattle.std.proofs.Common.{◌≡◌, ◌≢◌, ◌≤◌, ℕ, suc, true, false, not, ◌&&◌, ◌==◌, cond, List, [], ◌∷◌, map, filter}
 use Rattle.std.proofs.Common.{Option, None, Some, option_map, Ok, inl, inr, refl, sym, ap, ap₂, subst, ◌∙◌, true≢false}
-use Rattle.std.proofs.Common.{arith, bytes_eq, Equal, is_eq}
-use Rattle.std.proofs.lemmas.Bool.{cases_Bool}
+use Rattle.std.proofs.Common.{arith, bytes_eq, eq-eqb}
+use Rattle.std.specs.List.{AllByRecursion}
+use Rattle.std.proofs.lemmas.Bool.{cases_Bool, and_from, eqb-true, false_from_ne_true}
 use Rattle.std.proofs.lemmas.Bool.Decides.{nat_tests}
 use Rattle.std.proofs.lemmas.Slice.Eq.{bytes_eq-Decides}
 use Rattle.sqlite_value.specs.declared.value.Value.TheVariants.{Text}
 use Rattle.sqlite_value.specs.Order.{Row}
-use Rattle.sqlite_trees.specs.Tree.{without_rowid, has_rowid}
-use Rattle.sqlite_rules.specs.Lists.{Has}
 use Rattle.sqlite_rules.proofs.ListLemmas.{all_has}
-use Rattle.sqlite_rules.proofs.TableLemmas.{has_put}
 use Rattle.sqlite.specs.Effect.{Database, IsDatabase}
 use Rattle.sqlite_keyed.proofs.RuleLemmas.{first_of_both, second_of_both}
 use Rattle.sqlite.specs.State.{State, ExecutesInside}
@@ -19,44 +16,35 @@ use Rattle.room_slots.specs.KeptModel.{KeptModel}
 use Rattle.room_records.specs.declared.session.SlotRow.{SlotRow}
 use Rattle.room_records.specs.declared.change.Change.TheVariants.{PutSlot, DropSlots}
 use Rattle.room_records.specs.Changes.{apply_change}
+use Rattle.room_records.specs.Records.{Records}
 use Rattle.room_tables.specs.Tables.{Layout, room_schema, slots_tree}
 use Rattle.room_tables.specs.Texts.{drop_slots_text, change_slot_text, add_slot_text}
 use Rattle.room_tables.specs.Rows.{has_text, is_slot, only, shown_slot, kept_of, slots_in, nodes_in, entries_in}
-use Rattle.room_tables.specs.Rows.{documents_in, next_in, sessions_in, slots_of, reply_in}
-use Rattle.room_tables.specs.Layout.{IsKeyed, IsRoomDatabase, reply_value}
+use Rattle.room_tables.specs.Rows.{documents_in, next_in, sessions_in, slots_of, reply_in, records_of}
+use Rattle.room_tables.specs.Layout.{IsKeyed, IsNumbered, IsRoomDatabase, reply_value}
 use Rattle.room_tables.specs.Steps.{Steps}
 use Rattle.room_tables.proofs.Each.{above}
 use Rattle.room_tables.proofs.Listed.{slots_listed}
 use Rattle.room_tables.proofs.Values.{has_one, has_text_one}
 use Rattle.room_tables.proofs.Removed.{one_row}
-use Rattle.room_tables.proofs.Changes.{Leaves, without, executes_inside}
+use Rattle.room_tables.proofs.Changes.{Others, without}
 use Rattle.room_tables.proofs.Upserts.{Put}
-use Rattle.room_tables.proofs.Kept.{slot_values, its_slot, slot_once, PutsSlot, ChangesSlot}
-use Rattle.room_tables.proofs.Kept.{changes_slot, adds_slot}
+use Rattle.room_tables.proofs.Kept.{slot_values, its_slot, slot_once, PutsSlot, ChangesSlot, changes_slot, adds_slot}
 use Rattle.room_tables.proofs.Takes.{drops_slots}
-use Rattle.room_tables.proofs.Filters.{put_passed_over, none_left, others_left, others_left_on, keyed_filter}
-use Rattle.room_tables.proofs.Filters.{keyed_after, still_room, still_numbered, version_stays}
-use Rattle.room_tables.proofs.Effects.{same_records, through}
-use Rattle.room_tables.proofs.Sessions.{both_true}
+use Rattle.room_tables.proofs.Filters.{filter_apart, has_row, none_left, others_left, keyed_filter}
+use Rattle.room_tables.proofs.Filters.{keyed_after, still_room, version_stays}
+use Rattle.room_tables.proofs.Effects.{same_records, read, steps_then, steps_left}
 
 -- where one of two tests of a slot fails, the rows of the two are apart
-slots_apart : (sid q : List ℕ) (slot n : ℕ) (r : Row) → (bytes_eq q sid && (n == slot)) ≡ false
-    → is_slot q n r ≡ true → is_slot sid slot r ≡ false
-slots_apart sid q slot n r differs h = elim (cases_Bool (is_slot sid slot r)) [
-  | inl also ↦
-      let name : q ≡ sid = has_text_one 1 q sid r (first_of_both _ _ h) (first_of_both _ _ also) in
-      let number : n ≡ slot = has_one 2 n slot r (second_of_both _ _ h) (second_of_both _ _ also) in
-      let test : (n == slot) ≡ true = Rattle.std.proofs.Common.eq-eqb n slot number in
-      absurd (true≢false
-      (sym (both_true (bytes_eq q sid) (n == slot) ((bytes_eq-Decides q sid).1 name) test) ∙ differs))
-  | inr other ↦ other
-]
+slots_apart : (sid q : List ℕ) (slot n : ℕ) → (bytes_eq q sid && (n == slot)) ≡ false → (r : Row)
+    → is_slot sid slot r ≡ true → is_slot q n r ≡ false
+slots_apart sid q slot n differs r h = false_from_ne_true _ (λ also.
+    let name : q ≡ sid = has_text_one 1 q sid r (first_of_both _ _ also) (first_of_both _ _ h) in
+    let number : n ≡ slot = has_one 2 n slot r (second_of_both _ _ also) (second_of_both _ _ h) in
+    true≢false (sym (and_from _ (n == slot) ((bytes_eq-Decides q sid).1 name) (eq-eqb n slot number)) ∙ differs))
 
 names_same : (sid q : List ℕ) (slot n : ℕ) → (bytes_eq q sid && (n == slot)) ≡ true → (q ≡ sid) × (n ≡ slot)
-names_same sid q slot n h = (
-  (bytes_eq-Decides q sid).0 (first_of_both _ _ h),
-  (let t : (n == slot) ≡ true = second_of_both (bytes_eq q sid) (n == slot) h in grind (arith, nat_tests)),
-)
+names_same sid q slot n h = ((bytes_eq-Decides q sid).0 (first_of_both _ _ h), eqb-true n slot (second_of_both _ _ h))
 
 abbrev kept_in : List Row → Option KeptModel
 kept_in rows = option_map kept_of (only (map shown_slot rows))
@@ -75,145 +63,88 @@ all_gone before after sid q n is = elim (cases_Bool (bytes_eq q sid)) [
 ]
   where
     apart : (r : Row) → is_slot q n r ≡ true → bytes_eq q sid ≡ false → has_text 1 sid r ≡ false
-    apart r h differs = elim (cases_Bool (has_text 1 sid r)) [
-      | inl also ↦ absurd
-          (true≢false (sym ((bytes_eq-Decides q sid).1 (has_text_one 1 q sid r (first_of_both _ _ h) also)) ∙ differs))
-      | inr other ↦ other
-    ]
+    apart r h differs = false_from_ne_true _ (λ also.
+        true≢false (sym ((bytes_eq-Decides q sid).1 (has_text_one 1 q sid r (first_of_both _ _ h) also)) ∙ differs))
 
 -- the table of what slots keep is none of the others
 apart : (l : Layout) (tree : ℕ) → tree ≤ 7 → tree ≢ slots_tree l
 apart l tree low = let high = above l in omega (arith, high)
 
+-- where it alone changed, so do the slots alone of what is read
+steps_slots : (old new : State) (room : IsRoomDatabase old.now) (change : Records → Records)
+    → new.now.schema ≡ room_schema room.layout → IsDatabase new.now
+    → Others room.layout (slots_tree room.layout) old.now.trees new.now.trees
+    → IsKeyed (new.now.trees (slots_tree room.layout))
+    → read old.now.trees (slots_of new.now.trees) ≡ change (records_of old.now.trees) → Steps old new change
+steps_slots old new room change schema sound o keyed is =
+    let l = room.layout in
+    let node : new.now.trees 1 ≡ old.now.trees 1 = o.node (apart l 1 (omega arith)) in
+    record {
+      room = still_room (slots_tree l) old.now new.now room schema sound o keyed
+          (subst (AllByRecursion IsNumbered) (sym node) room.numbered);
+      schema = schema ∙ sym room.schema;
+      version = version_stays _ _ (o.room (apart l 0 (omega arith)));
+      sound = λ _ _. sound;
+      records = same_records _ _
+          (λ q. ap (λ rows. nodes_in rows q) node)
+          (λ q. ap (λ rows. entries_in rows q) (o.entry (apart l 3 (omega arith))))
+          (λ q. ap (λ rows. documents_in rows q) (o.doc (apart l 5 (omega arith))))
+          (ap next_in (o.room (apart l 0 (omega arith))))
+          (λ q. ap (λ rows. sessions_in rows q) (o.session (apart l 6 (omega arith)))) (λ _ _. refl) ∙ is;
+    }
+
 pub steps_drop_slots : (old new : State) (sid : List ℕ) (count : ℕ) → IsRoomDatabase old.now
     → ExecutesInside 0 drop_slots_text (Text sid ∷ []) old new (Ok count) → Steps old new (apply_change (DropSlots sid))
 steps_drop_slots old new sid count room h =
     let l = room.layout in
-    let it = drops_slots l old new sid count room.schema room.keyed.slots
-    (executes_inside drop_slots_text _ old new count h).0 in
-    let o = it.others in
+    let it = drops_slots l old new sid count room.schema room.keyed.slots h.0 in
     let keyed = subst IsKeyed (sym it.rows_are)
     (keyed_filter (λ r. not (has_text 1 sid r)) (old.now.trees (slots_tree l)) room.keyed.slots) in
     let rows : slots_of new.now.trees ≡ without (has_text 1 sid) (slots_of old.now.trees) =
     slots_listed new.now l it.sound it.schema ∙ it.rows_are ∙ ap (without (has_text 1 sid)) (sym room.listed) in
-    record {
-      room = still_room (slots_tree l) old.now new.now room it.schema it.sound o keyed
-          (still_numbered (slots_tree l) old.now new.now room (apart l 1 (omega arith)) o);
-      schema = it.schema ∙ sym room.schema;
-      version = version_stays _ _ (o.room (apart l 0 (omega arith)));
-      sound = λ _ _. it.sound;
-      records = same_records _ _
-          (λ q. ap (λ rows. nodes_in rows q) (o.node (apart l 1 (omega arith))))
-          (λ q. ap (λ rows. entries_in rows q) (o.entry (apart l 3 (omega arith))))
-          (λ q. ap (λ rows. documents_in rows q) (o.doc (apart l 5 (omega arith))))
-          (ap next_in (o.room (apart l 0 (omega arith))))
-          (λ q. ap (λ rows. sessions_in rows q) (o.session (apart l 6 (omega arith))))
-          (λ q n. all_gone (slots_of old.now.trees) (slots_of new.now.trees) sid q n rows);
-    }
+    steps_slots old new room _ it.schema it.sound it.others keyed
+    (same_records _ _ (λ _. refl) (λ _. refl) (λ _. refl) refl (λ _. refl)
+    (λ q n. all_gone (slots_of old.now.trees) (slots_of new.now.trees) sid q n rows))
 
 -- ---- a row is put: its session's name and its number stand once together, by the rule UNIQUE
 
-filter_slot : (l : Layout) (sid q : List ℕ) (slot n : ℕ) (old new : Database) (Fits : Row → Type 0)
+filter_slot : {X : Type 0} (f : List Row → X) (l : Layout) (sid q : List ℕ) (slot n : ℕ) (old new : Database) (Fits : Row → Type 0)
     (it : Put l (slots_tree l) old.trees new.trees Fits (λ r. is_slot sid slot r ≡ true))
     → is_slot sid slot it.row ≡ true → new.schema ≡ room_schema l → IsDatabase new → IsKeyed (old.trees (slots_tree l))
-    → filter (is_slot q n) (new.trees (slots_tree l))
-    ≡ cond (bytes_eq q sid && (n == slot)) (it.row ∷ []) (filter (is_slot q n) (old.trees (slots_tree l)))
-filter_slot l sid q slot n old new Fits it mine schema sound keyed =
+    → f (filter (is_slot q n) (new.trees (slots_tree l)))
+    ≡ cond (bytes_eq q sid && (n == slot)) (f (it.row ∷ [])) (f (filter (is_slot q n) (old.trees (slots_tree l))))
+filter_slot f l sid q slot n old new Fits it mine schema sound keyed =
     elim (cases_Bool (bytes_eq q sid && (n == slot))) [
       | inl same ↦
           let names = names_same sid q slot n same in
-          let table = keyed_after (slots_tree l) _ _ _ _ it keyed in
-          rw same (ap₂ (λ s m. filter (is_slot s m) (new.trees (slots_tree l))) names.0 names.1
-          ∙ one_row (is_slot sid slot) (new.trees (slots_tree l)) it.row table.table
-          (subst (λ l. Has l it.row) (sym it.rows) (has_put it.row _)) mine
+          let rows = new.trees (slots_tree l) in
+          let table = keyed_after it keyed in
+          rw same (ap f (ap₂ (λ s m. filter (is_slot s m) rows) names.0 names.1
+          ∙ one_row (is_slot sid slot) rows it.row table.table (has_row it) mine
           (λ x y a b p h. slot_once l new sid slot x y schema sound
-          (all_has _ (new.trees (slots_tree l)) x table.ints a)
-          (all_has _ (new.trees (slots_tree l)) y table.ints b) a b p h))
-      | inr differs ↦ rw differs (ap (filter (is_slot q n)) it.rows
-          ∙ put_passed_over (is_slot q n) it.row (without_rowid it.id (old.trees (slots_tree l)))
-          (fails it.row differs mine) it.free
-          ∙ others_left_on (has_rowid it.id) (is_slot q n) (old.trees (slots_tree l)) (λ r k h. not_gone r k h differs))
-    ]
-  where
-    fails : (r : Row) → (bytes_eq q sid && (n == slot)) ≡ false
-        → is_slot sid slot r ≡ true → is_slot q n r ≡ false
-    fails r differs is = elim (cases_Bool (is_slot q n r)) [
-      | inl also ↦ absurd (true≢false (sym is ∙ slots_apart sid q slot n r differs also))
-      | inr other ↦ other
-    ]
-
-    not_gone : (r : Row) → Has (old.trees (slots_tree l)) r → is_slot q n r ≡ true
-        → (bytes_eq q sid && (n == slot)) ≡ false → has_rowid it.id r ≡ false
-    not_gone r k h differs = elim (cases_Bool (has_rowid it.id r)) [
-      | inl gone ↦ absurd (true≢false (sym (it.gone r k gone) ∙ slots_apart sid q slot n r differs h))
-      | inr left ↦ left
+          (all_has _ rows x table.ints a) (all_has _ rows y table.ints b) a b p h)))
+      | inr differs ↦ rw differs (ap f (filter_apart it (is_slot q n) (slots_apart sid q slot n differs it.row mine)
+          (slots_apart sid q slot n differs)))
     ]
 
 reply_back : (reply : Option (List ℕ)) → reply_in (reply_value reply) ≡ reply
 reply_back None = refl
 reply_back (Some bytes) = refl
 
--- the row that was put is the slot's
-abbrev PutsRow : Layout → SlotRow → Database → Database → Type 0
-PutsRow l row = PutsSlot l row.sid row.slot row.kept.seq row.kept.request row.kept.reply
-
-steps_put : (old new : State) (row : SlotRow) (room : IsRoomDatabase old.now) → PutsRow room.layout row old.now new.now
+steps_put : (old new : State) (row : SlotRow) (room : IsRoomDatabase old.now) → PutsSlot room.layout row old.now new.now
     → Steps old new (apply_change (PutSlot row))
 steps_put old new row room done =
     let l = room.layout in
     let it = done.put in
-    let o = it.others in
-    let mine = its_slot row.sid row.slot row.kept.seq row.kept.request row.kept.reply it.row it.fits in
-    let listed = slots_listed new.now l done.sound done.schema in
-    record {
-      room = still_room (slots_tree l) old.now new.now room done.schema done.sound o
-          (keyed_after (slots_tree l) _ _ _ _ it room.keyed.slots)
-          (still_numbered (slots_tree l) old.now new.now room (apart l 1 (omega arith)) o);
-      schema = done.schema ∙ sym room.schema;
-      version = version_stays _ _ (o.room (apart l 0 (omega arith)));
-      sound = λ _ _. done.sound;
-      records = same_records _ _
-          (λ q. ap (λ rows. nodes_in rows q) (o.node (apart l 1 (omega arith))))
-          (λ q. ap (λ rows. entries_in rows q) (o.entry (apart l 3 (omega arith))))
-          (λ q. ap (λ rows. documents_in rows q) (o.doc (apart l 5 (omega arith))))
-          (ap next_in (o.room (apart l 0 (omega arith))))
-          (λ q. ap (λ rows. sessions_in rows q) (o.session (apart l 6 (omega arith))))
-          (λ q n. ap (λ rows. slots_in rows q n) listed
-          ∙ ap kept_in (filter_slot l row.sid q row.slot n old.now new.now _ it mine
-          done.schema done.sound room.keyed.slots)
-          ∙ through kept_in (bytes_eq q row.sid && (n == row.slot)) (it.row ∷ [])
-          (filter (is_slot q n) (old.now.trees (slots_tree l)))
-          ∙ ap (λ kept. cond (bytes_eq q row.sid && (n == row.slot)) (Some kept)
-          (slots_in (old.now.trees (slots_tree l)) q n)) (ap (λ r. kept_of (shown_slot r)) it.fits.is
-          ∙ ap (λ reply. record { seq = row.kept.seq; request = row.kept.request; reply = reply })
-          (reply_back row.kept.reply))
-          ∙ ap (λ rows. cond (bytes_eq q row.sid && (n == row.slot)) (Some row.kept) (slots_in rows q n))
-          (sym room.listed));
-    }
-
--- no row was changed, and the records are as they were
-steps_left : (old new : State) (room : IsRoomDatabase old.now)
-    → Leaves room.layout old.now new.now (slots_tree room.layout) (old.now.trees (slots_tree room.layout))
-    → Steps old new (λ r. r)
-steps_left old new room it =
-    let l = room.layout in
-    let o = it.others in
-    record {
-      room = still_room (slots_tree l) old.now new.now room it.schema it.sound o
-          (subst IsKeyed (sym it.rows_are) room.keyed.slots)
-          (still_numbered (slots_tree l) old.now new.now room (apart l 1 (omega arith)) o);
-      schema = it.schema ∙ sym room.schema;
-      version = version_stays _ _ (o.room (apart l 0 (omega arith)));
-      sound = λ _ _. it.sound;
-      records = same_records _ _
-          (λ q. ap (λ rows. nodes_in rows q) (o.node (apart l 1 (omega arith))))
-          (λ q. ap (λ rows. entries_in rows q) (o.entry (apart l 3 (omega arith))))
-          (λ q. ap (λ rows. documents_in rows q) (o.doc (apart l 5 (omega arith))))
-          (ap next_in (o.room (apart l 0 (omega arith))))
-          (λ q. ap (λ rows. sessions_in rows q) (o.session (apart l 6 (omega arith))))
-          (λ q n. ap (λ rows. slots_in rows q n)
-          (slots_listed new.now l it.sound it.schema ∙ it.rows_are ∙ sym room.listed));
-    }
+    let mine = its_slot row it.row it.fits in
+    let back : kept_of (shown_slot it.row) ≡ row.kept = ap (λ r. kept_of (shown_slot r)) it.fits.is
+    ∙ (λ i. record row.kept { reply = reply_back row.kept.reply i }) in
+    steps_slots old new room _ done.schema done.sound it.others (keyed_after it room.keyed.slots)
+    (same_records _ _ (λ _. refl) (λ _. refl) (λ _. refl) refl (λ _. refl)
+    (λ q n. ap (λ rows. slots_in rows q n) (slots_listed new.now l done.sound done.schema)
+    ∙ filter_slot kept_in l row.sid q row.slot n old.now new.now _ it mine done.schema done.sound room.keyed.slots
+    ∙ ap₂ (λ kept rows. cond (bytes_eq q row.sid && (n == row.slot)) (Some kept) (slots_in rows q n)) back
+    (sym room.listed)))
 
 abbrev pub row_values : SlotRow → Row
 row_values row = slot_values row.sid row.slot row.kept.seq row.kept.request row.kept.reply
@@ -221,10 +152,9 @@ row_values row = slot_values row.sid row.slot row.kept.seq row.kept.request row.
 -- what an UPDATE leaves, by how many rows it changed
 changes_row : (old new : State) (row : SlotRow) (count : ℕ) (room : IsRoomDatabase old.now)
     → ExecutesInside 0 change_slot_text (row_values row) old new (Ok count)
-    → ChangesSlot room.layout row.sid row.slot row.kept.seq row.kept.request row.kept.reply count old.now new.now
+    → ChangesSlot room.layout row count old.now new.now
 changes_row old new row count room h =
-    changes_slot room.layout row.sid row.slot row.kept.seq row.kept.request row.kept.reply
-    old new count room.schema room.keyed.slots (executes_inside change_slot_text _ old new count h).0
+    changes_slot room.layout row old new count room.schema room.keyed.slots h.0
 
 -- where it changed rows, the slot's row is put
 pub steps_change_slot : (old new : State) (row : SlotRow) (count : ℕ) → IsRoomDatabase old.now
@@ -238,16 +168,8 @@ pub steps_add_slot : (old mid new : State) (row : SlotRow) (count : ℕ) → IsR
     → ExecutesInside 0 add_slot_text (row_values row) mid new (Ok count)
     → Steps old new (apply_change (PutSlot row))
 steps_add_slot old mid new row count room none one =
-    let a = steps_left old mid room (changes_row old mid row 0 room none) in
-    let b = steps_put mid new row a.room (adds_slot a.room.layout row.sid row.slot row.kept.seq row.kept.request
-    row.kept.reply mid new count a.room.schema (executes_inside add_slot_text _ mid new count one).0) in
-    record {
-      room = b.room;
-      schema = b.schema ∙ a.schema;
-      records = b.records ∙ ap (apply_change (PutSlot row)) a.records;
-      version = λ v. b.version (a.version v);
-      sound = λ s. b.sound (a.sound s);
-    }
+    let a = steps_left _ old mid room (changes_row old mid row 0 room none).leaves in
+    steps_then a (steps_put mid new row a.room (adds_slot a.room.layout row mid new count a.room.schema one.0))
 
 -- the rows of nodes stay as they are
 pub change_leaves_nodes : (old new : State) (row : SlotRow) (count : ℕ) → IsRoomDatabase old.now
@@ -260,8 +182,7 @@ pub add_leaves_nodes : (old mid new : State) (row : SlotRow) (count : ℕ) → I
     → ExecutesInside 0 change_slot_text (row_values row) old mid (Ok 0)
     → ExecutesInside 0 add_slot_text (row_values row) mid new (Ok count) → new.now.trees 1 ≡ old.now.trees 1
 add_leaves_nodes old mid new row count room none one =
-    let left = changes_row old mid row 0 room none in
+    let left = (changes_row old mid row 0 room none).leaves in
     let l = room.layout in
-    (adds_slot l row.sid row.slot row.kept.seq row.kept.request row.kept.reply mid new count left.schema
-    (executes_inside add_slot_text _ mid new count one).0).put.others.node (apart l 1 (omega arith))
+    (adds_slot l row mid new count left.schema one.0).put.others.node (apart l 1 (omega arith))
     ∙ left.others.node (apart l 1 (omega arith))

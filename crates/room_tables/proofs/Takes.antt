@@ -1,6 +1,6 @@
 -- The deletes that set nothing off, and the inserts.
 use Rattle.std.proofs.Common.{◌≡◌, ◌==◌, ℕ, suc, Bool, true, false, length, pos, List, [], ◌∷◌, ◌++◌}
-use Rattle.std.proofs.Common.{map, drop, Ok, refl, ap₂}
+use Rattle.std.proofs.Common.{map, drop, Ok, refl, ap, ap₂, ◌∙◌, ◌/◌}
 use Rattle.std.specs.List.{flat_map, filter_map}
 use Rattle.sqlite_value.specs.declared.value.Value.TheVariants.{Null, Int, Text}
 use Rattle.sqlite_value.specs.Order.{Row}
@@ -9,69 +9,63 @@ use Rattle.sqlite_rules.specs.Action.{Work, work_by, deed_for, pairs, works}
 use Rattle.sqlite_schema.specs.Rules.{parent_key}
 use Rattle.sqlite_rules.specs.Cast.{cast_row}
 use Rattle.sqlite_schema.specs.declared.schema.Keys.TheVariants.{Enforced}
+use Rattle.sqlite_sql.specs.Term.{Term}
+use Rattle.sqlite.specs.Command.TheVariants.{Insert}
+use Rattle.sqlite.specs.Source.TheVariants.{Values}
+use Rattle.sqlite.specs.Rows.{stamped}
+use Rattle.sqlite.specs.Effect.{value_rows}
 use Rattle.sqlite.specs.State.{State, Executes}
 use Rattle.room_tables.specs.Tables.{Layout, Fresh, Upgraded, room_schema, entry_table, slots_table, slots_tree}
 use Rattle.room_tables.specs.Tables.{slots_place}
 use Rattle.room_tables.proofs.Each.{slots_placed, slots_seen}
-use Rattle.room_tables.specs.Texts.{drop_entries_text, drop_entries_query, drop_slots_text, drop_slots_query}
-use Rattle.room_tables.specs.Texts.{add_entry_text, add_entry_terms, add_two_text}
-use Rattle.room_tables.specs.Texts.{add_two_terms, add_three_text, add_three_terms, add_four_text, add_four_terms}
+use Rattle.room_tables.specs.Texts as T
 use Rattle.room_tables.specs.Rows.{has, has_text}
 use Rattle.room_acl.specs.Entries.{EntryModel}
 use Rattle.room_tables.specs.Steps.{type_of, shown_as}
 use Rattle.room_tables.specs.Layout.{IsKeyed}
-use Rattle.room_tables.proofs.Meaning.{drop_entries_is, drop_entries_plain, drop_slots_is, drop_slots_plain}
-use Rattle.room_tables.proofs.Meaning.{add_entry_is, add_entry_plain, add_two_is}
-use Rattle.room_tables.proofs.Meaning.{add_two_plain, add_three_is, add_three_plain, add_four_is, add_four_plain}
+use Rattle.room_tables.proofs.Meaning.{Means, drop_entries_means, drop_slots_means, add_entry_means, add_two_means}
+use Rattle.room_tables.proofs.Meaning.{add_three_means, add_four_means}
 use Rattle.room_tables.proofs.Queries.{and_true}
-use Rattle.room_tables.proofs.Changes.{Added, Leaves, without, cleared, unnumbered}
-use Rattle.room_tables.proofs.Changes.{inserted_all, cast_null, cast_int}
-
-entries_quiet : (l : Layout) (olds : List Row) → works (room_schema l) Enforced 0 3 olds [] ≡ []
-unfolding everything
-entries_quiet Fresh olds = refl
-entries_quiet Upgraded olds = refl
+use Rattle.room_tables.proofs.Changes.{Added, Leaves, without, cleared, unnumbered, inserted_all, cast_null, cast_int}
 
 -- what is set off by rows of a table that went, and by those that came
-abbrev pub set_off : Layout → ℕ → List (Row × Row) → Bool → List Work
-set_off l tree moves deletes = flat_map (λ child. filter_map (λ ref. work_by 0 tree moves child ref
+abbrev pub set_off : Layout → ℕ → ℕ → List (Row × Row) → Bool → List Work
+set_off l depth tree moves deletes = flat_map (λ child. filter_map (λ ref. work_by depth tree moves child ref
     (deed_for Enforced deletes ref) (parent_key (room_schema l).tables ref)) child.references) (room_schema l).tables
 
-entries_set_off : (l : Layout) (deletes : Bool) → set_off l 3 [] deletes ≡ []
+-- a fact of the tables to which none refers
+pub record OfUnreferred (l : Layout) (P : ℕ → Type 0) : Type 0 where
+  pub room : P 0
+  pub entry : P 3
+  pub doc : P 5
+  pub slots : P (slots_tree l)
+
+none_set_off : (l : Layout) (depth : ℕ) (moves : List (Row × Row)) (deletes : Bool)
+    → OfUnreferred l (λ tree. set_off l depth tree moves deletes ≡ [])
 unfolding everything
-entries_set_off Fresh true = refl
-entries_set_off Fresh false = refl
-entries_set_off Upgraded true = refl
-entries_set_off Upgraded false = refl
+none_set_off Fresh depth moves true = record { room = refl; entry = refl; doc = refl; slots = refl }
+none_set_off Fresh depth moves false = record { room = refl; entry = refl; doc = refl; slots = refl }
+none_set_off Upgraded depth moves true = record { room = refl; entry = refl; doc = refl; slots = refl }
+none_set_off Upgraded depth moves false = record { room = refl; entry = refl; doc = refl; slots = refl }
 
-entry_quiet : (l : Layout) (news : List Row) → works (room_schema l) Enforced 0 3 [] news ≡ []
-entry_quiet l news = entries_set_off l (length news == 0)
-
-slots_set_off : (l : Layout) (moves : List (Row × Row)) (deletes : Bool) → set_off l (slots_tree l) moves deletes ≡ []
-unfolding everything
-slots_set_off Fresh moves true = refl
-slots_set_off Fresh moves false = refl
-slots_set_off Upgraded moves true = refl
-slots_set_off Upgraded moves false = refl
-
--- nothing refers to what slots keep
-pub slots_quiet : (l : Layout) (olds news : List Row) → works (room_schema l) Enforced 0 (slots_tree l) olds news ≡ []
-slots_quiet l olds news = slots_set_off l (pairs olds news) (length news == 0)
+pub quiet : (l : Layout) (depth : ℕ) (olds news : List Row)
+    → OfUnreferred l (λ tree. works (room_schema l) Enforced depth tree olds news ≡ [])
+quiet l depth olds news = none_set_off l depth (pairs olds news) (length news == 0)
 
 pub drops_entries : (l : Layout) (old new : State) (id count : ℕ) → old.now.schema ≡ room_schema l
-    → IsKeyed (old.now.trees 3) → Executes drop_entries_text (Int (pos id) ∷ []) old new (Ok count)
+    → IsKeyed (old.now.trees 3) → Executes T.drop_entries_text (Int (pos id) ∷ []) old new (Ok count)
     → Leaves l old.now new.now 3 (without (has 1 id) (old.now.trees 3))
 drops_entries l old new id count schema keyed h =
-    cleared l old new 2 entry_table drop_entries_text (Int (pos id) ∷ []) drop_entries_query.filter count (has 1 id)
-    refl schema keyed (drop_entries_is l) (drop_entries_plain l) refl (entries_quiet l) (λ r. and_true (has 1 id r)) h
+    cleared l old new 2 entry_table T.drop_entries_text (Int (pos id) ∷ []) T.drop_entries_query.filter count (has 1 id)
+    refl schema keyed (drop_entries_means l) refl (λ olds. (quiet l 0 olds []).entry) (λ r. and_true (has 1 id r)) h
 
 pub drops_slots : (l : Layout) (old new : State) (sid : List ℕ) (count : ℕ) → old.now.schema ≡ room_schema l
-    → IsKeyed (old.now.trees (slots_tree l)) → Executes drop_slots_text (Text sid ∷ []) old new (Ok count)
+    → IsKeyed (old.now.trees (slots_tree l)) → Executes T.drop_slots_text (Text sid ∷ []) old new (Ok count)
     → Leaves l old.now new.now (slots_tree l) (without (has_text 1 sid) (old.now.trees (slots_tree l)))
 drops_slots l old new sid count schema keyed h =
-    cleared l old new (slots_place l) (slots_table l) drop_slots_text (Text sid ∷ []) (drop_slots_query 8).filter count
-    (has_text 1 sid) (slots_placed l) schema keyed (drop_slots_is l) (drop_slots_plain l)
-    (slots_seen l old.now.trees) (λ olds. slots_quiet l olds []) (λ r. and_true (has_text 1 sid r)) h
+    cleared l old new (slots_place l) (slots_table l) T.drop_slots_text (Text sid ∷ []) (T.drop_slots_query 8).filter count
+    (has_text 1 sid) (slots_placed l) schema keyed (drop_slots_means l)
+    (slots_seen l old.now.trees) (λ olds. (quiet l 0 olds []).slots) (λ r. and_true (has_text 1 sid r)) h
 
 -- entries at places from a number on, as they are stored
 abbrev pub stored : ℕ → ℕ → List EntryModel → List Row
@@ -104,31 +98,26 @@ AddsEntries l text node at es = (old new : State) (count : ℕ) → old.now.sche
     → Executes text (Int (pos node) ∷ bound_entries at es) old new (Ok count)
     → Added l old.now new.now 3 (stored node at es)
 
-pub adds_one : (l : Layout) (node at : ℕ) (a : EntryModel) → AddsEntries l add_entry_text node at (a ∷ [])
-adds_one l node at a old new count schema h =
-    inserted_all l old new 2 entry_table add_entry_text (Int (pos node) ∷ bound_entries at (a ∷ []))
-    (stored node at (a ∷ [])) add_entry_terms 7 count refl schema refl (add_entry_is l) (add_entry_plain l)
-    (entry_quiet l)
-    (cast_stored node at (a ∷ [])) h
+adds_entries : (l : Layout) (node at : ℕ) (es : List EntryModel) (text : List ℕ) (terms : List Term)
+    → Means (room_schema l) text (Insert 2 (Values terms 7))
+    → value_rows (stamped entry_table (Int (pos node) ∷ bound_entries at es)) 7 (length terms / 7) terms
+    ≡ unnumbered (stored node at es) → AddsEntries l text node at es
+adds_entries l node at es text terms means given old new count schema h =
+    inserted_all l old new 2 entry_table text (Int (pos node) ∷ bound_entries at es) (stored node at es) terms 7 count
+    refl schema refl means (λ news. (quiet l 0 [] news).entry)
+    (ap (map (λ row. cast_row entry_table (drop 0 row))) given ∙ cast_stored node at es) h
 
-pub adds_two : (l : Layout) (node at : ℕ) (a b : EntryModel) → AddsEntries l add_two_text node at (a ∷ b ∷ [])
-adds_two l node at a b old new count schema h =
-    inserted_all l old new 2 entry_table add_two_text (Int (pos node) ∷ bound_entries at (a ∷ b ∷ []))
-    (stored node at (a ∷ b ∷ [])) add_two_terms 7 count refl schema refl (add_two_is l) (add_two_plain l)
-    (entry_quiet l)
-    (cast_stored node at (a ∷ b ∷ [])) h
+pub adds_one : (l : Layout) (node at : ℕ) (a : EntryModel) → AddsEntries l T.add_entry_text node at (a ∷ [])
+adds_one l node at a = adds_entries l node at (a ∷ []) T.add_entry_text T.add_entry_terms (add_entry_means l) refl
 
-pub adds_three : (l : Layout) (node at : ℕ) (a b c : EntryModel) → AddsEntries l add_three_text node at (a ∷ b ∷ c ∷ [])
-adds_three l node at a b c old new count schema h =
-    inserted_all l old new 2 entry_table add_three_text
-    (Int (pos node) ∷ bound_entries at (a ∷ b ∷ c ∷ [])) (stored node at (a ∷ b ∷ c ∷ []))
-    add_three_terms 7 count refl schema refl (add_three_is l) (add_three_plain l) (entry_quiet l)
-    (cast_stored node at (a ∷ b ∷ c ∷ [])) h
+pub adds_two : (l : Layout) (node at : ℕ) (a b : EntryModel) → AddsEntries l T.add_two_text node at (a ∷ b ∷ [])
+adds_two l node at a b = adds_entries l node at (a ∷ b ∷ []) T.add_two_text T.add_two_terms (add_two_means l) refl
+
+pub adds_three : (l : Layout) (node at : ℕ) (a b c : EntryModel) → AddsEntries l T.add_three_text node at (a ∷ b ∷ c ∷ [])
+adds_three l node at a b c =
+    adds_entries l node at (a ∷ b ∷ c ∷ []) T.add_three_text T.add_three_terms (add_three_means l) refl
 
 pub adds_four : (l : Layout) (node at : ℕ) (a b c d : EntryModel)
-    → AddsEntries l add_four_text node at (a ∷ b ∷ c ∷ d ∷ [])
-adds_four l node at a b c d old new count schema h =
-    inserted_all l old new 2 entry_table add_four_text (Int (pos node) ∷ bound_entries at (a ∷ b ∷ c ∷ d ∷ []))
-    (stored node at (a ∷ b ∷ c ∷ d ∷ [])) add_four_terms 7 count
-    refl schema refl (add_four_is l) (add_four_plain l) (entry_quiet l)
-    (cast_stored node at (a ∷ b ∷ c ∷ d ∷ [])) h
+    → AddsEntries l T.add_four_text node at (a ∷ b ∷ c ∷ d ∷ [])
+adds_four l node at a b c d =
+    adds_entries l node at (a ∷ b ∷ c ∷ d ∷ []) T.add_four_text T.add_four_terms (add_four_means l) refl

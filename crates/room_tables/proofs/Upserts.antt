@@ -1,9 +1,10 @@
 -- What an upsert does: it puts one row in, in the place of the row with its rowid.
-use Rattle.std.proofs.Common.{◌≡◌, ◌≢◌, inl, inr, ℕ, ℤ, Bool, true, false, ◌||◌, List, [], ◌∷◌, ◌++◌, ◌/◌, length}
+use Rattle.std.proofs.Common.{◌≡◌, ◌≢◌, inl, inr, ℕ, ℤ, true, false, List, [], ◌∷◌, ◌++◌, ◌/◌, length}
 use Rattle.std.proofs.Common.{map, slice_get, filter, Option, None, Some, Ok, refl, sym, ap, ap₂, subst, subst₂, ◌∙◌}
-use Rattle.std.proofs.Common.{IsPermutation, is_eq}
+use Rattle.std.proofs.Common.{IsPermutation, is_eq, cond, true≢false}
 use Rattle.std.specs.List.{AllByRecursion, list_all}
 use Rattle.std.proofs.lemmas.Cmp.{tied_itself, alike_right}
+use Rattle.std.proofs.lemmas.Bool.{not-true}
 use Rattle.sqlite_value.specs.declared.value.Value.{Value}
 use Rattle.sqlite_value.specs.declared.value.Value.TheVariants.{Null, Int}
 use Rattle.sqlite_value.specs.Order.{Row, column, value_cmp}
@@ -16,15 +17,16 @@ use Rattle.sqlite_keyed.proofs.RuleLemmas.{first_of_both}
 use Rattle.sqlite_keyed.proofs.ListLemmas.{filter_same}
 use Rattle.sqlite_rules.specs.Lists.{Has}
 use Rattle.sqlite_rules.specs.Edit.{with_rowid, edit_of, without_all, is_taken, are_fresh, put_all}
-use Rattle.sqlite_rules.specs.Edit.{left_by, taken_by, id_in}
+use Rattle.sqlite_rules.specs.Edit.{Applies, taken_by, id_in}
 use Rattle.sqlite_rules.specs.Calls.{ids_of}
 use Rattle.sqlite_rules.specs.Cast.{cast_row}
 use Rattle.sqlite_rules.specs.Keys.{AreConflicts, conflicts}
 use Rattle.sqlite_rules.specs.declared.error.Refusal.{Refusal}
 use Rattle.sqlite_rules.specs.Action.{works}
-use Rattle.sqlite_rules.proofs.ListLemmas.{all_has}
+use Rattle.sqlite_rules.proofs.ListLemmas.{all_has, some_from}
+use Rattle.sqlite_rules.proofs.PlaceLemmas.{tied_same}
 use Rattle.sqlite_rules.proofs.TableLemmas.{none_to_drop, int_is}
-use Rattle.sqlite.specs.Rowids.TheVariants.{Chosen, Given}
+use Rattle.sqlite.specs.Rowids.TheVariants.{Chosen, Given, Above}
 use Rattle.sqlite_schema.specs.declared.schema.Keys.TheVariants.{Enforced}
 use Rattle.sqlite_schema.specs.declared.command.Conflict.TheVariants.{Abort}
 use Rattle.sqlite_schema.specs.declared.command.Upsert.{Upsert}
@@ -35,15 +37,15 @@ use Rattle.sqlite.specs.Rows.{Then, Written, Task, Puts, Updates, Tries, TriesEa
 use Rattle.sqlite.specs.Rows.{Judged, Meets, Upserts, Clears, stamped, shown, rowids_for}
 use Rattle.sqlite.specs.Table.{Table}
 use Rattle.sqlite.specs.State.{State, Executes}
-use Rattle.sqlite.specs.Listing.{understood}
-use Rattle.sqlite.proofs.Callers.{IsPlain, command_of, runs_as, one_step, one_permutation}
+use Rattle.sqlite.proofs.Callers.{runs_as, one_step, one_permutation}
 use Rattle.room_tables.specs.Tables.{Layout, room_schema}
 use Rattle.room_tables.specs.Texts.{over_table, equals}
 use Rattle.room_tables.specs.Layout.{IsKeyed}
+use Rattle.room_tables.proofs.Meaning.{Means}
 use Rattle.room_tables.proofs.Queries.{Picks, passing, answer_is, and_true}
 use Rattle.room_tables.proofs.Values.{equal_is, eq_is}
 use Rattle.room_tables.proofs.Removed.{one_row}
-use Rattle.room_tables.proofs.Changes.{went, same_value, not_true, not_counted, task_on, Others, others_of, upserts}
+use Rattle.room_tables.proofs.Changes.{went, same_value, not_counted, task_on, Others, others_of, wrote}
 
 -- A row of this kind stands in the table, in the place of a row that it met.
 pub record Put (l : Layout) (tree : ℕ) (db next : Trees) (Fits Met : Row → Type 0) : Type 0 where
@@ -62,6 +64,55 @@ pub record PutInto (l : Layout) (old new : Database) (tree : ℕ) (Fits Met : Ro
   pub schema : new.schema ≡ room_schema l
   pub sound : IsDatabase new
   pub put : Put l tree old.trees new.trees Fits Met
+
+-- no row has a rowid that is free
+none_has : (id : ℤ) (rows : List Row) (r : Row) → is_taken rows (Int id ∷ []) ≡ false → Has rows r
+    → has_rowid id r ≡ true → ⊥
+none_has id rows r free h tie =
+    true≢false (sym (some_from (λ x. is_eq (value_cmp (rowid x) (Int id))) rows r h tie) ∙ free)
+
+module _ (l : Layout) (tree : ℕ) (db next : Trees) (row : Row) (id : ℤ) (Fits Met : Row → Type 0)
+    (has_id : rowid row ≡ Int id) (fits : Fits row)
+    (tables : AllByRecursion (λ (t : Table). t.tree ≢ tree → next t.tree ≡ db t.tree) (room_schema l).tables) where
+  -- a row that goes in where none has its rowid is put
+  pub put_new : are_fresh (db tree) (row ∷ []) ≡ true → next tree ≡ put_row row (db tree) → Put l tree db next Fits Met
+  put_new fresh rows =
+      let free = not-true _ (first_of_both _ _ fresh) in
+      let taken : is_taken (db tree) (Int id ∷ []) ≡ false = ap (λ v. is_taken (db tree) (v ∷ [])) (sym has_id) ∙ free in
+      let same : without_rowid id (db tree) ≡ db tree = none_to_drop id (db tree) taken in
+      record {
+        row = row;
+        fits = fits;
+        id = id;
+        has_id = has_id;
+        free = rw same free;
+        rows = rows ∙ ap (put_row row) (sym same);
+        tables = tables;
+        others = others_of l tree db next tables;
+        gone = λ r there mine. absurd (none_has id (db tree) r taken there mine);
+      }
+
+-- what was made of a row that was read is put in its place
+pub put_over : (l : Layout) (table : Table) (db next : Trees) (rows : List Row) (there raw row : Row) (id : ℤ)
+    (Fits Met : Row → Type 0) → Applies (room_schema l) Enforced db (edit_of db table (ids_of rows) Given 1 rows) next
+    → rows ≡ (rowid there ∷ raw) ∷ [] → cast_row table raw ≡ row → rowid there ≡ Int id → rowid row ≡ Int id → Fits row
+    → ((r : Row) → Has (db table.tree) r → has_rowid id r ≡ true → Met r) → Put l table.tree db next Fits Met
+put_over l table db next rows there raw row id Fits Met step is made key has_id fits gone =
+    let news : (edit_of db table (ids_of rows) Given 1 rows).news ≡ row ∷ [] =
+    ap (λ all. (edit_of db table (ids_of all) Given 1 all).news) is ∙ ap (λ r. r ∷ []) made in
+    let left : without_all (db table.tree) (ids_of rows) ≡ without_rowid id (db table.tree) =
+    ap (λ all. without_all (db table.tree) (ids_of all)) is ∙ ap (λ v. without_rowid (id_in v) (db table.tree)) key in
+    record {
+      row = row;
+      fits = fits;
+      id = id;
+      has_id = has_id;
+      free = not-true _ (first_of_both _ _ (subst₂ (λ l m. are_fresh l m ≡ true) left news step.fresh));
+      rows = step.rows ∙ ap₂ put_all left news;
+      tables = step.tables;
+      others = others_of l table.tree db next step.tables;
+      gone = gone;
+    }
 
 -- the parts of an upsert: its table, what the update reads, and the row that is put
 pub record IsUpsert (l : Layout) (table : Table) (target : List ℕ) (n : ℕ) (project : List Term)
@@ -98,49 +149,17 @@ module _ (l : Layout) (table : Table) (target : List ℕ) (n : ℕ) (project : L
   abbrev Done : Trees → Trees → Type 0
   Done db next = Put l table.tree db next Fits Met
 
-  none_gone : (id : ℤ) (rows : List Row) (row : Row) → rowid row ≡ Int id
-      → is_taken rows row ≡ false → (r : Row) → Has rows r → has_rowid id r ≡ true → Met r
-  none_gone id (x ∷ rows) row is free r (inl same) tie = absurd (go (is_eq (value_cmp (rowid x) (rowid row))) refl free)
-    where
-      go : (b : Bool) → is_eq (value_cmp (rowid x) (rowid row)) ≡ b → (b || is_taken rows row) ≡ false → ⊥
-      go true e h = let bad = h in cc
-      go false e h = let bad : true ≡ false = sym tie ∙ ap (λ (v : Row). is_eq (value_cmp (rowid v) (Int id))) same
-          ∙ ap (λ v. is_eq (value_cmp (rowid x) v)) (sym is) ∙ e in cc
-  none_gone id (x ∷ rows) row is free r (inr later) tie =
-      none_gone id rows row is (go (is_eq (value_cmp (rowid x) (rowid row))) free) r later tie
-    where
-      go : (b : Bool) → (b || is_taken rows row) ≡ false → is_taken rows row ≡ false
-      go true h = absurd (let bad = h in cc)
-      go false h = h
-  none_gone id [] row is free r later tie = absurd later
-
   -- the row that is put in where no row has its rowid
   puts_new : (limit : Option ℕ) (db : Trees) (w : Written) → Puts (task limit) new db (Ok w) → Done db w.trees
   puts_new limit db w h =
       let done = went h in
       let edit = edit_of db table [] Given 0 (new ∷ []) in
       let news : edit.news ≡ new ∷ [] = ap (λ r. r ∷ []) it.cast in
-      let trees : w.trees ≡ done.0 = ap (λ (x : Written). x.trees) (same_value done.2) in
       let one = one_step (room_schema l) Enforced db done.0 edit
       (subst (λ rows. works (room_schema l) Enforced 0 table.tree [] rows ≡ []) (sym news) (it.quiet_put new)) done.1 in
-      let free : is_taken (db table.tree) new ≡ false =
-      not_true _ (first_of_both _ _ (subst (λ l. are_fresh (db table.tree) l ≡ true) news one.fresh)) in
-      let taken : is_taken (db table.tree) (Int it.id ∷ []) ≡ false =
-      ap (λ v. is_taken (db table.tree) (v ∷ [])) (sym it.has_id) ∙ free in
-      let same : without_rowid it.id (db table.tree) ≡ db table.tree = none_to_drop it.id (db table.tree) taken in
-      record {
-        row = new;
-        fits = it.fits;
-        id = it.id;
-        has_id = it.has_id;
-        free = subst (λ l. is_taken l new ≡ false) (sym same) free;
-        rows = ap (λ (t : Trees). t table.tree) trees ∙ one.rows
-            ∙ ap (put_all (db table.tree)) news ∙ ap (put_row new) (sym same);
-        tables = subst (λ (n : Trees). AllByRecursion (λ (t : Table). t.tree ≢ table.tree → n t.tree ≡ db t.tree)
-            (room_schema l).tables) (sym trees) one.tables;
-        others = subst (λ t. Others l table.tree db t) (sym trees) (others_of l table.tree db done.0 one.tables);
-        gone = none_gone it.id (db table.tree) new it.has_id free;
-      }
+      subst (Done db) (sym (ap (λ (x : Written). x.trees) (same_value done.2)))
+      (put_new l table.tree db done.0 new it.id Fits Met it.has_id it.fits one.tables
+      (subst (λ l. are_fresh (db table.tree) l ≡ true) news one.fresh) (one.rows ∙ ap (put_all (db table.tree)) news))
 
   tests : (given : Row) (id : ℤ) → column given n ≡ Int id → (r : Row)
       → list_all (holds (given ∷ r ∷ [])) (equals (col 1 0) (col 0 n) ∷ []) ≡ has_rowid id r
@@ -170,24 +189,11 @@ module _ (l : Layout) (table : Table) (target : List ℕ) (n : ℕ) (project : L
       let edit = edit_of db table (ids_of read.0) Given 1 read.0 in
       let news : edit.news ≡ row ∷ [] =
       ap (λ all. (edit_of db table (ids_of all) Given 1 all).news) rows ∙ ap (λ r. r ∷ []) (it.casts there id is) in
-      let left : left_by db edit ≡ without_rowid id (db table.tree) =
-      ap (λ all. without_all (db table.tree) (ids_of all)) rows
-      ∙ ap (λ v. without_rowid (id_in v) (db table.tree)) is in
-      let trees : w.trees ≡ done.0 = ap (λ (x : Written). x.trees) (same_value done.2) in
       let step = one_step (room_schema l) Enforced db done.0 edit (subst (λ rows. works (room_schema l) Enforced 0
       table.tree (taken_by db edit) rows ≡ []) (sym news) (it.quiet_change (taken_by db edit) row)) done.1 in
-      record {
-        row = row;
-        fits = it.refits there id is met;
-        id = id;
-        has_id = it.same_id there ∙ is;
-        free = not_true _ (first_of_both _ _ (subst₂ (λ l m. are_fresh l m ≡ true) left news step.fresh));
-        rows = ap (λ (t : Trees). t table.tree) trees ∙ step.rows ∙ ap₂ put_all left news;
-        tables = subst (λ (n : Trees). AllByRecursion (λ (t : Table). t.tree ≢ table.tree → n t.tree ≡ db t.tree)
-            (room_schema l).tables) (sym trees) step.tables;
-        others = subst (λ t. Others l table.tree db t) (sym trees) (others_of l table.tree db done.0 step.tables);
-        gone = gone;
-      }
+      subst (Done db) (sym (ap (λ (x : Written). x.trees) (same_value done.2)))
+      (put_over l table db done.0 read.0 there (it.raw there) row id Fits Met step rows (it.casts there id is) is
+      (it.same_id there ∙ is) (it.refits there id is met) gone)
 
   -- whichever way it goes, a row is put
   pub tries_one : (limit : Option ℕ) (db : Trees) (w : Written) → IsKeyed (db table.tree)
@@ -213,61 +219,46 @@ module _ (l : Layout) (table : Table) (target : List ℕ) (n : ℕ) (project : L
           let tie = λ (a b : Row) (p : has_rowid id a ≡ true) (q : has_rowid id b ≡ true).
           alike_right value_cmp_total (rowid b) (Int id) (rowid a) (eq_is _ q) ∙ eq_is _ p in
           let only = one_row (has_rowid id) (db table.tree) r.0 keyed.table r.1 mine (λ a b _ _ p q. tie a b p q) in
-          let there_is : rowid there ≡ rowid r.0 = ap rowid r.3 in
           let alone = λ (o : Row) (k : Has (db table.tree) o) (p : has_rowid id o ≡ true).
-          subst Met (sym (only_has (filter (has_rowid id) (db table.tree)) o r.0 only
-          (Rattle.sqlite_rules.proofs.ListLemmas.has_kept (has_rowid id) (db table.tree) o k p))) met in
+          subst Met (sym (tied_same (db table.tree) o r.0 keyed.table k r.1 (tie o r.0 p mine))) met in
           updates_one limit db r.0 id w only is alone met (subst (λ v. Updates (task limit)
-          (record { lets = []; body = query }) (params ++ v ∷ shown table new) db (Ok w)) there_is x)
-        where
-          only_has : (l : List Row) (o r : Row) → l ≡ r ∷ [] → Has l o → o ≡ r
-          only_has l o r e h = alone_in (subst (λ m. Has m o) e h)
-            where
-              alone_in : Has (r ∷ []) o → o ≡ r
-              alone_in (inl same) = same
-              alone_in (inr later) = absurd later
+          (record { lets = []; body = query }) (params ++ v ∷ shown table new) db (Ok w)) (ap rowid r.3) x)
 
       judged : (verdict : Option Refusal)
           → Judged (task limit) Abort (clause ∷ []) new db verdict (Ok w) → Done db w.trees
       judged None x = meets x.0 x.1 x.2
       judged (Some why) x = absurd (let e = x in cc)
 
--- an upsert of one row
-pub put : (l : Layout) (old new : State) (at : ℕ) (table : Table) (target : List ℕ) (n : ℕ) (project terms : List Term)
-    (width count : ℕ) (sql : List ℕ) (params source row : Row) (Fits Met : Row → Type 0)
-    (it : IsUpsert l table target n project params row Fits Met) → slice_get (room_schema l).tables at ≡ Some table
-    → old.now.schema ≡ room_schema l → IsKeyed (old.now.trees table.tree)
-    → command_of (understood (room_schema l) sql) ≡ InsertOr at Abort (Values terms width)
-    (clause l table target n project params row Fits Met it ∷ []) → IsPlain (understood (room_schema l) sql)
-    → value_rows (stamped table params) width (length terms / width) terms ≡ source ∷ []
-    → with_rowid Chosen (old.now.trees table.tree) (cast_row table source) ≡ row
-    → Executes sql params old new (Ok count) → PutInto l old.now new.now table.tree Fits Met
-put l old new at table target n project terms width count sql params source
-    row Fits Met it place schema keyed is plain given_is row_is h =
-    let db = old.now.trees in
-    let k = clause l table target n project params row Fits Met it in
-    let ran = runs_as sql params old new (room_schema l) schema _ is plain count h in
-    let w = upserts l old new at table (Values terms width) (k ∷ []) _ params count place schema ran in
-    let given = went w.written in
-    let counter = went given.2 in
-    let done = went counter.2 in
-    let counted = went done.2 in
-    let task_here = task l table target n project params row Fits Met it old.step_limit in
-    let each = subst (λ l. TriesEach task_here Abort (k ∷ []) l (count_of counter.0) (nothing db) (Ok done.0))
-    (given.1.1 ∙ given_is) done.1 in
-    let by_choice : rowids_for table (count_of counter.0) ≡ Chosen = ap (λ b. Rattle.std.proofs.Common.cond b
-    (Rattle.sqlite.specs.Rowids.TheVariants.Above (count_of counter.0)) Chosen) it.uncounted in
-    let new_is : with_rowid (rowids_for table (count_of counter.0)) (db table.tree) (cast_row table source) ≡ row =
-    ap (λ c. with_rowid c (db table.tree) (cast_row table source)) by_choice ∙ row_is in
-    let one = went (subst (λ r. Then (Tries task_here Abort (k ∷ []) r db) (λ x. TriesEach task_here Abort
-    (k ∷ []) [] (higher (count_of counter.0) r) (joined (nothing db) x)) (Ok done.0)) new_is each) in
-    let is_put = tries_one l table target n project params row Fits Met it old.step_limit db one.0 keyed one.1 in
-    let last : one.0.trees ≡ done.0.0.trees = ap (λ (x : Written × ℤ). x.0.trees) (sym (same_value one.2)) in
-    let trees : w.rows.trees ≡ one.0.trees = ap (λ (x : Written). x.trees) (same_value counted.2) ∙ not_counted
-    (task_on l old table params) done.0.0.trees counted.0 counter.0 _ it.uncounted counted.1 ∙ sym last in
-    let now : new.now.trees ≡ one.0.trees = ap (λ (d : Database). d.trees) w.now ∙ trees in
-    record {
-      schema = ap (λ (d : Database). d.schema) w.now;
-      sound = ran.sound;
-      put = subst (λ t. Put l table.tree db t Fits Met) (sym now) is_put;
-    }
+  -- an upsert of one row
+  pub put : (old last : State) (at : ℕ) (terms : List Term) (width count : ℕ) (sql : List ℕ) (source : Row)
+      → slice_get (room_schema l).tables at ≡ Some table → old.now.schema ≡ room_schema l
+      → IsKeyed (old.now.trees table.tree)
+      → Means (room_schema l) sql (InsertOr at Abort (Values terms width) (clause ∷ []))
+      → value_rows (stamped table params) width (length terms / width) terms ≡ source ∷ []
+      → with_rowid Chosen (old.now.trees table.tree) (cast_row table source) ≡ new
+      → Executes sql params old last (Ok count) → PutInto l old.now last.now table.tree Fits Met
+  put old last at terms width count sql source place schema keyed means given_is new_is h =
+      let db = old.now.trees in
+      let ran = runs_as sql params old last (room_schema l) schema _ means.0 means.1 count h in
+      let w = wrote l old last at table _ _ params count place schema ran ran.changed in
+      let given = went w.written in
+      let counter = went given.2 in
+      let done = went counter.2 in
+      let counted = went done.2 in
+      let here = task old.step_limit in
+      let each = subst (λ l. TriesEach here Abort (clause ∷ []) l (count_of counter.0) (nothing db) (Ok done.0))
+      (given.1.1 ∙ given_is) done.1 in
+      let is : with_rowid (rowids_for table (count_of counter.0)) (db table.tree) (cast_row table source) ≡ new =
+      ap (λ b. with_rowid (cond b (Above (count_of counter.0)) Chosen) (db table.tree) (cast_row table source))
+      it.uncounted ∙ new_is in
+      let one = went (subst (λ r. Then (Tries here Abort (clause ∷ []) r db) (λ x. TriesEach here Abort
+      (clause ∷ []) [] (higher (count_of counter.0) r) (joined (nothing db) x)) (Ok done.0)) is each) in
+      let trees : w.rows.trees ≡ one.0.trees = ap (λ (x : Written). x.trees) (same_value counted.2)
+      ∙ not_counted (task_on l old table params) done.0.0.trees counted.0 counter.0 _ it.uncounted counted.1
+      ∙ ap (λ (x : Written × ℤ). x.0.trees) (same_value one.2) in
+      record {
+        schema = ap (λ (d : Database). d.schema) w.now;
+        sound = ran.sound;
+        put = subst (Done db) (sym (ap (λ (d : Database). d.trees) w.now ∙ trees))
+            (tries_one old.step_limit db one.0 keyed one.1);
+      }

@@ -1,16 +1,20 @@
 -- A column that has a number has no other.
-use Rattle.std.proofs.Common.{◌≡◌, ℕ, List, ℤ, pos, Bool, true, false, ◌||◌, ◌&&◌, cond, Some, refl, sym, ap}
-use Rattle.std.proofs.Common.{subst, ◌∙◌, Ordering, Less, Equal, Greater, is_eq, true≢false}
+use Rattle.std.proofs.Common.{◌≡◌, ℕ, List, ℤ, pos, Bool, true, false, ◌||◌, cond, Some, refl, sym, ap}
+use Rattle.std.proofs.Common.{subst, ◌∙◌, Ordering, Equal, is_eq, true≢false, arith, inl, inr}
+use Rattle.std.specs.Ordering.{is_ne}
+use Rattle.std.proofs.lemmas.Bool.{or_parts, cases_Bool}
+use Rattle.std.proofs.lemmas.Grind.{common_steps}
 use Rattle.std.proofs.lemmas.Map.Lookups.{exact_signed, exact_bytes}
 use Rattle.std.proofs.lemmas.Cmp.{alike_right, tied_back, tied_itself}
 use Rattle.sqlite_value.specs.declared.value.Value.{Value}
-use Rattle.sqlite_value.specs.declared.value.Value.TheVariants.{Null, Int, Real, Text, Blob}
+use Rattle.sqlite_value.specs.declared.value.Value.TheVariants.{Null, Int, Real, Text}
 use Rattle.sqlite_value.specs.Order.{Row, column, value_cmp}
 use Rattle.sqlite_value.proofs.OrderLemmas.{value_cmp-Int, value_cmp-Text, value_cmp-Null, value_cmp-apart}
 use Rattle.sqlite_value.proofs.OrderLemmas.{value_cmp_total}
 use Rattle.sqlite_sql.specs.declared.ops.UnaryOp.TheVariants.{ToInt}
 use Rattle.sqlite_sql.specs.Ops.{unary, binary, is_null, is_true, from_truth}
 use Rattle.sqlite_schema.specs.declared.schema.Kind.TheVariants.{Integer}
+use Rattle.sqlite_schema.specs.Rules.{differ}
 use Rattle.sqlite_trees.specs.View.{is_int}
 use Rattle.sqlite_rules.specs.Edit.{id_in}
 use Rattle.sqlite_rules.specs.Cast.{cast, as_integer}
@@ -18,26 +22,20 @@ use Rattle.sqlite_rules.proofs.TableLemmas.{int_is}
 use Rattle.room_tables.specs.Rows.{has, has_text}
 
 pub truth_back : (b : Bool) → is_true (from_truth (Some b)) ≡ b
-truth_back true = refl
-truth_back false = refl
+truth_back b = grind (arith, common_steps)
 
 -- SQL's = with a number is the order of values
 pub equal_is : (v : Value) (n : ℤ) → Rattle.sqlite_schema.specs.Rules.equal
     Rattle.sqlite_value.specs.declared.keys.Collation.TheVariants.Binary v (Int n) ≡ is_eq (value_cmp v (Int n))
 unfolding binary
 equal_is Null n = sym (ap is_eq (value_cmp-Null (Int n)))
-equal_is (Int m) n = truth_back _
-equal_is (Real x) n = truth_back _
-equal_is (Text t) n = truth_back _
-equal_is (Blob b) n = truth_back _
+equal_is v n = truth_back _
 
 pub has_is : (place n : ℕ) (row : Row) → has place n row ≡ is_eq (value_cmp (column row place) (Int (pos n)))
 has_is place n row = equal_is (column row place) (pos n)
 
 pub eq_is : (o : Ordering) → is_eq o ≡ true → o ≡ Equal
-eq_is Less h = absurd (true≢false (sym h))
-eq_is Equal h = refl
-eq_is Greater h = absurd (true≢false (sym h))
+eq_is o h = grind (arith, common_steps)
 
 pub has_value : (place n : ℕ) (row : Row) → has place n row ≡ true → value_cmp (column row place) (Int (pos n)) ≡ Equal
 has_value place n row h = eq_is _ (sym (has_is place n row) ∙ h)
@@ -74,14 +72,10 @@ pub equal_tied : (a b : Value) → Rattle.sqlite_schema.specs.Rules.equal
 unfolding binary
 equal_tied a b h = (truth_of (is_null a || is_null b) (value_cmp a b) h).1
 
-not_either : (a b : Bool) → (a || b) ≡ false → a ≡ false
-not_either true b h = h
-not_either false b h = refl
-
 pub has_not_null : (place n : ℕ) (row : Row) → has place n row ≡ true → is_null (column row place) ≡ false
 unfolding binary
-has_not_null place n row h = not_either _ _
-    (truth_of (is_null (column row place) || is_null (Int (pos n))) (value_cmp (column row place) (Int (pos n))) h).0
+has_not_null place n row h = (or_parts _ _
+    (truth_of (is_null (column row place) || is_null (Int (pos n))) (value_cmp (column row place) (Int (pos n))) h).0).0
 
 -- SQL's = finds two columns equal that have a number
 pub has_equal : (place n : ℕ) (a b : Row) → has place n a ≡ true → has place n b ≡ true
@@ -92,21 +86,29 @@ has_equal place n a b p q =
     rw (has_not_null place n a p, has_not_null place n b q, has_tied place n a b p q) refl
 
 as_integer_tied : (v w : Value) → value_cmp v w ≡ Equal → value_cmp (as_integer v) w ≡ Equal
-as_integer_tied v w tie = go (is_eq (value_cmp (unary ToInt v) v)) refl _
+as_integer_tied v w tie = elim (cases_Bool (is_eq (value_cmp (unary ToInt v) v))) [
+  | inl same ↦ rw same (either (sym (alike_right value_cmp_total v w (unary ToInt v) tie) ∙ eq_is _ same) _)
+  | inr other ↦ rw other tie
+]
   where
-    go : (b : Bool) → is_eq (value_cmp (unary ToInt v) v) ≡ b → (c : Bool)
-        → value_cmp (cond (b && c) (unary ToInt v) v) w ≡ Equal
-    go true e true = sym (alike_right value_cmp_total v w (unary ToInt v) tie) ∙ eq_is _ e
-    go true e false = tie
-    go false e c = tie
+    either : value_cmp (unary ToInt v) w ≡ Equal → (c : Bool) → value_cmp (cond c (unary ToInt v) v) w ≡ Equal
+    either h true = h
+    either h false = tie
 
 -- what ties with a number does so when it is cast to an integer
 pub cast_tied : (v : Value) (n : ℤ) → value_cmp v (Int n) ≡ Equal → value_cmp (cast Integer v) (Int n) ≡ Equal
 cast_tied Null n h = absurd (let bad = sym (value_cmp-Null (Int n)) ∙ h in cc)
 cast_tied (Int m) n h = as_integer_tied (Int m) (Int n) h
 cast_tied (Real x) n h = as_integer_tied (Real x) (Int n) h
-cast_tied (Text t) n h = absurd (let bad = sym (value_cmp-apart (Text t) (Int n) (λ e. let f = e in cc)) ∙ h in cc)
-cast_tied (Blob b) n h = absurd (let bad = sym (value_cmp-apart (Blob b) (Int n) (λ e. let f = e in cc)) ∙ h in cc)
+cast_tied v n h = absurd (let bad = sym (value_cmp-apart v (Int n) (λ e. let f = e in cc)) ∙ h in cc)
+
+is_not : (o : Ordering) → is_ne o ≡ false → o ≡ Equal
+is_not o h = grind (arith, common_steps)
+
+-- rowids that do not differ tie
+pub same_ids : (a b : ℤ) → differ (Int a) (Int b) ≡ false → value_cmp (Int a) (Int b) ≡ Equal
+unfolding binary
+same_ids a b h = is_not _ (sym (truth_back _) ∙ h)
 
 -- ---- texts
 
@@ -114,18 +116,12 @@ pub equal_text : (v : Value) (t : List ℕ) → Rattle.sqlite_schema.specs.Rules
     Rattle.sqlite_value.specs.declared.keys.Collation.TheVariants.Binary v (Text t) ≡ is_eq (value_cmp v (Text t))
 unfolding binary
 equal_text Null t = sym (ap is_eq (value_cmp-Null (Text t)))
-equal_text (Int m) t = truth_back _
-equal_text (Real x) t = truth_back _
-equal_text (Text s) t = truth_back _
-equal_text (Blob b) t = truth_back _
+equal_text v t = truth_back _
 
 -- only a text ties with a text
 pub text_tied : (v : Value) (t : List ℕ) → value_cmp v (Text t) ≡ Equal → v ≡ Text t
-text_tied Null t h = absurd (let bad = sym (value_cmp-apart Null (Text t) (λ e. let f = e in cc)) ∙ h in cc)
-text_tied (Int m) t h = absurd (let bad = sym (value_cmp-apart (Int m) (Text t) (λ e. let f = e in cc)) ∙ h in cc)
-text_tied (Real x) t h = absurd (let bad = sym (value_cmp-apart (Real x) (Text t) (λ e. let f = e in cc)) ∙ h in cc)
 text_tied (Text s) t h = ap Text (exact_bytes _ _ (sym (value_cmp-Text s t) ∙ h))
-text_tied (Blob b) t h = absurd (let bad = sym (value_cmp-apart (Blob b) (Text t) (λ e. let f = e in cc)) ∙ h in cc)
+text_tied v t h = absurd (let bad = sym (value_cmp-apart v (Text t) (λ e. let f = e in cc)) ∙ h in cc)
 
 pub has_text_is : (place : ℕ) (t : List ℕ) (row : Row)
     → has_text place t row ≡ is_eq (value_cmp (column row place) (Text t))
