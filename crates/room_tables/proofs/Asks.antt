@@ -59,7 +59,8 @@ asks_children old new parent rows room h =
     let params = Int (pos parent) ∷ [] in
     let k = picked (room_schema room.layout) old new T.list_children_text params 1 _ _ T.list_children_query.order
     _ rows room.schema (list_children_means room.layout) refl h in
-    let it = arranged T.list_children_query params (old.now.trees 1) rows (has 2 parent) (λ r. column r 3 ∷ []) shown_node
+    let it = arranged T.list_children_query params (old.now.trees 1) rows (has 2 parent)
+    (λ r. column r 3 ∷ []) shown_node
     (λ r. and_true (has 2 parent r)) (λ r. refl) k in
     rw it.3 (IsPermutation-map shown_node _ _ it.1, ascending-map ByName shown_node it.0 it.2)
 
@@ -112,7 +113,8 @@ asks_size old new id rows room h =
 pub asks_session : (old new : State) (sid : List ℕ) (rows : List Row) → IsRoomDatabase old.now
     → Shown T.find_session_text (Text sid ∷ []) old new rows → IsPermutation (session_rows old.now.trees sid) rows
 asks_session old new sid rows room h =
-    asked (room_schema room.layout) old new T.find_session_text (Text sid ∷ []) 6 _ _ _ rows (has_text 1 sid) shown_session
+    asked (room_schema room.layout) old new T.find_session_text (Text sid ∷ []) 6 _ _ _ rows
+    (has_text 1 sid) shown_session
     room.schema (find_session_means room.layout) refl (λ r. and_true (has_text 1 sid r)) (λ r. refl) h
 
 pub asks_slot : (old new : State) (sid : List ℕ) (slot : ℕ) (rows : List Row)
@@ -122,7 +124,8 @@ asks_slot old new sid slot rows room h =
     subst (λ all. IsPermutation (map shown_slot (filter (is_slot sid slot) all)) rows) (sym room.listed)
     (asked (room_schema room.layout) old new T.find_slot_text (Text sid ∷ Int (pos slot) ∷ []) (slots_tree room.layout)
     _ _ _ rows (is_slot sid slot) shown_slot room.schema (find_slot_means room.layout)
-    (slots_seen room.layout old.now.trees) (λ r. ap (λ b. has_text 1 sid r && b) (and_true (has 2 slot r))) (λ r. refl) h)
+    (slots_seen room.layout old.now.trees) (λ r. ap (λ b. has_text 1 sid r && b) (and_true (has 2 slot r)))
+    (λ r. refl) h)
 
 pub asks_seq : (old new : State) (sid : List ℕ) (slot : ℕ) (rows : List Row)
     → IsRoomDatabase old.now → Shown T.find_seq_text (Text sid ∷ Int (pos slot) ∷ []) old new rows
@@ -131,7 +134,8 @@ asks_seq old new sid slot rows room h =
     subst (λ all. IsPermutation (map shown_seq (filter (is_slot sid slot) all)) rows) (sym room.listed)
     (asked (room_schema room.layout) old new T.find_seq_text (Text sid ∷ Int (pos slot) ∷ []) (slots_tree room.layout)
     _ _ _ rows (is_slot sid slot) shown_seq room.schema (find_seq_means room.layout)
-    (slots_seen room.layout old.now.trees) (λ r. ap (λ b. has_text 1 sid r && b) (and_true (has 2 slot r))) (λ r. refl) h)
+    (slots_seen room.layout old.now.trees) (λ r. ap (λ b. has_text 1 sid r && b) (and_true (has 2 slot r)))
+    (λ r. refl) h)
 
 pub asks_next : (more : List Table) (others : List Index) (old new : State) (rows : List Row)
     → old.now.schema ≡ with_last more others

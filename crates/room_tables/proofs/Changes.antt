@@ -56,7 +56,8 @@ task_on l old table params =
     record { limit = old.step_limit; keys = Enforced; schema = room_schema l; table = table; params = params }
 
 -- the command ran on the rows of the table at this place, and what it left is sound
-pub record Wrote (l : Layout) (old new : State) (table : Table) (params : Row) (command : Command) (count : ℕ) : Type 0 where
+pub record Wrote (l : Layout) (old new : State) (table : Table) (params : Row) (command : Command)
+    (count : ℕ) : Type 0 where
   pub rows : Written
   pub written : WritesRows (task_on l old table params) old.now.trees command (Ok rows)
   pub now : new.now ≡ record { schema = room_schema l; trees = rows.trees }
@@ -140,7 +141,8 @@ cleared l old new at table sql params terms count p place schema keyed means her
     let trees : w.rows.trees ≡ edited_to.0 = ap (λ (it : Written). it.trees) (same_value edited_to.2) in
     let one = one_step (room_schema l) Enforced db edited_to.0
     (edit_of db table (ids_of given.0) Given 0 []) (quiet _) edited_to.1 in
-    let k = subst (λ all. Picks (over_table table.tree terms (col 1 0 ∷ []) []) params (passing terms params all) given.0)
+    let k = subst (λ all. Picks (over_table table.tree terms (col 1 0 ∷ []) []) params
+    (passing terms params all) given.0)
     here (answer_is table.tree terms (col 1 0 ∷ []) [] (overlay db []) params given.0 (given.1.answer Null)) in
     let same = found _ params (db table.tree) given.0 p (λ r. rowid r ∷ []) test (λ r. refl) k in
     record {

@@ -137,7 +137,8 @@ copies old new count has sound keyed h =
     let a = it.source.answer Null in
     let all = map (λ (o : Output). o.1) a.ordered in
     let moved = found copy_row_query [] (db 8) all (λ _. true) given_row (λ r. refl) (λ r. refl)
-    (answer_of 8 [] copy_row_query.project [] copy_row_query.collations copy_row_query.limit (overlay db []) [] it.given a)
+    (answer_of 8 [] copy_row_query.project [] copy_row_query.collations copy_row_query.limit
+    (overlay db []) [] it.given a)
     in
     let same : IsPermutation (map given_row (db 8)) all =
     subst (λ l. IsPermutation (map given_row l) all) (filter_all _ (db 8) (each_true (db 8))) moved in

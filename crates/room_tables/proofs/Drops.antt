@@ -176,12 +176,15 @@ record Dropped (l : Layout) (db next : Trees) (id : ℕ) (rows : List Row) : Typ
 
 cascaded : (l : Layout) (n : ℕ) (db next : Trees) (there : Row) (id : ℕ)
     → rowid there ≡ Int (pos id) → IsKeyed (db 3) → IsKeyed (db 5)
-    → Leads (room_schema l) Enforced n db (entry_work there ∷ doc_work there ∷ []) (Ok next) → Dropped l db next id (db 1)
+    → Leads (room_schema l) Enforced n db (entry_work there ∷ doc_work there ∷ []) (Ok next)
+    → Dropped l db next id (db 1)
 cascaded l n db next there id is entries docs h =
-    let first = (led l n db next doc_table doc_ref there (entry_work there ∷ []) (λ olds. (quiet l 1 olds []).doc) h).1 in
+    let first = (led l n db next doc_table doc_ref there (entry_work there ∷ []) (λ olds.
+    (quiet l 1 olds []).doc) h).1 in
     let o = first.others in
     let same_entries : first.mid 3 ≡ db 3 = o.entry (omega arith) in
-    let second = (led l _ first.mid next entry_table entry_ref there [] (λ olds. (quiet l 1 olds []).entry) first.rest).1 in
+    let second = (led l _ first.mid next entry_table entry_ref there [] (λ olds.
+    (quiet l 1 olds []).entry) first.rest).1 in
     let p = second.others in
     let end = settled l _ second.mid next second.rest in
     let doc_test = λ (r : Row). doc_is_child there r id is in
@@ -350,7 +353,8 @@ drops old new id count room h =
             let key = keyed_there there.0 there.1 in
             let rows = one_permutation (Int (pos id) ∷ []) given.0 (subst (λ l. IsPermutation l given.0)
             (ap (map (λ r. rowid r ∷ [])) there.1 ∙ ap (λ v. (v ∷ []) ∷ []) key) same) in
-            subst (λ t. Dropped l db t id (without (has 0 id) (db 1))) (sym now) (drops_there l db edited_to.0 id there.0
+            subst (λ t. Dropped l db t id (without (has 0 id) (db 1))) (sym now)
+            (drops_there l db edited_to.0 id there.0
             given.0 room.keyed.node room.keyed.entry room.keyed.doc there.1 rows edited_to.1)
       ],
     )

@@ -24,7 +24,8 @@ use Rattle.room_tables.specs.Tables.{Layout, Upgraded, room_schema, node_table, 
 use Rattle.room_tables.specs.Texts as T
 use Rattle.room_tables.specs.Rows.{only, parent_in, name_of_text, kind_of, shown_node, node_of, nodes_in}
 use Rattle.room_tables.specs.Rows.{entries_in, shown_doc, doc_of, documents_in, number_in, shown_next, next_in}
-use Rattle.room_tables.specs.Rows.{shown_version, version_rows, versions_in, IsVersion, sessions_in, slots_in, slots_of, records_of}
+use Rattle.room_tables.specs.Rows.{shown_version, version_rows, versions_in, IsVersion, sessions_in, slots_in}
+use Rattle.room_tables.specs.Rows.{slots_of, records_of}
 use Rattle.room_tables.specs.Layout.{IsKeyed, IsNumbered, IsRoomDatabase, OfEachTable, parent_value, reply_value}
 use Rattle.room_tables.specs.Steps.{Steps, kind_number}
 use Rattle.room_tables.proofs.Each.{from_both}
@@ -339,7 +340,8 @@ sets_put old new n room done beside =
       nodes = it.others.node (omega arith);
       steps = steps_at 0 old new room _ (omega arith) done.schema done.sound it.others (keyed_after it room.keyed.room)
           room.numbered (λ _. version) (same_records _ _ (λ _. refl) (λ _. refl) (λ _. refl)
-          (filter_put it (λ rows. unwrap_or (option_map (λ row. number_in (column row 0)) (only (map shown_next rows))) 0)
+          (filter_put it (λ rows. unwrap_or (option_map (λ row. number_in (column row 0)) (only
+          (map shown_next rows))) 0)
           1 1 is ∙ ap (λ r. number_in (column (shown_next r) 0)) it.fits) (λ _. refl) (λ _ _. refl));
     }
 

@@ -96,7 +96,8 @@ pub not_both : (place id q : ℕ) (r : Row) → q ≢ id → has place q r ≡ t
 not_both place id q r apart h = false_from_ne_true _ (λ also. apart (has_one place q id r h also))
 
 -- a test that no row passes leaves them all
-pub without_none : (p : Row → Bool) (rows : List Row) → ((r : Row) → Has rows r → p r ≡ true → ⊥) → without p rows ≡ rows
+pub without_none : (p : Row → Bool) (rows : List Row) → ((r : Row) → Has rows r → p r ≡ true → ⊥)
+    → without p rows ≡ rows
 without_none p rows none = filter_all _ rows
     (all_from (λ r. not (p r) ≡ true) rows (λ r h. ap not (false_from_ne_true _ (none r h))))
 

@@ -27,16 +27,19 @@ IsQuery schema text query names = Means schema text (Select (record { lets = [];
     × (reads_listing schema text ≡ false)
 
 abbrev node_columns : List (List ℕ)
-node_columns = codes "id" ∷ codes "parent" ∷ codes "name" ∷ codes "kind" ∷ codes "owner" ∷ codes "grp" ∷ codes "aclflag" ∷ []
+node_columns = codes "id" ∷ codes "parent" ∷ codes "name" ∷ codes "kind" ∷ codes "owner" ∷ codes "grp" ∷ codes
+    "aclflag" ∷ []
 
 abbrev entry_columns : List (List ℕ)
 entry_columns = codes "place" ∷ codes "type" ∷ codes "flag" ∷ codes "mask" ∷ codes "who" ∷ []
 
-pub find_next_means : (more : List Table) (others : List Index) → IsQuery (with_last more others) T.find_next_text T.find_next_query (codes "next" ∷ [])
+pub find_next_means : (more : List Table) (others : List Index)
+    → IsQuery (with_last more others) T.find_next_text T.find_next_query (codes "next" ∷ [])
 unfolding understood everything
 find_next_means more others = ((refl, (refl, refl)), refl)
 
-pub find_version_means : (more : List Table) (others : List Index) → IsQuery (with_last more others) T.find_version_text T.find_version_query (codes "version" ∷ [])
+pub find_version_means : (more : List Table) (others : List Index)
+    → IsQuery (with_last more others) T.find_version_text T.find_version_query (codes "version" ∷ [])
 unfolding understood everything
 find_version_means more others = ((refl, (refl, refl)), refl)
 
@@ -52,7 +55,8 @@ pub list_children_means : (l : Layout) → IsQuery (room_schema l) T.list_childr
 unfolding understood everything
 list_children_means l = ((refl, (refl, refl)), refl)
 
-pub list_names_means : (l : Layout) → IsQuery (room_schema l) T.list_names_text T.list_names_query (codes "name" ∷ codes "kind" ∷ [])
+pub list_names_means : (l : Layout)
+    → IsQuery (room_schema l) T.list_names_text T.list_names_query (codes "name" ∷ codes "kind" ∷ [])
 unfolding understood everything
 list_names_means l = ((refl, (refl, refl)), refl)
 
@@ -68,33 +72,46 @@ pub find_doc_means : (l : Layout) → IsQuery (room_schema l) T.find_doc_text T.
 unfolding understood everything
 find_doc_means l = ((refl, (refl, refl)), refl)
 
-pub find_size_means : (l : Layout) → IsQuery (room_schema l) T.find_size_text T.find_size_query (codes "length(bytes)" ∷ [])
+pub find_size_means : (l : Layout)
+    → IsQuery (room_schema l) T.find_size_text T.find_size_query (codes "length(bytes)" ∷ [])
 unfolding understood everything
 find_size_means l = ((refl, (refl, refl)), refl)
 
-pub find_session_means : (l : Layout) → IsQuery (room_schema l) T.find_session_text T.find_session_query (codes "owner" ∷ codes "slots" ∷ codes "open" ∷ [])
+pub find_session_means : (l : Layout)
+    → IsQuery (room_schema l) T.find_session_text T.find_session_query
+    (codes "owner" ∷ codes "slots" ∷ codes "open" ∷ [])
 unfolding understood everything
 find_session_means l = ((refl, (refl, refl)), refl)
 
-pub find_slot_means : (l : Layout) → IsQuery (room_schema l) T.find_slot_text (T.find_slot_query (slots_tree l)) (codes "seq" ∷ codes "request" ∷ codes "reply" ∷ [])
+pub find_slot_means : (l : Layout)
+    → IsQuery (room_schema l) T.find_slot_text (T.find_slot_query (slots_tree l))
+    (codes "seq" ∷ codes "request" ∷ codes "reply" ∷ [])
 unfolding understood everything
 find_slot_means Fresh = ((refl, (refl, refl)), refl)
 find_slot_means Upgraded = ((refl, (refl, refl)), refl)
 
-pub find_seq_means : (l : Layout) → IsQuery (room_schema l) T.find_seq_text (T.find_seq_query (slots_tree l)) (codes "seq" ∷ [])
+pub find_seq_means : (l : Layout)
+    → IsQuery (room_schema l) T.find_seq_text (T.find_seq_query (slots_tree l)) (codes "seq" ∷ [])
 unfolding understood everything
 find_seq_means Fresh = ((refl, (refl, refl)), refl)
 find_seq_means Upgraded = ((refl, (refl, refl)), refl)
 
-pub drop_node_means : (l : Layout) → Means (room_schema l) T.drop_node_text (Delete 1 (record { lets = []; body = T.drop_node_query }))
+pub drop_node_means : (l : Layout)
+    → Means (room_schema l) T.drop_node_text (Delete 1 (record { lets = []; body = T.drop_node_query }))
 unfolding understood everything
 drop_node_means l = (refl, (refl, refl))
 
-pub drop_entries_means : (l : Layout) → Means (room_schema l) T.drop_entries_text (Delete 2 (record { lets = []; body = T.drop_entries_query }))
+pub drop_entries_means : (l : Layout)
+    → Means (room_schema l) T.drop_entries_text (Delete 2 (record { lets = []; body = T.drop_entries_query }))
 unfolding understood everything
 drop_entries_means l = (refl, (refl, refl))
 
-pub drop_slots_means : (l : Layout) → Means (room_schema l) T.drop_slots_text (Delete (slots_place l) (record { lets = []; body = T.drop_slots_query (slots_tree l) }))
+pub drop_slots_means : (l : Layout)
+    → Means (room_schema l) T.drop_slots_text (Delete (slots_place l) (record {
+      lets = [];
+      body = T.drop_slots_query
+          (slots_tree l);
+    }))
 unfolding understood everything
 drop_slots_means Fresh = (refl, (refl, refl))
 drop_slots_means Upgraded = (refl, (refl, refl))
@@ -115,7 +132,8 @@ pub add_four_means : (l : Layout) → Means (room_schema l) T.add_four_text (Ins
 unfolding understood everything
 add_four_means l = (refl, (refl, refl))
 
-pub change_next_means : (l : Layout) → Means (room_schema l) T.change_next_text (Update 0 (record { lets = []; body = T.change_next_query }))
+pub change_next_means : (l : Layout)
+    → Means (room_schema l) T.change_next_text (Update 0 (record { lets = []; body = T.change_next_query }))
 unfolding understood everything
 change_next_means l = (refl, (refl, refl))
 
@@ -123,7 +141,8 @@ pub add_next_means : (l : Layout) → Means (room_schema l) T.add_next_text (Ins
 unfolding understood everything
 add_next_means l = (refl, (refl, refl))
 
-pub change_node_means : (l : Layout) → Means (room_schema l) T.change_node_text (Update 1 (record { lets = []; body = T.change_node_query }))
+pub change_node_means : (l : Layout)
+    → Means (room_schema l) T.change_node_text (Update 1 (record { lets = []; body = T.change_node_query }))
 unfolding understood everything
 change_node_means l = (refl, (refl, refl))
 
@@ -131,7 +150,8 @@ pub add_node_means : (l : Layout) → Means (room_schema l) T.add_node_text (Ins
 unfolding understood everything
 add_node_means l = (refl, (refl, refl))
 
-pub change_doc_means : (l : Layout) → Means (room_schema l) T.change_doc_text (Update 3 (record { lets = []; body = T.change_doc_query }))
+pub change_doc_means : (l : Layout)
+    → Means (room_schema l) T.change_doc_text (Update 3 (record { lets = []; body = T.change_doc_query }))
 unfolding understood everything
 change_doc_means l = (refl, (refl, refl))
 
@@ -139,30 +159,38 @@ pub add_doc_means : (l : Layout) → Means (room_schema l) T.add_doc_text (Inser
 unfolding understood everything
 add_doc_means l = (refl, (refl, refl))
 
-pub put_session_means : (l : Layout) → Means (room_schema l) T.put_session_text (InsertOr 4 Abort (Values T.put_session_terms 5) (T.put_session_clause ∷ []))
+pub put_session_means : (l : Layout)
+    → Means (room_schema l) T.put_session_text (InsertOr 4 Abort (Values T.put_session_terms 5)
+    (T.put_session_clause ∷ []))
 unfolding understood everything
 put_session_means Fresh = (refl, (refl, refl))
 put_session_means Upgraded = (refl, (refl, refl))
 
-pub change_slot_means : (l : Layout) → Means (room_schema l) T.change_slot_text (Update (slots_place l) (record { lets = []; body = T.change_slot_query (slots_tree l) }))
+pub change_slot_means : (l : Layout)
+    → Means (room_schema l) T.change_slot_text (Update (slots_place l)
+    (record { lets = []; body = T.change_slot_query (slots_tree l) }))
 unfolding understood everything
 change_slot_means Fresh = (refl, (refl, refl))
 change_slot_means Upgraded = (refl, (refl, refl))
 
-pub add_slot_means : (l : Layout) → Means (room_schema l) T.add_slot_text (Insert (slots_place l) (Values T.add_slot_terms 6))
+pub add_slot_means : (l : Layout)
+    → Means (room_schema l) T.add_slot_text (Insert (slots_place l) (Values T.add_slot_terms 6))
 unfolding understood everything
 add_slot_means Fresh = (refl, (refl, refl))
 add_slot_means Upgraded = (refl, (refl, refl))
 
-pub count_children_means : (l : Layout) → IsQuery (room_schema l) T.count_children_text T.count_children_query (codes "count(*)" ∷ [])
+pub count_children_means : (l : Layout)
+    → IsQuery (room_schema l) T.count_children_text T.count_children_query (codes "count(*)" ∷ [])
 unfolding understood everything
 count_children_means l = ((refl, (refl, refl)), refl)
 
-pub copy_row_means : Means (room_schema Upgraded) T.copy_row_text (Insert 6 (From (record { lets = []; body = T.copy_row_query })))
+pub copy_row_means : Means (room_schema Upgraded) T.copy_row_text (Insert 6 (From
+    (record { lets = []; body = T.copy_row_query })))
 unfolding understood everything
 copy_row_means = (refl, (refl, refl))
 
-pub take_row_means : Means (room_schema Upgraded) T.take_row_text (Delete 5 (record { lets = []; body = T.take_row_query }))
+pub take_row_means : Means (room_schema Upgraded) T.take_row_text (Delete 5
+    (record { lets = []; body = T.take_row_query }))
 unfolding understood everything
 take_row_means = (refl, (refl, refl))
 

@@ -153,7 +153,8 @@ pub adds_doc : (l : Layout) (old new : State) (id : ℕ) (bytes : List ℕ) (cou
 adds_doc l old new id bytes count schema h =
     adds_row l old new 3 doc_table T.add_doc_terms 3 count T.add_doc_text (doc_params id bytes)
     (stored_doc id bytes) (stored_doc id bytes) (pos id) _ _ refl schema refl (add_doc_means l)
-    (λ news. (quiet l 0 [] news).doc) refl (ap (λ r. numbered Chosen (old.now.trees 5) (r ∷ [])) (cast_doc id bytes)) refl refl h
+    (λ news. (quiet l 0 [] news).doc) refl (ap (λ r. numbered Chosen (old.now.trees 5) (r ∷ []))
+    (cast_doc id bytes)) refl refl h
 
 -- ---- the one row of room
 
@@ -201,7 +202,8 @@ pub adds_next : (l : Layout) (old new : State) (n count : ℕ) → old.now.schem
 adds_next l old new n count schema h =
     adds_row l old new 0 room_table T.add_next_terms 4 count T.add_next_text (Int (pos n) ∷ [])
     (stored_next n) (stored_next n) (pos 1) _ _ refl schema refl (add_next_means l)
-    (λ news. (quiet l 0 [] news).room) refl (ap (λ r. numbered Chosen (old.now.trees 0) (r ∷ [])) (cast_next n)) refl refl h
+    (λ news. (quiet l 0 [] news).room) refl (ap (λ r. numbered Chosen (old.now.trees 0) (r ∷ []))
+    (cast_next n)) refl refl h
 
 -- ---- session
 
@@ -260,7 +262,8 @@ session_upsert l id sid owner slots open_flag = record {
 
 pub puts_session : (l : Layout) (old new : State) (sid owner : List ℕ) (slots open_flag count : ℕ)
     → old.now.schema ≡ room_schema l → IsKeyed (old.now.trees 6)
-    → Executes T.put_session_text (Text sid ∷ Text owner ∷ Int (pos slots) ∷ Int (pos open_flag) ∷ []) old new (Ok count)
+    → Executes T.put_session_text (Text sid ∷ Text owner ∷ Int (pos slots) ∷ Int (pos open_flag) ∷ []) old new
+    (Ok count)
     → PutInto l old.now new.now 6 (IsSession sid owner slots open_flag) (λ r. has_text 1 sid r ≡ true)
 puts_session l old new sid owner slots open_flag count schema keyed h =
     put l session_table (1 ∷ []) 4 T.put_session_query.project

@@ -1,5 +1,6 @@
 -- What a query over one table answers, and that it changes nothing.
-use Rattle.std.proofs.Common.{◌≡◌, ℕ, ◌+◌, ◌<◌, arith, length, is_gt, Bool, true, false, ◌&&◌, ◌||◌, cond, List, [], ◌∷◌}
+use Rattle.std.proofs.Common.{◌≡◌, ℕ, ◌+◌, ◌<◌, arith, length, is_gt, Bool, true, false, ◌&&◌, ◌||◌, cond, List, []}
+use Rattle.std.proofs.Common.{◌∷◌}
 use Rattle.std.proofs.Common.{◌++◌, map, filter, flat_map, Option, None, Some, Ok, Err, Result, IfOk, IfErr, OnOk, ◌⊎◌}
 use Rattle.std.proofs.Common.{inl, inr, refl, Ordering, Equal, sym, ap, subst, subst₂, ◌∙◌}
 use Rattle.std.proofs.Common.{IsPermutation, IsSorted, negsuc}
@@ -7,7 +8,8 @@ use Rattle.std.specs.List.{list_all, swap, AllByRecursion}
 use Rattle.std.proofs.Math.ListN.{set, get_or, get_or-map}
 use Rattle.std.proofs.lemmas.List.{length-map, map-set}
 use Rattle.std.proofs.lemmas.Grind.{common_steps}
-use Rattle.std.proofs.lemmas.List.Sorted.{IsPermutation-refl, IsPermutation-trans, IsPermutation-swap, IsPermutation-keeps}
+use Rattle.std.proofs.lemmas.List.Sorted.{IsPermutation-refl, IsPermutation-trans, IsPermutation-swap}
+use Rattle.std.proofs.lemmas.List.Sorted.{IsPermutation-keeps}
 use Rattle.std.proofs.lemmas.List.Sorted.{IsPermutation-map, length_permutation}
 use Rattle.sqlite_value.specs.declared.value.Value.TheVariants.{Null, Int}
 use Rattle.sqlite_value.specs.declared.keys.Key.{Key}

@@ -46,7 +46,8 @@ session_once l db sid x y schema sound keyed in_x in_y p q =
 -- ---- the row in the place of the one with its name
 
 -- what is read of the rows with a name
-filter_session : {X : Type 0} (f : List Row → X) (l : Layout) (sid q : List ℕ) (old new : Database) (Fits : Row → Type 0)
+filter_session : {X : Type 0} (f : List Row → X) (l : Layout) (sid q : List ℕ) (old new : Database) (Fits : Row
+    → Type 0)
     (it : Put l 6 old.trees new.trees Fits (λ r. has_text 1 sid r ≡ true))
     → has_text 1 sid it.row ≡ true → new.schema ≡ room_schema l → IsDatabase new → IsKeyed (old.trees 6)
     → f (filter (has_text 1 q) (new.trees 6))

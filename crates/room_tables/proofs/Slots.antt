@@ -108,7 +108,8 @@ steps_drop_slots old new sid count room h =
 
 -- ---- a row is put: its session's name and its number stand once together, by the rule UNIQUE
 
-filter_slot : {X : Type 0} (f : List Row → X) (l : Layout) (sid q : List ℕ) (slot n : ℕ) (old new : Database) (Fits : Row → Type 0)
+filter_slot : {X : Type 0} (f : List Row
+    → X) (l : Layout) (sid q : List ℕ) (slot n : ℕ) (old new : Database) (Fits : Row → Type 0)
     (it : Put l (slots_tree l) old.trees new.trees Fits (λ r. is_slot sid slot r ≡ true))
     → is_slot sid slot it.row ≡ true → new.schema ≡ room_schema l → IsDatabase new → IsKeyed (old.trees (slots_tree l))
     → f (filter (is_slot q n) (new.trees (slots_tree l)))

@@ -63,7 +63,8 @@ pub drops_slots : (l : Layout) (old new : State) (sid : List ℕ) (count : ℕ) 
     → IsKeyed (old.now.trees (slots_tree l)) → Executes T.drop_slots_text (Text sid ∷ []) old new (Ok count)
     → Leaves l old.now new.now (slots_tree l) (without (has_text 1 sid) (old.now.trees (slots_tree l)))
 drops_slots l old new sid count schema keyed h =
-    cleared l old new (slots_place l) (slots_table l) T.drop_slots_text (Text sid ∷ []) (T.drop_slots_query 8).filter count
+    cleared l old new (slots_place l) (slots_table l) T.drop_slots_text (Text sid ∷ [])
+    (T.drop_slots_query 8).filter count
     (has_text 1 sid) (slots_placed l) schema keyed (drop_slots_means l)
     (slots_seen l old.now.trees) (λ olds. (quiet l 0 olds []).slots) (λ r. and_true (has_text 1 sid r)) h
 
@@ -113,7 +114,8 @@ adds_one l node at a = adds_entries l node at (a ∷ []) T.add_entry_text T.add_
 pub adds_two : (l : Layout) (node at : ℕ) (a b : EntryModel) → AddsEntries l T.add_two_text node at (a ∷ b ∷ [])
 adds_two l node at a b = adds_entries l node at (a ∷ b ∷ []) T.add_two_text T.add_two_terms (add_two_means l) refl
 
-pub adds_three : (l : Layout) (node at : ℕ) (a b c : EntryModel) → AddsEntries l T.add_three_text node at (a ∷ b ∷ c ∷ [])
+pub adds_three : (l : Layout) (node at : ℕ) (a b c : EntryModel)
+    → AddsEntries l T.add_three_text node at (a ∷ b ∷ c ∷ [])
 adds_three l node at a b c =
     adds_entries l node at (a ∷ b ∷ c ∷ []) T.add_three_text T.add_three_terms (add_three_means l) refl
 

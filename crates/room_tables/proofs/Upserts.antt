@@ -78,7 +78,8 @@ module _ (l : Layout) (tree : ℕ) (db next : Trees) (row : Row) (id : ℤ) (Fit
   pub put_new : are_fresh (db tree) (row ∷ []) ≡ true → next tree ≡ put_row row (db tree) → Put l tree db next Fits Met
   put_new fresh rows =
       let free = not-true _ (first_of_both _ _ fresh) in
-      let taken : is_taken (db tree) (Int id ∷ []) ≡ false = ap (λ v. is_taken (db tree) (v ∷ [])) (sym has_id) ∙ free in
+      let taken : is_taken (db tree) (Int id ∷ []) ≡ false = ap (λ v. is_taken (db tree) (v ∷ [])) (sym has_id)
+      ∙ free in
       let same : without_rowid id (db tree) ≡ db tree = none_to_drop id (db tree) taken in
       record {
         row = row;

@@ -1,5 +1,6 @@
 -- The row that has a number is written: an UPDATE changes it, or an INSERT adds it.
-use Rattle.std.proofs.Common.{◌≡◌, ◌≢◌, ◌∙◌, ◌/◌, ℕ, zero, suc, ℤ, Bool, true, false, List, [], ◌∷◌, map, drop, slice_get}
+use Rattle.std.proofs.Common.{◌≡◌, ◌≢◌, ◌∙◌, ◌/◌, ℕ, zero, suc, ℤ, Bool, true, false, List, [], ◌∷◌, map, drop}
+use Rattle.std.proofs.Common.{slice_get}
 use Rattle.std.proofs.Common.{filter, length, Some, Ok, Equal, inl, refl, sym, ap, ap₂, subst, IsPermutation}
 use Rattle.std.specs.List.{AllByRecursion, list_all}
 use Rattle.sqlite_value.specs.declared.value.Value.TheVariants.{Null, Int}
