@@ -1,8 +1,7 @@
 -- The fresh room is a room, and two rows stand for it.
-use Rattle.std.proofs.Common.{◌≡◌, ℕ, refl, false, inl, inr, List, [], ◌∷◌, ◌++◌, None, Some, length, ap}
-use Rattle.std.proofs.Common.{sym, ◌∙◌, ◌≤◌, arith, subst}
+use Rattle.std.proofs.Common.{◌≡◌, ℕ, refl, false, List, [], ◌∷◌, ◌++◌, None, Some, length, ap}
+use Rattle.std.proofs.Common.{sym, ◌∙◌, ◌≤◌, arith}
 use Rattle.std.specs.Prelude.{cond, ◌==◌}
-use Rattle.std.proofs.lemmas.Bool.{eq-eqb, ne_eqb}
 use Rattle.room_records.specs.declared.node.Node.{Node}
 use Rattle.room_records.specs.Fresh.{fresh_root}
 use Rattle.room_records.specs.Limits.{max_children}
@@ -12,7 +11,6 @@ use Rattle.room_records.specs.Rules.{ObjectRules}
 use Rattle.room_records.specs.Room.{Object, IsRoom, fresh_object, fresh_room, fresh_entries, object_at, children}
 use Rattle.room_records.specs.Representation.{RepresentsRoom, NodeIsObject}
 use Rattle.room_records.proofs.RoomsMap.{some_is, none_is_some}
-use Rattle.room_records.proofs.RulesKept.{if_other, same_or_other}
 
 module _ (owner group : List ℕ) where
   abbrev pub root_object : Object

@@ -1,5 +1,5 @@
 -- The rows of a fresh room keep the record rules, and stand for the fresh room.
-use Rattle.std.proofs.Common.{◌≡◌, ℕ, sym, ◌∙◌, subst, List, Option, None, Some}
+use Rattle.std.proofs.Common.{◌≡◌, ℕ, sym, ◌∙◌, List, Option, None}
 use Rattle.room_records.specs.declared.node.Node.{Node}
 use Rattle.room_records.specs.Records.{Records}
 use Rattle.room_records.specs.Rules.{RulesHold}

@@ -1,5 +1,5 @@
 -- Facts on lists.
-use Rattle.std.proofs.Common.{◌≡◌, ℕ, ◌<◌, refl, List, [], ◌∷◌, ◌++◌, length, get_or, suc, zero, Some, arith}
+use Rattle.std.proofs.Common.{ℕ, ◌<◌, refl, List, [], ◌∷◌, ◌++◌, length, get_or, suc, zero, arith}
 use Rattle.std.specs.List.{AllByRecursion, Contains}
 
 pub all_at : {X : Type 0} (P : X → Type 0) (xs : List X) (i : ℕ) (d : X)

@@ -1,7 +1,6 @@
 -- Nodes and their index by place, after one of them changes.
-use Rattle.std.proofs.Common.{◌≡◌, ℕ, refl, ap, sym, ◌∙◌, inl, inr, ◌⊎◌, Option, None, Some, arith}
+use Rattle.std.proofs.Common.{◌≡◌, ℕ, ap, sym, ◌∙◌, ◌⊎◌, Option, None, Some, arith}
 use Rattle.std.specs.Option.{option_map, option_and_then}
-use Rattle.std.proofs.lemmas.Bool.{cases_eq}
 use Rattle.std.proofs.lemmas.Option.{option_and_then_some}
 use Rattle.room_records.specs.declared.mem.nodes.NodeIndex.{NodeIndex}
 use Rattle.room_records.specs.declared.node.Node.{Node}
@@ -9,7 +8,7 @@ use Rattle.room_records.specs.Names.{Name}
 use Rattle.room_records.specs.NodeIndex.{PlaceKey, node_in, id_at, place_of, IsNumbered, ArePlaced, AreAtPlace}
 use Rattle.room_records.specs.NodeIndex.{IsFreeFor}
 use Rattle.room_records.proofs.Keys.{Updated, same_place}
-use Rattle.room_records.proofs.RoomsMap.{some_is, none_is_some}
+use Rattle.room_records.proofs.RoomsMap.{none_is_some}
 
 pub record IsIndex (nodes : ℕ → Option Node) (places : PlaceKey → Option ℕ) : Type 0 where
   pub numbered : IsNumbered nodes

@@ -1,7 +1,7 @@
 -- A path's text, cut at its slashes.
-use Rattle.std.proofs.Common.{◌≡◌, ℕ, refl, ap, sym, ◌∙◌, true, false, Bool, List, [], ◌∷◌, ◌++◌, cond, length, arith}
-use Rattle.std.specs.Prelude.{IsTrue, not, ◌&&◌, nat_le, ◌==◌}
-use Rattle.std.specs.List.{AllByRecursion, flat_map, slice_split, onto_first, join_with_byte, list_all}
+use Rattle.std.proofs.Common.{◌≡◌, ℕ, refl, ap, sym, ◌∙◌, false, Bool, List, [], ◌∷◌, ◌++◌, length, arith}
+use Rattle.std.specs.Prelude.{IsTrue, nat_le, ◌==◌}
+use Rattle.std.specs.List.{AllByRecursion, flat_map, slice_split, join_with_byte, list_all}
 use Rattle.std.proofs.lemmas.Bool.{and_parts, not-true}
 use Rattle.std.proofs.lemmas.List.{append-nil}
 use Rattle.std.proofs.lemmas.List.Splits.{join_with_byte-slice_split}

@@ -1,8 +1,7 @@
 -- Paths of nodes, where rows stand for a room.
-use Rattle.std.proofs.Common.{◌≡◌, ℕ, ◌+◌, refl, ap, sym, ◌∙◌, subst, List, [], ◌∷◌, ◌++◌, reverse, take, drop, length}
-use Rattle.std.proofs.Common.{get_or, ◌<◌, append_assoc, Option, None, Some}
-use Rattle.std.specs.Prelude.{IfSome}
-use Rattle.std.proofs.lemmas.List.{reverse-append, reverse-reverse, take_more, take-append-drop, append-nil}
+use Rattle.std.proofs.Common.{◌≡◌, ℕ, ◌+◌, refl, ap, sym, ◌∙◌, List, [], ◌∷◌, ◌++◌, reverse, take, drop, length}
+use Rattle.std.proofs.Common.{get_or, ◌<◌, Option, None, Some}
+use Rattle.std.proofs.lemmas.List.{reverse-append, reverse-reverse, take_more, take-append-drop}
 use Rattle.room_records.specs.declared.node.Node.{Node}
 use Rattle.room_records.specs.Names.{Name, Path}
 use Rattle.room_records.specs.Records.{ObjectRecords, IsChild}

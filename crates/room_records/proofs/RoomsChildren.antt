@@ -1,16 +1,16 @@
 -- What is in a folder: as a map from names, in order, and how many.
-use Rattle.std.proofs.Common.{◌≡◌, ℕ, ◌+◌, ◌≤◌, Contains, refl, ap, sym, ◌∙◌, arith}
+use Rattle.std.proofs.Common.{◌≡◌, ◌+◌, ◌≤◌, Contains, refl, ap, sym, ◌∙◌, arith}
 use Rattle.std.proofs.Common.{Bool, true, false, cond, ◌⊎◌, inl, inr, List, [], ◌∷◌, ◌++◌, length, Option, None}
-use Rattle.std.proofs.Common.{Some, IsSome, is_some, option_map, Ordering, Less, Equal, Greater}
+use Rattle.std.proofs.Common.{Some, IsSome, is_some, option_map, Less}
 use Rattle.std.specs.Map.{lookup, keys_of}
-use Rattle.std.specs.List.{AllByRecursion, IsDistinct, filter_map, cons_option}
+use Rattle.std.specs.List.{AllByRecursion, IsDistinct, filter_map}
 use Rattle.std.specs.List.Sorted.{IsStrictlySortedBy}
 use Rattle.std.specs.BTreeMap.{insert_entry}
 use Rattle.std.specs.Ordering.{is_eq, eq_by_cmp}
 use Rattle.std.specs.Cmp.Lexicographic.{bytes_decides, texts_ties}
 use Rattle.std.proofs.Math.Bool.{and-true}
 use Rattle.std.proofs.lemmas.Cmp.{nat_list_cmp_total, nat_list_eq_equiv}
-use Rattle.std.proofs.lemmas.Bool.{and_right, both_ways, cases_Bool}
+use Rattle.std.proofs.lemmas.Bool.{and_right, cases_Bool}
 use Rattle.std.proofs.lemmas.List.{nil_from_length}
 use Rattle.std.proofs.lemmas.Map.Lookups.{exact_bytes}
 use Rattle.std.proofs.lemmas.Map.Keys.{IsDistinct-from_sorted}
@@ -24,7 +24,6 @@ use Rattle.room_records.specs.Room.{Object, Room, object_at, name_in, child_in, 
 use Rattle.room_records.proofs.Keys.{above_is, three_ways}
 use Rattle.room_records.proofs.Options.{none_if}
 use Rattle.room_records.proofs.RoomsMap.{some_is, none_is_some}
-use Rattle.room_records.proofs.RulesKept.{some_or_none}
 
 -- each name is below those after it, by bytes
 abbrev pub Rises : {X : Type 0} → List (Name × X) → Type 0

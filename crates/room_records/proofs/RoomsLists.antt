@@ -1,5 +1,5 @@
 -- The list of an object: in its own words, and what it depends on.
-use Rattle.std.proofs.Common.{◌≡◌, arith, refl, ap, sym, ◌∙◌, cond, List, [], ◌∷◌, ◌++◌, reverse, Option, None, Some}
+use Rattle.std.proofs.Common.{◌≡◌, arith, refl, ap, sym, ◌∙◌, cond, List, [], ◌∷◌, ◌++◌, reverse, Option, Some}
 use Rattle.std.proofs.Common.{option_map, append-nil, append_assoc}
 use Rattle.std.proofs.lemmas.List.{reverse-append, reverse-reverse}
 use Rattle.room_acl.specs.Entries.{EntryModel}

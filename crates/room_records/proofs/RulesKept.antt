@@ -1,6 +1,6 @@
 -- The record rules after one change.
-use Rattle.std.proofs.Common.{◌≡◌, ◌≢◌, ℕ, ◌+◌, ◌≤◌, refl, ap, sym, ◌∙◌, subst, arith, Bool, true, false, cond, eqb}
-use Rattle.std.proofs.Common.{◌⊎◌, inl, inr, List, [], ◌∷◌, Option, None, Some, IsSome, IfSome, eq-eqb}
+use Rattle.std.proofs.Common.{◌≡◌, ◌≢◌, ℕ, ◌+◌, ◌≤◌, refl, ap, sym, ◌∙◌, arith, cond, eqb}
+use Rattle.std.proofs.Common.{◌⊎◌, inl, inr, List, [], ◌∷◌, Option, None, Some, IsSome, eq-eqb}
 use Rattle.std.proofs.lemmas.Bool.{cases_eq, cond-false, cond-true, ne_eqb}
 use Rattle.room_acl.specs.declared.subject.Kind.TheVariants.{File}
 use Rattle.room_records.specs.declared.change.Change.TheVariants.{PutNode, PutEntries, PutDoc, PutNext}

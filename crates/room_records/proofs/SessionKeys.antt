@@ -1,6 +1,6 @@
 -- Rows by session name and slot, after one of them changes.
-use Rattle.std.proofs.Common.{◌≡◌, ℕ, ◌+◌, ◌<◌, ◌≤◌, refl, ap, sym, ◌∙◌, true, false, Bool, cond, inl, inr, ◌⊎◌}
-use Rattle.std.proofs.Common.{Option, None, Some, IsSome, arith, nat_cmp}
+use Rattle.std.proofs.Common.{◌≡◌, ℕ, ◌+◌, ◌<◌, ◌≤◌, ap, ◌∙◌, true, false, Bool, cond, ◌⊎◌}
+use Rattle.std.proofs.Common.{Option, None, Some, arith, nat_cmp}
 use Rattle.std.specs.Prelude.{◌&&◌, ◌==◌, nat_lt}
 use Rattle.std.specs.Cmp.{IsTotalOrder}
 use Rattle.std.specs.Cmp.Lexicographic.{bytes_decides}
@@ -8,7 +8,6 @@ use Rattle.std.specs.Option.{option_map}
 use Rattle.std.specs.Ordering.{is_eq, eq_by_cmp, ordering_then}
 use Rattle.std.specs.Str.{bytes_eq}
 use Rattle.std.specs.declared.cmp.Ordering.{Ordering}
-use Rattle.std.proofs.lemmas.Bool.{and_parts, both_ways, cases_Bool, cases_eq, eqb-true, eq-eqb, lt-ltb, ne_eqb}
 use Rattle.std.proofs.lemmas.Cmp.{nat_list_cmp_total, nat_list_eq_equiv, nat_cmp_total, then_total, on_total}
 use Rattle.std.proofs.lemmas.Map.Lookups.{CmpEqualImpliesEq, exact_pairs, exact_bytes, exact_unsigned}
 use Rattle.std.proofs.lemmas.Map.Text.{is_eq-slice_cmp}
@@ -18,7 +17,6 @@ use Rattle.room_records.specs.declared.mem.sessions.SessionCell.{SessionCell}
 use Rattle.room_records.specs.Limits.{max_slots}
 use Rattle.room_records.specs.Names.{Name, name_cmp}
 use Rattle.room_records.specs.Sessions.{slot_cmp, session_row, AreFewSlots, HaveSlotCounts}
-use Rattle.room_records.proofs.RoomsMap.{some_is}
 
 pub slot_total : IsTotalOrder slot_cmp
 slot_total = then_total (on_total (λ (k : Name × ℕ). k.0) nat_list_cmp_total)

@@ -1,10 +1,6 @@
 -- Rows that changes do not touch.
-use Rattle.std.proofs.Common.{◌≡◌, arith, ℕ, refl, ap, ◌∙◌, List, [], ◌∷◌, None, Some}
-use Rattle.std.specs.Prelude.{◌==◌, ◌&&◌, if◌then◌else◌}
-use Rattle.std.specs.Str.{bytes_eq}
+use Rattle.std.proofs.Common.{◌≡◌, arith, ℕ, refl, ap, ◌∙◌, List, [], ◌∷◌}
 use Rattle.room_records.specs.declared.change.Change.{Change}
-use Rattle.room_records.specs.declared.change.Change.TheVariants.{PutNode, DropNode, PutEntries, PutDoc, PutSession}
-use Rattle.room_records.specs.declared.change.Change.TheVariants.{PutSlot, DropSlots, PutNext}
 use Rattle.room_records.specs.Records.{Records}
 use Rattle.room_records.specs.Changes.{apply_change, apply_changes, Leave, Untouched}
 use Rattle.room_records.specs.Mem.{AreSameChanges}

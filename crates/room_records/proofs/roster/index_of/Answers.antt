@@ -4,7 +4,6 @@ use Rattle.std.specs.declared.cmp.Ordering.TheVariants.{Less, Equal}
 use Rattle.std.proofs.lemmas.List.{take-append-drop}
 use Rattle.room_acl.specs.SubjectModel.{SubjectModel}
 use Rattle.room_records.specs.Names.{name_cmp}
-use Rattle.room_records.specs.Roster.{StartsBehind}
 use Rattle.room_records.proofs.roster.index_of.Goals as goal
 
 from_place : (users : List SubjectModel) (place : ℕ) (user : SubjectModel) → user ≡ get_or users place user

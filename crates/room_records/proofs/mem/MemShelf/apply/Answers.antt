@@ -1,10 +1,9 @@
-use Rattle.std.proofs.Common.{◌≡◌, ap, sym, ◌∙◌, [], ◌∷◌, Some, nat_cmp}
+use Rattle.std.proofs.Common.{◌≡◌, ap, sym, ◌∙◌, [], ◌∷◌}
 use Rattle.std.specs.Prelude.{unwrap_or}
 use Rattle.std.specs.Option.{option_map}
 use Rattle.room_records.specs.declared.change.Change.{Change}
 use Rattle.room_records.specs.Records.{Records}
 use Rattle.room_records.specs.Changes.{apply_change, Untouched}
-use Rattle.room_records.specs.Table.{held}
 use Rattle.room_records.specs.Sessions.{session_in, kept_in}
 use Rattle.room_records.specs.Mem.{mem_records}
 use Rattle.room_records.proofs.MemRecords.{read_put}

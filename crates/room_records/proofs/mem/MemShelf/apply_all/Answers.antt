@@ -1,11 +1,7 @@
-use Rattle.std.proofs.Common.{◌≡◌, ◌∷◌, [], List, ap, sym, ◌∙◌, subst, arith, length}
-use Rattle.std.specs.List.{AllByRecursion}
+use Rattle.std.proofs.Common.{◌≡◌, ◌∷◌, ap, ◌∙◌, arith, length}
 use Rattle.std.proofs.lemmas.List.{nil_from_length}
 use Rattle.std.specs.Vec.Iter.{into_iter_items}
-use Rattle.room_records.specs.declared.change.Change.{Change}
-use Rattle.room_records.specs.Records.{Records}
-use Rattle.room_records.specs.Changes.{apply_changes, RulesHoldAfterEach, Untouched}
-use Rattle.room_records.specs.Mem.{mem_records, HasSpaceFor}
+use Rattle.room_records.specs.Mem.{mem_records}
 use Rattle.room_records.proofs.MemRecords.{spaces_kept}
 use Rattle.room_records.proofs.Untouched.{untouched_in_turn, untouched_itself}
 use Rattle.room_records.proofs.mem.MemShelf.apply_all.Goals as goal

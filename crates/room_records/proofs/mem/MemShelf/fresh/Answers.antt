@@ -1,4 +1,4 @@
-use Rattle.std.proofs.Common.{◌≡◌, ℕ, refl, ap, ◌∙◌, cond, [], None, Some, nat_cmp}
+use Rattle.std.proofs.Common.{◌≡◌, ℕ, ap, ◌∙◌, cond, [], None, Some, nat_cmp}
 use Rattle.std.specs.Prelude.{◌==◌, unwrap_or}
 use Rattle.std.specs.Option.{option_map}
 use Rattle.room_records.specs.Records.{Records}

@@ -1,8 +1,6 @@
-use Rattle.std.proofs.Common.{◌≡◌, ◌∷◌, ◌++◌, ◌+◌, [], List, ap, sym, ◌∙◌, subst, rules, take}
-use Rattle.std.specs.List.{AllByRecursion}
+use Rattle.std.proofs.Common.{◌≡◌, ◌∷◌, ◌++◌, ◌+◌, [], ap, sym, ◌∙◌, rules, take}
 use Rattle.std.proofs.lemmas.List.{take_more}
-use Rattle.room_records.specs.declared.change.Change.{Change}
-use Rattle.room_records.specs.Mem.{HasSpaceFor, AreSameChanges}
+use Rattle.room_records.specs.Mem.{HasSpaceFor}
 use Rattle.room_records.proofs.Lists.{all_append}
 use Rattle.room_records.proofs.MemRecords.{spaces_kept, same_push}
 use Rattle.room_records.proofs.mem.MemShelf.prepare.Goals as goal

@@ -1,8 +1,7 @@
-use Rattle.std.proofs.Common.{◌≡◌, ℕ, List, map, length, ◌∷◌, rules, subst, sym, ap, ◌∙◌, Some, Bor}
+use Rattle.std.proofs.Common.{◌≡◌, ℕ, List, map, length, ◌∷◌, rules, sym, ap, ◌∙◌, Some, Bor}
 use Rattle.std.proofs.lemmas.List.{length-map}
 use Rattle.std.specs.List.{slice_split}
 use Rattle.std.specs.Prelude.{◌==◌}
-use Rattle.room_records.specs.Names.{IsPath, path_text}
 use Rattle.room_records.proofs.Options.{none_is_not_some}
 use Rattle.room_records.proofs.PathTexts.{parts_are_path, text_of_names}
 use Rattle.room_records.proofs.names.Path.read.Goals as goal

@@ -1,7 +1,7 @@
 use Rattle.std.proofs.Common.{◌≡◌, arith, ap, sym, ◌∙◌, None, Some, nat_cmp, Option, ℕ, List, cond, refl, true, false}
 use Rattle.std.proofs.Common.{Bor}
 use Rattle.std.specs.Ordering.{eq_by_cmp}
-use Rattle.std.specs.Option.{option_map, option_copied, is_some}
+use Rattle.std.specs.Option.{option_copied, is_some}
 use Rattle.room_records.specs.declared.node.Node.{Node}
 use Rattle.room_records.specs.NodeIndex.{node_in, place_of}
 use Rattle.room_records.proofs.Keys.{put_number, put_place}

@@ -1,4 +1,4 @@
-use Rattle.std.proofs.Common.{◌≡◌, ap, length, [], arith}
+use Rattle.std.proofs.Common.{◌≡◌, length, arith}
 use Rattle.room_records.specs.NodeIndex.{node_in}
 use Rattle.room_records.proofs.Children.{children_are, shown, places_between}
 use Rattle.room_records.proofs.NodePlaces.{index_of}

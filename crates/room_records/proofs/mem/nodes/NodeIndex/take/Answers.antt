@@ -1,4 +1,4 @@
-use Rattle.std.proofs.Common.{◌≡◌, ap, sym, ◌∙◌, None, Some, nat_cmp, rules}
+use Rattle.std.proofs.Common.{◌≡◌, ap, sym, ◌∙◌, None, Some, rules}
 use Rattle.std.specs.Option.{option_map, option_and_then}
 use Rattle.room_records.specs.NodeIndex.{node_in, place_of}
 use Rattle.room_records.proofs.Keys.{put_number, put_place}
