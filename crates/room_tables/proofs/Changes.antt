@@ -246,14 +246,6 @@ pub record Added (l : Layout) (old new : Database) (tree : ℕ) (tails : List Ro
   pub rows : HasAll (old.trees tree) (new.trees tree) tails
   pub others : Others l tree old.trees new.trees
 
--- where rows went in that were cast to these
-pub all_added : (rows new tails casts : List Row) → casts ≡ unnumbered tails
-    → are_fresh rows (numbered Chosen rows casts) ≡ true → new ≡ put_all rows (numbered Chosen rows casts)
-    → HasAll rows new tails
-all_added rows new tails casts are fresh is =
-    subst (λ l. HasAll rows l tails) (sym (is ∙ ap (λ c. put_all rows (numbered Chosen rows c)) are))
-    (all_chosen rows tails (subst (λ c. are_fresh rows (numbered Chosen rows c) ≡ true) are fresh))
-
 -- an INSERT of some rows whose rowids are chosen
 pub inserted_all : (l : Layout) (old new : State) (at : ℕ) (table : Table) (sql : List ℕ)
     (params : Row) (tails : List Row) (terms : List Term) (width count : ℕ)
@@ -265,12 +257,15 @@ pub inserted_all : (l : Layout) (old new : State) (at : ℕ) (table : Table) (sq
     → Executes sql params old new (Ok count)
     → Added l old.now new.now table.tree tails
 inserted_all l old new at table sql params tails terms width count place schema uncounted means quiet cast_are h =
+    let rows = old.now.trees table.tree in
     let it = inserted l old new at table sql params (Values terms width) count place schema uncounted means quiet h in
+    let are : map (λ row. cast_row table (drop 0 row)) it.given ≡ unnumbered tails =
+    ap (map (λ row. cast_row table (drop 0 row))) it.source.1 ∙ cast_are in
     record {
       schema = it.schema;
       sound = it.sound;
-      rows = all_added (old.now.trees table.tree) (new.now.trees table.tree) tails _
-          (ap (map (λ row. cast_row table (drop 0 row))) it.source.1 ∙ cast_are) it.fresh it.rows_are;
+      rows = subst (λ l. HasAll rows l tails) (sym (it.rows_are ∙ ap (λ c. put_all rows (numbered Chosen rows c)) are))
+          (all_chosen rows tails (subst (λ c. are_fresh rows (numbered Chosen rows c) ≡ true) are it.fresh));
       others = others_of l table.tree old.now.trees new.now.trees it.tables;
     }
 
@@ -286,11 +281,8 @@ pub keeps_all : (sql : List ℕ) (params : Row) (old new : State) (r : Result �
     → (old.in_transaction ≡ true → ExecutesInside 0 sql params old new r) → KeepsCommit old new
 keeps_all sql params old new r X ended ran = elim (cases_Bool old.in_transaction) [
   | inl inside ↦ inside_keeps old new 0 false sql params r (ran inside)
-  | inr outside ↦ let same = (ended outside).1 in record {
-    was_open = λ is.
-        subst (λ (s : State). s.is_open ≡ true) same is;
-    committed = λ _. ap (λ (s : State). s.committed) same;
-  }
+  | inr outside ↦
+      subst (λ s. KeepsCommit s new) (ended outside).1 (record { was_open = λ is. is; committed = λ _. refl })
 ]
 
 -- an execute that answered Ok was inside one

@@ -79,6 +79,7 @@ read_same db next slots same is = λ i. record {
 
 -- ---- steps
 
+-- one step after another
 pub steps_then : {a b c : State} {f g : Records → Records} → Steps a b f → Steps b c g → Steps a c (λ r. g (f r))
 steps_then {f = f} {g = g} p q = record {
   room = q.room;
@@ -103,6 +104,7 @@ each_after {l} tree old new others = from_both l _ _ _ (λ t far _. one t far) o
       | inr apart ↦ rw (ne_eqb t.tree tree apart) (far apart)
     ]
 
+-- a step, where this is what is read of the table that changed and the others
 pub steps_at : (tree : ℕ) (old new : State) (room : IsRoomDatabase old.now) (change : Records → Records) → tree ≤ 7
     → new.now.schema ≡ room_schema room.layout → IsDatabase new.now
     → Others room.layout tree old.now.trees new.now.trees → IsKeyed (new.now.trees tree)

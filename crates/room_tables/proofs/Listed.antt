@@ -1,5 +1,5 @@
 -- The list of objects names the trees as the schema does.
-use Rattle.std.proofs.Common.{◌≡◌, ℕ, ◌+◌, ◌-◌, Bool, true, false, cond, List, [], ◌∷◌, Option, Some, option_map, codes}
+use Rattle.std.proofs.Common.{◌≡◌, ℕ, ◌+◌, ◌-◌, List, [], ◌∷◌, Option, Some, option_map, codes}
 use Rattle.std.proofs.Common.{unwrap_or, refl, ap, ap₂, ◌∙◌, arith, is_eq, inl, inr}
 use Rattle.std.specs.List.{find, AllZip}
 use Rattle.std.specs.Option.{option_or}

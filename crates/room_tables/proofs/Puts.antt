@@ -5,8 +5,12 @@ use Rattle.std.proofs.lemmas.Bool.Decides.{nat_tests}
 use Rattle.sqlite_value.specs.declared.value.Value.TheVariants.{Null, Int, Text, Blob}
 use Rattle.sqlite_value.specs.Order.{Row, column}
 use Rattle.sqlite_value.specs.Keys.{first_key}
-use Rattle.sqlite_trees.specs.Tree.{rowid}
+use Rattle.sqlite_trees.specs.Tree.{Trees, rowid}
+use Rattle.std.specs.List.{list_all}
+use Rattle.sqlite_sql.specs.Term.{Term, eval_all, holds}
+use Rattle.sqlite_sql.specs.Program.{overlay}
 use Rattle.sqlite_tied.specs.Compute.{everything}
+use Rattle.sqlite.specs.Table.{Table}
 use Rattle.sqlite_rules.specs.Action.{works, pairs}
 use Rattle.sqlite_rules.specs.Edit.{next_rowid, numbered}
 use Rattle.sqlite.specs.Rowids.TheVariants.{Chosen}
@@ -22,7 +26,7 @@ use Rattle.room_tables.specs.Tables.{Layout, Fresh, Upgraded, room_schema, room_
 use Rattle.room_tables.specs.Tables.{session_table}
 use Rattle.room_tables.specs.Rows.{has, has_text}
 use Rattle.room_tables.specs.Layout.{IsKeyed, parent_value}
-use Rattle.room_tables.proofs.Meaning.{change_node_means, add_node_means, change_doc_means, add_doc_means}
+use Rattle.room_tables.proofs.Meaning.{add_node_means, add_doc_means}
 use Rattle.room_tables.proofs.Meaning.{change_next_means, add_next_means, put_session_means}
 use Rattle.room_tables.proofs.Queries.{and_true, tidy}
 use Rattle.room_tables.proofs.Takes.{set_off, quiet}
@@ -31,9 +35,29 @@ use Rattle.room_tables.proofs.Values.{has_int, has_text_value}
 use Rattle.room_tables.proofs.Changes.{cast_null, cast_int}
 use Rattle.room_tables.proofs.Upserts.{PutInto, IsUpsert, put}
 
--- the number of a row that has it
-its_number : (n : ℕ) (r : Row) (i : ℤ) → rowid r ≡ Int i → has 0 n r ≡ true → rowid r ≡ Int (pos n)
-its_number n r i is h = has_int n r (subst (λ v. is_int v ≡ true) (sym is) refl) h
+-- an UPDATE of the row with a number, behind whose rowid and the column of the key it writes what no row tells
+row_update : (l : Layout) (table : Table) (id : ℕ) (terms project : List Term) (params tail : Row)
+    → ((olds : List Row) (new : Row) (news : List Row)
+    → works (room_schema l) Enforced 0 table.tree olds (new ∷ news) ≡ [])
+    → works (room_schema l) Enforced 0 table.tree [] [] ≡ []
+    → ((db : Trees) → overlay db [] table.tree ≡ db table.tree)
+    → ((r : Row) → list_all (holds (params ∷ r ∷ [])) terms ≡ has 0 id r)
+    → ((r : Row) → eval_all project (params ∷ r ∷ []) ≡ rowid r ∷ rowid r ∷ Null ∷ tail)
+    → ((i : ℤ) → cast_row table (Int i ∷ Null ∷ tail) ≡ Int i ∷ Null ∷ tail)
+    → IsUpdate l table (has 0 id) terms project params (λ r. r ≡ Int (pos id) ∷ Null ∷ tail)
+row_update l table id terms project params tail quiet idle here test reads casts = record {
+  quiet = quiet;
+  idle = idle;
+  here = here;
+  test = test;
+  raw = λ r. rowid r ∷ Null ∷ tail;
+  reads = reads;
+  renewed = λ r. rowid r ∷ Null ∷ tail;
+  casts = λ r i is. rw is (casts i);
+  same_id = λ r. refl;
+  refits = λ r i is met.
+      ap (λ v. v ∷ Null ∷ tail) (has_int id r (subst (λ v. is_int v ≡ true) (sym is) refl) met);
+}
 
 -- ---- node
 
@@ -44,12 +68,6 @@ stored_node id parent name kind owner group aclflag = Int (pos id) ∷ Null ∷ 
 cast_parent : (parent : Option ℕ) → cast Integer (parent_value parent) ≡ parent_value parent
 cast_parent None = cast_null
 cast_parent (Some n) = cast_int (pos n)
-
-cast_node : (id : ℕ) (parent : Option ℕ) (name : List ℕ) (kind : ℕ) (owner group : List ℕ) (aclflag : ℕ)
-    → cast_row node_table (stored_node id parent name kind owner group aclflag)
-    ≡ stored_node id parent name kind owner group aclflag
-cast_node id parent name kind owner group aclflag =
-    rw (cast_int (pos id), cast_null, cast_parent parent, cast_int (pos kind), cast_int (pos aclflag))
 
 node_set_off : (l : Layout) (moves : List (Row × Row)) → (set_off l 0 1 moves false ≡ []) × (set_off l 0 1 [] true ≡ [])
 unfolding everything
@@ -81,21 +99,13 @@ module _ (l : Layout) (id : ℕ) (parent : Option ℕ) (name : List ℕ) (kind :
   abbrev stored : Row
   stored = stored_node id parent name kind owner group aclflag
 
+  cast_node : (i : ℤ) → cast_row node_table (Int i ∷ Null ∷ drop 1 params) ≡ Int i ∷ Null ∷ drop 1 params
+  cast_node i = rw (cast_int i, cast_null, cast_parent parent, cast_int (pos kind), cast_int (pos aclflag))
+
   pub node_update : IsUpdate l node_table (has 0 id) T.change_node_query.filter T.change_node_query.project params
       (λ r. r ≡ stored)
-  node_update = record {
-    quiet = node_quiet l;
-    idle = nodes_quiet l [];
-    here = λ db. refl;
-    test = λ r. and_true (has 0 id r);
-    raw = λ there. rowid there ∷ Null ∷ drop 1 params;
-    reads = λ there. refl;
-    renewed = λ there. rowid there ∷ Null ∷ drop 1 params;
-    casts = λ there i is.
-        rw (is, cast_int i, cast_null, cast_parent parent, cast_int (pos kind), cast_int (pos aclflag));
-    same_id = λ there. refl;
-    refits = λ there i is met. ap (λ v. v ∷ Null ∷ drop 1 params) (its_number id there i is met);
-  }
+  node_update = row_update l node_table id _ _ params (drop 1 params) (node_quiet l) (nodes_quiet l []) (λ db. refl)
+      (λ r. and_true (has 0 id r)) (λ r. refl) cast_node
 
   -- what the count of an UPDATE tells
   abbrev pub ChangesNode : ℕ → Database → Database → Type 0
@@ -110,7 +120,7 @@ module _ (l : Layout) (id : ℕ) (parent : Option ℕ) (name : List ℕ) (kind :
   adds_node old new count Met schema h =
       adds_row l old new 1 node_table T.add_node_terms 8 count T.add_node_text params stored stored (pos id) _ Met refl
       schema refl (add_node_means l) (nodes_quiet l) refl
-      (ap (λ r. numbered Chosen (old.now.trees 1) (r ∷ [])) (cast_node id parent name kind owner group aclflag))
+      (ap (λ r. numbered Chosen (old.now.trees 1) (r ∷ [])) (cast_node (pos id)))
       refl refl h
 
 -- ---- doc
@@ -118,26 +128,18 @@ module _ (l : Layout) (id : ℕ) (parent : Option ℕ) (name : List ℕ) (kind :
 abbrev pub stored_doc : ℕ → List ℕ → Row
 stored_doc id bytes = Int (pos id) ∷ Null ∷ Blob bytes ∷ []
 
-cast_doc : (id : ℕ) (bytes : List ℕ) → cast_row doc_table (stored_doc id bytes) ≡ stored_doc id bytes
-cast_doc id bytes = rw (cast_int (pos id), cast_null)
+cast_doc : (bytes : List ℕ) (i : ℤ)
+    → cast_row doc_table (Int i ∷ Null ∷ Blob bytes ∷ []) ≡ Int i ∷ Null ∷ Blob bytes ∷ []
+cast_doc bytes i = rw (cast_int i, cast_null)
 
 abbrev pub doc_params : ℕ → List ℕ → Row
 doc_params id bytes = Int (pos id) ∷ Blob bytes ∷ []
 
 pub doc_update : (l : Layout) (id : ℕ) (bytes : List ℕ) → IsUpdate l doc_table (has 0 id) T.change_doc_query.filter
     T.change_doc_query.project (doc_params id bytes) (λ r. r ≡ stored_doc id bytes)
-doc_update l id bytes = record {
-  quiet = λ olds new news. (quiet l 0 olds (new ∷ news)).doc;
-  idle = (quiet l 0 [] []).doc;
-  here = λ db. refl;
-  test = λ r. and_true (has 0 id r);
-  raw = λ there. rowid there ∷ Null ∷ Blob bytes ∷ [];
-  reads = λ there. refl;
-  renewed = λ there. rowid there ∷ Null ∷ Blob bytes ∷ [];
-  casts = λ there i is. rw (is, cast_int i, cast_null);
-  same_id = λ there. refl;
-  refits = λ there i is met. ap (λ v. v ∷ Null ∷ Blob bytes ∷ []) (its_number id there i is met);
-}
+doc_update l id bytes = row_update l doc_table id _ _ (doc_params id bytes) (Blob bytes ∷ [])
+    (λ olds new news. (quiet l 0 olds (new ∷ news)).doc) (quiet l 0 [] []).doc (λ db. refl)
+    (λ r. and_true (has 0 id r)) (λ r. refl) (cast_doc bytes)
 
 -- the document was put
 abbrev pub PutsDoc : Layout → ℕ → List ℕ → Database → Database → Type 0
@@ -153,8 +155,8 @@ pub adds_doc : (l : Layout) (old new : State) (id : ℕ) (bytes : List ℕ) (cou
 adds_doc l old new id bytes count schema h =
     adds_row l old new 3 doc_table T.add_doc_terms 3 count T.add_doc_text (doc_params id bytes)
     (stored_doc id bytes) (stored_doc id bytes) (pos id) _ _ refl schema refl (add_doc_means l)
-    (λ news. (quiet l 0 [] news).doc) refl (ap (λ r. numbered Chosen (old.now.trees 5) (r ∷ []))
-    (cast_doc id bytes)) refl refl h
+    (λ news. (quiet l 0 [] news).doc) refl (ap (λ r. numbered Chosen (old.now.trees 5) (r ∷ [])) (cast_doc bytes
+    (pos id))) refl refl h
 
 -- ---- the one row of room
 
@@ -162,23 +164,15 @@ adds_doc l old new id bytes count schema h =
 abbrev pub stored_next : ℕ → Row
 stored_next n = Int (pos 1) ∷ Null ∷ Int (pos 2) ∷ Int (pos n) ∷ []
 
-cast_next : (n : ℕ) → cast_row room_table (stored_next n) ≡ stored_next n
-cast_next n = rw (cast_int (pos 1), cast_null, cast_int (pos 2), cast_int (pos n))
+cast_next : (n : ℕ) (i : ℤ) → cast_row room_table (Int i ∷ Null ∷ Int (pos 2) ∷ Int (pos n) ∷ [])
+    ≡ Int i ∷ Null ∷ Int (pos 2) ∷ Int (pos n) ∷ []
+cast_next n i = rw (cast_int i, cast_null, cast_int (pos 2), cast_int (pos n))
 
 next_update : (l : Layout) (n : ℕ) → IsUpdate l room_table (has 0 1) T.change_next_query.filter
     T.change_next_query.project (Int (pos n) ∷ []) (λ r. r ≡ stored_next n)
-next_update l n = record {
-  quiet = λ olds new news. (quiet l 0 olds (new ∷ news)).room;
-  idle = (quiet l 0 [] []).room;
-  here = λ db. refl;
-  test = λ r. and_true (has 0 1 r);
-  raw = λ there. rowid there ∷ Null ∷ Int (pos 2) ∷ Int (pos n) ∷ [];
-  reads = λ there. refl;
-  renewed = λ there. rowid there ∷ Null ∷ Int (pos 2) ∷ Int (pos n) ∷ [];
-  casts = λ there i is. rw (is, cast_int i, cast_null, cast_int (pos 2), cast_int (pos n));
-  same_id = λ there. refl;
-  refits = λ there i is met. ap (λ v. v ∷ Null ∷ Int (pos 2) ∷ Int (pos n) ∷ []) (its_number 1 there i is met);
-}
+next_update l n = row_update l room_table 1 _ _ (Int (pos n) ∷ []) (Int (pos 2) ∷ Int (pos n) ∷ [])
+    (λ olds new news. (quiet l 0 olds (new ∷ news)).room) (quiet l 0 [] []).room (λ db. refl)
+    (λ r. and_true (has 0 1 r)) (λ r. refl) (cast_next n)
 
 -- the row was put
 abbrev pub PutsNext : Layout → ℕ → Database → Database → Type 0
@@ -202,8 +196,8 @@ pub adds_next : (l : Layout) (old new : State) (n count : ℕ) → old.now.schem
 adds_next l old new n count schema h =
     adds_row l old new 0 room_table T.add_next_terms 4 count T.add_next_text (Int (pos n) ∷ [])
     (stored_next n) (stored_next n) (pos 1) _ _ refl schema refl (add_next_means l)
-    (λ news. (quiet l 0 [] news).room) refl (ap (λ r. numbered Chosen (old.now.trees 0) (r ∷ []))
-    (cast_next n)) refl refl h
+    (λ news. (quiet l 0 [] news).room) refl (ap (λ r. numbered Chosen (old.now.trees 0) (r ∷ [])) (cast_next n
+    (pos 1))) refl refl h
 
 -- ---- session
 

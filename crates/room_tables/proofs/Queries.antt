@@ -2,7 +2,7 @@
 use Rattle.std.proofs.Common.{◌≡◌, ℕ, ◌+◌, ◌<◌, arith, length, is_gt, Bool, true, false, ◌&&◌, ◌||◌, cond, List, []}
 use Rattle.std.proofs.Common.{◌∷◌}
 use Rattle.std.proofs.Common.{◌++◌, map, filter, flat_map, Option, None, Some, Ok, Err, Result, IfOk, IfErr, OnOk, ◌⊎◌}
-use Rattle.std.proofs.Common.{inl, inr, refl, Ordering, Equal, sym, ap, subst, subst₂, ◌∙◌}
+use Rattle.std.proofs.Common.{inl, inr, refl, Ordering, Equal, sym, ap, subst, ◌∙◌}
 use Rattle.std.proofs.Common.{IsPermutation, IsSorted, negsuc}
 use Rattle.std.specs.List.{list_all, swap, AllByRecursion}
 use Rattle.std.proofs.Math.ListN.{set, get_or, get_or-map}

@@ -43,6 +43,7 @@ pub record Left (l : Layout) (old new : Database) (tree : ℕ) : Type 0 where
   pub tables : AllByRecursion (λ (t : Table). t.tree ≢ tree → new.trees t.tree ≡ old.trees t.tree)
       (room_schema l).tables
 
+-- one row at most
 abbrev pub AtMostOne : List Row → Type 0
 AtMostOne [] = Unit {0}
 AtMostOne (r ∷ more) = more ≡ []
