@@ -29,17 +29,24 @@ pub record Updated {K X : Type 0} (new old : K → Option X) (key : K) (value : 
 
 module _ {K : Type 0} {cmp : K → K → Ordering} (total : IsTotalOrder cmp) (exact : CmpEqualImpliesEq cmp) where
   same_key : (a b : K) → (a ≡ b) ⊎ (a ≡ b → ⊥)
-  same_key a b = grind (arith, tells_apart exact a b, (eq_by_cmp_equiv total).refl b)
+  same_key a b = elim (cases_Bool (eq_by_cmp cmp a b)) [
+    | inl same ↦ inl (tells_apart exact a b same)
+    | inr other ↦ inr (λ e. both_ways _ other (rw e ((eq_by_cmp_equiv total).refl b)))
+  ]
 
   updated : {X : Type 0} {new old : K → Option X} {key : K} {value : Option X}
       → ((k : K) → new k ≡ cond (eq_by_cmp cmp key k) value (old k)) → Updated new old key value
   updated {key = key} h = record {
     here = h key ∙ cond-true _ _ _ ((eq_by_cmp_equiv total).refl key);
-    other = λ k apart. grind (arith, h k, tells_apart exact key k);
+    other = λ k apart. h k
+        ∙ cond-false _ _ _ (false_from_ne_true _ (λ e. apart (sym (tells_apart exact key k e))));
   }
 
 exact_options : {X : Type 0} (R : X → X → Ordering) → CmpEqualImpliesEq R → CmpEqualImpliesEq (option_cmp R)
-exact_options R exact a b h = grind (arith, exact)
+exact_options R exact None None h = refl
+exact_options R exact None (Some b) h = absurd cc
+exact_options R exact (Some a) None h = absurd cc
+exact_options R exact (Some a) (Some b) h = ap Some (exact a b h)
 
 pub exact_places : CmpEqualImpliesEq place_cmp
 exact_places = exact_pairs nat_cmp (option_cmp name_cmp) exact_unsigned (exact_options name_cmp exact_bytes)

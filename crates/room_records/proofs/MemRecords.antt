@@ -23,7 +23,8 @@ use Rattle.room_records.proofs.RoomsChildren.{name_itself}
 pub read_put : {X Y : Type 0} (f : Option X → Y) (new old : ℕ → Option X) (key : ℕ) (value : Option X)
     → ((k : ℕ) → new k ≡ cond (eq_by_cmp nat_cmp key k) value (old k))
     → (k : ℕ) → f (new k) ≡ cond (k == key) (f value) (f (old k))
-read_put f new old key value h k = grind (arith, h k, number_key key k)
+read_put f new old key value h k =
+    rw (h k, number_key key k) (elim (cases_Bool (k == key)) [ inl same ↦ rw same refl | inr other ↦ rw other refl ])
 
 -- a slot row that keeps the rules is below the limit
 pub low_slot : (r : Records) (row : SlotRow) → HaveSlotCounts r.session
