@@ -1,5 +1,6 @@
 -- The parameters of an INSERT of entries.
-use Rattle.std.proofs.Common.{◌≡◌, ◌≤◌, ◌+◌, ℕ, pos, List, [], ◌∷◌, ◌++◌, length, take, drop, get_or, Result, Ok}
+use Rattle.std.proofs.Common.{◌≡◌, ◌≤◌, ◌<◌, refl, ◌+◌, ℕ, pos, List, [], ◌∷◌, ◌++◌, length, take, drop, get_or}
+use Rattle.std.proofs.Common.{Result, Ok}
 use Rattle.std.proofs.Common.{Err, OnOk, sym, ap, ap₂, ◌∙◌, arith}
 use Rattle.std.proofs.Math.Seq.{take-append_seam, drop-append_seam}
 use Rattle.std.proofs.lemmas.List.{map-append, append_assoc, length-append, length-take-le, take-append-drop}
@@ -10,17 +11,19 @@ use Rattle.sqlite_value.specs.Order.{Row}
 use Rattle.sqlite.specs.Values.{bound, bound_value}
 use Rattle.room_acl.specs.Entries.{EntryModel}
 use Rattle.room_tables.specs.Steps.{shown_as}
+use Rattle.room_sql.specs.declared.values.EntryRow.{EntryRow}
 
--- the node's number, and then the entries'
-pub number_then : (id : ℕ) (v : ValueRef) (tail : List ValueRef) (rest : Row)
-    → owned v ≡ Int (pos id) → bound tail ≡ rest → bound (v ∷ tail) ≡ Int (pos id) ∷ rest
-number_then id v tail rest is more = ap₂ (λ x l. bound_value x ∷ l) is more
+abbrev pub columns : List EntryRow → List ValueRef
+columns [] = []
+columns (row ∷ rows) = row.place ∷ row.kind ∷ row.flags ∷ row.mask ∷ row.who ∷ columns rows
 
 -- the columns of an entry at its place, and then those of the entries behind it
-pub entry_then : (at place : ℕ) (e : EntryModel) (vs tail : List ValueRef) (rest : Row) → place ≡ at
-    → bound vs ≡ shown_as place e → bound tail ≡ rest → bound (vs ++ tail) ≡ shown_as at e ++ rest
-entry_then at place e vs tail rest here is more =
-    map-append (λ v. bound_value (owned v)) vs tail ∙ ap₂ ◌++◌ (is ∙ ap (λ n. shown_as n e) here) more
+pub entry_then : {at place : ℕ} {rest : Row} (row : EntryRow) (rows : List EntryRow) (e : EntryModel) → place ≡ at
+    → bound (columns (row ∷ [])) ≡ shown_as place e → bound (columns rows) ≡ rest
+    → bound (columns (row ∷ rows)) ≡ shown_as at e ++ rest
+entry_then row rows e here is more =
+    map-append (λ v. bound_value (owned v)) (columns (row ∷ [])) (columns rows)
+    ∙ ap₂ ◌++◌ (is ∙ ap (λ n. shown_as n e) here) more
 
 -- ---- batches of a list
 
@@ -41,27 +44,22 @@ next_batch place xs rest batch more low is parts =
       omega (arith, long, whole),
     )
 
-pub one_is : {X : Type 0} (xs : List X) (a : X) → length xs ≡ 1 → a ≡ get_or xs 0 a → xs ≡ a ∷ []
-one_is [] a n p = absurd (omega arith)
-one_is (x ∷ []) a n p = ap (λ y. y ∷ []) (sym p)
-one_is (x ∷ y ∷ xs) a n p = absurd (omega arith)
+pub one_is : {X : Type 0} {xs : List X} {a : X} → 1 ≤ length xs → length xs < 2 → a ≡ get_or xs 0 a → xs ≡ a ∷ []
+one_is {xs = []} low high p = absurd (omega arith)
+one_is {xs = x ∷ []} low high p = rw p refl
+one_is {xs = x ∷ y ∷ xs} low high p = absurd (omega arith)
 
-pub two_is : {X : Type 0} (xs : List X) (a b : X) → length xs ≡ 2
+pub two_is : {X : Type 0} {xs : List X} {a b : X} → 2 ≤ length xs → length xs < 3
     → a ≡ get_or xs 0 a → b ≡ get_or xs 1 b → xs ≡ a ∷ b ∷ []
-two_is [] a b n p q = absurd (omega arith)
-two_is (x ∷ xs) a b n p q = ap₂ (λ y l. y ∷ l) (sym p) (one_is xs b (omega arith) q)
+two_is {xs = []} low high p q = absurd (omega arith)
+two_is {xs = x ∷ xs} low high p q = ap₂ ◌∷◌ (sym p) (one_is {xs = xs} (omega arith) (omega arith) q)
 
-pub three_is : {X : Type 0} (xs : List X) (a b c : X) → length xs ≡ 3
+pub three_is : {X : Type 0} {xs : List X} {a b c : X} → 3 ≤ length xs → length xs < 4
     → a ≡ get_or xs 0 a → b ≡ get_or xs 1 b → c ≡ get_or xs 2 c → xs ≡ a ∷ b ∷ c ∷ []
-three_is [] a b c n p q r = absurd (omega arith)
-three_is (x ∷ xs) a b c n p q r = ap₂ (λ y l. y ∷ l) (sym p) (two_is xs b c (omega arith) q r)
+three_is {xs = []} low high p q r = absurd (omega arith)
+three_is {xs = x ∷ xs} low high p q r = ap₂ ◌∷◌ (sym p) (two_is {xs = xs} (omega arith) (omega arith) q r)
 
-pub four_is : {X : Type 0} (xs : List X) (a b c d : X) → length xs ≡ 4 → a ≡ get_or xs 0 a
+pub four_is : {X : Type 0} {xs : List X} {a b c d : X} → 4 ≤ length xs → length xs < 5 → a ≡ get_or xs 0 a
     → b ≡ get_or xs 1 b → c ≡ get_or xs 2 c → d ≡ get_or xs 3 d → xs ≡ a ∷ b ∷ c ∷ d ∷ []
-four_is [] a b c d n p q r s = absurd (omega arith)
-four_is (x ∷ xs) a b c d n p q r s = ap₂ (λ y l. y ∷ l) (sym p) (three_is xs b c d (omega arith) q r s)
-
--- what holds of a list holds of the same list in other words
-pub on_same : {A B : Type 0} (result : Result A B) (P Q : Type 0) → (P → Q) → OnOk result P → OnOk result Q
-on_same (Ok a) P Q f h = f h
-on_same (Err e) P Q f h = h
+four_is {xs = []} low high p q r s = absurd (omega arith)
+four_is {xs = x ∷ xs} low high p q r s = ap₂ ◌∷◌ (sym p) (three_is {xs = xs} (omega arith) (omega arith) q r s)

@@ -93,7 +93,7 @@ module _ {S : Type 0} (store : Ghosts S) where
   one_ran text args a b (inl failed) = absurd (let bad = failed.1 in cc)
   one_ran text args a b (inr on) = (
     on.1,
-    subst (λ h. ExecutesInside 0 text args (state store a) (state store h) (Ok on.1)) (sym on.3.1) on.2.runs,
+    rw on.3.1 on.2.runs,
   )
 
   one_added : (l : Layout) (text : List ℕ) (id place : ℕ) (batch : List EntryModel) (a b : Held S)
@@ -102,8 +102,7 @@ module _ {S : Type 0} (store : Ghosts S) where
       → nodes b ≡ nodes a
   one_added l text id place batch a b adds schema ran =
       let one = one_ran text (Int (pos id) ∷ bound_entries place batch) a b ran in
-      (adds (state store a) (state store b) one.0 schema (executes_inside text _ (state store a) (state store b)
-      one.0 one.1).0).others.node (omega arith)
+      (adds _ _ one.0 schema (executes_inside text _ _ _ one.0 one.1).0).others.node (omega arith)
 
   all_added : (l : Layout) (id place : ℕ) (entries : List EntryModel) (a b : Held S)
       → (state store a).now.schema ≡ room_schema l
@@ -118,8 +117,8 @@ module _ {S : Type 0} (store : Ghosts S) where
       one_added l add_three_text id place (x ∷ y ∷ z ∷ []) a b (adds_three l id place x y z) schema ran
   all_added l id place (x ∷ y ∷ z ∷ w ∷ more) a b schema (inl failed) = absurd (let bad = failed.1 in cc)
   all_added l id place (x ∷ y ∷ z ∷ w ∷ more) a b schema (inr on) =
-      let it = adds_four l id place x y z w (state store a) (state store on.0) on.1 schema
-      (executes_inside add_four_text _ (state store a) (state store on.0) on.1 on.2.runs).0 in
+      let it = adds_four l id place x y z w _ (state store on.0) on.1 schema
+      (executes_inside add_four_text _ _ _ on.1 on.2.runs).0 in
       all_added l id (place + 4) more on.0 b it.schema on.3 ∙ it.others.node (omega arith)
 
   -- a node is put, by a number that is free or by any
@@ -129,14 +128,12 @@ module _ {S : Type 0} (store : Ghosts S) where
   node_after node true a b room ran = λ none.
       let name = unwrap_or node.name [] in
       let one = one_ran add_node_text (params_of_node node name) a b ran in
-      let it = node_added (state store a) (state store b) node name one.0 (λ r. has 0 node.id r ≡ true) room one.1 in
-      one_more node.id node.parent (row_of_node node name) (state store a).now.trees (state store b).now.trees refl
-      it.put none
+      let it = node_added _ _ node name one.0 (λ r. has 0 node.id r ≡ true) room one.1 in
+      one_more node.id node.parent (row_of_node node name) _ _ refl it.put none
   node_after node false a b room ran = λ none.
       let it = node_put store node (unwrap_or node.name []) a b room ran in
-      subst (λ rows. HasOneMore node.parent rows (nodes b)) it.1
-      (one_more node.id node.parent (row_of_node node (unwrap_or node.name [])) it.0 (state store b).now.trees refl
-      it.2 (subst (HasNone node.id) (sym it.1) none))
+      rw it.1 at (one_more node.id node.parent (row_of_node node (unwrap_or node.name [])) it.0 _ refl it.2
+      (rw it.1 none))
 
   -- entries are put, where the object has none or behind a DELETE
   entries_after : (id : ℕ) (entries : List EntryModel) (alone : Bool) (a b : Held S)
@@ -147,7 +144,7 @@ module _ {S : Type 0} (store : Ghosts S) where
   entries_after id entries true a b room ran = all_added room.layout id 0 entries a b room.schema ran
   entries_after id entries false a b room (inl failed) = absurd (let bad = failed.1 in cc)
   entries_after id entries false a b room (inr on) =
-      let it = drops_entries room.layout (state store a) (state store on.0) id on.1 room.schema room.keyed.entry
+      let it = drops_entries room.layout _ (state store on.0) id on.1 room.schema room.keyed.entry
       (executes_inside drop_entries_text _ _ _ on.1 on.2.runs).0 in
       all_added room.layout id 0 entries on.0 b it.schema on.3 ∙ it.others.node (omega arith)
 
@@ -157,7 +154,7 @@ module _ {S : Type 0} (store : Ghosts S) where
       → nodes b ≡ nodes a
   doc_after id bytes true a b room ran =
       let one = one_ran add_doc_text (doc_params id bytes) a b ran in
-      doc_new_leaves_nodes (state store a) (state store b) id bytes one.0 room one.1
+      doc_new_leaves_nodes _ _ id bytes one.0 room one.1
   doc_after id bytes false a b room ran = doc_leaves_nodes store id bytes a b room ran
 
   -- what the statements of a change do to the rows of nodes
@@ -169,15 +166,13 @@ module _ {S : Type 0} (store : Ghosts S) where
       entries_after id entries.items (is_bare object id) a b room ran
   nodes_after object (PutDoc id bytes) a b room ran = doc_after id bytes.items (lacks_doc object id) a b room ran
   nodes_after object (PutSession row) a b room ran =
-      let one = one_ran put_session_text
-      (Text row.sid ∷ Text row.owner ∷ Int (pos row.slots) ∷ Int (pos (flag_of row.is_open)) ∷ []) a b ran in
-      (puts_session room.layout (state store a) (state store b) row.sid row.owner row.slots (flag_of row.is_open) one.0
-      room.schema room.keyed.session (executes_inside put_session_text _ _ _ one.0 one.1).0).put.others.node
-      (omega arith)
+      let one = one_ran put_session_text _ a b ran in
+      (puts_session room.layout _ _ row.sid row.owner row.slots (flag_of row.is_open) one.0 room.schema
+      room.keyed.session (executes_inside put_session_text _ _ _ one.0 one.1).0).put.others.node (omega arith)
   nodes_after object (PutSlot row) a b room ran = slot_leaves_nodes store row a b room ran
   nodes_after object (DropSlots sid) a b room ran =
       let one = one_ran drop_slots_text (Text sid ∷ []) a b ran in
-      (drops_slots room.layout (state store a) (state store b) sid one.0 room.schema room.keyed.slots
+      (drops_slots room.layout _ _ sid one.0 room.schema room.keyed.slots
       (executes_inside drop_slots_text _ _ _ one.0 one.1).0).others.node (omega (arith, above room.layout))
   nodes_after object (PutNext next) a b room ran = (next_set store next a b ran room).nodes
 
@@ -186,5 +181,5 @@ module _ {S : Type 0} (store : Ghosts S) where
 -- one change more
 pub nodes_then : (changes : List Change) (change : Change) (a b c : List Row)
     → AfterAll changes a b → After change b c → AfterAll (changes ++ change ∷ []) a c
-nodes_then [] change a b c same last = (c, subst (λ l. After change l c) same last, refl)
+nodes_then [] change a b c same last = (c, rw same at last, refl)
 nodes_then (x ∷ xs) change a b c all last = (all.0, all.1, nodes_then xs change all.0 b c all.2 last)

@@ -32,90 +32,62 @@ module _ {S : Type 0} (store : Ghosts S) where
   Changed text args a b count = ExecutesInside 0 text args (state store a) (state store b) (Ok count)
 
   -- the UPDATE changed rows, or it changed none, and the INSERT ran behind it
-  abbrev OneOrBoth : List ℕ → List ℕ → Row → Held S → Held S → Type 0
-  OneOrBoth text other args a b = ((n : ℕ) × Changed text args a b (suc n))
-      ⊎ ((mid : Held S) × (n : ℕ) × Changed text args a mid 0 × Changed other args mid b n)
-
-  one_or_both : (text other : List ℕ) (args : Row) (a b c : Held S) (count : ℕ)
-      → Ran store (statement_or text other args) a c (Ok count) → c ≡ b → OneOrBoth text other args a b
-  one_or_both text other args a b c zero (inl one) same = absurd (one.1 refl)
-  one_or_both text other args a b c (suc n) (inl one) same =
-      inl (n, subst (λ h. Changed text args a h (suc n)) same one.0.runs)
-  one_or_both text other args a b c count (inr two) same = inr (
-    two.0,
-    count,
-    two.1.runs,
-    subst (λ h. Changed other args two.0 h count) same two.2.runs,
-  )
-
-  or_ran : (text other : List ℕ) (args : Row) (a b : Held S)
-      → RunInTurn store (statement_or text other args ∷ []) a b (Ok tt) → OneOrBoth text other args a b
+  or_ran : {P : Type 0} (text other : List ℕ) (args : Row) (a b : Held S)
+      → RunInTurn store (statement_or text other args ∷ []) a b (Ok tt)
+      → ((n : ℕ) → Changed text args a b (suc n) → P)
+      → ((mid : Held S) (n : ℕ) → Changed text args a mid 0 → Changed other args mid b n → P) → P
   unfolding RunInTurn
-  or_ran text other args a b (inl failed) = absurd (let bad = failed.1 in cc)
-  or_ran text other args a b (inr on) = one_or_both text other args a b on.0 on.1 on.2 (sym on.3.1)
+  or_ran {P = P} text other args a b (inl failed) one two = absurd (let bad = failed.1 in cc)
+  or_ran {P = P} text other args a b (inr on) one two = by_count on.1 on.2
+    where
+      by_count : (count : ℕ) → Ran store (statement_or text other args) a on.0 (Ok count) → P
+      by_count zero (inl ran) = absurd (ran.1 refl)
+      by_count (suc n) (inl ran) = one n (rw on.3.1 ran.0.runs)
+      by_count count (inr ran) = two ran.0 count ran.1.runs (rw on.3.1 ran.2.runs)
 
   pub slot_steps : (row : SlotRow) (a b : Held S) → RunInTurn store (slot_write row ∷ []) a b (Ok tt)
       → IsRoomDatabase (state store a).now → Steps (state store a) (state store b) (apply_change (PutSlot row))
-  slot_steps row a b ran room = elim (or_ran change_slot_text add_slot_text (row_values row) a b ran) [
-    | inl one ↦ steps_change_slot (state store a) (state store b) row one.0 room one.1
-    | inr two ↦ steps_add_slot (state store a) (state store two.0) (state store b) row two.1 room two.2 two.3
-  ]
+  slot_steps row a b ran room = or_ran _ _ _ a b ran (λ n one. steps_change_slot _ _ row n room one)
+      (λ mid n one two. steps_add_slot _ (state store mid) _ row n room one two)
 
   -- the rows of nodes stay as they are
   pub slot_leaves_nodes : (row : SlotRow) (a b : Held S) → IsRoomDatabase (state store a).now
       → RunInTurn store (slot_write row ∷ []) a b (Ok tt) → (state store b).now.trees 1 ≡ (state store a).now.trees 1
-  slot_leaves_nodes row a b room ran = elim (or_ran change_slot_text add_slot_text (row_values row) a b ran) [
-    | inl one ↦ change_leaves_nodes (state store a) (state store b) row one.0 room one.1
-    | inr two ↦ add_leaves_nodes (state store a) (state store two.0) (state store b) row two.1 room two.2 two.3
-  ]
+  slot_leaves_nodes row a b room ran = or_ran _ _ _ a b ran (λ n one. change_leaves_nodes _ _ row n room one)
+      (λ mid n one two. add_leaves_nodes _ (state store mid) _ row n room one two)
 
   pub node_steps : (node : Node) (name : List ℕ) (a b : Held S) → name_of_text name ≡ node.name
       → RunInTurn store (statement_or change_node_text add_node_text (params_of_node node name) ∷ []) a b (Ok tt)
       → IsRoomDatabase (state store a).now → Steps (state store a) (state store b) (apply_change (PutNode node))
   node_steps node name a b named ran room =
-      elim (or_ran change_node_text add_node_text (params_of_node node name) a b ran) [
-        | inl one ↦ steps_change_node (state store a) (state store b) node name one.0 room named one.1
-        | inr two ↦ steps_change_or_add (state store a) (state store two.0) (state store b) node name two.1 room named
-            two.2 two.3
-      ]
+      or_ran _ _ _ a b ran (λ n one. steps_change_node _ _ node name n room named one)
+      (λ mid n one two. steps_change_or_add _ (state store mid) _ node name n room named one two)
 
   -- a row of its number stands in the tree of nodes then, in the place of rows that had it
   pub node_put : (node : Node) (name : List ℕ) (a b : Held S) (room : IsRoomDatabase (state store a).now)
       → RunInTurn store (statement_or change_node_text add_node_text (params_of_node node name) ∷ []) a b (Ok tt)
       → (rows : Trees) × (rows 1 ≡ (state store a).now.trees 1) × Put room.layout 1 rows (state store b).now.trees
       (λ r. r ≡ row_of_node node name) (λ r. has 0 node.id r ≡ true)
-  node_put node name a b room ran =
-      elim (or_ran change_node_text add_node_text (params_of_node node name) a b ran) [
-        | inl one ↦ (
-          (state store a).now.trees,
-          refl,
-          (node_changed (state store a) (state store b) node name (suc one.0) room one.1).put,
-        )
-        | inr two ↦
-            let it = left_then_added (state store a) (state store two.0) (state store b) node name two.1
-            (λ r. has 0 node.id r ≡ true) room two.2 two.3 in
-            ((state store two.0).now.trees, it.0, it.1.put)
-      ]
+  node_put node name a b room ran = or_ran _ _ _ a b ran
+      (λ n one. ((state store a).now.trees, refl, (node_changed _ _ node name (suc n) room one).put))
+      (λ mid n one two.
+      let it = left_then_added _ (state store mid) _ node name n (λ r. has 0 node.id r ≡ true) room one two in
+      ((state store mid).now.trees, it.0, it.1.put))
 
   pub doc_steps : (id : ℕ) (bytes : Vec ℕ Global) (a b : Held S)
       → RunInTurn store (doc_write id bytes.items ∷ []) a b (Ok tt) → IsRoomDatabase (state store a).now
       → Steps (state store a) (state store b) (apply_change (PutDoc id bytes))
-  doc_steps id bytes a b ran room = elim (or_ran change_doc_text add_doc_text (doc_params id bytes.items) a b ran) [
-    | inl one ↦ steps_change_doc (state store a) (state store b) id bytes one.0 room one.1
-    | inr two ↦ steps_add_doc (state store a) (state store two.0) (state store b) id bytes two.1 room two.2 two.3
-  ]
+  doc_steps id bytes a b ran room = or_ran _ _ _ a b ran (λ n one. steps_change_doc _ _ id bytes n room one)
+      (λ mid n one two. steps_add_doc _ (state store mid) _ id bytes n room one two)
 
   pub doc_leaves_nodes : (id : ℕ) (bytes : List ℕ) (a b : Held S) → IsRoomDatabase (state store a).now
       → RunInTurn store (doc_write id bytes ∷ []) a b (Ok tt)
       → (state store b).now.trees 1 ≡ (state store a).now.trees 1
-  doc_leaves_nodes id bytes a b room ran = elim (or_ran change_doc_text add_doc_text (doc_params id bytes) a b ran) [
-    | inl one ↦ doc_change_leaves_nodes (state store a) (state store b) id bytes one.0 room one.1
-    | inr two ↦ doc_add_leaves_nodes (state store a) (state store two.0) (state store b) id bytes two.1 room two.2 two.3
-  ]
+  doc_leaves_nodes id bytes a b room ran = or_ran _ _ _ a b ran
+      (λ n one. doc_change_leaves_nodes _ _ id bytes n room one)
+      (λ mid n one two. doc_add_leaves_nodes _ (state store mid) _ id bytes n room one two)
 
   pub next_set : (n : ℕ) (a b : Held S) → RunInTurn store (next_write n ∷ []) a b (Ok tt)
       → IsRoomDatabase (state store a).now → SetsNext (state store a) (state store b) n
-  next_set n a b ran room = elim (or_ran change_next_text add_next_text (Int (pos n) ∷ []) a b ran) [
-    | inl one ↦ change_sets_next (state store a) (state store b) n one.0 room one.1
-    | inr two ↦ add_sets_next (state store a) (state store two.0) (state store b) n two.1 room two.2 two.3
-  ]
+  next_set n a b ran room = or_ran _ _ _ a b ran (λ count one. change_sets_next _ _ n count room one)
+      (λ mid count one two. add_sets_next _ (state store mid) _ n count room one two)

@@ -23,28 +23,24 @@ use Rattle.room_sql.specs.Frames.{QueryFrame}
 use Rattle.room_sql.specs.Taken.{SaysFirst, IsLeft, HasItsVersion, HasAnotherVersion}
 
 -- the number that was read is the one that is next
-pub next_is : (a b : Database) (rows : List Row) (next : ℕ) → b ≡ a
+pub next_is : {a b : Database} {next : ℕ} (rows : List Row) → b ≡ a
     → ((more : List Table) (others : List Index) → a.schema ≡ with_last more others
     → IsPermutation (next_rows a.trees) rows)
     → next ≡ unwrap_or (option_map (λ row. number_in (column row 0)) (only rows)) 0 → IsRoomOfVersion1 a
     → (records_of b.trees).objects.next ≡ next
-next_is a b rows next now read is room =
-    ap (λ (d : Database). (records_of d.trees).objects.next) now
-    ∙ sym (is ∙ ap (λ o. unwrap_or (option_map (λ row. number_in (column row 0)) o) 0)
-    (only_permuted _ _ (read (slot_table ∷ []) (slot_index ∷ []) room.schema)))
+next_is rows now read is room =
+    rw (now, is, only_permuted _ _ (read (slot_table ∷ []) (slot_index ∷ []) room.schema)) refl
 
 -- what a commit may leave, as seen before the rows were read
-pub may_be : (a b : Database) (next : ℕ) (db : Trees) → b ≡ a
+pub may_be : {a b : Database} {next : ℕ} (db : Trees) → b ≡ a
     → (IsRoomOfVersion1 a → (records_of b.trees).objects.next ≡ next) → MayBeMovedWith next b db → MayBeUpgraded a db
-may_be a b next db now is may room =
-    subst (λ (d : Database). MayBeUpgraded d db) now (may (is room)) room
+may_be db now is may room = (rw now at (may (is room))) room
 
-pub upgraded_from : (a b d : Database) (next : ℕ) → b ≡ a
+pub upgraded_from : {a b d : Database} {next : ℕ} → b ≡ a
     → (IsRoomOfVersion1 a → (records_of b.trees).objects.next ≡ next)
     → (IsRoomOfVersion1 b → (records_of b.trees).objects.next ≡ next → IsUpgraded b d)
     → IsRoomOfVersion1 a → IsUpgraded a d
-upgraded_from a b d next now is done room =
-    subst (λ (x : Database). IsUpgraded x d) now (done (subst IsRoomOfVersion1 (sym now) room) (is room))
+upgraded_from now is done room = rw now at (done (rw now room) (is room))
 
 -- what was told is what the database says of itself
 pub says : (old new : State) (rows : List Row) (P : List Row → Type 0)
@@ -104,9 +100,3 @@ no_version s none empty = record {
   second = λ l is. absurd (not_both s l none is);
   first = λ is. absurd (true≢false (sym has_slot ∙ sym (ap has_first_room is) ∙ empty));
 }
-
--- a query leaves all as it was
-pub left_by : {T : Type 0} (old new : State) (result : Result T Error) → QueryFrame old new result
-    → old.now ≡ old.committed → IsLeft old new
-left_by old new result frame settled =
-    record { same = λ clean is. frame.same clean is settled; crash = frame.crash }

@@ -1,11 +1,9 @@
 -- Statements in turn.
-use Rattle.std.proofs.Common.{◌≡◌, ◌⊎◌, ◌∙◌, ◌+◌, ◌<◌, ◌≤◌, ℕ, ℤ, suc, List, [], ◌∷◌, ◌++◌, length, get_or, min, drop}
+use Rattle.std.proofs.Common.{Option, ◌≡◌, ◌⊎◌, ◌∙◌, ◌+◌, ◌<◌, ◌≤◌, ℕ, ℤ, suc, List, [], ◌∷◌, ◌++◌, length, get_or}
+use Rattle.std.proofs.Common.{min, drop}
 use Rattle.std.proofs.Common.{unwrap_or, Result, Ok, Err, OnOk, IfErr, IsErr, IsErrAnd, inl, inr, refl, sym, ap, subst}
-use Rattle.std.proofs.Common.{Bool, arith}
-use Rattle.std.proofs.Math.Seq.{drop-cons}
-use Rattle.std.proofs.Math.Nat.{min-eq_left, min-eq_right, min-le_left}
-use Rattle.std.proofs.lemmas.Bool.{cases_lt}
-use Rattle.std.proofs.lemmas.List.{append-nil, length-append}
+use Rattle.std.proofs.Common.{Bool, arith, add-one, append-nil}
+use Rattle.std.proofs.lemmas.List.{drop_more}
 use Rattle.sqlite_value.specs.declared.value.Value.TheVariants.{Int}
 use Rattle.sqlite_value.specs.Order.{Row}
 use Rattle.sqlite_trees.specs.declared.store.Store.{Ghosts}
@@ -20,9 +18,9 @@ use Rattle.room_sql.specs.Causes.{Statement, statement, statement_or, RanText, R
 use Rattle.room_sql.specs.Causes.{all_moves, MovesRow, begun, MovesInTurn, FailsBy}
 
 -- what holds after an Ok
-pub ok_then : {X E : Type 0} (r : Result X E) (P Q : Type 0) → OnOk r P → (P → Q) → OnOk r Q
-ok_then (Ok x) P Q h f = f h
-ok_then (Err e) P Q h f = h
+pub ok_then : {X E P Q : Type 0} (r : Result X E) → OnOk r P → (P → Q) → OnOk r Q
+ok_then (Ok x) h f = f h
+ok_then (Err e) h f = h
 
 -- what holds of a result, if that is an Ok
 pub of_ok : {E : Type 0} (r : Result (Unit {0}) E) (P : Result (Unit {0}) E → Type 0) → P r → OnOk r (P (Ok tt))
@@ -34,14 +32,17 @@ both (Ok x) P Q p q = (p, q)
 both (Err e) P Q p q = tt
 
 -- an error that was passed on
-pub err_is : {X : Type 0} (e : Error) (r : Result X Error) → IsErr r → IsErrAnd r (λ f. f ≡ e) → r ≡ Err e
-err_is e (Ok x) err is = absurd cc
-err_is e (Err f) err is = ap Err is
+pub passed : {X : Type 0} {e : Error} (r : Result X Error) → IsErrAnd r (λ f. f ≡ e) → r ≡ Err e
+passed (Ok x) is = absurd is
+passed (Err f) is = ap Err is
 
 -- the text of a name, and the empty text for none
-pub name_back : (text : List ℕ) → unwrap_or (name_of_text text) [] ≡ text
+name_back : (text : List ℕ) → unwrap_or (name_of_text text) [] ≡ text
 name_back [] = refl
 name_back (b ∷ bytes) = refl
+
+pub name_is : {text : List ℕ} {name : Option (List ℕ)} → name_of_text text ≡ name → text ≡ unwrap_or name []
+name_is {text = text} is = sym (name_back text) ∙ rw is refl
 
 module _ {S : Type 0} (store : Ghosts S) where
   pub turn_none : (a : Held S) → RunInTurn store [] a a (Ok tt)
@@ -81,16 +82,11 @@ module _ {S : Type 0} (store : Ghosts S) where
   turn_or text other args a b c out none (inl failed) = inl (failed.0, failed.1, inr (b, none, failed.2))
   turn_or text other args a b c out none (inr on) = inr (on.0, on.1, inr (b, none, on.2), on.3)
 
-  -- the same parameters in other words
-  pub turn_as : (text : List ℕ) (args other : Row) (a b : Held S) (out : Result (Unit {0}) Error) → args ≡ other
-      → RunInTurn store (statement text args ∷ []) a b out → RunInTurn store (statement text other ∷ []) a b out
-  turn_as text args other a b out same ran = subst (λ row. RunInTurn store (statement text row ∷ []) a b out) same ran
-
   -- statements that ran, and then others
   pub turn_then : (xs ys : List Statement) (a b c : Held S) (out : Result (Unit {0}) Error)
       → RunInTurn store xs a b (Ok tt) → RunInTurn store ys b c out → RunInTurn store (xs ++ ys) a c out
   unfolding RunInTurn
-  turn_then [] ys a b c out first second = subst (λ h. RunInTurn store ys h c out) first.1 second
+  turn_then [] ys a b c out first second = rw first.1 at second
   turn_then (x ∷ xs) ys a b c out (inl failed) second = absurd (let bad = failed.1 in cc)
   turn_then (x ∷ xs) ys a b c out (inr on) second = inr (on.0, on.1, on.2, turn_then xs ys on.0 b c out on.3 second)
 
@@ -101,13 +97,6 @@ module _ {S : Type 0} (store : Ghosts S) where
   turn_stops [] ys a b e failed = absurd (let bad = failed.0 in cc)
   turn_stops (x ∷ xs) ys a b e (inl failed) = inl failed
   turn_stops (x ∷ xs) ys a b e (inr on) = inr (on.0, on.1, on.2, turn_stops xs ys on.0 b e on.3)
-
-  -- an error that was passed on
-  pub turn_passed : (xs ys : List Statement) (a b : Held S) (e : Error) (r : Result (Unit {0}) Error)
-      → IsErr r → IsErrAnd r (λ f. f ≡ e) → RunInTurn store xs a b (Err e) → RunInTurn store (xs ++ ys) a b r
-  turn_passed xs ys a b e (Ok x) err is ran = absurd cc
-  turn_passed xs ys a b e (Err f) err is ran =
-      subst (λ g. RunInTurn store (xs ++ ys) a b (Err g)) (sym is) (turn_stops xs ys a b e ran)
 
   -- ---- rows that are moved
 
@@ -121,37 +110,24 @@ module _ {S : Type 0} (store : Ghosts S) where
       → RunInTurn store (row_moves ids) a b (Ok tt) → RunInTurn store (row_moves (id ∷ [])) b c out
       → RunInTurn store (row_moves (ids ++ id ∷ [])) a c out
   one_more ids id a b c out first second =
-      subst (λ l. RunInTurn store l a c out) (sym (moves_append ids (id ∷ [])))
-      (turn_then (row_moves ids) (row_moves (id ∷ [])) a b c out first second)
-
-  -- a row's move whose statement failed, by an error that was passed on
-  pub row_fails : (id : ℤ) (a b : Held S) (e : Error) (r : Result Bool Error)
-      → IsErr r → IsErrAnd r (λ f. f ≡ e) → RunInTurn store (row_moves (id ∷ [])) a b (Err e) → MovesRow store a b r
-  row_fails id a b e r err is ran = subst (MovesRow store a b) (sym (err_is e r err is)) (id, inl ran)
+      rw (moves_append ids (id ∷ [])) (turn_then (row_moves ids) (row_moves (id ∷ [])) a b c out first second)
 
   -- a row's move that failed after others
   pub move_fails : (ids : List ℤ) (a b c : Held S) (e : Error)
       → RunInTurn store (row_moves ids) a b (Ok tt) → MovesRow store b c (Err e) → MovesInTurn store [] [] a c (Err e)
-  move_fails ids a b c e first (id, inl ran) =
-      let all = ids ++ id ∷ [] in (
-        all,
-        inl
-            (subst (λ l. RunInTurn store l a c (Err e)) (sym (append-nil (all_moves all)))
-            (turn_stops (row_moves all) (statement copy_row_text [] ∷ []) a c e
-            (one_more ids id a b c (Err e) first ran))),
-      )
+  move_fails ids a b c e first (id, inl ran) = (
+    ids ++ id ∷ [],
+    inl (rw append-nil (turn_stops (row_moves (ids ++ id ∷ [])) _ a c e
+        (one_more ids id a b c (Err e) first ran))),
+  )
   move_fails ids a b c e first (id, inr other) =
       (ids ++ id ∷ [], inr (inr (other.0, other.1), one_more ids id a b c (Ok tt) first other.2))
 
   -- none was left
   pub moves_end : (ids : List ℤ) (a b c : Held S) → RunInTurn store (row_moves ids) a b (Ok tt)
       → RunInTurn store (all_moves []) b c (Ok tt) → MovesInTurn store [] [] a c (Ok tt)
-  moves_end ids a b c first second = (
-    ids,
-    inl
-        (subst (λ l. RunInTurn store l a c (Ok tt)) (sym (append-nil (all_moves ids)))
-        (turn_then (row_moves ids) (all_moves []) a b c (Ok tt) first second)),
-  )
+  moves_end ids a b c first second =
+      (ids, inl (rw append-nil (turn_then (row_moves ids) (all_moves []) a b c (Ok tt) first second)))
 
   -- a statement before
   pub moves_after : (s : Statement) (after : List Statement) (a b c : Held S) (out : Result (Unit {0}) Error)
@@ -162,105 +138,60 @@ module _ {S : Type 0} (store : Ghosts S) where
   moves_after s after a b c out first (ids, inr stops) =
       (ids, inr (stops.0, turn_then (s ∷ []) (row_moves ids) a b c (Ok tt) first stops.1))
 
-  pub moves_stop : (s : Statement) (after : List Statement) (a b : Held S) (e : Error) (r : Result (Unit {0}) Error)
-      → IsErr r → IsErrAnd r (λ f. f ≡ e) → RunInTurn store (s ∷ []) a b (Err e)
-      → MovesInTurn store (s ∷ []) after a b r
-  moves_stop s after a b e r err is ran =
-      ([], inl (turn_passed (s ∷ []) (all_moves [] ++ after) a b e r err is ran))
+  pub moves_stop : (s : Statement) (after : List Statement) (a b : Held S) (e : Error)
+      → RunInTurn store (s ∷ []) a b (Err e) → MovesInTurn store (s ∷ []) after a b (Err e)
+  moves_stop s after a b e ran = ([], inl (turn_stops (s ∷ []) (all_moves [] ++ after) a b e ran))
 
   -- statements behind
   pub moves_then : (s : Statement) (after : List Statement) (a b c : Held S) (out : Result (Unit {0}) Error)
       → MovesInTurn store (s ∷ []) [] a b (Ok tt) → RunInTurn store after b c out
       → MovesInTurn store (s ∷ []) after a c out
   moves_then s after a b c out (ids, inl ran) second =
-      let first = subst (λ l. RunInTurn store (s ∷ l) a b (Ok tt)) (append-nil (all_moves ids)) ran in
-      (ids, inl (turn_then (s ∷ all_moves ids) after a b c out first second))
+      (ids, inl (turn_then (s ∷ all_moves ids) after a b c out (rw append-nil at ran) second))
   moves_then s after a b c out (ids, inr stops) second = absurd stops.0
 
   pub moves_passed : (s : Statement) (after : List Statement) (a b : Held S) (e : Error)
       → MovesInTurn store (s ∷ []) [] a b (Err e) → MovesInTurn store (s ∷ []) after a b (Err e)
   moves_passed s after a b e (ids, inl ran) =
-      let first = subst (λ l. RunInTurn store (s ∷ l) a b (Err e)) (append-nil (all_moves ids)) ran in
-      (ids, inl (turn_stops (s ∷ all_moves ids) after a b e first))
+      (ids, inl (turn_stops (s ∷ all_moves ids) after a b e (rw append-nil at ran)))
   moves_passed s after a b e (ids, inr stops) = (ids, inr stops)
 
-  -- ---- transactions
+-- ---- transactions
 
+module _ {S : Type 0} {store : Ghosts S} {InTurn : Held S → Held S → Result (Unit {0}) Error → Type 0}
+    {old tx new : Held S} {e : Error} (is : tx ≡ begun store old) (last : Held S) where
   -- one that was undone on the way, and one whose end failed
-  pub write_failed : (InTurn : Held S → Held S → Result (Unit {0}) Error → Type 0)
-      (old tx last new : Held S) (e : Error) → tx ≡ begun store old → InTurn tx last (Err e)
-      → IsRolledBack (state store last) (state store new)
+  pub write_failed : InTurn tx last (Err e) → IsRolledBack (state store last) (state store new)
       → Survives (state store last) (state store new) (λ _. ⊥) → FailsBy store InTurn old new e
-  write_failed InTurn old tx last new e is ran undone survives = record {
+  write_failed ran undone survives = record {
     last = last;
     outcome = Err e;
-    ran = subst (λ h. InTurn h last (Err e)) is ran;
+    ran = rw is at ran;
     counts = survives.counts;
     cause = inl (refl, undone);
   }
 
-  pub end_failed : (InTurn : Held S → Held S → Result (Unit {0}) Error → Type 0) (old tx last new : Held S) (e : Error)
-      → tx ≡ begun store old → InTurn tx last (Ok tt)
-      → FailsToCommit (state store last) (state store new) e
+  pub end_failed : InTurn tx last (Ok tt) → FailsToCommit (state store last) (state store new) e
       → (state store last).faults ≤ (state store new).faults → FailsBy store InTurn old new e
-  end_failed InTurn old tx last new e is ran failed counts = record {
+  end_failed ran failed counts = record {
     last = last;
     outcome = Ok tt;
-    ran = subst (λ h. InTurn h last (Ok tt)) is ran;
+    ran = rw is at ran;
     counts = counts;
     cause = inr (refl, failed);
   }
 
-pub err_passed : {X : Type 0} (e : Error) (r : Result X Error) (P : Error → Type 0)
-    → IsErr r → IsErrAnd r (λ f. f ≡ e) → P e → IfErr r P
-err_passed e (Ok x) P err is p = absurd cc
-err_passed e (Err f) P err is p = subst P (sym is) p
-
-pub no_more : {X : Type 0} (xs : List X) → length xs ≡ 0 → xs ≡ []
-no_more [] none = refl
-no_more (x ∷ xs) none = absurd (omega arith)
-
--- a chunk off the front is whole, or nothing is left behind it
-pub chunk_ends : {X : Type 0} (batch more : List X)
-    → length batch ≡ min 4 (length (batch ++ more)) → (length batch ≡ 4) ⊎ (length more ≡ 0)
-chunk_ends batch more len =
-    let total = length (batch ++ more) in
-    elim (cases_lt 3 total) [
-      | inl long ↦ let whole : min 4 total ≡ 4 = min-eq_left (omega (arith, long)) in inl (len ∙ whole)
-      | inr short ↦ let all : min 4 total ≡ total = min-eq_right (omega (arith, short)) in
-          inr (omega (arith, len, all, length-append batch more))
-    ]
-
-pub min_most : {X : Type 0} (batch more : List X) → length batch ≡ min 4 (length (batch ++ more)) → length batch ≤ 4
-min_most batch more len = omega (arith, len, min-le_left 4 (length (batch ++ more)))
-
-pub chunk_some : {X : Type 0} (batch more : List X)
-    → length batch ≡ min 4 (length (batch ++ more)) → 0 < length (batch ++ more) → 0 < length batch
-chunk_some batch more len some = elim (chunk_ends batch more len) [
-  | inl whole ↦ omega (arith, whole)
-  | inr none ↦ omega (arith, none, some, length-append batch more)
-]
-
 -- the statements of the next entries, up to four, and then those of the rest
 pub next_writes : (id place : ℕ) (batch more : List EntryModel)
-    → 0 < length batch → length batch ≤ 4 → (length batch ≡ 4) ⊎ (length more ≡ 0)
+    → length batch ≡ min 4 (length (batch ++ more)) → 0 < length (batch ++ more)
     → entry_writes id place (batch ++ more) ≡ entry_writes id place batch ++ entry_writes id (place + length batch) more
-next_writes id place [] more some few ends = absurd (omega arith)
-next_writes id place (a ∷ []) [] some few ends = refl
-next_writes id place (a ∷ []) (x ∷ more) some few (inl e) = absurd (omega arith)
-next_writes id place (a ∷ []) (x ∷ more) some few (inr e) = absurd (omega arith)
-next_writes id place (a ∷ b ∷ []) [] some few ends = refl
-next_writes id place (a ∷ b ∷ []) (x ∷ more) some few (inl e) = absurd (omega arith)
-next_writes id place (a ∷ b ∷ []) (x ∷ more) some few (inr e) = absurd (omega arith)
-next_writes id place (a ∷ b ∷ c ∷ []) [] some few ends = refl
-next_writes id place (a ∷ b ∷ c ∷ []) (x ∷ more) some few (inl e) = absurd (omega arith)
-next_writes id place (a ∷ b ∷ c ∷ []) (x ∷ more) some few (inr e) = absurd (omega arith)
-next_writes id place (a ∷ b ∷ c ∷ d ∷ []) more some few ends = refl
-next_writes id place (a ∷ b ∷ c ∷ d ∷ e ∷ batch) more some few ends = absurd (omega arith)
+next_writes id place (a ∷ []) [] len some = refl
+next_writes id place (a ∷ b ∷ []) [] len some = refl
+next_writes id place (a ∷ b ∷ c ∷ []) [] len some = refl
+next_writes id place (a ∷ b ∷ c ∷ d ∷ []) more len some = refl
+next_writes id place batch more len some = absurd (omega arith)
 
 -- the next change, and those behind it
 pub next_change : {X : Type 0} (k : ℕ) (xs : List X) (x : X)
     → k < length xs → x ≡ get_or xs k x → drop k xs ≡ x ∷ drop (k + 1) xs
-next_change k xs x within is =
-    let more : suc k ≡ k + 1 = omega arith in
-    drop-cons xs k x within ∙ ap (λ y. y ∷ drop (suc k) xs) (sym is) ∙ ap (λ n. x ∷ drop n xs) more
+next_change k xs x within is = drop_more xs k x within ∙ rw (← is) refl

@@ -1,22 +1,15 @@
 use Rattle.std.proofs.lemmas.Result.{IfOk-weaker}
-use Rattle.sqlite.specs.Held.{state}
-use Rattle.room_tables.specs.Texts.{find_node_text}
 use Rattle.room_tables.proofs.Selects.{find_node_selects}
 use Rattle.room_tables.proofs.Asks.{asks_node}
-use Rattle.room_sql.proofs.Frames.{query_frame}
+use Rattle.room_sql.proofs.Frames.{asked}
 use Rattle.room_sql.proofs.reads.node_rows.Goals as goal
+
+pub returns-clause-answered : goal.returns-clause-answered
+returns-clause-answered g c =
+    rw c.params-to_sql.ensures at (asked find_node_selects c.query_all.ensures.ok c.query_all.ensures.err
+    c.query_all.ensures.mode c.query_all.ensures.survives)
 
 pub returns-clause-rows : goal.returns-clause-rows
 returns-clause-rows g c clean room =
-    IfOk-weaker c.query_all.result _ _ (λ rows h. asks_node (state g.S.Store c.args.conn.now)
-    (state g.S.Store c.query_all.new.self) c.args.id rows.items room h)
-    (rw (c.params-to_sql.ensures) at (c.query_all.ensures.ok clean))
-
-pub returns-clause-answered : goal.returns-clause-answered
-returns-clause-answered g c = record {
-  frame = query_frame find_node_text _ (state g.S.Store c.args.conn.now) (state g.S.Store c.query_all.new.self)
-      c.query_all.result find_node_selects c.query_all.ensures.ok c.query_all.ensures.err c.query_all.ensures.mode
-      c.query_all.ensures.survives;
-  shown = λ clean. rw (c.params-to_sql.ensures) at (c.query_all.ensures.ok clean);
-  failed = λ clean. rw (c.params-to_sql.ensures) at (c.query_all.ensures.err clean);
-}
+    IfOk-weaker c.query_all.result _ _ (λ rows h. asks_node _ _ c.args.id rows.items room h)
+    ((returns-clause-answered g c).shown clean)

@@ -9,15 +9,14 @@ use Rattle.room_acl.specs.declared.subject.Kind.{Kind}
 use Rattle.room_records.specs.Names.{Name}
 use Rattle.room_tables.specs.Rows.{listed_of}
 use Rattle.room_sql.specs.Columns.{IsFault, IsNameRow}
-use Rattle.room_sql.proofs.Turns.{err_passed}
+use Rattle.room_sql.proofs.Turns.{passed}
 use Rattle.room_sql.proofs.rows.all_names.Goals as goal
 use Rattle.room_sql.proofs.rows.all_names.Goals.{in-Some+in_ok-push, in_default}
 
 pub returns-in_err-listed-clause-refused : goal.returns-in_err-listed-clause-refused
 returns-in_err-listed-clause-refused c =
-    err_passed _ c.from_residual.result (λ e. IsFault e → ¬ AllByRecursion IsNameRow c.args.rows.now)
-    c.from_residual.ensures.0 c.from_residual.ensures.1
-    (λ fault each. c.in_err-listed.ensures.refused fault (subst IsNameRow (sym c.row-item.is)
+    rw (passed c.from_residual.result c.from_residual.ensures.1)
+    (λ fault each. c.in_err-listed.ensures.refused fault (rw c.row-item.is
     (all-get_or IsNameRow c.args.rows.now c.loop-row.row-index c.row-item.result each (omega arith))))
 
 -- one row more

@@ -2,12 +2,11 @@ use Rattle.std.proofs.Common.{sym, subst, arith}
 use Rattle.std.specs.List.{AllByRecursion}
 use Rattle.sqlite_trees.proofs.ListLemmas.{all-get_or}
 use Rattle.room_sql.specs.Columns.{IsFault, IsNodeRow}
-use Rattle.room_sql.proofs.Turns.{err_passed}
+use Rattle.room_sql.proofs.Turns.{passed}
 use Rattle.room_sql.proofs.rows.all_nodes.Goals as goal
 
 pub returns-in_err-node_of-clause-refused : goal.returns-in_err-node_of-clause-refused
 returns-in_err-node_of-clause-refused c =
-    err_passed _ c.from_residual.result (λ e. IsFault e → ¬ AllByRecursion IsNodeRow c.args.rows.now)
-    c.from_residual.ensures.0 c.from_residual.ensures.1
-    (λ fault each. c.in_err-node_of.ensures.refused fault (subst IsNodeRow (sym c.row-item.is)
+    rw (passed c.from_residual.result c.from_residual.ensures.1)
+    (λ fault each. c.in_err-node_of.ensures.refused fault (rw c.row-item.is
     (all-get_or IsNodeRow c.args.rows.now c.loop-row.row-index c.row-item.result each (omega arith))))

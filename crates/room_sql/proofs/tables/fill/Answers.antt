@@ -1,19 +1,16 @@
-use Rattle.std.proofs.Common.{◌∙◌, ap, arith}
-use Rattle.sqlite.specs.State.{HasCleanDisk}
-use Rattle.sqlite.specs.Held.{state}
+use Rattle.std.proofs.Common.{◌∙◌, ap}
 use Rattle.room_records.specs.declared.change.Change.TheVariants.{PutEntries, PutNext}
 use Rattle.room_records.specs.Changes.{apply_change}
+use Rattle.room_sql.proofs.Frames.{was_clean}
 use Rattle.room_sql.proofs.Turns.{ok_then, both}
 use Rattle.room_sql.proofs.tables.fill.Goals as goal
 
 pub returns-clause-ok : goal.returns-clause-ok
 returns-clause-ok g c clean =
-    let mid = state g.S.Store c.put_entries.new.tx.conn.now in
-    let first = state g.S.Store c.put_node.new.tx.conn.now in
-    let late : HasCleanDisk mid = omega (arith, c.put_next.ensures.frame.crash.clean) in
-    let early : HasCleanDisk first = omega (arith, c.put_entries.ensures.frame.crash.clean) in
+    let late = was_clean c.put_next.ensures.frame.crash clean in
+    let early = was_clean c.put_entries.ensures.frame.crash late in
     let put = both c.put_next.result _ _ (c.put_next.ensures.ok clean) (c.put_next.ensures.beside clean) in
-    ok_then c.put_next.result _ _ put (λ all room.
+    ok_then c.put_next.result put (λ all room.
     let one = c.in_ok-put_node.ensures.ok early room in
     let two = c.in_ok-put_entries.ensures.ok late one.room in
     let three = all.0 two.room in (

@@ -1,4 +1,3 @@
-use Rattle.sqlite.specs.Held.{state}
 use Rattle.room_tables.proofs.Changes.{was_inside}
 use Rattle.room_tables.proofs.Creates.{doc_step}
 use Rattle.room_sql.proofs.tables.make_doc.Goals as goal
@@ -6,5 +5,4 @@ use Rattle.room_sql.proofs.tables.make_doc.Goals as goal
 pub returns-clause-ok : goal.returns-clause-ok
 returns-clause-ok g c clean =
     let inside = was_inside _ _ c.in_ok-execute.field-0 _ _ c.execute.ensures.ended c.in_ok-execute.was in
-    doc_step (state g.S.Store c.args.tx.now.conn.now) (state g.S.Store c.execute.new.self.conn.now)
-    c.in_ok-execute.field-0 (c.in_ok-execute.ensures.runs clean inside)
+    doc_step _ _ c.in_ok-execute.field-0 (c.in_ok-execute.ensures.runs clean inside)

@@ -1,4 +1,3 @@
-use Rattle.sqlite.specs.Held.{state}
 use Rattle.room_tables.proofs.Changes.{executes_inside}
 use Rattle.room_tables.proofs.Creates.{kept_step}
 use Rattle.room_tables.proofs.Moves.{widens}
@@ -7,14 +6,8 @@ use Rattle.room_sql.proofs.tables.make_kept.Goals as goal
 
 pub returns-clause-ok : goal.returns-clause-ok
 returns-clause-ok g c clean =
-    ok_then c.run.result _ _ (c.run.ensures.done clean) (λ ran.
-    kept_step (state g.S.Store c.args.tx.now.conn.now) (state g.S.Store c.run.new.tx.conn.now) ran.0 ran.1)
+    ok_then c.run.result (c.run.ensures.done clean) (λ ran. kept_step _ _ ran.0 ran.1)
 
 pub returns-clause-beside : goal.returns-clause-beside
-returns-clause-beside g c clean =
-    let old = state g.S.Store c.args.tx.now.conn.now in
-    let new = state g.S.Store c.run.new.tx.conn.now in
-    ok_then c.run.result _ _ (c.run.ensures.done clean) (λ ran. (
-      (executes_inside _ _ old new ran.0 ran.1).1.was_open,
-      widens old new ran.0 ran.1,
-    ))
+returns-clause-beside g c clean = ok_then c.run.result (c.run.ensures.done clean)
+    (λ ran. ((executes_inside _ _ _ _ ran.0 ran.1).1.was_open, widens _ _ ran.0 ran.1))

@@ -1,9 +1,7 @@
-use Rattle.sqlite.specs.Held.{state}
 use Rattle.room_tables.proofs.Moves.{copied}
 use Rattle.room_sql.proofs.Turns.{ok_then}
 use Rattle.room_sql.proofs.upgrade.copy_row.Goals as goal
 
 pub returns-clause-ok : goal.returns-clause-ok
 returns-clause-ok g c clean =
-    ok_then c.run.result _ _ (c.run.ensures.done clean) (λ ran before.
-    copied before (state g.S.Store c.args.tx.now.conn.now) (state g.S.Store c.run.new.tx.conn.now) ran.0 ran.1)
+    ok_then c.run.result (c.run.ensures.done clean) (λ ran before. copied before _ _ ran.0 ran.1)

@@ -6,7 +6,7 @@ returns-clause-inside g c clean = statement_inside _ c.execute.result _ _ c.exec
 
 pub returns-clause-frame : goal.returns-clause-frame
 returns-clause-frame g c =
-    statement_ran g.S.Store _ _ _ _ _ _ c.execute.ensures.same_reference c.execute.ensures.ended
+    statement_ran _ _ c.execute.ensures.same_reference c.execute.ensures.ended
     c.execute.ensures.runs c.execute.ensures.survives
 
 pub returns-clause-ran : goal.returns-clause-ran

@@ -1,13 +1,11 @@
-use Rattle.sqlite.specs.Held.{state}
 use Rattle.room_tables.proofs.Slots.{steps_drop_slots}
 use Rattle.room_sql.proofs.Turns.{ok_then}
 use Rattle.room_sql.proofs.writes.drop_slots.Goals as goal
 
 pub returns-clause-ok : goal.returns-clause-ok
 returns-clause-ok g c clean =
-    ok_then c.run.result _ _ (c.run.ensures.done clean) (λ ran room.
-    steps_drop_slots (state g.S.Store c.args.tx.now.conn.now)
-    (state g.S.Store c.run.new.tx.conn.now) c.args.sid.now ran.0 room
+    ok_then c.run.result (c.run.ensures.done clean) (λ ran room.
+    steps_drop_slots _ _ c.args.sid.now ran.0 room
     (rw (c.params-to_sql.ensures, c.text-sid.ensures.value) at ran.1))
 
 pub returns-clause-ran : goal.returns-clause-ran

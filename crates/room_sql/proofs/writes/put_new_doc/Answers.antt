@@ -1,13 +1,12 @@
-use Rattle.sqlite.specs.Held.{state}
 use Rattle.room_tables.proofs.Effects.{steps_new_doc}
 use Rattle.room_sql.proofs.Turns.{ok_then}
 use Rattle.room_sql.proofs.writes.put_new_doc.Goals as goal
 
 pub returns-clause-ok : goal.returns-clause-ok
 returns-clause-ok g c clean =
-    ok_then c.run.result _ _ (c.run.ensures.done clean) (λ ran room.
-    steps_new_doc (state g.S.Store c.args.tx.now.conn.now) (state g.S.Store c.run.new.tx.conn.now)
-    c.args.id c.args.bytes.now ran.0 room (rw (c.params-to_sql.ensures, c.params-to_sql-2.ensures) at ran.1))
+    ok_then c.run.result (c.run.ensures.done clean) (λ ran room.
+    steps_new_doc _ _ c.args.id c.args.bytes.now ran.0 room (rw
+    (c.params-to_sql.ensures, c.params-to_sql-2.ensures) at ran.1))
 
 pub returns-clause-ran : goal.returns-clause-ran
 returns-clause-ran g c clean inside =

@@ -1,27 +1,16 @@
-use Rattle.sqlite.specs.Held.{state}
+use Rattle.std.proofs.Common.{◌≡◌, [], ◌∷◌, refl, pos}
+use Rattle.sqlite_value.specs.declared.value.Value.TheVariants.{Int, Text}
+use Rattle.sqlite.specs.Values.{bound}
+use Rattle.room_tables.specs.Steps.{flag_of}
 use Rattle.room_tables.proofs.Sessions.{steps_session}
+use Rattle.room_sql.specs.Causes.{session_write}
 use Rattle.room_sql.proofs.Turns.{ok_then}
+use Rattle.room_sql.proofs.writes.put_session.Given.{Over}
 use Rattle.room_sql.proofs.writes.put_session.Goals as goal
 
-pub returns-clause-ok : goal.returns-clause-ok
-returns-clause-ok g c clean =
-    ok_then c.run.result _ _ (c.run.ensures.done clean) (λ ran room.
-    steps_session (state g.S.Store c.args.tx.now.conn.now)
-    (state g.S.Store c.run.new.tx.conn.now) c.args.row.now ran.0 room
-    (rw (
-      c.params-to_sql.ensures,
-      c.params-to_sql-2.ensures,
-      c.params-to_sql-3.ensures,
-      c.params-to_sql-4.ensures,
-      c.text-sid.ensures.value,
-      c.text-owner.ensures.value,
-      c.get-slots.ensures.value,
-      c.flag_number-is_open.ensures,
-    )
-    at ran.1))
-
-pub returns-clause-ran : goal.returns-clause-ran
-returns-clause-ran g c clean inside = rw (
+params : (g : Over) (c : goal.After-run g) → bound (c.params-to_sql.result ∷ c.params-to_sql-2.result
+    ∷ c.params-to_sql-3.result ∷ c.params-to_sql-4.result ∷ []) ≡ (session_write c.args.row.now).args
+params g c = rw (
   c.params-to_sql.ensures,
   c.params-to_sql-2.ensures,
   c.params-to_sql-3.ensures,
@@ -30,4 +19,11 @@ returns-clause-ran g c clean inside = rw (
   c.text-owner.ensures.value,
   c.get-slots.ensures.value,
   c.flag_number-is_open.ensures,
-) at (c.run.ensures.ran clean inside)
+) refl
+
+pub returns-clause-ok : goal.returns-clause-ok
+returns-clause-ok g c clean = ok_then c.run.result (c.run.ensures.done clean)
+    (λ ran room. steps_session _ _ c.args.row.now ran.0 room (rw (params g c) at ran.1))
+
+pub returns-clause-ran : goal.returns-clause-ran
+returns-clause-ran g c clean inside = rw (params g c) at (c.run.ensures.ran clean inside)

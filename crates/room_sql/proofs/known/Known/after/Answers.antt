@@ -1,8 +1,6 @@
-use Rattle.std.proofs.Common.{◌≡◌, length, drop, sym, subst, arith}
-use Rattle.std.proofs.lemmas.List.{length-drop}
-use Rattle.room_sql.specs.NodeRows.{AfterAll}
-use Rattle.room_sql.specs.Known.{IsRight}
-use Rattle.room_sql.proofs.Turns.{next_change, no_more}
+use Rattle.std.proofs.Common.{◌≡◌, ◌<◌, length, drop, arith}
+use Rattle.std.proofs.lemmas.List.{length-drop, nil_from_length}
+use Rattle.room_sql.proofs.Turns.{next_change}
 use Rattle.room_sql.proofs.known.Known.after.Goals as goal
 
 pub loop-change-preserved : goal.loop-change-preserved
@@ -11,8 +9,8 @@ loop-change-preserved c = record {
       let xs = c.args.changes.now in
       let k = c.loop-change.change-index in
       let was = c.loop-change.invariant.right old new right all in
-      let next = subst (λ l. AfterAll l was.0 new)
-      (next_change k xs c.change-item.result (omega arith) c.change-item.is) was.2 in
+      let within : k < length xs = omega arith in
+      let next = rw (next_change k xs c.change-item.result within c.change-item.is) at was.2 in
       (next.0, c.after_one-known.ensures was.0 next.0 was.1 next.1, next.2);
 }
 
@@ -22,5 +20,4 @@ returns c old new right all =
     let k = c.loop-change.change-index in
     let was = c.loop-change.invariant.right old new right all in
     let none : length (drop k xs) ≡ 0 = omega (arith, length-drop k xs) in
-    subst (IsRight c.loop-change.known)
-    (sym (subst (λ l. AfterAll l was.0 new) (no_more (drop k xs) none) was.2)) was.1
+    rw (rw (nil_from_length (drop k xs) none) at was.2) was.1

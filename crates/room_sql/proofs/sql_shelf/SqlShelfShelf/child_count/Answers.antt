@@ -15,8 +15,8 @@ returns-in-Some-clause-value g c available laid_out rules =
 
 pub returns-in-Err-clause-frame : goal.returns-in-Err-clause-frame
 returns-in-Err-clause-frame g c =
-    read_err g.S.Store c.args.self.now.conn c.count_rows.new.conn c.args.self.now.failures _ c.args.self.now.known _
-    _ _ c.in-Err.ensures.answered.frame (λ is. c.is_autocommit-outside.ensures.settled
+    read_err g.S.Store c.args.self.now.conn c.count_rows.new.conn c.in-Err.ensures.answered.frame
+    (λ is. c.is_autocommit-outside.ensures.settled
     (c.is_autocommit-outside.ensures.value ∙ ap not c.args.self.now.outside) is) c.fault.ensures.forgotten
     c.fault.ensures.never_falls c.fault.ensures.quiet c.fault.ensures.counted
 
@@ -28,13 +28,12 @@ returns-in-Ok-one_count-clause-value g c available laid_out rules =
 
 pub returns-in-Ok-one_count-clause-frame : goal.returns-in-Ok-one_count-clause-frame
 returns-in-Ok-one_count-clause-frame g c =
-    read_ok g.S.Store c.args.self.now.conn c.count_rows.new.conn c.args.self.now.failures c.args.self.now.known _ _
-    c.in-Ok.ensures.answered.frame (λ clean room right. c.with_count-self.ensures _ right
+    read_ok g.S.Store c.args.self.now.conn c.count_rows.new.conn c.in-Ok.ensures.answered.frame
+    (λ clean room right. c.with_count-self.ensures _ right
     (c.in-Ok-one_count.ensures.value _ (c.as_slice.ensures.value ∙ c.in-Ok.ensures.rows clean room.room)
     ∙ length-map _ shown_node))
 
 pub returns-clause-cause : goal.returns-clause-cause
 returns-clause-cause g c clean is =
-    unread _ _ _ _ c.in-Ok.rows.items c.as_slice.result.now _ c.in-Err-one_count.error c.fault-in-Err-one_count.result
-    (c.in-Ok.ensures.answered.shown clean) c.as_slice.ensures.value
-    c.in-Err-one_count.ensures.refused c.fault-in-Err-one_count.ensures.exact is
+    unread c.in-Ok.ensures.answered clean c.as_slice.ensures.value c.in-Err-one_count.ensures.refused
+    c.fault-in-Err-one_count.ensures.exact is

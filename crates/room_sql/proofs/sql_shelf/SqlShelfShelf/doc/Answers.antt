@@ -1,4 +1,4 @@
-use Rattle.std.proofs.Common.{◌∙◌, ap, option_map, unwrap_or, []}
+use Rattle.std.proofs.Common.{refl, ◌∙◌, ap, option_map, unwrap_or, []}
 use Rattle.room_tables.specs.Rows.{only, doc_of}
 use Rattle.room_tables.proofs.Queries.{only_permuted}
 use Rattle.room_sql.proofs.Unread.{unread}
@@ -6,11 +6,10 @@ use Rattle.room_sql.proofs.sql_shelf.SqlShelfShelf.doc.Goals as goal
 
 pub returns-in-Ok-one_doc-clause-value : goal.returns-in-Ok-one_doc-clause-value
 returns-in-Ok-one_doc-clause-value g c available laid_out =
-    c.in-Ok-one_doc.ensures.value ∙ ap (λ o. unwrap_or (option_map doc_of o) [])
-    (ap only c.as_slice.ensures.value ∙ only_permuted _ _ (c.in-Ok.ensures.rows available.0 laid_out.0.room))
+    c.in-Ok-one_doc.ensures.value
+    ∙ rw (c.as_slice.ensures.value, only_permuted _ _ (c.in-Ok.ensures.rows available.0 laid_out.0.room)) refl
 
 pub returns-clause-cause : goal.returns-clause-cause
 returns-clause-cause g c clean is =
-    unread _ _ _ _ c.in-Ok.rows.items c.as_slice.result.now _ c.in-Err-one_doc.error c.fault-in-Err-one_doc.result
-    (c.in-Ok.ensures.answered.shown clean) c.as_slice.ensures.value
-    c.in-Err-one_doc.ensures.refused c.fault-in-Err-one_doc.ensures.exact is
+    unread c.in-Ok.ensures.answered clean c.as_slice.ensures.value c.in-Err-one_doc.ensures.refused
+    c.fault-in-Err-one_doc.ensures.exact is

@@ -1,4 +1,4 @@
-use Rattle.std.proofs.Common.{◌∙◌, ap, option_map, unwrap_or}
+use Rattle.std.proofs.Common.{refl, ◌∙◌, ap, option_map, unwrap_or}
 use Rattle.sqlite.specs.Held.{state}
 use Rattle.sqlite_value.specs.Order.{column}
 use Rattle.room_tables.specs.Rows.{only, number_in}
@@ -9,13 +9,12 @@ use Rattle.room_sql.proofs.sql_shelf.SqlShelfShelf.doc_size.Goals as goal
 
 pub returns-in-Ok-one_size-clause-value : goal.returns-in-Ok-one_size-clause-value
 returns-in-Ok-one_size-clause-value g c available laid_out =
-    c.in-Ok-one_size.ensures.value ∙ ap (λ o. unwrap_or (option_map (λ row. number_in (column row 0)) o) 0)
-    (ap only c.as_slice.ensures.value ∙ only_permuted _ _ (c.in-Ok.ensures.rows available.0 laid_out.0.room))
-    ∙ same_size (state g.S.Store c.args.self.now.conn).now c.args.id laid_out.0.room
-    (c.schema-live.ensures.live (c.in-Ok.ensures.answered.frame.was_open available.0 available.1)).0
+    c.in-Ok-one_size.ensures.value
+    ∙ rw (c.as_slice.ensures.value, only_permuted _ _ (c.in-Ok.ensures.rows available.0 laid_out.0.room))
+    (same_size (state g.S.Store c.args.self.now.conn).now c.args.id laid_out.0.room
+    (c.schema-live.ensures.live (c.in-Ok.ensures.answered.frame.was_open available.0 available.1)).0)
 
 pub returns-clause-cause : goal.returns-clause-cause
 returns-clause-cause g c clean is =
-    unread _ _ _ _ c.in-Ok.rows.items c.as_slice.result.now _ c.in-Err-one_size.error c.fault-in-Err-one_size.result
-    (c.in-Ok.ensures.answered.shown clean) c.as_slice.ensures.value
-    c.in-Err-one_size.ensures.refused c.fault-in-Err-one_size.ensures.exact is
+    unread c.in-Ok.ensures.answered clean c.as_slice.ensures.value c.in-Err-one_size.ensures.refused
+    c.fault-in-Err-one_size.ensures.exact is

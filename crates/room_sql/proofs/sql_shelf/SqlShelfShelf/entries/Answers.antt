@@ -1,10 +1,10 @@
-use Rattle.std.proofs.Common.{◌∙◌, ap, subst, map}
+use Rattle.std.proofs.Common.{refl, ◌∙◌, ap, subst, map}
 use Rattle.std.specs.List.{AllByRecursion}
 use Rattle.room_tables.specs.Rows.{entry_of, HasEntryColumns}
 use Rattle.room_sql.proofs.sql_shelf.SqlShelfShelf.entries.Goals as goal
 
 pub returns-in-Ok-all_entries-clause-value : goal.returns-in-Ok-all_entries-clause-value
 returns-in-Ok-all_entries-clause-value g c available laid_out =
-    let typed = subst (AllByRecursion HasEntryColumns) c.as_slice.ensures.value c.in-Ok-all_entries.ensures.typed in
+    let typed = rw c.as_slice.ensures.value at c.in-Ok-all_entries.ensures.typed in
     c.in-Ok-all_entries.ensures.value
-    ∙ ap (map entry_of) (c.as_slice.ensures.value ∙ c.in-Ok.ensures.rows available.0 laid_out.0.room typed)
+    ∙ rw (c.as_slice.ensures.value, c.in-Ok.ensures.rows available.0 laid_out.0.room typed) refl
