@@ -1,14 +1,14 @@
 -- Histories from their beginning: rows with no session, and that a history leaves a room.
-use Rattle.std.proofs.Common.{◌≡◌, ℕ, ap, sym, ◌∙◌, Bool, true, false, cond, List, [], ◌∷◌, None, is_some}
+use Rattle.std.proofs.Common.{◌≡◌, ℕ, sym, ◌∙◌, List, [], ◌∷◌, None}
+use Rattle.std.proofs.lemmas.Bool.{cond_both, false≢true}
+use Rattle.std.proofs.lemmas.Option.{none-some}
 use Rattle.room_records.specs.Records.{Records}
 use Rattle.room_records.specs.Room.{Room, IsRoom}
 use Rattle.room_records.specs.Representation.{RepresentsRoom}
-use Rattle.room_commands.specs.Effect.{effect}
 use Rattle.room_commands.proofs.EffectIsRoom.{effect_is_room}
 use Rattle.room_wire.specs.Asks.EventModel.{Open, Close, Slot}
 use Rattle.room_desk.specs.History.{History, is_accepted, state_after, AreLawful}
 use Rattle.room_desk.specs.Representation.{RepresentsHistory}
-use Rattle.room_desk.proofs.Idle.{none_some}
 
 -- rows of a room with no session and no slot stand for the history without events
 pub stand_at_first : (start : Room) (r : Records) → RepresentsRoom r.objects start
@@ -17,8 +17,8 @@ pub stand_at_first : (start : Room) (r : Records) → RepresentsRoom r.objects s
 stand_at_first start r room no_session no_slot = record {
   room = room;
   rules = record {
-    sessions = λ sid row is. absurd (none_some row (sym (no_session sid) ∙ is));
-    slots = λ sid slot there. absurd (let e : false ≡ true = sym (ap is_some (no_slot sid slot)) ∙ there in cc);
+    sessions = λ sid row is. absurd (none-some row (sym (no_session sid) ∙ is));
+    slots = λ sid slot there. absurd (false≢true (rw (no_slot sid slot) at there));
   };
   sessions = no_session;
   slots = no_slot;
@@ -27,12 +27,9 @@ stand_at_first start r room no_session no_slot = record {
 -- a history of lawful commands leaves a room
 pub state_is_room : (start : Room) (past : History) → IsRoom start → AreLawful past → IsRoom (state_after start past)
 state_is_room start [] lawful commands = lawful
+state_is_room start (Slot q ∷ past) lawful commands =
+    let room = state_is_room start past lawful commands.1 in
+    cond_both (is_accepted past q) _ _ IsRoom
+    (λ taken. effect_is_room (state_after start past) q.caller q.command commands.0 room) (λ other. room)
 state_is_room start (Open caller sid slots ∷ past) lawful commands = state_is_room start past lawful commands
 state_is_room start (Close caller sid ∷ past) lawful commands = state_is_room start past lawful commands
-state_is_room start (Slot q ∷ past) lawful commands =
-    by_test (is_accepted past q) (state_is_room start past lawful commands.1)
-  where
-    by_test : (b : Bool) → IsRoom (state_after start past)
-        → IsRoom (cond b (effect (state_after start past) q.caller q.command).room (state_after start past))
-    by_test true room = effect_is_room (state_after start past) q.caller q.command commands.0 room
-    by_test false room = room

@@ -1,104 +1,77 @@
 -- A CLOSE by the owner: what was committed, or not, stands for the longer history.
-use Rattle.std.proofs.Common.{◌≡◌, ◌∙◌, sym, ap, refl, subst, ℕ, List, ◌∷◌, Some, true, false, Bool}
-use Rattle.std.proofs.Common.{IfOk, OnOk, Result, Ok, Err}
+use Rattle.std.proofs.Common.{◌≡◌, ap, sym, arith, option_map, ◌∙◌, List, ℕ, ◌∷◌, Some, true, false}
 use Rattle.std.specs.Str.{bytes_eq}
+use Rattle.std.specs.Cmp.Lexicographic.{bytes_decides}
+use Rattle.std.proofs.lemmas.Grind.{common_steps}
+use Rattle.std.proofs.lemmas.Option.{same_Some}
 use Rattle.room_acl.specs.SubjectModel.{SubjectModel}
 use Rattle.room_records.specs.Records.{Records}
 use Rattle.room_records.specs.Rules.{RulesHold}
-use Rattle.room_records.specs.Changes.{apply_change}
+use Rattle.room_records.specs.Changes.{apply_change, apply_to_sessions}
 use Rattle.room_records.specs.declared.change.Change.TheVariants.{PutSession, DropSlots}
 use Rattle.room_records.specs.declared.session.SessionRow.{SessionRow}
-use Rattle.room_records.specs.declared.shelf.ShelfFault.{ShelfFault}
 use Rattle.room_records.specs.Room.{Room}
-use Rattle.room_commands.specs.ReplyModel.{Done}
-use Rattle.room_wire.specs.Forms.Texts.{reply_text}
 use Rattle.room_wire.specs.Asks.EventModel.{Close}
-use Rattle.room_wire.specs.declared.answers.answer.Answer.{Answer}
-use Rattle.room_desk.specs.AnswerModel.{answer_model}
-use Rattle.room_desk.specs.AnswerModel as A
-use Rattle.room_desk.specs.History.{History, answer_to, is_open_for, session_of, changes_rows, ReportsChange}
-use Rattle.room_desk.specs.Representation.{RepresentsHistory}
-use Rattle.room_desk.proofs.Crashes.{idle_reports_nothing}
-use Rattle.room_desk.proofs.Results.{if_ok_both}
-use Rattle.room_desk.proofs.Answers.{usable, close_owned, close_idle_stands, closing_rules, closed_rules, closed_stands}
+use Rattle.room_desk.specs.History.{History, session_of, changes_rows}
+use Rattle.room_desk.specs.Representation.{RepresentsHistory, StandsWith, session_row_of, slot_row_of}
+use Rattle.room_desk.proofs.Alike.{stand_after_idle}
+use Rattle.room_desk.proofs.Answers.{usable}
+use Rattle.room_desk.proofs.Idle.{itself}
+use Rattle.room_desk.proofs.OpenClose.{rules_put_session, rules_drop_slots}
 
-module _ (start : Room) (r : Records) (past : History)
-    (stand : RepresentsHistory start r past) (name : List ℕ) (caller : SubjectModel)
-    (row : SessionRow) (some : r.session name ≡ Some row) (mine : bytes_eq row.owner caller.name ≡ true) where
-  abbrev pub shut_row : SessionRow
-  shut_row = record { sid = row.sid; owner = row.owner; slots = row.slots; is_open = false }
+-- what a CLOSE of an open session by its owner leaves of the rows of sessions and of slots
+module _ (start : Room) (r : Records) (past : History) (caller : SubjectModel) (row : SessionRow)
+    (here : r.session row.sid ≡ option_map (session_row_of row.sid) (session_of past row.sid))
+    (some : r.session row.sid ≡ Some row) (mine : bytes_eq row.owner caller.name ≡ true) (sid : List ℕ) where
+  session_closed : r.session sid ≡ option_map (session_row_of sid) (session_of past sid)
+      → apply_to_sessions (PutSession (record { sid = row.sid; owner = row.owner; slots = row.slots; is_open = false }))
+      r.session sid ≡ option_map (session_row_of sid) (session_of (Close caller row.sid ∷ past) sid)
+  session_closed before = grind (arith, common_steps, bytes_decides, itself row.sid)
 
-  named : record { sid = name; owner = row.owner; slots = row.slots; is_open = false } ≡ shut_row
-  named = ap (λ n. record { sid = n; owner = row.owner; slots = row.slots; is_open = false })
-      (sym (stand.rules.sessions name row some))
+  slot_closed : (slot : ℕ) → r.slot sid slot ≡ slot_row_of start past sid slot
+      → (apply_change (DropSlots row.sid) r).slot sid slot ≡ slot_row_of start (Close caller row.sid ∷ past) sid slot
+  slot_closed slot before = grind (arith, common_steps, bytes_decides, itself row.sid)
 
-  pub put_rules : RulesHold (apply_change (PutSession shut_row) r)
-  put_rules = let P : SessionRow → Type 0 = λ s. RulesHold (apply_change (PutSession s) r) in
-      subst P named (closing_rules start r past stand name caller row some mine)
+module _ {start : Room} {r : Records} {past : History} (stand : RepresentsHistory start r past) (name : List ℕ)
+    (caller : SubjectModel) {row : SessionRow} (some : r.session name ≡ Some row)
+    (mine : bytes_eq row.owner caller.name ≡ true) where
+  abbrev shut : SessionRow
+  shut = record { sid = row.sid; owner = row.owner; slots = row.slots; is_open = false }
 
-  pub all_rules : RulesHold (apply_change (DropSlots name) (apply_change (PutSession shut_row) r))
-  all_rules =
-      let P : SessionRow → Type 0 = λ s. RulesHold (apply_change (DropSlots name) (apply_change (PutSession s) r)) in
-      subst P named (closed_rules start r past stand name caller row some mine)
+  -- the rows once the session is ended
+  abbrev ended : Records
+  ended = apply_change (DropSlots name) (apply_change (PutSession shut) r)
 
-  pub stands : RepresentsHistory start
-      (apply_change (DropSlots name) (apply_change (PutSession shut_row) r)) (Close caller name ∷ past)
-  stands =
-      let P : SessionRow → Type 0 = λ s. RepresentsHistory start
-      (apply_change (DropSlots name) (apply_change (PutSession s) r)) (Close caller name ∷ past) in
-      subst P named (closed_stands start r past stand name caller row some mine)
+  named : name ≡ row.sid
+  named = sym (stand.rules.sessions name row some)
 
-  abbrev pub Closes : Result Answer ShelfFault → Records → Type 0
-  Closes result new = IfOk result (λ answer. (answer_model answer ≡ answer_to start past (Close caller name))
-      × RepresentsHistory start new (Close caller name ∷ past))
+  pub put_rules : RulesHold (apply_change (PutSession shut) r)
+  put_rules = record {
+    objects = stand.room.rules;
+    slots = rules_put_session r shut stand.rules
+        (λ old stands. ap (λ (s : SessionRow). s.slots) (same_Some old row (sym stands ∙ (rw named at some))));
+  }
 
-  pub close_step : (new : Records) (result : Result Answer ShelfFault)
-      → IfOk result (λ answer. answer_model answer ≡ A.Reply (reply_text Done))
-      → (row.is_open ≡ false → new ≡ r)
-      → (row.is_open ≡ true → RulesHold (apply_change (PutSession shut_row) r)
-      → RulesHold (apply_change (DropSlots name) (apply_change (PutSession shut_row) r))
-      → OnOk result (new ≡ apply_change (DropSlots name) (apply_change (PutSession shut_row) r)))
-      → Closes result new
-  close_step new result reply idle made = by_state row.is_open refl
-    where
-      Replies : Answer → Type 0
-      Replies answer = answer_model answer ≡ A.Reply (reply_text Done)
+  pub all_rules : RulesHold ended
+  all_rules = record { objects = stand.room.rules; slots = rules_drop_slots _ name put_rules.slots }
 
-      answered : A.Reply (reply_text Done) ≡ answer_to start past (Close caller name)
-      answered = sym (close_owned start r past stand name caller row some mine)
+  stands : RepresentsHistory start ended (Close caller name ∷ past)
+  stands = record {
+    room = stand.room;
+    rules = all_rules.slots;
+    sessions = λ sid. rw named (session_closed start r past caller row (stand.sessions row.sid) (rw named at some)
+        mine sid (stand.sessions sid));
+    slots = λ sid slot. rw named (slot_closed start r past caller row (stand.sessions row.sid) (rw named at some)
+        mine sid slot (stand.slots sid slot));
+  }
 
-      by_state : (b : Bool) → row.is_open ≡ b → Closes result new
-      by_state false e =
-          let unusable : is_open_for name caller (session_of past name) ≡ false =
-          usable start r past stand name caller row some ∙ rw (mine, e) refl in
-          let P : Records → Type 0 = λ n. RepresentsHistory start n (Close caller name ∷ past) in
-          let same : RepresentsHistory start new (Close caller name ∷ past) =
-          subst P (sym (idle e)) (close_idle_stands start r past stand name caller unusable) in
-          if_ok_both result Replies Replies (λ answer. (answer_model answer ≡ answer_to start past (Close caller name))
-          × RepresentsHistory start new (Close caller name ∷ past))
-          (λ answer says says_again. (says ∙ answered, same)) reply reply
-      by_state true e =
-          let P : Records → Type 0 = λ n. RepresentsHistory start n (Close caller name ∷ past) in
-          if_ok_both result Replies
-          (λ answer. new ≡ apply_change (DropSlots name) (apply_change (PutSession shut_row) r))
-          (λ answer. (answer_model answer ≡ answer_to start past (Close caller name))
-          × RepresentsHistory start new (Close caller name ∷ past))
-          (λ answer says after. (says ∙ answered, subst P (sym after) stands)) reply (made e put_rules all_rules)
+  -- it changes what is kept exactly where the session is open
+  pub changes_if_open : changes_rows past (Close caller name) ≡ row.is_open
+  changes_if_open = usable stand name row some caller ∙ rw mine
 
-  -- an open session changes
-  pub close_changes : row.is_open ≡ true → changes_rows past (Close caller name) ≡ true
-  close_changes opened = usable start r past stand name caller row some ∙ rw (mine, opened) refl
+  pub close_stands : row.is_open ≡ true → StandsWith start past (Close caller name) ended
+  close_stands is_open = (changes_if_open ∙ is_open, stands)
 
-  -- where the answer reports a change, the session was open
-  pub close_settled : (result : Result Answer ShelfFault) (Left : Type 0) → (row.is_open ≡ true → OnOk result Left)
-      → IfOk result (λ answer. ReportsChange past (Close caller name) (answer_model answer) → Left)
-  close_settled result Left made = by_state row.is_open refl result made
-    where
-      by_state : (b : Bool) → row.is_open ≡ b → (result : Result Answer ShelfFault)
-          → (row.is_open ≡ true → OnOk result Left)
-          → IfOk result (λ answer. ReportsChange past (Close caller name) (answer_model answer) → Left)
-      by_state b e (Err fault) made = tt
-      by_state true e (Ok answer) made = λ reports. made e
-      by_state false e (Ok answer) made =
-          λ reports. absurd (idle_reports_nothing past (Close caller name) (answer_model answer)
-          (usable start r past stand name caller row some ∙ rw (mine, e) refl) reports)
+  -- where it is closed already, nothing changes
+  pub stands_closed : row.is_open ≡ false → RepresentsHistory start r (Close caller name ∷ past)
+  stands_closed closed = stand_after_idle start r past (Close caller name) (changes_if_open ∙ closed) stand

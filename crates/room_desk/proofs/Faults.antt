@@ -1,5 +1,5 @@
 -- Faults of the shelf that a call passes on.
-use Rattle.std.proofs.Common.{◌≡◌, None, Some, Result, Ok, Err, IsErr, IsErrAnd, sym, subst}
+use Rattle.std.proofs.Common.{◌≡◌, None, Some, Result, Ok, Err, IsErr, IsErrAnd}
 use Rattle.room_records.specs.declared.shelf.ShelfFault.{ShelfFault}
 use Rattle.room_records.specs.Shelf.{View, ShelfCall, ShelfRead, fault_in}
 use Rattle.room_records.proofs.Shelves.{call_then}
@@ -10,5 +10,4 @@ pub passed_on : {T : Type 0} (a b c : View) (fault : ShelfFault) (r : Result T S
     → ShelfCall b c (Some fault) → ShelfRead a b None → ShelfCall a c (fault_in r)
 passed_on a b c fault (Ok x) err is second first = absurd cc
 passed_on a b c fault (Err e) err is second first =
-    let P : ShelfFault → Type 0 = λ f. ShelfCall a c (Some f) in
-    subst P (sym is) (call_then a b c (Some fault) second first)
+    rw is (call_then a b c (Some fault) second first)

@@ -1,5 +1,4 @@
 pub mod Runs
-pub mod Refusals
 pub mod Acceptance
 pub mod Allowed
 pub mod Results

@@ -1,12 +1,12 @@
 -- Answers to the messages of a stream, one after another, by a history.
-use Rattle.std.proofs.Common.{◌≡◌, ℕ, List, [], ◌∷◌, ◌++◌, refl, sym, ap, ◌∙◌, subst, arith, Result}
+use Rattle.std.proofs.Common.{◌≡◌, ℕ, List, [], ◌∷◌, ◌++◌, refl, sym, ap, ◌∙◌, arith, Result}
 use Rattle.std.proofs.Common.{Ok, Err, Option, inl, inr}
 use Rattle.room_acl.specs.SubjectModel.{SubjectModel}
 use Rattle.room_records.specs.Room.{Room}
 use Rattle.room_records.specs.Shelf.{View}
 use Rattle.room_wire.specs.declared.answers.code.Code.TheVariants.{Delay}
 use Rattle.room_wire.specs.declared.fault.WireFault.{WireFault}
-use Rattle.room_wire.specs.declared.fault.WireFault.TheVariants.{BadRoute, UnknownUser, BadRequest, Memory}
+use Rattle.room_wire.specs.declared.fault.WireFault.TheVariants.{Memory}
 use Rattle.room_wire.specs.declared.serving.stop.Why.{Why}
 use Rattle.room_wire.specs.declared.serving.stop.Why.TheVariants as W
 use Rattle.std.proofs.KnownBytes.{Appends-nil, Consumes-nil}
@@ -42,24 +42,14 @@ stays ask s answered delays says = record {
 
 pub question_stays : (q : QuestionModel) (s : View) (answered : AnswerModel)
     → IsCheckAnswer (Ok q) answered → Answered (Ok (Check q)) s answered s
-question_stays q s answered (inl e) =
-    stays (Ok (Check q)) s answered (λ event is. absurd (cc)) (λ start past. inl (e, refl))
-question_stays q s answered (inr e) =
-    stays (Ok (Check q)) s answered (λ event is. absurd (cc)) (λ start past. inr (e, refl))
+question_stays q s answered told = stays (Ok (Check q)) s answered (λ event is. absurd (cc))
+    (λ start past. elim told [ inl is ↦ inl (is, refl) | inr is ↦ inr (is, refl) ])
 
 -- a refusal changes nothing
 pub refusal_stays : (fault : WireFault) (ask : Result AskModel WireFault) (s : View)
     → DecodesAsk ask (Err fault) → Answered ask s (Refused (fault_code fault)) s
-refusal_stays BadRoute ask s h =
-    subst (λ a. Answered a s (Refused (fault_code BadRoute)) s) (sym h)
-    (stays (Err BadRoute) s _ (λ event is. absurd (cc)) (λ start past. inl (refl, refl)))
-refusal_stays UnknownUser ask s h =
-    subst (λ a. Answered a s (Refused (fault_code UnknownUser)) s) (sym h)
-    (stays (Err UnknownUser) s _ (λ event is. absurd (cc)) (λ start past. inl (refl, refl)))
-refusal_stays BadRequest ask s h =
-    subst (λ a. Answered a s (Refused (fault_code BadRequest)) s) (sym h)
-    (stays (Err BadRequest) s _ (λ event is. absurd (cc)) (λ start past. inl (refl, refl)))
 refusal_stays Memory ask s h = stays ask s _ (λ event is. refl) (λ start past. inr (refl, refl))
+refusal_stays fault ask s h = rw h (stays (Err fault) s _ (λ event is. absurd (cc)) (λ start past. inl (refl, refl)))
 
 module _ {S : Type 0} (view : S → View) where
   -- the shelf after some messages
@@ -67,20 +57,14 @@ module _ {S : Type 0} (view : S → View) where
       (ms : List MessageModel) (out : List ℕ) (after : S) : Type 0 where
     pub frame : DeskCall (view before) (view after)
     pub run : (view after).is_intact → (start : Room) (past : History) → StandsFor start past (view before)
-        → (next : History) × Outputs (λ (b : History) (m : MessageModel) (a : AnswerModel) (n : History).
-        AnswersOrDelays start b (ask_of users m) a n) past ms out next
-        × StandsFor start next (view after)
-
-  none : (users : List SubjectModel) (before after : S) (out : List ℕ)
-      → out ≡ [] → after ≡ before → Served users before [] out after
-  none users before after out e f = subst (λ s. Served users before [] out s) (sym f) (record {
-    frame = no_call (view before);
-    run = λ k start past stands. (past, (e, refl), stands);
-  })
+        → (next : History) × Outputs (AnswersMessage users start) past ms out next × StandsFor start next (view after)
 
   pub served : (users : List SubjectModel) (before : S) (ms : List MessageModel) (out : List ℕ) (after : S)
       → Outputs (MayAnswer view users) before ms out after → Served users before ms out after
-  served users before [] out after h = none users before after out h.0 h.1
+  served users before [] out after h = rw h.1 (record {
+    frame = no_call (view before);
+    run = λ k start past stands. (past, (h.0, refl), stands);
+  })
   served users before (m ∷ ms) out after h =
       let first = h.3 in
       let then = served users h.1 ms h.2 after h.4 in record {
@@ -112,24 +96,18 @@ module _ {S : Type 0} (view : S → View) where
       }
 
 -- the end before the first read
-pub nothing_served : {S : Type 0} (may_answer : S → MessageModel → AnswerModel → S → Type 0)
-    (s : S) (left old : Option (List ℕ)) → Serves may_answer s s left left old old W.Memory 0
-nothing_served may_answer s left old =
-    ([], [], [], [], Consumes-nil left, (refl, refl), omega arith, (refl, refl, Appends-nil old))
-
 pub memory_end : (users : List SubjectModel) (start : Room) (past : History) (left old : Option (List ℕ))
     → Serves (AnswersMessage users start) past past left left old old W.Memory 0
-memory_end users start past left old = nothing_served (AnswersMessage users start) past left old
+memory_end users start past left old =
+    ([], [], [], [], Consumes-nil left, (refl, refl), omega arith, (refl, refl, Appends-nil old))
 
 -- an answer leaves the history or puts one event before it
 one_step : (start : Room) (past next : History) (ask : Result AskModel WireFault) (answered : AnswerModel)
     → AnswersOrDelays start past ask answered next → (events : List EventModel) × (next ≡ events ++ past)
-one_step start past next (Ok (Check q)) answered (inl h) = ([], h.1)
 one_step start past next (Ok (Event e)) answered (inl h) = (e ∷ [], h.1)
+one_step start past next ask answered (inr h) = ([], h.1)
+one_step start past next (Ok (Check q)) answered (inl h) = ([], h.1)
 one_step start past next (Err f) answered (inl h) = ([], h.1)
-one_step start past next (Ok (Check q)) answered (inr h) = ([], h.1)
-one_step start past next (Ok (Event e)) answered (inr h) = ([], h.1)
-one_step start past next (Err f) answered (inr h) = ([], h.1)
 
 -- a stream that was served goes on with the history
 pub goes_on : (users : List SubjectModel) (start : Room) (past : History) (ms : List MessageModel)

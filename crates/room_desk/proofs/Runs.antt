@@ -1,6 +1,6 @@
 -- Events that are taken in turn go on by one.
 use Rattle.std.proofs.Common.{◌≡◌, ℕ, ◌+◌, ◌<◌, List, [], ◌∷◌, ◌++◌, map, take, length, get_or}
-use Rattle.std.proofs.Common.{refl, ap, ◌∙◌, sym, subst}
+use Rattle.std.proofs.Common.{refl, ap, ◌∙◌, sym}
 use Rattle.std.proofs.lemmas.List.{take_more, map-append}
 use Rattle.room_wire.specs.Asks.EventModel.{EventModel, event_model}
 use Rattle.room_wire.specs.declared.asks.event.Event.{Event}
@@ -14,7 +14,7 @@ module _ {S : Type 0} (answers : S → EventModel → AnswerModel → S → Type
       InTurn answers before events told mid → answers mid event answered after
       → InTurn answers before (events ++ event ∷ []) (told ++ answered ∷ []) after
   in_turn_more before mid after [] [] event answered is step =
-      (after, (let P : S → Type 0 = λ s. answers s event answered after in subst P is step), refl)
+      (after, rw is at step, refl)
   in_turn_more before mid after [] (a ∷ others) event answered none step = absurd none
   in_turn_more before mid after (e ∷ es) [] event answered none step = absurd none
   in_turn_more before mid after (e ∷ es) (a ∷ others) event answered r step =

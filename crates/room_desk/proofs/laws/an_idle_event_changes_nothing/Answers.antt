@@ -1,4 +1,5 @@
-use Rattle.room_desk.proofs.Idle.{state_after_idle, stand_after_idle}
+use Rattle.room_desk.proofs.Idle.{state_after_idle}
+use Rattle.room_desk.proofs.Alike.{stand_after_idle}
 use Rattle.room_desk.proofs.laws.an_idle_event_changes_nothing.Goals as goal
 
 pub returns-clause-room : goal.returns-clause-room

@@ -1,10 +1,8 @@
-use Rattle.std.proofs.Common.{sym, subst, ◌∷◌, refl, inl, inr}
-use Rattle.room_records.specs.Records.{Records}
+use Rattle.std.proofs.Common.{◌∷◌, refl, inl, inr}
 use Rattle.room_records.specs.declared.shelf.ShelfFault.TheVariants.{Store}
 use Rattle.room_records.proofs.Shelves.{none_not_store}
 use Rattle.room_wire.specs.Asks.EventModel.{event_model}
 use Rattle.room_desk.specs.AnswerModel.{answer_model}
-use Rattle.room_desk.specs.Representation.{RepresentsHistory}
 use Rattle.room_desk.proofs.Calls.{one_call}
 use Rattle.room_desk.proofs.Crashes.{reports_change}
 use Rattle.room_desk.proofs.desk.Desk.handle_sent.Goals as goal
@@ -23,9 +21,9 @@ returns-in-Ok g c = λ tells. record {
         inl (step.0, refl),
         λ h. (c.answer.ensures.frame.laid_out h stood.0, step.1),
       );
-  refused = λ h d away. c.in-Ok.ensures.refused h d away;
-  idle = λ h d start past stand idle. c.answer.ensures.idle h d start past stand idle;
-  crash = λ k start past stands. c.answer.ensures.crash k start past stands;
+  refused = c.in-Ok.ensures.refused;
+  idle = c.answer.ensures.idle;
+  crash = c.answer.ensures.crash;
   settled = λ k start past stands changes other.
       let available = c.in-Ok.ensures.there k in
       let stood = stands (c.answer.ensures.frame.was_available available) in
@@ -44,13 +42,10 @@ returns-in-Err g c = λ tells. record {
     inr (refl, refl),
     λ h.
         let stood = stands (c.answer.ensures.frame.was_available h) in
-        let Stands : Records → Type 0 = λ r. RepresentsHistory start r past in (
-          c.answer.ensures.frame.laid_out h stood.0,
-          subst Stands (sym (c.in-Err.ensures.frame.undone h stood.0)) stood.1,
-        ),
+        (c.answer.ensures.frame.laid_out h stood.0, rw (c.in-Err.ensures.frame.undone h stood.0) stood.1),
   );
   refused = λ h d away. c.in-Err.ensures.frame.undone h d;
-  idle = λ h d start past stand idle. c.answer.ensures.idle h d start past stand idle;
-  crash = λ k start past stands. c.answer.ensures.crash k start past stands;
+  idle = c.answer.ensures.idle;
+  crash = c.answer.ensures.crash;
   settled = λ k start past stands changes other. absurd (other refl);
 }

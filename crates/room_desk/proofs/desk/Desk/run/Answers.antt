@@ -1,10 +1,8 @@
-use Rattle.std.proofs.Common.{◌≡◌, List, [], ◌∷◌, ◌++◌, length, ap, ◌∙◌, arith, map, refl, sym, subst}
+use Rattle.std.proofs.Common.{◌≡◌, [], ◌∷◌, ◌++◌, length, ap, ◌∙◌, arith, map, refl, sym}
 use Rattle.std.proofs.lemmas.List.{take_all, map-append, length_push, same_from_push}
-use Rattle.room_wire.specs.declared.answers.answer.Answer.{Answer}
-use Rattle.room_wire.specs.declared.asks.event.Event.{Event}
 use Rattle.room_wire.specs.Asks.EventModel.{event_model}
 use Rattle.room_desk.specs.AnswerModel.{answer_model}
-use Rattle.room_desk.specs.Representation.{InTurn, Run, Step}
+use Rattle.room_desk.specs.Representation.{Step}
 use Rattle.room_desk.specs.Serving.{EventAnswered}
 use Rattle.room_desk.proofs.Calls.{no_call, calls_then}
 use Rattle.room_desk.proofs.Runs.{in_turn_at}
@@ -18,14 +16,8 @@ loop-event-init g c = record {
   alive = λ k before last is other.
       let none : [] ≡ before ++ last ∷ [] = sym (ap (map answer_model) c.in_ok-answers.ensures.items) ∙ is in
       absurd (omega (arith, ap length none, length_push before last));
-  run = λ k start past stands.
-      let None : List Answer → Type 0 = λ answers. Run start past [] (map answer_model answers) past in
-      (past, subst None (sym c.in_ok-answers.ensures.items) refl, stands);
-  each =
-      let S = g.S.Shelf in
-      let None : List Answer → Type 0 = λ answers.
-      InTurn (EventAnswered S.view) c.args.self.now [] (map answer_model answers) c.args.self.now in
-      subst None (sym c.in_ok-answers.ensures.items) refl;
+  run = λ k start past stands. (past, rw c.in_ok-answers.ensures.items refl, stands);
+  each = rw c.in_ok-answers.ensures.items refl;
 }
 
 pub loop-event-preserved : goal.loop-event-preserved
@@ -51,8 +43,7 @@ loop-event-preserved g c = record {
         step.2,
       );
   each =
-      let S = g.S.Shelf in
-      in_turn_at (EventAnswered S.view) c.args.self.now c.loop-event.self c.handle.new.self
+      in_turn_at (EventAnswered g.S.Shelf.view) c.args.self.now c.loop-event.self c.handle.new.self
       c.args.events.now c.loop-event.event-index c.event-item.result
       c.loop-event.answers.items c.push.new.self.items c.handle.result
       c.loop-event-test.true c.event-item.is c.in-Ok.ensures.items
@@ -61,17 +52,9 @@ loop-event-preserved g c = record {
 
 pub returns-clause-run : goal.returns-clause-run
 returns-clause-run g c = λ k start past stands.
-    let so_far = c.loop-event.invariant.run k start past stands in
-    let All : List Event → Type 0 =
-    λ events. Run start past (map event_model events) (map answer_model c.loop-event.answers.items) so_far.0 in (
-      so_far.0,
-      subst All (take_all c.loop-event.event-index c.args.events.now c.loop-event-test.false) so_far.1,
-      so_far.2,
-    )
+    rw (take_all c.loop-event.event-index c.args.events.now c.loop-event-test.false)
+    at (c.loop-event.invariant.run k start past stands)
 
 pub returns-clause-each : goal.returns-clause-each
 returns-clause-each g c =
-    let S = g.S.Shelf in
-    let All : List Event → Type 0 = λ events. InTurn (EventAnswered S.view)
-    c.args.self.now (map event_model events) (map answer_model c.loop-event.answers.items) c.loop-event.self in
-    subst All (take_all c.loop-event.event-index c.args.events.now c.loop-event-test.false) c.loop-event.invariant.each
+    rw (take_all c.loop-event.event-index c.args.events.now c.loop-event-test.false) at c.loop-event.invariant.each
