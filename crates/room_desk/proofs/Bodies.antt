@@ -1,9 +1,7 @@
 -- Repeats that are told by their body, with no text made of their command.
-use Rattle.std.proofs.Common.{◌≡◌, ◌≢◌, ◌∙◌, ap, sym, ℕ, false, List, [], ◌∷◌}
-use Rattle.std.proofs.Common.{codes, nat_eq, Ok}
+use Rattle.std.proofs.Common.{◌≡◌, ◌≢◌, ◌∙◌, ap, sym, ℕ, false, List, [], ◌∷◌, codes, nat_eq, Ok, arith}
 use Rattle.std.specs.List.{starts_with}
 use Rattle.std.proofs.lemmas.Grind.{common_steps}
-use Rattle.std.proofs.Common.{arith}
 use Rattle.room_acl.specs.SubjectModel.{SubjectModel}
 use Rattle.room_records.specs.Room.{Room}
 use Rattle.room_commands.specs.CommandModel.{CommandModel}

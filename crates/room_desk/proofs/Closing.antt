@@ -17,7 +17,7 @@ use Rattle.room_desk.specs.Representation.{RepresentsHistory, StandsWith, sessio
 use Rattle.room_desk.proofs.Alike.{stand_after_idle}
 use Rattle.room_desk.proofs.Answers.{usable}
 use Rattle.room_desk.proofs.Idle.{itself}
-use Rattle.room_desk.proofs.OpenClose.{rules_put_session, rules_drop_slots}
+use Rattle.room_desk.proofs.Opening.{rules_put_session, rules_drop_slots}
 
 -- what a CLOSE of an open session by its owner leaves of the rows of sessions and of slots
 module _ (start : Room) (r : Records) (past : History) (caller : SubjectModel) (row : SessionRow)
@@ -32,8 +32,8 @@ module _ (start : Room) (r : Records) (past : History) (caller : SubjectModel) (
       → (apply_change (DropSlots row.sid) r).slot sid slot ≡ slot_row_of start (Close caller row.sid ∷ past) sid slot
   slot_closed slot before = grind (arith, common_steps, bytes_decides, itself row.sid)
 
-module _ {start : Room} {r : Records} {past : History} (stand : RepresentsHistory start r past) (name : List ℕ)
-    (caller : SubjectModel) {row : SessionRow} (some : r.session name ≡ Some row)
+module _ {start : Room} {r : Records} {past : History} (stand : RepresentsHistory start r past)
+    (caller : SubjectModel) {name : List ℕ} {row : SessionRow} (some : r.session name ≡ Some row)
     (mine : bytes_eq row.owner caller.name ≡ true) where
   abbrev shut : SessionRow
   shut = record { sid = row.sid; owner = row.owner; slots = row.slots; is_open = false }

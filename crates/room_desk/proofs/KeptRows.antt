@@ -1,6 +1,5 @@
 -- The slot test by the row that is kept answers as the history does.
-use Rattle.std.proofs.Common.{◌≡◌, refl, arith, true, List, [], ◌∷◌}
-use Rattle.std.proofs.Common.{length, nat_lt, ◌↔◌}
+use Rattle.std.proofs.Common.{◌≡◌, refl, arith, true, List, [], ◌∷◌, length, nat_lt, ◌↔◌}
 use Rattle.std.specs.Prelude.{◌==◌, if◌then◌else◌}
 use Rattle.std.proofs.lemmas.Bool.{and_parts, eqb-true, eq-eqb}
 use Rattle.std.proofs.lemmas.Bool.Decides.{nat_tests}

@@ -3,7 +3,7 @@ pub mod Acceptance
 pub mod Allowed
 pub mod Results
 pub mod Crashes
-pub mod OpenClose
+pub mod Opening
 pub mod Answers
 pub mod Bodies
 pub mod Closing

@@ -1,6 +1,5 @@
 -- The numbers of the accepted requests of a slot: none comes twice.
-use Rattle.std.proofs.Common.{◌≡◌, ℕ, suc, ◌^◌, ◌<◌, ◌≤◌, arith, true, false}
-use Rattle.std.proofs.Common.{List, [], ◌∷◌, map, length, nat_eq}
+use Rattle.std.proofs.Common.{◌≡◌, ℕ, suc, ◌^◌, ◌<◌, ◌≤◌, arith, true, false, List, [], ◌∷◌, map, length, nat_eq}
 use Rattle.std.specs.List.{AllByRecursion, IsDistinct}
 use Rattle.std.proofs.lemmas.Bool.{and_parts}
 use Rattle.std.proofs.lemmas.Bool.Decides.{nat_tests}

@@ -1,6 +1,5 @@
 -- RETRY_UNCACHED is answered to a request of the session's owner alone, and that request is the last one of its slot.
-use Rattle.std.proofs.Common.{◌≡◌, ℕ, refl, arith, true, false}
-use Rattle.std.proofs.Common.{List, [], ◌∷◌, length, Option, None, Some}
+use Rattle.std.proofs.Common.{◌≡◌, ℕ, refl, arith, true, false, List, [], ◌∷◌, length, Option, None, Some}
 use Rattle.std.specs.List.{AllByRecursion}
 use Rattle.std.specs.Str.{bytes_eq}
 use Rattle.std.specs.Cmp.Lexicographic.{bytes_decides}
@@ -12,9 +11,8 @@ use Rattle.room_wire.specs.declared.answers.code.Code.TheVariants.{RetryUncached
 use Rattle.room_wire.specs.Asks.EventModel.{EventModel, Request, Slot}
 use Rattle.room_wire.specs.Forms.Texts.{command_text}
 use Rattle.room_desk.specs.AnswerModel.{Refused}
-use Rattle.room_desk.specs.History.{History, Session, session_of, is_open_for}
-use Rattle.room_desk.specs.History.{Accepted, accepted}
-use Rattle.room_desk.specs.History.{answer_unaccepted, answer_to}
+use Rattle.room_desk.specs.History.{History, Session, session_of, is_open_for, Accepted, accepted, answer_unaccepted}
+use Rattle.room_desk.specs.History.{answer_to}
 use Rattle.room_slots.specs.Slots.{next_number}
 use Rattle.room_desk.proofs.Numbers.{accepted_are_numbered}
 

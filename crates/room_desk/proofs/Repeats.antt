@@ -8,8 +8,7 @@ use Rattle.room_records.specs.Room.{Room}
 use Rattle.room_wire.specs.declared.answers.code.Code.TheVariants.{RetryUncached}
 use Rattle.room_wire.specs.Asks.EventModel.{EventModel, Request, Slot}
 use Rattle.room_desk.specs.AnswerModel.{Refused}
-use Rattle.room_desk.specs.History.{History, is_accepted}
-use Rattle.room_desk.specs.History.{answer_to, changes_rows, leaves_no_reply}
+use Rattle.room_desk.specs.History.{History, is_accepted, answer_to, changes_rows, leaves_no_reply}
 use Rattle.room_desk.proofs.Idle.{itself}
 
 next_differs : (n : ℕ) → next_number n ≡ next_number (suc n) → ⊥

@@ -1,7 +1,6 @@
 -- Facts on a result that several clauses say apart.
-use Rattle.std.proofs.Common.{IfOk, Result}
+use Rattle.std.proofs.Common.{IfOk, Result, Ok, Err}
 use Rattle.std.proofs.lemmas.Result.{MatchResult-weaker}
-use Rattle.std.proofs.Common.{Ok, Err}
 
 -- what holds of an Ok gives more
 pub if_ok_then : {X E : Type 0} (r : Result X E) {P Q : X → Type 0} → IfOk r P → ((x : X) → P x → Q x) → IfOk r Q

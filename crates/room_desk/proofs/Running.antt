@@ -7,7 +7,7 @@ use Rattle.std.proofs.lemmas.Bool.Decides.{nat_tests}
 use Rattle.std.proofs.lemmas.Grind.{common_steps}
 use Rattle.room_records.specs.declared.session.SlotRow.{SlotRow}
 use Rattle.room_records.specs.declared.change.Change.{Change}
-use Rattle.room_records.specs.declared.change.Change.TheVariants.{PutSession, PutSlot, DropSlots}
+use Rattle.room_records.specs.declared.change.Change.TheVariants.{PutSlot}
 use Rattle.room_records.specs.Records.{Records}
 use Rattle.room_records.specs.Rules.{ObjectRules, SlotRules}
 use Rattle.room_records.specs.Changes.{apply_change, apply_changes, apply_all_to_objects, IsOfObjects}
@@ -39,10 +39,7 @@ record SameSlots (r s : Records) : Type 0 where
   slots : s.slot ≡ r.slot
 
 slots_kept : (change : Change) (r : Records) → IsOfObjects change → SameSlots r (apply_change change r)
-slots_kept (PutSession row) r none = absurd none
-slots_kept (PutSlot row) r none = absurd none
-slots_kept (DropSlots gone) r none = absurd none
-slots_kept change r of_objects = record { sessions = refl; slots = refl }
+slots_kept change r of_objects = grind (arith, common_steps)
 
 all_slots_kept : (changes : List Change) (r : Records)
     → AllByRecursion IsOfObjects changes → SameSlots r (apply_changes changes r)

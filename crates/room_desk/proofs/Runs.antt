@@ -1,6 +1,5 @@
 -- Events that are taken in turn go on by one.
-use Rattle.std.proofs.Common.{◌≡◌, ℕ, ◌+◌, ◌<◌, List, [], ◌∷◌, ◌++◌, map, take, length, get_or}
-use Rattle.std.proofs.Common.{refl, ap, ◌∙◌, sym}
+use Rattle.std.proofs.Common.{◌≡◌, ℕ, ◌+◌, ◌<◌, List, [], ◌∷◌, ◌++◌, map, take, length, get_or, refl}
 use Rattle.std.proofs.lemmas.List.{take_more, map-append}
 use Rattle.room_wire.specs.Asks.EventModel.{EventModel, event_model}
 use Rattle.room_wire.specs.declared.asks.event.Event.{Event}
@@ -13,8 +12,7 @@ module _ {S : Type 0} (answers : S → EventModel → AnswerModel → S → Type
       (told : List AnswerModel) (event : EventModel) (answered : AnswerModel) →
       InTurn answers before events told mid → answers mid event answered after
       → InTurn answers before (events ++ event ∷ []) (told ++ answered ∷ []) after
-  in_turn_more before mid after [] [] event answered is step =
-      (after, rw is at step, refl)
+  in_turn_more before mid after [] [] event answered is step = (after, rw is at step, refl)
   in_turn_more before mid after [] (a ∷ others) event answered none step = absurd none
   in_turn_more before mid after (e ∷ es) [] event answered none step = absurd none
   in_turn_more before mid after (e ∷ es) (a ∷ others) event answered r step =
@@ -28,11 +26,12 @@ module _ {S : Type 0} (answers : S → EventModel → AnswerModel → S → Type
       → answers mid (event_model event) (answer_model answered) after
       → InTurn answers before (map event_model (take (i + 1) events)) (map answer_model new) after
   in_turn_at before mid after events i event old new answered below is grown so_far step =
-      let es : map event_model (take (i + 1) events) ≡ map event_model (take i events) ++ event_model event ∷ [] =
-      ap (map event_model) (take_more events i event below)
-      ∙ map-append event_model (take i events) (get_or events i event ∷ [])
-      ∙ ap (λ e. map event_model (take i events) ++ event_model e ∷ []) (sym is) in
-      let as_told : map answer_model new ≡ map answer_model old ++ answer_model answered ∷ [] =
-      ap (map answer_model) grown ∙ map-append answer_model old (answered ∷ []) in
-      rw (es, as_told) (in_turn_more before mid after (map event_model (take i events))
-      (map answer_model old) (event_model event) (answer_model answered) so_far step)
+      rw (
+        take_more events i event below,
+        ← is,
+        grown,
+        map-append event_model (take i events),
+        map-append answer_model old,
+      )
+      (in_turn_more before mid after (map event_model (take i events)) (map answer_model old)
+      (event_model event) (answer_model answered) so_far step)

@@ -10,8 +10,8 @@ use Rattle.room_commands.specs.ReplyModel.{Opened}
 use Rattle.room_wire.specs.Asks.EventModel.{EventModel, Open, Close}
 use Rattle.room_wire.specs.Forms.Texts.{reply_text}
 use Rattle.room_desk.specs.AnswerModel.{Reply}
-use Rattle.room_desk.specs.History.{History, Session, session_of, is_open_for, slots_of}
-use Rattle.room_desk.specs.History.{answer_open, answer_close, answer_to}
+use Rattle.room_desk.specs.History.{History, Session, session_of, is_open_for, slots_of, answer_open, answer_close}
+use Rattle.room_desk.specs.History.{answer_to}
 use Rattle.room_desk.proofs.Idle.{itself}
 
 -- a session that lasts keeps its slots and its owner, so that a CLOSE is answered as before

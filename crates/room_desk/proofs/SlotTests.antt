@@ -1,6 +1,5 @@
 -- What a slot keeps decides a request as the count of its accepted requests does.
-use Rattle.std.proofs.Common.{◌≡◌, ℕ, sym, ◌∙◌, Bool, true, false, List}
-use Rattle.std.proofs.Common.{length, Option, arith}
+use Rattle.std.proofs.Common.{◌≡◌, ℕ, sym, ◌∙◌, Bool, true, false, List, length, Option, arith}
 use Rattle.std.specs.Prelude.{◌==◌, nat_lt}
 use Rattle.std.proofs.lemmas.Bool.{lt-ltb}
 use Rattle.std.proofs.lemmas.Bool.Decides.{nat_tests}
@@ -15,8 +14,8 @@ use Rattle.room_wire.specs.Forms.Texts.{command_text, reply_text}
 use Rattle.room_commands.specs.Effect.{effect}
 use Rattle.room_desk.specs.AnswerModel.{AnswerModel, Reply}
 use Rattle.room_desk.specs.Bodies.{TellsText, KeepsText}
-use Rattle.room_desk.specs.History.{History, session_of, is_open_for, slots_of, accepted, Accepted}
-use Rattle.room_desk.specs.History.{is_accepted, answer_to, answer_unaccepted, state_after}
+use Rattle.room_desk.specs.History.{History, session_of, is_open_for, slots_of, accepted, Accepted, is_accepted}
+use Rattle.room_desk.specs.History.{answer_to, answer_unaccepted, state_after}
 use Rattle.room_desk.specs.Representation.{RepresentsHistory, kept_after}
 use Rattle.room_desk.specs.RowAnswers.{HasSlot, answer_kept, row_answer}
 use Rattle.room_desk.proofs.Answers.{as_many}

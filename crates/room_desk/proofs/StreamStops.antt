@@ -1,6 +1,5 @@
 -- What a stop may leave after several messages.
-use Rattle.std.proofs.Common.{◌≡◌, ℕ, refl, ◌⊎◌, inl, inr, Result, Ok, Err}
-use Rattle.std.proofs.Common.{◌≢◌, true, List, [], ◌∷◌}
+use Rattle.std.proofs.Common.{◌≡◌, ℕ, refl, ◌⊎◌, inl, inr, Result, Ok, Err, ◌≢◌, true, List, [], ◌∷◌}
 use Rattle.room_acl.specs.SubjectModel.{SubjectModel}
 use Rattle.room_records.specs.Room.{Room}
 use Rattle.room_records.specs.Shelf.{View}

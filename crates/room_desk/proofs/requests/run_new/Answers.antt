@@ -43,5 +43,5 @@ returns-clause-settled g c = λ intact available d room stand slots has left may
     let made = commits c.asked.view_is (c.plan.ensures.frame.same read d) stand slots has
     (c.in_ok-outcome.ensures.effect read d room stand) c.requires c.in_ok-reply.ensures
     c.in_ok-row.ensures (c.deref.ensures.value ∙ c.in-Ok.ensures.items) in
-    made.ran left (c.in_ok-commit.ensures.settled intact
-    (c.plan.ensures.frame.call.laid_out read d) made.rules left may)
+    made.ran left
+    (c.in_ok-commit.ensures.settled intact (c.plan.ensures.frame.call.laid_out read d) made.rules left may)

@@ -2,7 +2,7 @@ use Rattle.std.proofs.Common.{◌∙◌, sym}
 use Rattle.room_records.proofs.Shelves.{call_then}
 use Rattle.room_desk.proofs.Crashes.{leaves_either}
 use Rattle.room_desk.proofs.Results.{if_ok_then, if_ok_both}
-use Rattle.room_desk.proofs.Answers.{open_unused, open_unused_rules, open_unused_stands}
+use Rattle.room_desk.proofs.Opening.{open_answer, open_rules, open_stands}
 use Rattle.room_desk.proofs.sessions.open.Goals as goal
 
 pub returns-in-None-clause-frame : goal.returns-in-None-clause-frame
@@ -15,9 +15,9 @@ returns-in-None-clause-step g c = λ h d start past stand.
     let opens = rw (c.session.ensures.frame.same read d)
     at (c.open_first.ensures.ok h (c.session.ensures.frame.call.laid_out read d)) in
     if_ok_both c.open_first.result c.open_first.ensures.reply
-    (opens (open_unused_rules stand c.args.sid.now c.args.subject.now c.args.slots none)) (λ answer reply after. (
-      reply ∙ sym (open_unused stand c.args.sid.now c.args.subject.now c.args.slots none),
-      rw after (open_unused_stands stand c.args.sid.now c.args.subject.now c.args.slots none).1,
+    (opens (open_rules stand c.args.subject.now c.args.slots none)) (λ answer reply after. (
+      reply ∙ sym (open_answer stand c.args.subject.now c.args.slots none),
+      rw after (open_stands stand c.args.subject.now c.args.slots none).1,
     ))
 
 pub returns-in-None-clause-crash : goal.returns-in-None-clause-crash
@@ -27,9 +27,8 @@ returns-in-None-clause-crash g c = λ intact start past stands left may.
     let none = sym (c.in_ok-row.ensures.value read d) ∙ c.in-None.is in
     let opens = rw (c.session.ensures.frame.same read d)
     at (c.open_first.ensures.crash (c.session.ensures.frame.call.laid_out read d)) in
-    leaves_either (opens (open_unused_rules stand c.args.sid.now c.args.subject.now c.args.slots none) left may)
-    (c.session.ensures.frame.crash left)
-    (λ after. rw after (open_unused_stands stand c.args.sid.now c.args.subject.now c.args.slots none))
+    leaves_either (opens (open_rules stand c.args.subject.now c.args.slots none) left may)
+    (c.session.ensures.frame.crash left) (λ after. rw after (open_stands stand c.args.subject.now c.args.slots none))
 
 pub returns-in-None-clause-settled : goal.returns-in-None-clause-settled
 returns-in-None-clause-settled g c = λ intact start past stands.
@@ -38,7 +37,5 @@ returns-in-None-clause-settled g c = λ intact start past stands.
     let none = sym (c.in_ok-row.ensures.value read d) ∙ c.in-None.is in
     let opens = rw (c.session.ensures.frame.same read d)
     at (c.open_first.ensures.settled intact (c.session.ensures.frame.call.laid_out read d)) in
-    if_ok_then c.open_first.result
-    (opens (open_unused_rules stand c.args.sid.now c.args.subject.now c.args.slots none))
-    (λ answer leaves reports left may.
-    rw (leaves left may) (open_unused_stands stand c.args.sid.now c.args.subject.now c.args.slots none))
+    if_ok_then c.open_first.result (opens (open_rules stand c.args.subject.now c.args.slots none))
+    (λ answer leaves reports left may. rw (leaves left may) (open_stands stand c.args.subject.now c.args.slots none))

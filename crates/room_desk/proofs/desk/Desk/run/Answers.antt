@@ -26,12 +26,8 @@ loop-event-preserved g c = record {
   count = omega (arith, c.loop-event.invariant.count, c.in-Ok.ensures.len);
   frame = calls_then _ _ _ c.handle.ensures.answered.frame c.loop-event.invariant.frame;
   alive = λ k before last is other.
-      let told : map answer_model c.push.new.self.items
-      ≡ map answer_model c.loop-event.answers.items ++ answer_model c.handle.result ∷ [] =
-      ap (map answer_model) c.in-Ok.ensures.items
-      ∙ map-append answer_model c.loop-event.answers.items (c.handle.result ∷ []) in
       let same = same_from_push (map answer_model c.loop-event.answers.items)
-      before (answer_model c.handle.result) last (sym told ∙ is) in
+      before (answer_model c.handle.result) last (rw (c.in-Ok.ensures.items, map-append) at is) in
       c.handle.ensures.answered.alive k (event_model c.event-item.result) refl (λ delay. other (sym same.1 ∙ delay));
   run = λ k start past stands.
       let so_far = c.loop-event.invariant.run (c.handle.ensures.answered.frame.was_intact k) start past stands in

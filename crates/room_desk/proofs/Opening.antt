@@ -1,6 +1,5 @@
--- OPEN and CLOSE: the rows that they leave stand for the longer history.
-use Rattle.std.proofs.Common.{◌≡◌, ℕ, refl, ap, sym, ◌∙◌, arith, inl, inr, true, List, [], ◌∷◌}
-use Rattle.std.proofs.Common.{None, Some}
+-- An OPEN of an unused name: the rows that it leaves stand for the longer history.
+use Rattle.std.proofs.Common.{◌≡◌, ℕ, refl, ap, sym, ◌∙◌, arith, inl, inr, true, List, [], ◌∷◌, None, Some}
 use Rattle.std.specs.Option.{option_map}
 use Rattle.std.specs.Str.{bytes_eq}
 use Rattle.std.proofs.lemmas.Bool.{and_parts, cases_Bool}
@@ -16,10 +15,13 @@ use Rattle.room_records.specs.declared.change.Change.TheVariants.{PutSession, Dr
 use Rattle.room_records.specs.Changes.{apply_change}
 use Rattle.room_records.specs.Room.{Room}
 use Rattle.room_wire.specs.Asks.EventModel.{EventModel, Open}
-use Rattle.room_desk.specs.History.{History, session_of}
-use Rattle.room_desk.specs.History.{accepted}
-use Rattle.room_desk.specs.Representation.{RepresentsHistory, session_row_of, slot_row_of}
+use Rattle.room_desk.specs.History.{History, session_of, accepted, answer_to}
+use Rattle.room_desk.specs.Representation.{RepresentsHistory, session_row_of, slot_row_of, StandsWith}
 use Rattle.room_desk.proofs.Idle.{itself}
+use Rattle.room_desk.proofs.Answers.{no_session}
+use Rattle.room_commands.specs.ReplyModel.{Opened}
+use Rattle.room_wire.specs.Forms.Texts.{reply_text}
+use Rattle.room_desk.specs.AnswerModel.{Reply}
 
 none_later : (past : History) (event : EventModel) (sid : List ℕ) (slot : ℕ) → session_of (event ∷ past) sid ≡ None
     → (session_of past sid ≡ None → accepted past sid slot ≡ []) → accepted (event ∷ past) sid slot ≡ []
@@ -38,12 +40,9 @@ rules_put_session r row rules as_many = record {
   sessions = λ sid other stands. grind (arith, common_steps, bytes_decides, rules.sessions sid other);
   slots = λ sid slot kept. let (old, stands, below) = rules.slots sid slot kept in
       elim (cases_Bool (bytes_eq sid row.sid)) [
-        | inl is ↦ (
-          row,
-          rw is,
-          rw (as_many old (ap r.session (sym ((bytes_decides sid row.sid).0 is))
-              ∙ stands)) at below,
-        )
+        | inl is ↦
+            (let here = ap r.session (sym ((bytes_decides sid row.sid).0 is)) ∙ stands in
+            (row, rw is, rw (as_many old here) at below))
         | inr apart ↦ (old, rw apart stands, below)
       ];
 }
@@ -54,35 +53,41 @@ rules_drop_slots r gone rules = record {
   slots = λ sid slot kept. grind (arith, common_steps, rules.slots sid slot);
 }
 
-module _ {start : Room} {r : Records} {past : History}
-    (stand : RepresentsHistory start r past) (caller : SubjectModel) (name : List ℕ) where
-  -- the first OPEN of a name leaves its row
-  module _ (slots : ℕ) (unused : session_of past name ≡ None) where
-    abbrev pub opened_row : SessionRow
-    opened_row = record { sid = name; owner = caller.name; slots = slots; is_open = true }
+-- the first OPEN of a name leaves its row
+module _ {start : Room} {r : Records} {past : History} (stand : RepresentsHistory start r past)
+    (caller : SubjectModel) (slots : ℕ) {name : List ℕ} (none : r.session name ≡ None) where
+  abbrev opened_row : SessionRow
+  opened_row = record { sid = name; owner = caller.name; slots = slots; is_open = true }
 
-    pub rules_after_open : RulesHold (apply_change (PutSession opened_row) r)
-    rules_after_open = record {
-      objects = stand.room.rules;
-      slots = rules_put_session r opened_row stand.rules (λ old stands. absurd (none-some old
-          (ap (option_map (session_row_of name)) (sym unused) ∙ sym (stand.sessions name) ∙ stands)));
-    }
+  unused : session_of past name ≡ None
+  unused = no_session stand name none
 
-    session_opened : (sid : List ℕ) → r.session sid ≡ option_map (session_row_of sid) (session_of past sid)
-        → (apply_change (PutSession opened_row) r).session sid
-        ≡ option_map (session_row_of sid) (session_of (Open caller name slots ∷ past) sid)
-    session_opened sid before = grind (arith, common_steps, bytes_decides, itself name)
+  pub open_answer : answer_to start past (Open caller name slots) ≡ Reply (reply_text (Opened slots))
+  open_answer = rw unused
 
-    slot_opened : (sid : List ℕ) (slot : ℕ) → r.slot sid slot ≡ slot_row_of start past sid slot
-        → r.slot sid slot ≡ slot_row_of start (Open caller name slots ∷ past) sid slot
-    slot_opened sid slot before =
-        grind (arith, common_steps, bytes_decides, itself name, none_accepted past name slot unused)
+  pub open_rules : RulesHold (apply_change (PutSession opened_row) r)
+  open_rules = record {
+    objects = stand.room.rules;
+    slots = rules_put_session r opened_row stand.rules (λ old stands. absurd (none-some old (sym none ∙ stands)));
+  }
 
-    pub stand_after_open : RepresentsHistory start
-        (apply_change (PutSession opened_row) r) (Open caller name slots ∷ past)
-    stand_after_open = record {
+  session_opened : (sid : List ℕ) → r.session sid ≡ option_map (session_row_of sid) (session_of past sid)
+      → (apply_change (PutSession opened_row) r).session sid
+      ≡ option_map (session_row_of sid) (session_of (Open caller name slots ∷ past) sid)
+  session_opened sid before = grind (arith, common_steps, bytes_decides, itself name, unused)
+
+  slot_opened : (sid : List ℕ) (slot : ℕ) → r.slot sid slot ≡ slot_row_of start past sid slot
+      → r.slot sid slot ≡ slot_row_of start (Open caller name slots ∷ past) sid slot
+  slot_opened sid slot before =
+      grind (arith, common_steps, bytes_decides, itself name, unused, none_accepted past name slot unused)
+
+  pub open_stands : StandsWith start past (Open caller name slots) (apply_change (PutSession opened_row) r)
+  open_stands = (
+    rw unused,
+    record {
       room = stand.room;
-      rules = rules_after_open.slots;
+      rules = open_rules.slots;
       sessions = λ sid. session_opened sid (stand.sessions sid);
       slots = λ sid slot. slot_opened sid slot (stand.slots sid slot);
-    }
+    },
+  )
