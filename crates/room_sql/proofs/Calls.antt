@@ -1,7 +1,6 @@
 -- The frames of calls of the shelf.
 use Rattle.std.proofs.Common.{◌≡◌, ◌≢◌, ◌≤◌, ℕ, List, None, Some, Result, Ok, inl, inr, refl, sym, ap, subst, arith}
-use Rattle.std.proofs.Common.{◌∙◌, ◌==◌, true, false, [], length, map, IsTrue, IsPermutation, true≢false}
-use Rattle.std.proofs.lemmas.Bool.{cases_eq}
+use Rattle.std.proofs.Common.{◌==◌, true, [], length, map, IsTrue, IsPermutation}
 use Rattle.std.proofs.lemmas.Bool.Decides.{nat_tests}
 use Rattle.std.proofs.lemmas.List.{length-map, nil_from_length}
 use Rattle.std.proofs.lemmas.List.Sorted.{length_permutation}
@@ -12,17 +11,14 @@ use Rattle.sqlite.specs.Effect.{Database}
 use Rattle.sqlite.specs.State.{HasCleanDisk}
 use Rattle.sqlite.specs.Held.{Held, state}
 use Rattle.sqlite.specs.declared.error.Error.{Error}
-use Rattle.room_records.specs.declared.change.Change.{Change}
 use Rattle.room_records.specs.declared.shelf.ShelfFault.{ShelfFault}
 use Rattle.room_records.specs.declared.shelf.ShelfFault.TheVariants.{Store}
-use Rattle.room_records.specs.Shelf.{View, ShelfCall, ShelfRead, FailureCounted}
-use Rattle.room_tables.specs.Rows.{records_of, shown_node, version_rows, IsVersion}
-use Rattle.room_tables.specs.Layout.{IsRoomDatabase, IsRoomOfVersion2}
-use Rattle.room_tables.specs.Steps.{MayBecome}
+use Rattle.room_records.specs.Shelf.{View, ShelfRead, FailureCounted}
+use Rattle.room_tables.specs.Rows.{records_of, shown_node}
+use Rattle.room_tables.specs.Layout.{IsRoomOfVersion2}
 use Rattle.room_sql.specs.declared.known.Known.{Known}
 use Rattle.room_sql.specs.Known.{IsRight, KnowsNothing}
-use Rattle.room_sql.specs.NodeRows.{AfterAll}
-use Rattle.room_sql.specs.Frames.{QueryFrame, CommitFrame}
+use Rattle.room_sql.specs.Frames.{QueryFrame}
 
 module _ {S : Type 0} (store : Ghosts S) where
   -- what contracts see of the shelf with this connection, count of failures and knowledge
@@ -49,7 +45,8 @@ module _ {S : Type 0} (store : Ghosts S) where
       was_available = λ there. (frame.clean there.0, frame.was_open there.0 there.1);
       laid_out = λ there laid. (
         rw (frame.answered there.0).1 laid.0,
-        rw (frame.answered there.0).1 (right there.0 laid.0 laid.1),
+        subst (λ (d : Database). IsRight after (d.trees 1)) (sym (frame.answered there.0).1)
+            (right there.0 laid.0 laid.1),
       );
       alive = λ clean was. (clean, (frame.answered clean).0);
       never_falls = omega arith;

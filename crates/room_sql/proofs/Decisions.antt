@@ -1,6 +1,6 @@
 -- A decision over the rows that were read so far, and the frame of a query whose rows are read one at a time.
-use Rattle.std.proofs.Common.{◌≡◌, ◌≢◌, ◌≤◌, ◌⊎◌, ◌-◌, ◌^◌, ℕ, pos, Bool, true, false, not, ◌&&◌, ◌||◌, List, [], ◌∷◌}
-use Rattle.std.proofs.Common.{◌++◌, map, length, Result, Ok, Err, IsErr, OnOk, inl, inr, refl, sym, ap, subst}
+use Rattle.std.proofs.Common.{◌≡◌, ◌≢◌, ◌⊎◌, ℕ, pos, Bool, false, not, ◌&&◌, ◌||◌, List, [], ◌∷◌}
+use Rattle.std.proofs.Common.{◌++◌, map, Result, Ok, Err, IsErr, OnOk, inl, inr, refl, sym}
 use Rattle.std.proofs.Common.{◌∙◌}
 use Rattle.std.proofs.Common.{append-nil, arith}
 use Rattle.std.specs.List.{list_any}
@@ -12,7 +12,7 @@ use Rattle.std.proofs.lemmas.List.{map-append, append_assoc}
 use Rattle.std.proofs.lemmas.Nat.Bits.{bit_at-zero}
 use Rattle.sqlite_value.specs.declared.value.Value.TheVariants.{Int}
 use Rattle.sqlite_value.specs.Order.{Row}
-use Rattle.sqlite.specs.Effect.{Database, IsDatabase}
+use Rattle.sqlite.specs.Effect.{IsDatabase}
 use Rattle.sqlite.specs.State.{State, HasCleanDisk, IsLive, IsUnchanged, IsRolledBack, Survives, Shown, Begins}
 use Rattle.sqlite.specs.declared.error.Error.{Error}
 use Rattle.sqlite.proofs.StateLemmas.{survives_then}
@@ -30,7 +30,7 @@ use Rattle.room_tables.proofs.Onward.{begins_from}
 use Rattle.room_tables.proofs.Queries.{left_open, left_now}
 use Rattle.room_tables.proofs.Reading.{read_begins, read_ends}
 use Rattle.room_sql.specs.Columns.{IsLawfulEntryRow}
-use Rattle.room_sql.specs.Decisions.{AllDecided, StopsAtRow, ReadsTooMany}
+use Rattle.room_sql.specs.Decisions.{AllDecided, StopsAtRow}
 use Rattle.room_sql.specs.Frames.{QueryFrame}
 use Rattle.room_sql.proofs.Frames.{was_clean}
 

@@ -15,7 +15,7 @@ use Rattle.sqlite.specs.declared.rows.Row.{Row as Answer}
 use Rattle.sqlite.specs.declared.transaction.Transaction.{Transaction}
 use Rattle.sqlite_trees.specs.Tree.{Trees}
 use Rattle.sqlite.specs.Effect.{Database}
-use Rattle.sqlite.proofs.StateLemmas.{survives_then, survives_weaker}
+use Rattle.sqlite.proofs.StateLemmas.{survives_then}
 use Rattle.sqlite.proofs.InsideLemmas.{keeps_then}
 use Rattle.room_tables.proofs.Changes.{keeps_all, was_inside}
 use Rattle.room_tables.proofs.Queries.{is_query_text, query_keeps, query_left, query_answered, query_open}

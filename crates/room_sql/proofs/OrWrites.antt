@@ -1,7 +1,6 @@
 -- What statements do behind which another may run: those of a node, a document, what a slot keeps, and the next number.
-use Rattle.std.proofs.Common.{◌≡◌, ◌⊎◌, ℕ, zero, suc, pos, true, List, [], ◌∷◌, Vec, Ok, inl, inr, refl, sym, subst}
+use Rattle.std.proofs.Common.{◌≡◌, ℕ, zero, suc, true, List, [], ◌∷◌, Vec, Ok, inl, inr, refl}
 use Rattle.std.specs.declared.alloc.Global.{Global}
-use Rattle.sqlite_value.specs.declared.value.Value.TheVariants.{Int}
 use Rattle.sqlite_value.specs.Order.{Row}
 use Rattle.sqlite_trees.specs.Tree.{Trees}
 use Rattle.sqlite_trees.specs.declared.store.Store.{Ghosts}
@@ -11,14 +10,12 @@ use Rattle.room_records.specs.declared.node.Node.{Node}
 use Rattle.room_records.specs.declared.session.SlotRow.{SlotRow}
 use Rattle.room_records.specs.declared.change.Change.TheVariants.{PutNode, PutSlot, PutDoc}
 use Rattle.room_records.specs.Changes.{apply_change}
-use Rattle.room_tables.specs.Texts.{change_slot_text, add_slot_text, change_doc_text, add_doc_text}
-use Rattle.room_tables.specs.Texts.{change_next_text, add_next_text, change_node_text, add_node_text}
+use Rattle.room_tables.specs.Texts.{change_node_text, add_node_text}
 use Rattle.room_tables.specs.Rows.{has, name_of_text}
 use Rattle.room_tables.specs.Layout.{IsRoomDatabase}
 use Rattle.room_tables.specs.Steps.{Steps}
 use Rattle.room_tables.proofs.Upserts.{Put}
-use Rattle.room_tables.proofs.Puts.{doc_params}
-use Rattle.room_tables.proofs.Slots.{row_values, steps_change_slot, steps_add_slot}
+use Rattle.room_tables.proofs.Slots.{steps_change_slot, steps_add_slot}
 use Rattle.room_tables.proofs.Slots.{change_leaves_nodes, add_leaves_nodes}
 use Rattle.room_tables.proofs.Effects.{steps_change_doc, steps_add_doc, doc_change_leaves_nodes, doc_add_leaves_nodes}
 use Rattle.room_tables.proofs.Effects.{SetsNext, change_sets_next, add_sets_next}

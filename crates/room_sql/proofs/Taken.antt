@@ -1,6 +1,6 @@
 -- A room of version 1 that is upgraded, by the rows that were read before.
-use Rattle.std.proofs.Common.{◌≡◌, ◌∙◌, ℕ, List, [], ◌∷◌, option_map, unwrap_or, refl, sym, ap, subst, IsPermutation}
-use Rattle.std.proofs.Common.{true, false, true≢false, IsTrue, Result}
+use Rattle.std.proofs.Common.{◌≡◌, ◌∙◌, ℕ, List, [], ◌∷◌, option_map, unwrap_or, refl, sym, ap, IsPermutation}
+use Rattle.std.proofs.Common.{true, false, true≢false, IsTrue}
 use Rattle.sqlite_value.specs.Order.{Row, column}
 use Rattle.sqlite_trees.specs.Tree.{Trees}
 use Rattle.sqlite_schema.specs.Names.{same_name}
@@ -8,7 +8,6 @@ use Rattle.sqlite.specs.Table.{Table}
 use Rattle.sqlite.specs.Effect.{Database}
 use Rattle.sqlite_schema.specs.declared.schema.Index.{Index}
 use Rattle.sqlite.specs.State.{State, Shown}
-use Rattle.sqlite.specs.declared.error.Error.{Error}
 use Rattle.room_tables.specs.Tables.{Layout, Fresh, Upgraded, with_last, room_schema, first_schema, last_tables}
 use Rattle.room_tables.specs.Tables.{last_indexes, slot_table, slot_index, has_room, has_first_room}
 use Rattle.room_tables.specs.Texts.{find_version_text}
@@ -19,8 +18,7 @@ use Rattle.room_tables.specs.Upgrade.{IsUpgraded, MayBeUpgraded, MayBeMovedWith}
 use Rattle.room_tables.proofs.Selects.{find_version_selects}
 use Rattle.room_tables.proofs.Asks.{told_version, told_another}
 use Rattle.room_tables.proofs.Queries.{only_permuted, shown_still}
-use Rattle.room_sql.specs.Frames.{QueryFrame}
-use Rattle.room_sql.specs.Taken.{SaysFirst, IsLeft, HasItsVersion, HasAnotherVersion}
+use Rattle.room_sql.specs.Taken.{SaysFirst, HasItsVersion, HasAnotherVersion}
 
 -- the number that was read is the one that is next
 pub next_is : {a b : Database} {next : ℕ} (rows : List Row) → b ≡ a

@@ -1,8 +1,7 @@
 -- Statements in turn.
-use Rattle.std.proofs.Common.{Option, ◌≡◌, ◌⊎◌, ◌∙◌, ◌+◌, ◌<◌, ◌≤◌, ℕ, ℤ, suc, List, [], ◌∷◌, ◌++◌, length, get_or}
-use Rattle.std.proofs.Common.{min, drop}
-use Rattle.std.proofs.Common.{unwrap_or, Result, Ok, Err, OnOk, IfErr, IsErr, IsErrAnd, inl, inr, refl, sym, ap, subst}
-use Rattle.std.proofs.Common.{Bool, arith, add-one, append-nil}
+use Rattle.std.proofs.Common.{Option, ◌≡◌, ◌∙◌, ◌+◌, ◌<◌, ◌≤◌, ℕ, ℤ, List, [], ◌∷◌, ◌++◌, length, get_or, min, drop}
+use Rattle.std.proofs.Common.{unwrap_or, Result, Ok, Err, OnOk, IsErrAnd, inl, inr, refl, sym, ap}
+use Rattle.std.proofs.Common.{arith, append-nil}
 use Rattle.std.proofs.lemmas.List.{drop_more}
 use Rattle.sqlite_value.specs.declared.value.Value.TheVariants.{Int}
 use Rattle.sqlite_value.specs.Order.{Row}

@@ -1,7 +1,6 @@
-use Rattle.std.proofs.Common.{sym, subst, arith}
-use Rattle.std.specs.List.{AllByRecursion}
+use Rattle.std.proofs.Common.{arith}
 use Rattle.sqlite_trees.proofs.ListLemmas.{all-get_or}
-use Rattle.room_sql.specs.Columns.{IsFault, IsNodeRow}
+use Rattle.room_sql.specs.Columns.{IsNodeRow}
 use Rattle.room_sql.proofs.Turns.{passed}
 use Rattle.room_sql.proofs.rows.all_nodes.Goals as goal
 

@@ -1,4 +1,3 @@
-use Rattle.room_sql.specs.Columns.{IsFault, IsKeptRow}
 use Rattle.room_sql.proofs.Turns.{passed}
 use Rattle.room_sql.proofs.rows.kept_of.Goals as goal
 

@@ -1,4 +1,4 @@
-use Rattle.std.proofs.Common.{◌≡◌, [], ◌∷◌, refl, rules}
+use Rattle.std.proofs.Common.{◌≡◌, refl, rules}
 use Rattle.std.proofs.lemmas.Result.{IfErr-weaker}
 use Rattle.sqlite.specs.State.{HasCleanDisk}
 use Rattle.sqlite.specs.Held.{state}
@@ -7,7 +7,6 @@ use Rattle.sqlite.proofs.Callers.{survives_begin}
 use Rattle.room_tables.specs.Tables.{Upgraded, room_schema}
 use Rattle.room_tables.specs.Upgrade.{IsUpgraded, MayBeMovedWith}
 use Rattle.room_tables.proofs.Moves.{by_trees}
-use Rattle.room_sql.specs.Causes.{next_write, make_writes, MovesInTurn}
 use Rattle.room_sql.proofs.Frames.{was_clean}
 use Rattle.room_sql.proofs.Turns.{passed, write_failed, end_failed}
 use Rattle.room_sql.proofs.upgrade.commit_move.Goals as goal

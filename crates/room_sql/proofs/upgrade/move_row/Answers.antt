@@ -1,6 +1,6 @@
 use Rattle.std.proofs.Common.{◌≢◌, inl, inr, refl, pos, w64, to_z, of_z, rules, arith, [], ◌∷◌}
 use Rattle.sqlite_value.specs.declared.value.Value.TheVariants.{Int}
-use Rattle.room_tables.specs.Texts.{copy_row_text, take_row_text}
+use Rattle.room_tables.specs.Texts.{take_row_text}
 use Rattle.room_sql.specs.Causes.{statement}
 use Rattle.room_sql.proofs.Frames.{was_clean}
 use Rattle.room_sql.proofs.Turns.{passed, turn_then, turn_stops}

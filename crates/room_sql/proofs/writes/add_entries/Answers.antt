@@ -1,6 +1,5 @@
 use Rattle.std.proofs.Common.{◌≡◌, ◌∙◌, ◌≤◌, ◌<◌, ◌+◌, ◌++◌, ℕ, List, Ok, length, min, take, drop, sym, ap, arith}
 use Rattle.std.proofs.lemmas.List.{take_all, length-take-le, length-drop, nil_from_length}
-use Rattle.sqlite.specs.Held.{state}
 use Rattle.room_acl.specs.Entries.{EntryModel}
 use Rattle.room_sql.specs.Causes.{entry_writes}
 use Rattle.room_sql.proofs.Bound.{next_batch}

@@ -9,24 +9,22 @@ use Rattle.room_sql.proofs.Turns.{ok_then}
 use Rattle.room_sql.proofs.writes.add_four.Given.{Over}
 use Rattle.room_sql.proofs.writes.add_four.Goals as goal
 
-params : (g : Over) (c : goal.After-run g)
-    → bound (c.to_sql.result ∷ columns
+params : (g : Over) (c : goal.After-run g) → bound (c.to_sql.result ∷ columns
     (c.entry_row-a.result ∷ c.entry_row-b.result ∷ c.entry_row-c.result ∷ c.entry_row-d.result ∷ []))
     ≡ Int (pos c.args.id) ∷ bound_entries c.args.place (c.args.a.now ∷ c.args.b.now ∷ c.args.c.now ∷ c.args.d.now ∷ [])
-params g c = ap₂ (λ x l. bound_value x ∷ l) c.to_sql.ensures (entry_then c.entry_row-a.result
-    (c.entry_row-b.result ∷ c.entry_row-c.result ∷ c.entry_row-d.result ∷ []) c.args.a.now refl
-    c.entry_row-a.ensures.row (entry_then c.entry_row-b.result
-    (c.entry_row-c.result ∷ c.entry_row-d.result ∷ []) c.args.b.now (omega arith)
-    c.entry_row-b.ensures.row (entry_then c.entry_row-c.result (c.entry_row-d.result ∷ []) c.args.c.now (omega arith)
-    c.entry_row-c.ensures.row (entry_then c.entry_row-d.result [] c.args.d.now (omega arith)
-    c.entry_row-d.ensures.row refl))))
+params g c = ap₂ (λ x l. bound_value x ∷ l) c.to_sql.ensures
+    (entry_then c.entry_row-a.result (c.entry_row-b.result ∷ c.entry_row-c.result ∷ c.entry_row-d.result ∷ [])
+    c.args.a.now refl c.entry_row-a.ensures.row
+    (entry_then c.entry_row-b.result (c.entry_row-c.result ∷ c.entry_row-d.result ∷ [])
+    c.args.b.now (omega arith) c.entry_row-b.ensures.row
+    (entry_then c.entry_row-c.result (c.entry_row-d.result ∷ []) c.args.c.now (omega arith) c.entry_row-c.ensures.row
+    (entry_then c.entry_row-d.result [] c.args.d.now (omega arith) c.entry_row-d.ensures.row refl))))
 
 pub returns-clause-ok : goal.returns-clause-ok
 returns-clause-ok g c clean = ok_then c.run.result (c.run.ensures.done clean) (λ done records before len was.
     lists_more add_four_text _ _ c.args.id c.args.place done.0 before
     (c.args.a.now ∷ c.args.b.now ∷ c.args.c.now ∷ c.args.d.now ∷ []) records
-    (λ l. adds_four l c.args.id c.args.place c.args.a.now c.args.b.now c.args.c.now c.args.d.now)
-    (sym len) (
+    (λ l. adds_four l c.args.id c.args.place c.args.a.now c.args.b.now c.args.c.now c.args.d.now) (sym len) (
       c.entry_row-a.ensures.back,
       (
         c.entry_row-b.ensures.back,

@@ -1,5 +1,5 @@
-use Rattle.std.proofs.Common.{◌≡◌, ◌∙◌, ◌++◌, ◌<◌, ℕ, List, [], ◌∷◌, ◌+◌, Ok, length, get_or, take, drop, refl, sym}
-use Rattle.std.proofs.Common.{ap, arith}
+use Rattle.std.proofs.Common.{◌≡◌, ◌∙◌, ◌++◌, ◌<◌, ℕ, List, [], ◌∷◌, ◌+◌, Ok, length, get_or, take, drop, refl}
+use Rattle.std.proofs.Common.{sym, ap, arith}
 use Rattle.std.specs.List.{AllByRecursion}
 use Rattle.std.proofs.lemmas.List.{take_more, length-drop, nil_from_length}
 use Rattle.sqlite_trees.proofs.ListLemmas.{all-get_or}
@@ -15,8 +15,8 @@ use Rattle.room_sql.proofs.writes.apply_all.Goals as goal
 
 -- the statements of the rest are those of the next change, and those of what is left behind it
 next_turn : (known : NewObject) (xs : List Change) (k : ℕ) (item : Change) → k < length xs → item ≡ get_or xs k item
-    → writes_of_all known (drop k xs) ≡ writes_of known item ++ writes_of_all (after_change known item) (drop
-    (k + 1) xs)
+    → writes_of_all known (drop k xs)
+    ≡ writes_of known item ++ writes_of_all (after_change known item) (drop (k + 1) xs)
 next_turn known xs k item within is = rw (next_change k xs item within is) refl
 
 few : (xs : List Change) (k : ℕ) (item : Change) → k < length xs → item ≡ get_or xs k item

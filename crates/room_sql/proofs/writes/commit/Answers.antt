@@ -1,4 +1,4 @@
-use Rattle.std.proofs.Common.{◌≡◌, Ok, Err, true, refl, ◌∙◌, rules}
+use Rattle.std.proofs.Common.{◌≡◌, refl, ◌∙◌, rules}
 use Rattle.std.proofs.lemmas.Result.{IfErr-weaker}
 use Rattle.sqlite.specs.State.{HasCleanDisk}
 use Rattle.sqlite.specs.Held.{state}
@@ -7,8 +7,7 @@ use Rattle.sqlite.proofs.Callers.{survives_begin}
 use Rattle.room_tables.specs.Steps.{StaysRoom}
 use Rattle.room_tables.proofs.Changes.{fails_back, on_err}
 use Rattle.room_tables.proofs.Moves.{stays}
-use Rattle.room_sql.specs.Causes.{RunInTurn, writes_of_all, begun}
-use Rattle.room_sql.specs.NewObject.{before_all}
+use Rattle.room_sql.specs.Causes.{begun}
 use Rattle.room_sql.proofs.Frames.{was_clean}
 use Rattle.room_sql.proofs.Turns.{passed, write_failed, end_failed}
 use Rattle.room_sql.proofs.writes.commit.Goals as goal

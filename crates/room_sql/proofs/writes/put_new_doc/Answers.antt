@@ -5,8 +5,8 @@ use Rattle.room_sql.proofs.writes.put_new_doc.Goals as goal
 pub returns-clause-ok : goal.returns-clause-ok
 returns-clause-ok g c clean =
     ok_then c.run.result (c.run.ensures.done clean) (λ ran room.
-    steps_new_doc _ _ c.args.id c.args.bytes.now ran.0 room (rw
-    (c.params-to_sql.ensures, c.params-to_sql-2.ensures) at ran.1))
+    steps_new_doc _ _ c.args.id c.args.bytes.now ran.0 room
+    (rw (c.params-to_sql.ensures, c.params-to_sql-2.ensures) at ran.1))
 
 pub returns-clause-ran : goal.returns-clause-ran
 returns-clause-ran g c clean inside =

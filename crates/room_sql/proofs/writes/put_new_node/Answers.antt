@@ -1,4 +1,4 @@
-use Rattle.std.proofs.Common.{◌≡◌, ◌∙◌, [], ◌∷◌, refl, unwrap_or, sym}
+use Rattle.std.proofs.Common.{◌≡◌, [], ◌∷◌, refl}
 use Rattle.sqlite.specs.Values.{bound}
 use Rattle.room_tables.proofs.Effects.{params_of_node, bound_parent, steps_add_node_at}
 use Rattle.room_tables.proofs.Bare.{added_bare}
@@ -35,5 +35,5 @@ returns-clause-bare g c clean = ok_then c.run.result (c.run.ensures.done clean) 
     added_bare _ _ c.args.node.now c.name_text-name.result.now _ ran.0 room (params g c) ran.1)
 
 pub returns-clause-ran : goal.returns-clause-ran
-returns-clause-ran g c clean inside = rw (params g c, name_is c.name_text-name.ensures) at
-    (c.run.ensures.ran clean inside)
+returns-clause-ran g c clean inside =
+    rw (params g c, name_is c.name_text-name.ensures) at (c.run.ensures.ran clean inside)

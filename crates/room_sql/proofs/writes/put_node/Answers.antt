@@ -1,4 +1,4 @@
-use Rattle.std.proofs.Common.{◌≡◌, ◌∙◌, [], ◌∷◌, refl, unwrap_or, sym}
+use Rattle.std.proofs.Common.{◌≡◌, [], ◌∷◌, refl}
 use Rattle.sqlite.specs.Values.{bound}
 use Rattle.room_tables.proofs.Effects.{params_of_node, bound_parent}
 use Rattle.room_sql.proofs.OrWrites.{node_steps}
@@ -31,5 +31,5 @@ returns-clause-ok g c clean = ok_then c.run_or.result (c.run_or.ensures.done cle
     node_steps g.S.Store c.args.node.now _ _ _ c.name_text-name.ensures (rw (params g c) at ran))
 
 pub returns-clause-ran : goal.returns-clause-ran
-returns-clause-ran g c clean inside = rw (params g c, name_is c.name_text-name.ensures) at
-    (c.run_or.ensures.ran clean inside)
+returns-clause-ran g c clean inside =
+    rw (params g c, name_is c.name_text-name.ensures) at (c.run_or.ensures.ran clean inside)

@@ -1,7 +1,5 @@
-use Rattle.std.proofs.Common.{◌≡◌, [], ◌∷◌, refl, pos}
-use Rattle.sqlite_value.specs.declared.value.Value.TheVariants.{Int, Text}
+use Rattle.std.proofs.Common.{◌≡◌, [], ◌∷◌, refl}
 use Rattle.sqlite.specs.Values.{bound}
-use Rattle.room_tables.specs.Steps.{flag_of}
 use Rattle.room_tables.proofs.Sessions.{steps_session}
 use Rattle.room_sql.specs.Causes.{session_write}
 use Rattle.room_sql.proofs.Turns.{ok_then}

@@ -14,5 +14,4 @@ returns-in-Ok-first_node-clause-value g c available laid_out =
 pub returns-clause-cause : goal.returns-clause-cause
 returns-clause-cause g c clean is =
     unread (rw c.text.ensures.value at c.in-Ok.ensures.answered) clean c.as_slice.ensures.value
-    c.in-Err-first_node.ensures.refused
-    c.fault-in-Err-first_node.ensures.exact is
+    c.in-Err-first_node.ensures.refused c.fault-in-Err-first_node.ensures.exact is

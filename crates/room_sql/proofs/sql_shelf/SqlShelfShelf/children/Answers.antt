@@ -1,6 +1,3 @@
-use Rattle.std.proofs.Common.{◌∙◌, sym, ap, subst, map}
-use Rattle.room_records.specs.Shelf.{AreChildren}
-use Rattle.room_tables.specs.Rows.{node_of}
 use Rattle.room_tables.proofs.Children.{are_children}
 use Rattle.room_sql.proofs.Unread.{unread}
 use Rattle.room_sql.proofs.sql_shelf.SqlShelfShelf.children.Goals as goal

@@ -1,5 +1,4 @@
-use Rattle.std.proofs.Common.{refl, ◌∙◌, ap, option_map, unwrap_or, []}
-use Rattle.room_tables.specs.Rows.{only, doc_of}
+use Rattle.std.proofs.Common.{refl, ◌∙◌}
 use Rattle.room_tables.proofs.Queries.{only_permuted}
 use Rattle.room_sql.proofs.Unread.{unread}
 use Rattle.room_sql.proofs.sql_shelf.SqlShelfShelf.doc.Goals as goal

@@ -1,7 +1,5 @@
-use Rattle.std.proofs.Common.{refl, ◌∙◌, ap, option_map, unwrap_or}
+use Rattle.std.proofs.Common.{◌∙◌}
 use Rattle.sqlite.specs.Held.{state}
-use Rattle.sqlite_value.specs.Order.{column}
-use Rattle.room_tables.specs.Rows.{only, number_in}
 use Rattle.room_tables.proofs.Queries.{only_permuted}
 use Rattle.room_tables.proofs.Sizes.{same_size}
 use Rattle.room_sql.proofs.Unread.{unread}

@@ -1,6 +1,4 @@
-use Rattle.std.proofs.Common.{refl, ◌∙◌, ap, subst, map}
-use Rattle.std.specs.List.{AllByRecursion}
-use Rattle.room_tables.specs.Rows.{entry_of, HasEntryColumns}
+use Rattle.std.proofs.Common.{refl, ◌∙◌}
 use Rattle.room_sql.proofs.sql_shelf.SqlShelfShelf.entries.Goals as goal
 
 pub returns-in-Ok-all_entries-clause-value : goal.returns-in-Ok-all_entries-clause-value

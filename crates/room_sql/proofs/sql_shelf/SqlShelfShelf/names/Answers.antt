@@ -1,7 +1,3 @@
-use Rattle.std.proofs.Common.{◌∙◌, sym, ap, subst}
-use Rattle.std.specs.List.{filter_map}
-use Rattle.room_records.specs.Shelf.{AreNames}
-use Rattle.room_tables.specs.Rows.{listed_of}
 use Rattle.room_tables.proofs.Names.{are_names}
 use Rattle.room_sql.proofs.Unread.{unread}
 use Rattle.room_sql.proofs.sql_shelf.SqlShelfShelf.names.Goals as goal

@@ -1,7 +1,5 @@
-use Rattle.std.proofs.Common.{refl, ◌∙◌, ap, option_map, unwrap_or}
-use Rattle.sqlite_value.specs.Order.{column}
+use Rattle.std.proofs.Common.{refl, ◌∙◌}
 use Rattle.room_tables.specs.Tables.{last_tables, last_indexes}
-use Rattle.room_tables.specs.Rows.{only, number_in}
 use Rattle.room_tables.proofs.Queries.{only_permuted}
 use Rattle.room_sql.proofs.Unread.{unread}
 use Rattle.room_sql.proofs.sql_shelf.SqlShelfShelf.next_id.Goals as goal

@@ -1,5 +1,4 @@
-use Rattle.std.proofs.Common.{refl, ◌∙◌, sym, ap, option_map, length}
-use Rattle.room_tables.specs.Rows.{only, node_of}
+use Rattle.std.proofs.Common.{refl, ◌∙◌, sym, ap, length}
 use Rattle.room_tables.proofs.Queries.{only_permuted}
 use Rattle.room_sql.proofs.Calls.{read_ok, none_found}
 use Rattle.room_sql.proofs.Unread.{unread}

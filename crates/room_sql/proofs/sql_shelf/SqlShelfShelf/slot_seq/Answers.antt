@@ -1,5 +1,4 @@
-use Rattle.std.proofs.Common.{refl, ◌∙◌, ap, option_map}
-use Rattle.room_tables.specs.Rows.{only, seq_of}
+use Rattle.std.proofs.Common.{◌∙◌}
 use Rattle.room_tables.proofs.Names.{same_seq}
 use Rattle.room_tables.proofs.Queries.{only_permuted}
 use Rattle.room_sql.proofs.Unread.{unread}
@@ -10,12 +9,10 @@ returns-in-Ok-one_seq-clause-value g c available laid_out =
     c.in-Ok-one_seq.ensures.value
     ∙ rw (
       c.as_slice.ensures.value,
-      only_permuted _ _ (rw c.text.ensures.value at
-          (c.in-Ok.ensures.rows available.0 laid_out.0.room)),
+      only_permuted _ _ (rw c.text.ensures.value at (c.in-Ok.ensures.rows available.0 laid_out.0.room)),
     ) (same_seq _)
 
 pub returns-clause-cause : goal.returns-clause-cause
 returns-clause-cause g c clean is =
     unread (rw c.text.ensures.value at c.in-Ok.ensures.answered) clean c.as_slice.ensures.value
-    c.in-Err-one_seq.ensures.refused
-    c.fault-in-Err-one_seq.ensures.exact is
+    c.in-Err-one_seq.ensures.refused c.fault-in-Err-one_seq.ensures.exact is
