@@ -17,7 +17,7 @@ use Rattle.base64.specs.Engines.{standard}
 use Rattle.base64.specs.GeneralPurpose.{encode_of}
 use Rattle.base64.proofs.EngineFacts.{IsAscii-encode_of}
 use Rattle.room_acl.specs.declared.who.Who.{Who}
-use Rattle.room_acl.specs.declared.who.Who.TheVariants.{Owner, Group, Everyone, User, Members}
+use Rattle.room_acl.specs.declared.who.Who.TheVariants.{User, Members}
 use Rattle.room_acl.specs.Entries.{EntryModel}
 use Rattle.room_acl.specs.Principals.{IsPrincipal, is_principal_byte}
 use Rattle.room_records.specs.Names.{Path, IsFileName, IsPath, path_text}
