@@ -32,6 +32,23 @@ def total(out):
         return int(re.search(r"(?m)^totals: (\d+)", file.read())[1])
 
 
+def within(out, is_inside):
+    """The instructions of all calls that lead from other functions to those of such a name, what these call counted in."""
+    names, found, caller, callee, is_call = {}, 0, "", "", False
+    with open(out) as file:
+        for line in file:
+            kind, _, said = line.rstrip().partition("=")
+            if is_call:
+                found, is_call = found + (int(line.split()[-1]) if is_inside(callee) and not is_inside(caller) else 0), False
+            elif kind in ("fn", "cfn"):
+                number, _, name = said.partition(" ")
+                name = names.setdefault(number, name)
+                caller, callee = (name, callee) if kind == "fn" else (caller, name)
+            elif kind == "calls":
+                is_call = True
+    return found
+
+
 def bytes_of(count, seed):
     return base64.b64encode(random.Random(seed).randbytes(count)).decode()
 
