@@ -1,6 +1,7 @@
 -- An accepted request: the rows that its changes and its slot row leave stand for the longer history.
 use Rattle.std.proofs.Common.{◌≡◌, ℕ, ◌∙◌, arith, true, List, ◌∷◌, Option, None, option_map}
-use Rattle.std.proofs.lemmas.Bool.{and_parts}
+use Rattle.std.specs.Prelude.{◌&&◌, length}
+use Rattle.std.proofs.lemmas.Bool.{and_parts, cond_both}
 use Rattle.std.proofs.lemmas.Bool.Decides.{nat_tests}
 use Rattle.std.proofs.lemmas.Grind.{common_steps}
 use Rattle.std.specs.Cmp.Lexicographic.{bytes_decides}
@@ -9,8 +10,10 @@ use Rattle.room_records.specs.declared.change.Change.TheVariants.{PutSlot}
 use Rattle.room_records.specs.Changes.{apply_change}
 use Rattle.room_records.specs.Room.{Room}
 use Rattle.room_wire.specs.Asks.EventModel.{Request, Slot}
+use Rattle.room_commands.specs.Lawful.{IsLawful}
 use Rattle.room_desk.specs.AnswerModel.{AnswerModel}
 use Rattle.room_desk.specs.History.{History, Session, session_of, with_event, is_accepted, state_after}
+use Rattle.room_desk.specs.History.{accepted, accepts, is_for, HaveLawfulCommands}
 use Rattle.room_desk.specs.RowAnswers.{Ran, ran_row}
 use Rattle.room_desk.specs.Representation.{RepresentsHistory, session_row_of, slot_row_of}
 
@@ -26,6 +29,11 @@ module _ (start : Room) (past : History) (q : Request) (taken : is_accepted past
       ≡ slot_row_of start (Slot q ∷ past) sid slot
   slots_agree r sid slot before = grind (arith, common_steps, nat_tests, and_parts, bytes_decides)
 
+  lawful_with : (sid : List ℕ) (slot : ℕ) → IsLawful q.command → HaveLawfulCommands (accepted past sid slot)
+      → HaveLawfulCommands (accepted (Slot q ∷ past) sid slot)
+  lawful_with sid slot lawful earlier = cond_both (is_for sid slot q && accepts past (length (accepted past sid slot)) q)
+      _ _ HaveLawfulCommands (λ taken. (lawful, earlier)) (λ other. earlier)
+
   -- the changes of the tree left sessions and slots
   pub stand_after_run : {r s : Records} {answered : AnswerModel} → RepresentsHistory start r past
       → Ran r (state_after start past) q answered s → RepresentsHistory start s (Slot q ∷ past)
@@ -34,4 +42,5 @@ module _ (start : Room) (past : History) (q : Request) (taken : is_accepted past
     rules = ran.rules;
     sessions = λ sid. rw ran.session (stand.sessions sid ∙ row_after_request q sid (session_of past sid));
     slots = λ sid slot. slots_agree ran.changed sid slot (rw ran.kept (stand.slots sid slot));
+    lawful = λ sid slot. lawful_with sid slot ran.lawful (stand.lawful sid slot);
   })

@@ -7,7 +7,7 @@ use Rattle.std.proofs.lemmas.Grind.{common_steps}
 use Rattle.room_records.specs.Records.{Records}
 use Rattle.room_records.specs.Room.{Room}
 use Rattle.room_wire.specs.Asks.EventModel.{EventModel}
-use Rattle.room_desk.specs.History.{History, session_of, accepted, state_after, changes_rows}
+use Rattle.room_desk.specs.History.{History, session_of, accepted, commands_of, state_after, changes_rows}
 use Rattle.room_desk.specs.Representation.{RepresentsHistory, session_row_of, slot_row_of, kept_after}
 use Rattle.room_desk.proofs.Idle.{state_after_idle, rows_after_idle, accepted_after_idle}
 
@@ -18,6 +18,7 @@ pub record Alike (start : Room) (a b : History) : Type 0 where
       ≡ option_map (session_row_of sid) (session_of b sid)
   pub counts : (sid : List ℕ) (slot : ℕ) → length (accepted a sid slot) ≡ length (accepted b sid slot)
   pub kept : (sid : List ℕ) (slot : ℕ) → kept_after start (accepted a sid slot) ≡ kept_after start (accepted b sid slot)
+  pub commands : (sid : List ℕ) (slot : ℕ) → commands_of (accepted a sid slot) ≡ commands_of (accepted b sid slot)
 
 pub alike_after_idle : (start : Room) (past : History) (event : EventModel) → changes_rows past event ≡ false
     → Alike start past (event ∷ past)
@@ -26,6 +27,7 @@ alike_after_idle start past event idle = record {
   rows = λ sid. sym (rows_after_idle past event idle sid);
   counts = λ sid slot. sym (ap length (accepted_after_idle past event idle sid slot));
   kept = λ sid slot. sym (ap (kept_after start) (accepted_after_idle past event idle sid slot));
+  commands = λ sid slot. sym (ap commands_of (accepted_after_idle past event idle sid slot));
 }
 
 pub alike_swapped : {start : Room} {a b : History} → Alike start a b → Alike start b a
@@ -34,6 +36,7 @@ alike_swapped alike = record {
   rows = λ sid. sym (alike.rows sid);
   counts = λ sid slot. sym (alike.counts sid slot);
   kept = λ sid slot. sym (alike.kept sid slot);
+  commands = λ sid slot. sym (alike.commands sid slot);
 }
 
 module _ {start : Room} {a b : History} (alike : Alike start a b) where
@@ -46,6 +49,7 @@ module _ {start : Room} {a b : History} (alike : Alike start a b) where
     rules = stand.rules;
     sessions = λ sid. stand.sessions sid ∙ alike.rows sid;
     slots = λ sid slot. stand.slots sid slot ∙ slots_alike sid slot;
+    lawful = λ sid slot. rw (sym (alike.commands sid slot)) (stand.lawful sid slot);
   }
 
   -- the same events change what is kept
@@ -70,8 +74,19 @@ module _ {start : Room} {a b : History} (alike : Alike start a b) where
     kept_then sid slot =
         grind (arith, common_steps, nat_tests, bytes_decides, alike.rows, alike.counts, alike.state, alike.kept)
 
+    commands_then : (sid : List ℕ) (slot : ℕ)
+        → commands_of (accepted (event ∷ a) sid slot) ≡ commands_of (accepted (event ∷ b) sid slot)
+    commands_then sid slot =
+        grind (arith, common_steps, nat_tests, bytes_decides, alike.rows, alike.counts, alike.commands)
+
     pub alike_then : Alike start (event ∷ a) (event ∷ b)
-    alike_then = record { state = state_then; rows = rows_then; counts = counts_then; kept = kept_then }
+    alike_then = record {
+      state = state_then;
+      rows = rows_then;
+      counts = counts_then;
+      kept = kept_then;
+      commands = commands_then;
+    }
 
 -- the rows stay as they are where the event changes none
 pub stand_after_idle : (start : Room) (r : Records) (past : History) (event : EventModel)

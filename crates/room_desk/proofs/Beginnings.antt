@@ -22,6 +22,7 @@ stand_at_first start r room no_session no_slot = record {
   };
   sessions = no_session;
   slots = no_slot;
+  lawful = λ sid slot. tt;
 }
 
 -- a history of lawful commands leaves a room

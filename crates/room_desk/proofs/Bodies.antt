@@ -1,48 +1,84 @@
--- Repeats that are told by their body, with no text made of their command.
-use Rattle.std.proofs.Common.{◌≡◌, ◌≢◌, ◌∙◌, ap, sym, ℕ, false, List, [], ◌∷◌, codes, nat_eq, Ok, arith}
-use Rattle.std.specs.List.{starts_with}
+-- Requests whose number their slot keeps: what the slot keeps is the text of a lawful command, and they are answered by
+-- it as the history says.
+use Rattle.std.proofs.Common.{◌≡◌, ◌∙◌, ap, sym, ℕ, Bool, true, false, List, [], ◌∷◌, Some, arith, inl, refl}
+use Rattle.std.specs.Str.{bytes_eq}
+use Rattle.std.specs.Cmp.Lexicographic.{bytes_decides}
+use Rattle.std.proofs.lemmas.Bool.Decides.{nat_tests}
 use Rattle.std.proofs.lemmas.Grind.{common_steps}
-use Rattle.room_acl.specs.SubjectModel.{SubjectModel}
+use Rattle.std.proofs.lemmas.Option.{same_Some}
+use Rattle.room_slots.specs.KeptModel.{KeptModel}
+use Rattle.room_slots.proofs.Counts.{next_number_other}
+use Rattle.room_records.specs.Records.{Records}
 use Rattle.room_records.specs.Room.{Room}
 use Rattle.room_commands.specs.CommandModel.{CommandModel}
-use Rattle.room_wire.specs.Asks.AskOf.{Event, ask_of}
-use Rattle.room_wire.specs.Asks.EventModel.{EventModel, Request, Slot}
+use Rattle.room_wire.specs.declared.asks.routed.SentRequest.{SentRequest}
+use Rattle.room_wire.specs.Asks.EventModel.{Request, Slot}
 use Rattle.room_wire.specs.Forms.Commands.{command_of_body}
 use Rattle.room_wire.specs.Forms.Texts.{command_text}
-use Rattle.room_wire.specs.Messages.MessageModel.{MessageModel}
-use Rattle.room_wire.proofs.Lemmas.Asks.Requests.{asks_command}
-use Rattle.room_wire.proofs.Lemmas.Forms.CommandSame.{same_text, no_numbers}
-use Rattle.room_desk.specs.Bodies.{IsBodyOf, TellsText, KeepsText}
-use Rattle.room_desk.specs.History.{Accepted}
-use Rattle.room_desk.specs.Representation.{kept_after}
+use Rattle.room_wire.proofs.Lemmas.Forms.CommandBack.{text_back}
+use Rattle.room_desk.specs.AnswerModel.{AnswerModel}
+use Rattle.room_desk.specs.Bodies.{KeepsNumber, IsText, AnswersBody, answer_to_body}
+use Rattle.room_desk.specs.History.{History, session_of, is_open_for, Accepted, accepted, is_accepted}
+use Rattle.room_desk.specs.History.{HaveLawfulCommands, answer_to, answer_again}
+use Rattle.room_desk.specs.Representation.{RepresentsHistory, kept_after, slot_row_of}
+use Rattle.room_desk.specs.RowAnswers.{HasSlot, row_answer}
+use Rattle.room_desk.proofs.Answers.{usable}
+use Rattle.room_desk.proofs.Idle.{itself}
+use Rattle.room_desk.proofs.SlotTests.{accepted_by_number, old_answer}
 
--- what a slot keeps is the text of a command, so a body that tells its own tells this one
-pub kept_text : (start : Room) (requests : List Accepted) (body : List ℕ) (q : Request)
-    → TellsText body (Slot q) → KeepsText (kept_after start requests) body q
-kept_text start [] body q tells = tt
-kept_text start (last ∷ earlier) body q tells = tells last.request.command
+-- the request, once its command is known
+abbrev pub request_of : SentRequest → CommandModel × Bool → Request
+request_of sent asked = record {
+  caller = sent.subject;
+  sid = sent.sid;
+  slot = sent.slot;
+  seq = sent.seq;
+  command = asked.0;
+  keep = asked.1;
+}
 
--- each command has a text
-some_text : (c : CommandModel) → command_text c ≢ []
-some_text c is = grind (arith, common_steps)
+text_after : (start : Room) (requests : List Accepted) (kept : KeptModel)
+    → HaveLawfulCommands requests → kept_after start requests ≡ Some kept → IsText kept.request
+text_after start [] kept lawful is = absurd cc
+text_after start (last ∷ earlier) kept lawful is =
+    (last.request.command, lawful.0, ap (λ (k : KeptModel). k.request) (same_Some _ kept is))
 
--- nothing is no command's text
-pub nothing_tells : (event : EventModel) → TellsText [] event
-nothing_tells (Slot q) = λ command is. absurd (some_text command is)
-nothing_tells event = tt
+-- what a slot keeps is what its accepted requests left
+kept_of_row : (start : Room) (past : History) (sid : List ℕ) (slot : ℕ) (kept : KeptModel)
+    → slot_row_of start past sid slot ≡ Some kept → kept_after start (accepted past sid slot) ≡ Some kept
+kept_of_row start past sid slot kept is = grind (arith, common_steps)
 
--- a body that begins as no text with numbers tells its own
-pub body_tells : (body : List ℕ) (event : EventModel) → starts_with nat_eq body (codes "{\"aclflag\":") ≡ false
-    → starts_with nat_eq body (codes "{\"cmd\":\"ACCESS\"") ≡ false → IsBodyOf body event → TellsText body event
-body_tells body (Slot q) list access asks = λ command is.
-    let begins = λ (prefix : List ℕ). ap (λ text. starts_with nat_eq text prefix) is in
-    let plain = no_numbers command (begins (codes "{\"aclflag\":") ∙ list)
-    (begins (codes "{\"cmd\":\"ACCESS\"") ∙ access) in
-    sym is ∙ sym (same_text command (q.command, q.keep) plain (ap command_of_body is ∙ asks))
-body_tells body event list access asks = tt
+-- by the number that is kept, a command is that of the kept text, or another
+by_text : (r : Records) (q : Request) (kept : KeptModel) (keep : Bool) → r.slot q.sid q.slot ≡ Some kept
+    → kept.seq ≡ q.seq → row_answer r q (command_text q.command) ≡ answer_to_body (Some (q.command, keep)) kept
+by_text r q kept keep is same = grind (arith, common_steps, nat_tests)
 
--- the body of a message asks the event that the message asks
-pub body_asks : (users : List SubjectModel) (m : MessageModel) (event : EventModel)
-    → ask_of users m ≡ Ok (Event event) → IsBodyOf m.body event
-body_asks users m (Slot q) e = asks_command users m q e
-body_asks users m event e = tt
+-- a body that is the kept text asks the command of the last request
+pub repeats : (body : List ℕ) (kept : KeptModel) (answered : AnswerModel) → bytes_eq body kept.request ≡ true
+    → answered ≡ answer_again kept.reply → IsText kept.request → AnswersBody (command_of_body body) kept answered
+repeats body kept answered same told (command, lawful, text) =
+    let asks = ap command_of_body ((bytes_decides body kept.request).0 same ∙ sym text) ∙ text_back command lawful in
+    rw asks (inl (rw (told, text, itself kept.request)))
+
+module _ {start : Room} {r : Records} {past : History} (stand : RepresentsHistory start r past)
+    {sent : SentRequest} {kept : KeptModel} (keeps : KeepsNumber r sent kept) where
+  pub is_text : IsText kept.request
+  is_text = text_after start (accepted past sent.sid sent.slot) kept (stand.lawful sent.sid sent.slot)
+      (kept_of_row start past sent.sid sent.slot kept (sym (stand.slots sent.sid sent.slot) ∙ keeps.keeps))
+
+  module _ (asked : CommandModel × Bool) where
+    may_use : is_open_for sent.sid sent.subject (session_of past sent.sid) ≡ true
+    may_use = usable stand sent.sid keeps.row keeps.stands sent.subject ∙ keeps.usable
+
+    has : HasSlot r sent.sid sent.slot
+    has = record { row = keeps.row; stands = keeps.stands; below = keeps.below }
+
+    -- it is not new
+    pub not_accepted : is_accepted past (request_of sent asked) ≡ false
+    not_accepted =
+        let by_number = accepted_by_number stand (request_of sent asked) may_use has refl refl refl in
+        grind (arith, common_steps, nat_tests, next_number_other, keeps.keeps, keeps.number, by_number)
+
+    pub answer_is : answer_to_body (Some asked) kept ≡ answer_to start past (Slot (request_of sent asked))
+    answer_is = old_answer stand (request_of sent asked) may_use has not_accepted
+        (sym (by_text r (request_of sent asked) kept asked.1 keeps.keeps keeps.number))

@@ -63,6 +63,7 @@ module _ {start : Room} {r : Records} {past : History} (stand : RepresentsHistor
         mine sid (stand.sessions sid));
     slots = λ sid slot. rw named (slot_closed start r past caller row (stand.sessions row.sid) (rw named at some)
         mine sid slot (stand.slots sid slot));
+    lawful = stand.lawful;
   }
 
   -- it changes what is kept exactly where the session is open

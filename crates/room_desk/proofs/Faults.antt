@@ -1,8 +1,9 @@
 -- Faults of the shelf that a call passes on.
 use Rattle.std.proofs.Common.{◌≡◌, None, Some, Result, Ok, Err, IsErr, IsErrAnd}
 use Rattle.room_records.specs.declared.shelf.ShelfFault.{ShelfFault}
+use Rattle.room_records.specs.declared.shelf.ShelfFault.TheVariants.{Memory, Store}
 use Rattle.room_records.specs.Shelf.{View, ShelfCall, ShelfRead, fault_in}
-use Rattle.room_records.proofs.Shelves.{call_then}
+use Rattle.room_records.proofs.Shelves.{call_then, none_not_store}
 
 -- the fault of a call after a read
 pub passed_on : {T : Type 0} (a b c : View) (fault : ShelfFault) (r : Result T ShelfFault)
@@ -11,3 +12,18 @@ pub passed_on : {T : Type 0} (a b c : View) (fault : ShelfFault) (r : Result T S
 passed_on a b c fault (Ok x) err is second first = absurd cc
 passed_on a b c fault (Err e) err is second first =
     rw is (call_then a b c (Some fault) second first)
+
+-- memory that is refused after a read
+pub memory_after : {T : Type 0} (a b : View) (r : Result T ShelfFault)
+    → IsErr r → IsErrAnd r (λ e. e ≡ Memory) → ShelfRead a b None → ShelfCall a b (fault_in r)
+memory_after a b (Ok x) err is read = absurd cc
+memory_after a b (Err e) err is read = rw is (record {
+  was_intact = read.call.was_intact;
+  was_available = read.call.was_available;
+  laid_out = read.call.laid_out;
+  alive = λ k h. tt;
+  never_falls = read.call.never_falls;
+  quiet = λ other. read.call.quiet (none_not_store Store);
+  store = λ stored. absurd cc;
+  undone = read.same;
+})

@@ -24,3 +24,4 @@ mod Examples
 pub mod Calls
 pub mod Faults
 pub mod Messages
+pub mod Sent

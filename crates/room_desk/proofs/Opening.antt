@@ -89,5 +89,6 @@ module _ {start : Room} {r : Records} {past : History} (stand : RepresentsHistor
       rules = open_rules.slots;
       sessions = λ sid. session_opened sid (stand.sessions sid);
       slots = λ sid slot. slot_opened sid slot (stand.slots sid slot);
+      lawful = stand.lawful;
     },
   )

@@ -16,6 +16,7 @@ use Rattle.room_records.specs.Room.{Room}
 use Rattle.room_records.specs.Representation.{RepresentsRoom}
 use Rattle.room_commands.specs.ReplyModel.{reply_model}
 use Rattle.room_commands.specs.Effect.{effect}
+use Rattle.room_commands.specs.Lawful.{IsLawful}
 use Rattle.room_tree.specs.Plans.{PlansEffect}
 use Rattle.room_tree.specs.declared.planning.Outcome.{Outcome}
 use Rattle.room_wire.specs.Asks.EventModel.{Request}
@@ -90,19 +91,19 @@ pub record Commits (r : Records) (room : Room) (q : Request)
 
 -- so it is where the slot row keeps the text of the command and of its reply
 pub commits : {r from : Records} {room : Room} {p q : Request} {outcome : Outcome} {row : SlotRow}
-    {changes : List Change} {request reply : List ℕ} → p ≡ q → from ≡ r → RepresentsRoom r.objects room → SlotRules r
-    → HasSlot r q.sid q.slot → PlansEffect r.objects room p.caller p.command outcome
-    → request ≡ command_text q.command → reply ≡ reply_text (reply_model outcome.reply)
+    {changes : List Change} {reply : List ℕ} → p ≡ q → from ≡ r → RepresentsRoom r.objects room → SlotRules r
+    → HasSlot r q.sid q.slot → PlansEffect r.objects room p.caller p.command outcome → IsLawful q.command
+    → reply ≡ reply_text (reply_model outcome.reply)
     → row ≡ record {
       sid = q.sid;
       slot = q.slot;
-      kept = record { seq = q.seq; request = request; reply = if_kept q.keep reply };
+      kept = record { seq = q.seq; request = command_text q.command; reply = if_kept q.keep reply };
     }
     → changes ≡ outcome.changes.items ++ PutSlot row ∷ [] → Commits r room q from changes reply
-commits {r} {from} {room} {p} {q} {outcome} {row} {changes} asked same stand slots has planned text told
+commits {r} {from} {room} {p} {q} {outcome} {row} {changes} asked same stand slots has planned lawful told
     row_is changes_are =
     let plans : PlansEffect r.objects room q.caller q.command outcome = rw (← asked) planned in
-    let kept : row ≡ ran_row room q = row_is ∙ rw (text, told, plans.reply) in
+    let kept : row ≡ ran_row room q = row_is ∙ rw (told, plans.reply) in
     let still = all_slots_kept outcome.changes.items r plans.of_tree in record {
       rules = rw (same, changes_are, kept) (rules_with_slot outcome.changes.items r (ran_row room q)
           stand.rules plans.rules plans.of_tree slots has);
@@ -115,5 +116,6 @@ commits {r} {from} {room} {p} {q} {outcome} {row} {changes} asked same stand slo
         rules = put_slot_rules _ (ran_row room q) (rules_still still slots) (has_still still has);
         leaves = after ∙ rw (same, changes_are, kept) (changes_then outcome.changes.items (PutSlot (ran_row room q)) r);
         says = refl;
+        lawful = lawful;
       };
     }

@@ -13,13 +13,11 @@ use Rattle.room_wire.specs.Asks.EventModel.{Request, Slot}
 use Rattle.room_wire.specs.Forms.Texts.{command_text, reply_text}
 use Rattle.room_commands.specs.Effect.{effect}
 use Rattle.room_desk.specs.AnswerModel.{AnswerModel, Reply}
-use Rattle.room_desk.specs.Bodies.{TellsText, KeepsText}
 use Rattle.room_desk.specs.History.{History, session_of, is_open_for, slots_of, accepted, Accepted, is_accepted}
 use Rattle.room_desk.specs.History.{answer_to, answer_unaccepted, state_after}
 use Rattle.room_desk.specs.Representation.{RepresentsHistory, kept_after}
 use Rattle.room_desk.specs.RowAnswers.{HasSlot, answer_kept, row_answer}
 use Rattle.room_desk.proofs.Answers.{as_many}
-use Rattle.room_desk.proofs.Bodies.{kept_text}
 use Rattle.room_desk.proofs.KeptRows.{keeps_count, verdict_is, row_is, accepted_is}
 
 -- the next number by what is kept is the one after the count
@@ -49,10 +47,6 @@ module _ {start : Room} {r : Records} {past : History} (stand : RepresentsHistor
   accepted_by_number same tells number =
       rw (tells, number, same) (by_number ∙ rw kept_is (sym (next_by_count
       (kept_after start (accepted past q.sid q.slot)) _ q.seq (keeps_count start (accepted past q.sid q.slot)))))
-
-  -- what the slot keeps is the request's own text, where it is the body
-  pub keeps_text : (body : List ℕ) → TellsText body (Slot q) → KeepsText (r.slot q.sid q.slot) body q
-  keeps_text body tells = rw kept_is (kept_text start (accepted past q.sid q.slot) body q tells)
 
   pub new_answer : is_accepted past q ≡ true → {answered : AnswerModel}
       → answered ≡ Reply (reply_text (effect (state_after start past) q.caller q.command).reply)

@@ -1,13 +1,14 @@
 -- Histories: whose a session is, which requests are accepted, what the room is, and what is answered. Slots and their
 -- numbers are those of RFC 8881, sections 2.10.6.1 and 18.46; who owns a session name, when it is open, and that the
 -- first number is 1 are our own rules.
-use Rattle.std.specs.Prelude.{◌≡◌, ℕ, ◌%◌, ◌^◌, Bool, true, false, not, ◌&&◌, ◌==◌, List, [], ◌∷◌, length, Option}
+use Rattle.std.specs.Prelude.{◌≡◌, ℕ, ◌%◌, ◌^◌, Bool, true, false, not, ◌&&◌, ◌==◌, List, [], ◌∷◌, length, map, Option}
 use Rattle.std.specs.Prelude.{None, Some, if◌then◌else◌, nat_lt, is_some}
-use Rattle.std.specs.List.{list_any}
+use Rattle.std.specs.List.{AllByRecursion, list_any}
 use Rattle.std.specs.Str.{bytes_eq}
 use Rattle.room_acl.specs.SubjectModel.{SubjectModel}
 use Rattle.room_slots.specs.Slots.{next_number}
 use Rattle.room_records.specs.Room.{Room}
+use Rattle.room_commands.specs.CommandModel.{CommandModel}
 use Rattle.room_commands.specs.ReplyModel.{Done, Opened}
 use Rattle.room_commands.specs.Lawful.{IsLawful}
 use Rattle.room_commands.specs.Effect.{effect}
@@ -108,6 +109,14 @@ AreLawful [] = Unit {0}
 AreLawful (Open caller name slots ∷ past) = AreLawful past
 AreLawful (Close caller name ∷ past) = AreLawful past
 AreLawful (Slot q ∷ past) = IsLawful q.command × AreLawful past
+
+-- the commands of these requests
+abbrev pub commands_of : List Accepted → List CommandModel
+commands_of requests = map (λ (a : Accepted). a.request.command) requests
+
+-- each of them is lawful
+abbrev pub HaveLawfulCommands : List Accepted → Type 0
+HaveLawfulCommands requests = AllByRecursion IsLawful (commands_of requests)
 
 -- the reply of an accepted request: that of its command on the room that stood before it
 abbrev pub original_reply : Room → Accepted → List ℕ

@@ -15,6 +15,7 @@ use Rattle.room_records.specs.Changes.{apply_change}
 use Rattle.room_records.specs.Room.{Room}
 use Rattle.room_records.specs.Representation.{RepresentsRoom}
 use Rattle.room_commands.specs.Effect.{effect}
+use Rattle.room_commands.specs.Lawful.{IsLawful}
 use Rattle.room_commands.specs.ReplyModel.{Opened}
 use Rattle.room_wire.specs.declared.answers.code.Code.TheVariants.{BadSession, SeqMisordered, SeqFalseRetry}
 use Rattle.room_wire.specs.declared.answers.code.Code.TheVariants.{SessionTaken, RetryUncached}
@@ -62,6 +63,7 @@ pub record Ran (r : Records) (room : Room) (q : Request) (answered : AnswerModel
   pub rules : SlotRules (apply_change (PutSlot (ran_row room q)) changed)
   pub leaves : new ≡ apply_change (PutSlot (ran_row room q)) changed
   pub says : answered ≡ Reply (reply_text (effect room q.caller q.command).reply)
+  pub lawful : IsLawful q.command
 
 -- the records after a command was run
 abbrev pub RanTo : Records → Room → Request → Records → Type 0

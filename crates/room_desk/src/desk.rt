@@ -5,7 +5,6 @@ ghost use Rattle.room_records.specs.Shelf.{ShelfCall, fault_in};
 ghost use Rattle.room_wire.specs.Asks.EventModel.{event_model};
 ghost use Rattle.room_wire.specs.declared.answers.code.Code.TheVariants.{Delay};
 ghost use Rattle.room_desk.specs.AnswerModel.{AnswerModel, Refused, answer_model, IsTurnedAway};
-ghost use Rattle.room_desk.specs.Bodies.{TellsText};
 ghost use Rattle.room_desk.specs.Crashes.{LeavesOldOrNew, LeavesNew};
 ghost use Rattle.room_desk.specs.History.{History, answer_to, changes_rows, ReportsChange};
 ghost use Rattle.room_desk.specs.Representation.{RepresentsHistory, StandsFor, StandsWith, WasAllowed, InTurn, Run};
@@ -55,14 +54,12 @@ impl<S: Shelf> Desk<S> {
         shelf
     }
 
-    /// Answers one event as the history says, or gives up with nothing changed while the store is available. `body` is
-    /// what the event came in, or nothing.
-    fn answer(&mut self, event: &Event, body: &[u8]) -> Result<Answer, ShelfFault>
+    /// Answers one event as the history says, or gives up with nothing changed while the store is available.
+    fn answer(&mut self, event: &Event) -> Result<Answer, ShelfFault>
         ensures there { (S.view self.new).is_intact → OnOk result (S.view self.new).is_available }
         ensures frame { ShelfCall (S.view self.old) (S.view self.new) (fault_in result) }
         ensures step { (S.view self.new).is_available → (S.view self.old).is_laid_out
             → (start : Room) (past : History) → RepresentsHistory start (S.view self.old).records past →
-            TellsText body.now (event_model event.now) →
             IfOk result (λ answer. (answer_model answer ≡ answer_to start past (event_model event.now))
             × RepresentsHistory start (S.view self.new).records (event_model event.now ∷ past)) }
         ensures refused { (S.view self.new).is_available → (S.view self.old).is_laid_out →
@@ -102,7 +99,7 @@ impl<S: Shelf> Desk<S> {
                     command,
                     keep: *keep,
                 };
-                request(self.alloc, &mut self.shelf, &asked, body)
+                request(self.alloc, &mut self.shelf, &asked)
             }
         }
     }
@@ -115,16 +112,7 @@ impl<S: Shelf> Desk<S> {
         ensures answered { EventAnswered S.view self.old (event_model event.now) (answer_model result) self.new }
         ensures allowed { (start : Room) (past : History) → WasAllowed start past (event_model event.now) }
     {
-        self.handle_sent(event, &[])
-    }
-
-    /// Answers one event that came in this body as `handle` does. A repeat of a request whose text the slot keeps is
-    /// told by the body alone.
-    pub(crate) fn handle_sent(&mut self, event: &Event, body: &[u8]) -> Answer
-        ensures { TellsText body.now (event_model event.now)
-            → EventAnswered S.view self.old (event_model event.now) (answer_model result) self.new }
-    {
-        match self.answer(event, body) {
+        match self.answer(event) {
             Ok(answer) => answer,
             Err(_) => Answer::Refused(Code::Delay),
         }

@@ -3,6 +3,7 @@
 
 mod desk;
 mod laws;
+mod repeating;
 mod requests;
 mod run_laws;
 mod service;

@@ -5,10 +5,10 @@ ghost use Rattle.room_records.specs.Rules.{SlotRules};
 ghost use Rattle.room_records.specs.Room.{Room};
 ghost use Rattle.room_records.specs.Representation.{RepresentsRoom};
 ghost use Rattle.room_records.specs.Shelf.{ShelfCall, ShelfRead, Tells, fault_in};
+ghost use Rattle.room_commands.specs.Lawful.{IsLawful};
 ghost use Rattle.room_wire.specs.Asks.EventModel.{Slot};
 ghost use Rattle.room_wire.specs.Forms.Texts.{command_text};
 ghost use Rattle.room_desk.specs.AnswerModel.{answer_model, IsTurnedAway};
-ghost use Rattle.room_desk.specs.Bodies.{KeepsText, TellsText};
 ghost use Rattle.room_desk.specs.Crashes.{LeavesOldOrNew, LeavesNew};
 ghost use Rattle.room_desk.specs.History.{History, session_of, is_open_for, answer_to, changes_rows, ReportsChange};
 ghost use Rattle.room_desk.specs.History.{if_kept, answer_again};
@@ -59,13 +59,19 @@ impl<'a> Model for SlotRequest<'a> {
 }
 
 /// The row that a request leaves in its slot: its number, its command text, and its reply where that is to be kept.
-fn slot_row(asked: &SlotRequest, request: Vec<u8>, reply: &Vec<u8>) -> Result<SlotRow, AllocError>
-    ensures { IfOk result (λ row. row ≡ record {
+fn slot_row(alloc: Global, asked: &SlotRequest, reply: &Vec<u8>) -> Result<SlotRow, AllocError>
+    ensures row { IfOk result (λ row. row ≡ record {
       sid = asked.now.sid;
       slot = asked.now.slot;
-      kept = record { seq = asked.now.seq; request = request.items; reply = if_kept asked.now.keep reply.now.items };
+      kept = record {
+        seq = asked.now.seq;
+        request = command_text asked.now.command;
+        reply = if_kept asked.now.keep reply.now.items;
+      };
     }) }
+    ensures lawful { IfOk result (λ _. IsLawful asked.now.command) }
 {
+    let request = command_text(alloc, asked.command)?;
     let reply = if asked.keep {
         Some(reply.clone()?)
     } else {
@@ -82,15 +88,13 @@ fn slot_row(asked: &SlotRequest, request: Vec<u8>, reply: &Vec<u8>) -> Result<Sl
     })
 }
 
-/// Runs a new request: what its command changes and the slot's row go in one commit. The reply's
-/// text is made before it, and nothing grows after it.
+/// Runs a new request: what its command changes and the slot's row go in one commit. The texts of the row are made
+/// before it, and nothing grows after it.
 fn run_new<S: Shelf>(
     alloc: Global,
     shelf: &mut S,
     asked: &SlotRequest,
-    request: Vec<u8>,
 ) -> Result<Answer, ShelfFault>
-    requires { request.items ≡ command_text asked.now.command }
     ensures there { (S.view shelf.new).is_intact → OnOk result (S.view shelf.new).is_available }
     ensures frame { ShelfCall (S.view shelf.old) (S.view shelf.new) (fault_in result) }
     ensures reply { IfOk result (λ answer. IsTurnedAway (answer_model answer) → ⊥) }
@@ -110,7 +114,7 @@ fn run_new<S: Shelf>(
 {
     let outcome = plan(alloc, shelf, asked.subject, asked.command)?;
     let reply = reply_text(alloc, &outcome.reply)?;
-    let row = slot_row(asked, request, &reply)?;
+    let row = slot_row(alloc, asked, &reply)?;
     let mut changes = outcome.changes;
     let Ok(()) = changes.push(Change::PutSlot(row)) else {
         return Err(ShelfFault::Memory);
@@ -119,28 +123,8 @@ fn run_new<S: Shelf>(
     Ok(Answer::Reply(reply))
 }
 
-/// What a request is to what its slot keeps. Its command's text is made only where the kept number comes again in
-/// another body than the kept text: most repeats are those very bytes.
-fn verdict_of(
-    alloc: Global,
-    kept: &Option<Kept>,
-    asked: &SlotRequest,
-    body: &[u8],
-) -> Result<Verdict, AllocError>
-    ensures { IfOk result (λ found. KeepsText kept.now body.now asked.now →
-        found ≡ verdict kept.now asked.now.seq (command_text asked.now.command)) }
-{
-    match classify(kept.as_ref(), asked.seq, body) {
-        Verdict::FalseRetry => {
-            let text = command_text(alloc, asked.command)?;
-            Ok(classify(kept.as_ref(), asked.seq, &text))
-        }
-        by_body => Ok(by_body),
-    }
-}
-
 /// What a repeat is answered by the reply that is kept: where none is, it is refused.
-fn answer_again(reply: Option<Vec<u8>>) -> Answer
+pub(crate) fn answer_again(reply: Option<Vec<u8>>) -> Answer
     ensures { answer_model result ≡ answer_again (option_map (λ r. r.items) reply) }
 {
     match reply {
@@ -169,26 +153,24 @@ fn answer_from_row<S: Shelf>(
     alloc: Global,
     shelf: &mut S,
     asked: &SlotRequest,
-    body: &[u8],
 ) -> Result<Answer, ShelfFault>
     ensures value { Tells (S.view shelf.old) (S.view shelf.new) result
-        (λ records answer. KeepsText (records.slot asked.now.sid asked.now.slot) body.now asked.now →
-        answer_model answer ≡ row_answer records asked.now (command_text asked.now.command)) }
+        (λ records answer. answer_model answer ≡ row_answer records asked.now (command_text asked.now.command)) }
     ensures there { (S.view shelf.new).is_intact → OnOk result (S.view shelf.new).is_available }
     ensures frame { ShelfRead (S.view shelf.old) (S.view shelf.new) (fault_in result) }
 {
     let kept = shelf.slot(asked.sid, asked.slot)?;
-    let verdict = verdict_of(alloc, &kept, asked, body)?;
+    let text = command_text(alloc, asked.command)?;
+    let verdict = classify(kept.as_ref(), asked.seq, &text);
     Ok(answer_kept(verdict, kept))
 }
 
 /// A request in a slot of an open session of the caller: the number decides. The slot's row may be long, so a new
-/// request reads its number alone. `body` is what the request came in, or nothing.
+/// request reads its number alone.
 fn in_slot<S: Shelf>(
     alloc: Global,
     shelf: &mut S,
     asked: &SlotRequest,
-    body: &[u8],
 ) -> Result<Answer, ShelfFault>
     ensures there { (S.view shelf.new).is_intact → OnOk result (S.view shelf.new).is_available }
     ensures frame { ShelfCall (S.view shelf.old) (S.view shelf.new) (fault_in result) }
@@ -198,7 +180,7 @@ fn in_slot<S: Shelf>(
     ensures step { (S.view shelf.new).is_available → (S.view shelf.old).is_laid_out
         → (start : Room) (past : History) → RepresentsHistory start (S.view shelf.old).records past →
         is_open_for asked.now.sid asked.now.caller (session_of past asked.now.sid) ≡ true
-        → HasSlot (S.view shelf.old).records asked.now.sid asked.now.slot → TellsText body.now (Slot asked.now) →
+        → HasSlot (S.view shelf.old).records asked.now.sid asked.now.slot →
         IfOk result (λ answer. (answer_model answer ≡ answer_to start past (Slot asked.now))
         × RepresentsHistory start (S.view shelf.new).records (Slot asked.now ∷ past)) }
     ensures idle { (S.view shelf.new).is_available → (S.view shelf.old).is_laid_out
@@ -220,20 +202,17 @@ fn in_slot<S: Shelf>(
 {
     let last = shelf.slot_seq(asked.sid, asked.slot)?;
     if is_next(last, asked.seq) {
-        let request = command_text(alloc, asked.command)?;
-        run_new(alloc, shelf, asked, request)
+        run_new(alloc, shelf, asked)
     } else {
-        answer_from_row(alloc, shelf, asked, body)
+        answer_from_row(alloc, shelf, asked)
     }
 }
 
-/// A request to a slot: the session is tested first, then the slot, then the number. `body` is what the request came
-/// in, or nothing.
+/// A request to a slot: the session is tested first, then the slot, then the number.
 pub(crate) fn request<S: Shelf>(
     alloc: Global,
     shelf: &mut S,
     asked: &SlotRequest,
-    body: &[u8],
 ) -> Result<Answer, ShelfFault>
     ensures there { (S.view shelf.new).is_intact → OnOk result (S.view shelf.new).is_available }
     ensures frame { ShelfCall (S.view shelf.old) (S.view shelf.new) (fault_in result) }
@@ -242,7 +221,6 @@ pub(crate) fn request<S: Shelf>(
         → (S.view shelf.new).records ≡ (S.view shelf.old).records) }
     ensures step { (S.view shelf.new).is_available → (S.view shelf.old).is_laid_out
         → (start : Room) (past : History) → RepresentsHistory start (S.view shelf.old).records past →
-        TellsText body.now (Slot asked.now) →
         IfOk result (λ answer. (answer_model answer ≡ answer_to start past (Slot asked.now))
         × RepresentsHistory start (S.view shelf.new).records (Slot asked.now ∷ past)) }
     ensures idle { (S.view shelf.new).is_available → (S.view shelf.old).is_laid_out
@@ -265,5 +243,5 @@ pub(crate) fn request<S: Shelf>(
     if asked.slot >= row.slots.get() {
         return Ok(Answer::Refused(Code::BadSlot));
     }
-    in_slot(alloc, shelf, asked, body)
+    in_slot(alloc, shelf, asked)
 }

@@ -1,5 +1,4 @@
 -- What messages ask: routes, the caller, events and questions.
 pub mod Numerals
-pub mod Requests
 pub mod TargetTexts
 pub mod Targets

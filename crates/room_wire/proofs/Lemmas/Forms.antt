@@ -5,7 +5,6 @@ pub mod CommandBytes
 pub mod CommandLawful
 pub mod CommandParts
 pub mod CommandPaths
-pub mod CommandSame
 pub mod CommandTexts
 pub mod CommandUtf8
 pub mod Letters

@@ -21,6 +21,9 @@ use Rattle.room_wire.specs.declared.asks.routing.SessionAction.{SessionAction}
 use Rattle.room_wire.specs.declared.asks.routing.SessionAction.TheVariants as S
 use Rattle.room_wire.specs.declared.asks.routing.Action.{Action}
 use Rattle.room_wire.specs.declared.asks.routing.Action.TheVariants as T
+use Rattle.room_wire.specs.declared.asks.routed.SentRequest.{SentRequest}
+use Rattle.room_wire.specs.declared.asks.routed.Routed.{Routed}
+use Rattle.room_wire.specs.declared.asks.routed.Routed.TheVariants as R
 use Rattle.room_wire.specs.Forms.Commands.{command_of_body}
 use Rattle.room_wire.specs.Asks.EventModel.{EventModel, Open, Close, Slot, event_model}
 use Rattle.room_wire.specs.Messages.Fields.{values_named}
@@ -147,3 +150,22 @@ FindsCaller wanted (Err UnknownUser) = wanted ≡ None
 FindsCaller wanted (Err Memory) = Unit {0}
 FindsCaller wanted (Err BadRoute) = ⊥
 FindsCaller wanted (Err BadRequest) = ⊥
+
+-- the event that a request asks whose body is not read yet
+abbrev pub sent_event : SentRequest → Option EventModel
+sent_event sent =
+    request_by sent.subject (Some sent.sid) (Some sent.slot) (Some sent.seq) (command_of_body sent.body.now)
+
+abbrev pub routed_ask : Routed → Result AskModel WireFault
+routed_ask (R.Ask ask) = Ok (ask_model ask)
+routed_ask (R.Request sent) = event_asked (sent_event sent)
+
+-- the result asks what was asked, whatever the body of a request holds, unless memory was refused
+abbrev pub RoutesAsk : Result AskModel WireFault → Result Routed WireFault → Type 0
+RoutesAsk ask (Ok routed) = ask ≡ routed_ask routed
+RoutesAsk ask (Err fault) = DecodesAsk ask (Err fault)
+
+-- the result asks the event that was wanted, or is a bad request where none was, unless memory was refused
+abbrev pub ReadsSent : Option EventModel → Result SentRequest WireFault → Type 0
+ReadsSent wanted (Ok sent) = wanted ≡ sent_event sent
+ReadsSent wanted (Err fault) = ReadsAs event_model wanted (Err fault)

@@ -2,7 +2,8 @@
 ghost use Rattle.std.specs.Prelude.{◌≡◌, map, take};
 ghost use Rattle.httparse.specs.Spans.{header_bytes};
 ghost use Rattle.room_wire.specs.Asks.AskOf.{ask_of, ask_for, DecodesAsk, ReadsAs, open_by, close_by, request_by};
-ghost use Rattle.room_wire.specs.Asks.AskOf.{event_by, sid_from, number_from, slots_of_body, question_asked};
+ghost use Rattle.room_wire.specs.Asks.AskOf.{event_by, event_asked, sid_from, number_from, slots_of_body, question_asked};
+ghost use Rattle.room_wire.specs.Asks.AskOf.{RoutesAsk, ReadsSent};
 ghost use Rattle.room_wire.specs.Forms.Commands.{command_of_body};
 ghost use Rattle.room_wire.specs.Asks.EventModel.{event_model};
 ghost use Rattle.room_wire.specs.Questions.QuestionModel.{question_of_body};
@@ -13,10 +14,10 @@ ghost use Rattle.room_wire.specs.Messages.Taken.{Shows};
 use crate::asks::ask::Ask;
 use crate::asks::caller::caller_of;
 use crate::asks::event::Event;
+use crate::asks::routed::{Routed, SentRequest};
 use crate::asks::routing::{Action, Routes, SessionAction, Target};
 use crate::asks::target_parts::{number_in, read_slots, sid_in};
 use crate::fault::WireFault;
-use crate::forms::commands::read_command;
 use crate::messages::message::Message;
 use crate::questions::asking::question_of_body;
 use room_acl::Subject;
@@ -42,43 +43,50 @@ fn close_event(alloc: Global, subject: Subject, sid: &str) -> Result<Event, Wire
     Ok(Event::Close { subject, sid })
 }
 
-fn slot_event(
+fn sent_request<'b>(
     alloc: Global,
     subject: Subject,
     target: &Target<'_>,
-    body: &[u8],
-) -> Result<Event, WireFault>
-    ensures { ReadsAs event_model (request_by subject (sid_from target.now.sid.now) (number_from target.now.slot.now)
+    body: &'b [u8],
+) -> Result<SentRequest<'b>, WireFault>
+    ensures { ReadsSent (request_by subject (sid_from target.now.sid.now) (number_from target.now.slot.now)
         (number_from target.now.seq.now) (command_of_body body.now)) result }
 {
     let sid = sid_in(alloc, target.sid)?;
     let slot = number_in(target.slot)?;
     let seq = number_in(target.seq)?;
-    let (command, keep) = read_command(alloc, body)?;
-    Ok(Event::Slot {
+    Ok(SentRequest {
         subject,
         sid,
         slot,
         seq,
-        command,
-        keep,
+        body,
     })
 }
 
-/// The event that a user asks.
-fn read_event(
+/// What a user asks of a session.
+fn route_event<'b>(
     alloc: Global,
     action: SessionAction,
     subject: Subject,
     target: &Target<'_>,
-    body: &[u8],
-) -> Result<Event, WireFault>
-    ensures { ReadsAs event_model (event_by action subject (target_model target.now) body.now) result }
+    body: &'b [u8],
+) -> Result<Routed<'b>, WireFault>
+    ensures { RoutesAsk (event_asked (event_by action subject (target_model target.now) body.now)) result }
 {
     match action {
-        SessionAction::Open => open_event(alloc, subject, target.sid, body),
-        SessionAction::Close => close_event(alloc, subject, target.sid),
-        SessionAction::Run => slot_event(alloc, subject, target, body),
+        SessionAction::Open => {
+            let event = open_event(alloc, subject, target.sid, body)?;
+            Ok(Routed::Ask(Ask::Event(event)))
+        }
+        SessionAction::Close => {
+            let event = close_event(alloc, subject, target.sid)?;
+            Ok(Routed::Ask(Ask::Event(event)))
+        }
+        SessionAction::Run => {
+            let sent = sent_request(alloc, subject, target, body)?;
+            Ok(Routed::Request(sent))
+        }
     }
 }
 
@@ -91,14 +99,14 @@ fn check_ask(alloc: Global, body: &[u8]) -> Result<Ask, WireFault>
     }
 }
 
-/// What a message asks, by the parts that were lent of it.
-fn read_ask(
+/// What a message asks by its route, by the parts that were lent of it.
+fn route_parts<'b>(
     alloc: Global,
-    message: &Message<'_>,
+    message: &Message<'b>,
     routes: &Routes,
     roster: &Roster,
-) -> Result<Ask, WireFault>
-    ensures { DecodesAsk (ask_for (target_at room_rows message.now.method.now message.now.target.now) roster.now
+) -> Result<Routed<'b>, WireFault>
+    ensures { RoutesAsk (ask_for (target_at room_rows message.now.method.now message.now.target.now) roster.now
         (map (header_bytes message.now.window.now) (take message.now.count message.now.spans)) message.now.body.now)
         result }
 {
@@ -106,13 +114,32 @@ fn read_ask(
         return Err(WireFault::BadRoute);
     };
     match target.action {
-        Action::Check => check_ask(alloc, message.body),
+        Action::Check => {
+            let ask = check_ask(alloc, message.body)?;
+            Ok(Routed::Ask(ask))
+        }
         Action::Session(action) => {
             let subject = caller_of(alloc, message, roster)?;
-            let event = read_event(alloc, action, subject, &target, message.body)?;
-            Ok(Ask::Event(event))
+            route_event(alloc, action, subject, &target, message.body)
         }
     }
+}
+
+/// What a message asks of a room, where the body of a request to a slot is left as it came: so a repeat is told by its
+/// bytes before they are read. The route and its method are tested first, then the user, then all else.
+///
+/// # Errors
+///
+/// Those of `decode`, but that of the body of a request to a slot, which `SentRequest::read` tells.
+pub fn route<'b>(
+    alloc: Global,
+    message: &Message<'b>,
+    routes: &Routes,
+    roster: &Roster,
+) -> Result<Routed<'b>, WireFault>
+    ensures { (m : MessageModel) → Shows message.now m → RoutesAsk (ask_of roster.now m) result }
+{
+    route_parts(alloc, message, routes, roster)
 }
 
 /// What a message asks of a room. The route and its method are tested first, then the user, then all else.
@@ -132,5 +159,11 @@ pub fn decode(
 ) -> Result<Ask, WireFault>
     ensures { (m : MessageModel) → Shows message.now m → DecodesAsk (ask_of roster.now m) result }
 {
-    read_ask(alloc, message, routes, roster)
+    match route(alloc, message, routes, roster)? {
+        Routed::Ask(ask) => Ok(ask),
+        Routed::Request(sent) => {
+            let event = sent.read(alloc)?;
+            Ok(Ask::Event(event))
+        }
+    }
 }

@@ -161,13 +161,14 @@ fn lawful_text(alloc: Global, command: &Command) -> Result<Vec<u8>, AllocError>
     }
 }
 
-/// The command as it is kept and compared. It is a body that asks the same command.
+/// The command as it is kept and compared, which is lawful. Its text is a body that asks the same command.
 ///
 /// # Errors
 ///
 /// Only where memory was refused.
 pub fn command_text(alloc: Global, command: &Command) -> Result<Vec<u8>, AllocError>
     ensures value { IfOk result (λ text. text.items ≡ command_text (command_model command.now)) }
+    ensures lawful { IfOk result (λ _. IsLawful (command_model command.now)) }
     ensures reads_back { IfOk result (λ text. command_of_body text.items ≡ Some (command_model command.now, true)) }
 {
     lawful_text(alloc, command)

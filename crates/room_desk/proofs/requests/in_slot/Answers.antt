@@ -7,11 +7,11 @@ use Rattle.room_desk.proofs.Acceptance.{stand_after_run}
 use Rattle.room_desk.proofs.Alike.{stand_after_idle}
 use Rattle.room_desk.proofs.Crashes.{leaves_either, idle_reports_nothing}
 use Rattle.room_desk.proofs.Results.{if_ok_then}
-use Rattle.room_desk.proofs.SlotTests.{accepted_by_number, keeps_text, new_answer, old_answer}
+use Rattle.room_desk.proofs.SlotTests.{accepted_by_number, new_answer, old_answer}
 use Rattle.room_desk.proofs.requests.in_slot.Goals as goal
 
-pub returns-in_ok-request-clause-step : goal.returns-in_ok-request-clause-step
-returns-in_ok-request-clause-step g c = λ h d start past stand usable has tells.
+pub returns-then-is_next-clause-step : goal.returns-then-is_next-clause-step
+returns-then-is_next-clause-step g c = λ h d start past stand usable has.
     let q = c.args.asked.now in
     let read = c.run_new.ensures.frame.was_available h in
     let new = accepted_by_number stand q usable has
@@ -21,16 +21,16 @@ returns-in_ok-request-clause-step g c = λ h d start past stand usable has tells
     if_ok_then c.run_new.result (runs (state_after start past) stand.room stand.rules has)
     (λ answer ran. (new_answer stand q usable has new ran.says, stand_after_run start past q new stand ran))
 
-pub returns-in_ok-request-clause-idle : goal.returns-in_ok-request-clause-idle
-returns-in_ok-request-clause-idle g c = λ h d start past stand usable has idle.
+pub returns-then-is_next-clause-idle : goal.returns-then-is_next-clause-idle
+returns-then-is_next-clause-idle g c = λ h d start past stand usable has idle.
     let read = c.run_new.ensures.frame.was_available h in
     let new = accepted_by_number stand c.args.asked.now usable has
     c.asked.view_is c.is_next.ensures (c.in_ok-last.ensures.value read d) ∙ c.if-is_next.true in
     let never : true ≡ false = sym new ∙ idle in
     absurd cc
 
-pub returns-in_ok-request-clause-crash : goal.returns-in_ok-request-clause-crash
-returns-in_ok-request-clause-crash g c = λ intact d start past stand usable has left may.
+pub returns-then-is_next-clause-crash : goal.returns-then-is_next-clause-crash
+returns-then-is_next-clause-crash g c = λ intact d start past stand usable has left may.
     let q = c.args.asked.now in
     let read = c.in_ok-last.ensures.there (c.run_new.ensures.frame.was_intact intact) in
     let new = accepted_by_number stand q usable has
@@ -40,8 +40,8 @@ returns-in_ok-request-clause-crash g c = λ intact d start past stand usable has
     leaves_either (runs (state_after start past) stand.room stand.rules has left may)
     (c.slot_seq.ensures.frame.crash left) (λ ran. (new, stand_after_run start past q new stand ran))
 
-pub returns-in_ok-request-clause-settled : goal.returns-in_ok-request-clause-settled
-returns-in_ok-request-clause-settled g c = λ intact d start past stand usable has.
+pub returns-then-is_next-clause-settled : goal.returns-then-is_next-clause-settled
+returns-then-is_next-clause-settled g c = λ intact d start past stand usable has.
     let q = c.args.asked.now in
     let read = c.in_ok-last.ensures.there (c.run_new.ensures.frame.was_intact intact) in
     let new = accepted_by_number stand q usable has
@@ -56,7 +56,7 @@ returns-else-is_next-clause-frame g c =
     call_then _ _ _ _ c.answer_from_row.ensures.frame.call c.in_ok-last.ensures.frame
 
 pub returns-else-is_next-clause-step : goal.returns-else-is_next-clause-step
-returns-else-is_next-clause-step g c = λ h d start past stand usable has tells.
+returns-else-is_next-clause-step g c = λ h d start past stand usable has.
     let q = c.args.asked.now in
     let read = c.answer_from_row.ensures.frame.call.was_available h in
     let laid_out = c.slot_seq.ensures.frame.call.laid_out read d in
@@ -64,7 +64,7 @@ returns-else-is_next-clause-step g c = λ h d start past stand usable has tells.
     let other = accepted_by_number stand q usable has
     c.asked.view_is c.is_next.ensures (c.in_ok-last.ensures.value read d) ∙ c.if-is_next.false in
     if_ok_then c.answer_from_row.result (rw same at (c.answer_from_row.ensures.value h laid_out)) (λ answer says. (
-      old_answer stand q usable has other (says (keeps_text stand q usable has c.args.body.now tells)),
+      old_answer stand q usable has other says,
       rw (c.answer_from_row.ensures.frame.same h laid_out ∙ same) (stand_after_idle start _ past (Slot q) other stand),
     ))
 

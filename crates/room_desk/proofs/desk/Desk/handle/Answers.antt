@@ -1,10 +1,58 @@
+use Rattle.std.proofs.Common.{◌∷◌, refl, inl, inr}
+use Rattle.room_records.specs.declared.shelf.ShelfFault.TheVariants.{Store}
+use Rattle.room_records.proofs.Shelves.{none_not_store}
 use Rattle.room_wire.specs.Asks.EventModel.{event_model}
+use Rattle.room_desk.specs.AnswerModel.{answer_model}
 use Rattle.room_desk.proofs.Allowed.{had_rights}
-use Rattle.room_desk.proofs.Bodies.{nothing_tells}
+use Rattle.room_desk.proofs.Calls.{one_call}
+use Rattle.room_desk.proofs.Crashes.{reports_change}
 use Rattle.room_desk.proofs.desk.Desk.handle.Goals as goal
 
-pub returns-clause-answered : goal.returns-clause-answered
-returns-clause-answered g c = c.handle_sent.ensures (nothing_tells (event_model c.args.event.now))
+-- an answer means that the store was there
+pub returns-in-Ok-clause-answered : goal.returns-in-Ok-clause-answered
+returns-in-Ok-clause-answered g c = record {
+  frame = one_call _ _ _ c.answer.ensures.frame;
+  quiet = λ other. c.in-Ok.ensures.frame.quiet (none_not_store Store);
+  alive = λ k event is other. c.in-Ok.ensures.there k;
+  step = λ k start past stands.
+      let available = c.in-Ok.ensures.there k in
+      let stood = stands (c.answer.ensures.frame.was_available available) in
+      let step = c.in-Ok.ensures.step available stood.0 start past stood.1 in (
+        event_model c.args.event.now ∷ past,
+        inl (step.0, refl),
+        λ h. (c.answer.ensures.frame.laid_out h stood.0, step.1),
+      );
+  refused = c.in-Ok.ensures.refused;
+  idle = c.answer.ensures.idle;
+  crash = c.answer.ensures.crash;
+  settled = λ k start past stands changes other.
+      let available = c.in-Ok.ensures.there k in
+      let stood = stands (c.answer.ensures.frame.was_available available) in
+      let step = c.in-Ok.ensures.step available stood.0 start past stood.1 in
+      c.in-Ok.ensures.settled k start past stands
+      (reports_change start past (event_model c.args.event.now) (answer_model c.in-Ok.answer) step.0 changes);
+}
 
-pub returns-clause-allowed : goal.returns-clause-allowed
-returns-clause-allowed g c = λ start past. had_rights start past (event_model c.args.event.now)
+pub returns-in-Err-clause-answered : goal.returns-in-Err-clause-answered
+returns-in-Err-clause-answered g c = record {
+  frame = one_call _ _ _ c.answer.ensures.frame;
+  quiet = λ other. absurd (other refl);
+  alive = λ k event is other. absurd (other refl);
+  step = λ k start past stands. (
+    past,
+    inr (refl, refl),
+    λ h.
+        let stood = stands (c.answer.ensures.frame.was_available h) in
+        (c.answer.ensures.frame.laid_out h stood.0, rw (c.in-Err.ensures.frame.undone h stood.0) stood.1),
+  );
+  refused = λ h d away. c.in-Err.ensures.frame.undone h d;
+  idle = c.answer.ensures.idle;
+  crash = c.answer.ensures.crash;
+  settled = λ k start past stands changes other. absurd (other refl);
+}
+
+pub returns-in-Ok-clause-allowed : goal.returns-in-Ok-clause-allowed
+returns-in-Ok-clause-allowed g c = λ start past. had_rights start past (event_model c.args.event.now)
+
+pub returns-in-Err-clause-allowed : goal.returns-in-Err-clause-allowed
+returns-in-Err-clause-allowed g c = λ start past. had_rights start past (event_model c.args.event.now)

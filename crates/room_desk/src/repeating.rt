@@ -1,0 +1,106 @@
+//! Requests that are sent again: told by their body, before it is read.
+ghost use Rattle.std.specs.Prelude.{◌≡◌, IfOk, IfSome, OnOk, None, Some, true, ◌<◌};
+ghost use Rattle.std.specs.Str.{bytes_eq};
+ghost use Rattle.room_records.specs.Shelf.{ShelfRead, Tells, fault_in};
+ghost use Rattle.room_wire.specs.Forms.Commands.{command_of_body};
+ghost use Rattle.room_wire.specs.Forms.Texts.{command_text};
+ghost use Rattle.room_wire.specs.Asks.AskOf.{event_asked, sent_event};
+ghost use Rattle.room_desk.specs.AnswerModel.{answer_model};
+ghost use Rattle.room_desk.specs.Bodies.{AnswersBody, AsksText, IsText, KeepsNumber};
+ghost use Rattle.room_desk.specs.RowAnswers.{is_usable};
+ghost use Rattle.room_desk.specs.Serving.{Answered};
+
+use crate::desk::Desk;
+use crate::requests::answer_again;
+use crate::sessions::is_usable;
+use room_records::{SessionRow, Shelf, ShelfFault};
+use room_slots::Kept;
+use room_wire::{Answer, Code, SentRequest, WireFault, command_text, fault_code, read_command};
+use std::alloc::Global;
+
+/// Whether the last number is this one.
+fn is_last(last: Option<u32>, seq: u32) -> bool
+    ensures { result ≡ true → last ≡ Some seq }
+{
+    match last {
+        Some(last) => last == seq,
+        None => false,
+    }
+}
+
+/// Whether the session is open and the caller's, and has the slot.
+fn may_use(row: &SessionRow, sent: &SentRequest<'_>) -> bool
+    ensures { result ≡ true → (is_usable sent.now.subject row.now ≡ true) × (sent.now.slot < row.now.slots) }
+{
+    is_usable(row, &sent.subject) && sent.slot < row.slots.get()
+}
+
+/// What the slot keeps, where it has the number of this request, the session is open and the caller's, and the slot is
+/// one of its. The number is read first: that of a new request is another.
+fn kept_with_number<S: Shelf>(
+    shelf: &mut S,
+    sent: &SentRequest<'_>,
+) -> Result<Option<Kept>, ShelfFault>
+    ensures value { Tells (S.view shelf.old) (S.view shelf.new) result
+        (λ records found. IfSome found (KeepsNumber records sent.now)) }
+    ensures there { (S.view shelf.new).is_intact → OnOk result (S.view shelf.new).is_available }
+    ensures frame { ShelfRead (S.view shelf.old) (S.view shelf.new) (fault_in result) }
+{
+    let last = shelf.slot_seq(&sent.sid, sent.slot)?;
+    if !is_last(last, sent.seq) {
+        return Ok(None);
+    }
+    let Some(row) = shelf.session(&sent.sid)? else {
+        return Ok(None);
+    };
+    if !may_use(&row, sent) {
+        return Ok(None);
+    }
+    shelf.slot(&sent.sid, sent.slot)
+}
+
+/// Whether the body asks the command of this text.
+fn asks(alloc: Global, body: &[u8], text: &[u8]) -> Result<bool, WireFault>
+    ensures { AsksText (command_of_body body.now) text.now result }
+{
+    let (command, _) = read_command(alloc, body)?;
+    let asked = command_text(alloc, &command)?;
+    Ok(asked.as_slice() == text)
+}
+
+/// What a request is answered whose number its slot keeps. A body that is the kept text is a repeat, and is not read.
+fn answer_by_body(alloc: Global, body: &[u8], kept: Kept) -> Answer
+    ensures { IsText kept.request → AnswersBody (command_of_body body.now) kept (answer_model result) }
+{
+    if body == kept.request.as_slice() {
+        return answer_again(kept.reply);
+    }
+    match asks(alloc, body, &kept.request) {
+        Ok(true) => answer_again(kept.reply),
+        Ok(false) => Answer::Refused(Code::SeqFalseRetry),
+        Err(fault) => Answer::Refused(fault_code(fault)),
+    }
+}
+
+impl<S: Shelf> Desk<S> {
+    /// Reads a request, and answers it.
+    fn serve_read(&mut self, sent: SentRequest<'_>) -> Answer
+        ensures { Answered (event_asked (sent_event sent.entry)) (S.view self.old) (answer_model result) (S.view self.new) }
+    {
+        match sent.read(self.alloc) {
+            Ok(event) => self.handle(&event),
+            Err(fault) => Answer::Refused(fault_code(fault)),
+        }
+    }
+
+    /// Answers a request whose body is not read yet.
+    pub(crate) fn serve_request(&mut self, sent: SentRequest<'_>) -> Answer
+        ensures { Answered (event_asked (sent_event sent.entry)) (S.view self.old) (answer_model result) (S.view self.new) }
+    {
+        match kept_with_number(&mut self.shelf, &sent) {
+            Ok(Some(kept)) => answer_by_body(self.alloc, sent.body, kept),
+            Ok(None) => self.serve_read(sent),
+            Err(_) => Answer::Refused(Code::Delay),
+        }
+    }
+}
