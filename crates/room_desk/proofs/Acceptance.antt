@@ -31,8 +31,9 @@ module _ (start : Room) (past : History) (q : Request) (taken : is_accepted past
 
   lawful_with : (sid : List ℕ) (slot : ℕ) → IsLawful q.command → HaveLawfulCommands (accepted past sid slot)
       → HaveLawfulCommands (accepted (Slot q ∷ past) sid slot)
-  lawful_with sid slot lawful earlier = cond_both (is_for sid slot q && accepts past (length (accepted past sid slot)) q)
-      _ _ HaveLawfulCommands (λ taken. (lawful, earlier)) (λ other. earlier)
+  lawful_with sid slot lawful earlier =
+      cond_both (is_for sid slot q && accepts past (length (accepted past sid slot)) q) _ _
+      HaveLawfulCommands (λ taken. (lawful, earlier)) (λ other. earlier)
 
   -- the changes of the tree left sessions and slots
   pub stand_after_run : {r s : Records} {answered : AnswerModel} → RepresentsHistory start r past

@@ -85,7 +85,8 @@ fn answer_by_body(alloc: Global, body: &[u8], kept: Kept) -> Answer
 impl<S: Shelf> Desk<S> {
     /// Reads a request, and answers it.
     fn serve_read(&mut self, sent: SentRequest<'_>) -> Answer
-        ensures { Answered (event_asked (sent_event sent.entry)) (S.view self.old) (answer_model result) (S.view self.new) }
+        ensures { Answered (event_asked (sent_event sent.entry))
+            (S.view self.old) (answer_model result) (S.view self.new) }
     {
         match sent.read(self.alloc) {
             Ok(event) => self.handle(&event),
@@ -95,7 +96,8 @@ impl<S: Shelf> Desk<S> {
 
     /// Answers a request whose body is not read yet.
     pub(crate) fn serve_request(&mut self, sent: SentRequest<'_>) -> Answer
-        ensures { Answered (event_asked (sent_event sent.entry)) (S.view self.old) (answer_model result) (S.view self.new) }
+        ensures { Answered (event_asked (sent_event sent.entry))
+            (S.view self.old) (answer_model result) (S.view self.new) }
     {
         match kept_with_number(&mut self.shelf, &sent) {
             Ok(Some(kept)) => answer_by_body(self.alloc, sent.body, kept),

@@ -2,8 +2,8 @@
 ghost use Rattle.std.specs.Prelude.{◌≡◌, map, take};
 ghost use Rattle.httparse.specs.Spans.{header_bytes};
 ghost use Rattle.room_wire.specs.Asks.AskOf.{ask_of, ask_for, DecodesAsk, ReadsAs, open_by, close_by, request_by};
-ghost use Rattle.room_wire.specs.Asks.AskOf.{event_by, event_asked, sid_from, number_from, slots_of_body, question_asked};
-ghost use Rattle.room_wire.specs.Asks.AskOf.{RoutesAsk, ReadsSent};
+ghost use Rattle.room_wire.specs.Asks.AskOf.{event_by, event_asked, sid_from, number_from, slots_of_body};
+ghost use Rattle.room_wire.specs.Asks.AskOf.{question_asked, RoutesAsk, ReadsSent};
 ghost use Rattle.room_wire.specs.Forms.Commands.{command_of_body};
 ghost use Rattle.room_wire.specs.Asks.EventModel.{event_model};
 ghost use Rattle.room_wire.specs.Questions.QuestionModel.{question_of_body};

@@ -9,5 +9,6 @@ pub returns-then-eq : goal.returns-then-eq
 returns-then-eq c =
     let same : bytes_eq c.args.body.now c.args.kept.request ≡ true =
     rw (← c.kept.view_is, ← c.as_slice.ensures.value) (sym c.eq.ensures ∙ c.if-eq.true) in
-    let told : answer_model c.answer_again.result ≡ answer_again c.args.kept.reply = rw (← c.kept.view_is) c.answer_again.ensures in
+    let told : answer_model c.answer_again.result ≡ answer_again c.args.kept.reply =
+    rw (← c.kept.view_is) c.answer_again.ensures in
     repeats c.args.body.now c.args.kept (answer_model c.answer_again.result) same told
