@@ -66,13 +66,13 @@ module _ {start : Room} {r : Records} {past : History} (stand : RepresentsHistor
   is_text = text_after start (accepted past sent.sid sent.slot) kept (stand.lawful sent.sid sent.slot)
       (kept_of_row start past sent.sid sent.slot kept (sym (stand.slots sent.sid sent.slot) ∙ keeps.keeps))
 
+  may_use : is_open_for sent.sid sent.subject (session_of past sent.sid) ≡ true
+  may_use = usable stand sent.sid keeps.row keeps.stands sent.subject ∙ keeps.usable
+
+  has : HasSlot r sent.sid sent.slot
+  has = record { row = keeps.row; stands = keeps.stands; below = keeps.below }
+
   module _ (asked : CommandModel × Bool) where
-    may_use : is_open_for sent.sid sent.subject (session_of past sent.sid) ≡ true
-    may_use = usable stand sent.sid keeps.row keeps.stands sent.subject ∙ keeps.usable
-
-    has : HasSlot r sent.sid sent.slot
-    has = record { row = keeps.row; stands = keeps.stands; below = keeps.below }
-
     -- it is not new
     pub not_accepted : is_accepted past (request_of sent asked) ≡ false
     not_accepted =

@@ -46,14 +46,14 @@ delayed_by_read ask a b fault read = record {
 }
 
 -- what is asked, by the command of the body
-abbrev asks : SentRequest → Option (CommandModel × Bool) → Result AskModel WireFault
-asks sent wanted = event_asked (request_by sent.subject (Some sent.sid) (Some sent.slot) (Some sent.seq) wanted)
+abbrev asked_of : SentRequest → Option (CommandModel × Bool) → Result AskModel WireFault
+asked_of sent wanted = event_asked (request_by sent.subject (Some sent.sid) (Some sent.slot) (Some sent.seq) wanted)
 
 module _ {start : Room} {past : History} {r : Records} (stand : RepresentsHistory start r past)
     (sent : SentRequest) (kept : KeptModel) (keeps : KeepsNumber r sent kept) where
   -- by the kept text, the request is answered as the history says, and joins it
   joins : (wanted : Option (CommandModel × Bool)) (answered : AnswerModel) → AnswersBody wanted kept answered
-      → (next : History) × AnswersOrDelays start past (asks sent wanted) answered next
+      → (next : History) × AnswersOrDelays start past (asked_of sent wanted) answered next
       × RepresentsHistory start r next
   joins None answered (inl is) = (past, inl (is, refl), stand)
   joins (Some asked) answered (inl is) = (
@@ -63,7 +63,7 @@ module _ {start : Room} {past : History} {r : Records} (stand : RepresentsHistor
   )
   joins wanted answered (inr is) = (past, inr (is, refl), stand)
 
-  changes_nothing : (wanted : Option (CommandModel × Bool)) → ask_changes_rows past (asks sent wanted) ≡ true → ⊥
+  changes_nothing : (wanted : Option (CommandModel × Bool)) → ask_changes_rows past (asked_of sent wanted) ≡ true → ⊥
   changes_nothing None changes = absurd (false≢true changes)
   changes_nothing (Some asked) changes = false≢true (sym (not_accepted stand keeps asked) ∙ changes)
 
@@ -72,7 +72,7 @@ pub answered_by_kept : (sent : SentRequest) (wanted : Option (CommandModel × Bo
     (answered : AnswerModel) → ShelfRead a b None → (b.is_intact → b.is_available)
     → (b.is_available → a.is_laid_out → KeepsNumber a.records sent kept)
     → (IsText kept.request → AnswersBody wanted kept answered)
-    → Answered (asks sent wanted) a answered b
+    → Answered (asked_of sent wanted) a answered b
 answered_by_kept sent wanted kept a b answered read there keeps says = record {
   frame = one_call a b None read.call;
   quiet = λ other. read.call.quiet (none_not_store Store);

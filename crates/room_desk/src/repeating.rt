@@ -1,9 +1,7 @@
 //! Requests that are sent again: told by their body, before it is read.
-ghost use Rattle.std.specs.Prelude.{◌≡◌, IfOk, IfSome, OnOk, None, Some, true, ◌<◌};
-ghost use Rattle.std.specs.Str.{bytes_eq};
+ghost use Rattle.std.specs.Prelude.{◌≡◌, ◌<◌, true, Some, IfSome, OnOk};
 ghost use Rattle.room_records.specs.Shelf.{ShelfRead, Tells, fault_in};
 ghost use Rattle.room_wire.specs.Forms.Commands.{command_of_body};
-ghost use Rattle.room_wire.specs.Forms.Texts.{command_text};
 ghost use Rattle.room_wire.specs.Asks.AskOf.{event_asked, sent_event};
 ghost use Rattle.room_desk.specs.AnswerModel.{answer_model};
 ghost use Rattle.room_desk.specs.Bodies.{AnswersBody, AsksText, IsText, KeepsNumber};
@@ -60,7 +58,7 @@ fn kept_with_number<S: Shelf>(
 }
 
 /// Whether the body asks the command of this text.
-fn asks(alloc: Global, body: &[u8], text: &[u8]) -> Result<bool, WireFault>
+fn asks_text(alloc: Global, body: &[u8], text: &[u8]) -> Result<bool, WireFault>
     ensures { AsksText (command_of_body body.now) text.now result }
 {
     let (command, _) = read_command(alloc, body)?;
@@ -75,7 +73,7 @@ fn answer_by_body(alloc: Global, body: &[u8], kept: Kept) -> Answer
     if body == kept.request.as_slice() {
         return answer_again(kept.reply);
     }
-    match asks(alloc, body, &kept.request) {
+    match asks_text(alloc, body, &kept.request) {
         Ok(true) => answer_again(kept.reply),
         Ok(false) => Answer::Refused(Code::SeqFalseRetry),
         Err(fault) => Answer::Refused(fault_code(fault)),

@@ -1,6 +1,5 @@
 //! Requests in a slot.
 ghost use Rattle.std.specs.Prelude.{◌≡◌, IfOk, OnOk, Err, ◌∷◌, true, false, option_map};
-ghost use Rattle.room_slots.specs.Slots.{verdict};
 ghost use Rattle.room_records.specs.Rules.{SlotRules};
 ghost use Rattle.room_records.specs.Room.{Room};
 ghost use Rattle.room_records.specs.Representation.{RepresentsRoom};

@@ -156,6 +156,7 @@ abbrev pub sent_event : SentRequest → Option EventModel
 sent_event sent =
     request_by sent.subject (Some sent.sid) (Some sent.slot) (Some sent.seq) (command_of_body sent.body.now)
 
+-- what is asked, once the body of a request is read
 abbrev pub routed_ask : Routed → Result AskModel WireFault
 routed_ask (R.Ask ask) = Ok (ask_model ask)
 routed_ask (R.Request sent) = event_asked (sent_event sent)
@@ -165,7 +166,8 @@ abbrev pub RoutesAsk : Result AskModel WireFault → Result Routed WireFault →
 RoutesAsk ask (Ok routed) = ask ≡ routed_ask routed
 RoutesAsk ask (Err fault) = DecodesAsk ask (Err fault)
 
--- the result asks the event that was wanted, or is a bad request where none was, unless memory was refused
+-- with its body the result asks the event that was wanted, and is a bad request only where none was, unless memory was
+-- refused
 abbrev pub ReadsSent : Option EventModel → Result SentRequest WireFault → Type 0
 ReadsSent wanted (Ok sent) = wanted ≡ sent_event sent
 ReadsSent wanted (Err fault) = ReadsAs event_model wanted (Err fault)

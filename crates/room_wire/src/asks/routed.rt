@@ -58,5 +58,6 @@ impl<'b> SentRequest<'b> {
 pub enum Routed<'b> {
     /// A question, an OPEN or a CLOSE.
     Ask(Ask),
+    /// A request to a slot, whose command is still to be read.
     Request(SentRequest<'b>),
 }

@@ -128,53 +128,19 @@ bytes_reads : (name b : List ℕ) (p : Path) → Reads (cmd name ∷ (codes "dat
 bytes_reads name b p = reads (cmd name ∷ (codes "data", bytes b) ∷ at p ∷ []) (tt, (tt, (tt, tt))) (omega arith)
     (refl, (refl, (refl, tt))) refl
 
--- the texts of SETLIST and ACCESS alone have numbers
-abbrev pub HasNoNumbers : CommandModel → Type 0
-HasNoNumbers (C.Stat p) = Unit {0}
-HasNoNumbers (C.ListNames p) = Unit {0}
-HasNoNumbers (C.Mkdir p) = Unit {0}
-HasNoNumbers (C.Create b p) = Unit {0}
-HasNoNumbers (C.Read p) = Unit {0}
-HasNoNumbers (C.Write b p) = Unit {0}
-HasNoNumbers (C.Append b p) = Unit {0}
-HasNoNumbers (C.Remove p) = Unit {0}
-HasNoNumbers (C.Rename p to) = Unit {0}
-HasNoNumbers (C.GetList p) = Unit {0}
-HasNoNumbers (C.SetList flags es p) = ⊥
-HasNoNumbers (C.Chown group owner p) = Unit {0}
-HasNoNumbers (C.Access mask p) = ⊥
-
--- a text with no numbers is read as its value, whether its command is lawful or not
-pub plain_reads : (c : CommandModel) → HasNoNumbers c → read (command_text c) ≡ Some (command_data c)
-plain_reads (C.Stat p) h = path_reads (codes "STAT") p
-plain_reads (C.ListNames p) h = path_reads (codes "LIST") p
-plain_reads (C.Mkdir p) h = path_reads (codes "MKDIR") p
-plain_reads (C.Create b p) h = bytes_reads (codes "CREATE") b p
-plain_reads (C.Read p) h = path_reads (codes "READ") p
-plain_reads (C.Write b p) h = bytes_reads (codes "WRITE") b p
-plain_reads (C.Append b p) h = bytes_reads (codes "APPEND") b p
-plain_reads (C.Remove p) h = path_reads (codes "REMOVE") p
-plain_reads (C.Rename p to) h =
+command_reads : (c : CommandModel) → IsLawful c → read (command_text c) ≡ Some (command_data c)
+command_reads (C.Stat p) h = path_reads (codes "STAT") p
+command_reads (C.ListNames p) h = path_reads (codes "LIST") p
+command_reads (C.Mkdir p) h = path_reads (codes "MKDIR") p
+command_reads (C.Create b p) h = bytes_reads (codes "CREATE") b p
+command_reads (C.Read p) h = path_reads (codes "READ") p
+command_reads (C.Write b p) h = bytes_reads (codes "WRITE") b p
+command_reads (C.Append b p) h = bytes_reads (codes "APPEND") b p
+command_reads (C.Remove p) h = path_reads (codes "REMOVE") p
+command_reads (C.Rename p to) h =
     reads (cmd (codes "RENAME") ∷ at p ∷ (codes "to", path to) ∷ []) (tt, (tt, (tt, tt))) (omega arith)
     (refl, (refl, (refl, tt))) refl
-plain_reads (C.GetList p) h = path_reads (codes "GETLIST") p
-plain_reads (C.SetList flags es p) h = absurd h
-plain_reads (C.Chown group owner p) h =
-    reads (cmd (codes "CHOWN") ∷ (codes "group", string group) ∷ (codes "owner", string owner) ∷ at p ∷ [])
-    (tt, (tt, (tt, (tt, tt)))) (omega arith) (refl, (refl, (refl, (refl, tt)))) refl
-plain_reads (C.Access mask p) h = absurd h
-
-command_reads : (c : CommandModel) → IsLawful c → read (command_text c) ≡ Some (command_data c)
-command_reads (C.Stat p) h = plain_reads (C.Stat p) tt
-command_reads (C.ListNames p) h = plain_reads (C.ListNames p) tt
-command_reads (C.Mkdir p) h = plain_reads (C.Mkdir p) tt
-command_reads (C.Create b p) h = plain_reads (C.Create b p) tt
-command_reads (C.Read p) h = plain_reads (C.Read p) tt
-command_reads (C.Write b p) h = plain_reads (C.Write b p) tt
-command_reads (C.Append b p) h = plain_reads (C.Append b p) tt
-command_reads (C.Remove p) h = plain_reads (C.Remove p) tt
-command_reads (C.Rename p to) h = plain_reads (C.Rename p to) tt
-command_reads (C.GetList p) h = plain_reads (C.GetList p) tt
+command_reads (C.GetList p) h = path_reads (codes "GETLIST") p
 command_reads (C.SetList flags es p) h =
     let small : flags < 2 ^ 64 = let low = h.0 in omega (arith, low) in
     let deep = entries_depth es in
@@ -183,7 +149,9 @@ command_reads (C.SetList flags es p) h =
     reads ((codes "aclflag", num flags) ∷ cmd (codes "SETLIST") ∷ (codes "entries", array (entries es)) ∷ at p ∷ [])
     (IsNumber-decimal flags small, (tt, (entries_have_numbers es h.1, (tt, tt)))) (omega (arith, deep))
     (number_back flags small, (refl, (read_all, (refl, tt)))) refl
-command_reads (C.Chown group owner p) h = plain_reads (C.Chown group owner p) tt
+command_reads (C.Chown group owner p) h =
+    reads (cmd (codes "CHOWN") ∷ (codes "group", string group) ∷ (codes "owner", string owner) ∷ at p ∷ [])
+    (tt, (tt, (tt, (tt, tt)))) (omega arith) (refl, (refl, (refl, (refl, tt)))) refl
 command_reads (C.Access mask p) h =
     let small : mask < 2 ^ 64 = let low = mask_small mask h.0 in omega (arith, low) in
     reads (cmd (codes "ACCESS") ∷ (codes "mask", num mask) ∷ at p ∷ []) (tt, (IsNumber-decimal mask small, (tt, tt)))
