@@ -26,7 +26,7 @@ use std::alloc::{AllocError, Global};
 pub(crate) fn owns(row: &SessionRow, subject: &Subject) -> bool
     ensures { result ≡ bytes_eq row.now.owner subject.now.name }
 {
-    row.owner.text() == subject.name.text()
+    row.owner == subject.name
 }
 
 /// Whether the session is open and the caller's.
