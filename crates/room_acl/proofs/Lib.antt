@@ -1,6 +1,7 @@
 pub mod BitTests
 pub mod Steps
 pub mod FirstEntry
+pub mod Subjects
 pub mod Lowest
 pub mod Decisions
 pub mod Travelling

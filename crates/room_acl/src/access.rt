@@ -122,7 +122,7 @@ pub(crate) fn left_to_entries(wanted: Mask, subject: &Subject, standing: &Standi
 fn is_owner(subject: &Subject, standing: &Standing) -> bool
     ensures { result ≡ is_owner subject.now standing.now }
 {
-    standing.owner.text() == subject.name.text()
+    standing.owner == subject.name
 }
 
 /// Whether the entry counts on the object where it stands.
@@ -140,7 +140,7 @@ fn matches(who: &Who, subject: &Subject, standing: &Standing) -> bool
         Who::Owner => is_owner(subject, standing),
         Who::Group => is_among(&subject.groups, &standing.group),
         Who::Everyone => true,
-        Who::User(name) => name.text() == subject.name.text(),
+        Who::User(name) => *name == subject.name,
         Who::Members(group) => is_among(&subject.groups, group),
     }
 }
@@ -149,5 +149,5 @@ fn matches(who: &Who, subject: &Subject, standing: &Standing) -> bool
 fn is_among(groups: &[Principal], group: &Principal) -> bool
     ensures { result ≡ list_any (bytes_eq group.now) groups.now }
 {
-    groups.iter().any(|other| group.text() == other.text())
+    groups.iter().any(|other| group == other)
 }

@@ -65,7 +65,7 @@ impl Entry {
         self.allow == other.allow
             && self.flags == other.flags
             && self.mask == other.mask
-            && self.who.is_same(&other.who)
+            && self.who == other.who
     }
 
     /// The entry of these parts: None where a user's name stands with IDENTIFIER_GROUP, or a group's without.

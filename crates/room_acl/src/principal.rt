@@ -1,6 +1,9 @@
 //! Names of users and groups.
 ghost use Rattle.std.specs.Prelude.{◌≡◌, ℕ, List, IfOk, IsSome, IfSome, ◌↔◌, string_bytes};
+ghost use Rattle.std.proofs.Common.{rules};
+ghost use Rattle.std.specs.Cmp.Rules.{comparing};
 ghost use Rattle.std.specs.List.{list_all};
+ghost use Rattle.std.specs.Str.{bytes_eq};
 ghost use Rattle.room_acl.specs.Principals.{IsPrincipal, is_principal_byte, principal_from};
 
 use std::alloc::{AllocError, Global};
@@ -21,6 +24,20 @@ impl Model for Principal {
     ghost view = { λ p. string_bytes p.text };
 
     ghost invariant = { λ p. IsPrincipal (string_bytes p.text) };
+}
+
+impl PartialEq for Principal {
+    ghost eq = { bytes_eq };
+
+    ghost laws = { Prim.search (comparing, rules) };
+
+    fn eq(&self, other: &Principal) -> bool {
+        self.text == other.text
+    }
+}
+
+impl Eq for Principal {
+    ghost laws = { Prim.search (comparing, rules) };
 }
 
 /// The same names once more, in the same order. AllocError where memory is refused.

@@ -1,5 +1,5 @@
 //! Who asks, and what the object is.
-ghost use Rattle.std.specs.Prelude.{◌≡◌, IfOk};
+ghost use Rattle.std.specs.Prelude.{◌≡◌, ◌≢◌, true, false, IfOk};
 
 use crate::principal::{Principal, copy_principals};
 use std::alloc::AllocError;
@@ -31,6 +31,33 @@ impl Model for Subject {
     ghost view = { λ s. record { name = s.name; groups = s.groups.items } };
 }
 
+impl PartialEq for Subject {
+    ghost use Rattle.std.proofs.Common.{rules};
+    ghost use Rattle.std.specs.Cmp.Rules.{comparing};
+    ghost use Rattle.room_acl.specs.SubjectModel.{subject_eq};
+
+    ghost eq = { subject_eq };
+
+    ghost laws = { Prim.search (comparing, rules) depth 9 };
+
+    /// Whether it is the same user in the same groups, in the same order.
+    #[tactic(auto, using(crate::proofs::Subjects::other_groups))]
+    fn eq(&self, other: &Subject) -> bool
+        ensures value { result ≡ subject_eq self.now other.now }
+        ensures same { result ≡ true → self.now ≡ other.now }
+        ensures other { result ≡ false → self.now ≢ other.now }
+    {
+        self.name == other.name && self.groups == other.groups
+    }
+}
+
+impl Eq for Subject {
+    ghost use Rattle.std.proofs.Common.{rules};
+    ghost use Rattle.std.specs.Cmp.Rules.{comparing};
+
+    ghost laws = { Prim.search (comparing, rules) depth 9 };
+}
+
 impl Subject {
     /// The same subject once more. AllocError where memory is refused, and nothing has changed then.
     pub fn clone(&self) -> Result<Subject, AllocError>
@@ -43,7 +70,7 @@ impl Subject {
 }
 
 /// Whose an object is.
-#[derive(Debug, Drop)]
+#[derive(Debug, PartialEq, Eq, Drop)]
 pub struct Standing {
     /// The user whom OWNER@ means.
     pub owner: Principal,

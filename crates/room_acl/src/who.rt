@@ -1,5 +1,5 @@
 //! Whom an entry names.
-ghost use Rattle.std.specs.Prelude.{◌≡◌, ◌≢◌, ℕ, true, false, IfOk, IfSome, IsTrue};
+ghost use Rattle.std.specs.Prelude.{◌≡◌, ℕ, IfOk, IfSome, IsTrue};
 ghost use Rattle.room_acl.specs.Bits.{identifier_group};
 ghost use Rattle.room_acl.specs.Principals.{principal_from};
 ghost use Rattle.room_acl.specs.Entries.{names_its_kind, named_who, who_from, who_of, who_text, IsWho};
@@ -9,7 +9,7 @@ use crate::principal::Principal;
 use std::alloc::{AllocError, Global};
 
 /// Whom an entry names (RFC 8881, section 6.2.1.5).
-#[derive(Debug, Drop)]
+#[derive(Debug, PartialEq, Eq, Drop)]
 pub enum Who {
     /// `OWNER@`: the owner of the object.
     Owner,
@@ -80,20 +80,6 @@ impl Who {
             Who::Everyone => Ok(Who::Everyone),
             Who::User(name) => Ok(Who::User(name.clone()?)),
             Who::Members(group) => Ok(Who::Members(group.clone()?)),
-        }
-    }
-
-    /// Whether the other name is the same. A user and a group of one name are two.
-    pub(crate) fn is_same(&self, other: &Who) -> bool
-        ensures same { result ≡ true → self.now ≡ other.now }
-        ensures other { result ≡ false → self.now ≢ other.now }
-    {
-        match (self, other) {
-            (Who::Owner, Who::Owner) | (Who::Group, Who::Group) | (Who::Everyone, Who::Everyone) =>
-                true,
-            (Who::User(a), Who::User(b)) => a.text() == b.text(),
-            (Who::Members(a), Who::Members(b)) => a.text() == b.text(),
-            _ => false,
         }
     }
 

@@ -3,7 +3,7 @@ ghost use Rattle.std.specs.Prelude.{◌≡◌, ◌⊎◌, [], true, IfOk, IfSome
 ghost use Rattle.std.specs.List.{Contains};
 ghost use Rattle.room_cache.specs.declared.decisions.Decided.{Decided};
 
-use room_acl::{Decision, Mask, Principal, Standing, Subject};
+use room_acl::{Decision, Mask, Standing, Subject};
 use std::alloc::{AllocError, Global};
 use std::marker::Model;
 
@@ -51,9 +51,7 @@ impl Decided {
           decision = self.now.decision;
         } }
     {
-        self.wanted == wanted
-            && is_same_subject(&self.subject, subject)
-            && is_same_standing(&self.standing, standing)
+        self.wanted == wanted && self.subject == *subject && self.standing == *standing
     }
 }
 
@@ -115,39 +113,4 @@ impl Decisions {
         }
         let _ = self.made.push(decided);
     }
-}
-
-/// Whether it is the same user in the same groups, in the same order.
-fn is_same_subject(a: &Subject, b: &Subject) -> bool
-    ensures { result ≡ true → a.now ≡ b.now }
-{
-    is_same_name(&a.name, &b.name) && are_same_names(a.groups.as_slice(), b.groups.as_slice())
-}
-
-/// Whether owner and group are the same.
-fn is_same_standing(a: &Standing, b: &Standing) -> bool
-    ensures { result ≡ true → a.now ≡ b.now }
-{
-    is_same_name(&a.owner, &b.owner) && is_same_name(&a.group, &b.group)
-}
-
-/// Whether these are the same names in the same order.
-fn are_same_names(a: &[Principal], b: &[Principal]) -> bool
-    ensures { result ≡ true → a.now ≡ b.now }
-{
-    if a.len() != b.len() {
-        return false;
-    }
-    for index in 0..a.len() {
-        if !is_same_name(&a[index], &b[index]) {
-            return false;
-        }
-    }
-    true
-}
-
-fn is_same_name(a: &Principal, b: &Principal) -> bool
-    ensures { result ≡ true → a.now ≡ b.now }
-{
-    a.text() == b.text()
 }

@@ -14,6 +14,7 @@ use Rattle.room_records.specs.Room.{Room}
 use Rattle.room_wire.specs.Asks.EventModel.{Close}
 use Rattle.room_desk.specs.History.{History, session_of, changes_rows}
 use Rattle.room_desk.specs.Representation.{RepresentsHistory, StandsWith, session_row_of, slot_row_of}
+use Rattle.room_desk.specs.SessionRows.{closed_row, with_session_ended}
 use Rattle.room_desk.proofs.Alike.{stand_after_idle}
 use Rattle.room_desk.proofs.Answers.{usable}
 use Rattle.room_desk.proofs.Idle.{itself}
@@ -24,8 +25,8 @@ module _ (start : Room) (r : Records) (past : History) (caller : SubjectModel) (
     (here : r.session row.sid ≡ option_map (session_row_of row.sid) (session_of past row.sid))
     (some : r.session row.sid ≡ Some row) (mine : bytes_eq row.owner caller.name ≡ true) (sid : List ℕ) where
   session_closed : r.session sid ≡ option_map (session_row_of sid) (session_of past sid)
-      → apply_to_sessions (PutSession (record { sid = row.sid; owner = row.owner; slots = row.slots; is_open = false }))
-      r.session sid ≡ option_map (session_row_of sid) (session_of (Close caller row.sid ∷ past) sid)
+      → apply_to_sessions (PutSession (closed_row row)) r.session sid
+      ≡ option_map (session_row_of sid) (session_of (Close caller row.sid ∷ past) sid)
   session_closed before = grind (arith, common_steps, bytes_decides, itself row.sid)
 
   slot_closed : (slot : ℕ) → r.slot sid slot ≡ slot_row_of start past sid slot
@@ -35,20 +36,17 @@ module _ (start : Room) (r : Records) (past : History) (caller : SubjectModel) (
 module _ {start : Room} {r : Records} {past : History} (stand : RepresentsHistory start r past)
     (caller : SubjectModel) {name : List ℕ} {row : SessionRow} (some : r.session name ≡ Some row)
     (mine : bytes_eq row.owner caller.name ≡ true) where
-  abbrev shut : SessionRow
-  shut = record { sid = row.sid; owner = row.owner; slots = row.slots; is_open = false }
-
   -- the rows once the session is ended
   abbrev ended : Records
-  ended = apply_change (DropSlots name) (apply_change (PutSession shut) r)
+  ended = with_session_ended name row r
 
   named : name ≡ row.sid
   named = sym (stand.rules.sessions name row some)
 
-  pub put_rules : RulesHold (apply_change (PutSession shut) r)
+  pub put_rules : RulesHold (apply_change (PutSession (closed_row row)) r)
   put_rules = record {
     objects = stand.room.rules;
-    slots = rules_put_session r shut stand.rules
+    slots = rules_put_session r (closed_row row) stand.rules
         (λ old stands. ap (λ (s : SessionRow). s.slots) (same_Some old row (sym stands ∙ (rw named at some))));
   }
 

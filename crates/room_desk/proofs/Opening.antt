@@ -1,5 +1,5 @@
 -- An OPEN of an unused name: the rows that it leaves stand for the longer history.
-use Rattle.std.proofs.Common.{◌≡◌, ℕ, refl, ap, sym, ◌∙◌, arith, inl, inr, true, List, [], ◌∷◌, None, Some}
+use Rattle.std.proofs.Common.{◌≡◌, ℕ, refl, ap, sym, ◌∙◌, arith, inl, inr, List, [], ◌∷◌, None, Some}
 use Rattle.std.specs.Option.{option_map}
 use Rattle.std.specs.Str.{bytes_eq}
 use Rattle.std.proofs.lemmas.Bool.{and_parts, cases_Bool}
@@ -17,6 +17,7 @@ use Rattle.room_records.specs.Room.{Room}
 use Rattle.room_wire.specs.Asks.EventModel.{EventModel, Open}
 use Rattle.room_desk.specs.History.{History, session_of, accepted, answer_to}
 use Rattle.room_desk.specs.Representation.{RepresentsHistory, session_row_of, slot_row_of, StandsWith}
+use Rattle.room_desk.specs.SessionRows.{opened_row}
 use Rattle.room_desk.proofs.Idle.{itself}
 use Rattle.room_desk.proofs.Answers.{no_session}
 use Rattle.room_commands.specs.ReplyModel.{Opened}
@@ -56,8 +57,8 @@ rules_drop_slots r gone rules = record {
 -- the first OPEN of a name leaves its row
 module _ {start : Room} {r : Records} {past : History} (stand : RepresentsHistory start r past)
     (caller : SubjectModel) (slots : ℕ) {name : List ℕ} (none : r.session name ≡ None) where
-  abbrev opened_row : SessionRow
-  opened_row = record { sid = name; owner = caller.name; slots = slots; is_open = true }
+  abbrev opened : SessionRow
+  opened = opened_row caller name slots
 
   unused : session_of past name ≡ None
   unused = no_session stand name none
@@ -65,14 +66,14 @@ module _ {start : Room} {r : Records} {past : History} (stand : RepresentsHistor
   pub open_answer : answer_to start past (Open caller name slots) ≡ Reply (reply_text (Opened slots))
   open_answer = rw unused
 
-  pub open_rules : RulesHold (apply_change (PutSession opened_row) r)
+  pub open_rules : RulesHold (apply_change (PutSession opened) r)
   open_rules = record {
     objects = stand.room.rules;
-    slots = rules_put_session r opened_row stand.rules (λ old stands. absurd (none-some old (sym none ∙ stands)));
+    slots = rules_put_session r opened stand.rules (λ old stands. absurd (none-some old (sym none ∙ stands)));
   }
 
   session_opened : (sid : List ℕ) → r.session sid ≡ option_map (session_row_of sid) (session_of past sid)
-      → (apply_change (PutSession opened_row) r).session sid
+      → (apply_change (PutSession opened) r).session sid
       ≡ option_map (session_row_of sid) (session_of (Open caller name slots ∷ past) sid)
   session_opened sid before = grind (arith, common_steps, bytes_decides, itself name, unused)
 
@@ -81,7 +82,7 @@ module _ {start : Room} {r : Records} {past : History} (stand : RepresentsHistor
   slot_opened sid slot before =
       grind (arith, common_steps, bytes_decides, itself name, unused, none_accepted past name slot unused)
 
-  pub open_stands : StandsWith start past (Open caller name slots) (apply_change (PutSession opened_row) r)
+  pub open_stands : StandsWith start past (Open caller name slots) (apply_change (PutSession opened) r)
   open_stands = (
     rw unused,
     record {

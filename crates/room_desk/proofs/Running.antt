@@ -14,6 +14,7 @@ use Rattle.room_records.specs.Changes.{apply_change, apply_changes, apply_all_to
 use Rattle.room_records.specs.Changes.{RulesHoldAfterEach, ObjectRulesHoldAfterEach}
 use Rattle.room_records.specs.Room.{Room}
 use Rattle.room_records.specs.Representation.{RepresentsRoom}
+use Rattle.room_records.proofs.Changes.{changes_then}
 use Rattle.room_commands.specs.ReplyModel.{reply_model}
 use Rattle.room_commands.specs.Effect.{effect}
 use Rattle.room_commands.specs.Lawful.{IsLawful}
@@ -28,11 +29,6 @@ objects_of_changes : (changes : List Change) (r : Records)
     → (apply_changes changes r).objects ≡ apply_all_to_objects changes r.objects
 objects_of_changes [] r = refl
 objects_of_changes (change ∷ changes) r = objects_of_changes changes (apply_change change r)
-
-changes_then : (changes : List Change) (last : Change) (r : Records)
-    → apply_changes (changes ++ last ∷ []) r ≡ apply_change last (apply_changes changes r)
-changes_then [] last r = refl
-changes_then (change ∷ changes) last r = changes_then changes last (apply_change change r)
 
 -- the same sessions and slots
 record SameSlots (r s : Records) : Type 0 where

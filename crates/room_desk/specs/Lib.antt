@@ -5,5 +5,6 @@ pub mod History
 pub mod Representation
 pub mod RowAnswers
 pub mod Serving
+pub mod SessionRows
 pub mod Stops
 pub mod Verdicts

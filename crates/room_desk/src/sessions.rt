@@ -2,7 +2,7 @@
 ghost use Rattle.std.specs.Prelude.{◌≡◌, IfOk, OnOk, ◌∷◌, true, false};
 ghost use Rattle.std.specs.Str.{bytes_eq};
 ghost use Rattle.room_records.specs.Rules.{RulesHold};
-ghost use Rattle.room_records.specs.declared.change.Change.TheVariants.{PutSession, DropSlots};
+ghost use Rattle.room_records.specs.declared.change.Change.TheVariants.{PutSession};
 ghost use Rattle.room_records.specs.Changes.{apply_change};
 ghost use Rattle.room_records.specs.Room.{Room};
 ghost use Rattle.room_records.specs.Shelf.{ShelfCall, fault_in};
@@ -15,6 +15,7 @@ ghost use Rattle.room_desk.specs.Crashes.{LeavesOldOrNew, LeavesNew};
 ghost use Rattle.room_desk.specs.History.{History, answer_to, changes_rows, ReportsChange};
 ghost use Rattle.room_desk.specs.Representation.{RepresentsHistory, StandsFor, StandsWith};
 ghost use Rattle.room_desk.specs.RowAnswers.{answer_open_again, is_usable};
+ghost use Rattle.room_desk.specs.SessionRows.{opened_row, closed_row, with_session_ended};
 
 use room_acl::Subject;
 use room_commands::Reply;
@@ -26,7 +27,7 @@ use std::alloc::{AllocError, Global};
 pub(crate) fn owns(row: &SessionRow, subject: &Subject) -> bool
     ensures { result ≡ bytes_eq row.now.owner subject.now.name }
 {
-    row.owner.text() == subject.name.text()
+    row.owner == subject.name
 }
 
 /// Whether the session is open and the caller's.
@@ -60,8 +61,7 @@ fn open_again(
 
 /// The row of a session that opens.
 fn opened_row(subject: &Subject, sid: &Sid, slots: SlotCount) -> Result<SessionRow, AllocError>
-    ensures { IfOk result (λ row. row
-        ≡ record { sid = sid.now; owner = subject.now.name; slots = slots; is_open = true }) }
+    ensures { IfOk result (λ row. row ≡ opened_row subject.now sid.now slots) }
 {
     Ok(SessionRow {
         sid: sid.clone()?,
@@ -83,43 +83,17 @@ fn open_first<S: Shelf>(
     ensures frame { ShelfCall (S.view shelf.old) (S.view shelf.new) (fault_in result) }
     ensures reply { IfOk result (λ answer. answer_model answer ≡ A.Reply (reply_text (Opened slots))) }
     ensures ok { (S.view shelf.new).is_available → (S.view shelf.old).is_laid_out →
-        RulesHold (apply_change (PutSession (record {
-          sid = sid.now;
-          owner = subject.now.name;
-          slots = slots;
-          is_open = true;
-        })) (S.view shelf.old).records) →
+        RulesHold (apply_change (PutSession (opened_row subject.now sid.now slots)) (S.view shelf.old).records) →
         OnOk result ((S.view shelf.new).records
-        ≡ apply_change (PutSession (record { sid = sid.now; owner = subject.now.name; slots = slots; is_open = true }))
-        (S.view shelf.old).records) }
+        ≡ apply_change (PutSession (opened_row subject.now sid.now slots)) (S.view shelf.old).records) }
     ensures crash { (S.view shelf.old).is_laid_out →
-        RulesHold (apply_change (PutSession (record {
-          sid = sid.now;
-          owner = subject.now.name;
-          slots = slots;
-          is_open = true;
-        })) (S.view shelf.old).records) →
+        RulesHold (apply_change (PutSession (opened_row subject.now sid.now slots)) (S.view shelf.old).records) →
         LeavesOldOrNew (S.view shelf.old) (S.view shelf.new) (λ left.
-        left ≡ apply_change (PutSession (record {
-          sid = sid.now;
-          owner = subject.now.name;
-          slots = slots;
-          is_open = true;
-        })) (S.view shelf.old).records) }
+        left ≡ apply_change (PutSession (opened_row subject.now sid.now slots)) (S.view shelf.old).records) }
     ensures settled { (S.view shelf.new).is_intact → (S.view shelf.old).is_laid_out →
-        RulesHold (apply_change (PutSession (record {
-          sid = sid.now;
-          owner = subject.now.name;
-          slots = slots;
-          is_open = true;
-        })) (S.view shelf.old).records) →
+        RulesHold (apply_change (PutSession (opened_row subject.now sid.now slots)) (S.view shelf.old).records) →
         OnOk result (LeavesNew (S.view shelf.new) (λ left.
-        left ≡ apply_change (PutSession (record {
-          sid = sid.now;
-          owner = subject.now.name;
-          slots = slots;
-          is_open = true;
-        })) (S.view shelf.old).records)) }
+        left ≡ apply_change (PutSession (opened_row subject.now sid.now slots)) (S.view shelf.old).records)) }
 {
     let text = reply_text(alloc, &Reply::Opened(slots))?;
     let changes = [Change::PutSession(opened_row(subject, sid, slots)?)];
@@ -167,61 +141,19 @@ fn end_session<S: Shelf>(shelf: &mut S, sid: &Sid, row: SessionRow) -> Result<()
     ensures there { (S.view shelf.new).is_intact → OnOk result (S.view shelf.new).is_available }
     ensures frame { ShelfCall (S.view shelf.old) (S.view shelf.new) (fault_in result) }
     ensures ok { (S.view shelf.new).is_available → (S.view shelf.old).is_laid_out →
-        RulesHold (apply_change (PutSession (record {
-          sid = row.sid;
-          owner = row.owner;
-          slots = row.slots;
-          is_open = false;
-        })) (S.view shelf.old).records) →
-        RulesHold (apply_change (DropSlots sid.now) (apply_change (PutSession (record {
-          sid = row.sid;
-          owner = row.owner;
-          slots = row.slots;
-          is_open = false;
-        })) (S.view shelf.old).records)) →
-        OnOk result ((S.view shelf.new).records ≡ apply_change (DropSlots sid.now)
-        (apply_change (PutSession (record { sid = row.sid; owner = row.owner; slots = row.slots; is_open = false }))
-        (S.view shelf.old).records)) }
+        RulesHold (apply_change (PutSession (closed_row row)) (S.view shelf.old).records) →
+        RulesHold (with_session_ended sid.now row (S.view shelf.old).records) →
+        OnOk result ((S.view shelf.new).records ≡ with_session_ended sid.now row (S.view shelf.old).records) }
     ensures crash { (S.view shelf.old).is_laid_out →
-        RulesHold (apply_change (PutSession (record {
-          sid = row.sid;
-          owner = row.owner;
-          slots = row.slots;
-          is_open = false;
-        })) (S.view shelf.old).records) →
-        RulesHold (apply_change (DropSlots sid.now) (apply_change (PutSession (record {
-          sid = row.sid;
-          owner = row.owner;
-          slots = row.slots;
-          is_open = false;
-        })) (S.view shelf.old).records)) →
+        RulesHold (apply_change (PutSession (closed_row row)) (S.view shelf.old).records) →
+        RulesHold (with_session_ended sid.now row (S.view shelf.old).records) →
         LeavesOldOrNew (S.view shelf.old) (S.view shelf.new) (λ left.
-        left ≡ apply_change (DropSlots sid.now) (apply_change (PutSession (record {
-          sid = row.sid;
-          owner = row.owner;
-          slots = row.slots;
-          is_open = false;
-        })) (S.view shelf.old).records)) }
+        left ≡ with_session_ended sid.now row (S.view shelf.old).records) }
     ensures settled { (S.view shelf.new).is_intact → (S.view shelf.old).is_laid_out →
-        RulesHold (apply_change (PutSession (record {
-          sid = row.sid;
-          owner = row.owner;
-          slots = row.slots;
-          is_open = false;
-        })) (S.view shelf.old).records) →
-        RulesHold (apply_change (DropSlots sid.now) (apply_change (PutSession (record {
-          sid = row.sid;
-          owner = row.owner;
-          slots = row.slots;
-          is_open = false;
-        })) (S.view shelf.old).records)) →
+        RulesHold (apply_change (PutSession (closed_row row)) (S.view shelf.old).records) →
+        RulesHold (with_session_ended sid.now row (S.view shelf.old).records) →
         OnOk result (LeavesNew (S.view shelf.new) (λ left.
-        left ≡ apply_change (DropSlots sid.now) (apply_change (PutSession (record {
-          sid = row.sid;
-          owner = row.owner;
-          slots = row.slots;
-          is_open = false;
-        })) (S.view shelf.old).records))) }
+        left ≡ with_session_ended sid.now row (S.view shelf.old).records)) }
 {
     let closed = SessionRow {
         sid: row.sid,
@@ -245,62 +177,19 @@ fn close_owned<S: Shelf>(
     ensures idle { row.is_open ≡ false → (S.view shelf.new).is_available
         → (S.view shelf.old).is_laid_out → (S.view shelf.new).records ≡ (S.view shelf.old).records }
     ensures ok { row.is_open ≡ true → (S.view shelf.new).is_available → (S.view shelf.old).is_laid_out →
-        RulesHold (apply_change (PutSession (record {
-          sid = row.sid;
-          owner = row.owner;
-          slots = row.slots;
-          is_open = false;
-        })) (S.view shelf.old).records) →
-        RulesHold (apply_change (DropSlots sid.now) (apply_change (PutSession (record {
-          sid = row.sid;
-          owner = row.owner;
-          slots = row.slots;
-          is_open = false;
-        })) (S.view shelf.old).records)) →
-        OnOk result ((S.view shelf.new).records ≡ apply_change (DropSlots sid.now)
-        (apply_change (PutSession (record { sid = row.sid; owner = row.owner; slots = row.slots; is_open = false }))
-        (S.view shelf.old).records)) }
+        RulesHold (apply_change (PutSession (closed_row row)) (S.view shelf.old).records) →
+        RulesHold (with_session_ended sid.now row (S.view shelf.old).records) →
+        OnOk result ((S.view shelf.new).records ≡ with_session_ended sid.now row (S.view shelf.old).records) }
     ensures crash { (S.view shelf.old).is_laid_out →
-        RulesHold (apply_change (PutSession (record {
-          sid = row.sid;
-          owner = row.owner;
-          slots = row.slots;
-          is_open = false;
-        })) (S.view shelf.old).records) →
-        RulesHold (apply_change (DropSlots sid.now) (apply_change (PutSession (record {
-          sid = row.sid;
-          owner = row.owner;
-          slots = row.slots;
-          is_open = false;
-        })) (S.view shelf.old).records)) →
+        RulesHold (apply_change (PutSession (closed_row row)) (S.view shelf.old).records) →
+        RulesHold (with_session_ended sid.now row (S.view shelf.old).records) →
         LeavesOldOrNew (S.view shelf.old) (S.view shelf.new) (λ left.
-        (row.is_open ≡ true) × (left ≡ apply_change (DropSlots sid.now) (apply_change (PutSession (record {
-          sid =
-              row.sid;
-          owner = row.owner;
-          slots = row.slots;
-          is_open = false;
-        })) (S.view shelf.old).records))) }
+        (row.is_open ≡ true) × (left ≡ with_session_ended sid.now row (S.view shelf.old).records)) }
     ensures settled { row.is_open ≡ true → (S.view shelf.new).is_intact → (S.view shelf.old).is_laid_out →
-        RulesHold (apply_change (PutSession (record {
-          sid = row.sid;
-          owner = row.owner;
-          slots = row.slots;
-          is_open = false;
-        })) (S.view shelf.old).records) →
-        RulesHold (apply_change (DropSlots sid.now) (apply_change (PutSession (record {
-          sid = row.sid;
-          owner = row.owner;
-          slots = row.slots;
-          is_open = false;
-        })) (S.view shelf.old).records)) →
+        RulesHold (apply_change (PutSession (closed_row row)) (S.view shelf.old).records) →
+        RulesHold (with_session_ended sid.now row (S.view shelf.old).records) →
         OnOk result (LeavesNew (S.view shelf.new) (λ left.
-        left ≡ apply_change (DropSlots sid.now) (apply_change (PutSession (record {
-          sid = row.sid;
-          owner = row.owner;
-          slots = row.slots;
-          is_open = false;
-        })) (S.view shelf.old).records))) }
+        left ≡ with_session_ended sid.now row (S.view shelf.old).records)) }
 {
     let text = reply_text(alloc, &Reply::Done)?;
     if row.is_open {

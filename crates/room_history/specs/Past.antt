@@ -1,9 +1,8 @@
 -- What the plain body of histories reads from a past.
-use Rattle.std.specs.Prelude.{ℕ, List, [], ◌∷◌, Bool, false, not, ◌&&◌, ◌==◌, Option, None, Some, if◌then◌else◌, nat_lt}
+use Rattle.std.specs.Prelude.{ℕ, List, [], ◌∷◌, Bool, false, not, ◌&&◌, ◌==◌, Option, None, Some, if◌then◌else◌}
 use Rattle.std.specs.Str.{bytes_eq}
 use Rattle.std.specs.Option.{option_map}
 use Rattle.room_acl.specs.SubjectModel.{SubjectModel}
-use Rattle.room_slots.specs.Slots.{next_number}
 use Rattle.room_records.specs.declared.session.SessionRow.{SessionRow}
 use Rattle.room_records.specs.Room.{Room}
 use Rattle.room_commands.specs.CommandModel.{CommandModel}
@@ -13,7 +12,7 @@ use Rattle.room_wire.specs.declared.answers.code.Code.TheVariants.{SessionTaken}
 use Rattle.room_wire.specs.Asks.EventModel.{EventModel, Open, Close, Slot}
 use Rattle.room_wire.specs.Forms.Texts.{command_text, reply_text}
 use Rattle.room_desk.specs.AnswerModel.{AnswerModel, Reply, Refused}
-use Rattle.room_desk.specs.History.{History, Accepted, closes, opened_by, session_of, is_open_for, slots_of}
+use Rattle.room_desk.specs.History.{History, Accepted, closes, opened_by}
 use Rattle.room_desk.specs.History.{is_for, accepts, replay}
 use Rattle.room_desk.specs.Representation.{session_row_of}
 

@@ -32,7 +32,7 @@ fn accepts(past: &[Event], count: usize, asked: &SlotRequest) -> bool
 fn is_for(asked: &SlotRequest, sid: &Sid, slot: u32) -> bool
     ensures { result ≡ is_for sid.now slot asked.now }
 {
-    sid.text() == asked.sid.text() && slot == asked.slot
+    sid == asked.sid && slot == asked.slot
 }
 
 /// Whether an event is a request of this slot that is accepted where so many were before it there.

@@ -54,7 +54,7 @@ fn answer_close(
     let Some(session) = session else {
         return Ok(Answer::Refused(Code::BadSession));
     };
-    if session.owner.text() == caller.name.text() {
+    if *session.owner == caller.name {
         Ok(Answer::Reply(reply_text(alloc, &Reply::Done)?))
     } else {
         Ok(Answer::Refused(Code::BadSession))

@@ -38,7 +38,7 @@ fn opened_by<'a>(event: &'a Event, sid: &'a Sid) -> Option<PlainSession<'a>>
             sid: name,
             slots,
         } => {
-            if sid.text() == name.text() {
+            if sid == name {
                 Some(PlainSession {
                     sid,
                     owner: &subject.name,
@@ -60,9 +60,7 @@ fn closes(event: &Event, sid: &Sid, owner: &Principal) -> bool
 {
     match event {
         Event::Open { .. } => false,
-        Event::Close { subject, sid: name } => {
-            sid.text() == name.text() && owner.text() == subject.name.text()
-        }
+        Event::Close { subject, sid: name } => sid == name && *owner == subject.name,
         Event::Slot { .. } => false,
     }
 }
@@ -111,7 +109,7 @@ fn session_is_for(session: &Option<PlainSession>, caller: &Subject) -> bool
     ensures { result ≡ row_is_for caller.now session.now }
 {
     match session {
-        Some(session) => session.owner.text() == caller.name.text() && session.is_open,
+        Some(session) => *session.owner == caller.name && session.is_open,
         None => false,
     }
 }

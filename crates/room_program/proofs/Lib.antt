@@ -2,3 +2,4 @@ mod Calls
 mod Jobs
 mod Streams
 mod Told
+mod Faults

@@ -44,10 +44,8 @@ fn make_at<S: Alter + Drop, M: Machine<Connection<S>>>(
     ensures { MakesAt M.does (Made S.Store standing.now.owner standing.now.group)
         IsTaken db.now machine.old machine.new result }
 {
-    match open(machine, db) {
-        Ok(connection) => make_room(alloc, machine, connection, standing),
-        Err(fault) => Err(fault),
-    }
+    let connection = open(machine, db)?;
+    make_room(alloc, machine, connection, standing)
 }
 
 /// Makes a fresh room in the file at this path, or tells why not.
@@ -61,8 +59,6 @@ pub(crate) fn init<S: Alter + Drop, M: Machine<Connection<S>>>(
     ensures { InitEnds M.does (Made S.Store owner.now group.now) IsTaken
         db.now owner.now group.now machine.old machine.new result }
 {
-    match standing(alloc, owner, group) {
-        Ok(standing) => make_at(alloc, machine, db, &standing),
-        Err(fault) => Err(fault),
-    }
+    let standing = standing(alloc, owner, group)?;
+    make_at(alloc, machine, db, &standing)
 }

@@ -52,10 +52,8 @@ fn open_room<S: Alter + Drop, M: Machine<Connection<S>>>(
     ensures { OpensRoom M.does (λ opened shelf. Adopted S.Store opened shelf)
         path.now machine.old machine.new result }
 {
-    match open(machine, path) {
-        Ok(connection) => adopt(alloc, connection),
-        Err(fault) => Err(fault),
-    }
+    let connection = open(machine, path)?;
+    adopt(alloc, connection)
 }
 
 /// Takes the room in the file at this path. A file that is not there is no room and is not made, and

@@ -76,17 +76,8 @@ pub(crate) fn replay<C, M: Machine<C>, R: Read, W: Write>(
     ensures { Replays M.does roster.now owner.now group.now machine.old machine.new
         (R.remaining reader.old) (R.remaining reader.new) (W.contents writer.old) (W.contents writer.new) result }
 {
-    let standing = match standing(alloc, owner, group) {
-        Ok(standing) => standing,
-        Err(fault) => return Err(fault),
-    };
-    let roster = match roster_at(alloc, machine, roster) {
-        Ok(roster) => roster,
-        Err(fault) => return Err(fault),
-    };
-    let desk = match fresh_desk(alloc, standing) {
-        Ok(desk) => desk,
-        Err(fault) => return Err(fault),
-    };
+    let standing = standing(alloc, owner, group)?;
+    let roster = roster_at(alloc, machine, roster)?;
+    let desk = fresh_desk(alloc, standing)?;
     serve_to_end(desk, &roster, reader, writer)
 }

@@ -86,14 +86,8 @@ pub(crate) fn report<S: Alter + Drop, M: Machine<Connection<S>>, W: Write>(
         ⟦<CachedShelf<SqlShelf<S>> as Shelf>⟧.view db.now roster.now kind
         machine.old machine.new (W.contents writer.old) (W.contents writer.new) result }
 {
-    let roster = match roster_at(alloc, machine, roster) {
-        Ok(roster) => roster,
-        Err(fault) => return Err(fault),
-    };
-    let mut shelf = match take_room(alloc, machine, db) {
-        Ok(shelf) => shelf,
-        Err(fault) => return Err(fault),
-    };
+    let roster = roster_at(alloc, machine, roster)?;
+    let mut shelf = take_room(alloc, machine, db)?;
     let done = write_report(alloc, &mut shelf, &roster, kind, writer);
     machine.leave(shelf.into_inner().into_connection());
     done

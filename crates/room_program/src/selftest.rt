@@ -119,14 +119,8 @@ pub(crate) fn selftest<C, M: Machine<C> + Listener>(
 ) -> Result<(), Fault>
     ensures { SelftestEnds M.does M.accepts machine.old machine.new result }
 {
-    let roster = match users(alloc) {
-        Ok(roster) => roster,
-        Err(fault) => return Err(fault),
-    };
-    let mut desk = match desk(alloc) {
-        Ok(desk) => desk,
-        Err(fault) => return Err(fault),
-    };
+    let roster = users(alloc)?;
+    let mut desk = desk(alloc)?;
     let tried = talk(alloc, machine, &mut desk, &roster);
     let _ = desk.into_shelf();
     tried

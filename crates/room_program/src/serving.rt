@@ -69,14 +69,8 @@ pub(crate) fn serve<S: Alter + Drop, M: Machine<Connection<S>> + Listener>(
         (λ opened shelf. Adopted S.Store opened shelf) (λ shelf. shelf.0.conn)
         ⟦<CachedShelf<SqlShelf<S>> as Shelf>⟧.view db.now roster.now port count machine.old machine.new result }
 {
-    let roster = match roster_at(alloc, machine, roster) {
-        Ok(roster) => roster,
-        Err(fault) => return Err(fault),
-    };
-    let shelf = match take_room(alloc, machine, db) {
-        Ok(shelf) => shelf,
-        Err(fault) => return Err(fault),
-    };
+    let roster = roster_at(alloc, machine, roster)?;
+    let shelf = take_room(alloc, machine, db)?;
     let mut desk = Desk::new(alloc, shelf);
     let done = listen(machine, &mut desk, &roster, port, count);
     machine.close(desk.into_shelf().into_inner().into_connection());

@@ -7,6 +7,7 @@ pub mod Lists
 pub mod Options
 pub mod Paths
 pub mod Untouched
+pub mod Changes
 pub mod Shelves
 pub mod Rosters
 pub mod PathTexts

@@ -18,6 +18,7 @@ use Rattle.room_records.specs.declared.change.Change.{Change}
 use Rattle.room_records.specs.declared.change.Change.TheVariants.{PutNode, PutNext, PutDoc}
 use Rattle.room_records.specs.Records.{Records}
 use Rattle.room_records.specs.Changes.{apply_change, apply_changes}
+use Rattle.room_records.proofs.Changes.{changes_then}
 use Rattle.sqlite.specs.Effect.{Database, IsDatabase}
 use Rattle.sqlite.specs.Table.{Table}
 use Rattle.room_tables.specs.Tables.{Layout, Upgraded, room_schema, node_table, doc_table}
@@ -381,16 +382,11 @@ add_sets_next old mid new n count room none one =
 
 -- ---- changes in turn
 
-all_pushed : (changes : List Change) (change : Change) (r : Records)
-    → apply_changes (changes ++ change ∷ []) r ≡ apply_change change (apply_changes changes r)
-all_pushed [] change r = refl
-all_pushed (c ∷ changes) change r = all_pushed changes change (apply_change c r)
-
 -- one more change
 pub steps_more : (old mid new : State) (changes more : List Change) (change : Change) → more ≡ changes ++ change ∷ []
     → Steps old mid (apply_changes changes) → Steps mid new (apply_change change) → Steps old new (apply_changes more)
 steps_more old mid new changes more change is a b = subst (Steps old new)
-    (λ i r. (sym (all_pushed changes change r) ∙ ap (λ cs. apply_changes cs r) (sym is)) i) (steps_then a b)
+    (λ i r. (sym (changes_then changes change r) ∙ ap (λ cs. apply_changes cs r) (sym is)) i) (steps_then a b)
 
 -- the same, with the parameters as they are given
 pub steps_add_node_at : (old new : State) (node : Node) (name : List ℕ) (params : Row) (count : ℕ)

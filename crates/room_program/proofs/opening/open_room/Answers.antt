@@ -1,5 +1,5 @@
 use Rattle.std.proofs.Common.{inr}
 use Rattle.room_program.proofs.opening.open_room.Goals as goal
 
-pub returns-in-Ok : goal.returns-in-Ok
-returns-in-Ok g c = inr (c.in-Ok.connection, c.in-Ok.ensures.opened, c.adopt.ensures)
+pub returns : goal.returns
+returns g c = inr (c.in_ok-connection.connection, c.in_ok-connection.ensures.opened, c.adopt.ensures)

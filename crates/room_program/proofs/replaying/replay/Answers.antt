@@ -6,11 +6,12 @@ use Rattle.room_program.proofs.replaying.replay.Goals as goal
 
 pub returns : goal.returns
 returns g c =
-    let (owner_is, group_is, names) = c.in-Ok.ensures.ok in
-    let rows = mem_records c.in-Ok-fresh_desk.desk in
-    let Owned : List ℕ → Type 0 = λ owner. RepresentsHistory (fresh_room owner c.in-Ok.standing.group) rows [] in
+    let (owner_is, group_is, names) = c.in_ok-standing.ensures.ok in
+    let rows = mem_records c.in_ok-desk.desk in
+    let Owned : List ℕ → Type 0 =
+    λ owner. RepresentsHistory (fresh_room owner c.in_ok-standing.standing.group) rows [] in
     let Grouped : List ℕ → Type 0 = λ group. RepresentsHistory (fresh_room c.args.owner.now group) rows [] in
-    let stands = subst Grouped group_is (subst Owned owner_is c.in-Ok-fresh_desk.ensures.stands) in
+    let stands = subst Grouped group_is (subst Owned owner_is c.in_ok-desk.ensures.stands) in
     let (why, count, next, done_is, serves) =
     c.serve_to_end.ensures (fresh_room c.args.owner.now c.args.group.now) [] stands in
-    inr (names, c.in-Ok-roster_at.roster, c.in-Ok-roster_at.ensures, why, count, next, done_is, serves)
+    inr (names, c.in_ok-roster.roster, c.in_ok-roster.ensures, why, count, next, done_is, serves)

@@ -1,4 +1,5 @@
-use Rattle.std.proofs.Common.{inr}
+use Rattle.std.proofs.Common.{inl, inr}
+use Rattle.room_program.proofs.Faults.{handed_on}
 use Rattle.room_program.proofs.serving.serve.Goals as goal
 
 pub returns : goal.returns
@@ -7,16 +8,29 @@ returns g c =
     let closed = rw c.into_shelf.ensures at (rw c.into_inner.ensures at
     (rw c.into_connection.ensures.same at c.close.ensures.closed)) in
     inr (
-      c.in-Ok.roster,
+      c.in_ok-roster.roster,
       c.roster_at.new.machine,
-      c.in-Ok.ensures,
+      c.in_ok-roster.ensures,
       inr (
-        c.in-Ok-take_room.shelf,
+        c.in_ok-shelf.shelf,
         c.listen-done.new.desk,
         c.take_room.new.machine,
         c.listen-done.new.machine,
-        c.in-Ok-take_room.ensures,
+        c.in_ok-shelf.ensures,
         done,
         closed,
+      ),
+    )
+
+pub returns-in_err-shelf : goal.returns-in_err-shelf
+returns-in_err-shelf g c =
+    inr (
+      c.in_ok-roster.roster,
+      c.roster_at.new.machine,
+      c.in_ok-roster.ensures,
+      inl (
+        c.in_err-shelf.field-0.0,
+        handed_on _ _ c.from_residual-in_err-shelf.ensures.0 c.from_residual-in_err-shelf.ensures.1,
+        c.in_err-shelf.ensures,
       ),
     )
