@@ -1,5 +1,5 @@
 //! What is remembered of the rows.
-ghost use Rattle.std.specs.Prelude.{◌≡◌, ℕ, true, false, List, None, Some, IfSome, IsSome, [], ◌∷◌};
+ghost use Rattle.std.specs.Prelude.{◌≡◌, ℕ, true, false, List, None, Some, IfSome, IsSome, OnOk, OnErr, [], ◌∷◌};
 ghost use Rattle.std.specs.Ordering.{nat_cmp, eq_by_cmp};
 ghost use Rattle.room_slots.specs.Slots.{kept_seq};
 ghost use Rattle.room_acl.specs.Entries.{EntryModel};
@@ -16,8 +16,10 @@ use crate::decisions::{Decided, Decisions};
 use crate::list::ShortList;
 use crate::names::NameList;
 use crate::rows::Rows;
-use room_acl::{Decision, Entry, Kind, Mask, Standing, Subject};
-use room_records::{Change, FileName, MAX_SLOTS, Node, SessionRow, Sid, SlotRow};
+use room_acl::{Decision, Entry, Kind, Mask, Standing, Subject, copy_entries};
+use room_records::{
+    Change, FileName, MAX_SLOTS, Node, SessionRow, ShelfFault, Sid, SlotRow, copy_names,
+};
 use std::alloc::Global;
 
 /// Rows that are remembered, at most 256 of each kind.
@@ -58,8 +60,21 @@ impl Known {
         }
     }
 
+    /// Hands an answer of the shelf inside on as it is. Where it is a fault, all is forgotten.
+    pub(crate) fn or_forget<T>(&mut self, answer: Result<T, ShelfFault>) -> Result<T, ShelfFault>
+        ensures same { result ≡ answer }
+        ensures kept { OnOk result (self.new ≡ self.old) }
+        ensures forgotten { OnErr result ((r : Records) → Fits r self.new) }
+        ensures unheard { OnErr result (self.new.is_heard ≡ false) }
+    {
+        if answer.is_err() {
+            self.clear();
+        }
+        answer
+    }
+
     /// Forgets all.
-    pub(crate) fn clear(&mut self)
+    fn clear(&mut self)
         ensures fits { (r : Records) → Fits r self.new }
         ensures heard { self.new.is_heard ≡ false }
     {
@@ -210,20 +225,26 @@ impl Known {
     }
 
     /// More than 256 names are not remembered: no folder of a room has them.
-    pub(crate) fn keep_names(&mut self, folder: u32, names: Vec<(FileName, Kind)>)
-        ensures { (r : Records) → AreListed r folder names.items → Fits r self.old → Fits r self.new }
+    pub(crate) fn keep_names(&mut self, folder: u32, names: &Vec<(FileName, Kind)>)
+        ensures { (r : Records) → AreListed r folder names.now.items → Fits r self.old → Fits r self.new }
     {
-        if let Some(names) = NameList::new(names) {
+        let Ok(copy) = copy_names(*names.allocator(), names.as_slice()) else {
+            return;
+        };
+        if let Some(names) = NameList::new(copy) {
             self.names.keep(folder, names);
             self.is_heard = true;
         }
     }
 
     /// A list of more than 64 entries is not remembered.
-    pub(crate) fn keep_list(&mut self, id: u32, list: Vec<Entry>)
-        ensures { (r : Records) → r.objects.entries id ≡ list.items → Fits r self.old → Fits r self.new }
+    pub(crate) fn keep_list(&mut self, id: u32, list: &Vec<Entry>)
+        ensures { (r : Records) → r.objects.entries id ≡ list.now.items → Fits r self.old → Fits r self.new }
     {
-        if let Some(list) = ShortList::new(list) {
+        let Ok(copy) = copy_entries(*list.allocator(), list.as_slice()) else {
+            return;
+        };
+        if let Some(list) = ShortList::new(copy) {
             self.lists.keep(id, list);
             self.is_heard = true;
         }
