@@ -1,5 +1,6 @@
 -- The frames of calls of the shelf.
-use Rattle.std.proofs.Common.{◌≡◌, ◌≢◌, ◌≤◌, ℕ, List, None, Some, Result, Ok, inl, inr, refl, sym, ap, subst, arith}
+use Rattle.std.proofs.Common.{◌≡◌, ◌≢◌, ◌≤◌, ℕ, List, None, Some, Result, Ok}
+use Rattle.std.proofs.Common.{Err, OnOk, OnErr, inl, inr, refl, sym, ap, subst, arith}
 use Rattle.std.proofs.Common.{◌==◌, true, [], length, map, IsTrue, IsPermutation}
 use Rattle.std.proofs.lemmas.Bool.Decides.{nat_tests}
 use Rattle.std.proofs.lemmas.List.{length-map, nil_from_length}
@@ -13,7 +14,7 @@ use Rattle.sqlite.specs.Held.{Held, state}
 use Rattle.sqlite.specs.declared.error.Error.{Error}
 use Rattle.room_records.specs.declared.shelf.ShelfFault.{ShelfFault}
 use Rattle.room_records.specs.declared.shelf.ShelfFault.TheVariants.{Store}
-use Rattle.room_records.specs.Shelf.{View, ShelfRead, FailureCounted}
+use Rattle.room_records.specs.Shelf.{View, ShelfRead, FailureCounted, fault_in}
 use Rattle.room_tables.specs.Rows.{records_of, shown_node}
 use Rattle.room_tables.specs.Layout.{IsRoomOfVersion2}
 use Rattle.room_sql.specs.declared.known.Known.{Known}
@@ -92,6 +93,23 @@ module _ {S : Type 0} (store : Ghosts S) where
       kept : HasCleanDisk (state store new) × IsTrue (state store new).is_open
           → (state store new).now ≡ (state store old).now
       kept there = frame.same there.0 there.1 (settled (frame.was_open there.0 there.1))
+
+-- a query that answered, and a result by whose fault the shelf forgets all that it knows
+module _ {S : Type 0} (store : Ghosts S) where
+  pub read_told : {T U : Type 0} {failures more : ℕ} {known mid after : Known} {query : Result U Error} {x : U}
+      (result : Result T ShelfFault) (old new : Held S) → query ≡ Ok x
+      → QueryFrame (state store old) (state store new) query
+      → (IsTrue (state store old).is_open → (state store old).now ≡ (state store old).committed)
+      → (HasCleanDisk (state store new) → IsRoomOfVersion2 (state store old).now
+      → IsRight known ((state store old).now.trees 1) → IsRight mid ((state store old).now.trees 1))
+      → OnOk result (after ≡ mid) → OnErr result (KnowsNothing after) → failures ≤ more
+      → (result ≢ Err Store → more ≡ failures) → (result ≡ Err Store → FailureCounted failures more)
+      → ShelfRead (view_of store old failures known) (view_of store new more after) (fault_in result)
+  read_told (Ok value) old new ok frame settled right kept nothing never quiet counted =
+      rw (kept, quiet (λ is. absurd (let bad = is in cc))) (read_ok store old new (rw ok at frame) right)
+  read_told (Err fault) old new ok frame settled right kept nothing never quiet counted =
+      read_err store old new frame settled nothing never (λ other. quiet (λ is. other (let e = is in cc)))
+      (λ is. counted (ap Err is))
 
 -- where no row was read, none passed the test
 pub none_found : (rows read : List Row) (n : ℕ) → IsPermutation (map shown_node rows) read
