@@ -1,7 +1,7 @@
 //! A shelf that remembers.
 ghost use Rattle.std.specs.Prelude.{◌≡◌};
 ghost use Rattle.room_records.specs.Records.{Records};
-ghost use Rattle.room_cache.specs.Known.{Fits};
+ghost use Rattle.room_cache.specs.Known.{IsTrueOf};
 
 use crate::decisions::Decided;
 use crate::known::Known;
@@ -32,20 +32,20 @@ pub struct CachedShelf<S: Shelf> {
 
 impl<S: Shelf> Model for CachedShelf<S> {
     ghost use Rattle.room_cache.specs.declared.known.Known.{Known};
-    ghost use Rattle.room_cache.specs.Known.{HeardFrom};
+    ghost use Rattle.room_cache.specs.Known.{AnsweredIsAvailable};
 
     ghost Value = { S × Known };
 
     ghost view = { λ c. (c.inner, c.known) };
 
-    ghost invariant = { λ c. HeardFrom (S.view c.inner) c.known };
+    ghost invariant = { λ c. AnsweredIsAvailable (S.view c.inner) c.known };
 }
 
 impl<S: Shelf> CachedShelf<S> {
     /// It remembers nothing yet.
     pub fn new(alloc: Global, inner: S) -> CachedShelf<S>
         ensures inner { result.0 ≡ inner }
-        ensures fits { (r : Records) → Fits r result.1 }
+        ensures true_of { (r : Records) → IsTrueOf result.1 r }
     {
         CachedShelf {
             inner,
@@ -86,18 +86,11 @@ impl<S: Shelf> Shelf for CachedShelf<S> {
         if let Some(node) = self.known.node(id) {
             return Ok(Some(node.clone()?));
         }
-        match self.inner.node(id) {
-            Ok(found) => {
-                if let Some(node) = &found {
-                    self.known.keep_node(id, node);
-                }
-                Ok(found)
-            }
-            Err(fault) => {
-                self.known.clear();
-                Err(fault)
-            }
-        }
+        let Some(node) = self.known.or_forget(self.inner.node(id))? else {
+            return Ok(None);
+        };
+        self.known.keep_node(id, &node);
+        Ok(Some(node))
     }
 
     fn child(&mut self, parent: u32, name: &FileName) -> Result<Option<Node>, ShelfFault>
@@ -110,18 +103,11 @@ impl<S: Shelf> Shelf for CachedShelf<S> {
         if let Some(node) = self.known.child(parent, name) {
             return Ok(Some(node.clone()?));
         }
-        match self.inner.child(parent, name) {
-            Ok(found) => {
-                if let Some(node) = &found {
-                    self.known.keep_child(parent, name, node);
-                }
-                Ok(found)
-            }
-            Err(fault) => {
-                self.known.clear();
-                Err(fault)
-            }
-        }
+        let Some(node) = self.known.or_forget(self.inner.child(parent, name))? else {
+            return Ok(None);
+        };
+        self.known.keep_child(parent, name, &node);
+        Ok(Some(node))
     }
 
     fn children(&mut self, parent: u32) -> Result<Vec<Node>, ShelfFault>
@@ -132,13 +118,7 @@ impl<S: Shelf> Shelf for CachedShelf<S> {
             → OnOk result (cached_view S.view self.new).is_available }
         ensures frame { ShelfRead (cached_view S.view self.old) (cached_view S.view self.new) (fault_in result) }
     {
-        match self.inner.children(parent) {
-            Ok(found) => Ok(found),
-            Err(fault) => {
-                self.known.clear();
-                Err(fault)
-            }
-        }
+        self.known.or_forget(self.inner.children(parent))
     }
 
     fn names(&mut self, parent: u32) -> Result<Vec<(FileName, Kind)>, ShelfFault>
@@ -152,18 +132,9 @@ impl<S: Shelf> Shelf for CachedShelf<S> {
             let names = names.names();
             return Ok(copy_names(*names.allocator(), names.as_slice())?);
         }
-        match self.inner.names(parent) {
-            Ok(found) => {
-                if let Ok(names) = copy_names(*found.allocator(), found.as_slice()) {
-                    self.known.keep_names(parent, names);
-                }
-                Ok(found)
-            }
-            Err(fault) => {
-                self.known.clear();
-                Err(fault)
-            }
-        }
+        let found = self.known.or_forget(self.inner.names(parent))?;
+        self.known.keep_names(parent, &found);
+        Ok(found)
     }
 
     fn child_count(&mut self, parent: u32) -> Result<u64, ShelfFault>
@@ -173,13 +144,7 @@ impl<S: Shelf> Shelf for CachedShelf<S> {
             → OnOk result (cached_view S.view self.new).is_available }
         ensures frame { ShelfRead (cached_view S.view self.old) (cached_view S.view self.new) (fault_in result) }
     {
-        match self.inner.child_count(parent) {
-            Ok(found) => Ok(found),
-            Err(fault) => {
-                self.known.clear();
-                Err(fault)
-            }
-        }
+        self.known.or_forget(self.inner.child_count(parent))
     }
 
     fn entries(&mut self, id: u32) -> Result<Vec<Entry>, ShelfFault>
@@ -193,18 +158,9 @@ impl<S: Shelf> Shelf for CachedShelf<S> {
             let list = list.entries();
             return Ok(copy_entries(*list.allocator(), list.as_slice())?);
         }
-        match self.inner.entries(id) {
-            Ok(found) => {
-                if let Ok(list) = copy_entries(*found.allocator(), found.as_slice()) {
-                    self.known.keep_list(id, list);
-                }
-                Ok(found)
-            }
-            Err(fault) => {
-                self.known.clear();
-                Err(fault)
-            }
-        }
+        let found = self.known.or_forget(self.inner.entries(id))?;
+        self.known.keep_list(id, &found);
+        Ok(found)
     }
 
     fn decide_at(
@@ -226,18 +182,13 @@ impl<S: Shelf> Shelf for CachedShelf<S> {
         if let Some(list) = self.known.list(id) {
             return Ok(decide(list.entries().as_slice(), subject, standing, wanted));
         }
-        match self.inner.decide_at(id, subject, standing, wanted) {
-            Ok(found) => {
-                if let Ok(decided) = Decided::new(subject, standing, wanted, found) {
-                    self.known.keep_decision(id, decided);
-                }
-                Ok(found)
-            }
-            Err(fault) => {
-                self.known.clear();
-                Err(fault)
-            }
+        let found = self
+            .known
+            .or_forget(self.inner.decide_at(id, subject, standing, wanted))?;
+        if let Ok(decided) = Decided::new(subject, standing, wanted, found) {
+            self.known.keep_decision(id, decided);
         }
+        Ok(found)
     }
 
     fn doc(&mut self, id: u32) -> Result<Vec<u8>, ShelfFault>
@@ -247,13 +198,7 @@ impl<S: Shelf> Shelf for CachedShelf<S> {
             → OnOk result (cached_view S.view self.new).is_available }
         ensures frame { ShelfRead (cached_view S.view self.old) (cached_view S.view self.new) (fault_in result) }
     {
-        match self.inner.doc(id) {
-            Ok(found) => Ok(found),
-            Err(fault) => {
-                self.known.clear();
-                Err(fault)
-            }
-        }
+        self.known.or_forget(self.inner.doc(id))
     }
 
     fn doc_size(&mut self, id: u32) -> Result<u64, ShelfFault>
@@ -263,13 +208,7 @@ impl<S: Shelf> Shelf for CachedShelf<S> {
             → OnOk result (cached_view S.view self.new).is_available }
         ensures frame { ShelfRead (cached_view S.view self.old) (cached_view S.view self.new) (fault_in result) }
     {
-        match self.inner.doc_size(id) {
-            Ok(found) => Ok(found),
-            Err(fault) => {
-                self.known.clear();
-                Err(fault)
-            }
-        }
+        self.known.or_forget(self.inner.doc_size(id))
     }
 
     fn session(&mut self, sid: &Sid) -> Result<Option<SessionRow>, ShelfFault>
@@ -282,18 +221,11 @@ impl<S: Shelf> Shelf for CachedShelf<S> {
         if let Some(row) = self.known.session(sid) {
             return Ok(Some(row.clone()?));
         }
-        match self.inner.session(sid) {
-            Ok(found) => {
-                if let Some(row) = &found {
-                    self.known.keep_session(sid, row);
-                }
-                Ok(found)
-            }
-            Err(fault) => {
-                self.known.clear();
-                Err(fault)
-            }
+        let found = self.known.or_forget(self.inner.session(sid))?;
+        if let Some(row) = &found {
+            self.known.keep_session(sid, row);
         }
+        Ok(found)
     }
 
     fn slot(&mut self, sid: &Sid, slot: u32) -> Result<Option<Kept>, ShelfFault>
@@ -303,18 +235,11 @@ impl<S: Shelf> Shelf for CachedShelf<S> {
             → OnOk result (cached_view S.view self.new).is_available }
         ensures frame { ShelfRead (cached_view S.view self.old) (cached_view S.view self.new) (fault_in result) }
     {
-        match self.inner.slot(sid, slot) {
-            Ok(found) => {
-                if let Some(kept) = &found {
-                    self.known.keep_seq(sid, slot, kept.seq);
-                }
-                Ok(found)
-            }
-            Err(fault) => {
-                self.known.clear();
-                Err(fault)
-            }
+        let found = self.known.or_forget(self.inner.slot(sid, slot))?;
+        if let Some(kept) = &found {
+            self.known.keep_seq(sid, slot, kept.seq);
         }
+        Ok(found)
     }
 
     fn slot_seq(&mut self, sid: &Sid, slot: u32) -> Result<Option<u32>, ShelfFault>
@@ -327,18 +252,11 @@ impl<S: Shelf> Shelf for CachedShelf<S> {
         if let Some(seq) = self.known.slot_seq(sid, slot) {
             return Ok(Some(seq));
         }
-        match self.inner.slot_seq(sid, slot) {
-            Ok(found) => {
-                if let Some(seq) = found {
-                    self.known.keep_seq(sid, slot, seq);
-                }
-                Ok(found)
-            }
-            Err(fault) => {
-                self.known.clear();
-                Err(fault)
-            }
+        let found = self.known.or_forget(self.inner.slot_seq(sid, slot))?;
+        if let Some(seq) = found {
+            self.known.keep_seq(sid, slot, seq);
         }
+        Ok(found)
     }
 
     fn next_id(&mut self) -> Result<u32, ShelfFault>
@@ -351,16 +269,9 @@ impl<S: Shelf> Shelf for CachedShelf<S> {
         if let Some(next) = self.known.next() {
             return Ok(next);
         }
-        match self.inner.next_id() {
-            Ok(found) => {
-                self.known.keep_next(found);
-                Ok(found)
-            }
-            Err(fault) => {
-                self.known.clear();
-                Err(fault)
-            }
-        }
+        let found = self.known.or_forget(self.inner.next_id())?;
+        self.known.keep_next(found);
+        Ok(found)
     }
 
     fn commit(&mut self, changes: &[Change]) -> Result<(), ShelfFault>
@@ -384,15 +295,8 @@ impl<S: Shelf> Shelf for CachedShelf<S> {
             OnOk result (Untouched changes.now (cached_view S.view self.old).records
             (cached_view S.view self.new).records) }
     {
-        match self.inner.commit(changes) {
-            Ok(()) => {
-                self.known.forget_touched(changes);
-                Ok(())
-            }
-            Err(fault) => {
-                self.known.clear();
-                Err(fault)
-            }
-        }
+        self.known.or_forget(self.inner.commit(changes))?;
+        self.known.forget_touched(changes);
+        Ok(())
     }
 }

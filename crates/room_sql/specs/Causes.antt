@@ -1,7 +1,7 @@
 -- The statements that a commit and the upgrade run, and how these fail.
 use Rattle.std.specs.Prelude.{◌≡◌, ◌≢◌, ◌⊎◌, ◌<◌, ◌≤◌, ◌+◌, ◌-◌, ◌^◌, ℕ, ℤ, suc, pos, Bool, true, false, List, [], ◌∷◌}
 use Rattle.std.specs.Prelude.{◌++◌, length, Option, None, Some, unwrap_or, option_map, Result, Ok, Err, IsErrAnd}
-use Rattle.std.specs.Prelude.{if◌then◌else◌}
+use Rattle.std.specs.Prelude.{if◌then◌else◌, min}
 use Rattle.sqlite_value.specs.declared.value.Value.TheVariants.{Int, Text, Blob}
 use Rattle.sqlite_value.specs.Order.{Row, column}
 use Rattle.sqlite_trees.specs.declared.store.Store.{Ghosts}
@@ -10,7 +10,7 @@ use Rattle.sqlite.specs.Held.{Held, state}
 use Rattle.sqlite.specs.Steps.{FailsToCommit}
 use Rattle.sqlite.specs.declared.error.Error.{Error}
 use Rattle.sqlite.specs.declared.error.Error.TheVariants.{SqliteFailure}
-use Rattle.sqlite.specs.declared.error.ErrorCode.TheVariants.{TooBig, NotADatabase}
+use Rattle.sqlite.specs.declared.error.ErrorCode.TheVariants.{TooBig, NotADatabase, OutOfMemory}
 use Rattle.room_acl.specs.Entries.{EntryModel}
 use Rattle.room_records.specs.declared.node.Node.{Node}
 use Rattle.room_records.specs.declared.session.SessionRow.{SessionRow}
@@ -18,6 +18,8 @@ use Rattle.room_records.specs.declared.session.SlotRow.{SlotRow}
 use Rattle.room_records.specs.declared.change.Change.{Change}
 use Rattle.room_records.specs.declared.change.Change.TheVariants.{PutNode, DropNode, PutEntries, PutDoc, PutSession}
 use Rattle.room_records.specs.declared.change.Change.TheVariants.{PutSlot, DropSlots, PutNext}
+use Rattle.room_records.specs.declared.shelf.ShelfFault.{ShelfFault}
+use Rattle.room_records.specs.declared.shelf.ShelfFault.TheVariants.{Memory, Store}
 use Rattle.room_tables.specs.Layout.{parent_value, reply_value}
 use Rattle.room_tables.specs.Steps.{kind_number, flag_of, shown_as}
 use Rattle.room_tables.specs.Texts.{change_node_text, add_node_text, drop_node_text, drop_entries_text, add_entry_text}
@@ -31,7 +33,7 @@ use Rattle.room_tables.specs.Rows.{number_in, only}
 use Rattle.room_sql.specs.Columns.{IsFault, IsOneNumber}
 use Rattle.room_sql.specs.Taken.{SaysFirst}
 use Rattle.room_sql.specs.declared.new_object.NewObject.{NewObject}
-use Rattle.room_sql.specs.NewObject.{before_all, is_free, is_bare, lacks_doc, after_change}
+use Rattle.room_sql.specs.NewObject.{before_all, is_free, lacks_entries, lacks_doc, after_change}
 
 -- a statement: its text and its parameters, and for some the text of another, which runs behind it with the same
 -- parameters where it changed no row
@@ -108,7 +110,7 @@ slots_drop sid = statement drop_slots_text (Text sid ∷ [])
 abbrev pub writes_of : NewObject → Change → List Statement
 writes_of object (PutNode node) = (if is_free object node.id then node_add node else node_write node) ∷ []
 writes_of object (DropNode id) = node_drop id ∷ []
-writes_of object (PutEntries id entries) = if is_bare object id then entry_writes id 0 entries.items
+writes_of object (PutEntries id entries) = if lacks_entries object id then entry_writes id 0 entries.items
     else entries_drop id ∷ entry_writes id 0 entries.items
 writes_of object (PutDoc id bytes) =
     (if lacks_doc object id then doc_add id bytes.items else doc_write id bytes.items) ∷ []
@@ -143,6 +145,13 @@ make_writes = statement kept_text [] ∷ []
 -- the number of the one row
 abbrev pub number_of_rows : List Row → ℕ
 number_of_rows rows = unwrap_or (option_map (λ row. number_in (column row 0)) (only rows)) 0
+
+-- What an error is to the shelf, and how many failures are counted before and after it: a want of memory is told, and
+-- any other error is counted as a failure of the store. The count stays at 2^64 - 1
+abbrev pub IsFaultOf : Error → ShelfFault → ℕ → ℕ → Type 0
+IsFaultOf error told old new =
+    ((error ≡ SqliteFailure OutOfMemory) × (told ≡ Memory) × (new ≡ old))
+    ⊎ ((error ≢ SqliteFailure OutOfMemory) × (told ≡ Store) × (new ≡ min (old + 1) (2 ^ 64 - 1)))
 
 -- a list of 2^32 entries or more is not written: its places have 32 bits
 abbrev pub IsShort : Change → Type 0

@@ -1,12 +1,14 @@
 //! The shelf.
 
-ghost use Rattle.std.specs.Prelude.{◌≡◌, ◌≢◌, ◌≤◌, ◌⊎◌, ◌+◌, ◌-◌, ◌^◌, min, true, false, None, Err};
+ghost use Rattle.std.specs.Prelude.{◌≡◌, ◌≢◌, ◌≤◌, true, false, None, Ok, Err, IfOk, IfErr, OnOk, OnErr};
 ghost use Rattle.sqlite.specs.State.{HasCleanDisk};
 ghost use Rattle.sqlite.specs.Held.{state};
 ghost use Rattle.room_records.specs.Shelf.{FailureCounted};
-ghost use Rattle.room_sql.specs.Known.{KnowsNothing};
+ghost use Rattle.room_records.specs.declared.shelf.ShelfFault.TheVariants.{Store};
+ghost use Rattle.room_sql.specs.Causes.{IsFaultOf};
+ghost use Rattle.room_sql.specs.NodeFacts.{KnowsNothing};
 
-use crate::known::Known;
+use crate::node_facts::NodeFacts;
 use crate::rows::{
     all_entries, all_names, all_nodes, first_node, one_count, one_doc, one_kept, one_node,
     one_number, one_seq, one_session, one_size,
@@ -26,7 +28,7 @@ pub struct SqlShelf<S: Alter> {
     alloc: Global,
     conn: Connection<S>,
     failures: u64,
-    known: Known,
+    known: NodeFacts,
     ghost outside: { conn.in_transaction ≡ false },
     ghost there: { known.counted ≢ None → HasCleanDisk (state S.Store conn) → (state S.Store conn).is_open ≡ true },
 }
@@ -41,7 +43,7 @@ impl<S: Alter> SqlShelf<S> {
             alloc,
             conn,
             failures: 0,
-            known: Known::nothing(),
+            known: NodeFacts::nothing(),
         }
     }
 
@@ -62,24 +64,44 @@ impl<S: Alter> SqlShelf<S> {
 
 /// What an error is to the shelf: a want of memory is told, and any other error is counted as a failure of the store.
 /// The count stays at 2^64 - 1. What was known is known no longer.
-fn fault(failures: &mut u64, known: &mut Known, error: Error) -> ShelfFault
-    ensures exact { ((error ≡ Error.SqliteFailure ErrorCode.OutOfMemory)
-        × (result ≡ ShelfFault.Memory) × (failures.new ≡ failures.old))
-        ⊎ ((error ≢ Error.SqliteFailure ErrorCode.OutOfMemory) × (result ≡ ShelfFault.Store)
-        × (failures.new ≡ min (failures.old + 1) (2 ^ 64 - 1))) }
+fn fault(failures: &mut u64, known: &mut NodeFacts, error: Error) -> ShelfFault
+    ensures exact { IsFaultOf error result failures.old failures.new }
     ensures counted { result ≡ ShelfFault.Store → FailureCounted failures.old failures.new }
     ensures never_falls { failures.old ≤ failures.new }
     ensures quiet { result ≢ ShelfFault.Store → failures.new ≡ failures.old }
     ensures forgotten { KnowsNothing known.new }
     ensures uncounted { known.new.counted ≡ None }
 {
-    *known = Known::nothing();
+    *known = NodeFacts::nothing();
     match error {
         Error::SqliteFailure(ErrorCode::OutOfMemory) => ShelfFault::Memory,
         _ => {
             *failures = failures.saturating_add(1);
             ShelfFault::Store
         },
+    }
+}
+
+/// Hands an answer of the connection on. An error becomes a fault of the shelf, whose count of failures and whose
+/// knowledge these are.
+fn or_fault<T>(
+    failures: &mut u64,
+    known: &mut NodeFacts,
+    answer: Result<T, Error>,
+) -> Result<T, ShelfFault>
+    ensures ok { IfOk result (λ value. answer ≡ Ok value) }
+    ensures kept { OnOk result (known.new ≡ known.old) }
+    ensures err { IfErr result (λ told. (error : Error) × (answer ≡ Err error)
+        × IsFaultOf error told failures.old failures.new) }
+    ensures counted { result ≡ Err Store → FailureCounted failures.old failures.new }
+    ensures never_falls { failures.old ≤ failures.new }
+    ensures quiet { result ≢ Err Store → failures.new ≡ failures.old }
+    ensures forgotten { OnErr result (KnowsNothing known.new) }
+    ensures uncounted { OnErr result (known.new.counted ≡ None) }
+{
+    match answer {
+        Ok(value) => Ok(value),
+        Err(error) => Err(fault(failures, known, error)),
     }
 }
 
@@ -116,15 +138,11 @@ impl<S: Alter> Shelf for SqlShelf<S> {
             find_node_text (Int (pos id) ∷ []) (AllByRecursion IsNodeRow) }
     {
         let _outside = self.conn.is_autocommit();
-        let rows = match reads::node_rows(&mut self.conn, id) {
-            Ok(rows) => rows,
-            Err(error) => return Err(fault(&mut self.failures, &mut self.known, error)),
-        };
+        let rows = reads::node_rows(&mut self.conn, id);
+        let rows = or_fault(&mut self.failures, &mut self.known, rows)?;
         self.known = self.known.with_free(id, rows.is_empty());
-        match one_node(self.alloc, rows.as_slice()) {
-            Ok(found) => Ok(found),
-            Err(error) => Err(fault(&mut self.failures, &mut self.known, error)),
-        }
+        let found = one_node(self.alloc, rows.as_slice());
+        or_fault(&mut self.failures, &mut self.known, found)
     }
 
     fn child(&mut self, parent: u32, name: &FileName) -> Result<Option<Node>, ShelfFault>
@@ -136,14 +154,10 @@ impl<S: Alter> Shelf for SqlShelf<S> {
             (Int (pos parent) ∷ Text name.now ∷ []) (AllByRecursion IsNodeRow) }
     {
         let _outside = self.conn.is_autocommit();
-        let rows = match reads::named_rows(&mut self.conn, parent, name.text()) {
-            Ok(rows) => rows,
-            Err(error) => return Err(fault(&mut self.failures, &mut self.known, error)),
-        };
-        match first_node(self.alloc, rows.as_slice()) {
-            Ok(found) => Ok(found),
-            Err(error) => Err(fault(&mut self.failures, &mut self.known, error)),
-        }
+        let rows = reads::named_rows(&mut self.conn, parent, name.text());
+        let rows = or_fault(&mut self.failures, &mut self.known, rows)?;
+        let found = first_node(self.alloc, rows.as_slice());
+        or_fault(&mut self.failures, &mut self.known, found)
     }
 
     fn children(&mut self, parent: u32) -> Result<Vec<Node>, ShelfFault>
@@ -155,14 +169,10 @@ impl<S: Alter> Shelf for SqlShelf<S> {
             list_children_text (Int (pos parent) ∷ []) (AllByRecursion IsNodeRow) }
     {
         let _outside = self.conn.is_autocommit();
-        let rows = match reads::child_rows(&mut self.conn, parent) {
-            Ok(rows) => rows,
-            Err(error) => return Err(fault(&mut self.failures, &mut self.known, error)),
-        };
-        match all_nodes(self.alloc, rows.as_slice()) {
-            Ok(found) => Ok(found),
-            Err(error) => Err(fault(&mut self.failures, &mut self.known, error)),
-        }
+        let rows = reads::child_rows(&mut self.conn, parent);
+        let rows = or_fault(&mut self.failures, &mut self.known, rows)?;
+        let found = all_nodes(self.alloc, rows.as_slice());
+        or_fault(&mut self.failures, &mut self.known, found)
     }
 
     /// The name and the kind of a row are all that it reads: another column of no value of its type is no fault here.
@@ -175,14 +185,10 @@ impl<S: Alter> Shelf for SqlShelf<S> {
             list_names_text (Int (pos parent) ∷ []) (AllByRecursion IsNameRow) }
     {
         let _outside = self.conn.is_autocommit();
-        let rows = match reads::name_rows(&mut self.conn, parent) {
-            Ok(rows) => rows,
-            Err(error) => return Err(fault(&mut self.failures, &mut self.known, error)),
-        };
-        match all_names(self.alloc, rows.as_slice()) {
-            Ok(found) => Ok(found),
-            Err(error) => Err(fault(&mut self.failures, &mut self.known, error)),
-        }
+        let rows = reads::name_rows(&mut self.conn, parent);
+        let rows = or_fault(&mut self.failures, &mut self.known, rows)?;
+        let found = all_names(self.alloc, rows.as_slice());
+        or_fault(&mut self.failures, &mut self.known, found)
     }
 
     fn child_count(&mut self, parent: u32) -> Result<u64, ShelfFault>
@@ -197,17 +203,12 @@ impl<S: Alter> Shelf for SqlShelf<S> {
             return Ok(count);
         }
         let _outside = self.conn.is_autocommit();
-        let rows = match reads::count_rows(&mut self.conn, parent) {
-            Ok(rows) => rows,
-            Err(error) => return Err(fault(&mut self.failures, &mut self.known, error)),
-        };
-        match one_count(rows.as_slice()) {
-            Ok(found) => {
-                self.known = self.known.with_count(parent, found);
-                Ok(found)
-            },
-            Err(error) => Err(fault(&mut self.failures, &mut self.known, error)),
-        }
+        let rows = reads::count_rows(&mut self.conn, parent);
+        let rows = or_fault(&mut self.failures, &mut self.known, rows)?;
+        let found = one_count(rows.as_slice());
+        let count = or_fault(&mut self.failures, &mut self.known, found)?;
+        self.known = self.known.with_count(parent, count);
+        Ok(count)
     }
 
     fn entries(&mut self, id: u32) -> Result<Vec<Entry>, ShelfFault>
@@ -219,14 +220,10 @@ impl<S: Alter> Shelf for SqlShelf<S> {
             (Int (pos id) ∷ []) (AllByRecursion IsLawfulEntryRow) }
     {
         let _outside = self.conn.is_autocommit();
-        let rows = match reads::entry_rows(&mut self.conn, id) {
-            Ok(rows) => rows,
-            Err(error) => return Err(fault(&mut self.failures, &mut self.known, error)),
-        };
-        match all_entries(self.alloc, rows.as_slice()) {
-            Ok(found) => Ok(found),
-            Err(error) => Err(fault(&mut self.failures, &mut self.known, error)),
-        }
+        let rows = reads::entry_rows(&mut self.conn, id);
+        let rows = or_fault(&mut self.failures, &mut self.known, rows)?;
+        let found = all_entries(self.alloc, rows.as_slice());
+        or_fault(&mut self.failures, &mut self.known, found)
     }
 
     fn decide_at(
@@ -243,10 +240,9 @@ impl<S: Alter> Shelf for SqlShelf<S> {
         ensures cause { DecisionCause S.Store self.old self.new result id subject.now standing.now wanted }
     {
         let _outside = self.conn.is_autocommit();
-        match deciding::decide_entries(self.alloc, &mut self.conn, id, subject, standing, wanted) {
-            Ok(found) => Ok(found),
-            Err(error) => Err(fault(&mut self.failures, &mut self.known, error)),
-        }
+        let conn = &mut self.conn;
+        let found = deciding::decide_entries(self.alloc, conn, id, subject, standing, wanted);
+        or_fault(&mut self.failures, &mut self.known, found)
     }
 
     fn doc(&mut self, id: u32) -> Result<Vec<u8>, ShelfFault>
@@ -258,14 +254,10 @@ impl<S: Alter> Shelf for SqlShelf<S> {
             find_doc_text (Int (pos id) ∷ []) (AllByRecursion (HasBytes 0)) }
     {
         let _outside = self.conn.is_autocommit();
-        let rows = match reads::doc_rows(&mut self.conn, id) {
-            Ok(rows) => rows,
-            Err(error) => return Err(fault(&mut self.failures, &mut self.known, error)),
-        };
-        match one_doc(self.alloc, rows.as_slice()) {
-            Ok(found) => Ok(found),
-            Err(error) => Err(fault(&mut self.failures, &mut self.known, error)),
-        }
+        let rows = reads::doc_rows(&mut self.conn, id);
+        let rows = or_fault(&mut self.failures, &mut self.known, rows)?;
+        let found = one_doc(self.alloc, rows.as_slice());
+        or_fault(&mut self.failures, &mut self.known, found)
     }
 
     fn doc_size(&mut self, id: u32) -> Result<u64, ShelfFault>
@@ -279,14 +271,10 @@ impl<S: Alter> Shelf for SqlShelf<S> {
         let _outside = self.conn.is_autocommit();
         // The database is sound, so the column holds bytes.
         let _live = self.conn.schema();
-        let rows = match reads::size_rows(&mut self.conn, id) {
-            Ok(rows) => rows,
-            Err(error) => return Err(fault(&mut self.failures, &mut self.known, error)),
-        };
-        match one_size(rows.as_slice()) {
-            Ok(found) => Ok(found),
-            Err(error) => Err(fault(&mut self.failures, &mut self.known, error)),
-        }
+        let rows = reads::size_rows(&mut self.conn, id);
+        let rows = or_fault(&mut self.failures, &mut self.known, rows)?;
+        let found = one_size(rows.as_slice());
+        or_fault(&mut self.failures, &mut self.known, found)
     }
 
     fn session(&mut self, sid: &Sid) -> Result<Option<SessionRow>, ShelfFault>
@@ -298,14 +286,10 @@ impl<S: Alter> Shelf for SqlShelf<S> {
             (Text sid.now ∷ []) (AllByRecursion (IsSessionRow sid.now)) }
     {
         let _outside = self.conn.is_autocommit();
-        let rows = match reads::session_rows(&mut self.conn, sid.text()) {
-            Ok(rows) => rows,
-            Err(error) => return Err(fault(&mut self.failures, &mut self.known, error)),
-        };
-        match one_session(self.alloc, sid, rows.as_slice()) {
-            Ok(found) => Ok(found),
-            Err(error) => Err(fault(&mut self.failures, &mut self.known, error)),
-        }
+        let rows = reads::session_rows(&mut self.conn, sid.text());
+        let rows = or_fault(&mut self.failures, &mut self.known, rows)?;
+        let found = one_session(self.alloc, sid, rows.as_slice());
+        or_fault(&mut self.failures, &mut self.known, found)
     }
 
     fn slot(&mut self, sid: &Sid, slot: u32) -> Result<Option<Kept>, ShelfFault>
@@ -317,14 +301,10 @@ impl<S: Alter> Shelf for SqlShelf<S> {
             (Text sid.now ∷ Int (pos slot) ∷ []) (AllByRecursion IsKeptRow) }
     {
         let _outside = self.conn.is_autocommit();
-        let rows = match reads::slot_rows(&mut self.conn, sid.text(), slot) {
-            Ok(rows) => rows,
-            Err(error) => return Err(fault(&mut self.failures, &mut self.known, error)),
-        };
-        match one_kept(rows.as_slice()) {
-            Ok(found) => Ok(found),
-            Err(error) => Err(fault(&mut self.failures, &mut self.known, error)),
-        }
+        let rows = reads::slot_rows(&mut self.conn, sid.text(), slot);
+        let rows = or_fault(&mut self.failures, &mut self.known, rows)?;
+        let found = one_kept(rows.as_slice());
+        or_fault(&mut self.failures, &mut self.known, found)
     }
 
     fn slot_seq(&mut self, sid: &Sid, slot: u32) -> Result<Option<u32>, ShelfFault>
@@ -336,14 +316,10 @@ impl<S: Alter> Shelf for SqlShelf<S> {
             (Text sid.now ∷ Int (pos slot) ∷ []) (AllByRecursion (HasNumber 0)) }
     {
         let _outside = self.conn.is_autocommit();
-        let rows = match reads::seq_rows(&mut self.conn, sid.text(), slot) {
-            Ok(rows) => rows,
-            Err(error) => return Err(fault(&mut self.failures, &mut self.known, error)),
-        };
-        match one_seq(rows.as_slice()) {
-            Ok(found) => Ok(found),
-            Err(error) => Err(fault(&mut self.failures, &mut self.known, error)),
-        }
+        let rows = reads::seq_rows(&mut self.conn, sid.text(), slot);
+        let rows = or_fault(&mut self.failures, &mut self.known, rows)?;
+        let found = one_seq(rows.as_slice());
+        or_fault(&mut self.failures, &mut self.known, found)
     }
 
     fn next_id(&mut self) -> Result<u32, ShelfFault>
@@ -354,14 +330,10 @@ impl<S: Alter> Shelf for SqlShelf<S> {
         ensures cause { ReadCause S.Store self.old self.new result find_next_text [] IsOneNumber }
     {
         let _outside = self.conn.is_autocommit();
-        let rows = match reads::next_rows(&mut self.conn) {
-            Ok(rows) => rows,
-            Err(error) => return Err(fault(&mut self.failures, &mut self.known, error)),
-        };
-        match one_number(rows.as_slice()) {
-            Ok(found) => Ok(found),
-            Err(error) => Err(fault(&mut self.failures, &mut self.known, error)),
-        }
+        let rows = reads::next_rows(&mut self.conn);
+        let rows = or_fault(&mut self.failures, &mut self.known, rows)?;
+        let found = one_number(rows.as_slice());
+        or_fault(&mut self.failures, &mut self.known, found)
     }
 
     fn commit(&mut self, changes: &[Change]) -> Result<(), ShelfFault>
@@ -390,12 +362,9 @@ impl<S: Alter> Shelf for SqlShelf<S> {
         ensures cause { CommitCause S.Store self.old self.new result changes.now }
     {
         let _outside = self.conn.is_autocommit();
-        match writes::commit(&mut self.conn, self.known.free(), changes) {
-            Ok(()) => {
-                self.known = self.known.after(changes);
-                Ok(())
-            },
-            Err(error) => Err(fault(&mut self.failures, &mut self.known, error)),
-        }
+        let done = writes::commit(&mut self.conn, self.known.free(), changes);
+        or_fault(&mut self.failures, &mut self.known, done)?;
+        self.known = self.known.after(changes);
+        Ok(())
     }
 }

@@ -1,39 +1,59 @@
-use Rattle.std.proofs.Common.{◌∙◌, not, sym, ap, subst}
+use Rattle.std.proofs.Common.{◌≡◌, ◌∙◌, Ok, Err, sym, subst, not, ap, rules}
 use Rattle.std.proofs.lemmas.List.{length-map}
 use Rattle.room_records.specs.Shelf.{IsChildCount}
 use Rattle.room_tables.specs.Rows.{shown_node}
 use Rattle.room_tables.proofs.Children.{count_children}
-use Rattle.room_sql.proofs.Calls.{read_ok, read_err}
+use Rattle.room_sql.proofs.Calls.{read_ok, read_err, read_told}
 use Rattle.room_sql.proofs.Unread.{unread}
 use Rattle.room_sql.proofs.sql_shelf.SqlShelfShelf.child_count.Goals as goal
 
 -- the count that is remembered is that of the rows
 pub returns-in-Some-clause-value : goal.returns-in-Some-clause-value
 returns-in-Some-clause-value g c available laid_out rules =
-    subst (IsChildCount _ c.args.parent) (sym (c.in-Some.ensures.right _ laid_out.1 ∙ sym (length-map _ shown_node)))
+    subst (IsChildCount _ c.args.parent) (sym (c.in-Some.ensures.true_of _ laid_out.1 ∙ sym (length-map _ shown_node)))
     (count_children _ c.args.parent laid_out.0.room rules)
 
-pub returns-in-Err-clause-frame : goal.returns-in-Err-clause-frame
-returns-in-Err-clause-frame g c =
-    read_err g.S.Store c.args.self.now.conn c.count_rows.new.conn c.in-Err.ensures.answered.frame
-    (λ is. c.is_autocommit-outside.ensures.settled
-    (c.is_autocommit-outside.ensures.value ∙ ap not c.args.self.now.outside) is) c.fault.ensures.forgotten
-    c.fault.ensures.never_falls c.fault.ensures.quiet c.fault.ensures.counted
+pub returns-in_err-rows-clause-frame : goal.returns-in_err-rows-clause-frame
+returns-in_err-rows-clause-frame g c =
+    let same : c.from_residual.result ≡ Err c.in_err-rows.field-0.0 = search rules in
+    rw same (read_err g.S.Store c.args.self.now.conn c.count_rows-rows.new.conn c.count_rows-rows.ensures.answered.frame
+    (c.is_autocommit-outside.ensures.settled (c.is_autocommit-outside.ensures.value ∙ ap not c.args.self.now.outside))
+    c.in_err-rows.ensures.forgotten c.or_fault.ensures.never_falls
+    (λ other. c.in_err-rows.ensures.quiet (λ is. other (let e = is in cc)))
+    (λ is. c.in_err-rows.ensures.counted (ap Err is)))
 
-pub returns-in-Ok-one_count-clause-value : goal.returns-in-Ok-one_count-clause-value
-returns-in-Ok-one_count-clause-value g c available laid_out rules =
-    let read = c.in-Ok.ensures.rows available.0 laid_out.0.room in
-    subst (IsChildCount _ c.args.parent) (sym (c.in-Ok-one_count.ensures.value _ (c.as_slice.ensures.value ∙ read)))
+pub returns-in_err-count-clause-cause : goal.returns-in_err-count-clause-cause
+returns-in_err-count-clause-cause g c clean is =
+    let same : c.from_residual-in_err-count.result ≡ Err c.in_err-count.field-0.0 = search rules in
+    unread _ _ _ _ c.count_rows-rows.ensures.answered clean c.in_ok-rows.ensures.ok c.as_slice.ensures.value
+    c.one_count-found.ensures.refused c.or_fault-2.ensures.err (c.in_err-count.was ∙ (let e = same in let f = is in cc))
+
+pub returns-in_err-count-clause-frame : goal.returns-in_err-count-clause-frame
+returns-in_err-count-clause-frame g c =
+    let fell = c.in_ok-rows.ensures.quiet (λ is. absurd (let bad = is in cc)) in
+    let same : c.from_residual-in_err-count.result ≡ Err c.in_err-count.field-0.0 = search rules in
+    rw (same ∙ sym c.in_err-count.was) (read_told g.S.Store _ c.args.self.now.conn c.count_rows-rows.new.conn
+    c.in_ok-rows.ensures.ok c.count_rows-rows.ensures.answered.frame
+    (c.is_autocommit-outside.ensures.settled (c.is_autocommit-outside.ensures.value ∙ ap not c.args.self.now.outside))
+    (λ clean room true_of. rw c.in_ok-rows.ensures.kept true_of) c.or_fault-2.ensures.kept
+    c.or_fault-2.ensures.forgotten (rw fell at c.or_fault-2.ensures.never_falls) (rw fell at c.or_fault-2.ensures.quiet)
+    (rw fell at c.or_fault-2.ensures.counted))
+
+pub returns-clause-value : goal.returns-clause-value
+returns-clause-value g c available laid_out rules =
+    let rows = rw c.in_ok-rows.ensures.ok at (c.count_rows-rows.ensures.rows available.0 laid_out.0.room) in
+    subst (IsChildCount _ c.args.parent)
+    (sym ((rw c.in_ok-count.ensures.ok at c.one_count-found.ensures.value) _ (c.as_slice.ensures.value ∙ rows)))
     (count_children _ c.args.parent laid_out.0.room rules)
 
-pub returns-in-Ok-one_count-clause-frame : goal.returns-in-Ok-one_count-clause-frame
-returns-in-Ok-one_count-clause-frame g c =
-    read_ok g.S.Store c.args.self.now.conn c.count_rows.new.conn c.in-Ok.ensures.answered.frame
-    (λ clean room right. c.with_count-self.ensures _ right
-    (c.in-Ok-one_count.ensures.value _ (c.as_slice.ensures.value ∙ c.in-Ok.ensures.rows clean room.room)
-    ∙ length-map _ shown_node))
-
-pub returns-clause-cause : goal.returns-clause-cause
-returns-clause-cause g c clean is =
-    unread c.in-Ok.ensures.answered clean c.as_slice.ensures.value c.in-Err-one_count.ensures.refused
-    c.fault-in-Err-one_count.ensures.exact is
+pub returns-clause-frame : goal.returns-clause-frame
+returns-clause-frame g c =
+    let fell = c.in_ok-rows.ensures.quiet (λ is. absurd (let bad = is in cc)) in
+    let stays = c.in_ok-count.ensures.quiet (λ is. absurd (let bad = is in cc)) in
+    rw (stays, fell) (read_ok g.S.Store c.args.self.now.conn c.count_rows-rows.new.conn
+    (rw c.in_ok-rows.ensures.ok at c.count_rows-rows.ensures.answered.frame)
+    (λ clean room true_of.
+    let rows = rw c.in_ok-rows.ensures.ok at (c.count_rows-rows.ensures.rows clean room.room) in
+    c.with_count-self.ensures _ (rw (c.in_ok-count.ensures.kept, c.in_ok-rows.ensures.kept) true_of)
+    ((rw c.in_ok-count.ensures.ok at c.one_count-found.ensures.value) _ (c.as_slice.ensures.value ∙ rows)
+    ∙ length-map _ shown_node)))

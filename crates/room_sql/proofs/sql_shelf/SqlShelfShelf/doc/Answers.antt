@@ -1,14 +1,15 @@
 use Rattle.std.proofs.Common.{refl, ◌∙◌}
 use Rattle.room_tables.proofs.Queries.{only_permuted}
-use Rattle.room_sql.proofs.Unread.{unread}
+use Rattle.room_sql.proofs.Unread.{read, unread}
 use Rattle.room_sql.proofs.sql_shelf.SqlShelfShelf.doc.Goals as goal
 
-pub returns-in-Ok-one_doc-clause-value : goal.returns-in-Ok-one_doc-clause-value
-returns-in-Ok-one_doc-clause-value g c available laid_out =
-    c.in-Ok-one_doc.ensures.value
-    ∙ rw (c.as_slice.ensures.value, only_permuted _ _ (c.in-Ok.ensures.rows available.0 laid_out.0.room)) refl
+pub returns-clause-value : goal.returns-clause-value
+returns-clause-value g c available laid_out =
+    let rows = rw c.in_ok-rows.ensures.ok at (c.doc_rows-rows.ensures.rows available.0 laid_out.0.room) in
+    read _ c.or_fault-2.ensures.ok (λ found is.
+    rw is at c.one_doc-found.ensures.value ∙ rw (c.as_slice.ensures.value, only_permuted _ _ rows) refl)
 
 pub returns-clause-cause : goal.returns-clause-cause
 returns-clause-cause g c clean is =
-    unread c.in-Ok.ensures.answered clean c.as_slice.ensures.value c.in-Err-one_doc.ensures.refused
-    c.fault-in-Err-one_doc.ensures.exact is
+    unread _ _ _ _ c.doc_rows-rows.ensures.answered clean c.in_ok-rows.ensures.ok c.as_slice.ensures.value
+    c.one_doc-found.ensures.refused c.or_fault-2.ensures.err is

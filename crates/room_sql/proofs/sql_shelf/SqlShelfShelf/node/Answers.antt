@@ -1,23 +1,31 @@
-use Rattle.std.proofs.Common.{refl, ◌∙◌, sym, ap, length}
+use Rattle.std.proofs.Common.{refl, ◌∙◌, sym, ap, not, length}
 use Rattle.room_tables.proofs.Queries.{only_permuted}
-use Rattle.room_sql.proofs.Calls.{read_ok, none_found}
-use Rattle.room_sql.proofs.Unread.{unread}
+use Rattle.room_sql.proofs.Calls.{read_told, none_found}
+use Rattle.room_sql.proofs.Unread.{read, unread}
 use Rattle.room_sql.proofs.sql_shelf.SqlShelfShelf.node.Goals as goal
 
-pub returns-in-Ok-one_node-clause-value : goal.returns-in-Ok-one_node-clause-value
-returns-in-Ok-one_node-clause-value g c available laid_out =
-    c.in-Ok-one_node.ensures.value
-    ∙ rw (c.as_slice.ensures.value, only_permuted _ _ (c.in-Ok.ensures.rows available.0 laid_out.0.room)) refl
+pub returns-clause-value : goal.returns-clause-value
+returns-clause-value g c available laid_out =
+    let rows = rw c.in_ok-rows.ensures.ok at (c.node_rows-rows.ensures.rows available.0 laid_out.0.room) in
+    read _ c.or_fault-2.ensures.ok (λ found is.
+    rw is at c.one_node-found.ensures.value ∙ rw (c.as_slice.ensures.value, only_permuted _ _ rows) refl)
 
 -- no row was read: none has the number
-pub returns-in-Ok-one_node-clause-frame : goal.returns-in-Ok-one_node-clause-frame
-returns-in-Ok-one_node-clause-frame g c =
-    read_ok g.S.Store c.args.self.now.conn c.node_rows.new.conn c.in-Ok.ensures.answered.frame
-    (λ clean room right. c.with_free-self.ensures.right _ right
-    (λ none. none_found _ _ _ (c.in-Ok.ensures.rows clean room.room)
+pub returns-clause-frame : goal.returns-clause-frame
+returns-clause-frame g c =
+    let same = c.in_ok-rows.ensures.quiet (λ is. absurd (let bad = is in cc)) in
+    read_told g.S.Store _ c.args.self.now.conn c.node_rows-rows.new.conn c.in_ok-rows.ensures.ok
+    c.node_rows-rows.ensures.answered.frame
+    (c.is_autocommit-outside.ensures.settled (c.is_autocommit-outside.ensures.value ∙ ap not c.args.self.now.outside))
+    (λ clean room true_of.
+    let rows = rw c.in_ok-rows.ensures.ok at (c.node_rows-rows.ensures.rows clean room.room) in
+    c.with_free-self.ensures.true_of _ (rw c.in_ok-rows.ensures.kept true_of)
+    (λ none. none_found _ _ _ rows
     (sym (ap length c.as_slice.ensures.value) ∙ c.as_slice.ensures.len) (sym c.is_empty.ensures ∙ none)))
+    c.or_fault-2.ensures.kept c.or_fault-2.ensures.forgotten (rw same at c.or_fault-2.ensures.never_falls)
+    (rw same at c.or_fault-2.ensures.quiet) (rw same at c.or_fault-2.ensures.counted)
 
 pub returns-clause-cause : goal.returns-clause-cause
 returns-clause-cause g c clean is =
-    unread c.in-Ok.ensures.answered clean c.as_slice.ensures.value c.in-Err-one_node.ensures.refused
-    c.fault-in-Err-one_node.ensures.exact is
+    unread _ _ _ _ c.node_rows-rows.ensures.answered clean c.in_ok-rows.ensures.ok c.as_slice.ensures.value
+    c.one_node-found.ensures.refused c.or_fault-2.ensures.err is
