@@ -1,4 +1,4 @@
--- What changes leave is still right.
+-- What changes leave is still true.
 use Rattle.std.proofs.Common.{◌≡◌, ℕ, refl, ap, ◌∙◌, sym, subst, List, [], ◌∷◌, Option, None, Some}
 use Rattle.std.proofs.Common.{IfSome, IsSome, true, false}
 use Rattle.room_acl.specs.Entries.{EntryModel}
@@ -7,7 +7,7 @@ use Rattle.room_records.specs.declared.change.Change.{Change}
 use Rattle.room_records.specs.Records.{ObjectRecords, Records}
 use Rattle.room_records.specs.Changes.{Leave, Untouched, apply_change}
 use Rattle.room_cache.specs.declared.known.Known.{Known}
-use Rattle.room_cache.specs.Known.{Fits, AreSeqs, IsDecidedBy, IsLeft}
+use Rattle.room_cache.specs.Known.{IsTrueOf, AreSeqs, IsDecidedBy, IsLeft}
 use Rattle.room_cache.specs.Rows.{row_at}
 use Rattle.room_cache.proofs.Folders.{listed_stay}
 use Rattle.std.specs.Ordering.{nat_cmp}
@@ -64,11 +64,11 @@ others_left change old new same seqs sessions objects =
     }
 
 -- nothing is remembered
-pub nothing_fits : (r : Records) (known : Known) → ((k : List ℕ) → row_at name_cmp known.sessions k ≡ None)
+pub nothing_true : (r : Records) (known : Known) → ((k : List ℕ) → row_at name_cmp known.sessions k ≡ None)
     → ((k : ℕ) → row_at nat_cmp known.nodes k ≡ None) → ((k : ℕ) → row_at nat_cmp known.names k ≡ None)
     → ((k : ℕ) → row_at nat_cmp known.lists k ≡ None) → ((k : ℕ) → row_at nat_cmp known.decisions k ≡ None)
-    → ((k : Name × ℕ) → row_at slot_cmp known.seqs k ≡ None) → known.next ≡ None → Fits r known
-nothing_fits r known sessions nodes names lists decisions seqs next = record {
+    → ((k : Name × ℕ) → row_at slot_cmp known.seqs k ≡ None) → known.next ≡ None → IsTrueOf known r
+nothing_true r known sessions nodes names lists decisions seqs next = record {
   sessions = λ sid row held. absurd (none_some _ row (sessions sid) held);
   nodes = λ id node held. absurd (none_some _ node (nodes id) held);
   names = λ folder listed held. absurd (none_some _ listed (names folder) held);
@@ -106,25 +106,25 @@ left_in_turn change changes old mid new first rest = record {
 }
 
 -- what changes leave is what the records are after them
-pub left_fits : (changes : List Change) (known left : Known) (old new : Records)
-    → IsLeft changes known left → Untouched changes old new → Fits old known → Fits new left
-left_fits changes known left old new is stay fits = record {
+pub left_true : (changes : List Change) (known left : Known) (old new : Records)
+    → IsLeft changes known left → Untouched changes old new → IsTrueOf known old → IsTrueOf left new
+left_true changes known left old new is stay true_of = record {
   sessions = λ sid row held.
-      let was = is.sessions sid row held in stay.session sid was.1 ∙ fits.sessions sid row was.0;
-  nodes = λ id node held. let was = is.nodes id node held in stay.node id was.1 ∙ fits.nodes id node was.0;
+      let was = is.sessions sid row held in stay.session sid was.1 ∙ true_of.sessions sid row was.0;
+  nodes = λ id node held. let was = is.nodes id node held in stay.node id was.1 ∙ true_of.nodes id node was.0;
   names = λ folder names held.
       let was = is.names folder names held in
-      listed_stay old new (λ id. stay.node id (was.1 id)) folder names (fits.names folder names was.0);
-  lists = λ id list held. let was = is.lists id list held in stay.entries id was.1 ∙ fits.lists id list was.0;
+      listed_stay old new (λ id. stay.node id (was.1 id)) folder names (true_of.names folder names was.0);
+  lists = λ id list held. let was = is.lists id list held in stay.entries id was.1 ∙ true_of.lists id list was.0;
   decisions = λ id made held d in_made.
       let was = is.decisions id made held in
       let P : List EntryModel → Type 0 = λ entries. IsDecidedBy entries d in
-      subst P (sym (stay.entries id was.1)) (fits.decisions id made was.0 d in_made);
+      subst P (sym (stay.entries id was.1)) (true_of.decisions id made was.0 d in_made);
   seqs = λ sid slot seq held.
-      let is_now = is.seqs old fits.seqs sid slot seq held in
+      let is_now = is.seqs old true_of.seqs sid slot seq held in
       (is_now.0, ap kept_seq (stay.kept sid slot is_now.0) ∙ is_now.1);
   next = for_some _ left.next (λ next held.
       let was = at_some (λ (n : ℕ). (known.next ≡ Some n) × Leave (λ r. r.objects.next) changes)
       left.next next held is.next in
-      stay.next was.1 ∙ at_some (λ (n : ℕ). old.objects.next ≡ n) known.next next was.0 fits.next);
+      stay.next was.1 ∙ at_some (λ (n : ℕ). old.objects.next ≡ n) known.next next was.0 true_of.next);
 }

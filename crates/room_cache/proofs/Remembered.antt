@@ -12,20 +12,20 @@ use Rattle.room_records.specs.Records.{Records}
 use Rattle.room_cache.specs.Rows.{row_at}
 use Rattle.room_cache.specs.declared.decisions.Decided.{Decided}
 use Rattle.room_cache.specs.declared.known.Known.{Known}
-use Rattle.room_cache.specs.Known.{Fits}
+use Rattle.room_cache.specs.Known.{IsTrueOf}
 
 -- what is found among an object's decisions is what its entries decide
-pub found_fits : (r : Records) (known : Known) (id : ℕ) (made : List Decided) (subject : SubjectModel)
+pub found_true : (r : Records) (known : Known) (id : ℕ) (made : List Decided) (subject : SubjectModel)
     (standing : Standing) (wanted : ℕ) (found : Option Decision) → row_at nat_cmp known.decisions id ≡ Some made
     → IfSome found (λ d. Contains made (record {
       subject = subject;
       standing = standing;
       wanted = wanted;
       decision = d;
-    })) → Fits r known → IfSome found (λ d. d ≡ decision (r.objects.entries id) subject standing wanted)
-found_fits r known id made subject standing wanted None held is fits = tt
-found_fits r known id made subject standing wanted (Some d) held is fits =
-    fits.decisions id made held (record { subject = subject; standing = standing; wanted = wanted; decision = d }) is
+    })) → IsTrueOf known r → IfSome found (λ d. d ≡ decision (r.objects.entries id) subject standing wanted)
+found_true r known id made subject standing wanted None held is true_of = tt
+found_true r known id made subject standing wanted (Some d) held is true_of =
+    true_of.decisions id made held (record { subject = subject; standing = standing; wanted = wanted; decision = d }) is
 
 -- an element of what was taken, or of nothing
 pub was_taken : (taken : Option (List Decided)) (d : Decided) → Contains (unwrap_or taken []) d

@@ -34,7 +34,7 @@ AreSeqs r seqs = (sid : Name) (slot seq : ℕ) → row_at slot_cmp seqs (sid, sl
     → (slot < max_slots) × (kept_seq (r.slot sid slot) ≡ Some seq)
 
 -- what is remembered is what the records are. A place is only a hint where to look
-pub record Fits (r : Records) (known : Known) : Type 0 where
+pub record IsTrueOf (known : Known) (r : Records) : Type 0 where
   pub sessions : (sid : List ℕ) (row : SessionRow) → row_at name_cmp known.sessions sid ≡ Some row
       → r.session sid ≡ Some row
   pub nodes : (id : ℕ) (node : Node) → row_at nat_cmp known.nodes id ≡ Some node → r.objects.node id ≡ Some node
@@ -63,5 +63,5 @@ pub record IsLeft (changes : List Change) (old new : Known) : Type 0 where
   pub next : IfSome new.next (λ next. (old.next ≡ Some next) × Leave (λ r. r.objects.next) changes)
 
 -- where something is remembered, no fault has shut an intact store
-abbrev pub HeardFrom : View → Known → Type 0
-HeardFrom view known = known.is_heard ≡ true → view.is_intact → view.is_available
+abbrev pub AnsweredIsAvailable : View → Known → Type 0
+AnsweredIsAvailable view known = known.has_answered ≡ true → view.is_intact → view.is_available

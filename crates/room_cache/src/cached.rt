@@ -1,7 +1,7 @@
 //! A shelf that remembers.
 ghost use Rattle.std.specs.Prelude.{◌≡◌};
 ghost use Rattle.room_records.specs.Records.{Records};
-ghost use Rattle.room_cache.specs.Known.{Fits};
+ghost use Rattle.room_cache.specs.Known.{IsTrueOf};
 
 use crate::decisions::Decided;
 use crate::known::Known;
@@ -32,20 +32,20 @@ pub struct CachedShelf<S: Shelf> {
 
 impl<S: Shelf> Model for CachedShelf<S> {
     ghost use Rattle.room_cache.specs.declared.known.Known.{Known};
-    ghost use Rattle.room_cache.specs.Known.{HeardFrom};
+    ghost use Rattle.room_cache.specs.Known.{AnsweredIsAvailable};
 
     ghost Value = { S × Known };
 
     ghost view = { λ c. (c.inner, c.known) };
 
-    ghost invariant = { λ c. HeardFrom (S.view c.inner) c.known };
+    ghost invariant = { λ c. AnsweredIsAvailable (S.view c.inner) c.known };
 }
 
 impl<S: Shelf> CachedShelf<S> {
     /// It remembers nothing yet.
     pub fn new(alloc: Global, inner: S) -> CachedShelf<S>
         ensures inner { result.0 ≡ inner }
-        ensures fits { (r : Records) → Fits r result.1 }
+        ensures true_of { (r : Records) → IsTrueOf result.1 r }
     {
         CachedShelf {
             inner,

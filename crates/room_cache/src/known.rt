@@ -9,7 +9,7 @@ ghost use Rattle.room_records.specs.Records.{Records};
 ghost use Rattle.room_records.specs.Changes.{apply_change, Untouched};
 ghost use Rattle.room_records.specs.Shelf.{IsChildNamed};
 ghost use Rattle.room_cache.specs.Rows.{row_at};
-ghost use Rattle.room_cache.specs.Known.{Fits, AreListed, AreSeqs, IsDecidedBy, IsLeft};
+ghost use Rattle.room_cache.specs.Known.{IsTrueOf, AreListed, AreSeqs, IsDecidedBy, IsLeft};
 ghost use Rattle.room_cache.specs.declared.decisions.Decided.{Decided};
 
 use crate::decisions::{Decided, Decisions};
@@ -26,7 +26,7 @@ use std::alloc::Global;
 #[derive(Drop)]
 pub(crate) struct Known {
     /// True only where no fault came since a call was answered, so that the store is there if it is intact.
-    pub(crate) is_heard: bool,
+    pub(crate) has_answered: bool,
     pub(crate) sessions: Rows<Sid, SessionRow>,
     pub(crate) nodes: Rows<u32, Node>,
     /// The number of the node that was in this folder under this name. The node tells whether it still is.
@@ -44,11 +44,11 @@ pub(crate) struct Known {
 
 impl Known {
     pub(crate) fn nothing(alloc: Global) -> Known
-        ensures fits { (r : Records) → Fits r result }
-        ensures heard { result.is_heard ≡ false }
+        ensures true_of { (r : Records) → IsTrueOf result r }
+        ensures unanswered { result.has_answered ≡ false }
     {
         Known {
-            is_heard: false,
+            has_answered: false,
             sessions: Rows::new(alloc),
             nodes: Rows::new(alloc),
             places: Rows::new(alloc),
@@ -64,8 +64,8 @@ impl Known {
     pub(crate) fn or_forget<T>(&mut self, answer: Result<T, ShelfFault>) -> Result<T, ShelfFault>
         ensures same { result ≡ answer }
         ensures kept { OnOk result (self.new ≡ self.old) }
-        ensures forgotten { OnErr result ((r : Records) → Fits r self.new) }
-        ensures unheard { OnErr result (self.new.is_heard ≡ false) }
+        ensures forgotten { OnErr result ((r : Records) → IsTrueOf self.new r) }
+        ensures unanswered { OnErr result (self.new.has_answered ≡ false) }
     {
         if answer.is_err() {
             self.clear();
@@ -75,10 +75,10 @@ impl Known {
 
     /// Forgets all.
     fn clear(&mut self)
-        ensures fits { (r : Records) → Fits r self.new }
-        ensures heard { self.new.is_heard ≡ false }
+        ensures true_of { (r : Records) → IsTrueOf self.new r }
+        ensures unanswered { self.new.has_answered ≡ false }
     {
-        self.is_heard = false;
+        self.has_answered = false;
         self.sessions.clear();
         self.nodes.clear();
         self.places.clear();
@@ -90,20 +90,22 @@ impl Known {
     }
 
     pub(crate) fn session(&self, sid: &Sid) -> Option<&SessionRow>
-        ensures fits { (r : Records) → Fits r self.now → IfSome result (λ row. r.session sid.now ≡ Some row.now) }
-        ensures heard { IsSome result → self.now.is_heard ≡ true }
+        ensures true_of { (r : Records) → IsTrueOf self.now r
+            → IfSome result (λ row. r.session sid.now ≡ Some row.now) }
+        ensures answered { IsSome result → self.now.has_answered ≡ true }
     {
-        if !self.is_heard {
+        if !self.has_answered {
             return None;
         }
         self.sessions.get(sid)
     }
 
     pub(crate) fn node(&self, id: u32) -> Option<&Node>
-        ensures fits { (r : Records) → Fits r self.now → IfSome result (λ node. r.objects.node id ≡ Some node.now) }
-        ensures heard { IsSome result → self.now.is_heard ≡ true }
+        ensures true_of { (r : Records) → IsTrueOf self.now r
+            → IfSome result (λ node. r.objects.node id ≡ Some node.now) }
+        ensures answered { IsSome result → self.now.has_answered ≡ true }
     {
-        if !self.is_heard {
+        if !self.has_answered {
             return None;
         }
         self.nodes.get(&id)
@@ -111,9 +113,9 @@ impl Known {
 
     /// The child of this name. That there is none is not remembered.
     pub(crate) fn child(&self, parent: u32, name: &FileName) -> Option<&Node>
-        ensures fits { (r : Records) → Fits r self.now
+        ensures true_of { (r : Records) → IsTrueOf self.now r
             → IfSome result (λ node. IsChildNamed r.objects parent name.now (Some node.now)) }
-        ensures heard { IsSome result → self.now.is_heard ≡ true }
+        ensures answered { IsSome result → self.now.has_answered ≡ true }
     {
         let Ok(copy) = name.clone() else {
             return None;
@@ -129,20 +131,21 @@ impl Known {
 
     /// The names and kinds of what is in a folder, by name.
     pub(crate) fn names(&self, folder: u32) -> Option<&NameList>
-        ensures fits { (r : Records) → Fits r self.now → IfSome result (λ names. AreListed r folder names.now) }
-        ensures heard { IsSome result → self.now.is_heard ≡ true }
+        ensures true_of { (r : Records) → IsTrueOf self.now r → IfSome result (λ names. AreListed r folder names.now) }
+        ensures answered { IsSome result → self.now.has_answered ≡ true }
     {
-        if !self.is_heard {
+        if !self.has_answered {
             return None;
         }
         self.names.get(&folder)
     }
 
     pub(crate) fn list(&self, id: u32) -> Option<&ShortList>
-        ensures fits { (r : Records) → Fits r self.now → IfSome result (λ list. r.objects.entries id ≡ list.now) }
-        ensures heard { IsSome result → self.now.is_heard ≡ true }
+        ensures true_of { (r : Records) → IsTrueOf self.now r
+            → IfSome result (λ list. r.objects.entries id ≡ list.now) }
+        ensures answered { IsSome result → self.now.has_answered ≡ true }
     {
-        if !self.is_heard {
+        if !self.has_answered {
             return None;
         }
         self.lists.get(&id)
@@ -156,11 +159,11 @@ impl Known {
         standing: &Standing,
         wanted: Mask,
     ) -> Option<Decision>
-        ensures fits { (r : Records) → Fits r self.now → IfSome result
+        ensures true_of { (r : Records) → IsTrueOf self.now r → IfSome result
             (λ found. found ≡ decision (r.objects.entries id) subject.now standing.now wanted) }
-        ensures heard { IsSome result → self.now.is_heard ≡ true }
+        ensures answered { IsSome result → self.now.has_answered ≡ true }
     {
-        if !self.is_heard {
+        if !self.has_answered {
             return None;
         }
         match self.decisions.get(&id) {
@@ -171,11 +174,11 @@ impl Known {
 
     /// The number of the request that a slot keeps. That it keeps none is not remembered.
     pub(crate) fn slot_seq(&self, sid: &Sid, slot: u32) -> Option<u32>
-        ensures fits { (r : Records) → Fits r self.now
+        ensures true_of { (r : Records) → IsTrueOf self.now r
             → IfSome result (λ seq. kept_seq (r.slot sid.now slot) ≡ Some seq) }
-        ensures heard { IsSome result → self.now.is_heard ≡ true }
+        ensures answered { IsSome result → self.now.has_answered ≡ true }
     {
-        if !self.is_heard {
+        if !self.has_answered {
             return None;
         }
         let Ok(sid) = sid.clone() else {
@@ -188,35 +191,36 @@ impl Known {
     }
 
     pub(crate) fn next(&self) -> Option<u32>
-        ensures fits { (r : Records) → Fits r self.now → IfSome result (λ next. r.objects.next ≡ next) }
-        ensures heard { IsSome result → self.now.is_heard ≡ true }
+        ensures true_of { (r : Records) → IsTrueOf self.now r → IfSome result (λ next. r.objects.next ≡ next) }
+        ensures answered { IsSome result → self.now.has_answered ≡ true }
     {
-        if !self.is_heard {
+        if !self.has_answered {
             return None;
         }
         self.next
     }
 
     pub(crate) fn keep_session(&mut self, sid: &Sid, row: &SessionRow)
-        ensures { (r : Records) → r.session sid.now ≡ Some row.now → Fits r self.old → Fits r self.new }
+        ensures { (r : Records) → r.session sid.now ≡ Some row.now → IsTrueOf self.old r → IsTrueOf self.new r }
     {
         if let (Ok(sid), Ok(row)) = (sid.clone(), row.clone()) {
             self.sessions.keep(sid, row);
-            self.is_heard = true;
+            self.has_answered = true;
         }
     }
 
     pub(crate) fn keep_node(&mut self, id: u32, node: &Node)
-        ensures { (r : Records) → r.objects.node id ≡ Some node.now → Fits r self.old → Fits r self.new }
+        ensures { (r : Records) → r.objects.node id ≡ Some node.now → IsTrueOf self.old r → IsTrueOf self.new r }
     {
         if let Ok(node) = node.clone() {
             self.nodes.keep(id, node);
-            self.is_heard = true;
+            self.has_answered = true;
         }
     }
 
     pub(crate) fn keep_child(&mut self, parent: u32, name: &FileName, node: &Node)
-        ensures { (r : Records) → r.objects.node node.now.id ≡ Some node.now → Fits r self.old → Fits r self.new }
+        ensures { (r : Records) → r.objects.node node.now.id ≡ Some node.now
+            → IsTrueOf self.old r → IsTrueOf self.new r }
     {
         if let Ok(name) = name.clone() {
             self.places.keep((parent, name), node.id);
@@ -226,58 +230,60 @@ impl Known {
 
     /// More than 256 names are not remembered: no folder of a room has them.
     pub(crate) fn keep_names(&mut self, folder: u32, names: &Vec<(FileName, Kind)>)
-        ensures { (r : Records) → AreListed r folder names.now.items → Fits r self.old → Fits r self.new }
+        ensures { (r : Records) → AreListed r folder names.now.items → IsTrueOf self.old r → IsTrueOf self.new r }
     {
         let Ok(copy) = copy_names(*names.allocator(), names.as_slice()) else {
             return;
         };
         if let Some(names) = NameList::new(copy) {
             self.names.keep(folder, names);
-            self.is_heard = true;
+            self.has_answered = true;
         }
     }
 
     /// A list of more than 64 entries is not remembered.
     pub(crate) fn keep_list(&mut self, id: u32, list: &Vec<Entry>)
-        ensures { (r : Records) → r.objects.entries id ≡ list.now.items → Fits r self.old → Fits r self.new }
+        ensures { (r : Records) → r.objects.entries id ≡ list.now.items → IsTrueOf self.old r → IsTrueOf self.new r }
     {
         let Ok(copy) = copy_entries(*list.allocator(), list.as_slice()) else {
             return;
         };
         if let Some(list) = ShortList::new(copy) {
             self.lists.keep(id, list);
-            self.is_heard = true;
+            self.has_answered = true;
         }
     }
 
     pub(crate) fn keep_decision(&mut self, id: u32, decided: Decided)
-        ensures { (r : Records) → IsDecidedBy (r.objects.entries id) decided → Fits r self.old → Fits r self.new }
+        ensures { (r : Records) → IsDecidedBy (r.objects.entries id) decided
+            → IsTrueOf self.old r → IsTrueOf self.new r }
     {
         let alloc = *decided.subject.groups.allocator();
         let mut made = self.decisions.take(&id).unwrap_or(Decisions::new(alloc));
         made.keep(decided);
         self.decisions.keep(id, made);
-        self.is_heard = true;
+        self.has_answered = true;
     }
 
     /// The number of a slot after the first 16 is not remembered: no session has such a slot.
     pub(crate) fn keep_seq(&mut self, sid: &Sid, slot: u32, seq: u32)
-        ensures { (r : Records) → kept_seq (r.slot sid.now slot) ≡ Some seq → Fits r self.old → Fits r self.new }
+        ensures { (r : Records) → kept_seq (r.slot sid.now slot) ≡ Some seq
+            → IsTrueOf self.old r → IsTrueOf self.new r }
     {
         if slot >= MAX_SLOTS {
             return;
         }
         if let Ok(sid) = sid.clone() {
             self.seqs.keep((sid, slot), seq);
-            self.is_heard = true;
+            self.has_answered = true;
         }
     }
 
     pub(crate) fn keep_next(&mut self, next: u32)
-        ensures { (r : Records) → r.objects.next ≡ next → Fits r self.old → Fits r self.new }
+        ensures { (r : Records) → r.objects.next ≡ next → IsTrueOf self.old r → IsTrueOf self.new r }
     {
         self.next = Some(next);
-        self.is_heard = true;
+        self.has_answered = true;
     }
 
     /// Forgets a node, and the names of every folder: the one that it was in is not known here.
@@ -348,7 +354,8 @@ impl Known {
     /// Forgets what the changes touch. The numbers of slot rows that they put are remembered.
     pub(crate) fn forget_touched(&mut self, changes: &[Change])
         ensures left { IsLeft changes.now self.old self.new }
-        ensures fits { (old new : Records) → Untouched changes.now old new → Fits old self.old → Fits new self.new }
+        ensures true_of { (old new : Records) → Untouched changes.now old new
+            → IsTrueOf self.old old → IsTrueOf self.new new }
     {
         for change in changes {
             self.forget(change);

@@ -6,11 +6,11 @@ use Rattle.sqlite.specs.Held.{Held, state}
 use Rattle.room_acl.specs.SubjectModel.{SubjectModel}
 use Rattle.room_records.specs.Records.{Records}
 use Rattle.room_cache.specs.declared.known.Known.{Known}
-use Rattle.room_cache.specs.Known.{Fits}
+use Rattle.room_cache.specs.Known.{IsTrueOf}
 use Rattle.room_tables.specs.Tables.{schema_0, has_a_table, has_room, has_first_room}
 use Rattle.room_tables.specs.Fresh.{IsFreshRoom, MayBeMade}
 use Rattle.room_sql.specs.declared.sql_shelf.SqlShelf.{SqlShelf}
-use Rattle.room_sql.specs.Known.{KnowsNothing}
+use Rattle.room_sql.specs.NodeFacts.{KnowsNothing}
 use Rattle.room_sql.specs.Taken as adoption
 use Rattle.room_roster.specs.Rosters.{IsRosterText}
 use Rattle.room_program.specs.declared.fault.Fault.{Fault}
@@ -81,7 +81,7 @@ Adopted g opened taken = (IsTrue (has_room opened.schema) ⊎ IsTrue (has_first_
     × (HasCleanDisk (state g taken.0.conn) → IsTrue (state g taken.0.conn).is_open
     × adoption.IsTaken (state g opened) (state g taken.0.conn))
     × Survives (state g opened) (state g taken.0.conn) (adoption.MayBeTaken (state g opened))
-    × KnowsNothing taken.0.known × ((r : Records) → Fits r taken.1)
+    × KnowsNothing taken.0.known × ((r : Records) → IsTrueOf taken.1 r)
 
 -- a store that was opened had no table of a room, and a fresh room was made in it, as `SqlShelf::init` has it
 abbrev pub Made : {S : Type 0} → Ghosts S → (owner group : List ℕ) → (opened made : Held S) → Type 0

@@ -17,37 +17,37 @@ use Rattle.room_records.specs.declared.shelf.ShelfFault.TheVariants.{Store}
 use Rattle.room_records.specs.Shelf.{View, ShelfRead, FailureCounted, fault_in}
 use Rattle.room_tables.specs.Rows.{records_of, shown_node}
 use Rattle.room_tables.specs.Layout.{IsRoomOfVersion2}
-use Rattle.room_sql.specs.declared.known.Known.{Known}
-use Rattle.room_sql.specs.Known.{IsRight, KnowsNothing}
+use Rattle.room_sql.specs.declared.node_facts.NodeFacts.{NodeFacts}
+use Rattle.room_sql.specs.NodeFacts.{IsTrueOf, KnowsNothing}
 use Rattle.room_sql.specs.Frames.{QueryFrame}
 
 module _ {S : Type 0} (store : Ghosts S) where
   -- what contracts see of the shelf with this connection, count of failures and knowledge
-  abbrev pub view_of : Held S → ℕ → Known → View
+  abbrev pub view_of : Held S → ℕ → NodeFacts → View
   view_of conn failures known = record {
     records = records_of (state store conn).now.trees;
     failures = failures;
     is_intact = HasCleanDisk (state store conn);
     is_available = HasCleanDisk (state store conn) × IsTrue (state store conn).is_open;
-    is_laid_out = IsRoomOfVersion2 (state store conn).now × IsRight known ((state store conn).now.trees 1);
+    is_laid_out = IsRoomOfVersion2 (state store conn).now × IsTrueOf known ((state store conn).now.trees 1);
     crash_may_leave = λ left. HasCleanDisk (state store conn)
         × ((trees : Trees) × (state store conn).may_leave trees × (left ≡ records_of trees));
   }
 
-  -- a query that answered, after which the shelf knows something that is right
-  pub read_ok : {T : Type 0} {failures : ℕ} {known after : Known} {x : T} (old new : Held S)
+  -- a query that answered, after which the shelf knows something that is true
+  pub read_ok : {T : Type 0} {failures : ℕ} {known after : NodeFacts} {x : T} (old new : Held S)
       → QueryFrame {T = T} (state store old) (state store new) (Ok x)
       → (HasCleanDisk (state store new) → IsRoomOfVersion2 (state store old).now
-      → IsRight known ((state store old).now.trees 1) → IsRight after ((state store old).now.trees 1))
+      → IsTrueOf known ((state store old).now.trees 1) → IsTrueOf after ((state store old).now.trees 1))
       → ShelfRead (view_of old failures known) (view_of new failures after) None
-  read_ok {after = after} old new frame right = record {
+  read_ok {after = after} old new frame true_of = record {
     call = record {
       was_intact = frame.clean;
       was_available = λ there. (frame.clean there.0, frame.was_open there.0 there.1);
       laid_out = λ there laid. (
         rw (frame.answered there.0).1 laid.0,
-        subst (λ (d : Database). IsRight after (d.trees 1)) (sym (frame.answered there.0).1)
-            (right there.0 laid.0 laid.1),
+        subst (λ (d : Database). IsTrueOf after (d.trees 1)) (sym (frame.answered there.0).1)
+            (true_of there.0 laid.0 laid.1),
       );
       alive = λ clean was. (clean, (frame.answered clean).0);
       never_falls = omega arith;
@@ -63,7 +63,7 @@ module _ {S : Type 0} (store : Ghosts S) where
   }
 
   -- a query that failed, or whose rows cannot be read, after which the shelf knows nothing
-  pub read_err : {T : Type 0} {failures more : ℕ} {known after : Known} {r : Result T Error} {fault : ShelfFault}
+  pub read_err : {T : Type 0} {failures more : ℕ} {known after : NodeFacts} {r : Result T Error} {fault : ShelfFault}
       (old new : Held S) → QueryFrame (state store old) (state store new) r
       → (IsTrue (state store old).is_open → (state store old).now ≡ (state store old).committed)
       → KnowsNothing after → failures ≤ more → (fault ≢ Store → more ≡ failures)
@@ -96,18 +96,18 @@ module _ {S : Type 0} (store : Ghosts S) where
 
 -- a query that answered, and a result by whose fault the shelf forgets all that it knows
 module _ {S : Type 0} (store : Ghosts S) where
-  pub read_told : {T U : Type 0} {failures more : ℕ} {known mid after : Known} {query : Result U Error} {x : U}
+  pub read_told : {T U : Type 0} {failures more : ℕ} {known mid after : NodeFacts} {query : Result U Error} {x : U}
       (result : Result T ShelfFault) (old new : Held S) → query ≡ Ok x
       → QueryFrame (state store old) (state store new) query
       → (IsTrue (state store old).is_open → (state store old).now ≡ (state store old).committed)
       → (HasCleanDisk (state store new) → IsRoomOfVersion2 (state store old).now
-      → IsRight known ((state store old).now.trees 1) → IsRight mid ((state store old).now.trees 1))
+      → IsTrueOf known ((state store old).now.trees 1) → IsTrueOf mid ((state store old).now.trees 1))
       → OnOk result (after ≡ mid) → OnErr result (KnowsNothing after) → failures ≤ more
       → (result ≢ Err Store → more ≡ failures) → (result ≡ Err Store → FailureCounted failures more)
       → ShelfRead (view_of store old failures known) (view_of store new more after) (fault_in result)
-  read_told (Ok value) old new ok frame settled right kept nothing never quiet counted =
-      rw (kept, quiet (λ is. absurd (let bad = is in cc))) (read_ok store old new (rw ok at frame) right)
-  read_told (Err fault) old new ok frame settled right kept nothing never quiet counted =
+  read_told (Ok value) old new ok frame settled true_of kept nothing never quiet counted =
+      rw (kept, quiet (λ is. absurd (let bad = is in cc))) (read_ok store old new (rw ok at frame) true_of)
+  read_told (Err fault) old new ok frame settled true_of kept nothing never quiet counted =
       read_err store old new frame settled nothing never (λ other. quiet (λ is. other (let e = is in cc)))
       (λ is. counted (ap Err is))
 

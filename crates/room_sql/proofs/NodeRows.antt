@@ -39,7 +39,7 @@ use Rattle.room_tables.proofs.Values.{int_has, has_is}
 use Rattle.room_sql.specs.Causes.{statement, RunInTurn, writes_of, node_write, node_add, entries_drop, entry_writes}
 use Rattle.room_sql.specs.Causes.{doc_write, doc_add}
 use Rattle.room_sql.specs.declared.new_object.NewObject.{NewObject}
-use Rattle.room_sql.specs.NewObject.{is_free, is_bare, lacks_doc}
+use Rattle.room_sql.specs.NewObject.{is_free, lacks_entries, lacks_doc}
 use Rattle.room_sql.proofs.OrWrites.{node_put, slot_leaves_nodes, doc_leaves_nodes, next_set}
 use Rattle.room_sql.specs.NodeRows.{HasNone, HasOneMore, is_parent, After, AfterAll}
 
@@ -163,7 +163,7 @@ module _ {S : Type 0} (store : Ghosts S) where
   nodes_after object (PutNode node) a b room ran = node_after node (is_free object node.id) a b room ran
   nodes_after object (DropNode id) a b room ran = tt
   nodes_after object (PutEntries id entries) a b room ran =
-      entries_after id entries.items (is_bare object id) a b room ran
+      entries_after id entries.items (lacks_entries object id) a b room ran
   nodes_after object (PutDoc id bytes) a b room ran = doc_after id bytes.items (lacks_doc object id) a b room ran
   nodes_after object (PutSession row) a b room ran =
       let one = one_ran put_session_text _ a b ran in

@@ -33,7 +33,7 @@ use Rattle.room_tables.specs.Rows.{number_in, only}
 use Rattle.room_sql.specs.Columns.{IsFault, IsOneNumber}
 use Rattle.room_sql.specs.Taken.{SaysFirst}
 use Rattle.room_sql.specs.declared.new_object.NewObject.{NewObject}
-use Rattle.room_sql.specs.NewObject.{before_all, is_free, is_bare, lacks_doc, after_change}
+use Rattle.room_sql.specs.NewObject.{before_all, is_free, lacks_entries, lacks_doc, after_change}
 
 -- a statement: its text and its parameters, and for some the text of another, which runs behind it with the same
 -- parameters where it changed no row
@@ -110,7 +110,7 @@ slots_drop sid = statement drop_slots_text (Text sid ∷ [])
 abbrev pub writes_of : NewObject → Change → List Statement
 writes_of object (PutNode node) = (if is_free object node.id then node_add node else node_write node) ∷ []
 writes_of object (DropNode id) = node_drop id ∷ []
-writes_of object (PutEntries id entries) = if is_bare object id then entry_writes id 0 entries.items
+writes_of object (PutEntries id entries) = if lacks_entries object id then entry_writes id 0 entries.items
     else entries_drop id ∷ entry_writes id 0 entries.items
 writes_of object (PutDoc id bytes) =
     (if lacks_doc object id then doc_add id bytes.items else doc_write id bytes.items) ∷ []

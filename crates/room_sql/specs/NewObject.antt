@@ -5,7 +5,7 @@ use Rattle.room_records.specs.declared.change.Change.{Change}
 use Rattle.room_records.specs.declared.change.Change.TheVariants.{PutNode, PutEntries, PutNext}
 use Rattle.room_tables.specs.Rows.{records_of}
 use Rattle.room_sql.specs.declared.new_object.NewObject.{NewObject}
-use Rattle.room_sql.specs.declared.new_object.NewObject.TheVariants.{Unknown, Free, Bare, Listed}
+use Rattle.room_sql.specs.declared.new_object.NewObject.TheVariants.{Unknown, Free, WithoutEntries, WithoutDocument}
 
 -- before the first change: the number that no row of `node` has, if one is known
 abbrev pub before_all : Option ℕ → NewObject
@@ -18,26 +18,26 @@ is_free (Free free) id = free == id
 is_free _ id = false
 
 -- its row was added, and it has neither entries nor a document
-abbrev pub is_bare : NewObject → ℕ → Bool
-is_bare (Bare made) id = made == id
-is_bare _ id = false
+abbrev pub lacks_entries : NewObject → ℕ → Bool
+lacks_entries (WithoutEntries made) id = made == id
+lacks_entries _ id = false
 
 -- its row was added, and it has no document
 abbrev pub lacks_doc : NewObject → ℕ → Bool
-lacks_doc (Bare made) id = made == id
-lacks_doc (Listed made) id = made == id
+lacks_doc (WithoutEntries made) id = made == id
+lacks_doc (WithoutDocument made) id = made == id
 lacks_doc _ id = false
 
 -- After a change: a node of the free number is added, and then its entries are. Only the next number may be put
 -- between; behind any other change nothing is known
 abbrev pub after_change : NewObject → Change → NewObject
-after_change object (PutNode node) = if is_free object node.id then Bare node.id else Unknown
-after_change object (PutEntries id entries) = if is_bare object id then Listed id else Unknown
+after_change object (PutNode node) = if is_free object node.id then WithoutEntries node.id else Unknown
+after_change object (PutEntries id entries) = if lacks_entries object id then WithoutDocument id else Unknown
 after_change object (PutNext next) = object
 after_change object _ = Unknown
 
--- It is so of the trees that an object without entries has none. Of a number that is free, and of an object without a
--- document, nothing need be said: an INSERT that answers Ok tells that no row was there
-abbrev pub IsSo : NewObject → Trees → Type 0
-IsSo (Bare id) trees = (records_of trees).objects.entries id ≡ []
-IsSo _ trees = Unit {0}
+-- An object that is known to be without entries has none in the trees. Of a number that is free, and of an object
+-- without a document, nothing need be said: an INSERT that answers Ok tells that no row was there
+abbrev pub NoEntriesIfKnown : NewObject → Trees → Type 0
+NoEntriesIfKnown (WithoutEntries id) trees = (records_of trees).objects.entries id ≡ []
+NoEntriesIfKnown _ trees = Unit {0}

@@ -16,13 +16,13 @@ use Rattle.room_records.specs.declared.shelf.ShelfFault.TheVariants.{Store}
 use Rattle.room_tables.specs.Layout.{IsRoomOfVersion2}
 use Rattle.room_tables.specs.Rows.{records_of}
 use Rattle.room_sql.specs.declared.sql_shelf.SqlShelf.{SqlShelf}
-use Rattle.room_sql.specs.Known.{IsRight}
+use Rattle.room_sql.specs.NodeFacts.{IsTrueOf}
 use Rattle.room_sql.specs.Columns.{IsFault}
 use Rattle.room_sql.specs.Decisions.{CannotDecide}
 use Rattle.room_sql.specs.Causes.{IsShort, CommitFails}
 
 -- The records are the rows of the tables, and the store is intact while its disk has returned what was written.
--- That it is laid out says also that what the shelf remembers is right of its rows
+-- That it is laid out says also that what the shelf remembers is true of its rows
 abbrev pub sql_view : {S : Type 0} (store : Ghosts S) → SqlShelf S store → View
 sql_view store shelf = record {
   records = records_of (state store shelf.conn).now.trees;
@@ -30,7 +30,7 @@ sql_view store shelf = record {
   is_intact = HasCleanDisk (state store shelf.conn);
   is_available = HasCleanDisk (state store shelf.conn) × IsTrue (state store shelf.conn).is_open;
   is_laid_out = IsRoomOfVersion2 (state store shelf.conn).now
-      × IsRight shelf.known ((state store shelf.conn).now.trees 1);
+      × IsTrueOf shelf.known ((state store shelf.conn).now.trees 1);
   crash_may_leave = λ left. HasCleanDisk (state store shelf.conn)
       × ((trees : Trees) × (state store shelf.conn).may_leave trees × (left ≡ records_of trees));
 }

@@ -2,8 +2,8 @@
 #![tactic(auto)]
 
 mod deciding;
-mod known;
 mod new_object;
+mod node_facts;
 mod open;
 mod reads;
 mod rows;

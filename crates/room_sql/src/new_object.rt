@@ -1,7 +1,7 @@
 //! What a commit knows of the object that it makes, so that it adds rows where none can be.
 
 ghost use Rattle.std.specs.Prelude.{◌≡◌};
-ghost use Rattle.room_sql.specs.NewObject.{before_all, is_free, is_bare, lacks_doc, after_change};
+ghost use Rattle.room_sql.specs.NewObject.{before_all, is_free, lacks_entries, lacks_doc, after_change};
 
 use room_records::Change;
 
@@ -13,9 +13,9 @@ pub(crate) enum NewObject {
     /// No row of `node` has this number.
     Free(u32),
     /// The commit has added the row of this number. None of `entry` or `doc` refers to it.
-    Bare(u32),
+    WithoutEntries(u32),
     /// The commit has added the row of this number. None of `doc` refers to it.
-    Listed(u32),
+    WithoutDocument(u32),
 }
 
 impl NewObject {
@@ -40,11 +40,11 @@ impl NewObject {
     }
 
     /// Whether it is the object that was added, and has no entries and no document yet.
-    pub(crate) fn is_bare(self, id: u32) -> bool
-        ensures { result ≡ is_bare self id }
+    pub(crate) fn lacks_entries(self, id: u32) -> bool
+        ensures { result ≡ lacks_entries self id }
     {
         match self {
-            NewObject::Bare(made) => made == id,
+            NewObject::WithoutEntries(made) => made == id,
             _ => false,
         }
     }
@@ -54,8 +54,8 @@ impl NewObject {
         ensures { result ≡ lacks_doc self id }
     {
         match self {
-            NewObject::Bare(made) => made == id,
-            NewObject::Listed(made) => made == id,
+            NewObject::WithoutEntries(made) => made == id,
+            NewObject::WithoutDocument(made) => made == id,
             _ => false,
         }
     }
@@ -65,8 +65,8 @@ impl NewObject {
         ensures { result ≡ after_change self change.now }
     {
         match change {
-            Change::PutNode(node) if self.is_free(node.id) => NewObject::Bare(node.id),
-            Change::PutEntries(id, _) if self.is_bare(*id) => NewObject::Listed(*id),
+            Change::PutNode(node) if self.is_free(node.id) => NewObject::WithoutEntries(node.id),
+            Change::PutEntries(id, _) if self.lacks_entries(*id) => NewObject::WithoutDocument(*id),
             Change::PutNext(_) => self,
             _ => NewObject::Unknown,
         }

@@ -15,7 +15,7 @@ ghost use Rattle.room_sql.specs.Taken.{IsTaken, MayBeTaken, IsLeft, HasItsVersio
 ghost use Rattle.room_sql.specs.Causes.{CannotTake};
 ghost use Rattle.room_tables.specs.Fresh.{IsFreshRoom, MayBeMade};
 ghost use Rattle.room_sql.specs.Frames.{QueryFrame, QueryAnswered};
-ghost use Rattle.room_sql.specs.Known.{KnowsNothing};
+ghost use Rattle.room_sql.specs.NodeFacts.{KnowsNothing};
 
 use crate::sql_shelf::SqlShelf;
 use crate::tables::make;

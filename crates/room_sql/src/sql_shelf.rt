@@ -6,9 +6,9 @@ ghost use Rattle.sqlite.specs.Held.{state};
 ghost use Rattle.room_records.specs.Shelf.{FailureCounted};
 ghost use Rattle.room_records.specs.declared.shelf.ShelfFault.TheVariants.{Store};
 ghost use Rattle.room_sql.specs.Causes.{IsFaultOf};
-ghost use Rattle.room_sql.specs.Known.{KnowsNothing};
+ghost use Rattle.room_sql.specs.NodeFacts.{KnowsNothing};
 
-use crate::known::Known;
+use crate::node_facts::NodeFacts;
 use crate::rows::{
     all_entries, all_names, all_nodes, first_node, one_count, one_doc, one_kept, one_node,
     one_number, one_seq, one_session, one_size,
@@ -28,7 +28,7 @@ pub struct SqlShelf<S: Alter> {
     alloc: Global,
     conn: Connection<S>,
     failures: u64,
-    known: Known,
+    known: NodeFacts,
     ghost outside: { conn.in_transaction ≡ false },
     ghost there: { known.counted ≢ None → HasCleanDisk (state S.Store conn) → (state S.Store conn).is_open ≡ true },
 }
@@ -43,7 +43,7 @@ impl<S: Alter> SqlShelf<S> {
             alloc,
             conn,
             failures: 0,
-            known: Known::nothing(),
+            known: NodeFacts::nothing(),
         }
     }
 
@@ -64,7 +64,7 @@ impl<S: Alter> SqlShelf<S> {
 
 /// What an error is to the shelf: a want of memory is told, and any other error is counted as a failure of the store.
 /// The count stays at 2^64 - 1. What was known is known no longer.
-fn fault(failures: &mut u64, known: &mut Known, error: Error) -> ShelfFault
+fn fault(failures: &mut u64, known: &mut NodeFacts, error: Error) -> ShelfFault
     ensures exact { IsFaultOf error result failures.old failures.new }
     ensures counted { result ≡ ShelfFault.Store → FailureCounted failures.old failures.new }
     ensures never_falls { failures.old ≤ failures.new }
@@ -72,7 +72,7 @@ fn fault(failures: &mut u64, known: &mut Known, error: Error) -> ShelfFault
     ensures forgotten { KnowsNothing known.new }
     ensures uncounted { known.new.counted ≡ None }
 {
-    *known = Known::nothing();
+    *known = NodeFacts::nothing();
     match error {
         Error::SqliteFailure(ErrorCode::OutOfMemory) => ShelfFault::Memory,
         _ => {
@@ -86,7 +86,7 @@ fn fault(failures: &mut u64, known: &mut Known, error: Error) -> ShelfFault
 /// knowledge these are.
 fn or_fault<T>(
     failures: &mut u64,
-    known: &mut Known,
+    known: &mut NodeFacts,
     answer: Result<T, Error>,
 ) -> Result<T, ShelfFault>
     ensures ok { IfOk result (λ value. answer ≡ Ok value) }

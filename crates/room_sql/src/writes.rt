@@ -19,7 +19,7 @@ ghost use Rattle.room_sql.specs.Causes.{statement, statement_or, RanText, RunInT
 ghost use Rattle.room_sql.specs.Causes.{node_write, node_add, node_drop, entry_writes, entries_drop};
 ghost use Rattle.room_sql.specs.Causes.{doc_write, doc_add};
 ghost use Rattle.room_sql.specs.Causes.{session_write, slot_write, slots_drop, next_write, IsShort, CommitFails};
-ghost use Rattle.room_sql.specs.NewObject.{after_change, IsSo};
+ghost use Rattle.room_sql.specs.NewObject.{after_change, NoEntriesIfKnown};
 ghost use Rattle.room_sql.specs.Frames.{InsideFrame, CommitFrame};
 ghost use Rattle.room_sql.specs.NodeRows.{AfterAll};
 
@@ -116,7 +116,7 @@ fn put_new_node<S: Alter>(tx: &mut Transaction<'_, S>, node: &Node) -> Result<()
     ensures ok { HasCleanDisk (state S.Store tx.new.conn.now)
         → OnOk result (IsRoomDatabase (state S.Store tx.old.conn.now).now →
         Steps (state S.Store tx.old.conn.now) (state S.Store tx.new.conn.now) (apply_change (PutNode node.now))) }
-    ensures bare { HasCleanDisk (state S.Store tx.new.conn.now)
+    ensures no_entries { HasCleanDisk (state S.Store tx.new.conn.now)
         → OnOk result (IsRoomDatabase (state S.Store tx.old.conn.now).now → SeesSound (state S.Store tx.old.conn.now) →
         (records_of (state S.Store tx.new.conn.now).now.trees).objects.entries node.now.id ≡ []) }
     ensures ran { HasCleanDisk (state S.Store tx.new.conn.now) → tx.old.conn.now.in_transaction ≡ true
@@ -546,9 +546,9 @@ fn apply<S: Alter>(
     ensures frame { InsideFrame S.Store tx.old tx.new result }
     ensures ok { HasCleanDisk (state S.Store tx.new.conn.now)
         → OnOk result (IsRoomDatabase (state S.Store tx.old.conn.now).now → SeesSound (state S.Store tx.old.conn.now) →
-        IsSo object (state S.Store tx.old.conn.now).now.trees →
+        NoEntriesIfKnown object (state S.Store tx.old.conn.now).now.trees →
         Steps (state S.Store tx.old.conn.now) (state S.Store tx.new.conn.now) (apply_change change.now)
-        × IsSo (after_change object change.now) (state S.Store tx.new.conn.now).now.trees) }
+        × NoEntriesIfKnown (after_change object change.now) (state S.Store tx.new.conn.now).now.trees) }
     ensures ran { HasCleanDisk (state S.Store tx.new.conn.now) → tx.old.conn.now.in_transaction ≡ true
         → IsShort change.now → RunInTurn S.Store (writes_of object change.now) tx.old.conn.now tx.new.conn.now result }
     ensures short { OnOk result (IsShort change.now) }
@@ -557,7 +557,9 @@ fn apply<S: Alter>(
         Change::PutNode(node) if object.is_free(node.id) => put_new_node(tx, node),
         Change::PutNode(node) => put_node(tx, node),
         Change::DropNode(id) => drop_node(tx, *id),
-        Change::PutEntries(id, entries) if object.is_bare(*id) => put_new_entries(tx, *id, entries),
+        Change::PutEntries(id, entries) if object.lacks_entries(*id) => put_new_entries(
+            tx, *id, entries,
+        ),
         Change::PutEntries(id, entries) => put_entries(tx, *id, entries),
         Change::PutDoc(id, bytes) if object.lacks_doc(*id) => put_new_doc(tx, *id, bytes),
         Change::PutDoc(id, bytes) => put_doc(tx, *id, bytes),
@@ -575,7 +577,7 @@ fn apply_all<S: Alter>(
 ) -> Result<(), Error>
     requires inside { tx.old.conn.now.in_transaction ≡ true }
     requires sound { SeesSound (state S.Store tx.old.conn.now) }
-    requires so { IsSo object (state S.Store tx.old.conn.now).now.trees }
+    requires no_entries { NoEntriesIfKnown object (state S.Store tx.old.conn.now).now.trees }
     ensures frame { InsideFrame S.Store tx.old tx.new result }
     ensures ok { HasCleanDisk (state S.Store tx.new.conn.now)
         → OnOk result (IsRoomDatabase (state S.Store tx.old.conn.now).now →

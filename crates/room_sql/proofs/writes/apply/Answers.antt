@@ -2,7 +2,7 @@ use Rattle.std.proofs.Common.{◌≡◌, ◌∙◌, true, false, sym, ap}
 use Rattle.room_records.specs.declared.node.Node.{Node}
 use Rattle.room_records.specs.declared.change.Change.TheVariants.{PutNode}
 use Rattle.room_sql.specs.NewObject.{is_free}
-use Rattle.room_sql.proofs.NewObjects.{so_after_next}
+use Rattle.room_sql.proofs.NewObjects.{no_entries_after_next}
 use Rattle.room_sql.proofs.Turns.{ok_then}
 use Rattle.room_sql.proofs.writes.apply.Goals as goal
 
@@ -26,4 +26,4 @@ pub returns-in-PutNext-clause-ok : goal.returns-in-PutNext-clause-ok
 returns-in-PutNext-clause-ok g c clean =
     ok_then c.put_next.result (c.put_next.ensures.ok clean) (λ done room sound so.
     let steps = (done room).0 in
-    rw c.in-PutNext.is (steps, so_after_next c.args.object _ _ c.in-PutNext.next steps so))
+    rw c.in-PutNext.is (steps, no_entries_after_next c.args.object _ _ c.in-PutNext.next steps so))

@@ -7,7 +7,7 @@ use Rattle.room_records.specs.Changes.{apply_changes}
 use Rattle.room_tables.specs.Layout.{IsRoomDatabase}
 use Rattle.room_tables.specs.Steps.{Steps}
 use Rattle.room_sql.specs.Causes.{RunInTurn, writes_of_all, IsShort}
-use Rattle.room_sql.specs.NewObject.{IsSo}
+use Rattle.room_sql.specs.NewObject.{NoEntriesIfKnown}
 use Rattle.room_sql.specs.Frames.{InsideFrame}
 use Rattle.room_sql.specs.NodeRows.{AfterAll}
 use Rattle.room_sql.proofs.writes.apply_all.Given as goal
@@ -19,7 +19,7 @@ invariant-loop-change g l =
     record {
       frame : InsideFrame g.S.Store {T = Unit {0}} l.fn.tx l.tx (Ok tt);
       done : HasCleanDisk now → IsRoomDatabase old.now
-          → Steps old now (apply_changes (take l.change-index l.changes)) × IsSo l.known now.now.trees;
+          → Steps old now (apply_changes (take l.change-index l.changes)) × NoEntriesIfKnown l.known now.now.trees;
       nodes : HasCleanDisk now → IsRoomDatabase old.now
           → AfterAll (take l.change-index l.changes) (old.now.trees 1) (now.now.trees 1);
       -- what the statements of the rest make of it, those of all make of the start

@@ -30,8 +30,8 @@ pub returns-clause-ok : goal.returns-clause-ok
 returns-clause-ok g c clean = ok_then c.run.result (c.run.ensures.done clean) (λ ran room.
     steps_add_node_at _ _ c.args.node.now _ _ ran.0 room c.name_text-name.ensures (params g c) ran.1)
 
-pub returns-clause-bare : goal.returns-clause-bare
-returns-clause-bare g c clean = ok_then c.run.result (c.run.ensures.done clean) (λ ran room.
+pub returns-clause-no_entries : goal.returns-clause-no_entries
+returns-clause-no_entries g c clean = ok_then c.run.result (c.run.ensures.done clean) (λ ran room.
     added_bare _ _ c.args.node.now c.name_text-name.result.now _ ran.0 room (params g c) ran.1)
 
 pub returns-clause-ran : goal.returns-clause-ran

@@ -3,7 +3,7 @@ use Rattle.std.proofs.lemmas.List.{drop_more, drop_all}
 use Rattle.room_records.specs.declared.change.Change.{Change}
 use Rattle.room_cache.specs.declared.known.Known.{Known}
 use Rattle.room_cache.specs.Known.{IsLeft}
-use Rattle.room_cache.proofs.Left.{left_itself, left_in_turn, left_fits}
+use Rattle.room_cache.proofs.Left.{left_itself, left_in_turn, left_true}
 use Rattle.room_cache.proofs.known.Known.forget_touched.Goals as goal
 
 pub loop-change-preserved : goal.loop-change-preserved
@@ -28,8 +28,8 @@ pub returns-clause-left : goal.returns-clause-left
 returns-clause-left c = left c.args.changes.now c.loop-change.change-index c.args.self.now c.loop-change.self
     (omega (arith, c.loop-change-test.false)) c.loop-change.invariant
 
-pub returns-clause-fits : goal.returns-clause-fits
-returns-clause-fits c = λ old new.
-    left_fits c.args.changes.now c.args.self.now c.loop-change.self old new
+pub returns-clause-true_of : goal.returns-clause-true_of
+returns-clause-true_of c = λ old new.
+    left_true c.args.changes.now c.args.self.now c.loop-change.self old new
     (left c.args.changes.now c.loop-change.change-index c.args.self.now c.loop-change.self
     (omega (arith, c.loop-change-test.false)) c.loop-change.invariant)

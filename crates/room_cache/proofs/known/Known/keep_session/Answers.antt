@@ -3,16 +3,16 @@ use Rattle.room_cache.proofs.Keys.{same_name}
 use Rattle.room_cache.proofs.known.Known.keep_session.Goals as goal
 
 pub returns-in-Ok-Ok : goal.returns-in-Ok-Ok
-returns-in-Ok-Ok c = λ r is fits. record {
+returns-in-Ok-Ok c = λ r is true_of. record {
   sessions = λ sid row held. elim (c.keep.ensures sid row held) [
-    | inl before ↦ fits.sessions sid row before
+    | inl before ↦ true_of.sessions sid row before
     | inr now ↦ ap r.session (sym (same_name c.in-Ok-Ok.sid sid now.0) ∙ c.in-Ok-Ok.ensures) ∙ is
         ∙ ap Some (sym (now.1 ∙ c.in-Ok-Ok.ensures'))
   ];
-  nodes = fits.nodes;
-  names = fits.names;
-  lists = fits.lists;
-  decisions = fits.decisions;
-  seqs = fits.seqs;
-  next = fits.next;
+  nodes = true_of.nodes;
+  names = true_of.names;
+  lists = true_of.lists;
+  decisions = true_of.decisions;
+  seqs = true_of.seqs;
+  next = true_of.next;
 }

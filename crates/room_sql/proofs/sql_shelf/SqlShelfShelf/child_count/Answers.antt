@@ -10,7 +10,7 @@ use Rattle.room_sql.proofs.sql_shelf.SqlShelfShelf.child_count.Goals as goal
 -- the count that is remembered is that of the rows
 pub returns-in-Some-clause-value : goal.returns-in-Some-clause-value
 returns-in-Some-clause-value g c available laid_out rules =
-    subst (IsChildCount _ c.args.parent) (sym (c.in-Some.ensures.right _ laid_out.1 ∙ sym (length-map _ shown_node)))
+    subst (IsChildCount _ c.args.parent) (sym (c.in-Some.ensures.true_of _ laid_out.1 ∙ sym (length-map _ shown_node)))
     (count_children _ c.args.parent laid_out.0.room rules)
 
 pub returns-in_err-rows-clause-frame : goal.returns-in_err-rows-clause-frame
@@ -35,8 +35,8 @@ returns-in_err-count-clause-frame g c =
     rw (same ∙ sym c.in_err-count.was) (read_told g.S.Store _ c.args.self.now.conn c.count_rows-rows.new.conn
     c.in_ok-rows.ensures.ok c.count_rows-rows.ensures.answered.frame
     (c.is_autocommit-outside.ensures.settled (c.is_autocommit-outside.ensures.value ∙ ap not c.args.self.now.outside))
-    (λ clean room right. rw c.in_ok-rows.ensures.kept right) c.or_fault-2.ensures.kept c.or_fault-2.ensures.forgotten
-    (rw fell at c.or_fault-2.ensures.never_falls) (rw fell at c.or_fault-2.ensures.quiet)
+    (λ clean room true_of. rw c.in_ok-rows.ensures.kept true_of) c.or_fault-2.ensures.kept
+    c.or_fault-2.ensures.forgotten (rw fell at c.or_fault-2.ensures.never_falls) (rw fell at c.or_fault-2.ensures.quiet)
     (rw fell at c.or_fault-2.ensures.counted))
 
 pub returns-clause-value : goal.returns-clause-value
@@ -52,8 +52,8 @@ returns-clause-frame g c =
     let stays = c.in_ok-count.ensures.quiet (λ is. absurd (let bad = is in cc)) in
     rw (stays, fell) (read_ok g.S.Store c.args.self.now.conn c.count_rows-rows.new.conn
     (rw c.in_ok-rows.ensures.ok at c.count_rows-rows.ensures.answered.frame)
-    (λ clean room right.
+    (λ clean room true_of.
     let rows = rw c.in_ok-rows.ensures.ok at (c.count_rows-rows.ensures.rows clean room.room) in
-    c.with_count-self.ensures _ (rw (c.in_ok-count.ensures.kept, c.in_ok-rows.ensures.kept) right)
+    c.with_count-self.ensures _ (rw (c.in_ok-count.ensures.kept, c.in_ok-rows.ensures.kept) true_of)
     ((rw c.in_ok-count.ensures.ok at c.one_count-found.ensures.value) _ (c.as_slice.ensures.value ∙ rows)
     ∙ length-map _ shown_node)))

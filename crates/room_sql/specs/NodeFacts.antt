@@ -1,15 +1,15 @@
--- What a shelf remembers is right of its rows of nodes.
+-- What a shelf remembers is true of its rows of nodes.
 use Rattle.std.specs.Prelude.{◌≡◌, ℕ, List, Some}
 use Rattle.sqlite_value.specs.Order.{Row}
-use Rattle.room_sql.specs.declared.known.Counted.{Counted}
-use Rattle.room_sql.specs.declared.known.Known.{Known}
+use Rattle.room_sql.specs.declared.node_facts.Counted.{Counted}
+use Rattle.room_sql.specs.declared.node_facts.NodeFacts.{NodeFacts}
 use Rattle.room_sql.specs.NodeRows.{in_folder, HasNone}
 
 -- the count is that of the rows in its folder, exactly, and no row has the number that is free
-pub record IsRight (known : Known) (rows : List Row) : Type 0 where
+pub record IsTrueOf (known : NodeFacts) (rows : List Row) : Type 0 where
   pub counted : (c : Counted) → known.counted ≡ Some c → c.count ≡ in_folder c.folder rows
   pub free : (id : ℕ) → known.free ≡ Some id → HasNone id rows
 
--- it is right of any rows
-abbrev pub KnowsNothing : Known → Type 0
-KnowsNothing known = (rows : List Row) → IsRight known rows
+-- it is true of any rows
+abbrev pub KnowsNothing : NodeFacts → Type 0
+KnowsNothing known = (rows : List Row) → IsTrueOf known rows

@@ -4,7 +4,7 @@ ghost use Rattle.std.specs.Prelude.{◌≡◌, ◌+◌, true, None, Some, IfSome
 ghost use Rattle.sqlite_value.specs.Order.{Row};
 ghost use Rattle.room_records.specs.declared.change.Change.TheVariants.{PutNode};
 ghost use Rattle.room_sql.specs.NodeRows.{in_folder, HasNone, is_parent, After, AfterAll};
-ghost use Rattle.room_sql.specs.Known.{IsRight, KnowsNothing};
+ghost use Rattle.room_sql.specs.NodeFacts.{IsTrueOf, KnowsNothing};
 
 use room_records::{Change, Node};
 
@@ -17,7 +17,7 @@ pub(crate) struct Counted {
 
 /// At most one folder's count and one number that no row has: all that a shelf remembers.
 #[derive(Clone, Copy)]
-pub(crate) struct Known {
+pub(crate) struct NodeFacts {
     counted: Option<Counted>,
     free: Option<u32>,
 }
@@ -41,13 +41,13 @@ impl Counted {
     }
 }
 
-impl Known {
-    /// Right of any rows.
-    pub(crate) fn nothing() -> Known
-        ensures right { KnowsNothing result }
+impl NodeFacts {
+    /// True of any rows.
+    pub(crate) fn nothing() -> NodeFacts
+        ensures true_of { KnowsNothing result }
         ensures uncounted { result.counted ≡ None }
     {
-        Known {
+        NodeFacts {
             counted: None,
             free: None,
         }
@@ -55,7 +55,7 @@ impl Known {
 
     /// The count of this folder, if it is the one that is remembered.
     pub(crate) fn count_in(&self, folder: u32) -> Option<u64>
-        ensures right { (rows : List Row) → IsRight self.now rows → IfSome result (λ n. n ≡ in_folder folder rows) }
+        ensures true_of { (rows : List Row) → IsTrueOf self.now rows → IfSome result (λ n. n ≡ in_folder folder rows) }
         ensures counted { self.now.counted ≡ None → result ≡ None }
     {
         match self.counted {
@@ -65,23 +65,23 @@ impl Known {
     }
 
     /// Remembers the count of this folder, in the place of another's.
-    pub(crate) fn with_count(self, folder: u32, count: u64) -> Known
-        ensures { (rows : List Row) → IsRight self rows → count ≡ in_folder folder rows → IsRight result rows }
+    pub(crate) fn with_count(self, folder: u32, count: u64) -> NodeFacts
+        ensures { (rows : List Row) → IsTrueOf self rows → count ≡ in_folder folder rows → IsTrueOf result rows }
     {
-        Known {
+        NodeFacts {
             counted: Some(Counted { folder, count }),
             free: self.free,
         }
     }
 
     /// Remembers that no row has this number, if that was found, in the place of another.
-    pub(crate) fn with_free(self, id: u32, is_free: bool) -> Known
-        ensures right { (rows : List Row) → IsRight self rows
-            → (is_free ≡ true → HasNone id rows) → IsRight result rows }
+    pub(crate) fn with_free(self, id: u32, is_free: bool) -> NodeFacts
+        ensures true_of { (rows : List Row) → IsTrueOf self rows
+            → (is_free ≡ true → HasNone id rows) → IsTrueOf result rows }
         ensures counted { result.counted ≡ self.counted }
     {
         let free = if is_free { Some(id) } else { self.free };
-        Known {
+        NodeFacts {
             counted: self.counted,
             free,
         }
@@ -105,33 +105,33 @@ impl Known {
     }
 
     /// After a node is put: where its number was free it is one row more in its folder, and its number is taken.
-    fn after_put(self, node: &Node) -> Known
-        ensures { (old new : List Row) → IsRight self old → After (PutNode node.now) old new → IsRight result new }
+    fn after_put(self, node: &Node) -> NodeFacts
+        ensures { (old new : List Row) → IsTrueOf self old → After (PutNode node.now) old new → IsTrueOf result new }
     {
         if !self.is_free(node.id) {
-            return Known::nothing();
+            return NodeFacts::nothing();
         }
         let counted = match self.counted {
             Some(counted) => counted.with_one_in(node.parent),
             None => None,
         };
         let free = None;
-        Known { counted, free }
+        NodeFacts { counted, free }
     }
 
-    fn after_one(self, change: &Change) -> Known
-        ensures { (old new : List Row) → IsRight self old → After change.now old new → IsRight result new }
+    fn after_one(self, change: &Change) -> NodeFacts
+        ensures { (old new : List Row) → IsTrueOf self old → After change.now old new → IsTrueOf result new }
     {
         match change {
             Change::PutNode(node) => self.after_put(node),
-            Change::DropNode(_) => Known::nothing(),
+            Change::DropNode(_) => NodeFacts::nothing(),
             _ => self,
         }
     }
 
-    /// What is still right after a commit of these changes.
-    pub(crate) fn after(self, changes: &[Change]) -> Known
-        ensures { (old new : List Row) → IsRight self old → AfterAll changes.now old new → IsRight result new }
+    /// What is still true after a commit of these changes.
+    pub(crate) fn after(self, changes: &[Change]) -> NodeFacts
+        ensures { (old new : List Row) → IsTrueOf self old → AfterAll changes.now old new → IsTrueOf result new }
     {
         let mut known = self;
         for change in changes {

@@ -1,23 +1,23 @@
 use Rattle.std.proofs.Common.{◌≡◌, ◌<◌, length, drop, arith}
 use Rattle.std.proofs.lemmas.List.{length-drop, nil_from_length}
 use Rattle.room_sql.proofs.Turns.{next_change}
-use Rattle.room_sql.proofs.known.Known.after.Goals as goal
+use Rattle.room_sql.proofs.node_facts.NodeFacts.after.Goals as goal
 
 pub loop-change-preserved : goal.loop-change-preserved
 loop-change-preserved c = record {
-  right = λ old new right all.
+  true_of = λ old new true_of all.
       let xs = c.args.changes.now in
       let k = c.loop-change.change-index in
-      let was = c.loop-change.invariant.right old new right all in
+      let was = c.loop-change.invariant.true_of old new true_of all in
       let within : k < length xs = omega arith in
       let next = rw (next_change k xs c.change-item.result within c.change-item.is) at was.2 in
       (next.0, c.after_one-known.ensures was.0 next.0 was.1 next.1, next.2);
 }
 
 pub returns : goal.returns
-returns c old new right all =
+returns c old new true_of all =
     let xs = c.args.changes.now in
     let k = c.loop-change.change-index in
-    let was = c.loop-change.invariant.right old new right all in
+    let was = c.loop-change.invariant.true_of old new true_of all in
     let none : length (drop k xs) ≡ 0 = omega (arith, length-drop k xs) in
     rw (rw (nil_from_length (drop k xs) none) at was.2) was.1

@@ -1,0 +1,12 @@
+use Rattle.std.proofs.Common.{List, drop}
+use Rattle.sqlite_value.specs.Order.{Row}
+use Rattle.room_sql.specs.NodeRows.{AfterAll}
+use Rattle.room_sql.specs.NodeFacts.{IsTrueOf}
+use Rattle.room_sql.proofs.node_facts.NodeFacts.after.Given as goal
+
+abbrev pub invariant-loop-change : goal.invariant-loop-change
+invariant-loop-change l = record {
+  -- it is true of rows that the rest of the changes makes into the last
+  true_of : (old new : List Row) → IsTrueOf l.fn.self old → AfterAll l.changes old new
+      → (mid : List Row) × IsTrueOf l.known mid × AfterAll (drop l.change-index l.changes) mid new;
+}
