@@ -5,7 +5,9 @@ ghost use Rattle.room_sql.specs.NewObject.{before_all, is_free, lacks_entries, l
 
 use room_records::Change;
 
-/// What a commit knows of one object, as it makes its changes one after another.
+/// What a commit knows of one object, as it makes its changes one after another. It begins with the free number of
+/// `NodeFacts`, and chooses the statements: it forgets all behind a change that makes no part of that object, whatever
+/// the shelf still remembers.
 #[derive(Clone, Copy)]
 pub(crate) enum NewObject {
     /// Nothing is known of any.

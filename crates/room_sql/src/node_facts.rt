@@ -15,7 +15,9 @@ pub(crate) struct Counted {
     count: u64,
 }
 
-/// At most one folder's count and one number that no row has: all that a shelf remembers.
+/// At most one folder's count and one number that no row has: all that a shelf remembers. A commit chooses its
+/// statements by `NewObject`; only where it succeeded are its changes followed here, and other changes may stand before
+/// the node that takes the free number: its count is raised still.
 #[derive(Clone, Copy)]
 pub(crate) struct NodeFacts {
     counted: Option<Counted>,
