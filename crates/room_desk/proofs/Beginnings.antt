@@ -1,13 +1,18 @@
 -- Histories from their beginning: rows with no session, and that a history leaves a room.
-use Rattle.std.proofs.Common.{◌≡◌, ℕ, sym, ◌∙◌, List, [], ◌∷◌, None}
-use Rattle.std.proofs.lemmas.Bool.{cond_both, false≢true}
+use Rattle.std.proofs.Common.{◌≡◌, ℕ, sym, ◌∙◌, arith, true, List, [], ◌∷◌, None, inl, inr}
+use Rattle.std.specs.Prelude.{◌&&◌, length}
+use Rattle.std.proofs.lemmas.Bool.{cases_Bool, cond_both, false≢true}
+use Rattle.std.proofs.lemmas.Bool.Decides.{nat_tests}
+use Rattle.std.proofs.lemmas.Grind.{common_steps}
+use Rattle.std.specs.Cmp.Lexicographic.{bytes_decides}
 use Rattle.std.proofs.lemmas.Option.{none-some}
 use Rattle.room_records.specs.Records.{Records}
 use Rattle.room_records.specs.Room.{Room, IsRoom}
 use Rattle.room_records.specs.Representation.{RepresentsRoom}
 use Rattle.room_commands.proofs.EffectIsRoom.{effect_is_room}
-use Rattle.room_wire.specs.Asks.EventModel.{Open, Close, Slot}
-use Rattle.room_desk.specs.History.{History, is_accepted, state_after, AreLawful}
+use Rattle.room_commands.specs.Lawful.{IsLawful}
+use Rattle.room_wire.specs.Asks.EventModel.{Request, Open, Close, Slot}
+use Rattle.room_desk.specs.History.{History, accepts, accepted, is_for, is_accepted, state_after, AcceptsLawful}
 use Rattle.room_desk.specs.Representation.{RepresentsHistory}
 
 -- rows of a room with no session and no slot stand for the history without events
@@ -25,12 +30,30 @@ stand_at_first start r room no_session no_slot = record {
   lawful = λ sid slot. tt;
 }
 
--- a history of lawful commands leaves a room
-pub state_is_room : (start : Room) (past : History) → IsRoom start → AreLawful past → IsRoom (state_after start past)
-state_is_room start [] lawful commands = lawful
-state_is_room start (Slot q ∷ past) lawful commands =
-    let room = state_is_room start past lawful commands.1 in
+-- a request is for its own slot
+for_own_slot : (q : Request) → is_for q.sid q.slot q ≡ true
+for_own_slot q = grind (arith, common_steps, nat_tests, bytes_decides)
+
+module _ (past : History) (q : Request) (lawful : AcceptsLawful (Slot q ∷ past)) where
+  -- with a request a history accepts what it did before
+  lawful_before : AcceptsLawful past
+  lawful_before sid slot = elim (cases_Bool (is_for sid slot q && accepts past (length (accepted past sid slot)) q)) [
+    | inl taken ↦ (rw taken at lawful sid slot).1
+    | inr other ↦ rw other at lawful sid slot
+  ]
+
+  -- and the request, where it is accepted
+  accepted_is_lawful : is_accepted past q ≡ true → IsLawful q.command
+  accepted_is_lawful taken = (rw (for_own_slot q, taken) at lawful q.sid q.slot).0
+
+-- a history that accepts lawful commands alone leaves a room
+pub state_is_room : (start : Room) (past : History) → IsRoom start → AcceptsLawful past
+    → IsRoom (state_after start past)
+state_is_room start [] room lawful = room
+state_is_room start (Slot q ∷ past) room lawful =
+    let before = state_is_room start past room (lawful_before past q lawful) in
     cond_both (is_accepted past q) _ _ IsRoom
-    (λ taken. effect_is_room (state_after start past) q.caller q.command commands.0 room) (λ other. room)
-state_is_room start (Open caller sid slots ∷ past) lawful commands = state_is_room start past lawful commands
-state_is_room start (Close caller sid ∷ past) lawful commands = state_is_room start past lawful commands
+    (λ taken. effect_is_room (state_after start past) q.caller q.command
+    (accepted_is_lawful past q lawful taken) before) (λ other. before)
+state_is_room start (Open caller sid slots ∷ past) room lawful = state_is_room start past room lawful
+state_is_room start (Close caller sid ∷ past) room lawful = state_is_room start past room lawful

@@ -103,13 +103,6 @@ state_after start (Close caller name ∷ past) = state_after start past
 state_after start (Slot q ∷ past) = if is_accepted past q
     then (effect (state_after start past) q.caller q.command).room else state_after start past
 
--- the commands of all requests are lawful
-abbrev pub AreLawful : History → Type 0
-AreLawful [] = Unit {0}
-AreLawful (Open caller name slots ∷ past) = AreLawful past
-AreLawful (Close caller name ∷ past) = AreLawful past
-AreLawful (Slot q ∷ past) = IsLawful q.command × AreLawful past
-
 -- the commands of these requests
 abbrev pub commands_of : List Accepted → List CommandModel
 commands_of requests = map (λ (a : Accepted). a.request.command) requests
@@ -117,6 +110,10 @@ commands_of requests = map (λ (a : Accepted). a.request.command) requests
 -- each of them is lawful
 abbrev pub HaveLawfulCommands : List Accepted → Type 0
 HaveLawfulCommands requests = AllByRecursion IsLawful (commands_of requests)
+
+-- the commands that a history accepts, in any slot, are lawful
+abbrev pub AcceptsLawful : History → Type 0
+AcceptsLawful past = (sid : List ℕ) (slot : ℕ) → HaveLawfulCommands (accepted past sid slot)
 
 -- the reply of an accepted request: that of its command on the room that stood before it
 abbrev pub original_reply : Room → Accepted → List ℕ

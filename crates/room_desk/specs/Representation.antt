@@ -17,7 +17,7 @@ use Rattle.room_wire.specs.Asks.EventModel.{EventModel, Open, Close, Slot}
 use Rattle.room_wire.specs.Forms.Texts.{command_text}
 use Rattle.room_desk.specs.AnswerModel.{AnswerModel, Refused}
 use Rattle.room_desk.specs.History.{History, Session, session_of, is_open, Accepted, accepted, is_accepted, state_after}
-use Rattle.room_desk.specs.History.{HaveLawfulCommands, kept_reply, answer_to, changes_rows}
+use Rattle.room_desk.specs.History.{AcceptsLawful, kept_reply, answer_to, changes_rows}
 
 -- the row of a session
 abbrev pub session_row_of : List ℕ → Session → SessionRow
@@ -50,7 +50,7 @@ pub record RepresentsHistory (start : Room) (r : Records) (past : History) : Typ
   pub sessions : (sid : List ℕ) → r.session sid ≡ option_map (session_row_of sid) (session_of past sid)
   pub slots : (sid : List ℕ) (slot : ℕ) → r.slot sid slot ≡ slot_row_of start past sid slot
   -- so the text that a slot keeps is a body that asks its command
-  pub lawful : (sid : List ℕ) (slot : ℕ) → HaveLawfulCommands (accepted past sid slot)
+  pub lawful : AcceptsLawful past
 
 -- the rows stand for the history with this event, which changes what is kept
 abbrev pub StandsWith : Room → History → EventModel → Records → Type 0

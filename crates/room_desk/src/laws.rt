@@ -15,7 +15,7 @@ ghost use Rattle.room_wire.specs.declared.answers.code.Code.TheVariants.{RetryUn
 ghost use Rattle.room_wire.specs.Forms.Texts.{command_text};
 ghost use Rattle.room_desk.specs.AnswerModel.{Reply, Refused, IsTurnedAway};
 ghost use Rattle.room_desk.specs.History.{History, Accepted, session_of, is_open_for, slots_of, accepted, is_accepted};
-ghost use Rattle.room_desk.specs.History.{is_for, AreLawful, state_after, original_reply, answer_to, changes_rows};
+ghost use Rattle.room_desk.specs.History.{is_for, AcceptsLawful, state_after, original_reply, answer_to, changes_rows};
 ghost use Rattle.room_desk.specs.History.{leaves_no_reply};
 ghost use Rattle.room_desk.specs.Representation.{RepresentsHistory, WasAllowed, slot_row_of};
 ghost use Rattle.room_desk.specs.Verdicts.{answer_by};
@@ -151,9 +151,9 @@ pub fn a_history_begins_with_a_room()
         → ((sid : List ℕ) (slot : ℕ) → r.slot sid slot ≡ None) → RepresentsHistory start r [] }
 {}
 
-/// A history of lawful commands that begins with a room leaves a room.
+/// A history that accepts lawful commands alone, and begins with a room, leaves a room.
 pub fn a_history_keeps_a_room()
-    ensures { (start : Room) (past : History) → IsRoom start → AreLawful past → IsRoom (state_after start past) }
+    ensures { (start : Room) (past : History) → IsRoom start → AcceptsLawful past → IsRoom (state_after start past) }
 {}
 
 /// A request that is accepted, and that its command does not refuse, had every right that the command

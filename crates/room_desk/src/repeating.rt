@@ -18,7 +18,7 @@ use std::alloc::Global;
 
 /// Whether the last number is this one.
 fn is_last(last: Option<u32>, seq: u32) -> bool
-    ensures { result ≡ true → last ≡ Some seq }
+    ensures { (result ≡ true) ↔ (last ≡ Some seq) }
 {
     match last {
         Some(last) => last == seq,
@@ -28,13 +28,13 @@ fn is_last(last: Option<u32>, seq: u32) -> bool
 
 /// Whether the session is open and the caller's, and has the slot.
 fn may_use(row: &SessionRow, sent: &SentRequest<'_>) -> bool
-    ensures { result ≡ true → (is_usable sent.now.subject row.now ≡ true) × (sent.now.slot < row.now.slots) }
+    ensures { (result ≡ true) ↔ ((is_usable sent.now.subject row.now ≡ true) × (sent.now.slot < row.now.slots)) }
 {
     is_usable(row, &sent.subject) && sent.slot < row.slots.get()
 }
 
 /// What the slot keeps, where it has the number of this request, the session is open and the caller's, and the slot is
-/// one of its. The number is read first: that of a new request is another.
+/// one of its. The slot's number is read first, so that a new request, which has another, reads no more here.
 fn kept_with_number<S: Shelf>(
     shelf: &mut S,
     sent: &SentRequest<'_>,

@@ -60,7 +60,11 @@ impl<S: Shelf> Desk<S> {
                 count: 0,
             };
         };
-        let end = self.serve_in(&mut space, roster, reader, writer);
+        let lookup = Lookup {
+            routes: &space.routes,
+            roster,
+        };
+        let end = serve_messages(self, &lookup, &mut space.buffers, reader, writer);
         self.workspace = Some(space);
         end
     }
@@ -73,31 +77,5 @@ impl<S: Shelf> Desk<S> {
             Some(space) => Some(space),
             None => Workspace::new(self.alloc),
         }
-    }
-
-    /// Serves by the routes and over the buffers that are made.
-    fn serve_in<R: Read, W: Write>(
-        &mut self,
-        space: &mut Workspace,
-        roster: &Roster,
-        reader: &mut R,
-        writer: &mut W,
-    ) -> ServeEnd
-        ensures frame { DeskCall (S.view self.old) (S.view self.new) }
-        ensures messages { Serves (MayAnswer S.view roster.now) self.old self.new
-            (R.remaining reader.old) (R.remaining reader.new) (W.contents writer.old)
-            (W.contents writer.new) result.why result.count }
-        ensures run { (S.view self.new).is_intact → (start : Room) (past : History)
-            → StandsFor start past (S.view self.old) →
-            (next : History) × Serves (AnswersMessage roster.now start)
-            past next (R.remaining reader.old) (R.remaining reader.new)
-            (W.contents writer.old) (W.contents writer.new) result.why result.count
-            × StandsFor start next (S.view self.new) }
-    {
-        let lookup = Lookup {
-            routes: &space.routes,
-            roster,
-        };
-        serve_messages(self, &lookup, &mut space.buffers, reader, writer)
     }
 }

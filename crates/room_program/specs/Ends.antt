@@ -26,10 +26,10 @@ IsNamesFault owner group other = ⊥
 -- `init`: `bad name` comes only where a name is no principal, and then no store is opened; else a room is made in the
 -- store at the path, and the store is closed with this room in it
 abbrev pub InitEnds : {M C : Type 0} → (does : M → Call C → M → Type 0) → (made : C → C → Type 0)
-    → (taken : C → Type 0) → (db owner group : List ℕ) → (old new : M) → Result (Unit {0}) Fault → Type 0
-InitEnds does made taken db owner group old new done =
+    → (has_one : C → Type 0) → (db owner group : List ℕ) → (old new : M) → Result (Unit {0}) Fault → Type 0
+InitEnds does made has_one db owner group old new done =
     ((fault : Fault) × (done ≡ Err fault) × IsNamesFault owner group fault × (new ≡ old))
-    ⊎ (AreNames owner group × MakesAt does made taken db old new done)
+    ⊎ (AreNames owner group × MakesAt does made has_one db old new done)
 
 -- the faults of a report that was begun
 abbrev pub ReportEnds : Result (Unit {0}) Fault → Type 0

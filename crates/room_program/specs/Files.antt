@@ -91,23 +91,23 @@ Made g owner group opened made = (has_a_table opened.schema ≡ false)
     × Survives (state g opened) (state g made) (MayBeMade owner group (state g opened).now)
 
 -- a store that was opened had a table of a room
-abbrev pub IsTaken : {S : Type 0} → (opened : Held S) → Type 0
-IsTaken opened = IsTrue (has_a_table opened.schema)
+abbrev pub HasATable : {S : Type 0} → (opened : Held S) → Type 0
+HasATable opened = IsTrue (has_a_table opened.schema)
 
 -- a fresh room was made in a store, and so it is closed; or why not, and then no store is closed
 abbrev pub Makes : {M C : Type 0} → (does : M → Call C → M → Type 0) → (made : C → C → Type 0)
-    → (taken : C → Type 0) → C → M → M → Result (Unit {0}) Fault → Type 0
-Makes {M} {C} does made taken opened old new (Ok done) =
+    → (has_one : C → Type 0) → C → M → M → Result (Unit {0}) Fault → Type 0
+Makes {M} {C} does made has_one opened old new (Ok done) =
     (closed : C) × made opened closed × does old (closes closed) new
-Makes does made taken opened old new (Err RoomExists) = taken opened × (new ≡ old)
-Makes does made taken opened old new (Err StoreFailed) = new ≡ old
-Makes does made taken opened old new (Err Memory) = new ≡ old
-Makes does made taken opened old new (Err other) = ⊥
+Makes does made has_one opened old new (Err RoomExists) = has_one opened × (new ≡ old)
+Makes does made has_one opened old new (Err StoreFailed) = new ≡ old
+Makes does made has_one opened old new (Err Memory) = new ≡ old
+Makes does made has_one opened old new (Err other) = ⊥
 
 -- and in the store at a path
 abbrev pub MakesAt : {M C : Type 0} → (does : M → Call C → M → Type 0)
-    → (made : C → C → Type 0) → (taken : C → Type 0) → List ℕ → M → M → Result (Unit {0}) Fault → Type 0
-MakesAt {M} {C} does made taken path old new done =
+    → (made : C → C → Type 0) → (has_one : C → Type 0) → List ℕ → M → M → Result (Unit {0}) Fault → Type 0
+MakesAt {M} {C} does made has_one path old new done =
     ((fault : Fault) × (done ≡ Err fault) × OpensStore does path old new (Err fault))
     ⊎ ((opened : C) × (begun : M) × OpensStore does path old begun (Ok opened)
-    × Makes does made taken opened begun new done)
+    × Makes does made has_one opened begun new done)

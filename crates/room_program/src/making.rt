@@ -1,7 +1,7 @@
 //! Making a room in a file.
 ghost use Rattle.std.specs.Prelude.{◌≡◌, false};
 ghost use Rattle.room_program.specs.Ends.{InitEnds};
-ghost use Rattle.room_program.specs.Files.{IsTaken, Made, Makes, MakesAt};
+ghost use Rattle.room_program.specs.Files.{HasATable, Made, Makes, MakesAt};
 
 use crate::fault::Fault;
 use crate::machine::Machine;
@@ -21,7 +21,7 @@ fn make_room<S: Alter + Drop, M: Machine<Connection<S>>>(
 ) -> Result<(), Fault>
     requires { connection.in_transaction ≡ false }
     ensures { Makes M.does (Made S.Store standing.now.owner standing.now.group)
-        IsTaken connection machine.old machine.new result }
+        HasATable connection machine.old machine.new result }
 {
     match SqlShelf::init(alloc, connection, &standing.owner, &standing.group) {
         Ok(shelf) => {
@@ -42,7 +42,7 @@ fn make_at<S: Alter + Drop, M: Machine<Connection<S>>>(
     standing: &Standing,
 ) -> Result<(), Fault>
     ensures { MakesAt M.does (Made S.Store standing.now.owner standing.now.group)
-        IsTaken db.now machine.old machine.new result }
+        HasATable db.now machine.old machine.new result }
 {
     let connection = open(machine, db)?;
     make_room(alloc, machine, connection, standing)
@@ -56,7 +56,7 @@ pub(crate) fn init<S: Alter + Drop, M: Machine<Connection<S>>>(
     owner: &str,
     group: &str,
 ) -> Result<(), Fault>
-    ensures { InitEnds M.does (Made S.Store owner.now group.now) IsTaken
+    ensures { InitEnds M.does (Made S.Store owner.now group.now) HasATable
         db.now owner.now group.now machine.old machine.new result }
 {
     let standing = standing(alloc, owner, group)?;

@@ -2,7 +2,7 @@
 ghost use Rattle.std.specs.Prelude.{◌≡◌};
 ghost use Rattle.room_words.specs.CommandLine.{texts_of};
 ghost use Rattle.room_program.specs.Ends.{InitEnds, fault_in};
-ghost use Rattle.room_program.specs.Files.{Adopted, IsTaken, Made};
+ghost use Rattle.room_program.specs.Files.{Adopted, HasATable, Made};
 ghost use Rattle.room_program.specs.Replays.{Replays};
 ghost use Rattle.room_program.specs.Rooms.{Reports, ServesRoom};
 ghost use Rattle.room_program.specs.Runs.{Checks, Ends, EndsWith, RefusesWords, Runs, RunsJob, Shows};
@@ -122,7 +122,7 @@ fn run_init<S: Alter + Drop, M: Machine<Connection<S>>, E: Write>(
     errors: &mut E,
 ) -> u8
     ensures { Ends (InitEnds M.does (Made S.Store owner.now group.now)
-        IsTaken db.now owner.now group.now machine.old machine.new)
+        HasATable db.now owner.now group.now machine.old machine.new)
         (E.contents errors.old) (E.contents errors.new) result }
 {
     let done = init(alloc, machine, db, owner, group);
@@ -196,7 +196,7 @@ fn run_job<S: Alter + Drop, M: Machine<Connection<S>> + Listener, R: Read, W: Wr
     errors: &mut E,
 ) -> u8
     ensures { RunsJob (means M.does M.accepts M.fails (λ opened shelf. Adopted S.Store opened shelf)
-        (λ shelf. shelf.0.conn) (Made S.Store) IsTaken ⟦<CachedShelf<SqlShelf<S>> as Shelf>⟧.view)
+        (λ shelf. shelf.0.conn) (Made S.Store) HasATable ⟦<CachedShelf<SqlShelf<S>> as Shelf>⟧.view)
         machine.old machine.new job.now
         (streams (R.remaining input.old) (W.contents output.old) (E.contents errors.old))
         (streams (R.remaining input.new) (W.contents output.new) (E.contents errors.new)) result }
@@ -291,7 +291,7 @@ pub fn run_machine<
     errors: &mut E,
 ) -> u8
     ensures { Runs (means M.does M.accepts M.fails (λ opened shelf. Adopted S.Store opened shelf)
-        (λ shelf. shelf.0.conn) (Made S.Store) IsTaken ⟦<CachedShelf<SqlShelf<S>> as Shelf>⟧.view)
+        (λ shelf. shelf.0.conn) (Made S.Store) HasATable ⟦<CachedShelf<SqlShelf<S>> as Shelf>⟧.view)
         machine.old machine.new (texts_of words.now)
         (streams (R.remaining input.old) (W.contents output.old) (E.contents errors.old))
         (streams (R.remaining input.new) (W.contents output.new) (E.contents errors.new)) result }
@@ -316,7 +316,7 @@ pub fn run_program<R: Read, W: Write, E: Write>(
         ⟦<Host<'static> as Listener>⟧.accepts ⟦<Host<'static> as Listener>⟧.fails
         (λ opened shelf. Adopted ⟦<FileStore<File> as Store>⟧ opened shelf)
         (λ shelf. shelf.0.conn) (Made ⟦<FileStore<File> as Store>⟧)
-        IsTaken ⟦<CachedShelf<SqlShelf<FileStore<File>>> as Shelf>⟧.view)
+        HasATable ⟦<CachedShelf<SqlShelf<FileStore<File>>> as Shelf>⟧.view)
         before later (texts_of words.now)
         (streams (R.remaining input.old) (W.contents output.old) (E.contents errors.old))
         (streams (R.remaining input.new) (W.contents output.new) (E.contents errors.new)) result }

@@ -28,7 +28,7 @@ use Rattle.room_records.specs.declared.node.Node.{Node}
 use Rattle.room_records.specs.Records.{Records}
 use Rattle.room_tables.specs.Rows.{records_of, version_rows, IsVersion}
 use Rattle.room_tables.proofs.Each.{by_name, from_both}
-use Rattle.room_tables.proofs.Listed.{slots_listed}
+use Rattle.room_tables.proofs.TreeNames.{slots_listed}
 use Rattle.room_tables.proofs.Making.{Makes, room_makes, node_makes, entry_makes, doc_makes, session_makes, kept_makes}
 use Rattle.room_tables.proofs.Effects.{read_same}
 use Rattle.room_tables.proofs.Changes.{went, same_value}

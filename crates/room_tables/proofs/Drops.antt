@@ -45,7 +45,7 @@ use Rattle.room_tables.specs.Rows.{next_in, sessions_in, slots_in}
 use Rattle.room_tables.specs.Layout.{IsKeyed, IsNumbered, IsRoomDatabase}
 use Rattle.room_tables.specs.Steps.{Steps}
 use Rattle.room_tables.proofs.Each.{of_any, rows_pass, above}
-use Rattle.room_tables.proofs.Listed.{slots_listed}
+use Rattle.room_tables.proofs.TreeNames.{slots_listed}
 use Rattle.room_tables.proofs.Meaning.{drop_node_means}
 use Rattle.room_tables.proofs.Queries.{answer_is, found, and_true, tidy}
 use Rattle.room_tables.proofs.Takes.{quiet}

@@ -30,7 +30,7 @@ use Rattle.room_tables.specs.Rows.{slots_of, records_of}
 use Rattle.room_tables.specs.Layout.{IsKeyed, IsNumbered, IsRoomDatabase, OfEachTable, parent_value, reply_value}
 use Rattle.room_tables.specs.Steps.{Steps, kind_number}
 use Rattle.room_tables.proofs.Each.{from_both}
-use Rattle.room_tables.proofs.Listed.{slots_listed}
+use Rattle.room_tables.proofs.TreeNames.{slots_listed}
 use Rattle.room_tables.proofs.Changes.{Leaves, Others}
 use Rattle.room_tables.proofs.Meaning.{change_node_means, change_doc_means}
 use Rattle.room_tables.proofs.Writes.{changes_row}

@@ -25,7 +25,7 @@ use Rattle.room_tables.specs.Tables.{Layout, room_schema}
 use Rattle.room_tables.specs.Rows.{has, versions_in, slots_of, IsVersion}
 use Rattle.room_tables.specs.Layout.{IsKeyed, IsNumbered, IsRoomDatabase}
 use Rattle.room_tables.proofs.Each.{from_both, above}
-use Rattle.room_tables.proofs.Listed.{slots_listed}
+use Rattle.room_tables.proofs.TreeNames.{slots_listed}
 use Rattle.room_tables.proofs.Values.{has_is, has_one, int_has}
 use Rattle.room_tables.proofs.Changes.{without, Others}
 use Rattle.room_tables.proofs.Upserts.{Put}

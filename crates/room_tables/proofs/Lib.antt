@@ -3,7 +3,7 @@ pub mod Meaning
 pub mod Sorted
 pub mod Values
 pub mod Each
-pub mod Listed
+pub mod TreeNames
 pub mod Removed
 pub mod Queries
 pub mod Changes
@@ -18,7 +18,7 @@ pub mod Sessions
 pub mod Slots
 pub mod Placed
 pub mod Drops
-pub mod Bare
+pub mod FirstEntries
 pub mod Asks
 pub mod Selects
 pub mod Children

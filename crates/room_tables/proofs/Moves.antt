@@ -24,7 +24,7 @@ use Rattle.room_tables.specs.Upgrade.{IsMoved, IsUpgraded}
 use Rattle.room_tables.proofs.Making.{kept_beside}
 use Rattle.room_tables.proofs.Creates.{makes}
 use Rattle.room_tables.proofs.Copies.{copy_moves, take_moves}
-use Rattle.room_tables.proofs.Listed.{slots_listed, slot_listed}
+use Rattle.room_tables.proofs.TreeNames.{slots_listed, slot_listed}
 use Rattle.room_tables.proofs.Queries.{only_permuted}
 use Rattle.room_tables.proofs.Effects.{same_records, read_same, after, each_after}
 

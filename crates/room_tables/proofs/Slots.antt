@@ -23,7 +23,7 @@ use Rattle.room_tables.specs.Rows.{documents_in, next_in, sessions_in, slots_of,
 use Rattle.room_tables.specs.Layout.{IsKeyed, IsNumbered, IsRoomDatabase, reply_value}
 use Rattle.room_tables.specs.Steps.{Steps}
 use Rattle.room_tables.proofs.Each.{above}
-use Rattle.room_tables.proofs.Listed.{slots_listed}
+use Rattle.room_tables.proofs.TreeNames.{slots_listed}
 use Rattle.room_tables.proofs.Values.{has_one, has_text_one}
 use Rattle.room_tables.proofs.Removed.{one_row}
 use Rattle.room_tables.proofs.Changes.{Others, without}

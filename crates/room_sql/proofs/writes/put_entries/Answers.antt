@@ -1,5 +1,5 @@
 use Rattle.std.proofs.lemmas.Result.{IfOk-weaker}
-use Rattle.room_tables.proofs.Bare.{lists_steps}
+use Rattle.room_tables.proofs.FirstEntries.{lists_steps}
 use Rattle.room_sql.proofs.Frames.{was_clean}
 use Rattle.room_sql.proofs.Turns.{passed, turn_then, turn_stops}
 use Rattle.room_sql.proofs.writes.put_entries.Goals as goal

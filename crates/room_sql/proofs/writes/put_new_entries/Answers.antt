@@ -1,5 +1,5 @@
 use Rattle.std.proofs.lemmas.Result.{IfOk-weaker}
-use Rattle.room_tables.proofs.Bare.{lists_bare, lists_steps}
+use Rattle.room_tables.proofs.FirstEntries.{lists_bare, lists_steps}
 use Rattle.room_sql.proofs.writes.put_new_entries.Goals as goal
 
 pub returns-clause-ok : goal.returns-clause-ok

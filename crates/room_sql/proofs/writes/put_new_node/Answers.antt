@@ -1,7 +1,7 @@
 use Rattle.std.proofs.Common.{◌≡◌, [], ◌∷◌, refl}
 use Rattle.sqlite.specs.Values.{bound}
 use Rattle.room_tables.proofs.Effects.{params_of_node, bound_parent, steps_add_node_at}
-use Rattle.room_tables.proofs.Bare.{added_bare}
+use Rattle.room_tables.proofs.FirstEntries.{added_bare}
 use Rattle.room_sql.proofs.Turns.{ok_then, name_is}
 use Rattle.room_sql.proofs.writes.put_new_node.Given.{Over}
 use Rattle.room_sql.proofs.writes.put_new_node.Goals as goal

@@ -1,5 +1,5 @@
 use Rattle.room_desk.proofs.Calls.{no_call}
-use Rattle.room_desk.proofs.Messages.{memory_end}
+use Rattle.room_desk.proofs.Messages.{memory_end, served_stream}
 use Rattle.room_desk.proofs.desk.Desk.serve.Goals as goal
 
 pub returns-in_default-clause-frame : goal.returns-in_default-clause-frame
@@ -13,5 +13,10 @@ returns-in_default-clause-run g c = λ intact start past stands. (
   rw c.take_workspace.ensures stands,
 )
 
+pub returns-clause-frame : goal.returns-clause-frame
+returns-clause-frame g c = rw (c.self.view_is, ← c.take_workspace.ensures)
+    (served_stream g.S.Shelf.view c.args.roster.now _ _ _ _ _ _ _ _ c.serve_messages-end.ensures).frame
+
 pub returns-clause-run : goal.returns-clause-run
-returns-clause-run g c = rw (c.self.view_is, ← c.take_workspace.ensures) c.serve_in-end.ensures.run
+returns-clause-run g c = rw (c.self.view_is, ← c.take_workspace.ensures)
+    (served_stream g.S.Shelf.view c.args.roster.now _ _ _ _ _ _ _ _ c.serve_messages-end.ensures).run
