@@ -1,6 +1,6 @@
 -- Requests whose number their slot keeps: what the slot keeps is the text of a lawful command, and they are answered by
 -- it as the history says.
-use Rattle.std.proofs.Common.{◌≡◌, ◌∙◌, ap, sym, ℕ, Bool, true, false, List, [], ◌∷◌, Some, arith, inl, refl}
+use Rattle.std.proofs.Common.{◌≡◌, ◌∙◌, ap, sym, ℕ, Bool, true, false, List, [], ◌∷◌, Option, Some, arith, inl, refl}
 use Rattle.std.specs.Str.{bytes_eq}
 use Rattle.std.specs.Cmp.Lexicographic.{bytes_decides}
 use Rattle.std.proofs.lemmas.Bool.Decides.{nat_tests}
@@ -19,11 +19,10 @@ use Rattle.room_wire.proofs.Lemmas.Forms.CommandBack.{text_back}
 use Rattle.room_desk.specs.AnswerModel.{AnswerModel}
 use Rattle.room_desk.specs.Bodies.{KeepsNumber, IsText, AnswersBody, answer_to_body}
 use Rattle.room_desk.specs.History.{History, session_of, is_open_for, Accepted, accepted, is_accepted}
-use Rattle.room_desk.specs.History.{HaveLawfulCommands, answer_to, answer_again}
+use Rattle.room_desk.specs.History.{HaveLawfulCommands, answer_to}
 use Rattle.room_desk.specs.Representation.{RepresentsHistory, kept_after, slot_row_of}
-use Rattle.room_desk.specs.RowAnswers.{HasSlot, row_answer}
+use Rattle.room_desk.specs.RowAnswers.{HasSlot, kept_answer}
 use Rattle.room_desk.proofs.Answers.{usable}
-use Rattle.room_desk.proofs.Idle.{itself}
 use Rattle.room_desk.proofs.SlotTests.{accepted_by_number, old_answer}
 
 -- the request, once its command is known
@@ -48,17 +47,13 @@ kept_of_row : (start : Room) (past : History) (sid : List ℕ) (slot : ℕ) (kep
     → slot_row_of start past sid slot ≡ Some kept → kept_after start (accepted past sid slot) ≡ Some kept
 kept_of_row start past sid slot kept is = grind (arith, common_steps)
 
--- by the number that is kept, a command is that of the kept text, or another
-by_text : (r : Records) (q : Request) (kept : KeptModel) (keep : Bool) → r.slot q.sid q.slot ≡ Some kept
-    → kept.seq ≡ q.seq → row_answer r q (command_text q.command) ≡ answer_to_body (Some (q.command, keep)) kept
-by_text r q kept keep is same = grind (arith, common_steps, nat_tests)
-
 -- a body that is the kept text asks the command of the last request
-pub repeats : (body : List ℕ) (kept : KeptModel) (answered : AnswerModel) → bytes_eq body kept.request ≡ true
-    → answered ≡ answer_again kept.reply → IsText kept.request → AnswersBody (command_of_body body) kept answered
-repeats body kept answered same told (command, lawful, text) =
-    let asks = ap command_of_body ((bytes_decides body kept.request).0 same ∙ sym text) ∙ text_back command lawful in
-    rw asks (inl (rw (told, text, itself kept.request)))
+pub repeats : (body : List ℕ) (seq : ℕ) (kept : KeptModel) (answered : AnswerModel) → bytes_eq body kept.request ≡ true
+    → answered ≡ kept_answer (Some kept) seq body → IsText kept.request
+    → AnswersBody (command_of_body body) seq kept answered
+repeats body seq kept answered same told (command, lawful, text) =
+    let asks : body ≡ command_text command = (bytes_decides body kept.request).0 same ∙ sym text in
+    rw (ap command_of_body asks ∙ text_back command lawful) (inl (told ∙ ap (kept_answer (Some kept) seq) asks))
 
 module _ {start : Room} {r : Records} {past : History} (stand : RepresentsHistory start r past)
     {sent : SentRequest} {kept : KeptModel} (keeps : KeepsNumber r sent kept) where
@@ -79,6 +74,6 @@ module _ {start : Room} {r : Records} {past : History} (stand : RepresentsHistor
         let by_number = accepted_by_number stand (request_of sent asked) may_use has refl refl refl in
         grind (arith, common_steps, nat_tests, next_number_other, keeps.keeps, keeps.number, by_number)
 
-    pub answer_is : answer_to_body (Some asked) kept ≡ answer_to start past (Slot (request_of sent asked))
+    pub answer_is : answer_to_body (Some asked) sent.seq kept ≡ answer_to start past (Slot (request_of sent asked))
     answer_is = old_answer stand (request_of sent asked) may_use has not_accepted
-        (sym (by_text r (request_of sent asked) kept asked.1 keeps.keeps keeps.number))
+        (ap (λ (k : Option KeptModel). kept_answer k sent.seq (command_text asked.0)) (sym keeps.keeps))

@@ -52,7 +52,7 @@ asked_of sent wanted = event_asked (request_by sent.subject (Some sent.sid) (Som
 module _ {start : Room} {past : History} {r : Records} (stand : RepresentsHistory start r past)
     (sent : SentRequest) (kept : KeptModel) (keeps : KeepsNumber r sent kept) where
   -- by the kept text, the request is answered as the history says, and joins it
-  joins : (wanted : Option (CommandModel × Bool)) (answered : AnswerModel) → AnswersBody wanted kept answered
+  joins : (wanted : Option (CommandModel × Bool)) (answered : AnswerModel) → AnswersBody wanted sent.seq kept answered
       → (next : History) × AnswersOrDelays start past (asked_of sent wanted) answered next
       × RepresentsHistory start r next
   joins None answered (inl is) = (past, inl (is, refl), stand)
@@ -71,7 +71,7 @@ module _ {start : Room} {past : History} {r : Records} (stand : RepresentsHistor
 pub answered_by_kept : (sent : SentRequest) (wanted : Option (CommandModel × Bool)) (kept : KeptModel) (a b : View)
     (answered : AnswerModel) → ShelfRead a b None → (b.is_intact → b.is_available)
     → (b.is_available → a.is_laid_out → KeepsNumber a.records sent kept)
-    → (IsText kept.request → AnswersBody wanted kept answered)
+    → (IsText kept.request → AnswersBody wanted sent.seq kept answered)
     → Answered (asked_of sent wanted) a answered b
 answered_by_kept sent wanted kept a b answered read there keeps says = record {
   frame = one_call a b None read.call;

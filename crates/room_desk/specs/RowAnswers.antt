@@ -69,7 +69,7 @@ pub record Ran (r : Records) (room : Room) (q : Request) (answered : AnswerModel
 abbrev pub RanTo : Records → Room → Request → Records → Type 0
 RanTo r room q new = Ran r room q (Reply (reply_text (effect room q.caller q.command).reply)) new
 
--- what a request is answered that is not new to its slot
+-- what a request is answered that is not new to its slot, by what it is to the slot
 abbrev pub answer_kept : Verdict → Option KeptModel → AnswerModel
 answer_kept Repeat (Some kept) = answer_again kept.reply
 answer_kept Repeat None = Refused SeqMisordered
@@ -78,6 +78,10 @@ answer_kept FalseRetry kept = Refused SeqFalseRetry
 answer_kept Misordered kept = Refused SeqMisordered
 answer_kept New kept = Refused SeqMisordered
 
--- what a request with this command text is answered that is not new to its slot, by the row of the slot
+-- and by its number and its command text
+abbrev pub kept_answer : Option KeptModel → ℕ → List ℕ → AnswerModel
+kept_answer kept seq text = answer_kept (verdict kept seq text) kept
+
+-- and by the row of the slot
 abbrev pub row_answer : Records → Request → List ℕ → AnswerModel
-row_answer r q text = answer_kept (verdict (r.slot q.sid q.slot) q.seq text) (r.slot q.sid q.slot)
+row_answer r q text = kept_answer (r.slot q.sid q.slot) q.seq text

@@ -4,12 +4,12 @@ ghost use Rattle.room_records.specs.Shelf.{ShelfRead, Tells, fault_in};
 ghost use Rattle.room_wire.specs.Forms.Commands.{command_of_body};
 ghost use Rattle.room_wire.specs.Asks.AskOf.{event_asked, sent_event};
 ghost use Rattle.room_desk.specs.AnswerModel.{answer_model};
-ghost use Rattle.room_desk.specs.Bodies.{AnswersBody, AsksText, IsText, KeepsNumber};
+ghost use Rattle.room_desk.specs.Bodies.{AnswersBody, IsText, KeepsNumber, TextAsked};
 ghost use Rattle.room_desk.specs.RowAnswers.{is_usable};
 ghost use Rattle.room_desk.specs.Serving.{Answered};
 
 use crate::desk::Desk;
-use crate::requests::answer_again;
+use crate::requests::answer_kept;
 use crate::sessions::is_usable;
 use room_records::{SessionRow, Shelf, ShelfFault};
 use room_slots::Kept;
@@ -57,25 +57,25 @@ fn kept_with_number<S: Shelf>(
     shelf.slot(&sent.sid, sent.slot)
 }
 
-/// Whether the body asks the command of this text.
-fn asks_text(alloc: Global, body: &[u8], text: &[u8]) -> Result<bool, WireFault>
-    ensures { AsksText (command_of_body body.now) text.now result }
+/// The text of the command that the body asks.
+fn text_asked(alloc: Global, body: &[u8]) -> Result<Vec<u8>, WireFault>
+    ensures { TextAsked (command_of_body body.now) result }
 {
     let (command, _) = read_command(alloc, body)?;
-    let asked = command_text(alloc, &command)?;
-    Ok(asked.as_slice() == text)
+    Ok(command_text(alloc, &command)?)
 }
 
-/// What a request is answered whose number its slot keeps. A body that is the kept text is a repeat, and is not read.
-fn answer_by_body(alloc: Global, body: &[u8], kept: Kept) -> Answer
-    ensures { IsText kept.request → AnswersBody (command_of_body body.now) kept (answer_model result) }
+/// What a request is answered whose number its slot keeps. A body that is the kept text asks the command of that text,
+/// and is not read.
+fn answer_by_body(alloc: Global, sent: &SentRequest<'_>, kept: Kept) -> Answer
+    ensures { IsText kept.request →
+        AnswersBody (command_of_body sent.now.body) sent.now.seq kept (answer_model result) }
 {
-    if body == kept.request.as_slice() {
-        return answer_again(kept.reply);
+    if sent.body == kept.request.as_slice() {
+        return answer_kept(Some(kept), sent.seq, sent.body);
     }
-    match asks_text(alloc, body, &kept.request) {
-        Ok(true) => answer_again(kept.reply),
-        Ok(false) => Answer::Refused(Code::SeqFalseRetry),
+    match text_asked(alloc, sent.body) {
+        Ok(text) => answer_kept(Some(kept), sent.seq, &text),
         Err(fault) => Answer::Refused(fault_code(fault)),
     }
 }
@@ -98,7 +98,7 @@ impl<S: Shelf> Desk<S> {
             (S.view self.old) (answer_model result) (S.view self.new) }
     {
         match kept_with_number(&mut self.shelf, &sent) {
-            Ok(Some(kept)) => answer_by_body(self.alloc, sent.body, kept),
+            Ok(Some(kept)) => answer_by_body(self.alloc, &sent, kept),
             Ok(None) => self.serve_read(sent),
             Err(_) => Answer::Refused(Code::Delay),
         }

@@ -12,7 +12,7 @@ ghost use Rattle.room_desk.specs.Crashes.{LeavesOldOrNew, LeavesNew};
 ghost use Rattle.room_desk.specs.History.{History, session_of, is_open_for, answer_to, changes_rows, ReportsChange};
 ghost use Rattle.room_desk.specs.History.{if_kept, answer_again};
 ghost use Rattle.room_desk.specs.Representation.{RepresentsHistory, StandsFor, StandsWith};
-ghost use Rattle.room_desk.specs.RowAnswers.{HasSlot, Ran, RanTo, answer_kept, row_answer};
+ghost use Rattle.room_desk.specs.RowAnswers.{HasSlot, Ran, RanTo, kept_answer, row_answer};
 
 use crate::sessions::is_usable;
 use room_acl::Subject;
@@ -123,7 +123,7 @@ fn run_new<S: Shelf>(
 }
 
 /// What a repeat is answered by the reply that is kept: where none is, it is refused.
-pub(crate) fn answer_again(reply: Option<Vec<u8>>) -> Answer
+fn answer_again(reply: Option<Vec<u8>>) -> Answer
     ensures { answer_model result ≡ answer_again (option_map (λ r. r.items) reply) }
 {
     match reply {
@@ -133,10 +133,12 @@ pub(crate) fn answer_again(reply: Option<Vec<u8>>) -> Answer
 }
 
 /// What a request is answered that is not new to its slot: a repeat gets the kept reply, if one is kept.
-fn answer_kept(verdict: Verdict, kept: Option<Kept>) -> Answer
-    ensures { answer_model result ≡ answer_kept verdict kept }
+///
+/// `text` is the text of its command, and `kept` what the slot keeps.
+pub(crate) fn answer_kept(kept: Option<Kept>, seq: u32, text: &[u8]) -> Answer
+    ensures { answer_model result ≡ kept_answer kept seq text.now }
 {
-    match verdict {
+    match classify(kept.as_ref(), seq, text) {
         Verdict::Repeat => match kept {
             Some(kept) => answer_again(kept.reply),
             None => Answer::Refused(Code::SeqMisordered),
@@ -147,7 +149,7 @@ fn answer_kept(verdict: Verdict, kept: Option<Kept>) -> Answer
     }
 }
 
-/// What a request that is not new to its slot is answered: here alone the slot's row is read.
+/// What a request that is not new to its slot is answered, by the slot's row.
 fn answer_from_row<S: Shelf>(
     alloc: Global,
     shelf: &mut S,
@@ -160,8 +162,7 @@ fn answer_from_row<S: Shelf>(
 {
     let kept = shelf.slot(asked.sid, asked.slot)?;
     let text = command_text(alloc, asked.command)?;
-    let verdict = classify(kept.as_ref(), asked.seq, &text);
-    Ok(answer_kept(verdict, kept))
+    Ok(answer_kept(kept, asked.seq, &text))
 }
 
 /// A request in a slot of an open session of the caller: the number decides. The slot's row may be long, so a new
