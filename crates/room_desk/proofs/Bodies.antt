@@ -21,7 +21,7 @@ use Rattle.room_desk.specs.Bodies.{KeepsNumber, IsText, AnswersBody, answer_to_b
 use Rattle.room_desk.specs.History.{History, session_of, is_open_for, Accepted, accepted, is_accepted}
 use Rattle.room_desk.specs.History.{HaveLawfulCommands, answer_to}
 use Rattle.room_desk.specs.Representation.{RepresentsHistory, kept_after, slot_row_of}
-use Rattle.room_desk.specs.RowAnswers.{HasSlot, kept_answer}
+use Rattle.room_desk.specs.RowAnswers.{HasSlot, answer_kept}
 use Rattle.room_desk.proofs.Answers.{usable}
 use Rattle.room_desk.proofs.SlotTests.{accepted_by_number, old_answer}
 
@@ -49,11 +49,11 @@ kept_of_row start past sid slot kept is = grind (arith, common_steps)
 
 -- a body that is the kept text asks the command of the last request
 pub repeats : (body : List ℕ) (seq : ℕ) (kept : KeptModel) (answered : AnswerModel) → bytes_eq body kept.request ≡ true
-    → answered ≡ kept_answer (Some kept) seq body → IsText kept.request
+    → answered ≡ answer_kept (Some kept) seq body → IsText kept.request
     → AnswersBody (command_of_body body) seq kept answered
 repeats body seq kept answered same told (command, lawful, text) =
     let asks : body ≡ command_text command = (bytes_decides body kept.request).0 same ∙ sym text in
-    rw (ap command_of_body asks ∙ text_back command lawful) (inl (told ∙ ap (kept_answer (Some kept) seq) asks))
+    rw (ap command_of_body asks ∙ text_back command lawful) (inl (told ∙ ap (answer_kept (Some kept) seq) asks))
 
 module _ {start : Room} {r : Records} {past : History} (stand : RepresentsHistory start r past)
     {sent : SentRequest} {kept : KeptModel} (keeps : KeepsNumber r sent kept) where
@@ -76,4 +76,4 @@ module _ {start : Room} {r : Records} {past : History} (stand : RepresentsHistor
 
     pub answer_is : answer_to_body (Some asked) sent.seq kept ≡ answer_to start past (Slot (request_of sent asked))
     answer_is = old_answer stand (request_of sent asked) may_use has not_accepted
-        (ap (λ (k : Option KeptModel). kept_answer k sent.seq (command_text asked.0)) (sym keeps.keeps))
+        (ap (λ (k : Option KeptModel). answer_kept k sent.seq (command_text asked.0)) (sym keeps.keeps))

@@ -16,7 +16,7 @@ use Rattle.room_desk.specs.AnswerModel.{AnswerModel, Reply}
 use Rattle.room_desk.specs.History.{History, session_of, is_open_for, slots_of, accepted, Accepted, is_accepted}
 use Rattle.room_desk.specs.History.{answer_to, answer_unaccepted, state_after}
 use Rattle.room_desk.specs.Representation.{RepresentsHistory, kept_after}
-use Rattle.room_desk.specs.RowAnswers.{HasSlot, answer_kept, row_answer}
+use Rattle.room_desk.specs.RowAnswers.{HasSlot, answer_by_verdict, row_answer}
 use Rattle.room_desk.proofs.Answers.{as_many}
 use Rattle.room_desk.proofs.KeptRows.{keeps_count, verdict_is, row_is, accepted_is}
 
@@ -26,7 +26,7 @@ next_by_count : (kept : Option KeptModel) (count seq : ℕ) → KeepsCount kept 
 next_by_count kept count seq h = grind (arith, nat_tests, next_number_of_count)
 
 unaccepted_is : (start : Room) (q : Request) (requests : List Accepted) → answer_unaccepted start q requests
-    ≡ answer_kept (verdict_unaccepted (kept_after start requests) q.seq (command_text q.command))
+    ≡ answer_by_verdict (verdict_unaccepted (kept_after start requests) q.seq (command_text q.command))
     (kept_after start requests)
 unaccepted_is start q requests = grind (arith, common_steps)
 

@@ -13,7 +13,7 @@ use Rattle.room_wire.specs.declared.fault.WireFault.{WireFault}
 use Rattle.room_wire.specs.Forms.Commands.{ReadsCommand}
 use Rattle.room_wire.specs.Forms.Texts.{command_text}
 use Rattle.room_desk.specs.AnswerModel.{AnswerModel, Refused}
-use Rattle.room_desk.specs.RowAnswers.{is_usable, kept_answer}
+use Rattle.room_desk.specs.RowAnswers.{is_usable, answer_kept}
 
 -- the session is open and the caller's, the slot is one of its, and what it keeps has the number of the request
 pub record KeepsNumber (r : Records) (sent : SentRequest) (kept : KeptModel) : Type 0 where
@@ -31,7 +31,7 @@ IsText text = (command : CommandModel) × IsLawful command × (command_text comm
 -- what a request with this number is answered by the command that its body asks, and by what the slot keeps
 abbrev pub answer_to_body : Option (CommandModel × Bool) → ℕ → KeptModel → AnswerModel
 answer_to_body None seq kept = Refused BadRequest
-answer_to_body (Some asked) seq kept = kept_answer (Some kept) seq (command_text asked.0)
+answer_to_body (Some asked) seq kept = answer_kept (Some kept) seq (command_text asked.0)
 
 -- that, or DELAY
 abbrev pub AnswersBody : Option (CommandModel × Bool) → ℕ → KeptModel → AnswerModel → Type 0

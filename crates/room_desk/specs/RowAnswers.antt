@@ -70,18 +70,18 @@ abbrev pub RanTo : Records → Room → Request → Records → Type 0
 RanTo r room q new = Ran r room q (Reply (reply_text (effect room q.caller q.command).reply)) new
 
 -- what a request is answered that is not new to its slot, by what it is to the slot
-abbrev pub answer_kept : Verdict → Option KeptModel → AnswerModel
-answer_kept Repeat (Some kept) = answer_again kept.reply
-answer_kept Repeat None = Refused SeqMisordered
-answer_kept Uncached kept = Refused RetryUncached
-answer_kept FalseRetry kept = Refused SeqFalseRetry
-answer_kept Misordered kept = Refused SeqMisordered
-answer_kept New kept = Refused SeqMisordered
+abbrev pub answer_by_verdict : Verdict → Option KeptModel → AnswerModel
+answer_by_verdict Repeat (Some kept) = answer_again kept.reply
+answer_by_verdict Repeat None = Refused SeqMisordered
+answer_by_verdict Uncached kept = Refused RetryUncached
+answer_by_verdict FalseRetry kept = Refused SeqFalseRetry
+answer_by_verdict Misordered kept = Refused SeqMisordered
+answer_by_verdict New kept = Refused SeqMisordered
 
 -- and by its number and its command text
-abbrev pub kept_answer : Option KeptModel → ℕ → List ℕ → AnswerModel
-kept_answer kept seq text = answer_kept (verdict kept seq text) kept
+abbrev pub answer_kept : Option KeptModel → ℕ → List ℕ → AnswerModel
+answer_kept kept seq text = answer_by_verdict (verdict kept seq text) kept
 
 -- and by the row of the slot
 abbrev pub row_answer : Records → Request → List ℕ → AnswerModel
-row_answer r q text = kept_answer (r.slot q.sid q.slot) q.seq text
+row_answer r q text = answer_kept (r.slot q.sid q.slot) q.seq text

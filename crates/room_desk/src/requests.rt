@@ -12,7 +12,7 @@ ghost use Rattle.room_desk.specs.Crashes.{LeavesOldOrNew, LeavesNew};
 ghost use Rattle.room_desk.specs.History.{History, session_of, is_open_for, answer_to, changes_rows, ReportsChange};
 ghost use Rattle.room_desk.specs.History.{if_kept, answer_again};
 ghost use Rattle.room_desk.specs.Representation.{RepresentsHistory, StandsFor, StandsWith};
-ghost use Rattle.room_desk.specs.RowAnswers.{HasSlot, Ran, RanTo, kept_answer, row_answer};
+ghost use Rattle.room_desk.specs.RowAnswers.{HasSlot, Ran, RanTo, answer_kept, row_answer};
 
 use crate::sessions::is_usable;
 use room_acl::Subject;
@@ -136,7 +136,7 @@ fn answer_again(reply: Option<Vec<u8>>) -> Answer
 ///
 /// `text` is the text of its command, and `kept` what the slot keeps.
 pub(crate) fn answer_kept(kept: Option<Kept>, seq: u32, text: &[u8]) -> Answer
-    ensures { answer_model result ≡ kept_answer kept seq text.now }
+    ensures { answer_model result ≡ answer_kept kept seq text.now }
 {
     match classify(kept.as_ref(), seq, text) {
         Verdict::Repeat => match kept {
