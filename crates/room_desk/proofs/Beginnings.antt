@@ -38,13 +38,13 @@ module _ (past : History) (q : Request) (lawful : AcceptsLawful (Slot q ∷ past
   -- with a request a history accepts what it did before
   lawful_before : AcceptsLawful past
   lawful_before sid slot = elim (cases_Bool (is_for sid slot q && accepts past (length (accepted past sid slot)) q)) [
-    | inl taken ↦ (rw taken at lawful sid slot).1
-    | inr other ↦ rw other at lawful sid slot
+    | inl taken ↦ (rw taken at (lawful sid slot)).1
+    | inr other ↦ rw other at (lawful sid slot)
   ]
 
   -- and the request, where it is accepted
   accepted_is_lawful : is_accepted past q ≡ true → IsLawful q.command
-  accepted_is_lawful taken = (rw (for_own_slot q, taken) at lawful q.sid q.slot).0
+  accepted_is_lawful taken = (rw (for_own_slot q, taken) at (lawful q.sid q.slot)).0
 
 -- a history that accepts lawful commands alone leaves a room
 pub state_is_room : (start : Room) (past : History) → IsRoom start → AcceptsLawful past

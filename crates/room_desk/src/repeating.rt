@@ -1,5 +1,5 @@
 //! Requests that are sent again: told by their body, before it is read.
-ghost use Rattle.std.specs.Prelude.{◌≡◌, ◌<◌, true, Some, IfSome, OnOk};
+ghost use Rattle.std.specs.Prelude.{◌≡◌, ◌↔◌, ◌<◌, true, Some, IfSome, OnOk};
 ghost use Rattle.room_records.specs.Shelf.{ShelfRead, Tells, fault_in};
 ghost use Rattle.room_wire.specs.Forms.Commands.{command_of_body};
 ghost use Rattle.room_wire.specs.Asks.AskOf.{event_asked, sent_event};
@@ -69,7 +69,7 @@ fn text_asked(alloc: Global, body: &[u8]) -> Result<Vec<u8>, WireFault>
 /// and is not read.
 fn answer_by_body(alloc: Global, sent: &SentRequest<'_>, kept: Kept) -> Answer
     ensures { IsText kept.request →
-        AnswersBody (command_of_body sent.now.body) sent.now.seq kept (answer_model result) }
+        AnswersBody (command_of_body sent.now.body.now) sent.now.seq kept (answer_model result) }
 {
     if sent.body == kept.request.as_slice() {
         return answer_kept(Some(kept), sent.seq, sent.body);

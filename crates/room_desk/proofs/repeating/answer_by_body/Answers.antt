@@ -6,7 +6,7 @@ use Rattle.room_desk.proofs.repeating.answer_by_body.Goals as goal
 
 pub returns-then-eq : goal.returns-then-eq
 returns-then-eq c =
-    let same : bytes_eq c.args.sent.now.body c.args.kept.request ≡ true =
+    let same : bytes_eq c.args.sent.now.body.now c.args.kept.request ≡ true =
     rw (← c.kept.view_is, ← c.as_slice.ensures.value) (sym c.eq.ensures ∙ c.if-eq.true) in
-    repeats c.args.sent.now.body c.args.sent.now.seq c.args.kept (answer_model c.answer_kept.result) same
-    (rw (← c.kept.view_is) c.answer_kept.ensures)
+    repeats c.args.sent.now.body.now c.args.sent.now.seq c.args.kept (answer_model c.answer_kept.result) same
+    c.answer_kept.ensures
