@@ -20,8 +20,8 @@ use std::alloc::AllocError;
 pub enum ShelfFault {
     /// Memory was refused.
     Memory,
-    /// The store failed. It comes only where the count of failures rose in that call, or stands at 2^64 - 1, where it is
-    /// no longer kept.
+    /// The store failed. It comes only where the count of failures rose in that call, or stands at 2^64 - 1, where it
+    /// is no longer kept.
     Store,
 }
 
