@@ -15,9 +15,10 @@ use std::marker::Model;
 /// by folder and name, the names in a folder, lists, and the number of the next object, and does not ask for them
 /// again. A decision that is not remembered goes by the list where that is, and else is asked of the shelf inside,
 /// which need not read the list whole, and is remembered then: for the same subject, standing and rights it is not
-/// asked again. A commit makes it forget the rows that it changes, with a list what the list decided, and with any node
-/// the names in every folder; the number of a request that it puts is remembered. A fault makes it forget all: memory
-/// answers only while the store is known to be there.
+/// asked again. A commit makes it forget the rows that it changes, with a list what the list decided, with any node the
+/// names in every folder, and with the slots of a session that are dropped the numbers of all slots; the number of a
+/// request that it puts is remembered. A fault makes it forget all: memory answers only while the store is known to be
+/// there.
 ///
 /// It remembers at most 256 rows of each kind, lists of up to 64 entries, 16 decisions of each of 256 objects, and up
 /// to 256 names in each of 256 folders: by the sizes of the types some 200 kB, lists of 1.5 MB at worst, names of
@@ -62,27 +63,13 @@ impl<S: Shelf> CachedShelf<S> {
 }
 
 impl<S: Shelf> Shelf for CachedShelf<S> {
-    ghost use Rattle.std.specs.Prelude.{◌≡◌, ◌⊎◌, [], length, unwrap_or, OnOk};
-    ghost use Rattle.room_acl.specs.Access.{decision};
-    ghost use Rattle.room_slots.specs.Slots.{kept_seq};
-    ghost use Rattle.room_records.specs.Records.{Records};
-    ghost use Rattle.room_records.specs.Rules.{NodeRules};
-    ghost use Rattle.room_records.specs.Changes.{apply_changes, RulesHoldAfterEach, Untouched};
-    ghost use Rattle.room_records.specs.Shelf.{ShelfCall, ShelfRead, Tells, fault_in, AreChildren};
-    ghost use Rattle.room_records.specs.Shelf.{AreNames, IsChildCount, IsChildNamed};
     ghost use Rattle.room_cache.specs.Cached.{cached_view};
 
     ghost view = { cached_view S.view };
 
     ghost available_is_intact = { λ s h. S.available_is_intact s.0 h };
 
-    fn node(&mut self, id: u32) -> Result<Option<Node>, ShelfFault>
-        ensures value { Tells (cached_view S.view self.old) (cached_view S.view self.new)
-            result (λ records found. found ≡ records.objects.node id) }
-        ensures there { (cached_view S.view self.new).is_intact
-            → OnOk result (cached_view S.view self.new).is_available }
-        ensures frame { ShelfRead (cached_view S.view self.old) (cached_view S.view self.new) (fault_in result) }
-    {
+    fn node(&mut self, id: u32) -> Result<Option<Node>, ShelfFault> {
         if let Some(node) = self.known.node(id) {
             return Ok(Some(node.clone()?));
         }
@@ -93,13 +80,7 @@ impl<S: Shelf> Shelf for CachedShelf<S> {
         Ok(Some(node))
     }
 
-    fn child(&mut self, parent: u32, name: &FileName) -> Result<Option<Node>, ShelfFault>
-        ensures value { Tells (cached_view S.view self.old) (cached_view S.view self.new)
-            result (λ records. IsChildNamed records.objects parent name.now) }
-        ensures there { (cached_view S.view self.new).is_intact
-            → OnOk result (cached_view S.view self.new).is_available }
-        ensures frame { ShelfRead (cached_view S.view self.old) (cached_view S.view self.new) (fault_in result) }
-    {
+    fn child(&mut self, parent: u32, name: &FileName) -> Result<Option<Node>, ShelfFault> {
         if let Some(node) = self.known.child(parent, name) {
             return Ok(Some(node.clone()?));
         }
@@ -110,24 +91,11 @@ impl<S: Shelf> Shelf for CachedShelf<S> {
         Ok(Some(node))
     }
 
-    fn children(&mut self, parent: u32) -> Result<Vec<Node>, ShelfFault>
-        ensures value { Tells (cached_view S.view self.old) (cached_view S.view self.new)
-            result (λ records found.
-            NodeRules records.objects.node → AreChildren records.objects parent found.items) }
-        ensures there { (cached_view S.view self.new).is_intact
-            → OnOk result (cached_view S.view self.new).is_available }
-        ensures frame { ShelfRead (cached_view S.view self.old) (cached_view S.view self.new) (fault_in result) }
-    {
+    fn children(&mut self, parent: u32) -> Result<Vec<Node>, ShelfFault> {
         self.known.or_forget(self.inner.children(parent))
     }
 
-    fn names(&mut self, parent: u32) -> Result<Vec<(FileName, Kind)>, ShelfFault>
-        ensures value { Tells (cached_view S.view self.old) (cached_view S.view self.new)
-            result (λ records found. NodeRules records.objects.node → AreNames records.objects parent found.items) }
-        ensures there { (cached_view S.view self.new).is_intact
-            → OnOk result (cached_view S.view self.new).is_available }
-        ensures frame { ShelfRead (cached_view S.view self.old) (cached_view S.view self.new) (fault_in result) }
-    {
+    fn names(&mut self, parent: u32) -> Result<Vec<(FileName, Kind)>, ShelfFault> {
         if let Some(names) = self.known.names(parent) {
             let names = names.names();
             return Ok(copy_names(*names.allocator(), names.as_slice())?);
@@ -137,23 +105,11 @@ impl<S: Shelf> Shelf for CachedShelf<S> {
         Ok(found)
     }
 
-    fn child_count(&mut self, parent: u32) -> Result<u64, ShelfFault>
-        ensures value { Tells (cached_view S.view self.old) (cached_view S.view self.new)
-            result (λ records count. NodeRules records.objects.node → IsChildCount records.objects parent count) }
-        ensures there { (cached_view S.view self.new).is_intact
-            → OnOk result (cached_view S.view self.new).is_available }
-        ensures frame { ShelfRead (cached_view S.view self.old) (cached_view S.view self.new) (fault_in result) }
-    {
+    fn child_count(&mut self, parent: u32) -> Result<u64, ShelfFault> {
         self.known.or_forget(self.inner.child_count(parent))
     }
 
-    fn entries(&mut self, id: u32) -> Result<Vec<Entry>, ShelfFault>
-        ensures value { Tells (cached_view S.view self.old) (cached_view S.view self.new)
-            result (λ records found. found.items ≡ records.objects.entries id) }
-        ensures there { (cached_view S.view self.new).is_intact
-            → OnOk result (cached_view S.view self.new).is_available }
-        ensures frame { ShelfRead (cached_view S.view self.old) (cached_view S.view self.new) (fault_in result) }
-    {
+    fn entries(&mut self, id: u32) -> Result<Vec<Entry>, ShelfFault> {
         if let Some(list) = self.known.list(id) {
             let list = list.entries();
             return Ok(copy_entries(*list.allocator(), list.as_slice())?);
@@ -169,13 +125,7 @@ impl<S: Shelf> Shelf for CachedShelf<S> {
         subject: &Subject,
         standing: &Standing,
         wanted: Mask,
-    ) -> Result<Decision, ShelfFault>
-        ensures value { Tells (cached_view S.view self.old) (cached_view S.view self.new)
-            result (λ records found. found ≡ decision (records.objects.entries id) subject.now standing.now wanted) }
-        ensures there { (cached_view S.view self.new).is_intact
-            → OnOk result (cached_view S.view self.new).is_available }
-        ensures frame { ShelfRead (cached_view S.view self.old) (cached_view S.view self.new) (fault_in result) }
-    {
+    ) -> Result<Decision, ShelfFault> {
         if let Some(decision) = self.known.decision(id, subject, standing, wanted) {
             return Ok(decision);
         }
@@ -191,33 +141,15 @@ impl<S: Shelf> Shelf for CachedShelf<S> {
         Ok(found)
     }
 
-    fn doc(&mut self, id: u32) -> Result<Vec<u8>, ShelfFault>
-        ensures value { Tells (cached_view S.view self.old) (cached_view S.view self.new)
-            result (λ records found. found.items ≡ unwrap_or (records.objects.document id) []) }
-        ensures there { (cached_view S.view self.new).is_intact
-            → OnOk result (cached_view S.view self.new).is_available }
-        ensures frame { ShelfRead (cached_view S.view self.old) (cached_view S.view self.new) (fault_in result) }
-    {
+    fn doc(&mut self, id: u32) -> Result<Vec<u8>, ShelfFault> {
         self.known.or_forget(self.inner.doc(id))
     }
 
-    fn doc_size(&mut self, id: u32) -> Result<u64, ShelfFault>
-        ensures value { Tells (cached_view S.view self.old) (cached_view S.view self.new)
-            result (λ records found. found ≡ length (unwrap_or (records.objects.document id) [])) }
-        ensures there { (cached_view S.view self.new).is_intact
-            → OnOk result (cached_view S.view self.new).is_available }
-        ensures frame { ShelfRead (cached_view S.view self.old) (cached_view S.view self.new) (fault_in result) }
-    {
+    fn doc_size(&mut self, id: u32) -> Result<u64, ShelfFault> {
         self.known.or_forget(self.inner.doc_size(id))
     }
 
-    fn session(&mut self, sid: &Sid) -> Result<Option<SessionRow>, ShelfFault>
-        ensures value { Tells (cached_view S.view self.old) (cached_view S.view self.new)
-            result (λ records found. found ≡ records.session sid.now) }
-        ensures there { (cached_view S.view self.new).is_intact
-            → OnOk result (cached_view S.view self.new).is_available }
-        ensures frame { ShelfRead (cached_view S.view self.old) (cached_view S.view self.new) (fault_in result) }
-    {
+    fn session(&mut self, sid: &Sid) -> Result<Option<SessionRow>, ShelfFault> {
         if let Some(row) = self.known.session(sid) {
             return Ok(Some(row.clone()?));
         }
@@ -228,13 +160,7 @@ impl<S: Shelf> Shelf for CachedShelf<S> {
         Ok(found)
     }
 
-    fn slot(&mut self, sid: &Sid, slot: u32) -> Result<Option<Kept>, ShelfFault>
-        ensures value { Tells (cached_view S.view self.old) (cached_view S.view self.new)
-            result (λ records found. found ≡ records.slot sid.now slot) }
-        ensures there { (cached_view S.view self.new).is_intact
-            → OnOk result (cached_view S.view self.new).is_available }
-        ensures frame { ShelfRead (cached_view S.view self.old) (cached_view S.view self.new) (fault_in result) }
-    {
+    fn slot(&mut self, sid: &Sid, slot: u32) -> Result<Option<Kept>, ShelfFault> {
         let found = self.known.or_forget(self.inner.slot(sid, slot))?;
         if let Some(kept) = &found {
             self.known.keep_seq(sid, slot, kept.seq);
@@ -242,13 +168,7 @@ impl<S: Shelf> Shelf for CachedShelf<S> {
         Ok(found)
     }
 
-    fn slot_seq(&mut self, sid: &Sid, slot: u32) -> Result<Option<u32>, ShelfFault>
-        ensures value { Tells (cached_view S.view self.old) (cached_view S.view self.new)
-            result (λ records found. found ≡ kept_seq (records.slot sid.now slot)) }
-        ensures there { (cached_view S.view self.new).is_intact
-            → OnOk result (cached_view S.view self.new).is_available }
-        ensures frame { ShelfRead (cached_view S.view self.old) (cached_view S.view self.new) (fault_in result) }
-    {
+    fn slot_seq(&mut self, sid: &Sid, slot: u32) -> Result<Option<u32>, ShelfFault> {
         if let Some(seq) = self.known.slot_seq(sid, slot) {
             return Ok(Some(seq));
         }
@@ -259,13 +179,7 @@ impl<S: Shelf> Shelf for CachedShelf<S> {
         Ok(found)
     }
 
-    fn next_id(&mut self) -> Result<u32, ShelfFault>
-        ensures value { Tells (cached_view S.view self.old) (cached_view S.view self.new)
-            result (λ records next. next ≡ records.objects.next) }
-        ensures there { (cached_view S.view self.new).is_intact
-            → OnOk result (cached_view S.view self.new).is_available }
-        ensures frame { ShelfRead (cached_view S.view self.old) (cached_view S.view self.new) (fault_in result) }
-    {
+    fn next_id(&mut self) -> Result<u32, ShelfFault> {
         if let Some(next) = self.known.next() {
             return Ok(next);
         }
@@ -274,27 +188,7 @@ impl<S: Shelf> Shelf for CachedShelf<S> {
         Ok(found)
     }
 
-    fn commit(&mut self, changes: &[Change]) -> Result<(), ShelfFault>
-        ensures there { (cached_view S.view self.new).is_intact
-            → OnOk result (cached_view S.view self.new).is_available }
-        ensures frame { ShelfCall (cached_view S.view self.old) (cached_view S.view self.new) (fault_in result) }
-        ensures ok { (cached_view S.view self.new).is_intact → (cached_view S.view self.old).is_laid_out
-            → RulesHoldAfterEach changes.now (cached_view S.view self.old).records →
-            OnOk result ((cached_view S.view self.new).records
-            ≡ apply_changes changes.now (cached_view S.view self.old).records) }
-        ensures settled { (cached_view S.view self.new).is_intact → (cached_view S.view self.old).is_laid_out
-            → RulesHoldAfterEach changes.now (cached_view S.view self.old).records →
-            OnOk result ((left : Records) → (cached_view S.view self.new).crash_may_leave left
-            → left ≡ apply_changes changes.now (cached_view S.view self.old).records) }
-        ensures crash { (cached_view S.view self.old).is_laid_out
-            → RulesHoldAfterEach changes.now (cached_view S.view self.old).records →
-            (left : Records) → (cached_view S.view self.new).crash_may_leave left →
-            (cached_view S.view self.old).crash_may_leave left
-            ⊎ (left ≡ apply_changes changes.now (cached_view S.view self.old).records) }
-        ensures untouched { (cached_view S.view self.new).is_intact → (cached_view S.view self.old).is_laid_out →
-            OnOk result (Untouched changes.now (cached_view S.view self.old).records
-            (cached_view S.view self.new).records) }
-    {
+    fn commit(&mut self, changes: &[Change]) -> Result<(), ShelfFault> {
         self.known.or_forget(self.inner.commit(changes))?;
         self.known.forget_touched(changes);
         Ok(())

@@ -11,7 +11,7 @@ use std::marker::Model;
 /// Rows of one kind that are remembered.
 const MAX_ROWS: usize = 256;
 
-/// Rows by key, at most 256. Where one more comes, all others are forgotten.
+/// Rows by key, at most 256. Where one more comes, at a key that is new, all others are forgotten.
 #[derive(Drop)]
 pub(crate) struct Rows<K: Ord, V> {
     rows: BTreeMap<K, V>,
@@ -48,7 +48,7 @@ impl<K: Ord + Drop, V: Drop> Rows<K, V> {
         ensures { (k : K) (v : V) → row_at K.cmp self.new k ≡ Some v
             → (row_at K.cmp self.old k ≡ Some v) ⊎ ((eq_by_cmp K.cmp key k ≡ true) × (v ≡ value)) }
     {
-        if self.rows.len() >= MAX_ROWS {
+        if self.rows.len() >= MAX_ROWS && self.rows.remove(&key).is_none() {
             self.rows.clear();
         }
         let _ = self.rows.insert(key, value);

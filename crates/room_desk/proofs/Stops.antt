@@ -4,12 +4,11 @@ use Rattle.std.proofs.lemmas.Bool.{both_ways, cases_Bool}
 use Rattle.std.proofs.lemmas.Grind.{common_steps}
 use Rattle.room_records.specs.Records.{Records}
 use Rattle.room_records.specs.Room.{Room}
-use Rattle.room_records.specs.Shelf.{View}
+use Rattle.room_records.specs.Shelf.{View, LeavesNew}
 use Rattle.room_wire.specs.declared.answers.code.Code.TheVariants.{Delay, RetryUncached}
 use Rattle.room_wire.specs.Asks.AskOf.{Event}
 use Rattle.room_wire.specs.Asks.EventModel.{EventModel}
 use Rattle.room_desk.specs.AnswerModel.{AnswerModel, Refused}
-use Rattle.room_desk.specs.Crashes.{LeavesNew}
 use Rattle.room_desk.specs.History.{History, answer_to, changes_rows, leaves_no_reply}
 use Rattle.room_desk.specs.Representation.{StandsFor, InTurn, Run, Step}
 use Rattle.room_desk.specs.Serving.{Answered, EventAnswered}

@@ -2,7 +2,7 @@
 use Rattle.std.proofs.Common.{◌≡◌, ℕ, refl, ◌⊎◌, inl, inr, Result, Ok, Err, ◌≢◌, true, List, [], ◌∷◌}
 use Rattle.room_acl.specs.SubjectModel.{SubjectModel}
 use Rattle.room_records.specs.Room.{Room}
-use Rattle.room_records.specs.Shelf.{View}
+use Rattle.room_records.specs.Shelf.{View, LeavesNew, LeavesOldOrNew}
 use Rattle.room_wire.specs.declared.fault.WireFault.{WireFault}
 use Rattle.room_wire.specs.declared.answers.code.Code.TheVariants.{Delay}
 use Rattle.room_wire.specs.Asks.AskOf.{AskModel, Check, Event, ask_of}
@@ -10,7 +10,6 @@ use Rattle.room_wire.specs.Asks.EventModel.{EventModel}
 use Rattle.room_wire.specs.Messages.MessageModel.{MessageModel}
 use Rattle.room_wire.specs.Serving.Outputs.{Outputs}
 use Rattle.room_desk.specs.AnswerModel.{AnswerModel, Refused}
-use Rattle.room_desk.specs.Crashes.{LeavesNew, LeavesOldOrNew}
 use Rattle.room_desk.specs.History.{History, changes_rows}
 use Rattle.room_desk.specs.Representation.{StandsFor}
 use Rattle.room_desk.specs.Serving.{Answered, MayAnswer, AnswersOrDelays}

@@ -1,6 +1,5 @@
 pub mod AnswerModel
 pub mod Bodies
-pub mod Crashes
 pub mod History
 pub mod Representation
 pub mod RowAnswers

@@ -1,11 +1,10 @@
 //! The desk: takes events, and answers each.
 ghost use Rattle.std.specs.Prelude.{◌≡◌, ◌≢◌, List, [], ◌∷◌, ◌++◌, map, IfOk, OnOk, OnErr, Err, false};
 ghost use Rattle.room_records.specs.Room.{Room};
-ghost use Rattle.room_records.specs.Shelf.{ShelfCall, fault_in};
+ghost use Rattle.room_records.specs.Shelf.{ShelfCall, fault_in, LeavesOldOrNew, LeavesNew};
 ghost use Rattle.room_wire.specs.Asks.EventModel.{event_model};
 ghost use Rattle.room_wire.specs.declared.answers.code.Code.TheVariants.{Delay};
 ghost use Rattle.room_desk.specs.AnswerModel.{AnswerModel, Refused, answer_model, IsTurnedAway};
-ghost use Rattle.room_desk.specs.Crashes.{LeavesOldOrNew, LeavesNew};
 ghost use Rattle.room_desk.specs.History.{History, answer_to, changes_rows, ReportsChange};
 ghost use Rattle.room_desk.specs.Representation.{RepresentsHistory, StandsFor, StandsWith, WasAllowed, InTurn, Run};
 ghost use Rattle.room_desk.specs.Serving.{DeskCall, EventAnswered};

@@ -3,12 +3,11 @@ ghost use Rattle.std.specs.Prelude.{◌≡◌, IfOk, OnOk, Err, ◌∷◌, true,
 ghost use Rattle.room_records.specs.Rules.{SlotRules};
 ghost use Rattle.room_records.specs.Room.{Room};
 ghost use Rattle.room_records.specs.Representation.{RepresentsRoom};
-ghost use Rattle.room_records.specs.Shelf.{ShelfCall, ShelfRead, Tells, fault_in};
+ghost use Rattle.room_records.specs.Shelf.{ShelfCall, ShelfRead, Tells, fault_in, LeavesOldOrNew, LeavesNew};
 ghost use Rattle.room_commands.specs.Lawful.{IsLawful};
 ghost use Rattle.room_wire.specs.Asks.EventModel.{Slot};
 ghost use Rattle.room_wire.specs.Forms.Texts.{command_text};
 ghost use Rattle.room_desk.specs.AnswerModel.{answer_model, IsTurnedAway};
-ghost use Rattle.room_desk.specs.Crashes.{LeavesOldOrNew, LeavesNew};
 ghost use Rattle.room_desk.specs.History.{History, session_of, is_open_for, answer_to, changes_rows, ReportsChange};
 ghost use Rattle.room_desk.specs.History.{if_kept, answer_again};
 ghost use Rattle.room_desk.specs.Representation.{RepresentsHistory, StandsFor, StandsWith};

@@ -2,13 +2,13 @@
 ghost use Rattle.std.specs.Prelude.{◌≡◌, ◌≢◌, ◌⊎◌, ℕ, true, false, List, [], ◌∷◌, Ok};
 ghost use Rattle.room_acl.specs.SubjectModel.{SubjectModel};
 ghost use Rattle.room_records.specs.Room.{Room};
+ghost use Rattle.room_records.specs.Shelf.{LeavesNew};
 ghost use Rattle.room_wire.specs.Asks.AskOf.{Event, ask_of};
 ghost use Rattle.room_wire.specs.Asks.EventModel.{EventModel};
 ghost use Rattle.room_wire.specs.declared.answers.code.Code.TheVariants.{Delay, RetryUncached};
 ghost use Rattle.room_wire.specs.Messages.MessageModel.{MessageModel};
 ghost use Rattle.room_wire.specs.Serving.Outputs.{Outputs};
 ghost use Rattle.room_desk.specs.AnswerModel.{AnswerModel, Refused};
-ghost use Rattle.room_desk.specs.Crashes.{LeavesNew};
 ghost use Rattle.room_desk.specs.History.{History, answer_to, changes_rows, leaves_no_reply};
 ghost use Rattle.room_desk.specs.Representation.{StandsFor, InTurn, Run};
 ghost use Rattle.room_desk.specs.Serving.{EventAnswered, MayAnswer};

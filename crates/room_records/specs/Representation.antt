@@ -3,13 +3,13 @@ use Rattle.std.specs.Prelude.{◌≡◌, ℕ, ◌+◌, List, [], ◌∷◌, reve
 use Rattle.room_acl.specs.Entries.{EntryModel}
 use Rattle.room_records.specs.declared.node.Node.{Node}
 use Rattle.room_records.specs.Names.{Name, Path}
-use Rattle.room_records.specs.Records.{ObjectRecords}
+use Rattle.room_records.specs.Records.{ObjectRecords, root_number}
 use Rattle.room_records.specs.Rules.{ObjectRules}
 use Rattle.room_records.specs.Room.{Object, Room, IsRoom, object_at, list_of}
 
 -- reading names upwards by parent numbers gives these
 abbrev pub NamesUpwards : ObjectRecords → List Name → ℕ → Type 0
-NamesUpwards t [] id = id ≡ 1
+NamesUpwards t [] id = id ≡ root_number
 NamesUpwards t (name ∷ above) id =
     (node : Node) × (parent : ℕ) × (t.node id ≡ Some node) × (node.name ≡ Some name)
     × (node.parent ≡ Some parent) × NamesUpwards t above parent

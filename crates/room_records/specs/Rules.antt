@@ -5,9 +5,9 @@ use Rattle.room_records.specs.declared.node.Node.{Node}
 use Rattle.room_records.specs.declared.session.SessionRow.{SessionRow}
 use Rattle.room_records.specs.Limits.{max_objects}
 use Rattle.room_records.specs.Names.{Name, IsFileName}
-use Rattle.room_records.specs.Records.{ObjectRecords, Records}
+use Rattle.room_records.specs.Records.{ObjectRecords, Records, root_number}
 
--- node 1 is a folder without parent and name
+-- the root is a folder without parent and name
 pub record IsRoot (node : Node) : Type 0 where
   pub no_parent : node.parent ≡ None
   pub no_name : node.name ≡ None
@@ -26,9 +26,9 @@ pub record IsBelow (nodes : ℕ → Option Node) (node : Node) : Type 0 where
 
 -- the rules on nodes alone
 pub record NodeRules (nodes : ℕ → Option Node) : Type 0 where
-  pub root : IfSome (nodes 1) IsRoot
-  pub has_root : IsSome (nodes 1)
-  pub below : (id : ℕ) (node : Node) → nodes id ≡ Some node → id ≢ 1 → IsBelow nodes node
+  pub root : IfSome (nodes root_number) IsRoot
+  pub has_root : IsSome (nodes root_number)
+  pub below : (id : ℕ) (node : Node) → nodes id ≡ Some node → id ≢ root_number → IsBelow nodes node
   -- a name stands once in a folder
   pub once : (a b : Node) → nodes a.id ≡ Some a → nodes b.id ≡ Some b
       → a.parent ≡ b.parent → a.name ≡ b.name → a.id ≡ b.id

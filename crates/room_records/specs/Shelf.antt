@@ -37,7 +37,7 @@ fault_in (Err fault) = Some fault
 
 -- the frame of a call, by the fault that it answered, if any: the store is no better than it was, what it is laid out
 -- for stays, an answer other than a fault comes while the store is there, the count of failures rises exactly where the
--- call answers Store, and a fault changes no record
+-- call answers Store, unless it is no longer kept, and a fault changes no record
 pub record ShelfCall (old new : View) (fault : Option ShelfFault) : Type 0 where
   pub was_intact : new.is_intact → old.is_intact
   pub was_available : new.is_available → old.is_available
@@ -53,6 +53,14 @@ pub record ShelfRead (old new : View) (fault : Option ShelfFault) : Type 0 where
   pub call : ShelfCall old new fault
   pub same : new.is_available → old.is_laid_out → new.records ≡ old.records
   pub crash : (left : Records) → new.crash_may_leave left → old.crash_may_leave left
+
+-- a crash leaves what it could leave before, or records like these
+abbrev pub LeavesOldOrNew : View → View → (Records → Type 0) → Type 0
+LeavesOldOrNew old new Made = (left : Records) → new.crash_may_leave left → old.crash_may_leave left ⊎ Made left
+
+-- a crash leaves records like these, and no others
+abbrev pub LeavesNew : View → (Records → Type 0) → Type 0
+LeavesNew new Made = (left : Records) → new.crash_may_leave left → Made left
 
 -- what a read tells of the records, while the store is there and laid out
 abbrev pub Tells : {T : Type 0} → View → View → Result T ShelfFault → (Records → T → Type 0) → Type 0

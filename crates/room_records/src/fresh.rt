@@ -5,16 +5,16 @@ ghost use Rattle.room_acl.specs.Entries.{names_its_kind};
 ghost use Rattle.room_records.specs.Room.{fresh_entry, fresh_entries};
 ghost use Rattle.room_records.specs.Fresh.{fresh_root};
 
-use crate::node::Node;
+use crate::node::{Node, ROOT};
 use room_acl::{Entry, Flags, Kind, ListFlags, Mask, Principal, Who};
 use std::alloc::{AllocError, Global};
 
-/// The root folder of a fresh room, of this owner and group: node 1, without list flags.
+/// The root folder of a fresh room, of this owner and group, without list flags.
 pub fn fresh_root(owner: Principal, group: Principal) -> Node
     ensures { result ≡ fresh_root owner group }
 {
     Node {
-        id: 1,
+        id: ROOT,
         parent: None,
         name: None,
         kind: Kind::Folder,

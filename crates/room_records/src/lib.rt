@@ -23,7 +23,7 @@ pub use limits::{
 };
 pub use mem::MemShelf;
 pub use names::{FileName, Path, Sid, SlotCount};
-pub use node::{Node, copy_names};
+pub use node::{Node, ROOT, copy_names};
 pub use roster::Roster;
 pub use session::{SessionRow, SlotRow};
 pub use shelf::{Shelf, ShelfFault};

@@ -144,11 +144,7 @@ impl Path {
     pub fn clone(&self) -> Result<Path, AllocError>
         ensures { IfOk result (λ copy. copy ≡ self.now) }
     {
-        let alloc = *self.names.allocator();
-        let mut names = Vec::new(alloc);
-        for name in &self.names {
-            names.push(name.clone()?)?;
-        }
+        let names = copied_names(*self.names.allocator(), self.names.as_slice())?;
         Ok(Path { names })
     }
 

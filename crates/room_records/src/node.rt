@@ -7,7 +7,10 @@ use crate::names::FileName;
 use room_acl::{Kind, ListFlags, Principal};
 use std::alloc::{AllocError, Global};
 
-/// A folder or a file. The root has number 1, no parent and no name.
+/// The number of the root.
+pub const ROOT: u32 = 1;
+
+/// A folder or a file. The root has no parent and no name.
 #[derive(Debug, Drop)]
 pub struct Node {
     pub id: u32,

@@ -1,11 +1,10 @@
 //! The shelf that keeps the rows.
-ghost use Rattle.std.specs.Prelude.{◌≡◌, ◌⊎◌, [], length, unwrap_or, OnOk};
+ghost use Rattle.std.specs.Prelude.{◌≡◌, [], length, unwrap_or, OnOk};
 ghost use Rattle.room_acl.specs.Access.{decision};
-ghost use Rattle.room_records.specs.Records.{Records};
 ghost use Rattle.room_records.specs.Rules.{NodeRules};
 ghost use Rattle.room_records.specs.Changes.{apply_changes, RulesHoldAfterEach, Untouched};
 ghost use Rattle.room_records.specs.Shelf.{View, ShelfCall, ShelfRead, Tells, fault_in, AreChildren};
-ghost use Rattle.room_records.specs.Shelf.{AreNames, IsChildCount, IsChildNamed};
+ghost use Rattle.room_records.specs.Shelf.{AreNames, IsChildCount, IsChildNamed, LeavesOldOrNew, LeavesNew};
 ghost use Rattle.room_slots.specs.Slots.{kept_seq};
 
 use crate::change::Change;
@@ -21,7 +20,8 @@ use std::alloc::AllocError;
 pub enum ShelfFault {
     /// Memory was refused.
     Memory,
-    /// The store failed. It comes only where the count of failures rose in that call.
+    /// The store failed. It comes only where the count of failures rose in that call, or stands at 2^64 - 1, where it
+    /// is no longer kept.
     Store,
 }
 
@@ -83,15 +83,16 @@ pub trait Shelf {
         ensures there { (view self.new).is_intact → OnOk result (view self.new).is_available }
         ensures frame { ShelfRead (view self.old) (view self.new) (fault_in result) };
 
-    /// The entries of an object, in order of place. None where the object is not there.
+    /// The entries of an object, in order of place. By the rules on records, and by nothing else, there are none where
+    /// the object is not there.
     fn entries(&mut self, id: u32) -> Result<Vec<Entry>, ShelfFault>
         ensures value { Tells (view self.old) (view self.new) result
             (λ records found. found.items ≡ records.objects.entries id) }
         ensures there { (view self.new).is_intact → OnOk result (view self.new).is_available }
         ensures frame { ShelfRead (view self.old) (view self.new) (fault_in result) };
 
-    /// What the object's entries, in order of place, decide of these rights. No entry stands where the object is not
-    /// there.
+    /// What the object's entries, in order of place, decide of these rights. By the rules on records, and by nothing
+    /// else, there are none where the object is not there.
     fn decide_at(
         &mut self,
         id: u32,
@@ -155,11 +156,11 @@ pub trait Shelf {
             OnOk result ((view self.new).records ≡ apply_changes changes.now (view self.old).records) }
         ensures settled { (view self.new).is_intact → (view self.old).is_laid_out
             → RulesHoldAfterEach changes.now (view self.old).records →
-            OnOk result ((left : Records) → (view self.new).crash_may_leave left
-            → left ≡ apply_changes changes.now (view self.old).records) }
+            OnOk result (LeavesNew (view self.new)
+            (λ left. left ≡ apply_changes changes.now (view self.old).records)) }
         ensures crash { (view self.old).is_laid_out → RulesHoldAfterEach changes.now (view self.old).records →
-            (left : Records) → (view self.new).crash_may_leave left →
-            (view self.old).crash_may_leave left ⊎ (left ≡ apply_changes changes.now (view self.old).records) }
+            LeavesOldOrNew (view self.old) (view self.new)
+            (λ left. left ≡ apply_changes changes.now (view self.old).records) }
         ensures untouched { (view self.new).is_intact → (view self.old).is_laid_out →
             OnOk result (Untouched changes.now (view self.old).records (view self.new).records) };
 

@@ -71,13 +71,12 @@ impl<S: Shelf> TripShelf<S> {
 }
 
 impl<S: Shelf> Shelf for TripShelf<S> {
-    ghost use Rattle.std.specs.Prelude.{◌≡◌, ◌⊎◌, [], length, unwrap_or, OnOk};
+    ghost use Rattle.std.specs.Prelude.{◌≡◌, [], length, unwrap_or, OnOk};
     ghost use Rattle.room_acl.specs.Access.{decision};
-    ghost use Rattle.room_records.specs.Records.{Records};
     ghost use Rattle.room_records.specs.Rules.{NodeRules};
     ghost use Rattle.room_records.specs.Changes.{apply_changes, RulesHoldAfterEach, Untouched};
     ghost use Rattle.room_records.specs.Shelf.{ShelfCall, ShelfRead, Tells, fault_in, AreChildren};
-    ghost use Rattle.room_records.specs.Shelf.{AreNames, IsChildCount, IsChildNamed};
+    ghost use Rattle.room_records.specs.Shelf.{AreNames, IsChildCount, IsChildNamed, LeavesOldOrNew, LeavesNew};
     ghost use Rattle.room_slots.specs.Slots.{kept_seq};
     ghost use Rattle.room_records.specs.Trip.{TripCall, trip_view};
 
@@ -269,13 +268,12 @@ impl<S: Shelf> Shelf for TripShelf<S> {
             ≡ apply_changes changes.now (trip_view S.view self.old).records) }
         ensures settled { (trip_view S.view self.new).is_intact → (trip_view S.view self.old).is_laid_out
             → RulesHoldAfterEach changes.now (trip_view S.view self.old).records →
-            OnOk result ((left : Records) → (trip_view S.view self.new).crash_may_leave left
-            → left ≡ apply_changes changes.now (trip_view S.view self.old).records) }
+            OnOk result (LeavesNew (trip_view S.view self.new)
+            (λ left. left ≡ apply_changes changes.now (trip_view S.view self.old).records)) }
         ensures crash { (trip_view S.view self.old).is_laid_out
             → RulesHoldAfterEach changes.now (trip_view S.view self.old).records →
-            (left : Records) → (trip_view S.view self.new).crash_may_leave left →
-            (trip_view S.view self.old).crash_may_leave left
-            ⊎ (left ≡ apply_changes changes.now (trip_view S.view self.old).records) }
+            LeavesOldOrNew (trip_view S.view self.old) (trip_view S.view self.new)
+            (λ left. left ≡ apply_changes changes.now (trip_view S.view self.old).records) }
         ensures untouched { (trip_view S.view self.new).is_intact → (trip_view S.view self.old).is_laid_out →
             OnOk result (Untouched changes.now (trip_view S.view self.old).records
             (trip_view S.view self.new).records) }

@@ -20,7 +20,8 @@ use std::io::Write;
 pub enum ReportFault {
     /// Memory was refused.
     Memory,
-    /// The shelf failed. It comes only where the shelf's count of failures rose in the call.
+    /// The shelf failed. It comes only where the shelf's count of failures rose in the call, or stands at 2^64 - 1,
+    /// where it is no longer kept.
     Store,
     /// A write failed, or took no byte.
     WriteFailed,

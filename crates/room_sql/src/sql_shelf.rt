@@ -106,15 +106,14 @@ fn or_fault<T>(
 }
 
 impl<S: Alter> Shelf for SqlShelf<S> {
-    ghost use Rattle.std.specs.Prelude.{◌≡◌, ◌⊎◌, [], ◌∷◌, length, pos, unwrap_or, OnOk};
+    ghost use Rattle.std.specs.Prelude.{◌≡◌, [], ◌∷◌, length, pos, unwrap_or, OnOk};
     ghost use Rattle.std.specs.List.{AllByRecursion};
     ghost use Rattle.sqlite_value.specs.declared.value.Value.TheVariants.{Int, Text};
     ghost use Rattle.room_acl.specs.Access.{decision};
-    ghost use Rattle.room_records.specs.Records.{Records};
     ghost use Rattle.room_records.specs.Rules.{NodeRules};
     ghost use Rattle.room_records.specs.Changes.{apply_changes, RulesHoldAfterEach, Untouched};
     ghost use Rattle.room_records.specs.Shelf.{ShelfCall, ShelfRead, Tells, fault_in, AreChildren};
-    ghost use Rattle.room_records.specs.Shelf.{AreNames, IsChildCount, IsChildNamed};
+    ghost use Rattle.room_records.specs.Shelf.{AreNames, IsChildCount, IsChildNamed, LeavesOldOrNew, LeavesNew};
     ghost use Rattle.room_slots.specs.Slots.{kept_seq};
     ghost use Rattle.room_tables.specs.Texts.{find_node_text, find_child_text, list_children_text, count_children_text};
     ghost use Rattle.room_tables.specs.Texts.{list_entries_text, find_doc_text, find_session_text, find_slot_text};
@@ -345,13 +344,12 @@ impl<S: Alter> Shelf for SqlShelf<S> {
             ≡ apply_changes changes.now (sql_view S.Store self.old).records) }
         ensures settled { (sql_view S.Store self.new).is_intact → (sql_view S.Store self.old).is_laid_out
             → RulesHoldAfterEach changes.now (sql_view S.Store self.old).records →
-            OnOk result ((left : Records) → (sql_view S.Store self.new).crash_may_leave left
-            → left ≡ apply_changes changes.now (sql_view S.Store self.old).records) }
+            OnOk result (LeavesNew (sql_view S.Store self.new)
+            (λ left. left ≡ apply_changes changes.now (sql_view S.Store self.old).records)) }
         ensures crash { (sql_view S.Store self.old).is_laid_out
             → RulesHoldAfterEach changes.now (sql_view S.Store self.old).records →
-            (left : Records) → (sql_view S.Store self.new).crash_may_leave left →
-            (sql_view S.Store self.old).crash_may_leave left
-            ⊎ (left ≡ apply_changes changes.now (sql_view S.Store self.old).records) }
+            LeavesOldOrNew (sql_view S.Store self.old) (sql_view S.Store self.new)
+            (λ left. left ≡ apply_changes changes.now (sql_view S.Store self.old).records) }
         ensures untouched { (sql_view S.Store self.new).is_intact → (sql_view S.Store self.old).is_laid_out →
             OnOk result (Untouched changes.now (sql_view S.Store self.old).records
             (sql_view S.Store self.new).records) }

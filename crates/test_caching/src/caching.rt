@@ -314,6 +314,47 @@ fn a_decision_is_not_asked_again(rt: HostRuntime) -> Result<(), Fail> {
     done
 }
 
+/// The text of a session's name, by its number.
+fn sid_text(alloc: Global, at: u32) -> Result<String, Fail> {
+    Ok(format!(in alloc; "{at:032x}")?)
+}
+
+/// The numbers of the 16 slots of 16 sessions: as many as are remembered.
+fn read_numbers<S: Shelf>(alloc: Global, shelf: &mut S) -> Result<(), Fail> {
+    for at in 0..16 {
+        let sid = session_name(alloc, sid_text(alloc, at)?.as_str())?;
+        for slot in 0..16 {
+            must(shelf.slot_seq(&sid, slot)? == Some(9), "the number")?;
+        }
+    }
+    Ok(())
+}
+
+/// Each number reaches the shelf inside once, and so does what a slot keeps, which tells a number that is remembered
+/// already. The call behind them fails.
+fn stays_full<S: Shelf>(alloc: Global, shelf: &mut S) -> Result<(), Fail> {
+    let sid = session_name(alloc, sid_text(alloc, 3)?.as_str())?;
+    read_numbers(alloc, shelf)?;
+    must(shelf.slot(&sid, 5)?.is_some(), "what is kept")?;
+    read_numbers(alloc, shelf)?;
+    must(shelf.doc(1).is_err(), "the 258th call")
+}
+
+#[test]
+fn a_row_that_is_remembered_takes_no_place_of_others(rt: HostRuntime) -> Result<(), Fail> {
+    let alloc = rt.alloc();
+    let mut inner = in_memory(alloc)?;
+    for at in 0..256 {
+        let sid = sid_text(alloc, at / 16)?;
+        let row = slot_row(alloc, sid.as_str(), at % 16, 9, None)?;
+        commit(&mut inner, vec![in alloc; row]?)?;
+    }
+    let mut shelf = CachedShelf::new(alloc, TripShelf::new(inner, 258));
+    let done = stays_full(alloc, &mut shelf);
+    let _ = shelf.into_inner().into_inner();
+    done
+}
+
 /// A session's row, the root's names and two nodes in it, which memory can answer.
 fn read_rows<S: Shelf>(asker: &Asker, shelf: &mut S) -> Result<(), Fail> {
     let alloc = asker.alloc;

@@ -12,6 +12,7 @@ use crate::fresh::{fresh_entries, fresh_root};
 use crate::mem::MemShelf;
 use crate::mem::nodes::NodeIndex;
 use crate::mem::sessions::Sessions;
+use crate::node::ROOT;
 use crate::table::Table;
 use room_acl::Principal;
 use std::alloc::{AllocError, Global};
@@ -31,7 +32,7 @@ impl MemShelf {
         shelf.nodes.reserve(&root)?;
         shelf.entries.reserve(1)?;
         shelf.nodes.add(root);
-        let _ = shelf.entries.put(&1, entries);
+        let _ = shelf.entries.put(&ROOT, entries);
         Ok(shelf)
     }
 
