@@ -1,5 +1,5 @@
 -- The frames of calls.
-use Rattle.std.proofs.Common.{◌≡◌, ◌∙◌, Bool, true, false, Vec, Result, Ok, Err, IfOk, IfErr, IsErr, OnOk, IsTrue}
+use Rattle.std.proofs.Common.{◌≡◌, ◌∙◌, Bool, true, false, Vec, Result, Ok, Err, IfOk, IfErr, IsErr, OnOk}
 use Rattle.std.proofs.Common.{refl, ap, arith}
 use Rattle.std.specs.declared.alloc.Global.{Global}
 use Rattle.std.specs.Prelude.{List, ℕ}
@@ -108,16 +108,14 @@ module _ {S : Type 0} {store : Ghosts S} where
 
 module _ {S : Type 0} {store : Ghosts S} {Commits : Database → Trees → Type 0} where
   -- a query, and then a call that makes a transaction and ends it
-  pub committed_then : {T U : Type 0} {a d : Held S} {mid : State} {q : Result T Error} {r : Result U Error}
-      {P : Trees → Type 0} → QueryFrame (state store a) mid q → d.in_transaction ≡ false
-      → (HasCleanDisk (state store d) → OnOk r ((state store d).committed ≡ (state store d).now))
-      → (HasCleanDisk (state store d) → IsTrue (state store d).is_open → IsTrue mid.is_open)
-      → Survives mid (state store d) P
-      → (HasCleanDisk (state store d) → (db : Trees) → P db → Commits (state store a).now db)
+  pub committed_then : {T U : Type 0} {a mid d : Held S} {q : Result T Error} {r : Result U Error}
+      {Later : Database → Trees → Type 0} → QueryFrame (state store a) (state store mid) q
+      → CommitFrame store Later mid d r
+      → (HasCleanDisk (state store d) → (db : Trees) → Later (state store mid).now db → Commits (state store a).now db)
       → CommitFrame store Commits a d r
-  committed_then frame mode settled was_open survives may = record {
-    mode = mode;
-    settled = settled;
-    was_open = λ clean is. frame.was_open (was_clean survives clean) (was_open clean is);
-    crash = survives_then _ _ _ _ _ _ (λ clean db none. absurd none) may frame.crash survives;
+  committed_then early late may = record {
+    mode = late.mode;
+    settled = late.settled;
+    was_open = λ clean is. early.was_open (was_clean late.crash clean) (late.was_open clean is);
+    crash = survives_then _ _ _ _ _ _ (λ clean db none. absurd none) may early.crash late.crash;
   }

@@ -21,7 +21,7 @@ use Rattle.room_tables.proofs.Effects.{steps_change_doc, steps_add_doc, doc_chan
 use Rattle.room_tables.proofs.Effects.{SetsNext, change_sets_next, add_sets_next}
 use Rattle.room_tables.proofs.Effects.{row_of_node, params_of_node, node_changed, steps_change_node}
 use Rattle.room_tables.proofs.Effects.{steps_change_or_add, left_then_added}
-use Rattle.room_sql.specs.Causes.{statement_or, Ran, RunInTurn, slot_write, doc_write, next_write}
+use Rattle.room_sql.specs.Causes.{statement_or, RanStatement, RunInTurn, slot_write, doc_write, next_write}
 
 module _ {S : Type 0} (store : Ghosts S) where
   -- a text ran, and changed so many rows
@@ -37,7 +37,7 @@ module _ {S : Type 0} (store : Ghosts S) where
   or_ran {P = P} text other args a b (inl failed) one two = absurd (let bad = failed.1 in cc)
   or_ran {P = P} text other args a b (inr on) one two = by_count on.1 on.2
     where
-      by_count : (count : ℕ) → Ran store (statement_or text other args) a on.0 (Ok count) → P
+      by_count : (count : ℕ) → RanStatement store (statement_or text other args) a on.0 (Ok count) → P
       by_count zero (inl ran) = absurd (ran.1 refl)
       by_count (suc n) (inl ran) = one n (rw on.3.1 ran.0.runs)
       by_count count (inr ran) = two ran.0 count ran.1.runs (rw on.3.1 ran.2.runs)

@@ -174,15 +174,15 @@ module _ {S : Type 0} (store : Ghosts S) where
       ⊎ ((mid : Held S) × RanText text args old mid (Ok 0) × RanText other args mid new outcome)
 
   -- one statement ran
-  abbrev pub Ran : Statement → Held S → Held S → Result ℕ Error → Type 0
-  Ran s old new outcome = RanOr s.otherwise s.text s.args old new outcome
+  abbrev pub RanStatement : Statement → Held S → Held S → Result ℕ Error → Type 0
+  RanStatement s old new outcome = RanOr s.otherwise s.text s.args old new outcome
 
   -- the statements ran in turn inside a transaction, up to the first that failed
   unfoldable pub RunInTurn : List Statement → Held S → Held S → Result (Unit {0}) Error → Type 0
   RunInTurn [] old new outcome = (outcome ≡ Ok tt) × (new ≡ old)
   RunInTurn (s ∷ more) old new outcome =
-      ((e : Error) × (outcome ≡ Err e) × Ran s old new (Err e))
-      ⊎ ((mid : Held S) × (count : ℕ) × Ran s old mid (Ok count) × RunInTurn more mid new outcome)
+      ((e : Error) × (outcome ≡ Err e) × RanStatement s old new (Err e))
+      ⊎ ((mid : Held S) × (count : ℕ) × RanStatement s old mid (Ok count) × RunInTurn more mid new outcome)
 
   -- as a transaction begins
   abbrev pub begun : Held S → Held S

@@ -10,6 +10,7 @@ use Rattle.room_acl.specs.Bits.{IsListFlags, IsFlags, IsMask}
 use Rattle.room_acl.specs.Entries.{who_from, names_its_kind}
 use Rattle.room_acl.specs.Principals.{IsPrincipal}
 use Rattle.room_records.specs.Names.{IsFileName, is_sid}
+use Rattle.room_records.specs.Limits.{IsSlotCount}
 use Rattle.room_tables.specs.Names.{most}
 use Rattle.room_tables.specs.Rows.{number_in, text_in}
 
@@ -59,7 +60,7 @@ HasWho flags at row = HasText at row × (who : Who)
     × (who_from flags (text_in (column row at)) ≡ Some who) × IsTrue (names_its_kind flags who)
 
 abbrev pub HasSlots : ℕ → Row → Type 0
-HasSlots at row = HasNumber at row × (1 ≤ number_in (column row at)) × (number_in (column row at) ≤ 16)
+HasSlots at row = HasNumber at row × IsSlotCount (number_in (column row at))
 
 abbrev pub HasPrincipal : ℕ → Row → Type 0
 HasPrincipal at row = HasText at row × IsPrincipal (text_in (column row at))

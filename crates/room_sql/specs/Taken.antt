@@ -29,7 +29,7 @@ abbrev pub MayBeTaken : State → Trees → Type 0
 MayBeTaken old trees = SaysFirst old × MayBeUpgraded old.now trees
 
 -- nothing was committed, and what is seen is as it was
-pub record IsLeft (old new : State) : Type 0 where
+pub record IsAsBefore (old new : State) : Type 0 where
   pub same : HasCleanDisk new → IsTrue new.is_open → new.now ≡ old.now
   pub crash : Survives old new (λ _. ⊥)
 

@@ -11,7 +11,7 @@ ghost use Rattle.room_tables.specs.Tables.{has_columns, has_five, has_slots, has
 ghost use Rattle.room_tables.specs.Rows.{version_rows, IsVersion};
 ghost use Rattle.room_tables.specs.Texts.{find_version_text};
 ghost use Rattle.room_tables.specs.Versions.{TellsVersion};
-ghost use Rattle.room_sql.specs.Taken.{IsTaken, MayBeTaken, IsLeft, HasItsVersion, HasAnotherVersion};
+ghost use Rattle.room_sql.specs.Taken.{IsTaken, MayBeTaken, IsAsBefore, HasItsVersion, HasAnotherVersion};
 ghost use Rattle.room_sql.specs.Causes.{CannotTake};
 ghost use Rattle.room_tables.specs.Fresh.{IsFreshRoom, MayBeMade};
 ghost use Rattle.room_sql.specs.Frames.{QueryFrame, QueryAnswered};
@@ -245,9 +245,9 @@ impl<S: Alter> SqlShelf<S> {
             × (((e.0 ≡ OpenFault.Memory) × (error ≡ Error.SqliteFailure ErrorCode.OutOfMemory))
             ⊎ ((e.0 ≡ OpenFault.Store) × (error ≢ Error.SqliteFailure ErrorCode.OutOfMemory)))) }
         ensures again { IsTrue (has_room connection.schema)
-            → IfOk result (λ shelf. IsLeft (state S.Store connection) (state S.Store shelf.conn)) }
+            → IfOk result (λ shelf. IsAsBefore (state S.Store connection) (state S.Store shelf.conn)) }
         ensures left { IfErr result (λ e. IsTrue (has_room connection.schema) ⊎ (e.0 ≡ OpenFault.NotARoom)
-            → IsLeft (state S.Store connection) (state S.Store e.1)) }
+            → IsAsBefore (state S.Store connection) (state S.Store e.1)) }
         ensures unchanged { IfErr result (λ e. HasCleanDisk (state S.Store e.1)
             → IsTrue (state S.Store e.1).is_open → (state S.Store e.1).now ≡ (state S.Store connection).now) }
         ensures started { IfOk result (λ shelf. shelf.failures ≡ 0) }

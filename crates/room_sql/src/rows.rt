@@ -10,6 +10,7 @@ ghost use Rattle.room_tables.specs.Rows.{number_in, text_in, name_of_text, name_
 ghost use Rattle.room_tables.specs.Rows.{kind_of, who_of, only, node_of, entry_of, doc_of, session_of, kept_of};
 ghost use Rattle.room_tables.specs.Rows.{listed_of, seq_of, size_in, HasEntryColumns};
 ghost use Rattle.room_tables.specs.Names.{counted_row};
+ghost use Rattle.room_tables.specs.Steps.{flag_of};
 ghost use Rattle.room_sql.specs.Columns.{IsFault, HasNumber, HasText, HasBytes, HasReply, HasParent, HasFlag};
 ghost use Rattle.room_sql.specs.Columns.{HasListFlags, HasCount, IsNameRow};
 ghost use Rattle.room_sql.specs.Columns.{HasSlots, HasPrincipal, IsNameText, HasName, HasFlags, HasMask, IsNodeRow};
@@ -20,17 +21,11 @@ use room_acl::{Entry, Flags, Kind, ListFlags, Mask, Principal, Who};
 use room_records::{FileName, Node, SessionRow, Sid, SlotCount};
 use room_slots::Kept;
 use sqlite::{Error, ErrorCode, Row};
-use std::alloc::{AllocError, Global};
+use std::alloc::Global;
 
 /// What a row that is no value of its type is answered with.
 pub(crate) fn bad_value() -> Error {
     Error::SqliteFailure(ErrorCode::TypeMismatch)
-}
-
-pub(crate) fn no_memory(_: AllocError) -> Error
-    ensures { result ≡ Error.SqliteFailure ErrorCode.OutOfMemory }
-{
-    Error::SqliteFailure(ErrorCode::OutOfMemory)
 }
 
 fn number_at(row: &Row, at: usize) -> Result<u32, Error>
@@ -52,11 +47,7 @@ fn principal_at(alloc: Global, row: &Row, at: usize) -> Result<Principal, Error>
     ensures refused { IfErr result (λ e. IsFault e → ¬ HasPrincipal at row.now) }
 {
     let text = text_at(row, at)?;
-    match Principal::new(alloc, text.as_str()) {
-        Ok(Some(name)) => Ok(name),
-        Ok(None) => Err(bad_value()),
-        Err(error) => Err(no_memory(error)),
-    }
+    Principal::new(alloc, text.as_str())?.ok_or(bad_value())
 }
 
 fn parent_at(row: &Row, at: usize) -> Result<Option<u32>, Error>
@@ -74,10 +65,9 @@ fn name_from(alloc: Global, text: &str) -> Result<Option<FileName>, Error>
     if text.is_empty() {
         return Ok(None);
     }
-    match FileName::new(alloc, text) {
-        Ok(Some(name)) => Ok(Some(name)),
-        Ok(None) => Err(bad_value()),
-        Err(error) => Err(no_memory(error)),
+    match FileName::new(alloc, text)? {
+        Some(name) => Ok(Some(name)),
+        None => Err(bad_value()),
     }
 }
 
@@ -89,18 +79,28 @@ fn name_at(alloc: Global, row: &Row, at: usize) -> Result<Option<FileName>, Erro
     name_from(alloc, text.as_str())
 }
 
+/// A number that is 0 or 1: whether it is 1.
+fn flag_at(row: &Row, at: usize) -> Result<bool, Error>
+    ensures value { IfOk result (λ flag. flag ≡ (number_in (column row.now at) == 1)) }
+    ensures typed { IfOk result (λ flag. column row.now at ≡ Int (pos (flag_of flag))) }
+    ensures refused { IfErr result (λ e. IsFault e → ¬ HasFlag at row.now) }
+{
+    match number_at(row, at)? {
+        0 => Ok(false),
+        1 => Ok(true),
+        _ => Err(bad_value()),
+    }
+}
+
 fn kind_at(row: &Row, at: usize) -> Result<Kind, Error>
     ensures value { IfOk result (λ kind. kind ≡ kind_of (number_in (column row.now at))) }
     ensures refused { IfErr result (λ e. IsFault e → ¬ HasFlag at row.now) }
 {
-    let number = number_at(row, at)?;
-    if number == 1 {
-        Ok(Kind::Folder)
-    } else if number == 0 {
-        Ok(Kind::File)
+    Ok(if flag_at(row, at)? {
+        Kind::Folder
     } else {
-        Err(bad_value())
-    }
+        Kind::File
+    })
 }
 
 fn list_flags_at(row: &Row, at: usize) -> Result<ListFlags, Error>
@@ -111,10 +111,7 @@ fn list_flags_at(row: &Row, at: usize) -> Result<ListFlags, Error>
     let Ok(bits) = u8::try_from(number) else {
         return Err(bad_value());
     };
-    match ListFlags::new(bits) {
-        Some(flags) => Ok(flags),
-        None => Err(bad_value()),
-    }
+    ListFlags::new(bits).ok_or(bad_value())
 }
 
 /// The node of a row that shows number, parent, name, kind, owner, group and list flags.
@@ -140,33 +137,13 @@ pub(crate) fn node_of(alloc: Global, row: &Row) -> Result<Node, Error>
     })
 }
 
-fn flag_at(row: &Row, at: usize) -> Result<bool, Error>
-    ensures value { IfOk result (λ flag. flag ≡ (number_in (column row.now at) == 1)) }
-    ensures refused { IfErr result (λ e. IsFault e → ¬ HasFlag at row.now) }
-{
-    let number = number_at(row, at)?;
-    if number == 1 {
-        Ok(true)
-    } else if number == 0 {
-        Ok(false)
-    } else {
-        Err(bad_value())
-    }
-}
-
+/// Whether an entry allows: its type is 0 then.
 fn allow_at(row: &Row, at: usize) -> Result<bool, Error>
     ensures value { IfOk result (λ allow. allow ≡ (number_in (column row.now at) == 0)) }
     ensures typed { IfOk result (λ _. column row.now at ≡ Int (pos (number_in (column row.now at)))) }
     ensures refused { IfErr result (λ e. IsFault e → ¬ HasFlag at row.now) }
 {
-    let number = number_at(row, at)?;
-    if number == 0 {
-        Ok(true)
-    } else if number == 1 {
-        Ok(false)
-    } else {
-        Err(bad_value())
-    }
+    Ok(!flag_at(row, at)?)
 }
 
 fn flags_at(row: &Row, at: usize) -> Result<Flags, Error>
@@ -177,10 +154,7 @@ fn flags_at(row: &Row, at: usize) -> Result<Flags, Error>
     let Ok(bits) = u8::try_from(number) else {
         return Err(bad_value());
     };
-    match Flags::new(bits) {
-        Some(flags) => Ok(flags),
-        None => Err(bad_value()),
-    }
+    Flags::new(bits).ok_or(bad_value())
 }
 
 fn mask_at(row: &Row, at: usize) -> Result<Mask, Error>
@@ -188,10 +162,7 @@ fn mask_at(row: &Row, at: usize) -> Result<Mask, Error>
     ensures refused { IfErr result (λ e. IsFault e → ¬ HasMask at row.now) }
 {
     let number = number_at(row, at)?;
-    match Mask::new(number) {
-        Some(mask) => Ok(mask),
-        None => Err(bad_value()),
-    }
+    Mask::new(number).ok_or(bad_value())
 }
 
 fn who_from(alloc: Global, flags: Flags, text: &str) -> Result<Who, Error>
@@ -199,11 +170,7 @@ fn who_from(alloc: Global, flags: Flags, text: &str) -> Result<Who, Error>
     ensures found { IfOk result (λ who. who_from flags text.now ≡ Some who) }
     ensures refused { IfErr result (λ e. IsFault e → who_from flags text.now ≡ None) }
 {
-    match Who::read(alloc, flags, text) {
-        Ok(Some(who)) => Ok(who),
-        Ok(None) => Err(bad_value()),
-        Err(error) => Err(no_memory(error)),
-    }
+    Who::read(alloc, flags, text)?.ok_or(bad_value())
 }
 
 /// The entry of a row that shows place, type, flags, mask and whom it names.
@@ -218,10 +185,7 @@ pub(crate) fn entry_of(alloc: Global, row: &Row) -> Result<Entry, Error>
     let mask = mask_at(row, 3)?;
     let text = text_at(row, 4)?;
     let who = who_from(alloc, flags, text.as_str())?;
-    match Entry::new(allow, flags, mask, who) {
-        Some(entry) => Ok(entry),
-        None => Err(bad_value()),
-    }
+    Entry::new(allow, flags, mask, who).ok_or(bad_value())
 }
 
 pub(crate) fn all_entries(alloc: Global, rows: &[Row]) -> Result<Vec<Entry>, Error>
@@ -303,7 +267,7 @@ pub(crate) fn one_count(rows: &[Row]) -> Result<u64, Error>
     match rows {
         [row] => {
             let count: u64 = row.get(0)?;
-            if count < 9_223_372_036_854_775_807 {
+            if count < i64::MAX as u64 {
                 Ok(count)
             } else {
                 Err(bad_value())
@@ -329,21 +293,14 @@ fn slot_count_at(row: &Row, at: usize) -> Result<SlotCount, Error>
     ensures refused { IfErr result (λ e. IsFault e → ¬ HasSlots at row.now) }
 {
     let number = number_at(row, at)?;
-    match SlotCount::new(number) {
-        Some(slots) => Ok(slots),
-        None => Err(bad_value()),
-    }
+    SlotCount::new(number).ok_or(bad_value())
 }
 
 fn sid_copy(alloc: Global, sid: &Sid) -> Result<Sid, Error>
     ensures value { IfOk result (λ copy. copy ≡ sid.now) }
     ensures refused { IfErr result (λ e. IsFault e → ¬ IsTrue (is_sid sid.now)) }
 {
-    match Sid::new(alloc, sid.text()) {
-        Ok(Some(copy)) => Ok(copy),
-        Ok(None) => Err(bad_value()),
-        Err(error) => Err(no_memory(error)),
-    }
+    Sid::new(alloc, sid.text())?.ok_or(bad_value())
 }
 
 /// The session of a row that shows owner, slots and whether it is open.

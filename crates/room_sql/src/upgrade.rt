@@ -3,7 +3,7 @@
 ghost use Rattle.std.specs.Prelude.{◌≡◌, [], ◌∷◌, OnOk, OnErr, IfOk, IfErr, true, false, IsTrue, MatchBool};
 ghost use Rattle.sqlite_value.specs.declared.value.Value.TheVariants.{Int};
 ghost use Rattle.sqlite.specs.Effect.{Database, IsDatabase};
-ghost use Rattle.sqlite.specs.State.{HasCleanDisk, Survives};
+ghost use Rattle.sqlite.specs.State.{HasCleanDisk};
 ghost use Rattle.sqlite.specs.Held.{state};
 ghost use Rattle.room_tables.specs.Rows.{records_of};
 ghost use Rattle.room_tables.specs.Layout.{IsRoomOfVersion1};
@@ -124,13 +124,7 @@ fn move_room<S: Alter>(tx: &mut Transaction<'_, S>, next: u32) -> Result<(), Err
 /// The same in one transaction: all of it or nothing, also over a crash.
 fn commit_move<S: Alter>(conn: &mut Connection<S>, next: u32) -> Result<(), Error>
     requires { conn.old.in_transaction ≡ false }
-    ensures mode { conn.new.in_transaction ≡ false }
-    ensures settled { HasCleanDisk (state S.Store conn.new)
-        → OnOk result ((state S.Store conn.new).committed ≡ (state S.Store conn.new).now) }
-    ensures was_open { HasCleanDisk (state S.Store conn.new)
-        → IsTrue (state S.Store conn.new).is_open → IsTrue (state S.Store conn.old).is_open }
-    ensures crash { Survives (state S.Store conn.old) (state S.Store conn.new)
-        (MayBeMovedWith next (state S.Store conn.old).now) }
+    ensures frame { CommitFrame S.Store (MayBeMovedWith next) conn.old conn.new result }
     ensures ok { HasCleanDisk (state S.Store conn.new)
         → OnOk result (IsTrue (state S.Store conn.new).is_open × (IsRoomOfVersion1 (state S.Store conn.old).now →
         (records_of (state S.Store conn.old).now.trees).objects.next ≡ next →

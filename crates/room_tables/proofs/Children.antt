@@ -33,7 +33,7 @@ use Rattle.room_records.specs.Rules.{NodeRules}
 use Rattle.room_records.specs.Shelf.{AreChildren, IsChildCount, IsChildNamed, InNameOrder, name_of}
 use Rattle.room_tables.specs.Rows.{has, is_child_named, only, number_in, parent_in, name_of_text, name_in, shown_node}
 use Rattle.room_tables.specs.Rows.{node_of, nodes_in, named_rows, child_rows, records_of}
-use Rattle.room_tables.specs.Layout.{IsNumbered, IsRoomDatabase, parent_value}
+use Rattle.room_tables.specs.Layout.{HasNumbers, IsRoomDatabase, parent_value}
 use Rattle.room_tables.specs.Names.{ByName, name_key, name_keys}
 use Rattle.room_tables.proofs.Values.{has_one, has_text_value, has_not_null, has_tied, int_has, text_has}
 use Rattle.room_tables.proofs.Removed.{one_row, shown_of, is_shown}
@@ -72,7 +72,7 @@ named_back (b ∷ bytes) some = refl
 pub row_is_child : (db : Database) (p : ℕ) (r : Row) → IsRoomDatabase db → Has (db.trees 1) r
     → has 2 p r ≡ true → IsChild (records_of db.trees).objects p (node_of (shown_node r))
 row_is_child db p r room there inside =
-    let n = all_has IsNumbered (db.trees 1) r room.numbered there in
+    let n = all_has HasNumbers (db.trees 1) r room.numbered there in
     let mine : has 0 n.id r ≡ true = int_has 0 n.id r n.has_id in
     let keyed = room.keyed.node in
     let only_row =
@@ -144,7 +144,7 @@ child_shown db p rows room rules same = all_from (Shown (records_of db.trees).ob
     let shown = shown_of shown_node (has 2 p) (db.trees 1) rows same s h in
     let r = shown.0 in
     let child = row_is_child db p r room shown.1 shown.2 in
-    let n = all_has IsNumbered (db.trees 1) r room.numbered shown.1 in
+    let n = all_has HasNumbers (db.trees 1) r room.numbered shown.1 in
     let node = node_of (shown_node r) in
     let below = rules.below node.id node child.stands (λ is.
     not_root node (subst (λ i. (records_of db.trees).objects.node i ≡ Some node) is child.stands) child.inside) in

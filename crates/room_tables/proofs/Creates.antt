@@ -21,7 +21,7 @@ use Rattle.sqlite.specs.State.{State, mode_of, ExecutesInside}
 use Rattle.sqlite.proofs.Callers.{runs_as}
 use Rattle.room_tables.specs.Tables.{room_text, node_text, entry_text, doc_text, session_text, kept_text, schema_0}
 use Rattle.room_tables.specs.Tables.{schema_1, schema_2, schema_3, schema_4, schema_5, Fresh, room_schema}
-use Rattle.room_tables.specs.Layout.{IsKeyed, IsNumbered, IsRoomDatabase}
+use Rattle.room_tables.specs.Layout.{IsKeyed, HasNumbers, IsRoomDatabase}
 use Rattle.room_tables.specs.Fresh.{IsMade, IsFresh, IsFilled, filled}
 use Rattle.room_tables.specs.Steps.{Steps}
 use Rattle.room_records.specs.declared.node.Node.{Node}
@@ -121,7 +121,7 @@ made_room db it =
         schema = it.schema;
         listed = listed;
         keyed = from_both Fresh _ _ _ (λ t is _. subst IsKeyed (sym is) none) e e;
-        numbered = subst (AllByRecursion IsNumbered) (sym e.node) tt;
+        numbered = subst (AllByRecursion HasNumbers) (sym e.node) tt;
       },
       read_same no_trees db.trees [] e (listed ∙ e.slots),
     )

@@ -42,7 +42,7 @@ use Rattle.room_tables.specs.Tables.{doc_table, refers}
 use Rattle.room_tables.specs.Texts.{drop_node_text, drop_node_query}
 use Rattle.room_tables.specs.Rows.{has, only, shown_node, node_of, entry_of, in_order, shown_doc, doc_of}
 use Rattle.room_tables.specs.Rows.{next_in, sessions_in, slots_in}
-use Rattle.room_tables.specs.Layout.{IsKeyed, IsNumbered, IsRoomDatabase}
+use Rattle.room_tables.specs.Layout.{IsKeyed, HasNumbers, IsRoomDatabase}
 use Rattle.room_tables.specs.Steps.{Steps}
 use Rattle.room_tables.proofs.Each.{of_any, rows_pass, above}
 use Rattle.room_tables.proofs.TreeNames.{slots_listed}
@@ -390,8 +390,8 @@ steps_drop old new id count room h =
           session = subst IsKeyed (sym it.sessions) room.keyed.session;
           slots = subst IsKeyed (sym it.slots) room.keyed.slots;
         };
-        numbered = subst (AllByRecursion IsNumbered) (sym it.nodes)
-            (all-filter IsNumbered (λ r. not (has 0 id r)) (db 1) room.numbered);
+        numbered = subst (AllByRecursion HasNumbers) (sym it.nodes)
+            (all-filter HasNumbers (λ r. not (has 0 id r)) (db 1) room.numbered);
       };
       schema = done.0 ∙ sym room.schema;
       version = version_stays _ _ it.room;

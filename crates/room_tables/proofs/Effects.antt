@@ -27,7 +27,7 @@ use Rattle.room_tables.specs.Rows.{only, parent_in, name_of_text, kind_of, shown
 use Rattle.room_tables.specs.Rows.{entries_in, shown_doc, doc_of, documents_in, number_in, shown_next, next_in}
 use Rattle.room_tables.specs.Rows.{shown_version, version_rows, versions_in, IsVersion, sessions_in, slots_in}
 use Rattle.room_tables.specs.Rows.{slots_of, records_of}
-use Rattle.room_tables.specs.Layout.{IsKeyed, IsNumbered, IsRoomDatabase, OfEachTable, parent_value, reply_value}
+use Rattle.room_tables.specs.Layout.{IsKeyed, HasNumbers, IsRoomDatabase, OfEachTable, parent_value, reply_value}
 use Rattle.room_tables.specs.Steps.{Steps, kind_number}
 use Rattle.room_tables.proofs.Each.{from_both}
 use Rattle.room_tables.proofs.TreeNames.{slots_listed}
@@ -109,7 +109,7 @@ each_after {l} tree old new others = from_both l _ _ _ (λ t far _. one t far) o
 pub steps_at : (tree : ℕ) (old new : State) (room : IsRoomDatabase old.now) (change : Records → Records) → tree ≤ 7
     → new.now.schema ≡ room_schema room.layout → IsDatabase new.now
     → Others room.layout tree old.now.trees new.now.trees → IsKeyed (new.now.trees tree)
-    → AllByRecursion IsNumbered (after tree old.now new.now 1)
+    → AllByRecursion HasNumbers (after tree old.now new.now 1)
     → (IsVersion 2 (version_rows old.now.trees) → IsVersion 2 (versions_in (after tree old.now new.now 0)))
     → read (after tree old.now new.now) (slots_of old.now.trees) ≡ change (records_of old.now.trees)
     → Steps old new change
@@ -117,7 +117,7 @@ steps_at tree old new room change low schema sound others keyed numbered version
     let each = each_after tree old.now new.now others in
     record {
       room = still_room tree old.now new.now room schema sound others keyed
-          (subst (AllByRecursion IsNumbered) (sym each.node) numbered);
+          (subst (AllByRecursion HasNumbers) (sym each.node) numbered);
       schema = schema ∙ sym room.schema;
       version = λ v. version_stays _ _ each.room (version v);
       sound = λ _ _. sound;
@@ -137,7 +137,7 @@ steps_left tree old new room it =
         schema = it.schema;
         listed = listed;
         keyed = from_both room.layout _ _ _ (λ t keyed is. subst IsKeyed (sym is) keyed) room.keyed same;
-        numbered = subst (AllByRecursion IsNumbered) (sym same.node) room.numbered;
+        numbered = subst (AllByRecursion HasNumbers) (sym same.node) room.numbered;
       };
       schema = it.schema ∙ sym room.schema;
       version = version_stays _ _ same.room;
@@ -182,11 +182,11 @@ steps_put_node : (old new : State) (node : Node) (name : List ℕ) (Met : Row �
 steps_put_node old new node name Met room named done =
     let it = done.put in
     let id : it.id ≡ pos node.id = id_is (sym it.has_id ∙ ap rowid it.fits) in
-    let is_numbered : IsNumbered it.row = subst IsNumbered (sym it.fits)
+    let is_numbered : HasNumbers it.row = subst HasNumbers (sym it.fits)
     (record { id = node.id; has_id = refl; parent = node.parent; has_parent = refl }) in
     steps_at 1 old new room _ (omega arith) done.schema done.sound it.others (keyed_after it room.keyed.node)
-    (subst (AllByRecursion IsNumbered) (sym it.rows) (all-put_row IsNumbered it.row _ is_numbered
-    (all-filter IsNumbered (λ r. not (has_rowid it.id r)) (old.now.trees 1) room.numbered))) (λ v. v)
+    (subst (AllByRecursion HasNumbers) (sym it.rows) (all-put_row HasNumbers it.row _ is_numbered
+    (all-filter HasNumbers (λ r. not (has_rowid it.id r)) (old.now.trees 1) room.numbered))) (λ v. v)
     (same_records _ _ (λ q. filter_put it (λ rows. option_map node_of (only (map shown_node rows))) node.id q id
     ∙ ap (λ found. cond (q == node.id) (Some found) (nodes_in (old.now.trees 1) q))
     (ap (λ r. node_of (shown_node r)) it.fits ∙ node_back node name named))

@@ -23,7 +23,7 @@ use Rattle.sqlite.specs.Table.{Table}
 use Rattle.sqlite.specs.Effect.{Database, IsDatabase}
 use Rattle.room_tables.specs.Tables.{Layout, room_schema}
 use Rattle.room_tables.specs.Rows.{has, versions_in, slots_of, IsVersion}
-use Rattle.room_tables.specs.Layout.{IsKeyed, IsNumbered, IsRoomDatabase}
+use Rattle.room_tables.specs.Layout.{IsKeyed, HasNumbers, IsRoomDatabase}
 use Rattle.room_tables.proofs.Each.{from_both, above}
 use Rattle.room_tables.proofs.TreeNames.{slots_listed}
 use Rattle.room_tables.proofs.Values.{has_is, has_one, int_has}
@@ -184,7 +184,7 @@ still_keyed tree db next mine t keyed other = elim (cases_eq t.tree tree) [
 -- the tables are laid out as before, and the list of objects names them as before, since the database is sound
 pub still_room : (tree : ℕ) (old new : Database) (room : IsRoomDatabase old) → new.schema ≡ room_schema room.layout
     → IsDatabase new → Others room.layout tree old.trees new.trees → IsKeyed (new.trees tree)
-    → AllByRecursion IsNumbered (new.trees 1) → IsRoomDatabase new
+    → AllByRecursion HasNumbers (new.trees 1) → IsRoomDatabase new
 still_room tree old new room schema sound others mine numbered = record {
   layout = room.layout;
   schema = schema;
@@ -195,9 +195,9 @@ still_room tree old new room schema sound others mine numbered = record {
 
 -- and the nodes are where another table changed
 pub still_numbered : (tree : ℕ) (old new : Database) (room : IsRoomDatabase old) → 1 ≢ tree
-    → Others room.layout tree old.trees new.trees → AllByRecursion IsNumbered (new.trees 1)
+    → Others room.layout tree old.trees new.trees → AllByRecursion HasNumbers (new.trees 1)
 still_numbered tree old new room apart others =
-    subst (AllByRecursion IsNumbered) (sym (others.node apart)) room.numbered
+    subst (AllByRecursion HasNumbers) (sym (others.node apart)) room.numbered
 
 -- and so are the rows of what slots keep
 pub still_slots : (tree : ℕ) (old new : Database) (room : IsRoomDatabase old) → new.schema ≡ room_schema room.layout

@@ -17,7 +17,7 @@ use Rattle.room_records.specs.Records.{Records}
 use Rattle.room_tables.specs.Tables.{Upgraded, room_schema, first_schema, kept_table, kept_text}
 use Rattle.room_tables.specs.Texts.{copy_row_text, take_row_text}
 use Rattle.room_tables.specs.Rows.{only, kept_of, records_of, version_rows, IsVersion}
-use Rattle.room_tables.specs.Layout.{IsKeyed, IsNumbered, IsRoomOfVersion1, IsRoomOfVersion2}
+use Rattle.room_tables.specs.Layout.{IsKeyed, HasNumbers, IsRoomOfVersion1, IsRoomOfVersion2}
 use Rattle.room_tables.specs.Steps.{Steps}
 use Rattle.room_tables.specs.Upgrade.{shows, others_than, IsWidened, IsShared, IsMoving, IsMovedOut, CopiesRow}
 use Rattle.room_tables.specs.Upgrade.{IsMoved, IsUpgraded}
@@ -96,7 +96,7 @@ all_moved a d out room sound =
           session = subst IsKeyed (sym o.session) k.1.1.1.1.0;
           slots = it.kept_keyed;
         };
-        numbered = subst (AllByRecursion IsNumbered) (sym o.node) room.numbered;
+        numbered = subst (AllByRecursion HasNumbers) (sym o.node) room.numbered;
       };
       schema = it.schema;
       records = read_same (after 10 a d) d.trees _ o refl ∙ same_records _ _

@@ -20,7 +20,7 @@ use Rattle.room_tables.specs.Tables.{Layout, room_schema, slots_tree}
 use Rattle.room_tables.specs.Texts.{drop_slots_text, change_slot_text, add_slot_text}
 use Rattle.room_tables.specs.Rows.{has_text, is_slot, only, shown_slot, kept_of, slots_in, nodes_in, entries_in}
 use Rattle.room_tables.specs.Rows.{documents_in, next_in, sessions_in, slots_of, reply_in, records_of}
-use Rattle.room_tables.specs.Layout.{IsKeyed, IsNumbered, IsRoomDatabase, reply_value}
+use Rattle.room_tables.specs.Layout.{IsKeyed, HasNumbers, IsRoomDatabase, reply_value}
 use Rattle.room_tables.specs.Steps.{Steps}
 use Rattle.room_tables.proofs.Each.{above}
 use Rattle.room_tables.proofs.TreeNames.{slots_listed}
@@ -80,7 +80,7 @@ steps_slots old new room change schema sound o keyed is =
     let node : new.now.trees 1 ≡ old.now.trees 1 = o.node (apart l 1 (omega arith)) in
     record {
       room = still_room (slots_tree l) old.now new.now room schema sound o keyed
-          (subst (AllByRecursion IsNumbered) (sym node) room.numbered);
+          (subst (AllByRecursion HasNumbers) (sym node) room.numbered);
       schema = schema ∙ sym room.schema;
       version = version_stays _ _ (o.room (apart l 0 (omega arith)));
       sound = λ _ _. sound;

@@ -27,7 +27,7 @@ abbrev pub reply_value : Option (List ℕ) → Value
 reply_value = or_null Blob
 
 -- the number of a node and that of its parent are natural numbers
-pub record IsNumbered (row : Row) : Type 0 where
+pub record HasNumbers (row : Row) : Type 0 where
   pub id : ℕ
   pub has_id : column row 0 ≡ Int (pos id)
   pub parent : Option ℕ
@@ -49,7 +49,7 @@ pub record IsRoomDatabase (db : Database) : Type 0 where
   -- the list of objects names the table of what slots keep
   pub listed : slots_of db.trees ≡ db.trees (slots_tree layout)
   pub keyed : OfEachTable layout (λ (t : Table). IsKeyed (db.trees t.tree))
-  pub numbered : AllByRecursion IsNumbered (db.trees 1)
+  pub numbered : AllByRecursion HasNumbers (db.trees 1)
 
 -- the database that has these trees under this layout's schema: where the two are sound, the trees list that schema
 abbrev pub under : Layout → Trees → Database
@@ -64,5 +64,5 @@ pub record IsRoomOfVersion2 (db : Database) : Type 0 where
 pub record IsRoomOfVersion1 (db : Database) : Type 0 where
   pub schema : db.schema ≡ first_schema
   pub keyed : AllByRecursion (λ (t : Table). IsKeyed (db.trees t.tree)) first_schema.tables
-  pub numbered : AllByRecursion IsNumbered (db.trees 1)
+  pub numbered : AllByRecursion HasNumbers (db.trees 1)
   pub version : IsVersion 1 (version_rows db.trees)

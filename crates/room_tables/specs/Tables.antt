@@ -20,8 +20,9 @@ use Rattle.sqlite_schema.specs.declared.schema.Action.{Action}
 use Rattle.sqlite_schema.specs.declared.schema.Action.TheVariants.{NoAction, Cascade}
 use Rattle.sqlite_value.specs.Keys.{plain}
 
-abbrev pub filled : List ℕ → Kind → Column
-filled name kind =
+-- a column that is never NULL
+abbrev pub required : List ℕ → Kind → Column
+required name kind =
     record { name = name; kind = kind; is_strict = true; not_null = true; default = Null; collation = Binary }
 
 -- a column that may be NULL, or is the INTEGER PRIMARY KEY
@@ -32,11 +33,15 @@ loose name kind =
 abbrev pub no_stamps : Stamps
 no_stamps = record { places = []; terms = []; formats = [] }
 
-abbrev pub equals : ℕ → ℕ → Term
-equals place n = op2 (Compare Eq Binary) (col 1 place) (lit (Int (pos n)))
+abbrev pub equals : Term → Term → Term
+equals a b = op2 (Compare Eq Binary) a b
+
+-- the column at this place holds this number
+abbrev pub holds_number : ℕ → ℕ → Term
+holds_number place n = equals (col 1 place) (lit (Int (pos n)))
 
 abbrev pub zero_or_one : ℕ → Term
-zero_or_one place = op2 Or (equals place 0) (equals place 1)
+zero_or_one place = op2 Or (holds_number place 0) (holds_number place 1)
 
 abbrev pub refers : ℕ → List ℕ → List ℕ → Action → Reference
 refers place parent name how = record {
@@ -56,12 +61,12 @@ abbrev pub room_table : Table
 room_table = record {
   name = codes "room";
   tree = 0;
-  columns = loose (codes "one") Integer ∷ filled (codes "version") Integer ∷ filled (codes "next") Integer ∷ [];
+  columns = loose (codes "one") Integer ∷ required (codes "version") Integer ∷ required (codes "next") Integer ∷ [];
   key = Some 0;
   primary = 0 ∷ [];
   uniques = [];
   orders = [];
-  checks = equals 0 1 ∷ [];
+  checks = holds_number 0 1 ∷ [];
   references = [];
   computed = [];
   stamps = no_stamps;
@@ -77,8 +82,8 @@ node_table = record {
   name = codes "node";
   tree = 1;
   columns = loose (codes "id") Integer ∷ loose (codes "parent") Integer
-      ∷ filled (codes "name") Text ∷ filled (codes "kind") Integer ∷ filled (codes "owner") Text
-      ∷ filled (codes "grp") Text ∷ filled (codes "aclflag") Integer ∷ [];
+      ∷ required (codes "name") Text ∷ required (codes "kind") Integer ∷ required (codes "owner") Text
+      ∷ required (codes "grp") Text ∷ required (codes "aclflag") Integer ∷ [];
   key = Some 0;
   primary = 0 ∷ [];
   uniques = (2 ∷ 3 ∷ []) ∷ [];
@@ -99,8 +104,8 @@ abbrev pub entry_table : Table
 entry_table = record {
   name = codes "entry";
   tree = 3;
-  columns = filled (codes "node") Integer ∷ filled (codes "place") Integer ∷ filled (codes "type") Integer
-      ∷ filled (codes "flag") Integer ∷ filled (codes "mask") Integer ∷ filled (codes "who") Text ∷ [];
+  columns = required (codes "node") Integer ∷ required (codes "place") Integer ∷ required (codes "type") Integer
+      ∷ required (codes "flag") Integer ∷ required (codes "mask") Integer ∷ required (codes "who") Text ∷ [];
   key = None;
   primary = 1 ∷ 2 ∷ [];
   uniques = (1 ∷ 2 ∷ []) ∷ [];
@@ -120,7 +125,7 @@ abbrev pub doc_table : Table
 doc_table = record {
   name = codes "doc";
   tree = 5;
-  columns = loose (codes "node") Integer ∷ filled (codes "bytes") Blob ∷ [];
+  columns = loose (codes "node") Integer ∷ required (codes "bytes") Blob ∷ [];
   key = Some 0;
   primary = 0 ∷ [];
   uniques = [];
@@ -140,8 +145,8 @@ abbrev pub session_table : Table
 session_table = record {
   name = codes "session";
   tree = 6;
-  columns = filled (codes "sid") Text ∷ filled (codes "owner") Text
-      ∷ filled (codes "slots") Integer ∷ filled (codes "open") Integer ∷ [];
+  columns = required (codes "sid") Text ∷ required (codes "owner") Text
+      ∷ required (codes "slots") Integer ∷ required (codes "open") Integer ∷ [];
   key = None;
   primary = 1 ∷ [];
   uniques = (1 ∷ []) ∷ [];
@@ -162,8 +167,8 @@ abbrev pub slot_table : Table
 slot_table = record {
   name = codes "slot";
   tree = 8;
-  columns = filled (codes "sid") Text ∷ filled (codes "slot") Integer ∷ filled (codes "seq") Integer
-      ∷ filled (codes "request") Blob ∷ filled (codes "reply") Blob ∷ [];
+  columns = required (codes "sid") Text ∷ required (codes "slot") Integer ∷ required (codes "seq") Integer
+      ∷ required (codes "request") Blob ∷ required (codes "reply") Blob ∷ [];
   key = None;
   primary = 1 ∷ 2 ∷ [];
   uniques = (1 ∷ 2 ∷ []) ∷ [];
@@ -185,8 +190,8 @@ abbrev pub kept_table : ℕ → Table
 kept_table tree = record {
   name = codes "kept";
   tree = tree;
-  columns = filled (codes "sid") Text ∷ filled (codes "slot") Integer ∷ filled (codes "seq") Integer
-      ∷ filled (codes "request") Blob ∷ loose (codes "reply") Blob ∷ [];
+  columns = required (codes "sid") Text ∷ required (codes "slot") Integer ∷ required (codes "seq") Integer
+      ∷ required (codes "request") Blob ∷ loose (codes "reply") Blob ∷ [];
   key = None;
   primary = 1 ∷ 2 ∷ [];
   uniques = (1 ∷ 2 ∷ []) ∷ [];

@@ -9,16 +9,15 @@ use Rattle.room_sql.proofs.upgrade.upgrade.Goals as goal
 pub returns-clause-frame : goal.returns-clause-frame
 returns-clause-frame g c =
     let frame = c.in_ok-rows.ensures.answered.frame in
-    committed_then frame c.commit_move.ensures.mode c.commit_move.ensures.settled c.commit_move.ensures.was_open
-    c.commit_move.ensures.crash (λ clean db may.
-    let early = was_clean c.commit_move.ensures.crash clean in
+    committed_then frame c.commit_move.ensures.frame (λ clean db may.
+    let early = was_clean c.commit_move.ensures.frame.crash clean in
     let now = (frame.answered early).1 in
     may_be db now (next_is c.as_slice.result.now now (rw c.as_slice.ensures.value (c.in_ok-rows.ensures.rows early))
     c.in_ok-next.ensures.value) may)
 
 pub returns-clause-ok : goal.returns-clause-ok
 returns-clause-ok g c clean =
-    let early = was_clean c.commit_move.ensures.crash clean in
+    let early = was_clean c.commit_move.ensures.frame.crash clean in
     let now = (c.in_ok-rows.ensures.answered.frame.answered early).1 in
     let is = next_is c.as_slice.result.now now (rw c.as_slice.ensures.value (c.in_ok-rows.ensures.rows early))
     c.in_ok-next.ensures.value in
@@ -42,7 +41,7 @@ returns-in_err-next-clause-failed g c clean =
 pub returns-clause-failed : goal.returns-clause-failed
 returns-clause-failed g c clean =
     let answered = c.in_ok-rows.ensures.answered in
-    let early = was_clean c.commit_move.ensures.crash clean in
+    let early = was_clean c.commit_move.ensures.frame.crash clean in
     let next = c.in_ok-next.ensures.value ∙ ap number_of_rows c.as_slice.ensures.value in
     IfErr-weaker c.commit_move.result _ _ (λ e failed. inr (
       c.next_rows.new.conn,

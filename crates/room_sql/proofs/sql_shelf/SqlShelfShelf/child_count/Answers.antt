@@ -1,4 +1,4 @@
-use Rattle.std.proofs.Common.{◌≡◌, ◌∙◌, Ok, Err, sym, subst, not, ap, rules}
+use Rattle.std.proofs.Common.{◌≡◌, ◌∙◌, Err, sym, subst, not, ap, rules}
 use Rattle.std.proofs.lemmas.List.{length-map}
 use Rattle.room_records.specs.Shelf.{IsChildCount}
 use Rattle.room_tables.specs.Rows.{shown_node}
