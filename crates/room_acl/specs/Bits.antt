@@ -142,24 +142,28 @@ IsListFlags bits = bits < 8
 abbrev pub has_bit : ℕ → ℕ → Bool
 has_bit bits place = bit_at bits place == 1
 
+-- whether a set of flags has this one
+abbrev pub has_flag : ℕ → ℕ → Bool
+has_flag flags flag = bit_and flags flag == flag
+
 -- which flags an entry has
 abbrev pub file_inherit : ℕ → Bool
-file_inherit flags = has_bit flags 0
+file_inherit flags = has_flag flags file_inherit_flag
 
 abbrev pub directory_inherit : ℕ → Bool
-directory_inherit flags = has_bit flags 1
+directory_inherit flags = has_flag flags directory_inherit_flag
 
 abbrev pub no_propagate : ℕ → Bool
-no_propagate flags = has_bit flags 2
+no_propagate flags = has_flag flags no_propagate_flag
 
 abbrev pub inherit_only : ℕ → Bool
-inherit_only flags = has_bit flags 3
+inherit_only flags = has_flag flags inherit_only_flag
 
 abbrev pub identifier_group : ℕ → Bool
-identifier_group flags = has_bit flags 6
+identifier_group flags = has_flag flags identifier_group_flag
 
 abbrev pub is_inherited : ℕ → Bool
-is_inherited flags = has_bit flags 7
+is_inherited flags = has_flag flags inherited_flag
 
 -- the same flags without the mark
 abbrev pub without_inherited : ℕ → ℕ
@@ -168,7 +172,7 @@ without_inherited flags = flags - bit_and flags inherited_flag
 -- whether an object with these list flags follows its folder: AUTO_INHERIT set and PROTECTED clear, whatever its
 -- folder's flags are (our own rule)
 abbrev pub follows : ℕ → Bool
-follows aclflag = has_bit aclflag 0 && not (has_bit aclflag 1)
+follows aclflag = has_flag aclflag auto_inherit_flag && not (has_flag aclflag protected_flag)
 
 -- the rights that pass a test, as a mask
 abbrev pub mask_of_places : (ℕ → Bool) → List ℕ → ℕ
