@@ -48,8 +48,8 @@ pub group_alone : (f : ℕ)
     → ((bit_and f 64 ≡ 0) × (identifier_group f ≡ false)) ⊎ ((bit_and f 64 ≡ 64) × (identifier_group f ≡ true))
 group_alone f =
     elim (bit_cases f 6) [
-      | inl p ↦ inl (and_pow f 6 ∙ ap (λ b. b * 64) p, ap (λ b. b == 1) p)
-      | inr p ↦ inr (and_pow f 6 ∙ ap (λ b. b * 64) p, ap (λ b. b == 1) p)
+      | inl p ↦ (let none : bit_and f 64 ≡ 0 = and_pow f 6 ∙ ap (λ b. b * 64) p in inl (none, ap (λ g. g == 64) none))
+      | inr p ↦ (let set : bit_and f 64 ≡ 64 = and_pow f 6 ∙ ap (λ b. b * 64) p in inr (set, ap (λ g. g == 64) set))
     ]
 
 at_own_place : (b : Bool) (p : ℕ) → has_bit (cond b (2 ^ p) 0) p ≡ b

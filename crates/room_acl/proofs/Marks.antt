@@ -1,5 +1,5 @@
 -- Flags with the mark cleared.
-use Rattle.std.proofs.Common.{◌≡◌, ℕ, ◌<◌, ap, sym, ◌∙◌, arith, bit_and}
+use Rattle.std.proofs.Common.{◌≡◌, ℕ, ◌<◌, ap, sym, ◌∙◌, arith, bit_and, ◌==◌}
 use Rattle.std.proofs.lemmas.Grind.{common_steps}
 use Rattle.std.proofs.lemmas.Nat.{and_assoc}
 use Rattle.room_acl.specs.Bits.{IsFlags, identifier_group, without_inherited}
@@ -17,4 +17,4 @@ cleared_are_flags f lawful =
 
 -- and keep IDENTIFIER_GROUP
 pub cleared_group : (f : ℕ) → identifier_group (bit_and f 0x7F) ≡ identifier_group f
-cleared_group f = grind (arith, common_steps)
+cleared_group f = ap (λ n. n == 0x40) (and_assoc 0x40 f 0x7F)

@@ -1,12 +1,12 @@
 -- The names of rights and flags agree with their numbers and their places.
-use Rattle.std.proofs.Common.{◌≡◌, ◌-◌, ◌+◌, ◌^◌, ℕ, refl, lit<, true, false, List, [], ◌∷◌, map}
+use Rattle.std.proofs.Common.{◌≡◌, ◌-◌, ◌^◌, ℕ, refl, true, false, List, [], ◌∷◌, map}
 use Rattle.room_acl.specs.Bits.{read_data, list_directory, write_data, add_file, append_data, add_subdirectory}
 use Rattle.room_acl.specs.Bits.{read_named_attrs, write_named_attrs, execute, delete_child, read_attributes}
 use Rattle.room_acl.specs.Bits.{write_attributes, write_retention, write_retention_hold, delete_object, read_acl}
 use Rattle.room_acl.specs.Bits.{write_acl, write_owner, synchronize, all_rights, named_bits, file_inherit_flag}
 use Rattle.room_acl.specs.Bits.{directory_inherit_flag, no_propagate_flag, inherit_only_flag, identifier_group_flag}
-use Rattle.room_acl.specs.Bits.{inherited_flag, inheritance_flags, all_flags, auto_inherit_flag, protected_flag}
-use Rattle.room_acl.specs.Bits.{defaulted_flag, IsListFlags, file_inherit, directory_inherit, no_propagate}
+use Rattle.room_acl.specs.Bits.{inherited_flag, inheritance_flags, all_flags, all_list_flags}
+use Rattle.room_acl.specs.Bits.{file_inherit, directory_inherit, no_propagate}
 use Rattle.room_acl.specs.Bits.{inherit_only, identifier_group, is_inherited}
 use Rattle.room_acl.specs.Inheritance.{mark_alone, mark_for_folders, mark_for_files, mark_for_both}
 
@@ -30,9 +30,8 @@ names_for_folders = (refl, refl, refl)
 all_flags_number : (inheritance_flags ≡ 0x0F) × (all_flags ≡ 0xCF)
 all_flags_number = (refl, refl)
 
-list_flags_number : IsListFlags (auto_inherit_flag + protected_flag + defaulted_flag)
-    × (auto_inherit_flag + protected_flag + defaulted_flag + 1 ≡ 8)
-list_flags_number = (lit< tt, refl)
+all_list_flags_number : all_list_flags ≡ 0x07
+all_list_flags_number = refl
 
 -- each test looks at its own flag and at no other
 tests_of_flags :

@@ -1,5 +1,5 @@
 -- The rights of a mask, the flags of an entry, and the flags of a list.
-use Rattle.std.specs.Prelude.{◌≡◌, ◌<◌, ℕ, ◌+◌, ◌-◌, ◌^◌, Bool, not, ◌&&◌, cond, List, [], ◌∷◌, ◌==◌, bit_and, bit_or}
+use Rattle.std.specs.Prelude.{◌≡◌, ◌≤◌, ℕ, ◌+◌, ◌-◌, ◌^◌, Bool, not, ◌&&◌, cond, List, [], ◌∷◌, ◌==◌, bit_and, bit_or}
 use Rattle.std.specs.Int.{bit_at}
 
 -- the sixteen rights, as masks (RFC 8881, section 6.2.1.3). Three have one name for a file and one for a folder
@@ -77,7 +77,7 @@ reading_rights = read_data + read_named_attrs + execute + read_attributes + read
 abbrev pub owner_rights : ℕ
 owner_rights = read_acl + write_acl
 
--- the sixteen rights again, as places of bits, the lowest first
+-- the sixteen rights again, as places of bits, the lowest first (`places_of_rights` of proofs/Names compares them)
 abbrev pub named_bits : List ℕ
 named_bits = 0 ∷ 1 ∷ 2 ∷ 3 ∷ 4 ∷ 5 ∷ 6 ∷ 7 ∷ 8 ∷ 9 ∷ 10 ∷ 16 ∷ 17 ∷ 18 ∷ 19 ∷ 20 ∷ []
 
@@ -134,32 +134,40 @@ protected_flag = 2
 abbrev pub defaulted_flag : ℕ
 defaulted_flag = 4
 
--- a list has any set of them, 0 to 7
+-- all three, 0x07
+abbrev pub all_list_flags : ℕ
+all_list_flags = auto_inherit_flag + protected_flag + defaulted_flag
+
+-- a list has any set of them
 abbrev pub IsListFlags : ℕ → Type 0
-IsListFlags bits = bits < 8
+IsListFlags bits = bits ≤ all_list_flags
 
 -- whether a set of bits has the bit at this place
 abbrev pub has_bit : ℕ → ℕ → Bool
 has_bit bits place = bit_at bits place == 1
 
+-- whether a set of flags has this one
+abbrev pub has_flag : ℕ → ℕ → Bool
+has_flag flags flag = bit_and flags flag == flag
+
 -- which flags an entry has
 abbrev pub file_inherit : ℕ → Bool
-file_inherit flags = has_bit flags 0
+file_inherit flags = has_flag flags file_inherit_flag
 
 abbrev pub directory_inherit : ℕ → Bool
-directory_inherit flags = has_bit flags 1
+directory_inherit flags = has_flag flags directory_inherit_flag
 
 abbrev pub no_propagate : ℕ → Bool
-no_propagate flags = has_bit flags 2
+no_propagate flags = has_flag flags no_propagate_flag
 
 abbrev pub inherit_only : ℕ → Bool
-inherit_only flags = has_bit flags 3
+inherit_only flags = has_flag flags inherit_only_flag
 
 abbrev pub identifier_group : ℕ → Bool
-identifier_group flags = has_bit flags 6
+identifier_group flags = has_flag flags identifier_group_flag
 
 abbrev pub is_inherited : ℕ → Bool
-is_inherited flags = has_bit flags 7
+is_inherited flags = has_flag flags inherited_flag
 
 -- the same flags without the mark
 abbrev pub without_inherited : ℕ → ℕ
@@ -168,7 +176,7 @@ without_inherited flags = flags - bit_and flags inherited_flag
 -- whether an object with these list flags follows its folder: AUTO_INHERIT set and PROTECTED clear, whatever its
 -- folder's flags are (our own rule)
 abbrev pub follows : ℕ → Bool
-follows aclflag = has_bit aclflag 0 && not (has_bit aclflag 1)
+follows aclflag = has_flag aclflag auto_inherit_flag && not (has_flag aclflag protected_flag)
 
 -- the rights that pass a test, as a mask
 abbrev pub mask_of_places : (ℕ → Bool) → List ℕ → ℕ

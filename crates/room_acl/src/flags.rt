@@ -1,6 +1,6 @@
 //! Flags of an entry.
 ghost use Rattle.std.specs.Prelude.{◌≡◌, ℕ, ◌<◌, ◌↔◌, IsSome, IfSome};
-ghost use Rattle.room_acl.specs.Bits.{IsFlags, has_bit, file_inherit, directory_inherit, no_propagate, inherit_only};
+ghost use Rattle.room_acl.specs.Bits.{IsFlags, has_flag, file_inherit, directory_inherit, no_propagate, inherit_only};
 ghost use Rattle.room_acl.specs.Bits.{identifier_group, is_inherited, without_inherited};
 
 use std::marker::Model;
@@ -75,51 +75,49 @@ impl Flags {
         Flags { bits }
     }
 
-    /// Whether the flag at this place is set.
-    #[tactic(auto, using(std::proofs::lemmas::Nat::Bits::shr_and_one))]
-    fn has(self, place: u32) -> bool
-        requires { place < 8 }
-        ensures { result ≡ has_bit self place }
+    /// Whether this flag is set.
+    fn has(self, flag: u8) -> bool
+        ensures { result ≡ has_flag self flag }
     {
-        (self.bits >> place) & 1 == 1
+        self.bits & flag == flag
     }
 
     pub(crate) fn is_file_inherit(self) -> bool
         ensures { result ≡ file_inherit self }
     {
-        self.has(0)
+        self.has(FILE_INHERIT)
     }
 
     pub(crate) fn is_directory_inherit(self) -> bool
         ensures { result ≡ directory_inherit self }
     {
-        self.has(1)
+        self.has(DIRECTORY_INHERIT)
     }
 
     pub(crate) fn is_no_propagate(self) -> bool
         ensures { result ≡ no_propagate self }
     {
-        self.has(2)
+        self.has(NO_PROPAGATE_INHERIT)
     }
 
     pub(crate) fn is_inherit_only(self) -> bool
         ensures { result ≡ inherit_only self }
     {
-        self.has(3)
+        self.has(INHERIT_ONLY)
     }
 
     /// Whether IDENTIFIER_GROUP is set: the name is a group's.
     pub fn is_group(self) -> bool
         ensures { result ≡ identifier_group self }
     {
-        self.has(6)
+        self.has(IDENTIFIER_GROUP)
     }
 
     /// Whether INHERITED is set: the entry was handed down.
     pub fn is_inherited(self) -> bool
         ensures { result ≡ is_inherited self }
     {
-        self.has(7)
+        self.has(INHERITED)
     }
 
     /// The flags without INHERITED.

@@ -1,6 +1,6 @@
 //! Flags of a whole list.
 ghost use Rattle.std.specs.Prelude.{◌≡◌, ℕ, ◌↔◌, IsSome, IfSome};
-ghost use Rattle.room_acl.specs.Bits.{IsListFlags, follows};
+ghost use Rattle.room_acl.specs.Bits.{IsListFlags, follows, has_flag};
 
 use std::marker::Model;
 
@@ -48,12 +48,17 @@ impl ListFlags {
     }
 
     /// Whether an object with these list flags follows its folder: AUTO_INHERIT is set and PROTECTED clear.
-    #[tactic(auto, using(std::proofs::lemmas::Nat::Bits::shr_and_one))]
     pub fn follows(self) -> bool
         ensures { result ≡ follows self }
     {
-        let bits = self.bits;
-        bits & 1 == 1 && (bits >> 1) & 1 == 0
+        self.has(AUTO_INHERIT) && !self.has(PROTECTED)
+    }
+
+    /// Whether this flag is set.
+    fn has(self, flag: u8) -> bool
+        ensures { result ≡ has_flag self flag }
+    {
+        self.bits & flag == flag
     }
 
     /// The bits of the list flags.

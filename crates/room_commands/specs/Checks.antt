@@ -143,11 +143,15 @@ check_depth room path to =
     refuse_if (list_any (λ (e : Path × Object).
     is_at_or_below e.0 path && nat_lt max_names (length to + (length e.0 - length path))) room.objects) TooDeep
 
+-- how what is wrong with own entries is answered
+abbrev pub list_fault_code : ListFault → RefusalCode
+list_fault_code L.Inval = Inval
+list_fault_code L.AttrNotSupp = AttrNotSupp
+
 -- the own entries are lawful
 abbrev pub check_lawful : Option ListFault → Option Refusal
 check_lawful None = None
-check_lawful (Some L.Inval) = Some (refusal_without_place Inval)
-check_lawful (Some L.AttrNotSupp) = Some (refusal_without_place AttrNotSupp)
+check_lawful (Some fault) = Some (refusal_without_place (list_fault_code fault))
 
 abbrev pub kind_of : Option Object → Kind
 kind_of None = File

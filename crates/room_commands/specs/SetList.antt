@@ -1,6 +1,6 @@
 -- What a list that is sent becomes (our own rule, in place of the procedures of RFC 8881, section 6.4.3.2).
-use Rattle.std.specs.Prelude.{ℕ, Bool, false, not, List, [], ◌∷◌, map, if◌then◌else◌}
-use Rattle.std.specs.List.{filter}
+use Rattle.std.specs.Prelude.{ℕ, Bool, false, ◌&&◌, List, [], ◌∷◌, Option, None, Some, if◌then◌else◌}
+use Rattle.std.specs.List.{filter_map}
 use Rattle.room_acl.specs.Bits.{is_inherited, follows}
 use Rattle.room_acl.specs.Entries.{EntryModel}
 pub use Rattle.room_acl.specs.Entries.{clear_inherited}
@@ -11,7 +11,9 @@ abbrev pub follows_at : Path → ℕ → Bool
 follows_at [] aclflag = false
 follows_at (name ∷ path) aclflag = follows aclflag
 
--- entries with the mark are dropped where the object follows, and else become own entries
+-- an entry with the mark is dropped where the object follows, and else becomes an own entry
+abbrev pub kept_entry : Bool → EntryModel → Option EntryModel
+kept_entry follows entry = if follows && is_inherited entry.flags then None else Some (clear_inherited entry)
+
 abbrev pub own_entries_of_setlist : Path → ℕ → List EntryModel → List EntryModel
-own_entries_of_setlist path aclflag sent =
-    if follows_at path aclflag then filter (λ entry. not (is_inherited entry.flags)) sent else map clear_inherited sent
+own_entries_of_setlist path aclflag sent = filter_map (kept_entry (follows_at path aclflag)) sent

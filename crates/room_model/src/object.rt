@@ -179,7 +179,7 @@ pub fn copy_entries(alloc: Global, entries: &[Entry]) -> Result<Vec<Entry>, Allo
     Ok(copy)
 }
 
-pub fn copy_entry(entry: &Entry) -> Result<Entry, AllocError>
+fn copy_entry(entry: &Entry) -> Result<Entry, AllocError>
     ensures { IfOk result (λ copy. copy ≡ entry.now) }
 {
     let who = entry.who().clone()?;

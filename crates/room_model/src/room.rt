@@ -261,7 +261,7 @@ pub fn follows(aclflag: ListFlags) -> bool
     ensures { result ≡ follows aclflag }
 {
     let bits = aclflag.bits();
-    bits & 1 == 1 && (bits >> 1) & 1 == 0
+    bits & 1 == 1 && bits & 2 != 2
 }
 
 fn copy_pair(

@@ -1,11 +1,8 @@
 //! What a list that is sent becomes.
-ghost use Rattle.std.specs.Prelude.{◌≡◌, IfOk, not, map};
-ghost use Rattle.std.specs.List.{filter};
-ghost use Rattle.room_acl.specs.Entries.{EntryModel};
+ghost use Rattle.std.specs.Prelude.{◌≡◌, IfOk};
 ghost use Rattle.room_acl.specs.Bits.{is_inherited};
 ghost use Rattle.room_commands.specs.SetList.{clear_inherited, follows_at, own_entries_of_setlist};
 
-use crate::object::copy_entry;
 use crate::room::follows;
 use room_acl::{Entry, Flags, ListFlags};
 use room_records::FileName;
@@ -20,11 +17,14 @@ pub fn own_entries_of_setlist(
 ) -> Result<Vec<Entry>, AllocError>
     ensures { IfOk result (λ own. own.items ≡ own_entries_of_setlist path.now aclflag sent.now) }
 {
-    if follows_at(path, aclflag) {
-        without_inherited(alloc, sent)
-    } else {
-        all_cleared(alloc, sent)
+    let follows = follows_at(path, aclflag);
+    let mut own = Vec::new(alloc);
+    for entry in sent {
+        if !follows || !is_inherited(entry.flags()) {
+            own.push(cleared(entry)?)?;
+        }
     }
+    Ok(own)
 }
 
 /// Whether an object at this path follows with these list flags. The root never does.
@@ -40,30 +40,7 @@ fn follows_at(path: &[FileName], aclflag: ListFlags) -> bool
 fn is_inherited(flags: Flags) -> bool
     ensures { result ≡ is_inherited flags }
 {
-    (flags.bits() >> 7) & 1 == 1
-}
-
-fn without_inherited(alloc: Global, sent: &[Entry]) -> Result<Vec<Entry>, AllocError>
-    ensures { IfOk result (λ own. own.items
-        ≡ filter (λ (entry : EntryModel). not (is_inherited entry.flags)) sent.now) }
-{
-    let mut own = Vec::new(alloc);
-    for entry in sent {
-        if !is_inherited(entry.flags()) {
-            own.push(copy_entry(entry)?)?;
-        }
-    }
-    Ok(own)
-}
-
-fn all_cleared(alloc: Global, sent: &[Entry]) -> Result<Vec<Entry>, AllocError>
-    ensures { IfOk result (λ own. own.items ≡ map clear_inherited sent.now) }
-{
-    let mut own = Vec::new(alloc);
-    for entry in sent {
-        own.push(cleared(entry)?)?;
-    }
-    Ok(own)
+    flags.bits() & 0x80 == 0x80
 }
 
 /// The entry without the mark.

@@ -16,7 +16,6 @@ pub mod RowsAdded
 pub mod NewLists
 pub mod Made
 pub mod RowsRemoved
-pub mod Marks
 pub mod RowsMoved
 pub mod ListsMoved
 pub mod Depths

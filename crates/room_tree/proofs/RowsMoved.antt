@@ -266,7 +266,8 @@ module _ {t : ObjectRecords} {room : Room} (stand : RepresentsRoom t room) {path
   }
 
   old_node : (id : ℕ) (found : Node) → later.node id ≡ Some found → (before : Node) × (t.node id ≡ Some before)
-  old_node id found stands = grind (arith, common_steps)
+  old_node id found stands = elim (back id found stands)
+      [ inl new ↦ (node, ap t.node new.0 ∙ m.is_there.node_stands) | inr old ↦ (found, old.1) ]
 
   -- with other entries, where each is the list of its object in the room after
   module _ {rows : ObjectRecords} (w : MovesLists t rows now room path to) where

@@ -1,9 +1,6 @@
 -- What the calls that read a room for a command say.
 use Rattle.std.specs.Prelude.{◌≡◌, ℕ, ◌-◌, ◌≤◌, List, [], ◌∷◌, ◌++◌, take, length, Option, None, Some}
-use Rattle.std.specs.Prelude.{Bool, ◌&&◌, if◌then◌else◌}
-use Rattle.room_acl.specs.Bits.{is_inherited}
-use Rattle.room_acl.specs.Entries.{EntryModel}
-use Rattle.room_commands.specs.SetList.{clear_inherited}
+use Rattle.room_acl.specs.Bits.{auto_inherit_flag}
 use Rattle.room_acl.specs.SubjectModel.{SubjectModel}
 use Rattle.room_records.specs.declared.node.Node.{Node}
 use Rattle.room_records.specs.Names.{Name, Path}
@@ -71,8 +68,4 @@ pub record IsNewNode (caller : SubjectModel) (path : Path)
   pub kind_is : node.kind ≡ kind
   pub owner : node.owner ≡ caller.name
   pub group : node.group ≡ above.standing.group
-  pub aclflag : node.aclflag ≡ 1
-
--- what becomes of an entry that is sent, where the object follows or not
-abbrev pub kept_entry : Bool → EntryModel → Option EntryModel
-kept_entry follows entry = if follows && is_inherited entry.flags then None else Some (clear_inherited entry)
+  pub aclflag : node.aclflag ≡ auto_inherit_flag

@@ -5,17 +5,17 @@ ghost use Rattle.room_acl.specs.Inheritance.{own_entries_fault};
 ghost use Rattle.room_records.specs.Shelf.{ShelfRead};
 ghost use Rattle.room_commands.specs.Checks.{check_lawful};
 ghost use Rattle.room_commands.specs.CommandModel as C;
-ghost use Rattle.room_tree.specs.LoadedObjects.{OfRoom, node_of, kept_entry};
+ghost use Rattle.room_tree.specs.LoadedObjects.{OfRoom, node_of};
 ghost use Rattle.room_tree.specs.Plans.{Plans};
 ghost use Rattle.room_tree.specs.Stops.{refusal_in, stop_fault};
-ghost use Rattle.room_commands.specs.SetList.{follows_at};
+ghost use Rattle.room_commands.specs.SetList.{follows_at, kept_entry};
 
 use crate::loaded::LoadedObject;
 use crate::planning::Outcome;
 use crate::reaching::reach_to_use;
 use crate::refusal::{Refusal, Stop};
 use crate::renewing::{if_changed, list_in_folder, with_list};
-use room_acl::{Entry, Kind, ListFault, ListFlags, Mask, Subject, check_own};
+use room_acl::{Entry, Kind, ListFlags, Mask, Subject, check_own};
 use room_commands::{RefusalCode, Reply};
 use room_records::{Change, Path, Shelf};
 use std::alloc::{AllocError, Global};
@@ -61,10 +61,7 @@ fn check_lawful(entries: &[Entry], kind: Kind) -> Result<(), Refusal>
 {
     match check_own(entries, kind) {
         Ok(()) => Ok(()),
-        Err(fault) => match fault {
-            ListFault::Inval => Err(Refusal::of(RefusalCode::Inval)),
-            ListFault::AttrNotSupp => Err(Refusal::of(RefusalCode::AttrNotSupp)),
-        },
+        Err(fault) => Err(Refusal::of(RefusalCode::of_list_fault(fault))),
     }
 }
 

@@ -2,6 +2,6 @@
 pub mod Fronts
 pub mod Lacking
 pub mod Parts
-pub mod Seams
+pub mod Boundaries
 pub mod Streams
 pub mod Values

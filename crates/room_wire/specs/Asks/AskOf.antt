@@ -29,6 +29,7 @@ use Rattle.room_wire.specs.Asks.EventModel.{EventModel, Open, Close, Slot, event
 use Rattle.room_wire.specs.Messages.Fields.{values_named}
 use Rattle.room_wire.specs.Questions.QuestionModel.{QuestionModel, question_model, question_of_body}
 use Rattle.room_wire.specs.Forms.Reading.{json_of, has_count, number_at, principal_from}
+use Rattle.room_wire.specs.Asks.CheckAsk.{asked, DecodesAs}
 use Rattle.room_wire.specs.Asks.Routing.{TargetModel, target_at, room_rows}
 use Rattle.room_wire.specs.Messages.MessageModel.{MessageModel, fields_of}
 
@@ -101,12 +102,10 @@ event_by S.Run caller target body =
     request_by caller (sid_from target.sid) (number_from target.slot) (number_from target.seq) (command_of_body body)
 
 abbrev pub question_asked : Option QuestionModel → Result AskModel WireFault
-question_asked None = Err BadRequest
-question_asked (Some question) = Ok (Check question)
+question_asked = asked Check
 
 abbrev pub event_asked : Option EventModel → Result AskModel WireFault
-event_asked None = Err BadRequest
-event_asked (Some event) = Ok (Event event)
+event_asked = asked Event
 
 abbrev pub session_ask : SessionAction → Option SubjectModel → TargetModel → (body : List ℕ) → Result AskModel WireFault
 session_ask action None target body = Err UnknownUser
@@ -127,13 +126,8 @@ ask_for (Some target) users fields body = ask_by target.action users target fiel
 abbrev pub ask_of : List SubjectModel → MessageModel → Result AskModel WireFault
 ask_of users m = ask_for (target_at room_rows m.head.method m.head.target) users (fields_of m) m.body
 
--- the result is what was asked, unless memory was refused
 abbrev pub DecodesAsk : Result AskModel WireFault → Result Ask WireFault → Type 0
-DecodesAsk ask (Ok asked) = ask ≡ Ok (ask_model asked)
-DecodesAsk ask (Err BadRoute) = ask ≡ Err BadRoute
-DecodesAsk ask (Err UnknownUser) = ask ≡ Err UnknownUser
-DecodesAsk ask (Err BadRequest) = ask ≡ Err BadRequest
-DecodesAsk ask (Err Memory) = Unit {0}
+DecodesAsk = DecodesAs ask_model
 
 -- the result is what was wanted, or a bad request where nothing was, unless memory was refused
 abbrev pub ReadsAs : {X A : Type 0} → (X → A) → Option A → Result X WireFault → Type 0

@@ -9,12 +9,13 @@ use Rattle.room_wire.specs.Questions.QuestionModel.{QuestionModel, question_mode
 use Rattle.room_wire.specs.Asks.Routing.{TargetModel, target_at, check_rows}
 use Rattle.room_wire.specs.Messages.MessageModel.{MessageModel}
 
-abbrev pub asked : Option QuestionModel → Result QuestionModel WireFault
-asked None = Err BadRequest
-asked (Some question) = Ok question
+-- what is asked, made of what was read, or a bad request where nothing was
+abbrev pub asked : {A B : Type 0} → (A → B) → Option A → Result B WireFault
+asked make None = Err BadRequest
+asked make (Some read) = Ok (make read)
 
 abbrev pub check_by : Action → List ℕ → Result QuestionModel WireFault
-check_by Check body = asked (question_of_body body)
+check_by Check body = asked (λ question. question) (question_of_body body)
 check_by (Session action) body = Err BadRoute
 
 abbrev pub check_for : Option TargetModel → List ℕ → Result QuestionModel WireFault
@@ -26,9 +27,12 @@ abbrev pub check_ask : MessageModel → Result QuestionModel WireFault
 check_ask m = check_for (target_at check_rows m.head.method m.head.target) m.body
 
 -- the result is what was asked, unless memory was refused
+abbrev pub DecodesAs : {X A : Type 0} → (X → A) → Result A WireFault → Result X WireFault → Type 0
+DecodesAs show ask (Ok x) = ask ≡ Ok (show x)
+DecodesAs show ask (Err BadRoute) = ask ≡ Err BadRoute
+DecodesAs show ask (Err UnknownUser) = ask ≡ Err UnknownUser
+DecodesAs show ask (Err BadRequest) = ask ≡ Err BadRequest
+DecodesAs show ask (Err Memory) = Unit {0}
+
 abbrev pub Decodes : Result QuestionModel WireFault → Result Question WireFault → Type 0
-Decodes ask (Ok question) = ask ≡ Ok (question_model question)
-Decodes ask (Err BadRoute) = ask ≡ Err BadRoute
-Decodes ask (Err UnknownUser) = ask ≡ Err UnknownUser
-Decodes ask (Err BadRequest) = ask ≡ Err BadRequest
-Decodes ask (Err Memory) = Unit {0}
+Decodes = DecodesAs question_model

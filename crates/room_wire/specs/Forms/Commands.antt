@@ -1,5 +1,5 @@
 -- Commands out of bodies: the member cmd names the command, and the other members are its parts.
-use Rattle.std.specs.Prelude.{◌≡◌, ℕ, ◌+◌, ◌==◌, ◌&&◌, Bool, true, not, nat_le, nat_lt, List, [], length, drop}
+use Rattle.std.specs.Prelude.{◌≡◌, ℕ, ◌+◌, ◌==◌, ◌&&◌, Bool, true, not, nat_le, List, [], length, drop}
 use Rattle.std.specs.Prelude.{Option, None, Some}
 use Rattle.std.specs.Prelude.{Result, Ok, Err, if◌then◌else◌, option_and_then, option_map, codes, bytes_eq}
 use Rattle.std.specs.List.{list_all, slice_split}
@@ -8,6 +8,7 @@ use Rattle.serde_json.specs.Data.{Data}
 use Rattle.serde_json.specs.Find.{get, as_bool}
 use Rattle.base64.specs.Engines.{standard}
 use Rattle.base64.specs.GeneralPurpose.{decoded_of}
+use Rattle.room_acl.specs.Bits.{all_list_flags}
 use Rattle.room_acl.specs.Entries.{EntryModel}
 use Rattle.room_records.specs.Limits.{max_names, max_name_bytes}
 use Rattle.room_records.specs.Names.{Name, Path, is_name_byte, path_text}
@@ -49,9 +50,9 @@ path_at name d = option_and_then path_from (text_at name d)
 abbrev pub bytes_at : List ℕ → Data → Option (List ℕ)
 bytes_at name d = option_and_then (decoded_of standard) (text_at name d)
 
--- the flags of a whole list: 0 to 7
+-- the flags of a whole list
 abbrev pub list_flags_from : ℕ → Option ℕ
-list_flags_from n = if nat_lt n 8 then Some n else None
+list_flags_from n = if nat_le n all_list_flags then Some n else None
 
 abbrev pub list_flags_at : List ℕ → Data → Option ℕ
 list_flags_at name d = option_and_then list_flags_from (number_at name d)

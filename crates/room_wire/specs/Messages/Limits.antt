@@ -5,6 +5,10 @@ use Rattle.std.specs.Prelude.{ℕ, ◌+◌}
 abbrev pub max_head : ℕ
 max_head = 8192
 
+-- fields in a head
+abbrev pub max_fields : ℕ
+max_fields = 32
+
 -- bytes in a body
 abbrev pub max_body : ℕ
 max_body = 131072

@@ -3,7 +3,7 @@ use Rattle.std.specs.Prelude.{◌≡◌, ℕ, ◌≤◌, List, ◌++◌, map, le
 use Rattle.httparse.specs.Grammar.{RequestHead, IsRequestHead, print_request}
 use Rattle.httparse.specs.Spans.{name_and_value}
 use Rattle.room_wire.specs.Messages.Fields.{body_length}
-use Rattle.room_wire.specs.Messages.Limits.{max_head}
+use Rattle.room_wire.specs.Messages.Limits.{max_fields, max_head}
 
 -- a head and a body
 pub record MessageModel : Type 0 where
@@ -26,7 +26,7 @@ body_after h = body_length (map name_and_value h.fields)
 pub record IsMessage (m : MessageModel) : Type 0 where
   pub head : IsRequestHead m.head
   pub head_fits : length (print_request m.head) ≤ max_head
-  pub few_fields : length m.head.fields ≤ 32
+  pub few_fields : length m.head.fields ≤ max_fields
   pub body : body_after m.head ≡ Some (length m.body)
 
 -- the bytes are the message and then the rest

@@ -5,7 +5,7 @@ use Rattle.httparse.specs.Spans.{header_bytes}
 use Rattle.room_wire.specs.declared.messages.message.Message.{Message}
 use Rattle.room_wire.specs.declared.messages.message.Take.{Take}
 use Rattle.room_wire.specs.declared.messages.message.Take.TheVariants.{Whole, More, Bad}
-use Rattle.room_wire.specs.Messages.Limits.{max_head, max_message}
+use Rattle.room_wire.specs.Messages.Limits.{max_fields, max_head, max_message}
 use Rattle.room_wire.specs.Messages.MessageModel.{MessageModel, Reads, NoMessage, NeverMessage, print_message}
 use Rattle.room_wire.specs.Messages.MessageModel.{fields_of, body_after}
 
@@ -30,7 +30,7 @@ pub record LacksBody (bytes : List ℕ) : Type 0 where
   pub rest : List ℕ
   pub reads : ReadsRequest bytes head rest
   pub head_fits : length (print_request head) ≤ max_head
-  pub few_fields : length head.fields ≤ 32
+  pub few_fields : length head.fields ≤ max_fields
   pub lacks : (size : ℕ) × (body_after head ≡ Some size) × (length rest < size)
 
 -- `Whole`: the message at the front. `More`: there is none yet, fewer bytes have come than the longest message has, and

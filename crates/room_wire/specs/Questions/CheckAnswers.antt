@@ -8,11 +8,11 @@ use Rattle.room_acl.specs.declared.subject.Standing.{Standing}
 use Rattle.room_acl.specs.declared.access.Decision.{Decision}
 use Rattle.room_acl.specs.declared.access.Decision.TheVariants.{Allowed, Denied}
 use Rattle.room_acl.specs.declared.inheritance.ListFault.{ListFault}
-use Rattle.room_acl.specs.declared.inheritance.ListFault.TheVariants.{Inval, AttrNotSupp}
 use Rattle.room_acl.specs.SubjectModel.{SubjectModel}
 use Rattle.room_acl.specs.Entries.{EntryModel}
 use Rattle.room_acl.specs.Access.{decision, allowed_mask}
 use Rattle.room_acl.specs.Inheritance.{handed_down, own_entries_fault}
+use Rattle.room_commands.specs.Checks.{list_fault_code}
 use Rattle.room_wire.specs.Questions.QuestionModel.{QuestionModel, OfList, OfChild, ListQuestion}
 use Rattle.room_wire.specs.Forms.Texts.{num, obj, ok}
 use Rattle.room_wire.specs.Forms.Texts as T
@@ -38,8 +38,7 @@ list_text entries subject standing mask =
     (bit_of (decision entries subject standing mask)))
 
 abbrev pub fault_text : ListFault → List ℕ
-fault_text Inval = codes "{\"code\":7,\"error\":\"INVAL\"}"
-fault_text AttrNotSupp = codes "{\"code\":8,\"error\":\"ATTRNOTSUPP\"}"
+fault_text fault = compact_text (T.refusal_data (list_fault_code fault) None)
 
 abbrev pub entries_data : List EntryModel → Data
 entries_data entries = obj (ok ∷ (codes "entries", array (T.entries entries)) ∷ [])

@@ -1,4 +1,4 @@
-//! Refusals outside a slot's commands.
+//! Refusals that are not a command's own.
 ghost use Rattle.std.specs.Prelude.{◌≡◌};
 ghost use Rattle.room_wire.specs.Answers.Codes.{code_text};
 

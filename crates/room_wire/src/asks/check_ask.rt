@@ -15,7 +15,7 @@ use std::alloc::Global;
 
 /// The question of a body.
 pub(crate) fn read_question(alloc: Global, body: &[u8]) -> Result<Question, WireFault>
-    ensures { Decodes (asked (question_of_body body.now)) result }
+    ensures { Decodes (asked (λ question. question) (question_of_body body.now)) result }
 {
     match question_of_body(alloc, body)? {
         Some(question) => Ok(question),

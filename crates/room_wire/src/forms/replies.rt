@@ -1,12 +1,12 @@
 //! Replies as text: compact JSON, with members in byte order of their names.
-ghost use Rattle.std.specs.Prelude.{◌≡◌, [], ◌∷◌, IfOk, codes};
+ghost use Rattle.std.specs.Prelude.{◌≡◌, [], ◌∷◌, IfOk, None, codes};
 ghost use Rattle.json.specs.Token.{Token as SpecToken};
 ghost use Rattle.json.specs.Tree.{json_tokens, items_tokens};
 ghost use Rattle.serde_json.specs.Data.{array, string};
 ghost use Rattle.serde_json.specs.Written.{outline, items_outline, compact_text};
 ghost use Rattle.room_commands.specs.ReplyModel.{reply_model};
 ghost use Rattle.room_wire.specs.Forms.Texts.{num, obj, ok, at, refusal_number, refusal_name};
-ghost use Rattle.room_wire.specs.Forms.Texts.{reply_text};
+ghost use Rattle.room_wire.specs.Forms.Texts.{refusal_data, reply_text};
 ghost use Rattle.room_wire.specs.Forms.Texts as T;
 ghost use Rattle.room_wire.specs.Forms.Writing.{Adds};
 
@@ -153,10 +153,9 @@ fn allowed_text(alloc: Global, mask: Mask) -> Result<Vec<u8>, AllocError>
     ended(out)
 }
 
-fn refused_text(alloc: Global, code: RefusalCode) -> Result<Vec<u8>, AllocError>
-    ensures { IfOk result (λ text. text.items
-        ≡ compact_text (obj ((codes "code", num (refusal_number code))
-        ∷ (codes "error", string (refusal_name code)) ∷ []))) }
+/// A refusal that names no place.
+pub(crate) fn refused_text(alloc: Global, code: RefusalCode) -> Result<Vec<u8>, AllocError>
+    ensures { IfOk result (λ text. text.items ≡ compact_text (refusal_data code None)) }
 {
     let mut out = begun(alloc, SHORT_MEMBERS)?;
     number_member(&mut out, "code", refusal_number(code))?;

@@ -5,12 +5,12 @@ ghost use Rattle.room_wire.specs.Messages.Limits.{max_head};
 ghost use Rattle.room_wire.specs.Messages.Taken.{Takes};
 
 use crate::messages::fields::body_length;
-use crate::messages::message::{Message, Take};
+use crate::messages::message::{MAX_FIELDS, Message, Take};
 use httparse::Status;
 use httparse::spans::{EMPTY_HEADER_SPAN, HeaderSpan, RequestSpans, parse_request};
 
 /// The greatest length of a head.
-const MAX_HEAD: usize = 8192;
+pub(crate) const MAX_HEAD: usize = 8192;
 
 /// The message at the front of the input, if one stands there. Takes no memory. `More` says what is
 /// lacking: the rest of a head, in fewer than 8,192 bytes, or the rest of a body whose head is whole.
@@ -21,7 +21,7 @@ pub fn take_message(input: &[u8]) -> Take<'_>
         return Take::More;
     }
     let window = &input[..input.len().min(MAX_HEAD)];
-    let mut spans = [EMPTY_HEADER_SPAN; 32];
+    let mut spans = [EMPTY_HEADER_SPAN; MAX_FIELDS];
     match parse_request(window, &mut spans) {
         Ok(Status::Complete(head)) => take_body(input, window, spans, head),
         Ok(Status::Partial) => {
@@ -45,7 +45,7 @@ fn text_of(bytes: &[u8]) -> &str
 fn take_body<'a>(
     input: &'a [u8],
     window: &'a [u8],
-    spans: [HeaderSpan; 32],
+    spans: [HeaderSpan; MAX_FIELDS],
     head: RequestSpans,
 ) -> Take<'a>
     requires some { 0 < length input.now }

@@ -2,17 +2,19 @@
 ghost use Rattle.std.specs.Prelude.{◌≡◌, IfOk};
 ghost use Rattle.serde_json.specs.Written.{compact_text};
 ghost use Rattle.room_wire.specs.Questions.CheckAnswers.{allowed_data, entries_data, answer_text, list_text};
-ghost use Rattle.room_wire.specs.Questions.CheckAnswers.{child_text, fault_text, bit_of};
+ghost use Rattle.room_wire.specs.Questions.CheckAnswers.{child_text, bit_of};
 ghost use Rattle.room_wire.specs.Questions.QuestionModel.{question_model};
 
+use crate::forms::replies::refused_text;
 use crate::forms::writing::{
     SHORT_MEMBERS, begun, ended, entries_member, number_member, size_of_entries,
 };
 use crate::questions::question::Question;
 use room_acl::{
-    Decision, Entry, Kind, ListFault, Mask, Principal, Standing, Subject, allowed_bits, check_own,
+    Decision, Entry, Kind, Mask, Principal, Standing, Subject, allowed_bits, check_own,
     copy_principals, decide, hand_down,
 };
+use room_commands::RefusalCode;
 use std::alloc::{AllocError, Global};
 
 fn allowed_text(alloc: Global, allowed: u32, bit: u32) -> Result<Vec<u8>, AllocError>
@@ -74,15 +76,6 @@ fn entries_text(alloc: Global, entries: &[Entry]) -> Result<Vec<u8>, AllocError>
     ended(out)
 }
 
-fn fault_text(fault: ListFault) -> &'static str
-    ensures { result.now ≡ fault_text fault }
-{
-    match fault {
-        ListFault::Inval => "{\"code\":7,\"error\":\"INVAL\"}",
-        ListFault::AttrNotSupp => "{\"code\":8,\"error\":\"ATTRNOTSUPP\"}",
-    }
-}
-
 fn child_answer(alloc: Global, entries: &[Entry], kind: Kind) -> Result<Vec<u8>, AllocError>
     ensures { IfOk result (λ text. text.items ≡ child_text entries.now kind) }
 {
@@ -91,7 +84,7 @@ fn child_answer(alloc: Global, entries: &[Entry], kind: Kind) -> Result<Vec<u8>,
             let handed = hand_down(alloc, entries, kind)?;
             entries_text(alloc, &handed)
         }
-        Err(fault) => Vec::from_slice(alloc, fault_text(fault).as_bytes()),
+        Err(fault) => refused_text(alloc, RefusalCode::of_list_fault(fault)),
     }
 }
 

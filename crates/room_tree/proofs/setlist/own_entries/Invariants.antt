@@ -1,6 +1,6 @@
 use Rattle.std.proofs.Common.{◌≡◌, ◌++◌, drop}
 use Rattle.std.specs.List.{filter_map}
-use Rattle.room_tree.specs.LoadedObjects.{kept_entry}
+use Rattle.room_commands.specs.SetList.{kept_entry}
 use Rattle.room_tree.proofs.setlist.own_entries.Given as goal
 
 -- what was kept so far, and what the rest leaves, is what the whole list leaves

@@ -2,13 +2,12 @@ use Rattle.std.proofs.Common.{◌≡◌, ap, sym, ◌∙◌, [], ◌∷◌, refl
 use Rattle.std.specs.List.{filter_map}
 use Rattle.room_acl.specs.Inheritance.{own_entries_fault, with_inherited}
 use Rattle.room_records.specs.Room.{object_at}
-use Rattle.room_commands.specs.SetList.{own_entries_of_setlist}
+use Rattle.room_commands.specs.SetList.{kept_entry, own_entries_of_setlist}
 use Rattle.room_records.proofs.Shelves.{read_then}
-use Rattle.room_tree.specs.LoadedObjects.{node_of, kept_entry}
+use Rattle.room_tree.specs.LoadedObjects.{node_of}
 use Rattle.room_tree.specs.Renewals.{entries_of}
 use Rattle.room_commands.specs.Checks.{walk, check_exists, check_right, check_lawful, kind_of}
 use Rattle.room_tree.proofs.Checking.{none_passes, first_alone, there}
-use Rattle.room_tree.proofs.Marks.{kept_is}
 use Rattle.room_tree.proofs.Relisted.{setlist_plans}
 use Rattle.room_tree.proofs.Stops.{handed_on, in_front}
 use Rattle.room_tree.proofs.InTurn.{both_tell}
@@ -35,7 +34,7 @@ returns-in_err-check_lawful-clause-effect g c = λ available laid_out t e room s
     let loaded = c.in_ok-loaded.loaded in
     let reached = c.in_ok-loaded.ensures.value available laid_out t e room stand in
     let own : c.in_ok-own.own.items ≡ own_entries_of_setlist path flag sent =
-    c.in_ok-own.ensures ∙ ap (λ b. filter_map (kept_entry b) sent) c.follows_at.ensures ∙ kept_is path flag sent in
+    c.in_ok-own.ensures ∙ ap (λ b. filter_map (kept_entry b) sent) c.follows_at.ensures in
     let kind : loaded.kind ≡ kind_of (object_at room path) =
     reached.1.is_there.shows.kind ∙ sym (ap kind_of (there reached.1)) in
     let whole = none_passes (walk room caller path ∷ check_exists room path ∷ check_right room caller path 0x40000 ∷ [])
@@ -64,7 +63,7 @@ returns-clause-effect g c = λ available laid_out t e room stand.
     let reached = told.0 in
     let stored = told.1.1.0 path reached.1 in
     let own : c.in_ok-own.own.items ≡ own_entries_of_setlist path flag sent =
-    c.in_ok-own.ensures ∙ ap (λ b. filter_map (kept_entry b) sent) c.follows_at.ensures ∙ kept_is path flag sent in
+    c.in_ok-own.ensures ∙ ap (λ b. filter_map (kept_entry b) sent) c.follows_at.ensures in
     let kind : loaded.kind ≡ kind_of (object_at room path) =
     reached.1.is_there.shows.kind ∙ sym (ap kind_of (there reached.1)) in
     let whole = none_passes (walk room caller path ∷ check_exists room path ∷ check_right room caller path 0x40000 ∷ [])

@@ -1,15 +1,15 @@
 -- A command that a body asks is lawful, where its bytes are bytes.
-use Rattle.std.proofs.Common.{◌≡◌, ◌<◌, ◌^◌, ℕ, suc, Bool, true, false, ◌&&◌, List, [], ◌∷◌, length, get_or, cond, refl}
+use Rattle.std.proofs.Common.{◌≡◌, ◌^◌, ℕ, suc, Bool, true, false, ◌&&◌, List, [], ◌∷◌, length, get_or, cond, refl}
 use Rattle.std.proofs.Common.{sym, ap, subst, arith, Option, None, Some, codes, Fits, w8}
 use Rattle.std.specs.Prelude.{IsTrue, not, nat_le, nat_lt, ◌==◌, bytes_eq, bit_and, option_map, option_and_then}
 use Rattle.std.specs.List.{list_all, AllByRecursion}
-use Rattle.std.proofs.lemmas.Bool.{and_parts, leb-true, ltb-true, eqb-true}
+use Rattle.std.proofs.lemmas.Bool.{and_parts, leb-true, eqb-true}
 use Rattle.std.proofs.lemmas.Option.{cond_some, same_Some, option_and_then_some}
 use Rattle.serde_json.specs.Data.{Data, Items, no_items, item}
 use Rattle.serde_json.specs.Find.{as_array, get}
 use Rattle.room_acl.specs.declared.who.Who.{Who}
 use Rattle.room_acl.specs.declared.who.Who.TheVariants.{Owner, Group, Everyone, User, Members}
-use Rattle.room_acl.specs.Bits.{IsFlags, IsMask, identifier_group}
+use Rattle.room_acl.specs.Bits.{IsFlags, IsListFlags, IsMask, all_list_flags, identifier_group}
 use Rattle.room_acl.specs.Entries.{EntryModel, names_its_kind}
 use Rattle.room_acl.specs.Principals.{IsPrincipal, is_principal_byte}
 use Rattle.room_records.specs.Names.{Path, IsPath}
@@ -63,9 +63,9 @@ mask_fact n mask e =
     subst IsMask parts.1
     (eqb-true (bit_and n 0x1F07FF) n (and_parts (nat_lt n (2 ^ 32)) (bit_and n 0x1F07FF == n) parts.0).1)
 
-list_flags_fact : (n flags : ℕ) → list_flags_from n ≡ Some flags → flags < 8
-list_flags_fact n flags e = let parts = cond_some (nat_lt n 8) n flags e in
-    subst (λ f. f < 8) parts.1 (ltb-true n 8 parts.0)
+list_flags_fact : (n flags : ℕ) → list_flags_from n ≡ Some flags → IsListFlags flags
+list_flags_fact n flags e = let parts = cond_some (nat_le n all_list_flags) n flags e in
+    subst IsListFlags parts.1 (leb-true n all_list_flags parts.0)
 
 path_at_fact : (name : List ℕ) (d : Data) (path : Path) → path_at name d ≡ Some path → IsPath path
 path_at_fact name d path e =
@@ -81,7 +81,7 @@ flags_at_fact name d n e = option_and_then_some flags_from (number_at name d) n 
 mask_at_fact : (name : List ℕ) (d : Data) (n : ℕ) → mask_at name d ≡ Some n → IsMask n
 mask_at_fact name d n e = option_and_then_some mask_from (number_at name d) n e (λ k is made. mask_fact k n made)
 
-list_flags_at_fact : (name : List ℕ) (d : Data) (n : ℕ) → list_flags_at name d ≡ Some n → n < 8
+list_flags_at_fact : (name : List ℕ) (d : Data) (n : ℕ) → list_flags_at name d ≡ Some n → IsListFlags n
 list_flags_at_fact name d n e =
     option_and_then_some list_flags_from (number_at name d) n e (λ k is made. list_flags_fact k n made)
 
@@ -173,7 +173,7 @@ rename_by_fact (Some path) (Some to) c paths tos made =
 rename_by_fact path to c paths tos made = absurd cc
 
 set_list_by_fact : (flags : Option ℕ) (entries : Option (List EntryModel)) (path : Option Path) (c : CommandModel)
-    → ((n : ℕ) → flags ≡ Some n → n < 8)
+    → ((n : ℕ) → flags ≡ Some n → IsListFlags n)
     → ((es : List EntryModel) → entries ≡ Some es → AllByRecursion IsEntry es)
     → PathsAt path → set_list_by flags entries path ≡ Some c → IsLawful c
 set_list_by_fact (Some flags) (Some entries) (Some path) c low all paths made =

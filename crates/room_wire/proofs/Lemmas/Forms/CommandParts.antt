@@ -9,7 +9,7 @@ use Rattle.std.proofs.lemmas.Slice.Eq.{bytes_eq-Decides}
 use Rattle.serde_json.specs.Find.{as_number, as_u64}
 use Rattle.room_acl.specs.declared.who.Who.{Who}
 use Rattle.room_acl.specs.declared.who.Who.TheVariants.{Owner, Group, Everyone, User, Members}
-use Rattle.room_acl.specs.Bits.{IsFlags, IsMask, identifier_group}
+use Rattle.room_acl.specs.Bits.{IsFlags, IsListFlags, IsMask, all_list_flags, identifier_group}
 use Rattle.room_acl.specs.Entries.{EntryModel, names_its_kind}
 use Rattle.room_acl.specs.Principals.{IsPrincipal, is_principal_byte}
 use Rattle.room_records.specs.Names.{Path, IsPath, path_text}
@@ -23,8 +23,8 @@ use Rattle.room_wire.proofs.Lemmas.Forms.CommandPaths.{path_of_text}
 pub path_back : (path : Path) → IsPath path → path_from (path_text path) ≡ Some path
 path_back path h = path_of_text (path_text path) path h refl
 
-pub list_flags_back : (n : ℕ) → n < 8 → list_flags_from n ≡ Some n
-list_flags_back n h = ap (λ b. cond b (Some n) None) (lt-ltb n 8 h)
+pub list_flags_back : (n : ℕ) → IsListFlags n → list_flags_from n ≡ Some n
+list_flags_back n h = ap (λ b. cond b (Some n) None) (le-leb n all_list_flags h)
 
 pub flags_small : (n : ℕ) → IsFlags n → n < 256
 flags_small n h = let same : bit_and n 0xCF ≡ n = h in let most = and_le_r n 0xCF in omega (arith, same, most)

@@ -9,10 +9,10 @@ use Rattle.httparse.specs.Grammar.{RequestHead, IsRequestHead, print_request, Re
 use Rattle.httparse.specs.Spans.{name_and_value, RequestOverflows, AreFieldsAt, header_bytes}
 use Rattle.httparse.specs.declared.spans.HeaderSpan.{HeaderSpan}
 use Rattle.httparse.proofs.GrammarLemmas.{request_prefix_free}
-use Rattle.room_wire.specs.Messages.Limits.{max_head}
+use Rattle.room_wire.specs.Messages.Limits.{max_fields, max_head}
 use Rattle.room_wire.specs.Messages.MessageModel.{MessageModel, body_after, print_message, Reads, NoMessage}
 use Rattle.room_wire.specs.Messages.MessageModel.{NeverMessage}
-use Rattle.room_wire.proofs.Lemmas.Messages.Seams.{same_front, front_in}
+use Rattle.room_wire.proofs.Lemmas.Messages.Boundaries.{same_front, front_in}
 
 -- the head of a message at the front
 pub head_read : (bytes : List ℕ) (m : MessageModel) (rest : List ℕ)
@@ -81,7 +81,7 @@ none_yet input window len n h p states short m rest x =
     absurd (omega arith)
 
 -- more fields than a message may have
-pub never_by_overflow : (input window : List ℕ) → window ≡ take max_head input → RequestOverflows 32 window
+pub never_by_overflow : (input window : List ℕ) → window ≡ take max_head input → RequestOverflows max_fields window
     → NeverMessage input
 never_by_overflow input window e over more m rest x =
     let read = head_read (input ++ more) m rest x in
@@ -126,7 +126,7 @@ after_head input window len h p =
 -- the message that stands at the front
 pub message_at : (input window : List ℕ) (len size n : ℕ) (h : RequestHead)
     → Parsed input window len h → body_after h ≡ Some n → size ≡ len + n → size ≤ length input
-    → len ≤ max_head → length h.fields ≤ 32
+    → len ≤ max_head → length h.fields ≤ max_fields
     → Reads input (record { head = h; body = slice_range input len size }) (drop size input)
 message_at input window len size n h p states size_is fits short few =
     let ordered : len ≤ size = omega arith in

@@ -8,7 +8,7 @@ use Rattle.std.proofs.lemmas.Str.Ascii.{IsAscii-cons, IsAscii-nil}
 use Rattle.httparse.specs.Grammar.{RequestHead, IsRequestHead, is_token_byte, is_uri_byte, lf, print_request}
 use Rattle.httparse.specs.Grammar.{HasNoRequest, MayBecomeRequest}
 use Rattle.httparse.proofs.OpenLemmas.{letter_is_token}
-use Rattle.room_wire.specs.Messages.Limits.{max_head}
+use Rattle.room_wire.specs.Messages.Limits.{max_fields, max_head}
 use Rattle.room_wire.specs.Messages.MessageModel.{body_after}
 use Rattle.room_wire.specs.Messages.Taken.{LacksHead, LacksBody}
 use Rattle.room_wire.proofs.Lemmas.Messages.Fronts.{Parsed, after_head, head_size}
@@ -49,7 +49,7 @@ lacks_all (b ∷ bytes) e = absurd (omega arith)
 -- a head that was read, whose body is longer than what follows
 pub lacks_body : (input window : List ℕ) (len n : ℕ) (h : RequestHead) → Parsed input window len h
     → body_after h ≡ Some n → len ≤ length input → length input < len + n
-    → len ≤ max_head → length h.fields ≤ 32 → LacksBody input
+    → len ≤ max_head → length h.fields ≤ max_fields → LacksBody input
 lacks_body input window len n h p states inside short fits few = record {
   head = h;
   rest = drop len input;

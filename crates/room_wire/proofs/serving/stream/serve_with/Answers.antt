@@ -6,7 +6,7 @@ use Rattle.room_wire.proofs.Lemmas.Messages.Fronts.{none_empty}
 use Rattle.room_wire.proofs.Lemmas.Serving.Joins.{more_follows, more_ended, more_begun, more_count}
 use Rattle.room_wire.proofs.Lemmas.Serving.Joins.{refused_ends, never_none}
 use Rattle.room_wire.proofs.Lemmas.Serving.Rounds.{breaks, outputs_then}
-use Rattle.room_wire.proofs.Lemmas.Messages.Seams.{some_when, empty_when}
+use Rattle.room_wire.proofs.Lemmas.Messages.Boundaries.{some_when, empty_when}
 use Rattle.room_wire.proofs.Lemmas.Messages.Streams.{follows_more}
 use Rattle.room_wire.proofs.serving.stream.serve_with.Goals as goal
 

@@ -1,7 +1,7 @@
 use Rattle.std.proofs.Common.{◌≡◌, ◌≤◌, ◌-◌, ◌+◌, take, length, List, ◌++◌, ℕ, ap, arith, ◌∙◌, slice_range}
 use borrow.Rule.Slice.PartMut.{put_mid}
 use Rattle.std.proofs.lemmas.List.{with_items_is}
-use Rattle.room_wire.proofs.Lemmas.Messages.Seams.{front_then, whole_length}
+use Rattle.room_wire.proofs.Lemmas.Messages.Boundaries.{front_then, whole_length}
 use Rattle.room_wire.proofs.serving.input.Input.read_from.Goals as goal
 
 pub returns-clause-ok : goal.returns-clause-ok

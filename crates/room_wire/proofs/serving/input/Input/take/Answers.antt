@@ -1,4 +1,4 @@
-use Rattle.room_wire.proofs.Lemmas.Messages.Seams.{range_drop}
+use Rattle.room_wire.proofs.Lemmas.Messages.Boundaries.{range_drop}
 use Rattle.room_wire.proofs.serving.input.Input.take.Goals as goal
 
 pub returns : goal.returns

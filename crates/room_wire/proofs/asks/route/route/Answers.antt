@@ -1,7 +1,7 @@
 use Rattle.std.proofs.Common.{subst}
 use Rattle.room_wire.specs.Asks.AskOf.{RoutesAsk, ask_for}
 use Rattle.room_wire.specs.Asks.Routing.{target_at, room_rows}
-use Rattle.room_wire.proofs.asks.decoding.route.Goals as goal
+use Rattle.room_wire.proofs.asks.route.route.Goals as goal
 
 -- what was lent of the message is the message's
 pub returns : goal.returns
