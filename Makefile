@@ -2,17 +2,22 @@
 # Only `make test` is a verdict.
 RT ?= rt
 
-.PHONY: demo build test wrong growth failing full wire tables upgrade crash hostile front soak client page bench install uninstall service firstday
+.PHONY: demo build test wrong growth failing full wire tables upgrade crash hostile front soak client page bench
+.PHONY: install uninstall service firstday
 
 # Answers the questions of examples/, and walks through a served room with curl: with build/fileroom where `make build`
 # made it, and else with the toolchain's quick build, which proves nothing.
 demo:
 	@RT='$(RT)' examples/demo
-	@if [ -x build/fileroom ]; then echo "demo: a walk with build/fileroom, proved and optimised"; examples/walk; \
-	else echo "demo: a walk with the quick build, which proves nothing (some minutes)"; RT='$(RT)' FILEROOM=examples/quick examples/walk; fi
+	@if [ -x build/fileroom ]; then \
+		echo "demo: a walk with build/fileroom, proved and optimised"; examples/walk; \
+	else \
+		echo "demo: a walk with the quick build, which proves nothing (some minutes)"; \
+		RT='$(RT)' FILEROOM=examples/quick examples/walk; \
+	fi
 
-# Leaves the program, proved and optimised, at build/fileroom, and shows how far it is. Where `make test` has proved these
-# very crates in this checkout, it takes that program.
+# Leaves the program, proved and optimised, at build/fileroom, and shows how far it is. Where `make test` has proved
+# these very crates in this checkout, it takes that program.
 build:
 	@RT='$(RT)' tools/build
 
@@ -25,8 +30,8 @@ test:
 wrong:
 	@RT='$(RT)' tests/wrong/rounds $(CRATE)
 
-# Refuses each growth of memory in turn, over questions, a room, and all examples. `make test` tries a sample of those of
-# the examples.
+# Refuses each growth of memory in turn, over questions, a room, and all examples. `make test` tries a sample of those
+# of the examples.
 growth: build
 	RT='$(RT)' tests/growth/run
 	RT='$(RT)' EVERY=1 tests/growth/examples
@@ -78,13 +83,14 @@ firstday: build
 	tests/firstday/run
 	RT='$(RT)' tests/firstday/run quick
 
-# Tries the page in a browser. Needs nginx-light, chromium and chromium-driver, and says so where they are not installed.
+# Tries the page in a browser. Needs nginx-light, chromium and chromium-driver, and says so where they are not
+# installed.
 page: build
 	tests/page/run
 
-# Times `check`, a room in memory, a served room, its tables, SETLIST over many followers, `replay` and the reports; then
-# the program beside a server in C over libsqlite3, and counts the instructions of both, and as a room grows; then the
-# upgrade of large rooms of version 1, and many rooms behind a front.
+# Times `check`, a room in memory, a served room, its tables, SETLIST over many followers, `replay` and the reports;
+# then the program beside a server in C over libsqlite3, and counts the instructions of both, and as a room grows; then
+# the upgrade of large rooms of version 1, and many rooms behind a front.
 # Needs sqlite3, strace, valgrind, gcc, libsqlite3-dev and nginx.
 bench: build
 	bench/check
@@ -99,9 +105,9 @@ bench: build
 	bench/upgrade
 	bench/many
 
-# Puts the proved program that `make build` made below PREFIX, with its man pages, the client, the page, units, the backup
-# script, and samples of roster and front: docs/RUNNING.md goes on from there. DESTDIR stands before each path, for who
-# makes a package.
+# Puts the proved program that `make build` made below PREFIX, with its man pages, the client, the page, units, the
+# backup script, and samples of roster and front: docs/RUNNING.md goes on from there. DESTDIR stands before each path,
+# for who makes a package.
 PREFIX ?= /usr/local
 install:
 	@service/install '$(DESTDIR)' '$(PREFIX)'

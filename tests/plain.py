@@ -106,7 +106,8 @@ def one_of(found, *values):
 
 
 def is_name(name):
-    return 1 <= len(name.encode()) <= 64 and name not in (".", "..") and not any(ord(c) < 32 or ord(c) == 127 for c in name)
+    controls = any(ord(c) < 32 or ord(c) == 127 for c in name)
+    return 1 <= len(name.encode()) <= 64 and name not in (".", "..") and not controls
 
 
 def path(found):

@@ -11,8 +11,10 @@ import http
 import json
 import os
 import random
+import re
 import signal
 import socket
+import sqlite3
 import subprocess
 import sys
 import tempfile
@@ -95,6 +97,26 @@ def sqlite(db, text):
     return done.stdout + done.stderr
 
 
+def findings_of(db):
+    """What SQLite finds wrong in a file: in its pages, its rows, and where one refers to another."""
+    try:
+        with contextlib.closing(sqlite3.connect(db)) as table:
+            found = [it for name in ("integrity_check", "foreign_key_check") for it in table.execute(f"PRAGMA {name}")]
+    except sqlite3.Error as fault:
+        return [str(fault)]
+    return found[1:] if found[:1] == [("ok",)] else found
+
+
+def text_of(path):
+    with open(path, encoding="utf-8") as file:
+        return file.read()
+
+
+def bytes_of(path):
+    with open(path, "rb") as file:
+        return file.read()
+
+
 def peak_of(pid):
     """The most memory that a process has held, in KiB, or 0 once it has ended."""
     with open(f"/proc/{pid}/status") as status:
@@ -110,17 +132,31 @@ def free_port():
     sys.exit(f"{SCRIPT}: no port is free")
 
 
+def listener(port):
+    """The socket that listens on a port, as /proc names it, or None."""
+    with open("/proc/net/tcp") as sockets:
+        found = re.search(f":{port:04X} 00000000:0000 0A .*", sockets.read())
+    return found and f"socket:[{found[0].split()[8]}]"
+
+
+def has_file(server, name):
+    """Whether one of the open files of this process has a name."""
+    folder = f"/proc/{server.pid}/fd"
+    with contextlib.suppress(OSError):
+        return any(os.readlink(os.path.join(folder, it)) == name for it in os.listdir(folder))
+    return False
+
+
 def wait_for_port(port, server):
-    """Waits until this server listens on a port. False where it ended before."""
-    listening = f":{port:04X} 00000000:0000 0A"
+    """Waits until this server, and no other, listens on a port. False where it ended before."""
     end = time.monotonic() + WAIT
     while time.monotonic() < end:
         if server.poll() is not None:
             return False
-        with open("/proc/net/tcp") as sockets:
-            if listening in sockets.read():
-                return True
-        time.sleep(0.01)
+        name = listener(port)
+        if name and has_file(server, name):
+            return True
+        time.sleep(0.005)
     sys.exit(f"{SCRIPT}: the server does not listen")
 
 
@@ -199,7 +235,8 @@ def first_answer(written):
     head, end, rest = written.partition(b"\r\n\r\n")
     if not end:
         return None
-    length = next(int(line[15:]) for line in head.split(b"\r\n") if line.lower().startswith(b"content-length:"))
+    told = re.search(rb"(?i)\r\ncontent-length:[ \t]*([0-9]+)", head)
+    length = int(told[1]) if told else 0
     return (Answer(head, rest[:length]), rest[length:]) if len(rest) >= length else None
 
 
@@ -240,6 +277,16 @@ class Line:
     def ask(self, data):
         self.send(data)
         return self.answer()
+
+    def end(self):
+        """Nothing more is sent."""
+        with contextlib.suppress(OSError):
+            self.socket.shutdown(socket.SHUT_WR)
+
+    def taken(self):
+        """What came and is no whole answer."""
+        rest, self.rest = self.rest, b""
+        return rest
 
     def to_end(self):
         """All that still comes."""
@@ -297,6 +344,36 @@ class Room:
 
     def report(self, kind):
         return run("report", self.db, self.roster, kind)
+
+
+class PlayedRoom(Room):
+    """A room with a server while one is needed, and a connection to it while one is open."""
+    open_line = None
+
+    def connect(self):
+        """The connection that is open, or a new one."""
+        if not self.server:
+            self.start()
+        self.open_line = self.open_line or self.line()
+        return self.open_line
+
+    def hang_up(self):
+        if self.open_line:
+            self.open_line.close()
+            self.open_line = None
+
+    def stop(self):
+        self.hang_up()
+        if self.server:
+            self.kill()
+            self.server = None
+
+    def set_next(self, number):
+        """Has the next new object get this number."""
+        self.stop()
+        with sqlite3.connect(self.db) as table:
+            table.execute("UPDATE room SET next = ?", (number,))
+        table.close()
 
 
 if __name__ == "__main__":

@@ -1,9 +1,13 @@
-"""The toolchain's command `rt` as a module: its own insides, which are no interface, so each user names those it needs."""
+"""The toolchain's command `rt` as a module: its own insides, which are no interface, so each user names those it
+needs."""
 import importlib.machinery
 import importlib.util
 import os
 import shutil
 import sys
+
+
+KIT = "rattle-kit-13f"  # for which the scripts were written
 
 
 def load(who, used):
@@ -19,7 +23,7 @@ def load(who, used):
         it = made
         for part in name.split("."):
             if not hasattr(it, part):
-                stop(who, f"{found} has no {name}: this script was written for the kit rattle-kit-13f and has to follow rt")
+                stop(who, f"{found} has no {name}: this script was written for the kit {KIT} and has to follow rt")
             it = getattr(it, part)
     return made
 
