@@ -1,11 +1,12 @@
-"""What figures were measured on: the head that a script prints first, and the load as it ends."""
+"""What a script prints: first what its figures were measured on, then tables, and the load as it ends."""
 import atexit
 import os
 import subprocess
+import sys
 import time
 
 from disk import flushes
-from served import HERE, PROGRAM, work_folder
+from served import HERE, PROGRAM, SCRIPT, work_folder
 
 
 def said(*words):
@@ -30,3 +31,20 @@ def machine(is_timed=False):
         with work_folder() as folder:
             print(f"the disk: {flushes(folder):.0f} flushes a second", flush=True)
     atexit.register(lambda: print(f"load at the end: {load()}", flush=True))
+
+
+def row(*cells):
+    print(f"| {' | '.join(map(str, cells))} |", flush=True)
+
+
+def heading(*cells):
+    """The two lines that a table begins with."""
+    row(*cells)
+    row(*["---"] * len(cells))
+
+
+def chosen(words):
+    """The word of the command line, which is one of these, or "" where there is none. Another ends the script."""
+    if len(sys.argv) > 2 or not {*sys.argv[1:]} <= {*words}:
+        sys.exit(f"{SCRIPT}: it takes {'one of the words ' + ', '.join(words) if words else 'no words'}")
+    return "".join(sys.argv[1:])
