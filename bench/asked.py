@@ -15,9 +15,10 @@ def bytes_of(count, seed):
     return base64.b64encode(random.Random(seed).randbytes(count)).decode()
 
 
-def command(cmd, path, **more):
-    """A command whose members stand as in its text, so that a repeat of it has the bytes that the slot keeps."""
-    return dict(sorted({"cmd": cmd, "path": path, **more}.items()))
+def command(cmd, path, size=0):
+    """A command, with so many bytes where there are any. Its members stand as in its text, so that a repeat of it has
+    the bytes that the slot keeps."""
+    return {"cmd": cmd, **({"data": bytes_of(size, path)} if size else {}), "path": path}
 
 
 def floor(line, count):

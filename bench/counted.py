@@ -118,8 +118,8 @@ class CountedAnchor(Counted):
 
 
 def taken(kind, room, commands, user="ann", number=0, anew=False):
-    """What a server of this class takes, from its start to its end, that is asked these over a copy of a room, in a slot
-    whose last number is that: over one connection, or each over a new one."""
+    """What a server of this class takes, from its start to its end, that is asked these over a copy of a room, in a
+    slot whose last number is that: over one connection, or each over a new one."""
     with work_folder(dir="/dev/shm") as folder:
         copy = room.copied(kind, folder).start()
         asked = Slot(copy.line(), user, number=number)

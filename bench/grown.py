@@ -57,7 +57,7 @@ class Grown:
             self.node(parent, f"o{n}", 0)
 
     def put(self, last, place):
-        """Writes the rows into the file, with lists of entries up to the last, of which the one at this place decides."""
+        """Writes the rows into the file, with lists of entries up to the last, of which the one at a place decides."""
         with contextlib.closing(sqlite3.connect(self.room.db)) as db, db:
             db.executemany("INSERT INTO node VALUES (?, ?, ?, ?, ?, ?, ?)", self.nodes)
             db.execute("INSERT INTO doc SELECT id, randomblob(1024) FROM node WHERE kind = 0")

@@ -23,10 +23,11 @@ def model():
 
 
 def machine(is_timed=False):
-    """Prints the date, this checkout's commit, the program's version, the machine and its load, and where times are told
-    how often a second the disk takes 4 KiB for good; at the script's end the load once more."""
+    """Prints the date, this checkout's commit, the program's version, the machine and its load, and where times are
+    told how often a second the disk takes 4 KiB for good; at the script's end the load once more."""
     print(f"{time.strftime('%Y-%m-%d')}, commit {said('git', '-C', HERE, 'rev-parse', '--short', 'HEAD')}, "
-          f"{said(PROGRAM, '--version')}; {os.cpu_count()} processors, {model()}; load at the start: {load()}", flush=True)
+          f"{said(PROGRAM, '--version')}; {os.cpu_count()} processors, {model()}; load at the start: {load()}",
+          flush=True)
     if is_timed:
         with work_folder() as folder:
             print(f"the disk: {flushes(folder):.0f} flushes a second", flush=True)

@@ -1,7 +1,7 @@
 // load PORT ANSWERS < MESSAGES: sends messages over one connection, each after the answer to the one before.
 //
-// A message is its length in decimal, LF, and its bytes. Written are the nanoseconds of each, a line each; the answers go
-// to the file ANSWERS, heads and bodies as they came, each with LF behind it.
+// A message is its length in decimal, LF, and its bytes. Written are the nanoseconds of each, a line each; the answers
+// go to the file ANSWERS, heads and bodies as they came, each with LF behind it.
 #include <arpa/inet.h>
 #include <netinet/tcp.h>
 #include <stdio.h>
@@ -37,7 +37,8 @@ static size_t read_answer(int line)
             fail("the answer");
         held += (size_t)more;
         answer[held] = 0;
-        char *end = whole < MOST ? 0 : strstr(answer, "\r\n\r\n"), *length = end ? strstr(answer, "content-length: ") : 0;
+        char *end = whole < MOST ? 0 : strstr(answer, "\r\n\r\n");
+        char *length = end ? strstr(answer, "content-length: ") : 0;
         if (length)
             whole = (size_t)(end + 4 - answer) + strtoul(length + 16, 0, 10);
     }
