@@ -21,6 +21,7 @@ ENVIRONMENT = {**os.environ, "GLIBC_TUNABLES": COPYING}
 served.WAIT = 3600  # seconds: a server that is counted is slow, on a loaded machine very much so
 NOT_YET = "--instr-atstart=no"  # nothing is counted until `counts` says so
 LIBRARY = "sqlite"  # how the names of the SQL library's functions begin
+RUNNERS = [f"room_sql::writes::{it}" for it in ("run", "changed", "run_or")]  # each before its callers
 
 
 def callgrind(out, *words):
@@ -33,23 +34,35 @@ def total(out):
         return int(re.search(r"(?m)^totals: (\d+)", file.read())[1])
 
 
-def calls_into_library(out):
-    """The instructions of all calls that lead from other functions to those of the SQL library, what these call counted
-    in, by the function that calls."""
+def calls(out):
+    """The instructions of all calls from the one function to the other, what these call counted in."""
     names, found, caller, callee, is_call = {}, collections.Counter(), "", "", False
     with open(out) as file:
         for line in file:
             kind, _, said = line.rstrip().partition("=")
             if is_call:
-                if callee.startswith(LIBRARY) and not caller.startswith(LIBRARY):
-                    found[caller] += int(line.split()[-1])
+                found[caller, callee] += int(line.split()[-1])
                 is_call = False
             elif kind in ("fn", "cfn"):
                 number, _, name = said.partition(" ")
-                name = names.setdefault(number, name)
+                name = names.setdefault(number, name.partition("::<")[0])  # (an instance has the function's name)
                 caller, callee = (name, callee) if kind == "fn" else (caller, name)
             elif kind == "calls":
                 is_call = True
+    return found
+
+
+def calls_into_library(out):
+    """The instructions of all calls that lead from other functions to those of the SQL library, by the function that
+    calls. What runs any statement stands for its callers, among which its calls are shared out by what theirs take."""
+    all_calls, found = calls(out), collections.Counter()
+    for (caller, callee), count in all_calls.items():
+        if callee.startswith(LIBRARY) and not caller.startswith(LIBRARY):
+            found[caller] += count
+    for runner in RUNNERS:
+        shared, callers = found.pop(runner, 0), {pair[0]: n for pair, n in all_calls.items() if pair[1] == runner}
+        for caller, count in callers.items():
+            found[caller] += shared * count / sum(callers.values())
     return found
 
 
