@@ -25,6 +25,12 @@ def list_rows(number, entries):
     return f"INSERT INTO entry VALUES {rows};"
 
 
+def setlist(turn):
+    """A SETLIST that changes the list of `/top`, in its turn."""
+    entries = [{"flag": flag, "mask": mask, "type": kind, "who": who} for kind, flag, mask, who in LISTS[turn % 2]]
+    return {"aclflag": 1, "cmd": "SETLIST", "entries": entries, "path": "/top"}
+
+
 def rows(objects):
     """The rows of a room with this number of objects besides the root and the outer folders."""
     number, top, out = 1, 1, ["BEGIN;"]

@@ -2,11 +2,10 @@
 
 They lie below `/p/g0/f0`, `/p/g0/f1` and so on, at a greater depth with more folders `p` above; at depth 1 those that are
 asked for lie at the root, and the others below `/p`. Each object has the list that the root hands down, of which the
-last entry decides and the others are somebody else's.
+last entry, or the first, decides and the others are somebody else's.
 """
 import contextlib
 import os
-import shutil
 import sqlite3
 from typing import NamedTuple
 
@@ -24,6 +23,7 @@ class Shape(NamedTuple):
     depth: int = 4
     size: int = 10
     length: int = 4
+    is_last: bool = True  # whether the last entry of a list decides, or the first
 
 
 class Grown:
@@ -42,7 +42,7 @@ class Grown:
             if n % 100 == 0:
                 upper, above = self.node(top, f"g{n // 100}", 1), f"{path}/g{n // 100}"
             self.filled(self.node(upper, f"f{n}", 1), f"{above}/f{n}", shape.size)
-        self.put(shape.length - 1)
+        self.put(shape.length - 1, shape.length - 1 if shape.is_last else 0)
         if shape.depth == 1:
             self.folders = self.folders[:1]
 
@@ -56,21 +56,19 @@ class Grown:
         for n in range(count):
             self.node(parent, f"o{n}", 0)
 
-    def put(self, last):
-        """Writes the rows into the file, with lists whose entry at this place decides."""
+    def put(self, last, place):
+        """Writes the rows into the file, with lists of entries up to the last, of which the one at a place decides."""
         with contextlib.closing(sqlite3.connect(self.room.db)) as db, db:
             db.executemany("INSERT INTO node VALUES (?, ?, ?, ?, ?, ?, ?)", self.nodes)
             db.execute("INSERT INTO doc SELECT id, randomblob(1024) FROM node WHERE kind = 0")
             db.execute("DELETE FROM entry")
             db.execute(f"""WITH RECURSIVE p(n) AS (SELECT 0 UNION ALL SELECT n + 1 FROM p WHERE n < {last})
                 INSERT INTO entry SELECT id, n, 0, iif(id = 1, {AT_ROOT}, iif(kind, {FOLDERS_PART}, {FILES_PART})),
-                {EVERYTHING}, iif(n = {last}, 'EVERYONE@', 'nobody') FROM node CROSS JOIN p""")
+                {EVERYTHING}, iif(n = {place}, 'EVERYONE@', 'nobody') FROM node CROSS JOIN p""")
             db.execute(f"UPDATE room SET next = {len(self.nodes) + 2}")
 
     @contextlib.contextmanager
     def copied(self, kind):
         """A room of this class over a copy of the file."""
         with work_folder(dir="/dev/shm") as folder:
-            room = kind(folder, ROSTER, made=False)
-            shutil.copy(self.room.db, room.db)
-            yield room
+            yield self.room.copied(kind, folder)

@@ -12,6 +12,7 @@ import json
 import os
 import random
 import re
+import shutil
 import signal
 import socket
 import sqlite3
@@ -313,6 +314,13 @@ class Room:
             told = run("init", self.db, owner, group)
             if told != (0, b"", b""):
                 sys.exit(f"{SCRIPT}: init ended with {told}")
+
+    def copied(self, kind, folder):
+        """A room of this class in this folder over a copy of the file, which no server has open."""
+        with open(self.roster) as file:
+            copy = kind(folder, file.read(), made=False)
+        shutil.copy(self.db, copy.db)
+        return copy
 
     def start(self, count=4294967295):
         """Starts the server, on another port where somebody took this one meanwhile."""

@@ -1,7 +1,7 @@
 // load PORT ANSWERS < MESSAGES: sends messages over one connection, each after the answer to the one before.
 //
-// A message is its length in decimal, LF, and its bytes. Written are the nanoseconds of each, a line each; the bodies
-// of the answers go to the file ANSWERS, a line each.
+// A message is its length in decimal, LF, and its bytes. Written are the nanoseconds of each, a line each; the answers
+// go to the file ANSWERS, heads and bodies as they came, each with LF behind it.
 #include <arpa/inet.h>
 #include <netinet/tcp.h>
 #include <stdio.h>
@@ -27,23 +27,22 @@ static long long now(void)
     return it.tv_sec * 1000000000LL + it.tv_nsec;
 }
 
-// Reads an answer: where its body begins. `held` is what was read.
-static size_t read_answer(int line, size_t *held)
+// Reads an answer: its length.
+static size_t read_answer(int line)
 {
-    size_t begin = 0, whole = MOST;
-    for (*held = 0; *held < whole;) {
-        ssize_t more = read(line, answer + *held, MOST - 1 - *held);
+    size_t held = 0, whole = MOST;
+    while (held < whole) {
+        ssize_t more = read(line, answer + held, MOST - 1 - held);
         if (more <= 0)
             fail("the answer");
-        *held += (size_t)more;
-        answer[*held] = 0;
-        char *end = begin ? 0 : strstr(answer, "\r\n\r\n"), *length = end ? strstr(answer, "content-length: ") : 0;
-        if (length) {
-            begin = (size_t)(end + 4 - answer);
-            whole = begin + strtoul(length + 16, 0, 10);
-        }
+        held += (size_t)more;
+        answer[held] = 0;
+        char *end = whole < MOST ? 0 : strstr(answer, "\r\n\r\n");
+        char *length = end ? strstr(answer, "content-length: ") : 0;
+        if (length)
+            whole = (size_t)(end + 4 - answer) + strtoul(length + 16, 0, 10);
     }
-    return begin;
+    return held;
 }
 
 int main(int count, char **words)
@@ -57,7 +56,7 @@ int main(int count, char **words)
     if (connect(line, (struct sockaddr *)&at, sizeof at))
         fail("connect");
     setsockopt(line, IPPROTO_TCP, TCP_NODELAY, &yes, sizeof yes);
-    for (size_t length, held; scanf("%zu%*1[\n]", &length) == 1;) {
+    for (size_t length; scanf("%zu%*1[\n]", &length) == 1;) {
         if (length > MOST || fread(message, 1, length, stdin) != length)
             fail("a message");
         long long begin = now();
@@ -67,9 +66,9 @@ int main(int count, char **words)
                 fail("send");
             sent += (size_t)more;
         }
-        size_t body = read_answer(line, &held);
+        size_t held = read_answer(line);
         printf("%lld\n", now() - begin);
-        fwrite(answer + body, 1, held - body, answers);
+        fwrite(answer, 1, held, answers);
         fputc('\n', answers);
     }
     return fclose(answers) != 0;

@@ -95,44 +95,59 @@ static int check_session(const struct slot *it)
     return code;
 }
 
-// Compares the number with the kept one: whether the request is new, and the kept reply where it is a repeat.
-static int check_slot(const struct slot *it, bool *is_new)
+// Whether a slot keeps this request: its reply then.
+static bool is_kept(sqlite3_stmt *slot, struct piece asked)
 {
-    sqlite3_stmt *found = ask(FIND_SLOT, "pn", sid_of(it), it->slot);
-    bool there = row(found);
-    number kept = there ? sqlite3_column_int64(found, 0) : 0;
-    *is_new = it->seq == ((kept + 1) & 0xFFFFFFFF);
-    int code = *is_new ? 0 : !there || it->seq != kept ? SEQ_MISORDERED : 0;
-    if (!*is_new && !code) {
-        struct piece was = bytes_at(found, 1), answered = bytes_at(found, 2);
-        code = was.length == request.length && !memcmp(was.at, request.at, was.length) ? 0 : SEQ_FALSE_RETRY;
-        if (!code)
-            put(&reply, answered.at, answered.length);
-    }
-    done(found);
-    return code;
+    struct piece was = bytes_at(slot, 1), answered = bytes_at(slot, 2);
+    bool same = was.length == asked.length && !memcmp(was.at, asked.at, was.length);
+    if (same)
+        put(&reply, answered.at, answered.length);
+    return same;
 }
 
-static int ask_slot(const struct slot *it, struct piece body)
+// A request with the number of the kept one. Where its body is the kept text it is not read.
+static int ask_again(sqlite3_stmt *slot, struct piece body)
 {
-    bool is_new = false;
+    if (is_kept(slot, body))
+        return 0;
     if (!read_command(body, &command))
         return BAD_REQUEST;
-    int code = check_session(it);
     request.length = 0;
     put_command(&request, &command);
-    code = code ? code : check_slot(it, &is_new);
-    if (!code && !is_new)
+    if (is_kept(slot, (struct piece){request.at, request.length}))
         return 0;  // (its data was good as it came first)
-    if (!read_base64(&command.bytes, command.data))
+    return read_base64(&command.bytes, command.data) ? SEQ_FALSE_RETRY : BAD_REQUEST;
+}
+
+// Another one. Where there is a code, it is refused with that, if its body is a command.
+static int ask_anew(const struct slot *it, struct piece body, int code)
+{
+    if (!read_command(body, &command) || !read_base64(&command.bytes, command.data))
         return BAD_REQUEST;
     if (code)
         return code;
+    request.length = 0;
+    put_command(&request, &command);
     do_command(&caller, &command, &reply);
     struct piece asked = {request.at, request.length}, told = {reply.at, reply.length};
     if (!run(ask(SET_SLOT, "pnnbb", sid_of(it), it->slot, it->seq, asked, told)))
         run(ask(ADD_SLOT, "pnnbb", sid_of(it), it->slot, it->seq, asked, told));
     return 0;
+}
+
+static int ask_slot(const struct slot *it, struct piece body)
+{
+    int code = check_session(it);
+    sqlite3_stmt *slot = ask(FIND_SLOT, "pn", sid_of(it), it->slot);
+    bool there = !code && row(slot);
+    number kept = there ? sqlite3_column_int64(slot, 0) : 0;
+    bool again = there && it->seq == kept;
+    if (again)
+        code = ask_again(slot, body);
+    else if (!code && it->seq != ((kept + 1) & 0xFFFFFFFF))
+        code = SEQ_MISORDERED;
+    done(slot);
+    return again ? code : ask_anew(it, body, code);
 }
 
 // Answers into `reply`, in one transaction. The code of a refused message, or 0.
