@@ -103,6 +103,10 @@ state_after start (Close caller name ∷ past) = state_after start past
 state_after start (Slot q ∷ past) = if is_accepted past q
     then (effect (state_after start past) q.caller q.command).room else state_after start past
 
+-- the number of the last of a slot's accepted requests: their count, modulo 2^32
+abbrev pub last_number : List Accepted → ℕ
+last_number requests = length requests % 2 ^ 32
+
 -- the commands of these requests
 abbrev pub commands_of : List Accepted → List CommandModel
 commands_of requests = map (λ (a : Accepted). a.request.command) requests
@@ -142,7 +146,7 @@ replay start a = answer_again (kept_reply start a)
 abbrev pub answer_unaccepted : Room → Request → List Accepted → AnswerModel
 answer_unaccepted start q [] = Refused SeqMisordered
 answer_unaccepted start q (last ∷ earlier) =
-    if q.seq == length (last ∷ earlier) % 2 ^ 32
+    if q.seq == last_number (last ∷ earlier)
     then (if bytes_eq (command_text q.command) (command_text last.request.command)
     then replay start last else Refused SeqFalseRetry)
     else Refused SeqMisordered
