@@ -1,7 +1,7 @@
 -- Histories: whose a session is, which requests are accepted, what the room is, and what is answered. Slots and their
 -- numbers are those of RFC 8881, sections 2.10.6.1 and 18.46; who owns a session name, when it is open, and that the
 -- first number is 1 are our own rules.
-use Rattle.std.specs.Prelude.{◌≡◌, ℕ, ◌%◌, ◌^◌, Bool, true, false, not, ◌&&◌, ◌==◌, List, [], ◌∷◌, length, map, Option}
+use Rattle.std.specs.Prelude.{ℕ, ◌%◌, ◌^◌, Bool, true, false, not, ◌&&◌, ◌==◌, List, [], ◌∷◌, length, map, Option}
 use Rattle.std.specs.Prelude.{None, Some, if◌then◌else◌, nat_lt, is_some}
 use Rattle.std.specs.List.{AllByRecursion, list_any}
 use Rattle.std.specs.Str.{bytes_eq}
@@ -188,8 +188,3 @@ abbrev pub leaves_no_reply : History → EventModel → Bool
 leaves_no_reply past (Open caller sid slots) = false
 leaves_no_reply past (Close caller sid) = false
 leaves_no_reply past (Slot q) = is_accepted past q && not q.keep
-
--- the answer tells the caller that something has changed
-abbrev pub ReportsChange : History → EventModel → AnswerModel → Type 0
-ReportsChange past event (Reply text) = changes_rows past event ≡ true
-ReportsChange past event (Refused code) = ⊥
