@@ -1,5 +1,5 @@
--- A CLOSE by the owner: what was committed, or not, stands for the longer history.
-use Rattle.std.proofs.Common.{◌≡◌, ap, sym, arith, option_map, ◌∙◌, List, ℕ, ◌∷◌, Some, true, false}
+-- A CLOSE by the owner: what was committed stands for the longer history.
+use Rattle.std.proofs.Common.{◌≡◌, ap, sym, arith, option_map, ◌∙◌, List, ℕ, ◌∷◌, Some, true}
 use Rattle.std.specs.Str.{bytes_eq}
 use Rattle.std.specs.Cmp.Lexicographic.{bytes_decides}
 use Rattle.std.proofs.lemmas.Grind.{common_steps}
@@ -13,9 +13,8 @@ use Rattle.room_records.specs.declared.session.SessionRow.{SessionRow}
 use Rattle.room_records.specs.Room.{Room}
 use Rattle.room_wire.specs.Asks.EventModel.{Close}
 use Rattle.room_desk.specs.History.{History, session_of, changes_rows}
-use Rattle.room_desk.specs.Representation.{RepresentsHistory, StandsWith, session_row_of, slot_row_of}
+use Rattle.room_desk.specs.Representation.{RepresentsHistory, session_row_of, slot_row_of}
 use Rattle.room_desk.specs.SessionRows.{closed_row, with_session_ended}
-use Rattle.room_desk.proofs.Alike.{stand_after_idle}
 use Rattle.room_desk.proofs.Answers.{usable}
 use Rattle.room_desk.proofs.Idle.{itself}
 use Rattle.room_desk.proofs.Opening.{rules_put_session, rules_drop_slots}
@@ -53,8 +52,8 @@ module _ {start : Room} {r : Records} {past : History} (stand : RepresentsHistor
   pub all_rules : RulesHold ended
   all_rules = record { objects = stand.room.rules; slots = rules_drop_slots _ name put_rules.slots }
 
-  stands : RepresentsHistory start ended (Close caller name ∷ past)
-  stands = record {
+  pub close_stands : RepresentsHistory start ended (Close caller name ∷ past)
+  close_stands = record {
     room = stand.room;
     rules = all_rules.slots;
     sessions = λ sid. rw named (session_closed start r past caller row (stand.sessions row.sid) (rw named at some)
@@ -67,10 +66,3 @@ module _ {start : Room} {r : Records} {past : History} (stand : RepresentsHistor
   -- it changes what is kept exactly where the session is open
   pub changes_if_open : changes_rows past (Close caller name) ≡ row.is_open
   changes_if_open = usable stand name row some caller ∙ rw mine
-
-  pub close_stands : row.is_open ≡ true → StandsWith start past (Close caller name) ended
-  close_stands is_open = (changes_if_open ∙ is_open, stands)
-
-  -- where it is closed already, nothing changes
-  pub stands_closed : row.is_open ≡ false → RepresentsHistory start r (Close caller name ∷ past)
-  stands_closed closed = stand_after_idle start r past (Close caller name) (changes_if_open ∙ closed) stand

@@ -37,7 +37,7 @@ pub state_after_idle : (start : Room) (past : History) (event : EventModel)
     → changes_rows past event ≡ false → state_after start (event ∷ past) ≡ state_after start past
 state_after_idle start past event idle = grind (arith, common_steps)
 
--- what is refused outside the commands of slots changes nothing
+-- what is answered by a refusal, and not by a reply, changes nothing
 pub refused_is_idle : (start : Room) (past : History) (event : EventModel)
     → IsTurnedAway (answer_to start past event) → changes_rows past event ≡ false
 refused_is_idle start past event refused = grind (arith, common_steps, and_parts)

@@ -13,6 +13,7 @@ pub mod Idle
 pub mod Alike
 pub mod SentAgain
 pub mod Stops
+pub mod Trying
 pub mod StreamStops
 pub mod Numbers
 pub mod Repeats

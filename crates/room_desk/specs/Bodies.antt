@@ -15,7 +15,7 @@ use Rattle.room_wire.specs.Forms.Texts.{command_text}
 use Rattle.room_desk.specs.AnswerModel.{AnswerModel, Refused}
 use Rattle.room_desk.specs.RowAnswers.{is_usable, answer_kept}
 
--- the session is open and the caller's, the slot is one of its, and what it keeps has the number of the request
+-- the session is open and the caller's, the slot is one of its slots, and what it keeps has the number of the request
 pub record KeepsNumber (r : Records) (sent : SentRequest) (kept : KeptModel) : Type 0 where
   pub row : SessionRow
   pub stands : r.session sent.sid ≡ Some row
@@ -33,7 +33,7 @@ abbrev pub answer_to_body : Option (CommandModel × Bool) → ℕ → KeptModel 
 answer_to_body None seq kept = Refused BadRequest
 answer_to_body (Some asked) seq kept = answer_kept (Some kept) seq (command_text asked.0)
 
--- that, or DELAY
+-- it is answered by its body, or is answered DELAY
 abbrev pub AnswersBody : Option (CommandModel × Bool) → ℕ → KeptModel → AnswerModel → Type 0
 AnswersBody asked seq kept answered = (answered ≡ answer_to_body asked seq kept) ⊎ (answered ≡ Refused Delay)
 

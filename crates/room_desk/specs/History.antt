@@ -1,7 +1,7 @@
 -- Histories: whose a session is, which requests are accepted, what the room is, and what is answered. Slots and their
 -- numbers are those of RFC 8881, sections 2.10.6.1 and 18.46; who owns a session name, when it is open, and that the
 -- first number is 1 are our own rules.
-use Rattle.std.specs.Prelude.{◌≡◌, ℕ, ◌%◌, ◌^◌, Bool, true, false, not, ◌&&◌, ◌==◌, List, [], ◌∷◌, length, map, Option}
+use Rattle.std.specs.Prelude.{ℕ, ◌%◌, ◌^◌, Bool, true, false, not, ◌&&◌, ◌==◌, List, [], ◌∷◌, length, map, Option}
 use Rattle.std.specs.Prelude.{None, Some, if◌then◌else◌, nat_lt, is_some}
 use Rattle.std.specs.List.{AllByRecursion, list_any}
 use Rattle.std.specs.Str.{bytes_eq}
@@ -103,6 +103,10 @@ state_after start (Close caller name ∷ past) = state_after start past
 state_after start (Slot q ∷ past) = if is_accepted past q
     then (effect (state_after start past) q.caller q.command).room else state_after start past
 
+-- the number of the last of a slot's accepted requests: their count, modulo 2^32
+abbrev pub last_number : List Accepted → ℕ
+last_number requests = length requests % 2 ^ 32
+
 -- the commands of these requests
 abbrev pub commands_of : List Accepted → List CommandModel
 commands_of requests = map (λ (a : Accepted). a.request.command) requests
@@ -142,7 +146,7 @@ replay start a = answer_again (kept_reply start a)
 abbrev pub answer_unaccepted : Room → Request → List Accepted → AnswerModel
 answer_unaccepted start q [] = Refused SeqMisordered
 answer_unaccepted start q (last ∷ earlier) =
-    if q.seq == length (last ∷ earlier) % 2 ^ 32
+    if q.seq == last_number (last ∷ earlier)
     then (if bytes_eq (command_text q.command) (command_text last.request.command)
     then replay start last else Refused SeqFalseRetry)
     else Refused SeqMisordered
@@ -184,8 +188,3 @@ abbrev pub leaves_no_reply : History → EventModel → Bool
 leaves_no_reply past (Open caller sid slots) = false
 leaves_no_reply past (Close caller sid) = false
 leaves_no_reply past (Slot q) = is_accepted past q && not q.keep
-
--- the answer tells the caller that something has changed
-abbrev pub ReportsChange : History → EventModel → AnswerModel → Type 0
-ReportsChange past event (Reply text) = changes_rows past event ≡ true
-ReportsChange past event (Refused code) = ⊥

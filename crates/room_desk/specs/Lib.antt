@@ -6,4 +6,5 @@ pub mod RowAnswers
 pub mod Serving
 pub mod SessionRows
 pub mod Stops
+pub mod Trying
 pub mod Verdicts

@@ -1,5 +1,5 @@
 -- Rows that stand for a history, and runs (our own rules).
-use Rattle.std.specs.Prelude.{◌≡◌, ◌⊎◌, ℕ, ◌%◌, ◌^◌, Bool, true, false, List, [], ◌∷◌, length, Option}
+use Rattle.std.specs.Prelude.{◌≡◌, ◌⊎◌, ℕ, Bool, true, false, List, [], ◌∷◌, Option}
 use Rattle.std.specs.Prelude.{None, Some, if◌then◌else◌}
 use Rattle.std.specs.Option.{option_map}
 use Rattle.room_slots.specs.KeptModel.{KeptModel}
@@ -17,7 +17,7 @@ use Rattle.room_wire.specs.Asks.EventModel.{EventModel, Open, Close, Slot}
 use Rattle.room_wire.specs.Forms.Texts.{command_text}
 use Rattle.room_desk.specs.AnswerModel.{AnswerModel, Refused}
 use Rattle.room_desk.specs.History.{History, Session, session_of, is_open, Accepted, accepted, is_accepted, state_after}
-use Rattle.room_desk.specs.History.{AcceptsLawful, kept_reply, answer_to, changes_rows}
+use Rattle.room_desk.specs.History.{AcceptsLawful, last_number, kept_reply, answer_to, changes_rows}
 
 -- the row of a session
 abbrev pub session_row_of : List ℕ → Session → SessionRow
@@ -33,7 +33,7 @@ is_open_session sid (Some session) = is_open sid session
 abbrev pub kept_after : Room → List Accepted → Option KeptModel
 kept_after start [] = None
 kept_after start (last ∷ earlier) = Some (record {
-  seq = length (last ∷ earlier) % 2 ^ 32;
+  seq = last_number (last ∷ earlier);
   request = command_text last.request.command;
   reply = kept_reply start last;
 })

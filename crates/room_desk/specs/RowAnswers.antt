@@ -69,7 +69,8 @@ pub record Ran (r : Records) (room : Room) (q : Request) (answered : AnswerModel
 abbrev pub RanTo : Records → Room → Request → Records → Type 0
 RanTo r room q new = Ran r room q (Reply (reply_text (effect room q.caller q.command).reply)) new
 
--- what a request is answered that is not new to its slot, by what it is to the slot
+-- what a request is answered that is not new to its slot, by what it is to the slot. Two cases never come: a repeat
+-- where nothing is kept, and a request that is new
 abbrev pub answer_by_verdict : Verdict → Option KeptModel → AnswerModel
 answer_by_verdict Repeat (Some kept) = answer_again kept.reply
 answer_by_verdict Repeat None = Refused SeqMisordered
@@ -78,10 +79,10 @@ answer_by_verdict FalseRetry kept = Refused SeqFalseRetry
 answer_by_verdict Misordered kept = Refused SeqMisordered
 answer_by_verdict New kept = Refused SeqMisordered
 
--- and by its number and its command text
+-- what a request is answered that is not new to its slot, by its number, its command text and what the slot keeps
 abbrev pub answer_kept : Option KeptModel → ℕ → List ℕ → AnswerModel
 answer_kept kept seq text = answer_by_verdict (verdict kept seq text) kept
 
--- and by the row of the slot
+-- what a request is answered that is not new to its slot, by the slot's row
 abbrev pub row_answer : Records → Request → List ℕ → AnswerModel
 row_answer r q text = answer_kept (r.slot q.sid q.slot) q.seq text

@@ -1,4 +1,5 @@
--- Runs of messages over a room (our own rules).
+-- What is answered over a room to an event or a message and to runs of messages, and what calls of a desk leave (our
+-- own rules).
 use Rattle.std.specs.Prelude.{◌≡◌, ◌≢◌, ℕ, ◌≤◌, ◌⊎◌, Bool, true, false, List, ◌∷◌, Result, Ok, Err}
 use Rattle.room_acl.specs.SubjectModel.{SubjectModel}
 use Rattle.room_records.specs.Records.{Records}
@@ -56,10 +57,11 @@ pub record DeskCall (old new : View) : Type 0 where
   pub laid_out : new.is_available → old.is_laid_out → new.is_laid_out
   pub never_falls : old.failures ≤ new.failures
 
--- what a shelf is after an answer: the rows stand for the history before it, or for one event more. They are the same
--- rows after a refusal, and where what was asked changes nothing. The count of failures is the same, save where the
--- answer is DELAY. A crash leaves what it could leave before, or, of an event that changes what is kept, the rows that
--- stand for the history with it; those alone, where the answer is not DELAY
+-- what a shelf is after an answer: the rows stand for the history before it, or for one event more. While the store is
+-- available, they are the same rows after a refusal, and where what was asked changes nothing. Save where the answer is
+-- DELAY, the count of failures is the same, and an intact store is available where an event was asked. A crash leaves
+-- what it could leave before, or, of an event that changes what is kept, the rows that stand for the history with it;
+-- those alone, where the answer is not DELAY
 pub record Answered (ask : Result AskModel WireFault) (before : View)
     (answered : AnswerModel) (after : View) : Type 0 where
   pub frame : DeskCall before after

@@ -18,28 +18,29 @@ abbrev pub is_delay : AnswerModel → Bool
 is_delay (Refused Delay) = true
 is_delay _ = false
 
--- The events in doubt after these answers, where some were in doubt before them: those answered DELAY, since the last
--- event that changes what is kept was answered otherwise
-abbrev pub in_doubt : History → (doubted : List EventModel) → List EventModel → List AnswerModel → List EventModel
-in_doubt past doubted [] answers = doubted
-in_doubt past doubted (event ∷ events) [] = doubted
-in_doubt past doubted (event ∷ events) (answered ∷ answers) =
-    if is_delay answered then in_doubt past (event ∷ doubted) events answers
-    else in_doubt (event ∷ past) (if changes_rows past event then [] else doubted) events answers
-
--- the rows stand for the history, or for it with one of the events in doubt, which changes what is kept
-abbrev pub StandsInDoubt : Room → History → (doubted : List EventModel) → Records → Type 0
-StandsInDoubt start past doubted r =
-    RepresentsHistory start r past
-    ⊎ ((event : EventModel) × Contains doubted event × StandsWith start past event r)
-
--- what is in doubt once a message was answered: a question and a refusal leave it as it is
+-- what is in doubt once a message was answered: an event that was answered DELAY is too, and nothing is after another
+-- answer to one that changes what is kept. A question and a refusal leave it as it is
 abbrev pub doubt_after : History → (doubted : List EventModel)
     → Result AskModel WireFault → AnswerModel → List EventModel
 doubt_after past doubted (Ok (Check question)) answered = doubted
 doubt_after past doubted (Ok (Event event)) answered =
     if is_delay answered then event ∷ doubted else (if changes_rows past event then [] else doubted)
 doubt_after past doubted (Err fault) answered = doubted
+
+-- The events in doubt after these answers, where some were in doubt before them: those answered DELAY, since the last
+-- event that changes what is kept was answered otherwise
+abbrev pub in_doubt : History → (doubted : List EventModel) → List EventModel → List AnswerModel → List EventModel
+in_doubt past doubted [] answers = doubted
+in_doubt past doubted (event ∷ events) [] = doubted
+in_doubt past doubted (event ∷ events) (answered ∷ answers) =
+    in_doubt (if is_delay answered then past else event ∷ past)
+    (doubt_after past doubted (Ok (Event event)) answered) events answers
+
+-- the rows stand for the history, or for it with one of the events in doubt, which changes what is kept
+abbrev pub StandsInDoubt : Room → History → (doubted : List EventModel) → Records → Type 0
+StandsInDoubt start past doubted r =
+    RepresentsHistory start r past
+    ⊎ ((event : EventModel) × Contains doubted event × StandsWith start past event r)
 
 -- a history, and the events in doubt beside it
 pub record Doubt : Type 0 where

@@ -1,13 +1,13 @@
 //! The desk: takes events, and answers each.
-ghost use Rattle.std.specs.Prelude.{◌≡◌, ◌≢◌, List, [], ◌∷◌, ◌++◌, map, IfOk, OnOk, OnErr, Err, false};
+ghost use Rattle.std.specs.Prelude.{◌≡◌, ◌≢◌, List, [], ◌∷◌, ◌++◌, map, IfOk, OnErr, Err};
 ghost use Rattle.room_records.specs.Room.{Room};
-ghost use Rattle.room_records.specs.Shelf.{ShelfCall, fault_in, LeavesOldOrNew, LeavesNew};
 ghost use Rattle.room_wire.specs.Asks.EventModel.{event_model};
 ghost use Rattle.room_wire.specs.declared.answers.code.Code.TheVariants.{Delay};
-ghost use Rattle.room_desk.specs.AnswerModel.{AnswerModel, Refused, answer_model, IsTurnedAway};
-ghost use Rattle.room_desk.specs.History.{History, answer_to, changes_rows, ReportsChange};
-ghost use Rattle.room_desk.specs.Representation.{RepresentsHistory, StandsFor, StandsWith, WasAllowed, InTurn, Run};
+ghost use Rattle.room_desk.specs.AnswerModel.{AnswerModel, Refused, answer_model};
+ghost use Rattle.room_desk.specs.History.{History};
+ghost use Rattle.room_desk.specs.Representation.{StandsFor, WasAllowed, InTurn, Run};
 ghost use Rattle.room_desk.specs.Serving.{DeskCall, EventAnswered};
+ghost use Rattle.room_desk.specs.Trying.{EventTried};
 
 use crate::requests::{SlotRequest, request};
 use crate::serving::Workspace;
@@ -55,25 +55,7 @@ impl<S: Shelf> Desk<S> {
 
     /// Answers one event as the history says, or gives up with nothing changed while the store is available.
     fn answer(&mut self, event: &Event) -> Result<Answer, ShelfFault>
-        ensures there { (S.view self.new).is_intact → OnOk result (S.view self.new).is_available }
-        ensures frame { ShelfCall (S.view self.old) (S.view self.new) (fault_in result) }
-        ensures step { (S.view self.new).is_available → (S.view self.old).is_laid_out
-            → (start : Room) (past : History) → RepresentsHistory start (S.view self.old).records past →
-            IfOk result (λ answer. (answer_model answer ≡ answer_to start past (event_model event.now))
-            × RepresentsHistory start (S.view self.new).records (event_model event.now ∷ past)) }
-        ensures refused { (S.view self.new).is_available → (S.view self.old).is_laid_out →
-            IfOk result (λ answer. IsTurnedAway (answer_model answer)
-            → (S.view self.new).records ≡ (S.view self.old).records) }
-        ensures idle { (S.view self.new).is_available → (S.view self.old).is_laid_out
-            → (start : Room) (past : History) → RepresentsHistory start (S.view self.old).records past →
-            changes_rows past (event_model event.now) ≡ false → (S.view self.new).records ≡ (S.view self.old).records }
-        ensures crash { (S.view self.new).is_intact → (start : Room) (past : History)
-            → StandsFor start past (S.view self.old) →
-            LeavesOldOrNew (S.view self.old) (S.view self.new) (StandsWith start past (event_model event.now)) }
-        ensures settled { (S.view self.new).is_intact → (start : Room) (past : History)
-            → StandsFor start past (S.view self.old) →
-            IfOk result (λ answer. ReportsChange past (event_model event.now) (answer_model answer) →
-            LeavesNew (S.view self.new) (StandsWith start past (event_model event.now))) }
+        ensures { EventTried (event_model event.now) (S.view self.old) (S.view self.new) result }
     {
         match event {
             Event::Open {
@@ -103,10 +85,12 @@ impl<S: Shelf> Desk<S> {
         }
     }
 
-    /// Answers one event: as the history says, or DELAY with nothing changed. DELAY comes where
-    /// memory was refused, or where the shelf failed and counted it; with any other answer no failure
-    /// was counted. Where the store is intact, any other answer means that it is still available; of
-    /// a store that a fault has shut no records are told, and each event is answered DELAY.
+    /// Answers one event: as the history says, or DELAY. DELAY changes nothing while the store is there; of one that a
+    /// fault shut, an open may find the event's change. DELAY comes where memory was refused, or where the shelf failed
+    /// and counted it; with any other answer no failure was counted. Where the store is intact, any other answer means
+    /// that it is still available; of a store that a fault has shut no records are told, and each event is answered
+    /// DELAY. `allowed` is a law (`an_accepted_request_was_allowed`), repeated so that the headline stands in one
+    /// place.
     pub fn handle(&mut self, event: &Event) -> Answer
         ensures answered { EventAnswered S.view self.old (event_model event.now) (answer_model result) self.new }
         ensures allowed { (start : Room) (past : History) → WasAllowed start past (event_model event.now) }
@@ -117,8 +101,9 @@ impl<S: Shelf> Desk<S> {
         }
     }
 
-    /// Answers events in turn, each as `handle` does. An `Err` changes nothing. Where the last answer is
-    /// not DELAY, an intact store is still available.
+    /// Answers events in turn, each as `handle` does (`each`). An `Err` changes nothing. Where the last answer is not
+    /// DELAY, an intact store is still available. `frame`, `alive` and `run` follow from `each` answer in turn, and
+    /// stand here so that a caller needs no induction.
     pub fn run(&mut self, events: &[Event]) -> Result<Vec<Answer>, AllocError>
         ensures frame { DeskCall (S.view self.old) (S.view self.new) }
         ensures alive { (S.view self.new).is_intact

@@ -34,7 +34,8 @@ pub fn a_repeated_event_changes_nothing()
         RepresentsHistory start r (event ∷ past) → RepresentsHistory start r (event ∷ event ∷ past) }
 {}
 
-/// An event that is refused outside the commands of slots changes nothing.
+/// An event that is answered by a refusal with a code of 20 or above changes nothing; a command's own refusal is a
+/// reply, and no such answer.
 pub fn a_refused_event_changes_nothing()
     ensures room { (start : Room) (past : History) (event : EventModel) → IsTurnedAway (answer_to start past event) →
         state_after start (event ∷ past) ≡ state_after start past }

@@ -1,4 +1,4 @@
-//! Sessions, one commit a request.
+//! Answers events, and streams of messages, over a shelf as their history says; an accepted request is one commit.
 #![tactic(auto)]
 
 mod desk;

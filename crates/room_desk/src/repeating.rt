@@ -34,7 +34,7 @@ fn may_use(row: &SessionRow, sent: &SentRequest<'_>) -> bool
 }
 
 /// What the slot keeps, where it has the number of this request, the session is open and the caller's, and the slot is
-/// one of its. The slot's number is read first, so that a new request, which has another, reads no more here.
+/// one of its slots. The slot's number is read first, so that a new request, which has another, reads no more here.
 fn kept_with_number<S: Shelf>(
     shelf: &mut S,
     sent: &SentRequest<'_>,

@@ -1,5 +1,5 @@
 //! Requests in a slot.
-ghost use Rattle.std.specs.Prelude.{◌≡◌, IfOk, OnOk, Err, ◌∷◌, true, false, option_map};
+ghost use Rattle.std.specs.Prelude.{◌≡◌, IfOk, OnOk, true, option_map};
 ghost use Rattle.room_records.specs.Rules.{SlotRules};
 ghost use Rattle.room_records.specs.Room.{Room};
 ghost use Rattle.room_records.specs.Representation.{RepresentsRoom};
@@ -8,10 +8,10 @@ ghost use Rattle.room_commands.specs.Lawful.{IsLawful};
 ghost use Rattle.room_wire.specs.Asks.EventModel.{Slot};
 ghost use Rattle.room_wire.specs.Forms.Texts.{command_text};
 ghost use Rattle.room_desk.specs.AnswerModel.{answer_model, IsTurnedAway};
-ghost use Rattle.room_desk.specs.History.{History, session_of, is_open_for, answer_to, changes_rows, ReportsChange};
-ghost use Rattle.room_desk.specs.History.{if_kept, answer_again};
-ghost use Rattle.room_desk.specs.Representation.{RepresentsHistory, StandsFor, StandsWith};
+ghost use Rattle.room_desk.specs.History.{History, session_of, is_open_for, if_kept, answer_again};
+ghost use Rattle.room_desk.specs.Representation.{RepresentsHistory};
 ghost use Rattle.room_desk.specs.RowAnswers.{HasSlot, Ran, RanTo, answer_kept, row_answer};
+ghost use Rattle.room_desk.specs.Trying.{EventTried, JoinsHistory};
 
 use crate::sessions::is_usable;
 use room_acl::Subject;
@@ -165,7 +165,7 @@ fn answer_from_row<S: Shelf>(
 }
 
 /// A request in a slot of an open session of the caller: the number decides. The slot's row may be long, so a new
-/// request reads its number alone.
+/// request reads its number alone. Its clauses are those of `EventTried`, the last under what was tested before.
 fn in_slot<S: Shelf>(
     alloc: Global,
     shelf: &mut S,
@@ -176,28 +176,11 @@ fn in_slot<S: Shelf>(
     ensures refused { (S.view shelf.new).is_available → (S.view shelf.old).is_laid_out →
         IfOk result (λ answer. IsTurnedAway (answer_model answer)
         → (S.view shelf.new).records ≡ (S.view shelf.old).records) }
-    ensures step { (S.view shelf.new).is_available → (S.view shelf.old).is_laid_out
-        → (start : Room) (past : History) → RepresentsHistory start (S.view shelf.old).records past →
+    ensures joins { (S.view shelf.old).is_laid_out → (start : Room) (past : History)
+        → RepresentsHistory start (S.view shelf.old).records past →
         is_open_for asked.now.sid asked.now.caller (session_of past asked.now.sid) ≡ true
         → HasSlot (S.view shelf.old).records asked.now.sid asked.now.slot →
-        IfOk result (λ answer. (answer_model answer ≡ answer_to start past (Slot asked.now))
-        × RepresentsHistory start (S.view shelf.new).records (Slot asked.now ∷ past)) }
-    ensures idle { (S.view shelf.new).is_available → (S.view shelf.old).is_laid_out
-        → (start : Room) (past : History) → RepresentsHistory start (S.view shelf.old).records past →
-        is_open_for asked.now.sid asked.now.caller (session_of past asked.now.sid) ≡ true
-        → HasSlot (S.view shelf.old).records asked.now.sid asked.now.slot →
-        changes_rows past (Slot asked.now) ≡ false → (S.view shelf.new).records ≡ (S.view shelf.old).records }
-    ensures crash { (S.view shelf.new).is_intact → (S.view shelf.old).is_laid_out →
-        (start : Room) (past : History) → RepresentsHistory start (S.view shelf.old).records past →
-        is_open_for asked.now.sid asked.now.caller (session_of past asked.now.sid) ≡ true →
-        HasSlot (S.view shelf.old).records asked.now.sid asked.now.slot →
-        LeavesOldOrNew (S.view shelf.old) (S.view shelf.new) (StandsWith start past (Slot asked.now)) }
-    ensures settled { (S.view shelf.new).is_intact → (S.view shelf.old).is_laid_out →
-        (start : Room) (past : History) → RepresentsHistory start (S.view shelf.old).records past →
-        is_open_for asked.now.sid asked.now.caller (session_of past asked.now.sid) ≡ true →
-        HasSlot (S.view shelf.old).records asked.now.sid asked.now.slot →
-        IfOk result (λ answer. ReportsChange past (Slot asked.now) (answer_model answer) →
-        LeavesNew (S.view shelf.new) (StandsWith start past (Slot asked.now))) }
+        JoinsHistory start past (Slot asked.now) (S.view shelf.old) (S.view shelf.new) result }
 {
     let last = shelf.slot_seq(asked.sid, asked.slot)?;
     if is_next(last, asked.seq) {
@@ -213,25 +196,7 @@ pub(crate) fn request<S: Shelf>(
     shelf: &mut S,
     asked: &SlotRequest,
 ) -> Result<Answer, ShelfFault>
-    ensures there { (S.view shelf.new).is_intact → OnOk result (S.view shelf.new).is_available }
-    ensures frame { ShelfCall (S.view shelf.old) (S.view shelf.new) (fault_in result) }
-    ensures refused { (S.view shelf.new).is_available → (S.view shelf.old).is_laid_out →
-        IfOk result (λ answer. IsTurnedAway (answer_model answer)
-        → (S.view shelf.new).records ≡ (S.view shelf.old).records) }
-    ensures step { (S.view shelf.new).is_available → (S.view shelf.old).is_laid_out
-        → (start : Room) (past : History) → RepresentsHistory start (S.view shelf.old).records past →
-        IfOk result (λ answer. (answer_model answer ≡ answer_to start past (Slot asked.now))
-        × RepresentsHistory start (S.view shelf.new).records (Slot asked.now ∷ past)) }
-    ensures idle { (S.view shelf.new).is_available → (S.view shelf.old).is_laid_out
-        → (start : Room) (past : History) → RepresentsHistory start (S.view shelf.old).records past →
-        changes_rows past (Slot asked.now) ≡ false → (S.view shelf.new).records ≡ (S.view shelf.old).records }
-    ensures crash { (S.view shelf.new).is_intact → (start : Room) (past : History)
-        → StandsFor start past (S.view shelf.old) →
-        LeavesOldOrNew (S.view shelf.old) (S.view shelf.new) (StandsWith start past (Slot asked.now)) }
-    ensures settled { (S.view shelf.new).is_intact → (start : Room) (past : History)
-        → StandsFor start past (S.view shelf.old) →
-        IfOk result (λ answer. ReportsChange past (Slot asked.now) (answer_model answer) →
-        LeavesNew (S.view shelf.new) (StandsWith start past (Slot asked.now))) }
+    ensures { EventTried (Slot asked.now) (S.view shelf.old) (S.view shelf.new) result }
 {
     let Some(row) = shelf.session(asked.sid)? else {
         return Ok(Answer::Refused(Code::BadSession));

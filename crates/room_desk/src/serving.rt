@@ -33,10 +33,11 @@ impl Workspace {
 impl<S: Shelf> Desk<S> {
     /// Answers the messages of a stream until it ends.
     ///
-    /// A question is answered and changes nothing, an event as by `handle`. DELAY, and the refusals
-    /// BAD_HTTP, BAD_ROUTE, UNKNOWN_USER and BAD_REQUEST, change nothing. Each error of a read or write, and
-    /// a write of 0 bytes, ends it at once; so do 2^64 - 1 reads. `Memory` comes only before the first
-    /// read. Want of memory later is answered DELAY.
+    /// A question is answered and changes nothing, an event as by `handle`. The refusals BAD_HTTP, BAD_ROUTE,
+    /// UNKNOWN_USER and BAD_REQUEST change nothing. DELAY changes nothing while the store is there; of one that a
+    /// fault shut, an open may find the event's change. Each error of a read or write, and a write of 0 bytes, ends it
+    /// at once; so do 2^64 - 1 reads. `Memory` comes only before the first read. Want of memory later is answered
+    /// DELAY.
     pub fn serve<R: Read, W: Write>(
         &mut self,
         roster: &Roster,

@@ -1,20 +1,18 @@
 //! OPEN and CLOSE of sessions.
-ghost use Rattle.std.specs.Prelude.{◌≡◌, IfOk, OnOk, ◌∷◌, true, false};
+ghost use Rattle.std.specs.Prelude.{◌≡◌, IfOk, OnOk, true, false};
 ghost use Rattle.std.specs.Str.{bytes_eq};
 ghost use Rattle.room_records.specs.Rules.{RulesHold};
 ghost use Rattle.room_records.specs.declared.change.Change.TheVariants.{PutSession};
 ghost use Rattle.room_records.specs.Changes.{apply_change};
-ghost use Rattle.room_records.specs.Room.{Room};
 ghost use Rattle.room_records.specs.Shelf.{ShelfCall, fault_in, LeavesOldOrNew, LeavesNew};
 ghost use Rattle.room_commands.specs.ReplyModel.{Done, Opened};
 ghost use Rattle.room_wire.specs.Forms.Texts.{reply_text};
 ghost use Rattle.room_wire.specs.Asks.EventModel.{Open, Close};
-ghost use Rattle.room_desk.specs.AnswerModel.{answer_model, IsTurnedAway};
+ghost use Rattle.room_desk.specs.AnswerModel.{answer_model};
 ghost use Rattle.room_desk.specs.AnswerModel as A;
-ghost use Rattle.room_desk.specs.History.{History, answer_to, changes_rows, ReportsChange};
-ghost use Rattle.room_desk.specs.Representation.{RepresentsHistory, StandsFor, StandsWith};
 ghost use Rattle.room_desk.specs.RowAnswers.{answer_open_again, is_usable};
 ghost use Rattle.room_desk.specs.SessionRows.{opened_row, closed_row, with_session_ended};
+ghost use Rattle.room_desk.specs.Trying.{EventTried};
 
 use room_acl::Subject;
 use room_commands::Reply;
@@ -108,26 +106,7 @@ pub(crate) fn open<S: Shelf>(
     sid: &Sid,
     slots: SlotCount,
 ) -> Result<Answer, ShelfFault>
-    ensures there { (S.view shelf.new).is_intact → OnOk result (S.view shelf.new).is_available }
-    ensures frame { ShelfCall (S.view shelf.old) (S.view shelf.new) (fault_in result) }
-    ensures step { (S.view shelf.new).is_available → (S.view shelf.old).is_laid_out
-        → (start : Room) (past : History) → RepresentsHistory start (S.view shelf.old).records past →
-        IfOk result (λ answer. (answer_model answer ≡ answer_to start past (Open subject.now sid.now slots))
-        × RepresentsHistory start (S.view shelf.new).records (Open subject.now sid.now slots ∷ past)) }
-    ensures refused { (S.view shelf.new).is_available → (S.view shelf.old).is_laid_out →
-        IfOk result (λ answer. IsTurnedAway (answer_model answer)
-        → (S.view shelf.new).records ≡ (S.view shelf.old).records) }
-    ensures idle { (S.view shelf.new).is_available → (S.view shelf.old).is_laid_out
-        → (start : Room) (past : History) → RepresentsHistory start (S.view shelf.old).records past →
-        changes_rows past (Open subject.now sid.now slots) ≡ false
-        → (S.view shelf.new).records ≡ (S.view shelf.old).records }
-    ensures crash { (S.view shelf.new).is_intact → (start : Room) (past : History)
-        → StandsFor start past (S.view shelf.old) →
-        LeavesOldOrNew (S.view shelf.old) (S.view shelf.new) (StandsWith start past (Open subject.now sid.now slots)) }
-    ensures settled { (S.view shelf.new).is_intact → (start : Room) (past : History)
-        → StandsFor start past (S.view shelf.old) →
-        IfOk result (λ answer. ReportsChange past (Open subject.now sid.now slots) (answer_model answer) →
-        LeavesNew (S.view shelf.new) (StandsWith start past (Open subject.now sid.now slots))) }
+    ensures { EventTried (Open subject.now sid.now slots) (S.view shelf.old) (S.view shelf.new) result }
 {
     match shelf.session(sid)? {
         Some(row) => Ok(open_again(alloc, &row, subject, slots)?),
@@ -204,26 +183,7 @@ pub(crate) fn close<S: Shelf>(
     subject: &Subject,
     sid: &Sid,
 ) -> Result<Answer, ShelfFault>
-    ensures there { (S.view shelf.new).is_intact → OnOk result (S.view shelf.new).is_available }
-    ensures frame { ShelfCall (S.view shelf.old) (S.view shelf.new) (fault_in result) }
-    ensures step { (S.view shelf.new).is_available → (S.view shelf.old).is_laid_out
-        → (start : Room) (past : History) → RepresentsHistory start (S.view shelf.old).records past →
-        IfOk result (λ answer. (answer_model answer ≡ answer_to start past (Close subject.now sid.now))
-        × RepresentsHistory start (S.view shelf.new).records (Close subject.now sid.now ∷ past)) }
-    ensures refused { (S.view shelf.new).is_available → (S.view shelf.old).is_laid_out →
-        IfOk result (λ answer. IsTurnedAway (answer_model answer)
-        → (S.view shelf.new).records ≡ (S.view shelf.old).records) }
-    ensures idle { (S.view shelf.new).is_available → (S.view shelf.old).is_laid_out
-        → (start : Room) (past : History) → RepresentsHistory start (S.view shelf.old).records past →
-        changes_rows past (Close subject.now sid.now) ≡ false
-        → (S.view shelf.new).records ≡ (S.view shelf.old).records }
-    ensures crash { (S.view shelf.new).is_intact → (start : Room) (past : History)
-        → StandsFor start past (S.view shelf.old) →
-        LeavesOldOrNew (S.view shelf.old) (S.view shelf.new) (StandsWith start past (Close subject.now sid.now)) }
-    ensures settled { (S.view shelf.new).is_intact → (start : Room) (past : History)
-        → StandsFor start past (S.view shelf.old) →
-        IfOk result (λ answer. ReportsChange past (Close subject.now sid.now) (answer_model answer) →
-        LeavesNew (S.view shelf.new) (StandsWith start past (Close subject.now sid.now))) }
+    ensures { EventTried (Close subject.now sid.now) (S.view shelf.old) (S.view shelf.new) result }
 {
     let Some(row) = shelf.session(sid)? else {
         return Ok(Answer::Refused(Code::BadSession));

@@ -1,66 +1,63 @@
-use Rattle.std.proofs.Common.{◌∙◌, sym, inl, inr}
-use Rattle.std.proofs.lemmas.Bool.{cases_Bool}
-use Rattle.room_records.proofs.Shelves.{call_then}
+use Rattle.std.proofs.Common.{◌≡◌, ◌∙◌, sym, inl, inr, Some}
+use Rattle.std.proofs.lemmas.Bool.{both_ways, cases_Bool}
+use Rattle.room_records.specs.Shelf.{ShelfRead, fault_in}
 use Rattle.room_wire.specs.Asks.EventModel.{Close}
-use Rattle.room_desk.specs.AnswerModel.{answer_model}
-use Rattle.room_desk.proofs.Answers.{close_owned}
-use Rattle.room_desk.proofs.Crashes.{leaves_either, idle_reports_nothing}
+use Rattle.room_desk.proofs.Answers.{close_owned, close_refused}
+use Rattle.room_desk.proofs.Closing.{put_rules, all_rules, changes_if_open, close_stands}
+use Rattle.room_desk.proofs.Crashes.{leaves_either}
+use Rattle.room_desk.proofs.Idle.{refused_is_idle}
 use Rattle.room_desk.proofs.Results.{if_ok_both, if_ok_then}
-use Rattle.room_desk.proofs.Closing.{put_rules, all_rules, changes_if_open, close_stands, stands_closed}
+use Rattle.room_desk.proofs.Trying.{there_where_ok, tried_after_read, joins_by_commit, joins_by_reads}
 use Rattle.room_desk.proofs.sessions.close.Goals as goal
 
-pub returns-clause-frame : goal.returns-clause-frame
-returns-clause-frame g c = call_then _ _ _ _ c.close_owned.ensures.frame c.in_ok-row.ensures.frame
+pub returns-then-not-owns : goal.returns-then-not-owns
+returns-then-not-owns g c =
+    let first = c.in_ok-row.ensures.frame in record {
+      there = c.in_ok-row.ensures.there;
+      frame = first.call;
+      refused = λ h d away. first.same h d;
+      joins = λ start past stands. joins_by_reads first c.in_ok-row.ensures.there stands (λ h d stand.
+          let some = sym (c.in_ok-row.ensures.value h d) ∙ c.in-Some.is in
+          let told = close_refused stand c.args.sid.now c.in-Some.row some c.args.subject.now
+          (sym c.owns.ensures ∙ c.if-not-owns.true) in
+          (sym told, refused_is_idle start past (Close c.args.subject.now c.args.sid.now) (rw told tt)));
+    }
 
-pub returns-clause-step : goal.returns-clause-step
-returns-clause-step g c = λ h d start past stand.
+pub returns : goal.returns
+returns g c =
+    let done = c.close_owned.ensures in
+    let first = c.in_ok-row.ensures.frame in
+    tried_after_read first c.in_ok-row.ensures.there done.frame
+    (λ h d. if_ok_then c.close_owned.result done.reply (λ answer says away. absurd (rw says at away)))
+    (λ start past read d stand.
     let caller = c.args.subject.now in
-    let read = c.close_owned.ensures.frame.was_available h in
-    let laid_out = c.session.ensures.frame.call.laid_out read d in
-    let same = c.session.ensures.frame.same read d in
-    let some = sym (c.in_ok-row.ensures.value read d) ∙ c.in-Some.is in
+    let found = g.S.Shelf.view c.session.new.self in
+    let some : found.records.session c.args.sid.now ≡ Some c.in-Some.row =
+    rw (first.same read d) (sym (c.in_ok-row.ensures.value read d) ∙ c.in-Some.is) in
     let mine = sym c.owns.ensures ∙ c.if-not-owns.false in
     let answered = sym (close_owned stand c.args.sid.now c.in-Some.row some caller mine) in
+    let changes = changes_if_open stand caller some mine in
+    let laid_out = first.call.laid_out read d in
+    let puts = put_rules stand caller some mine in
+    let all = all_rules stand caller some mine in
     elim (cases_Bool c.in-Some.row.is_open) [
-      | inl is_open ↦ if_ok_both c.close_owned.result c.close_owned.ensures.reply
-          ((rw same at (c.close_owned.ensures.ok is_open h laid_out)) (put_rules stand caller some mine)
-          (all_rules stand caller some mine))
-          (λ answer says after. (says ∙ answered, rw after (close_stands stand caller some mine is_open).1))
-      | inr closed ↦ if_ok_then c.close_owned.result c.close_owned.ensures.reply (λ answer says. (
-        says ∙ answered,
-        rw (c.close_owned.ensures.idle closed h laid_out ∙ same) (stands_closed stand caller some mine closed),
-      ))
-    ]
-
-pub returns-clause-crash : goal.returns-clause-crash
-returns-clause-crash g c = λ intact start past before left may.
-    let caller = c.args.subject.now in
-    let read = c.in_ok-row.ensures.there (c.close_owned.ensures.frame.was_intact intact) in
-    let (d, stand) = before (c.session.ensures.frame.call.was_available read) in
-    let some = sym (c.in_ok-row.ensures.value read d) ∙ c.in-Some.is in
-    let mine = sym c.owns.ensures ∙ c.if-not-owns.false in
-    let closes = rw (c.session.ensures.frame.same read d)
-    at (c.close_owned.ensures.crash (c.session.ensures.frame.call.laid_out read d)) in
-    leaves_either
-    (closes (put_rules stand caller some mine) (all_rules stand caller some mine) left may)
-    (c.session.ensures.frame.crash left) (λ made. rw made.1 (close_stands stand caller some mine made.0))
-
-pub returns-clause-settled : goal.returns-clause-settled
-returns-clause-settled g c = λ intact start past before.
-    let caller = c.args.subject.now in
-    let read = c.in_ok-row.ensures.there (c.close_owned.ensures.frame.was_intact intact) in
-    let (d, stand) = before (c.session.ensures.frame.call.was_available read) in
-    let some = sym (c.in_ok-row.ensures.value read d) ∙ c.in-Some.is in
-    let mine = sym c.owns.ensures ∙ c.if-not-owns.false in
-    elim (cases_Bool c.in-Some.row.is_open) [
-      | inl is_open ↦
-          (let closes = rw (c.session.ensures.frame.same read d)
-          at (c.close_owned.ensures.settled is_open intact (c.session.ensures.frame.call.laid_out read d)) in
-          if_ok_then c.close_owned.result
-          (closes (put_rules stand caller some mine) (all_rules stand caller some mine))
-          (λ answer leaves reports left may.
-          rw (leaves left may) (close_stands stand caller some mine is_open)))
-      | inr closed ↦ if_ok_then c.close_owned.result c.close_owned.ensures.reply (λ answer says reports.
-          absurd (idle_reports_nothing past (Close caller c.args.sid.now) (answer_model answer)
-          (changes_if_open stand caller some mine ∙ closed) reports))
-    ]
+      | inl is_open ↦ joins_by_commit (changes ∙ is_open)
+          (λ left is. rw is (close_stands stand caller some mine))
+          (λ h. if_ok_both c.close_owned.result done.reply (done.ok is_open h laid_out puts all)
+          (λ answer says after. (says ∙ answered, after)))
+          (λ k left may. leaves_either (done.crash laid_out puts all left may) (λ old. old) (λ made. made.1))
+          (λ k. done.settled is_open k laid_out puts all)
+      | inr closed ↦
+          (let only_read : ShelfRead found (g.S.Shelf.view c.close_owned.new.shelf) (fault_in c.close_owned.result) =
+          record {
+            call = done.frame;
+            same = done.idle closed;
+            crash = λ left may. elim (done.crash laid_out puts all left may) [
+              | inl old ↦ old
+              | inr made ↦ absurd (both_ways _ closed made.0)
+            ];
+          } in
+          joins_by_reads only_read (there_where_ok c.close_owned.result done.frame (λ k. read)) (λ _. (laid_out, stand))
+          (λ h d again.
+          if_ok_then c.close_owned.result done.reply (λ answer says. (says ∙ answered, changes ∙ closed))))
+    ])

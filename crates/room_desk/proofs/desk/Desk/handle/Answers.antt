@@ -2,10 +2,8 @@ use Rattle.std.proofs.Common.{◌∷◌, refl, inl, inr}
 use Rattle.room_records.specs.declared.shelf.ShelfFault.TheVariants.{Store}
 use Rattle.room_records.proofs.Shelves.{none_not_store}
 use Rattle.room_wire.specs.Asks.EventModel.{event_model}
-use Rattle.room_desk.specs.AnswerModel.{answer_model}
 use Rattle.room_desk.proofs.Allowed.{had_rights}
 use Rattle.room_desk.proofs.Calls.{one_call}
-use Rattle.room_desk.proofs.Crashes.{reports_change}
 use Rattle.room_desk.proofs.desk.Desk.handle.Goals as goal
 
 -- an answer means that the store was there
@@ -15,22 +13,15 @@ returns-in-Ok-clause-answered g c = record {
   quiet = λ other. c.in-Ok.ensures.frame.quiet (none_not_store Store);
   alive = λ k event is other. c.in-Ok.ensures.there k;
   step = λ k start past stands.
-      let available = c.in-Ok.ensures.there k in
-      let stood = stands (c.answer.ensures.frame.was_available available) in
-      let step = c.in-Ok.ensures.step available stood.0 start past stood.1 in (
+      let step = (c.in-Ok.ensures.joins start past stands).step (c.in-Ok.ensures.there k) in (
         event_model c.args.event.now ∷ past,
         inl (step.0, refl),
-        λ h. (c.answer.ensures.frame.laid_out h stood.0, step.1),
+        λ h. (c.answer.ensures.frame.laid_out h (stands (c.answer.ensures.frame.was_available h)).0, step.1),
       );
   refused = c.in-Ok.ensures.refused;
-  idle = c.answer.ensures.idle;
-  crash = c.answer.ensures.crash;
-  settled = λ k start past stands changes other.
-      let available = c.in-Ok.ensures.there k in
-      let stood = stands (c.answer.ensures.frame.was_available available) in
-      let step = c.in-Ok.ensures.step available stood.0 start past stood.1 in
-      c.in-Ok.ensures.settled k start past stands
-      (reports_change start past (event_model c.args.event.now) (answer_model c.in-Ok.answer) step.0 changes);
+  idle = λ h d start past stand. (c.answer.ensures.joins start past (λ _. (d, stand))).idle h;
+  crash = λ k start past stands. (c.answer.ensures.joins start past stands).crash k;
+  settled = λ k start past stands changes other. (c.in-Ok.ensures.joins start past stands).settled k changes;
 }
 
 pub returns-in-Err-clause-answered : goal.returns-in-Err-clause-answered
@@ -46,8 +37,8 @@ returns-in-Err-clause-answered g c = record {
         (c.answer.ensures.frame.laid_out h stood.0, rw (c.in-Err.ensures.frame.undone h stood.0) stood.1),
   );
   refused = λ h d away. c.in-Err.ensures.frame.undone h d;
-  idle = c.answer.ensures.idle;
-  crash = c.answer.ensures.crash;
+  idle = λ h d start past stand. (c.answer.ensures.joins start past (λ _. (d, stand))).idle h;
+  crash = λ k start past stands. (c.answer.ensures.joins start past stands).crash k;
   settled = λ k start past stands changes other. absurd (other refl);
 }
 
