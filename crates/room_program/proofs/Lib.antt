@@ -1,5 +1,5 @@
 mod Calls
 mod Jobs
 mod Streams
-mod Told
+mod Reports
 mod Faults
