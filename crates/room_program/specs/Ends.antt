@@ -2,8 +2,7 @@
 use Rattle.std.specs.Prelude.{◌≡◌, ◌⊎◌, ℕ, List, true, Result, Ok, Err}
 use Rattle.room_acl.specs.Principals.{IsPrincipal}
 use Rattle.room_program.specs.declared.fault.Fault.{Fault}
-use Rattle.room_program.specs.declared.fault.Fault.TheVariants.{BadName, StoreFailed, Memory, NetworkFailed}
-use Rattle.room_program.specs.declared.fault.Fault.TheVariants.{WriteFailed, SelftestFailed}
+use Rattle.room_program.specs.declared.fault.Fault.TheVariants.{BadName, Memory, NetworkFailed, SelftestFailed}
 use Rattle.room_program.specs.Machines.{Call}
 use Rattle.room_program.specs.Machines.Call.{connects}
 use Rattle.room_program.specs.Files.{MakesAt}
@@ -30,14 +29,6 @@ abbrev pub InitEnds : {M C : Type 0} → (does : M → Call C → M → Type 0) 
 InitEnds does made has_one db owner group old new done =
     ((fault : Fault) × (done ≡ Err fault) × IsNamesFault owner group fault × (new ≡ old))
     ⊎ (ArePrincipals owner group × MakesAt does made has_one db old new done)
-
--- the faults of a report that was begun
-abbrev pub ReportEnds : Result (Unit {0}) Fault → Type 0
-ReportEnds (Ok done) = Unit {0}
-ReportEnds (Err StoreFailed) = Unit {0}
-ReportEnds (Err Memory) = Unit {0}
-ReportEnds (Err WriteFailed) = Unit {0}
-ReportEnds (Err other) = ⊥
 
 -- the faults of serving connections
 abbrev pub ServeEnds : Result (Unit {0}) Fault → Type 0

@@ -34,13 +34,14 @@ done_of end.ReadFailed = Err ReadFailed
 done_of end.WriteFailed = Err WriteFailed
 done_of end.Memory = Err Memory
 
+-- how a run ends where a report ended so
+abbrev pub done_of_report : Result (Unit {0}) ReportFault → Result (Unit {0}) Fault
+done_of_report (Ok done) = Ok tt
+done_of_report (Err report.Memory) = Err Memory
+done_of_report (Err report.Store) = Err StoreFailed
+done_of_report (Err report.WriteFailed) = Err WriteFailed
+
 -- the fault of a text that gives no roster
 abbrev pub roster_fault : RosterFault → Fault
 roster_fault roster.Memory = Memory
 roster_fault roster.Bad = BadRoster
-
--- the fault of a report that is not whole
-abbrev pub report_fault : ReportFault → Fault
-report_fault report.Memory = Memory
-report_fault report.Store = StoreFailed
-report_fault report.WriteFailed = WriteFailed

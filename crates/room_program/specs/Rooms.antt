@@ -3,7 +3,8 @@ use Rattle.std.specs.Prelude.{◌≡◌, ◌⊎◌, ℕ, List, true, false, Opti
 use Rattle.room_acl.specs.SubjectModel.{SubjectModel}
 use Rattle.room_records.specs.Room.{Room}
 use Rattle.room_records.specs.Shelf.{View, ShelfRead}
-use Rattle.room_records.specs.declared.shelf.ShelfFault.{ShelfFault}
+use Rattle.room_report.specs.declared.reports.ReportFault.{ReportFault}
+use Rattle.room_report.specs.Faults.{shelf_fault_in}
 use Rattle.room_report.specs.Lines.{access_text, list_text}
 use Rattle.room_report.specs.Reported.{Reported}
 use Rattle.room_words.specs.declared.job.ReportKind.{ReportKind}
@@ -11,7 +12,8 @@ use Rattle.room_words.specs.declared.job.ReportKind.TheVariants.{Access, Lists}
 use Rattle.room_program.specs.declared.fault.Fault.{Fault}
 use Rattle.room_program.specs.declared.fault.Fault.TheVariants.{NetworkFailed}
 use Rattle.room_program.specs.Calls.{Accepted, AcceptsFewer}
-use Rattle.room_program.specs.Ends.{ReportEnds, ServeEnds}
+use Rattle.room_program.specs.Ends.{ServeEnds}
+use Rattle.room_program.specs.Faults.{done_of_report}
 use Rattle.room_program.specs.Files.{TakesRoster, TakesRoom}
 use Rattle.room_program.specs.Machines.{Call}
 use Rattle.room_program.specs.Machines.Call.{listens, closes, leaves}
@@ -22,13 +24,14 @@ abbrev pub report_text : ReportKind → Room → List SubjectModel → List ℕ
 report_text Access room users = access_text room users
 report_text Lists room users = list_text room
 
--- a report over a shelf, which it leaves as it is
+-- a report over a shelf, which it leaves as it is, and the run ends as the report did
 pub record WritesReport {Shelf : Type 0} (view : Shelf → View)
     (kind : ReportKind) (users : List SubjectModel) (before after : Shelf)
     (old new : Option (List ℕ)) (done : Result (Unit {0}) Fault) : Type 0 where
-  pub reported : Reported (λ room. report_text kind room users) (view before) (view after) old new done
-  pub read : (fault : Option ShelfFault) × ShelfRead (view before) (view after) fault
-  pub ends : ReportEnds done
+  pub written : Result (Unit {0}) ReportFault
+  pub reported : Reported (λ room. report_text kind room users) (view before) (view after) old new written
+  pub read : ShelfRead (view before) (view after) (shelf_fault_in written)
+  pub ends : done ≡ done_of_report written
 
 -- the roster's file gives no roster
 abbrev pub FailsRoster : {M C : Type 0} → (does : M → Call C → M → Type 0)

@@ -1,6 +1,6 @@
 //! The faults that end a run with status 1.
 ghost use Rattle.std.specs.Prelude.{◌≡◌};
-ghost use Rattle.room_program.specs.Faults.{done_of, fault_line};
+ghost use Rattle.room_program.specs.Faults.{done_of, done_of_report, fault_line};
 
 use room_report::ReportFault;
 use room_roster::RosterFault;
@@ -83,21 +83,6 @@ impl From<RosterFault> for Fault {
     }
 }
 
-impl From<ReportFault> for Fault {
-    ghost use Rattle.std.specs.Prelude.{◌≡◌};
-    ghost use Rattle.room_program.specs.Faults.{report_fault};
-
-    ghost from_gives = { λ error fault. fault ≡ report_fault error };
-
-    fn from(error: ReportFault) -> Fault {
-        match error {
-            ReportFault::Memory => Fault::Memory,
-            ReportFault::Store => Fault::StoreFailed,
-            ReportFault::WriteFailed => Fault::WriteFailed,
-        }
-    }
-}
-
 /// How a run ends where serving ended so.
 pub(crate) fn done_of(why: Why) -> Result<(), Fault>
     ensures { result ≡ done_of why }
@@ -108,5 +93,17 @@ pub(crate) fn done_of(why: Why) -> Result<(), Fault>
         Why::ReadFailed => Err(Fault::ReadFailed),
         Why::WriteFailed => Err(Fault::WriteFailed),
         Why::Memory => Err(Fault::Memory),
+    }
+}
+
+/// How a run ends where a report ended so.
+pub(crate) fn done_of_report(written: Result<(), ReportFault>) -> Result<(), Fault>
+    ensures { result ≡ done_of_report written }
+{
+    match written {
+        Ok(()) => Ok(()),
+        Err(ReportFault::Memory) => Err(Fault::Memory),
+        Err(ReportFault::Store) => Err(Fault::StoreFailed),
+        Err(ReportFault::WriteFailed) => Err(Fault::WriteFailed),
     }
 }

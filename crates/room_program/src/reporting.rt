@@ -2,7 +2,7 @@
 ghost use Rattle.room_program.specs.Files.{Adopted};
 ghost use Rattle.room_program.specs.Rooms.{Reports, WritesReport};
 
-use crate::fault::Fault;
+use crate::fault::{Fault, done_of_report};
 use crate::machine::Machine;
 use crate::opening::take_room;
 use crate::rosters::roster_at;
@@ -25,7 +25,7 @@ fn report_access<R: Shelf, W: Write>(
     ensures { WritesReport R.view ReportKind.Access roster.now shelf.old
         shelf.new (W.contents writer.old) (W.contents writer.new) result }
 {
-    Ok(access_report(alloc, shelf, roster, writer)?)
+    done_of_report(access_report(alloc, shelf, roster, writer))
 }
 
 /// Writes every list.
@@ -40,7 +40,7 @@ fn report_lists<R: Shelf, W: Write>(
 {
     // The roster is in the contract alone.
     let _users = roster;
-    Ok(list_report(alloc, shelf, writer)?)
+    done_of_report(list_report(alloc, shelf, writer))
 }
 
 /// Writes a report of the room on a shelf.
