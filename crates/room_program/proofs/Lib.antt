@@ -1,5 +1,4 @@
 mod Calls
 mod Jobs
 mod Streams
-mod Told
 mod Faults

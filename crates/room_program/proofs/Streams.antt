@@ -8,8 +8,9 @@ use Rattle.room_wire.specs.Messages.MessageModel.{MessageModel}
 use Rattle.room_wire.proofs.Lemmas.Serving.Rounds.{outputs_then}
 use Rattle.room_desk.specs.History.{History}
 use Rattle.room_desk.specs.Serving.{AnswersMessage, IsRun, MayAnswer}
+use Rattle.room_desk.proofs.Calls.{no_call, calls_then}
 use Rattle.room_desk.proofs.Messages.{goes_on}
-use Rattle.room_program.specs.Streams.{AnswersSome, GoesOn}
+use Rattle.room_program.specs.Streams.{GoesOn, ServesSome}
 
 pub ran : (users : List SubjectModel) (start : Room) (past : History) (ms : List MessageModel)
     (out : List ℕ) (next : History) → IsRun users start past ms out next → GoesOn users start past next
@@ -17,10 +18,10 @@ ran users start past ms out next run =
     let on = goes_on users start past ms out next run in
     record { messages = ms; output = out; run = run; events = on.0; on = on.1 }
 
-pub stays : (users : List SubjectModel) (start : Room) (past : History) → GoesOn users start past past
+stays : (users : List SubjectModel) (start : Room) (past : History) → GoesOn users start past past
 stays users start past = record { messages = []; output = []; run = (refl, refl); events = []; on = refl }
 
-pub goes_further : (users : List SubjectModel) (start : Room) (past next last : History)
+goes_further : (users : List SubjectModel) (start : Room) (past next last : History)
     → GoesOn users start past next → GoesOn users start next last → GoesOn users start past last
 goes_further users start past next last a b = record {
   messages = a.messages ++ b.messages;
@@ -31,10 +32,25 @@ goes_further users start past next last a b = record {
 }
 
 module _ {S : Type 0} (view : S → View) (users : List SubjectModel) where
-  pub answers_none : (s : S) → AnswersSome view users s s
-  answers_none s = ([], [], (refl, refl))
+  pub serves_none : (s : S) → ServesSome view users s s
+  serves_none s = record {
+    frame = no_call _;
+    messages = ([], [], (refl, refl));
+    run = λ intact start past stands. (past, stays users start past, stands);
+  }
 
-  pub answers_more : (before then after : S) → AnswersSome view users before then
-      → AnswersSome view users then after → AnswersSome view users before after
-  answers_more before then after a b =
-      (a.0 ++ b.0, a.1 ++ b.1, outputs_then (MayAnswer view users) before then after a.0 b.0 a.1 b.1 a.2 b.2)
+  pub serves_more : (before then after : S) → ServesSome view users before then
+      → ServesSome view users then after → ServesSome view users before after
+  serves_more before then after a b = record {
+    frame = calls_then _ _ _ b.frame a.frame;
+    messages = (
+      a.messages.0 ++ b.messages.0,
+      a.messages.1 ++ b.messages.1,
+      outputs_then (MayAnswer view users) before then after a.messages.0 b.messages.0
+          a.messages.1 b.messages.1 a.messages.2 b.messages.2,
+    );
+    run = λ intact start past stands.
+        let so_far = a.run (b.frame.was_intact intact) start past stands in
+        let more = b.run intact start so_far.0 so_far.2 in
+        (more.0, goes_further users start past so_far.0 more.0 so_far.1 more.1, more.2);
+  }

@@ -1,9 +1,8 @@
 -- How jobs end.
-use Rattle.std.specs.Prelude.{◌≡◌, ◌⊎◌, ℕ, List, true, Option, Some, None, Result, Ok, Err}
+use Rattle.std.specs.Prelude.{◌≡◌, ◌⊎◌, ℕ, List, true, Result, Ok, Err}
 use Rattle.room_acl.specs.Principals.{IsPrincipal}
 use Rattle.room_program.specs.declared.fault.Fault.{Fault}
-use Rattle.room_program.specs.declared.fault.Fault.TheVariants.{BadName, StoreFailed, Memory, NetworkFailed}
-use Rattle.room_program.specs.declared.fault.Fault.TheVariants.{WriteFailed, SelftestFailed}
+use Rattle.room_program.specs.declared.fault.Fault.TheVariants.{BadName, Memory, NetworkFailed, SelftestFailed}
 use Rattle.room_program.specs.Machines.{Call}
 use Rattle.room_program.specs.Machines.Call.{connects}
 use Rattle.room_program.specs.Files.{MakesAt}
@@ -15,11 +14,11 @@ IsNameFault name BadName = ¬ IsPrincipal name
 IsNameFault name Memory = Unit {0}
 IsNameFault name other = ⊥
 
-abbrev pub AreNames : (owner group : List ℕ) → Type 0
-AreNames owner group = IsPrincipal owner × IsPrincipal group
+abbrev pub ArePrincipals : (owner group : List ℕ) → Type 0
+ArePrincipals owner group = IsPrincipal owner × IsPrincipal group
 
 abbrev pub IsNamesFault : (owner group : List ℕ) → Fault → Type 0
-IsNamesFault owner group BadName = ¬ AreNames owner group
+IsNamesFault owner group BadName = ¬ ArePrincipals owner group
 IsNamesFault owner group Memory = Unit {0}
 IsNamesFault owner group other = ⊥
 
@@ -29,15 +28,7 @@ abbrev pub InitEnds : {M C : Type 0} → (does : M → Call C → M → Type 0) 
     → (has_one : C → Type 0) → (db owner group : List ℕ) → (old new : M) → Result (Unit {0}) Fault → Type 0
 InitEnds does made has_one db owner group old new done =
     ((fault : Fault) × (done ≡ Err fault) × IsNamesFault owner group fault × (new ≡ old))
-    ⊎ (AreNames owner group × MakesAt does made has_one db old new done)
-
--- the faults of a report that was begun
-abbrev pub ReportEnds : Result (Unit {0}) Fault → Type 0
-ReportEnds (Ok done) = Unit {0}
-ReportEnds (Err StoreFailed) = Unit {0}
-ReportEnds (Err Memory) = Unit {0}
-ReportEnds (Err WriteFailed) = Unit {0}
-ReportEnds (Err other) = ⊥
+    ⊎ (ArePrincipals owner group × MakesAt does made has_one db old new done)
 
 -- the faults of serving connections
 abbrev pub ServeEnds : Result (Unit {0}) Fault → Type 0
@@ -64,8 +55,3 @@ SelftestEnds {M} does accepts old new (Ok done) =
     (first second : M) × does old (connects true) first × does first (connects true) second
     × Accepted accepts 2 second new
 SelftestEnds does accepts old new (Err fault) = IsSelftestFault fault
-
--- the fault of a job that is not done
-abbrev pub fault_in : Result (Unit {0}) Fault → Option Fault
-fault_in (Ok done) = None
-fault_in (Err fault) = Some fault

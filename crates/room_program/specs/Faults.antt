@@ -1,7 +1,9 @@
 -- The faults, their lines and their status.
-use Rattle.std.specs.Prelude.{ℕ, List, codes, Option, Some, None}
+use Rattle.std.specs.Prelude.{ℕ, List, codes, Result, Ok, Err}
 use Rattle.room_wire.specs.declared.serving.stop.Why.{Why}
 use Rattle.room_wire.specs.declared.serving.stop.Why.TheVariants as end
+use Rattle.room_report.specs.declared.reports.ReportFault.{ReportFault}
+use Rattle.room_report.specs.declared.reports.ReportFault.TheVariants as report
 use Rattle.room_roster.specs.declared.fault.RosterFault.{RosterFault}
 use Rattle.room_roster.specs.declared.fault.RosterFault.TheVariants as roster
 use Rattle.room_program.specs.declared.fault.Fault.{Fault}
@@ -24,15 +26,22 @@ fault_line ReadFailed = codes "fileroom: read failed\n"
 fault_line WriteFailed = codes "fileroom: write failed\n"
 fault_line SelftestFailed = codes "fileroom: selftest failed\n"
 
--- the fault of an end of serving; only `Closed` is none
-abbrev pub fault_of : Why → Option Fault
-fault_of end.Closed = None
-fault_of end.BadMessage = Some BadMessage
-fault_of end.ReadFailed = Some ReadFailed
-fault_of end.WriteFailed = Some WriteFailed
-fault_of end.Memory = Some Memory
+-- how a run ends where serving ended so; only `Closed` is no fault
+abbrev pub done_of : Why → Result (Unit {0}) Fault
+done_of end.Closed = Ok tt
+done_of end.BadMessage = Err BadMessage
+done_of end.ReadFailed = Err ReadFailed
+done_of end.WriteFailed = Err WriteFailed
+done_of end.Memory = Err Memory
 
--- of a text that gives no roster
-abbrev pub roster_fault_of : RosterFault → Fault
-roster_fault_of roster.Memory = Memory
-roster_fault_of roster.Bad = BadRoster
+-- how a run ends where a report ended so
+abbrev pub done_of_report : Result (Unit {0}) ReportFault → Result (Unit {0}) Fault
+done_of_report (Ok done) = Ok tt
+done_of_report (Err report.Memory) = Err Memory
+done_of_report (Err report.Store) = Err StoreFailed
+done_of_report (Err report.WriteFailed) = Err WriteFailed
+
+-- the fault of a text that gives no roster
+abbrev pub roster_fault : RosterFault → Fault
+roster_fault roster.Memory = Memory
+roster_fault roster.Bad = BadRoster

@@ -1,53 +1,37 @@
 -- What is done with the room in a file.
 use Rattle.std.specs.Prelude.{◌≡◌, ◌⊎◌, ℕ, List, true, false, Option, Result, Ok, Err, OnOk, OnErr}
-use Rattle.std.specs.Io.KnownBytes.{Appends}
 use Rattle.room_acl.specs.SubjectModel.{SubjectModel}
 use Rattle.room_records.specs.Room.{Room}
-use Rattle.room_records.specs.Representation.{RepresentsRoom}
 use Rattle.room_records.specs.Shelf.{View, ShelfRead}
-use Rattle.room_records.specs.declared.shelf.ShelfFault.{ShelfFault}
 use Rattle.room_report.specs.declared.reports.ReportFault.{ReportFault}
-use Rattle.room_report.specs.declared.reports.ReportFault.TheVariants as report
-use Rattle.room_report.specs.Lines.{access_text, list_text, IsBeginningOf}
-use Rattle.room_desk.specs.History.{History}
-use Rattle.room_desk.specs.Representation.{StandsFor}
-use Rattle.room_desk.specs.Serving.{DeskCall}
+use Rattle.room_report.specs.Faults.{shelf_fault_in}
+use Rattle.room_report.specs.Lines.{access_text, list_text}
+use Rattle.room_report.specs.Reported.{Reported}
 use Rattle.room_words.specs.declared.job.ReportKind.{ReportKind}
 use Rattle.room_words.specs.declared.job.ReportKind.TheVariants.{Access, Lists}
 use Rattle.room_program.specs.declared.fault.Fault.{Fault}
-use Rattle.room_program.specs.declared.fault.Fault.TheVariants.{StoreFailed, Memory, NetworkFailed, WriteFailed}
+use Rattle.room_program.specs.declared.fault.Fault.TheVariants.{NetworkFailed}
 use Rattle.room_program.specs.Calls.{Accepted, AcceptsFewer}
-use Rattle.room_program.specs.Ends.{ReportEnds, ServeEnds}
+use Rattle.room_program.specs.Ends.{ServeEnds}
+use Rattle.room_program.specs.Faults.{done_of_report}
 use Rattle.room_program.specs.Files.{TakesRoster, TakesRoom}
 use Rattle.room_program.specs.Machines.{Call}
 use Rattle.room_program.specs.Machines.Call.{listens, closes, leaves}
-use Rattle.room_program.specs.Streams.{AnswersSome, GoesOn}
+use Rattle.room_program.specs.Streams.{ServesSome}
 
 -- the report of a kind
 abbrev pub report_text : ReportKind → Room → List SubjectModel → List ℕ
 report_text Access room users = access_text room users
 report_text Lists room users = list_text room
 
--- how the program tells the end of a report
-abbrev pub told_as : Result (Unit {0}) ReportFault → Result (Unit {0}) Fault
-told_as (Ok done) = Ok tt
-told_as (Err report.Memory) = Err Memory
-told_as (Err report.Store) = Err StoreFailed
-told_as (Err report.WriteFailed) = Err WriteFailed
-
--- a report over a shelf: done means that the whole report of its rows was written; else a beginning of it was
+-- a report over a shelf, which it leaves as it is, and the run ends as the report did
 pub record WritesReport {Shelf : Type 0} (view : Shelf → View)
     (kind : ReportKind) (users : List SubjectModel) (before after : Shelf)
     (old new : Option (List ℕ)) (done : Result (Unit {0}) Fault) : Type 0 where
-  pub whole : (view after).is_intact → (view before).is_laid_out
-      → (room : Room) → RepresentsRoom (view before).records.objects room →
-      OnOk done (Appends old new (report_text kind room users))
-  pub beginning : (view after).is_intact → (view before).is_laid_out
-      → (room : Room) → RepresentsRoom (view before).records.objects room →
-      (written : List ℕ) × IsBeginningOf written (report_text kind room users) × Appends old new written
-  pub there : (view after).is_intact → OnOk done (view after).is_available
-  pub read : (fault : Option ShelfFault) × ShelfRead (view before) (view after) fault
-  pub ends : ReportEnds done
+  pub written : Result (Unit {0}) ReportFault
+  pub reported : Reported (λ room. report_text kind room users) (view before) (view after) old new written
+  pub read : ShelfRead (view before) (view after) (shelf_fault_in written)
+  pub ends : done ≡ done_of_report written
 
 -- the roster's file gives no roster
 abbrev pub FailsRoster : {M C : Type 0} → (does : M → Call C → M → Type 0)
@@ -73,21 +57,13 @@ Reports {M} {C} {Shelf} does adopts store view db roster kind before later old n
     ⊎ ((taken left : Shelf) × (seen : M) × TakesRoom does adopts db read seen (Ok taken)
     × WritesReport view kind users taken left old new done × does seen (leaves (store left)) later)))
 
--- how the program tells the end of serving connections
-abbrev pub done_of : {E : Type 0} → Result (Unit {0}) E → Result (Unit {0}) Fault
-done_of (Ok done) = Ok tt
-done_of (Err error) = Err NetworkFailed
-
 -- connections are served over a shelf: done means that so many were; each message is answered, and the history goes on
 pub record ServesAll {M Shelf : Type 0} (accepts fails : M → M → Type 0)
     (view : Shelf → View) (users : List SubjectModel) (count : ℕ)
     (bound later : M) (before after : Shelf) (done : Result (Unit {0}) Fault) : Type 0 where
   pub accepted : OnOk done (Accepted accepts count bound later)
   pub fewer : OnErr done (AcceptsFewer accepts fails count bound later)
-  pub frame : DeskCall (view before) (view after)
-  pub messages : AnswersSome view users before after
-  pub run : (view after).is_intact → (start : Room) (past : History) → StandsFor start past (view before) →
-      (next : History) × GoesOn users start past next × StandsFor start next (view after)
+  pub served : ServesSome view users before after
   pub ends : ServeEnds done
 
 -- the port can't be listened on, or connections to it are served

@@ -1,5 +1,5 @@
 -- What a run of the program reads and writes, and its exit status.
-use Rattle.std.specs.Prelude.{◌≡◌, ◌⊎◌, ℕ, List, [], string_bytes, codes, Option, Some, None, Result, Ok, Err}
+use Rattle.std.specs.Prelude.{◌≡◌, ◌⊎◌, ℕ, List, [], string_bytes, codes, Option, Result, Ok, Err}
 use Rattle.std.specs.Io.KnownBytes.{Appends}
 use Rattle.clap.specs.Words.{Text}
 use Rattle.room_wire.specs.declared.serving.stop.Why.{Why}
@@ -11,13 +11,13 @@ use Rattle.room_words.specs.declared.job.Job.{Job}
 use Rattle.room_words.specs.declared.job.Job.TheVariants.{Check, Init, Replay, Serve, Report, Selftest}
 use Rattle.room_words.specs.declared.fault.WordsFault.{WordsFault}
 use Rattle.room_words.specs.declared.fault.WordsFault.TheVariants.{Usage, Help, Memory}
-use Rattle.room_words.specs.CommandLine.{ReadsAs}
+use Rattle.room_words.specs.CommandLine.{ReadsJob}
 use Rattle.room_records.specs.Shelf.{View}
 use Rattle.room_program.specs.Machines.{Call}
-use Rattle.room_program.specs.Ends.{InitEnds, SelftestEnds, fault_in}
+use Rattle.room_program.specs.Ends.{InitEnds, SelftestEnds}
 use Rattle.room_program.specs.Rooms.{Reports, ServesRoom}
 use Rattle.room_program.specs.Replays.{Replays}
-use Rattle.room_program.specs.Faults.{fault_line, fault_of}
+use Rattle.room_program.specs.Faults.{done_of, fault_line}
 use Rattle.room_records.specs.Writers.{AppendsFront}
 
 -- the three streams: the bytes that the input has left, and those that the outputs hold, where they are known
@@ -31,25 +31,25 @@ streams i o e = record { input = i; output = o; errors = e }
 
 -- no fault: status 0, and nothing on standard error; a fault:
 -- status 1, and its line, or a beginning where standard error fails
-abbrev pub EndsWith : Option Fault → (old new : Option (List ℕ)) → ℕ → Type 0
-EndsWith None old new status = (status ≡ 0) × Appends old new []
-EndsWith (Some f) old new status = (status ≡ 1) × AppendsFront old new (fault_line f)
+abbrev pub EndsWith : Result (Unit {0}) Fault → (old new : Option (List ℕ)) → ℕ → Type 0
+EndsWith (Ok done) old new status = (status ≡ 0) × Appends old new []
+EndsWith (Err fault) old new status = (status ≡ 1) × AppendsFront old new (fault_line fault)
 
--- a job that may end so, with its fault told
+-- a job that may end so
 abbrev pub Ends : (Result (Unit {0}) Fault → Type 0) → (old new : Option (List ℕ)) → ℕ → Type 0
-Ends may_end old new status = (done : Result (Unit {0}) Fault) × may_end done × EndsWith (fault_in done) old new status
+Ends may_end old new status = (done : Result (Unit {0}) Fault) × may_end done × EndsWith done old new status
 
 -- `check` serves questions from the input to the output, and its status tells how that ended
 abbrev pub Checks : Streams → Streams → ℕ → Type 0
 Checks old new status =
     (why : Why) × (count : ℕ) × Serves MayAnswerCheck tt tt old.input new.input old.output new.output why count
-    × EndsWith (fault_of why) old.errors new.errors status
+    × EndsWith (done_of why) old.errors new.errors status
 
 -- a text goes to the output, and where that fails it is a fault
-abbrev pub Shows : List ℕ → Streams → Streams → ℕ → Type 0
-Shows text old new status =
-    (Appends old.output new.output text × EndsWith None old.errors new.errors status)
-    ⊎ (AppendsFront old.output new.output text × EndsWith (Some fault.WriteFailed) old.errors new.errors status)
+abbrev pub WritesText : List ℕ → Streams → Streams → ℕ → Type 0
+WritesText text old new status =
+    (Appends old.output new.output text × EndsWith (Ok tt) old.errors new.errors status)
+    ⊎ (AppendsFront old.output new.output text × EndsWith (Err fault.WriteFailed) old.errors new.errors status)
 
 -- what a machine does, and what its stores are: `does` are its calls, `accepts` and `fails` those of its listener
 pub record Means (M C Shelf : Type 0) : Type 1 where
@@ -77,9 +77,9 @@ means d a f p s m o v =
 abbrev pub Tries : {M C : Type 0} → (does : M → Call C → M → Type 0)
     → (accepts : M → M → Type 0) → (before later : M) → Streams → Streams → ℕ → Type 0
 Tries does accepts before later old new status =
-    (SelftestEnds does accepts before later (Ok tt) × Shows (codes "selftest ok\n") old new status)
+    (SelftestEnds does accepts before later (Ok tt) × WritesText (codes "selftest ok\n") old new status)
     ⊎ ((new.output ≡ old.output) × (fault : Fault) × SelftestEnds does accepts before later (Err fault)
-    × EndsWith (Some fault) old.errors new.errors status)
+    × EndsWith (Err fault) old.errors new.errors status)
 
 abbrev pub RunsJob : {M C Shelf : Type 0} → Means M C Shelf → (before later : M) → Job → Streams → Streams → ℕ → Type 0
 RunsJob m before later Check old new status = (later ≡ before) × Checks old new status
@@ -109,9 +109,9 @@ RunsJob m before later Selftest old new status =
 abbrev pub RefusesWords : WordsFault → Streams → Streams → ℕ → Type 0
 RefusesWords (Usage text) old new status =
     (new.output ≡ old.output) × AppendsFront old.errors new.errors (string_bytes text) × (status ≡ 2)
-RefusesWords (Help text) old new status = Shows (string_bytes text) old new status
+RefusesWords (Help text) old new status = WritesText (string_bytes text) old new status
 RefusesWords Memory old new status =
-    (new.output ≡ old.output) × EndsWith (Some fault.Memory) old.errors new.errors status
+    (new.output ≡ old.output) × EndsWith (Err fault.Memory) old.errors new.errors status
 
 -- the words are read, and their job is run or their fault told, which asks nothing of the machine
 abbrev pub RunsRead : {M C Shelf : Type 0} → Means M C Shelf
@@ -123,4 +123,4 @@ RunsRead m before later (Err f) old new status =
 abbrev pub Runs : {M C Shelf : Type 0} → Means M C Shelf
     → (before later : M) → List Text → Streams → Streams → ℕ → Type 0
 Runs m before later words old new status =
-    (read : Result Job WordsFault) × ReadsAs words read × RunsRead m before later read old new status
+    (read : Result Job WordsFault) × ReadsJob words read × RunsRead m before later read old new status

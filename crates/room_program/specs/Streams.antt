@@ -7,7 +7,8 @@ use Rattle.room_wire.specs.Asks.EventModel.{EventModel}
 use Rattle.room_wire.specs.Messages.MessageModel.{MessageModel}
 use Rattle.room_wire.specs.Serving.Outputs.{Outputs}
 use Rattle.room_desk.specs.History.{History}
-use Rattle.room_desk.specs.Serving.{IsRun, MayAnswer}
+use Rattle.room_desk.specs.Representation.{StandsFor}
+use Rattle.room_desk.specs.Serving.{DeskCall, IsRun, MayAnswer}
 
 -- these users' messages are a run from the history to the next, which has their events more
 pub record GoesOn (users : List SubjectModel) (start : Room) (past next : History) : Type 0 where
@@ -21,3 +22,10 @@ pub record GoesOn (users : List SubjectModel) (start : Room) (past next : Histor
 abbrev pub AnswersSome : {S : Type 0} (view : S → View) → List SubjectModel → S → S → Type 0
 AnswersSome view users before after =
     (messages : List MessageModel) × (output : List ℕ) × Outputs (MayAnswer view users) before messages output after
+
+-- and the history has gone on while the store is there
+pub record ServesSome {S : Type 0} (view : S → View) (users : List SubjectModel) (before after : S) : Type 0 where
+  pub frame : DeskCall (view before) (view after)
+  pub messages : AnswersSome view users before after
+  pub run : (view after).is_intact → (start : Room) (past : History) → StandsFor start past (view before) →
+      (next : History) × GoesOn users start past next × StandsFor start next (view after)

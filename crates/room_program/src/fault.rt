@@ -1,9 +1,11 @@
 //! The faults that end a run with status 1.
 ghost use Rattle.std.specs.Prelude.{◌≡◌};
-ghost use Rattle.room_program.specs.Faults.{fault_line, fault_of, roster_fault_of};
+ghost use Rattle.room_program.specs.Faults.{done_of, done_of_report, fault_line};
 
+use room_report::ReportFault;
 use room_roster::RosterFault;
 use room_wire::Why;
+use std::alloc::AllocError;
 
 /// A fault that ends a run with status 1, told by one line on standard error.
 #[derive(Clone, Copy, Debug, PartialEq, Eq)]
@@ -54,26 +56,54 @@ impl Fault {
             Fault::SelftestFailed => "fileroom: selftest failed\n",
         }
     }
+}
 
-    /// The fault of an end of serving, if it is one.
-    pub(crate) fn of_end(why: Why) -> Option<Fault>
-        ensures { result ≡ fault_of why }
-    {
-        match why {
-            Why::Closed => None,
-            Why::BadMessage => Some(Fault::BadMessage),
-            Why::ReadFailed => Some(Fault::ReadFailed),
-            Why::WriteFailed => Some(Fault::WriteFailed),
-            Why::Memory => Some(Fault::Memory),
-        }
+impl From<AllocError> for Fault {
+    ghost use Rattle.std.specs.Prelude.{◌≡◌};
+    ghost use Rattle.room_program.specs.declared.fault.Fault.TheVariants.{Memory};
+
+    ghost from_gives = { λ _ fault. fault ≡ Memory };
+
+    fn from(_error: AllocError) -> Fault {
+        Fault::Memory
     }
+}
 
-    pub(crate) fn of_roster(fault: RosterFault) -> Fault
-        ensures { result ≡ roster_fault_of fault }
-    {
-        match fault {
+impl From<RosterFault> for Fault {
+    ghost use Rattle.std.specs.Prelude.{◌≡◌};
+    ghost use Rattle.room_program.specs.Faults.{roster_fault};
+
+    ghost from_gives = { λ error fault. fault ≡ roster_fault error };
+
+    fn from(error: RosterFault) -> Fault {
+        match error {
             RosterFault::Memory => Fault::Memory,
             RosterFault::Bad => Fault::BadRoster,
         }
+    }
+}
+
+/// How a run ends where serving ended so.
+pub(crate) fn done_of(why: Why) -> Result<(), Fault>
+    ensures { result ≡ done_of why }
+{
+    match why {
+        Why::Closed => Ok(()),
+        Why::BadMessage => Err(Fault::BadMessage),
+        Why::ReadFailed => Err(Fault::ReadFailed),
+        Why::WriteFailed => Err(Fault::WriteFailed),
+        Why::Memory => Err(Fault::Memory),
+    }
+}
+
+/// How a run ends where a report ended so.
+pub(crate) fn done_of_report(written: Result<(), ReportFault>) -> Result<(), Fault>
+    ensures { result ≡ done_of_report written }
+{
+    match written {
+        Ok(()) => Ok(()),
+        Err(ReportFault::Memory) => Err(Fault::Memory),
+        Err(ReportFault::Store) => Err(Fault::StoreFailed),
+        Err(ReportFault::WriteFailed) => Err(Fault::WriteFailed),
     }
 }

@@ -1,11 +1,7 @@
 //! Serving a room over connections.
 ghost use Rattle.std.specs.Prelude.{OnOk, OnErr};
-ghost use Rattle.room_records.specs.Room.{Room};
-ghost use Rattle.room_desk.specs.History.{History};
-ghost use Rattle.room_desk.specs.Representation.{StandsFor};
-ghost use Rattle.room_desk.specs.Serving.{DeskCall};
 ghost use Rattle.room_program.specs.Calls.{Accepted, AcceptsFewer};
-ghost use Rattle.room_program.specs.Streams.{AnswersSome, GoesOn};
+ghost use Rattle.room_program.specs.Streams.{ServesSome};
 
 use crate::listening::Listener;
 use room_desk::Desk;
@@ -53,11 +49,7 @@ fn finish(stream: &TcpStream) {
 /// the store is there. Where the peer neither sends nor takes anything for a minute, it ends as after a failed read or
 /// write: what was read of the next message so far changes nothing.
 fn serve_stream<S: Shelf>(stream: &TcpStream, desk: &mut Desk<S>, roster: &Roster)
-    ensures frame { DeskCall (S.view desk.old) (S.view desk.new) }
-    ensures messages { AnswersSome S.view roster.now desk.old desk.new }
-    ensures run { (S.view desk.new).is_intact → (start : Room) (past : History)
-        → StandsFor start past (S.view desk.old) →
-        (next : History) × GoesOn roster.now start past next × StandsFor start next (S.view desk.new) }
+    ensures { ServesSome S.view roster.now desk.old desk.new }
 {
     if !limit_waits(stream) {
         return;
@@ -82,11 +74,7 @@ pub fn serve_listener<S: Shelf, L: Listener>(
 ) -> io::Result<()>
     ensures accepted { OnOk result (Accepted L.accepts count listener.old listener.new) }
     ensures fewer { OnErr result (AcceptsFewer L.accepts L.fails count listener.old listener.new) }
-    ensures frame { DeskCall (S.view desk.old) (S.view desk.new) }
-    ensures messages { AnswersSome S.view roster.now desk.old desk.new }
-    ensures run { (S.view desk.new).is_intact → (start : Room) (past : History)
-        → StandsFor start past (S.view desk.old) →
-        (next : History) × GoesOn roster.now start past next × StandsFor start next (S.view desk.new) }
+    ensures served { ServesSome S.view roster.now desk.old desk.new }
 {
     for served in 0..count {
         let stream = listener.next_stream()?;

@@ -6,9 +6,10 @@ ghost use Rattle.room_desk.specs.History.{History};
 ghost use Rattle.room_desk.specs.Representation.{RepresentsHistory};
 ghost use Rattle.room_desk.specs.Serving.{AnswersMessage};
 ghost use Rattle.room_wire.specs.Serving.Ends.{Serves};
-ghost use Rattle.room_program.specs.Replays.{done_of, Replays};
+ghost use Rattle.room_program.specs.Faults.{done_of};
+ghost use Rattle.room_program.specs.Replays.{Replays};
 
-use crate::fault::Fault;
+use crate::fault::{Fault, done_of};
 use crate::machine::Machine;
 use crate::names::standing;
 use crate::rosters::roster_at;
@@ -26,23 +27,8 @@ pub(crate) fn fresh_desk(alloc: Global, standing: Standing) -> Result<Desk<MemSh
     ensures fault { IfErr result (λ fault. fault ≡ Fault.Memory) }
 {
     let Standing { owner, group } = standing;
-    match MemShelf::fresh(alloc, owner, group) {
-        Ok(shelf) => Ok(Desk::new(alloc, shelf)),
-        Err(_) => Err(Fault::Memory),
-    }
-}
-
-/// How the program tells an end of serving.
-fn done_after(why: Why) -> Result<(), Fault>
-    ensures { result ≡ done_of why }
-{
-    match why {
-        Why::Closed => Ok(()),
-        Why::BadMessage => Err(Fault::BadMessage),
-        Why::ReadFailed => Err(Fault::ReadFailed),
-        Why::WriteFailed => Err(Fault::WriteFailed),
-        Why::Memory => Err(Fault::Memory),
-    }
+    let shelf = MemShelf::fresh(alloc, owner, group)?;
+    Ok(Desk::new(alloc, shelf))
 }
 
 /// Serves a room in memory until the input ends.
@@ -60,7 +46,7 @@ fn serve_to_end<R: Read, W: Write>(
     let mut desk = desk;
     let end = desk.serve(roster, reader, writer);
     let _ = desk.into_shelf();
-    done_after(end.why)
+    done_of(end.why)
 }
 
 /// Serves a fresh room in memory, of this owner and group, to the users of the roster at this path.

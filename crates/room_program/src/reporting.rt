@@ -1,32 +1,19 @@
 //! Reports of the room in a file.
-ghost use Rattle.std.specs.Prelude.{◌≡◌};
 ghost use Rattle.room_program.specs.Files.{Adopted};
-ghost use Rattle.room_program.specs.Rooms.{Reports, WritesReport, told_as};
+ghost use Rattle.room_program.specs.Rooms.{Reports, WritesReport};
 
-use crate::fault::Fault;
+use crate::fault::{Fault, done_of_report};
 use crate::machine::Machine;
 use crate::opening::take_room;
 use crate::rosters::roster_at;
 use room_cache::CachedShelf;
 use room_records::{Roster, Shelf};
-use room_report::{ReportFault, access_report, list_report};
+use room_report::{access_report, list_report};
 use room_sql::SqlShelf;
 use room_words::ReportKind;
 use sqlite::{Alter, Connection};
 use std::alloc::Global;
 use std::io::Write;
-
-/// The fault of a report that is not whole.
-fn told(written: Result<(), ReportFault>) -> Result<(), Fault>
-    ensures { result ≡ told_as written }
-{
-    match written {
-        Ok(()) => Ok(()),
-        Err(ReportFault::Memory) => Err(Fault::Memory),
-        Err(ReportFault::Store) => Err(Fault::StoreFailed),
-        Err(ReportFault::WriteFailed) => Err(Fault::WriteFailed),
-    }
-}
 
 /// Writes who may do what.
 fn report_access<R: Shelf, W: Write>(
@@ -38,7 +25,7 @@ fn report_access<R: Shelf, W: Write>(
     ensures { WritesReport R.view ReportKind.Access roster.now shelf.old
         shelf.new (W.contents writer.old) (W.contents writer.new) result }
 {
-    told(access_report(alloc, shelf, roster, writer))
+    done_of_report(access_report(alloc, shelf, roster, writer))
 }
 
 /// Writes every list.
@@ -53,7 +40,7 @@ fn report_lists<R: Shelf, W: Write>(
 {
     // The roster is in the contract alone.
     let _users = roster;
-    told(list_report(alloc, shelf, writer))
+    done_of_report(list_report(alloc, shelf, writer))
 }
 
 /// Writes a report of the room on a shelf.

@@ -4,7 +4,7 @@ ghost use Rattle.room_program.specs.Files.{GivesRoster, TakesRoster};
 use crate::fault::Fault;
 use crate::machine::Machine;
 use room_records::Roster;
-use room_roster::{RosterFault, read_roster};
+use room_roster::read_roster;
 use std::alloc::Global;
 use std::io::ErrorKind;
 
@@ -12,11 +12,7 @@ use std::io::ErrorKind;
 fn roster_of(alloc: Global, text: &str) -> Result<Roster, Fault>
     ensures { GivesRoster text.now result }
 {
-    match read_roster(alloc, text) {
-        Ok(roster) => Ok(roster),
-        Err(RosterFault::Memory) => Err(Fault::Memory),
-        Err(RosterFault::Bad) => Err(Fault::BadRoster),
-    }
+    Ok(read_roster(alloc, text)?)
 }
 
 /// Reads the roster in the file at this path.

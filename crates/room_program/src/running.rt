@@ -1,14 +1,13 @@
 //! A run of the program, from its words to its exit status.
-ghost use Rattle.std.specs.Prelude.{◌≡◌};
 ghost use Rattle.room_words.specs.CommandLine.{texts_of};
-ghost use Rattle.room_program.specs.Ends.{InitEnds, fault_in};
+ghost use Rattle.room_program.specs.Ends.{InitEnds};
 ghost use Rattle.room_program.specs.Files.{Adopted, HasATable, Made};
 ghost use Rattle.room_program.specs.Replays.{Replays};
 ghost use Rattle.room_program.specs.Rooms.{Reports, ServesRoom};
-ghost use Rattle.room_program.specs.Runs.{Checks, Ends, EndsWith, RefusesWords, Runs, RunsJob, Shows};
+ghost use Rattle.room_program.specs.Runs.{Checks, Ends, EndsWith, RefusesWords, Runs, RunsJob, WritesText};
 ghost use Rattle.room_program.specs.Runs.{Tries, means, streams};
 
-use crate::fault::Fault;
+use crate::fault::{Fault, done_of};
 use crate::host::{FileConnection, Host};
 use crate::listening::Listener;
 use crate::machine::Machine;
@@ -36,27 +35,17 @@ const FAULT: u8 = 1;
 /// The words are no row of the command table.
 const USAGE: u8 = 2;
 
-/// The status of a run that ended with this fault, if any, after its line went to `errors`.
-fn end_with<E: Write>(fault: Option<Fault>, errors: &mut E) -> u8
-    ensures { EndsWith fault (E.contents errors.old) (E.contents errors.new) result }
+/// The status of a run that ended so, after the line of its fault, if any, went to `errors`.
+fn end_with<E: Write>(done: Result<(), Fault>, errors: &mut E) -> u8
+    ensures { EndsWith done (E.contents errors.old) (E.contents errors.new) result }
 {
-    match fault {
-        None => DONE,
-        Some(fault) => {
+    match done {
+        Ok(()) => DONE,
+        Err(fault) => {
             // With standard error gone there is nobody left to tell.
             let _ = write_whole(errors, fault.line().as_bytes());
             FAULT
         }
-    }
-}
-
-/// The fault of a job that is not done.
-fn fault_in(done: Result<(), Fault>) -> Option<Fault>
-    ensures { result ≡ fault_in done }
-{
-    match done {
-        Ok(()) => None,
-        Err(fault) => Some(fault),
     }
 }
 
@@ -72,26 +61,19 @@ fn run_check<R: Read, W: Write, E: Write>(
         (streams (R.remaining input.new) (W.contents output.new) (E.contents errors.new)) result }
 {
     let end = serve_checks(alloc, input, output);
-    end_with(Fault::of_end(end.why), errors)
-}
-
-/// Tells the fault of a job, if it is not done.
-fn tell<E: Write>(done: Result<(), Fault>, errors: &mut E) -> u8
-    ensures { EndsWith (fault_in done) (E.contents errors.old) (E.contents errors.new) result }
-{
-    end_with(fault_in(done), errors)
+    end_with(done_of(end.why), errors)
 }
 
 /// Writes a text to the output.
 fn show<W: Write, E: Write>(text: &str, output: &mut W, errors: &mut E) -> u8
-    ensures { Shows text.now
+    ensures { WritesText text.now
         (streams None (W.contents output.old) (E.contents errors.old))
         (streams None (W.contents output.new) (E.contents errors.new)) result }
 {
     if write_whole(output, text.as_bytes()) {
-        end_with(None, errors)
+        end_with(Ok(()), errors)
     } else {
-        end_with(Some(Fault::WriteFailed), errors)
+        end_with(Err(Fault::WriteFailed), errors)
     }
 }
 
@@ -108,7 +90,7 @@ fn run_selftest<C, M: Machine<C> + Listener, W: Write, E: Write>(
 {
     match selftest(alloc, machine) {
         Ok(()) => show("selftest ok\n", output, errors),
-        Err(fault) => end_with(Some(fault), errors),
+        Err(fault) => end_with(Err(fault), errors),
     }
 }
 
@@ -126,7 +108,7 @@ fn run_init<S: Alter + Drop, M: Machine<Connection<S>>, E: Write>(
         (E.contents errors.old) (E.contents errors.new) result }
 {
     let done = init(alloc, machine, db, owner, group);
-    tell(done, errors)
+    end_with(done, errors)
 }
 
 /// Writes a report of the room in a file.
@@ -145,7 +127,7 @@ fn run_report<S: Alter + Drop, M: Machine<Connection<S>>, W: Write, E: Write>(
         (E.contents errors.old) (E.contents errors.new) result }
 {
     let done = report(alloc, machine, db, roster, kind, output);
-    tell(done, errors)
+    end_with(done, errors)
 }
 
 /// Serves a fresh room from the input to the output.
@@ -164,7 +146,7 @@ fn run_replay<C, M: Machine<C>, R: Read, W: Write, E: Write>(
         (E.contents errors.old) (E.contents errors.new) result }
 {
     let done = replay(alloc, machine, roster, owner, group, input, output);
-    tell(done, errors)
+    end_with(done, errors)
 }
 
 /// Serves the room in a file.
@@ -183,7 +165,7 @@ fn run_serve<S: Alter + Drop, M: Machine<Connection<S>> + Listener, E: Write>(
         (E.contents errors.old) (E.contents errors.new) result }
 {
     let done = serve(alloc, machine, db, roster, port, count);
-    tell(done, errors)
+    end_with(done, errors)
 }
 
 /// Runs a job.
@@ -270,7 +252,7 @@ fn refuse_words<W: Write, E: Write>(fault: &WordsFault, output: &mut W, errors: 
             USAGE
         }
         WordsFault::Help(text) => { show(text.as_str(), output, errors) }
-        WordsFault::Memory => end_with(Some(Fault::Memory), errors),
+        WordsFault::Memory => end_with(Err(Fault::Memory), errors),
     }
 }
 

@@ -1,7 +1,6 @@
 //! Serving the room in a file.
-ghost use Rattle.std.specs.Prelude.{◌≡◌};
 ghost use Rattle.room_program.specs.Files.{Adopted};
-ghost use Rattle.room_program.specs.Rooms.{Listens, ServesAll, ServesRoom, done_of};
+ghost use Rattle.room_program.specs.Rooms.{Listens, ServesAll, ServesRoom};
 
 use crate::fault::Fault;
 use crate::listening::Listener;
@@ -15,17 +14,6 @@ use room_records::{Roster, Shelf};
 use room_sql::SqlShelf;
 use sqlite::{Alter, Connection};
 use std::alloc::Global;
-use std::io;
-
-/// How the program tells the end of serving connections.
-fn served(end: io::Result<()>) -> Result<(), Fault>
-    ensures { result ≡ done_of end }
-{
-    match end {
-        Ok(()) => Ok(()),
-        Err(_) => Err(Fault::NetworkFailed),
-    }
-}
 
 /// Serves `count` connections over a desk.
 fn serve_all<R: Shelf, L: Listener>(
@@ -36,7 +24,10 @@ fn serve_all<R: Shelf, L: Listener>(
 ) -> Result<(), Fault>
     ensures { ServesAll L.accepts L.fails R.view roster.now count listener.old listener.new desk.old desk.new result }
 {
-    served(serve_listener(listener, desk, roster, count))
+    match serve_listener(listener, desk, roster, count) {
+        Ok(()) => Ok(()),
+        Err(_) => Err(Fault::NetworkFailed),
+    }
 }
 
 /// Listens on this port of 127.0.0.1, and serves `count` connections over a desk.

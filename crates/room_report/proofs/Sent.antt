@@ -2,8 +2,13 @@
 use Rattle.std.proofs.Common.{◌≡◌, ℕ, List, [], ◌++◌, refl, sym, ◌∙◌, append-nil, Option, Result, Ok, Err}
 use Rattle.std.specs.Io.KnownBytes.{Appends}
 use Rattle.std.specs.Prelude.{OnOk}
+use Rattle.room_records.specs.Representation.{RepresentsRoom}
+use Rattle.room_records.specs.Room.{Room}
+use Rattle.room_records.specs.Shelf.{View}
+use Rattle.room_report.specs.declared.lines.Report.{Report}
 use Rattle.room_report.specs.Lines.{IsBeginningOf}
-use Rattle.room_report.specs.Walk.{AppendsFront, Writes}
+use Rattle.room_report.specs.Reported.{Reported}
+use Rattle.room_report.specs.Walk.{AppendsFront, OfIntactRoom, Writes, text_below}
 
 pub front_is : (a b : Option (List ℕ)) (x y : List ℕ) → x ≡ y → AppendsFront a b x → AppendsFront a b y
 front_is a b x y e h = rw (← e) h
@@ -15,14 +20,26 @@ appends_is a b x y e h = rw (← e) h
 pub sent_front : (a b : Option (List ℕ)) (x y : List ℕ) → Appends a b x → AppendsFront a b (x ++ y)
 sent_front a b x y h = (x, y, refl, h)
 
--- what a call says of a report is what the report promises
-pub sent_whole : {X E : Type 0} (a b : Option (List ℕ)) (text other : List ℕ) (r : Result X E)
+sent_whole : {X E : Type 0} (a b : Option (List ℕ)) (text other : List ℕ) (r : Result X E)
     → text ≡ other → Writes a b text r → OnOk r (Appends a b other)
 sent_whole a b text other (Ok x) same sent = appends_is a b text other same sent
 sent_whole a b text other (Err e) same sent = tt
 
-pub sent_beginning : {X E : Type 0} (a b : Option (List ℕ)) (text other : List ℕ) (r : Result X E)
+sent_beginning : {X E : Type 0} (a b : Option (List ℕ)) (text other : List ℕ) (r : Result X E)
     → text ≡ other → Writes a b text r
     → (written : List ℕ) × IsBeginningOf written other × Appends a b written
 sent_beginning a b text other (Ok x) same sent = (text, ([], sym same ∙ sym (append-nil text)), sent)
 sent_beginning a b text other (Err e) same sent = (sent.0, (sent.1, sym same ∙ sent.2), sent.3)
+
+-- what the walk says of a report is what the report promises
+pub reported : {X E : Type 0} (report : Report) (text : Room → List ℕ)
+    (before after : View) (a b : Option (List ℕ)) (r : Result X E)
+    → ((room : Room) → RepresentsRoom before.records.objects room → text_below report room [] ≡ text room)
+    → OfIntactRoom before after (λ t room. Writes a b (text_below report room []) r)
+    → (after.is_intact → OnOk r after.is_available) → Reported text before after a b r
+reported report text before after a b r same value there = record {
+  ok = λ intact laid room stand. sent_whole a b _ (text room) r (same room stand) (value intact laid _ refl room stand);
+  beginning = λ intact laid room stand.
+      sent_beginning a b _ (text room) r (same room stand) (value intact laid _ refl room stand);
+  there = there;
+}

@@ -5,6 +5,7 @@ use Rattle.std.specs.List.{flat_map}
 use Rattle.std.specs.BTreeMap.{insert_entry}
 use Rattle.room_acl.specs.declared.subject.Kind.{Kind}
 use Rattle.room_acl.specs.declared.subject.Kind.TheVariants.{File, Folder}
+use Rattle.room_acl.specs.Principals.{max_principal_bytes}
 use Rattle.room_acl.specs.SubjectModel.{SubjectModel}
 use Rattle.room_acl.specs.Entries.{EntryModel, who_text}
 use Rattle.room_acl.specs.Access.{allowed_mask}
@@ -24,9 +25,9 @@ unfoldable pub hex : ℕ → ℕ → List ℕ
 hex zero n = []
 hex (suc places) n = hex places (n / 16) ++ hex_digit (n % 16) ∷ []
 
--- a text left in 32 places
+-- a text left in as many places as the longest name takes
 abbrev pub in_places : List ℕ → List ℕ
-in_places text = text ++ replicate (32 - length text) 32
+in_places text = text ++ replicate (max_principal_bytes - length text) 32
 
 -- the rights of a user at a path
 abbrev pub mask_line : ℕ → List ℕ → List ℕ → List ℕ

@@ -10,6 +10,9 @@ use crate::item::Item;
 use room_acl::{Entry, Kind, Subject, allowed_bits};
 use std::alloc::{AllocError, Global};
 
+/// Bytes of the longest name of a user or of a group.
+const LONGEST_NAME: usize = 32;
+
 /// Which report is written.
 #[derive(Debug, Drop)]
 pub(crate) enum Report {
@@ -132,12 +135,12 @@ fn type_letter(allow: bool) -> u8
     if allow { b'A' } else { b'D' }
 }
 
-/// A text left in 32 places.
+/// A text left in as many places as the longest name takes.
 fn push_in_places(buffer: &mut Vec<u8>, text: &[u8]) -> Result<(), AllocError>
     ensures { OnOk result (buffer.new.items ≡ buffer.old.items ++ in_places text.now) }
 {
     buffer.extend_from_slice(text)?;
-    let spaces = 32usize.saturating_sub(text.len());
+    let spaces = LONGEST_NAME.saturating_sub(text.len());
     for _ in 0..spaces {
         buffer.push(b' ')?;
     }

@@ -1,11 +1,9 @@
 //! The two reports.
-ghost use Rattle.std.specs.Prelude.{◌≡◌, List, ℕ, IfOk, OnOk};
-ghost use Rattle.std.specs.Io.KnownBytes.{Appends};
+ghost use Rattle.std.specs.Prelude.{◌≡◌, IfOk};
 ghost use Rattle.room_records.specs.Shelf.{ShelfRead};
-ghost use Rattle.room_records.specs.Room.{Room};
-ghost use Rattle.room_records.specs.Representation.{RepresentsRoom};
 ghost use Rattle.room_report.specs.Faults.{shelf_fault_in};
-ghost use Rattle.room_report.specs.Lines.{access_text, list_text, IsBeginningOf};
+ghost use Rattle.room_report.specs.Lines.{access_text, list_text};
+ghost use Rattle.room_report.specs.Reported.{Reported};
 
 use crate::lines::Report;
 use crate::sending::WriteFailed;
@@ -79,19 +77,11 @@ pub fn access_report<S: Shelf, W: Write>(
     roster: &Roster,
     writer: &mut W,
 ) -> Result<(), ReportFault>
-    ensures ok { (S.view shelf.new).is_intact → (S.view shelf.old).is_laid_out →
-        (room : Room) → RepresentsRoom (S.view shelf.old).records.objects room →
-        OnOk result (Appends (W.contents writer.old) (W.contents writer.new) (access_text room roster.now)) }
-    ensures beginning { (S.view shelf.new).is_intact → (S.view shelf.old).is_laid_out →
-        (room : Room) → RepresentsRoom (S.view shelf.old).records.objects room →
-        (written : List ℕ) × IsBeginningOf written (access_text room roster.now)
-        × Appends (W.contents writer.old) (W.contents writer.new) written }
-    ensures there { (S.view shelf.new).is_intact → OnOk result (S.view shelf.new).is_available }
+    ensures value { Reported (λ room. access_text room roster.now) (S.view shelf.old) (S.view shelf.new)
+        (W.contents writer.old) (W.contents writer.new) result }
     ensures frame { ShelfRead (S.view shelf.old) (S.view shelf.new) (shelf_fault_in result) }
 {
-    let Ok(users) = users_of(alloc, roster) else {
-        return Err(ReportFault::Memory);
-    };
+    let users = users_of(alloc, roster)?;
     let report = Report::Access(users);
     report_room(alloc, shelf, &report, writer)
 }
@@ -108,14 +98,8 @@ pub fn list_report<S: Shelf, W: Write>(
     shelf: &mut S,
     writer: &mut W,
 ) -> Result<(), ReportFault>
-    ensures ok { (S.view shelf.new).is_intact → (S.view shelf.old).is_laid_out →
-        (room : Room) → RepresentsRoom (S.view shelf.old).records.objects room →
-        OnOk result (Appends (W.contents writer.old) (W.contents writer.new) (list_text room)) }
-    ensures beginning { (S.view shelf.new).is_intact → (S.view shelf.old).is_laid_out →
-        (room : Room) → RepresentsRoom (S.view shelf.old).records.objects room →
-        (written : List ℕ) × IsBeginningOf written (list_text room)
-        × Appends (W.contents writer.old) (W.contents writer.new) written }
-    ensures there { (S.view shelf.new).is_intact → OnOk result (S.view shelf.new).is_available }
+    ensures value { Reported list_text (S.view shelf.old) (S.view shelf.new)
+        (W.contents writer.old) (W.contents writer.new) result }
     ensures frame { ShelfRead (S.view shelf.old) (S.view shelf.new) (shelf_fault_in result) }
 {
     report_room(alloc, shelf, &Report::Lists, writer)

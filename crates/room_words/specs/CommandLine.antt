@@ -140,8 +140,8 @@ ReadsWith p words (Err (Help text)) =
     (k : ErrorKind) × IsAmong k (fault_of (program_command p) words) × IsAsked k
 ReadsWith p words (Err Memory) = Unit {0}
 
-abbrev pub ReadsAs : List Text → Result Job WordsFault → Type 0
-ReadsAs words read = (p : ValueParser) × IsKindParser p × ReadsWith p words read
+abbrev pub ReadsJob : List Text → Result Job WordsFault → Type 0
+ReadsJob words read = (p : ValueParser) × IsKindParser p × ReadsWith p words read
 
 -- the words are this job's, and nothing but want of memory keeps them from being read so
 abbrev pub IsReadAs : Job → Result Job WordsFault → Type 0

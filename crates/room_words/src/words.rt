@@ -1,7 +1,7 @@
 //! The command line.
 ghost use Rattle.std.specs.Prelude.{◌≡◌, [], ◌∷◌, IfOk, codes};
 ghost use Rattle.clap.specs.Words.{FailsBy, fault_of, kind_of, subcommand_of, subcommand_rows_of};
-ghost use Rattle.room_words.specs.CommandLine.{program_command, IsReadAs, ReadsAs, TellsKind, texts_of};
+ghost use Rattle.room_words.specs.CommandLine.{program_command, IsReadAs, ReadsJob, TellsKind, texts_of};
 
 use crate::commands::{command_table, kind_parser};
 use crate::fault::WordsFault;
@@ -45,7 +45,7 @@ fn words_fault(alloc: Global, error: &Error) -> WordsFault
 /// Reads the words behind the program's name. Help is asked for by `-h` or `--help`, the version by `-V` or
 /// `--version`. A value that begins with `-` is to be written behind `--`.
 pub fn read_words(alloc: Global, words: &[String]) -> Result<Job, WordsFault>
-    ensures reads { ReadsAs (texts_of words.now) result }
+    ensures reads { ReadsJob (texts_of words.now) result }
 
     // The command line in plain words.
     ensures check { texts_of words.now ≡ codes "check" ∷ [] → IsReadAs Job.Check result }

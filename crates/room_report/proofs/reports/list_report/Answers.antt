@@ -1,20 +1,14 @@
-use Rattle.std.proofs.Common.{refl, ap, []}
+use Rattle.std.proofs.Common.{ap}
 use Rattle.std.specs.List.{flat_map}
 use Rattle.room_report.specs.declared.lines.Report.TheVariants.{Lists}
 use Rattle.room_report.specs.Lines.{list_text}
-use Rattle.room_report.specs.Walk.{lines_of, text_below}
+use Rattle.room_report.specs.Walk.{lines_of}
 use Rattle.room_report.proofs.Below.{all_below_root}
-use Rattle.room_report.proofs.Sent.{sent_whole, sent_beginning}
+use Rattle.room_report.proofs.Sent.{reported}
 use Rattle.room_report.proofs.reports.list_report.Goals as goal
 
-pub returns-clause-ok : goal.returns-clause-ok
-returns-clause-ok g c = λ intact laid_out room stand.
-    sent_whole _ _ (text_below Lists room []) (list_text room) c.report_room.result
-    (ap (flat_map (lines_of Lists room)) (all_below_root room stand.lawful))
-    (c.report_room.ensures.value intact laid_out _ refl room stand)
-
-pub returns-clause-beginning : goal.returns-clause-beginning
-returns-clause-beginning g c = λ intact laid_out room stand.
-    sent_beginning _ _ (text_below Lists room []) (list_text room) c.report_room.result
-    (ap (flat_map (lines_of Lists room)) (all_below_root room stand.lawful))
-    (c.report_room.ensures.value intact laid_out _ refl room stand)
+pub returns-clause-value : goal.returns-clause-value
+returns-clause-value g c =
+    reported Lists list_text _ _ _ _ c.report_room.result
+    (λ room stand. ap (flat_map (lines_of Lists room)) (all_below_root room stand.lawful))
+    c.report_room.ensures.value c.report_room.ensures.there
