@@ -79,7 +79,8 @@ impl Flags {
     fn has(self, flag: u8) -> bool
         ensures { result ≡ has_flag self flag }
     {
-        self.bits & flag == flag
+        let bits = self.bits;
+        bits & flag == flag
     }
 
     pub(crate) fn is_file_inherit(self) -> bool

@@ -58,7 +58,8 @@ impl ListFlags {
     fn has(self, flag: u8) -> bool
         ensures { result ≡ has_flag self flag }
     {
-        self.bits & flag == flag
+        let bits = self.bits;
+        bits & flag == flag
     }
 
     /// The bits of the list flags.

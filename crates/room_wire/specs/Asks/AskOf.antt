@@ -29,7 +29,6 @@ use Rattle.room_wire.specs.Asks.EventModel.{EventModel, Open, Close, Slot, event
 use Rattle.room_wire.specs.Messages.Fields.{values_named}
 use Rattle.room_wire.specs.Questions.QuestionModel.{QuestionModel, question_model, question_of_body}
 use Rattle.room_wire.specs.Forms.Reading.{json_of, has_count, number_at, principal_from}
-use Rattle.room_wire.specs.Asks.CheckAsk.{asked, DecodesAs}
 use Rattle.room_wire.specs.Asks.Routing.{TargetModel, target_at, room_rows}
 use Rattle.room_wire.specs.Messages.MessageModel.{MessageModel, fields_of}
 
@@ -101,6 +100,11 @@ event_by S.Close caller target body = close_by caller (sid_from target.sid)
 event_by S.Run caller target body =
     request_by caller (sid_from target.sid) (number_from target.slot) (number_from target.seq) (command_of_body body)
 
+-- what is asked, made of what was read, or a bad request where nothing was
+abbrev pub asked : {A B : Type 0} → (A → B) → Option A → Result B WireFault
+asked make None = Err BadRequest
+asked make (Some read) = Ok (make read)
+
 abbrev pub question_asked : Option QuestionModel → Result AskModel WireFault
 question_asked = asked Check
 
@@ -125,6 +129,14 @@ ask_for (Some target) users fields body = ask_by target.action users target fiel
 -- what a message asks of a room with these users: the route and its method, then the user, then all else
 abbrev pub ask_of : List SubjectModel → MessageModel → Result AskModel WireFault
 ask_of users m = ask_for (target_at room_rows m.head.method m.head.target) users (fields_of m) m.body
+
+-- the result is what was asked, unless memory was refused
+abbrev pub DecodesAs : {X A : Type 0} → (X → A) → Result A WireFault → Result X WireFault → Type 0
+DecodesAs show ask (Ok x) = ask ≡ Ok (show x)
+DecodesAs show ask (Err BadRoute) = ask ≡ Err BadRoute
+DecodesAs show ask (Err UnknownUser) = ask ≡ Err UnknownUser
+DecodesAs show ask (Err BadRequest) = ask ≡ Err BadRequest
+DecodesAs show ask (Err Memory) = Unit {0}
 
 abbrev pub DecodesAsk : Result AskModel WireFault → Result Ask WireFault → Type 0
 DecodesAsk = DecodesAs ask_model

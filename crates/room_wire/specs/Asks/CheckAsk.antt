@@ -1,18 +1,14 @@
 -- What a message asks where questions alone have a route.
-use Rattle.std.specs.Prelude.{◌≡◌, ℕ, List, Option, None, Some, Result, Ok, Err}
+use Rattle.std.specs.Prelude.{ℕ, List, Option, None, Some, Result, Err}
 use Rattle.room_wire.specs.declared.questions.question.Question.{Question}
 use Rattle.room_wire.specs.declared.fault.WireFault.{WireFault}
-use Rattle.room_wire.specs.declared.fault.WireFault.TheVariants.{BadRoute, UnknownUser, BadRequest, Memory}
+use Rattle.room_wire.specs.declared.fault.WireFault.TheVariants.{BadRoute}
 use Rattle.room_wire.specs.declared.asks.routing.Action.{Action}
 use Rattle.room_wire.specs.declared.asks.routing.Action.TheVariants.{Check, Session}
 use Rattle.room_wire.specs.Questions.QuestionModel.{QuestionModel, question_model, question_of_body}
+use Rattle.room_wire.specs.Asks.AskOf.{asked, DecodesAs}
 use Rattle.room_wire.specs.Asks.Routing.{TargetModel, target_at, check_rows}
 use Rattle.room_wire.specs.Messages.MessageModel.{MessageModel}
-
--- what is asked, made of what was read, or a bad request where nothing was
-abbrev pub asked : {A B : Type 0} → (A → B) → Option A → Result B WireFault
-asked make None = Err BadRequest
-asked make (Some read) = Ok (make read)
 
 abbrev pub check_by : Action → List ℕ → Result QuestionModel WireFault
 check_by Check body = asked (λ question. question) (question_of_body body)
@@ -25,14 +21,6 @@ check_for (Some target) body = check_by target.action body
 -- what a message asks where questions alone have a route: the route first, then the body
 abbrev pub check_ask : MessageModel → Result QuestionModel WireFault
 check_ask m = check_for (target_at check_rows m.head.method m.head.target) m.body
-
--- the result is what was asked, unless memory was refused
-abbrev pub DecodesAs : {X A : Type 0} → (X → A) → Result A WireFault → Result X WireFault → Type 0
-DecodesAs show ask (Ok x) = ask ≡ Ok (show x)
-DecodesAs show ask (Err BadRoute) = ask ≡ Err BadRoute
-DecodesAs show ask (Err UnknownUser) = ask ≡ Err UnknownUser
-DecodesAs show ask (Err BadRequest) = ask ≡ Err BadRequest
-DecodesAs show ask (Err Memory) = Unit {0}
 
 abbrev pub Decodes : Result QuestionModel WireFault → Result Question WireFault → Type 0
 Decodes = DecodesAs question_model

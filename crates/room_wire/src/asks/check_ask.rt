@@ -1,6 +1,7 @@
 //! From messages to questions.
 ghost use Rattle.std.specs.Prelude.{◌≡◌};
-ghost use Rattle.room_wire.specs.Asks.CheckAsk.{check_ask, check_for, asked, Decodes};
+ghost use Rattle.room_wire.specs.Asks.CheckAsk.{check_ask, check_for, Decodes};
+ghost use Rattle.room_wire.specs.Asks.AskOf.{asked};
 ghost use Rattle.room_wire.specs.Asks.Routing.{target_at, check_rows};
 ghost use Rattle.room_wire.specs.Messages.MessageModel.{MessageModel};
 ghost use Rattle.room_wire.specs.Messages.Taken.{Shows};
