@@ -19,6 +19,7 @@ import sqlite3
 import subprocess
 import sys
 import tempfile
+import threading
 import time
 
 HERE = os.path.dirname(os.path.abspath(__file__))
@@ -31,6 +32,7 @@ STOPS = (signal.SIGTERM, signal.SIGINT, signal.SIGHUP, signal.SIGALRM)
 LIBC = ctypes.CDLL(None)
 SET_PDEATHSIG = 1  # of prctl
 started_here = []
+stopping = threading.Event()  # from then on no server is started
 
 
 def end_with_parent(number=signal.SIGKILL):
@@ -46,6 +48,7 @@ def end_servers():
 def stopped(number, _):
     for it in STOPS:
         signal.signal(it, signal.SIG_IGN)
+    stopping.set()
     end_servers()
     why = "took longer than it may" if number == signal.SIGALRM else f"stopped by {signal.Signals(number).name}"
     sys.exit(f"{SCRIPT}: {why}")
@@ -79,6 +82,8 @@ def work_folder(**how):
 
 def start_program(*words, **how):
     """The program as a process that ends with the thread that starts it, at the latest."""
+    if stopping.is_set():
+        sys.exit(f"{SCRIPT}: it ends")
     child = subprocess.Popen([PROGRAM, *words], preexec_fn=end_with_parent, **how)
     started_here.append(child)
     return child
