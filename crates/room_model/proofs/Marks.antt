@@ -2,12 +2,15 @@
 use Rattle.std.proofs.Common.{◌≡◌, ℕ, ◌-◌, ◌<◌, ap, sym, ◌∙◌, arith, bit_and, min}
 use Rattle.std.specs.Int.{bit_at}
 use Rattle.std.proofs.lemmas.Nat.Bits.{bit_at_and, same_from_bits}
-use Rattle.room_acl.specs.Bits.{IsFlags, IsMask}
-use Rattle.room_acl.proofs.Marks.{cleared_flags, cleared_are_flags}
+use Rattle.room_acl.specs.Bits.{IsFlags, IsMask, identifier_group}
+use Rattle.room_acl.proofs.Marks.{cleared_flags, cleared_are_flags, cleared_group}
 
--- the mark taken away
+-- the mark taken away leaves flags, and IDENTIFIER_GROUP as it was
 pub cleared_is_flags : (f : ℕ) → f < 256 → IsFlags f → IsFlags (f - bit_and f 0x80)
 cleared_is_flags f small lawful = rw (cleared_flags f small) (cleared_are_flags f lawful)
+
+pub cleared_keeps_group : (f : ℕ) → f < 256 → identifier_group (f - bit_and f 0x80) ≡ identifier_group f
+cleared_keeps_group f small = rw (cleared_flags f small) (cleared_group f)
 
 least_of_three : (o n x y m : ℕ) → o ≡ min n m → n ≡ min x y → min y m ≡ y → o ≡ n
 least_of_three o n x y m e f h = omega arith

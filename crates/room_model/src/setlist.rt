@@ -1,7 +1,7 @@
 //! What a list that is sent becomes.
 ghost use Rattle.std.specs.Prelude.{◌≡◌, IfOk};
 ghost use Rattle.room_acl.specs.Bits.{is_inherited};
-ghost use Rattle.room_commands.specs.SetList.{clear_inherited, follows_at, own_entries_of_setlist};
+ghost use Rattle.room_commands.specs.SetList.{clear_inherited, follows_at, kept_entry, own_entries_of_setlist};
 
 use crate::room::follows;
 use room_acl::{Entry, Flags, ListFlags};
@@ -20,11 +20,21 @@ pub fn own_entries_of_setlist(
     let follows = follows_at(path, aclflag);
     let mut own = Vec::new(alloc);
     for entry in sent {
-        if !follows || !is_inherited(entry.flags()) {
-            own.push(cleared(entry)?)?;
+        if let Some(kept) = kept_entry(follows, entry)? {
+            own.push(kept)?;
         }
     }
     Ok(own)
+}
+
+/// What becomes of an entry that is sent.
+fn kept_entry(follows: bool, entry: &Entry) -> Result<Option<Entry>, AllocError>
+    ensures { IfOk result (λ kept. kept ≡ kept_entry follows entry.now) }
+{
+    if follows && is_inherited(entry.flags()) {
+        return Ok(None);
+    }
+    Ok(Some(cleared(entry)?))
 }
 
 /// Whether an object at this path follows with these list flags. The root never does.
@@ -44,7 +54,7 @@ fn is_inherited(flags: Flags) -> bool
 }
 
 /// The entry without the mark.
-#[tactic(auto, using(crate::proofs::Marks::cleared_is_flags))]
+#[tactic(auto, using(crate::proofs::Marks::cleared_is_flags, crate::proofs::Marks::cleared_keeps_group))]
 fn cleared(entry: &Entry) -> Result<Entry, AllocError>
     ensures { IfOk result (λ own. own ≡ clear_inherited entry.now) }
 {
