@@ -59,8 +59,8 @@ def less(counts, others):
 
 
 def taken_in(out):
-    """What a server took that wrote this. A call counts where it leads from another function to one of the library, with
-    all that this calls."""
+    """What a server took that wrote this. A call counts where it leads from another function to one of the library,
+    with all that this calls."""
     names, calls, ran = {}, collections.Counter(), collections.Counter()
     caller, callee, is_call, place = "", "", False, 0
     with open(out) as file:

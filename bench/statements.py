@@ -1,7 +1,8 @@
 """Which SQL texts the program's calls of the library hand over, read off its own machine code.
 
-The compiler puts the functions of room_sql into their callers, so a call is told by its place: right before it the begin
-and the length of the text are put into %rdx and %ecx, there or on a way that ends in a jump to there. Needs objdump.
+The compiler puts the functions of room_sql into their callers, so a call is told by its place: right before it the
+begin and the length of the text are put into %rdx and %ecx, there or on a way that ends in a jump to there. Needs
+objdump.
 """
 import collections
 import re
@@ -44,7 +45,8 @@ class Code:
                 return
 
     def texts(self, place, ran):
-        """The texts that the call at a place handed over, with their parts of its calls, of how often what is where ran."""
+        """The texts that the call at a place handed over, with their parts of its calls: how often each place ran tells
+        which way was taken."""
         found = [(text, ran.get(at, 0)) for at, text in self.ways(self.index[place]) if re.match("[A-Z]+ ", text)]
         count = sum(times for _, times in found)
         return [(text, times / count) for text, times in found if times]
