@@ -20,8 +20,8 @@ COPYING = "glibc.cpu.x86_rep_movsb_threshold=2000000000:glibc.cpu.x86_rep_stosb_
 ENVIRONMENT = {**os.environ, "GLIBC_TUNABLES": COPYING}
 served.WAIT = 3600  # seconds: a server that is counted is slow, on a loaded machine very much so
 NOT_YET = "--instr-atstart=no"  # nothing is counted until `counts` says so
+PLACES = "--dump-instr=yes"  # the places of calls are told too
 LIBRARY = "sqlite"  # how the names of the SQL library's functions begin
-RUNNERS = [f"room_sql::writes::{it}" for it in ("run", "changed", "run_or")]  # each before its callers
 
 
 def callgrind(out, *words):
@@ -34,54 +34,53 @@ def total(out):
         return int(re.search(r"(?m)^totals: (\d+)", file.read())[1])
 
 
-def calls(out):
-    """The instructions of all calls from the one function to the other, what these call counted in."""
-    names, found, caller, callee, is_call = {}, collections.Counter(), "", "", False
-    with open(out) as file:
-        for line in file:
-            kind, _, said = line.rstrip().partition("=")
-            if is_call:
-                found[caller, callee] += int(line.split()[-1])
-                is_call = False
-            elif kind in ("fn", "cfn"):
-                number, _, name = said.partition(" ")
-                name = names.setdefault(number, name.partition("::<")[0])  # (an instance has the function's name)
-                caller, callee = (name, callee) if kind == "fn" else (caller, name)
-            elif kind == "calls":
-                is_call = True
-    return found
-
-
-def calls_into_library(out):
-    """The instructions of all calls that lead from other functions to those of the SQL library, by the function that
-    calls. What runs any statement stands for its callers, among which its calls are shared out by what theirs take."""
-    all_calls, found = calls(out), collections.Counter()
-    for (caller, callee), count in all_calls.items():
-        if callee.startswith(LIBRARY) and not caller.startswith(LIBRARY):
-            found[caller] += count
-    for runner in RUNNERS:
-        shared, callers = found.pop(runner, 0), {pair[0]: n for pair, n in all_calls.items() if pair[1] == runner}
-        for caller, count in callers.items():
-            found[caller] += shared * count / sum(callers.values())
-    return found
-
-
 class Taken(NamedTuple):
-    """Instructions: all, and of them those within calls of the SQL library, by the function that calls."""
+    """Instructions: all, and of them those within calls of the SQL library, by the function that calls, that which is
+    called, and the place of the call; and those at each place, where places were asked for."""
     whole: float
     calls: dict
+    ran: dict
 
     @property
     def library(self):
         return sum(self.calls.values())
 
     def without(self, other):
-        calls = {it: self.calls.get(it, 0) - other.calls.get(it, 0) for it in {**self.calls, **other.calls}}
-        return Taken(self.whole - other.whole, calls)
+        return Taken(self.whole - other.whole, less(self.calls, other.calls), less(self.ran, other.ran))
 
     def each(self, count):
         """Those of one of so many requests, in thousands."""
-        return Taken(self.whole / count / 1000, {it: calls / count / 1000 for it, calls in self.calls.items()})
+        calls, ran = ({it: n / count / 1000 for it, n in counts.items()} for counts in (self.calls, self.ran))
+        return Taken(self.whole / count / 1000, calls, ran)
+
+
+def less(counts, others):
+    return {it: counts.get(it, 0) - others.get(it, 0) for it in {**counts, **others}}
+
+
+def taken_in(out):
+    """What a server took that wrote this. A call counts where it leads from another function to one of the library,
+    with all that this calls."""
+    names, calls, ran = {}, collections.Counter(), collections.Counter()
+    caller, callee, is_call, place = "", "", False, 0
+    with open(out) as file:
+        for line in file:
+            kind, _, said = line.rstrip().partition("=")
+            if kind in ("fn", "cfn"):
+                number, _, name = said.partition(" ")
+                name = names.setdefault(number, name.partition("::<")[0])  # (an instance has the function's name)
+                caller, callee = (name, callee) if kind == "fn" else (caller, name)
+            elif kind == "calls":
+                is_call = True
+            elif line[0] in "0123456789+-*":
+                at, *_, count = line.split()
+                place = int(at, 0) if at[0].isdigit() else place + int(at.strip("*") or 0)
+                if not is_call:
+                    ran[place] += int(count)
+                elif callee.startswith(LIBRARY) and not caller.startswith(LIBRARY):
+                    calls[caller, callee, place] += int(count)
+                is_call = False
+    return Taken(total(out), calls, ran)
 
 
 class Counted(Room):
@@ -103,7 +102,7 @@ class Counted(Room):
         """Ends the server, and reads what it took."""
         self.server.send_signal(signal.SIGTERM)
         self.server.wait()
-        return Taken(total(self.out), calls_into_library(self.out))
+        return taken_in(self.out)
 
     def monitor(self, line, *words):
         """Tells callgrind something. It looks for that while the server runs, so the server is asked for no route until
