@@ -3,6 +3,7 @@
 It needs valgrind. Counts do not move with other work on the machine.
 """
 import base64
+import contextlib
 import os
 import random
 import re
@@ -20,6 +21,7 @@ ENVIRONMENT = {**os.environ, "GLIBC_TUNABLES": COPYING}
 served.WAIT = 3600  # seconds: a server that is counted is slow, on a loaded machine very much so
 NOT_YET = "--instr-atstart=no"  # nothing is counted until `counts` says so
 NO_ROUTE = b"POST /v2 HTTP/1.1\r\ncontent-length: 0\r\n\r\n"
+POLLED = "--vgdb-poll=100"  # callgrind looks for what it is told so often that one message is time enough
 
 
 def callgrind(out, *words):
@@ -53,6 +55,13 @@ def bytes_of(count, seed):
     return base64.b64encode(random.Random(seed).randbytes(count)).decode()
 
 
+def ends(process, seconds):
+    """Whether a process ends within these seconds."""
+    with contextlib.suppress(subprocess.TimeoutExpired):
+        process.wait(seconds)
+    return process.returncode is not None
+
+
 class Counted(Room):
     """A room whose server runs under callgrind."""
     how, dumps = (), 0
@@ -76,9 +85,11 @@ class Counted(Room):
 
     def monitor(self, line, *words):
         """Tells callgrind something. It looks for that while the server runs, so the server is asked for no route until
-        then: a wait that is broken off from outside would end the connection."""
-        told = subprocess.Popen(["vgdb", "--max-invoke-ms=0", f"--pid={self.server.pid}", *words], stdout=subprocess.DEVNULL, stderr=subprocess.DEVNULL)
-        while told.poll() is None:
+        then: a wait that is broken off from outside would end the connection. With POLLED one such message is enough,
+        and the counting begins and ends as it comes in; `vgdb` has a while to say its words, and then to end."""
+        how = ["vgdb", "--max-invoke-ms=0", f"--pid={self.server.pid}", *words]
+        told = subprocess.Popen(how, stdout=subprocess.DEVNULL, stderr=subprocess.DEVNULL)
+        while not ends(told, 0.1):
             line.ask(NO_ROUTE)
         if told.returncode:
             sys.exit(f"bench: vgdb ended with {told.returncode}")
@@ -86,11 +97,11 @@ class Counted(Room):
     def counts(self, line, whether):
         self.monitor(line, "instrumentation", "on" if whether else "off")
 
-    def instructions_so_far(self, line):
-        """Those since the start, or since this was asked for last."""
+    def instructions_so_far(self, line, of=total):
+        """Those since the start, or since this was asked for last; or what else is read off what was counted."""
         self.monitor(line, "dump")
         self.dumps += 1
-        return total(f"{self.out}.{self.dumps}")
+        return of(f"{self.out}.{self.dumps}")
 
 
 class CountedAnchor(Counted):
