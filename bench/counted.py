@@ -3,6 +3,7 @@
 It needs valgrind. Counts do not move with other work on the machine.
 """
 import collections
+import contextlib
 import os
 import re
 import signal
@@ -12,7 +13,7 @@ from typing import NamedTuple
 
 import served
 from anchored import Anchored
-from asked import NO_ROUTE, Slot, bytes_of  # (bench/growth takes the last two from here)
+from asked import NO_ROUTE, Slot
 from served import PROGRAM, Room, end_with_parent, started_here, work_folder
 
 # (memory is copied by code that valgrind counts as any machine runs it)
@@ -21,6 +22,7 @@ ENVIRONMENT = {**os.environ, "GLIBC_TUNABLES": COPYING}
 served.WAIT = 3600  # seconds: a server that is counted is slow, on a loaded machine very much so
 NOT_YET = "--instr-atstart=no"  # nothing is counted until `counts` says so
 PLACES = "--dump-instr=yes"  # the places of calls are told too
+POLLED = "--vgdb-poll=100"  # callgrind looks for what it is told so often that one message is time enough
 LIBRARY = "sqlite"  # how the names of the SQL library's functions begin
 
 
@@ -32,6 +34,24 @@ def callgrind(out, *words):
 def total(out):
     with open(out) as file:
         return int(re.search(r"(?m)^totals: (\d+)", file.read())[1])
+
+
+def within(out, is_inside):
+    """The instructions of all calls from other functions to those of such a name, with all that these call."""
+    names, found, caller, callee, is_call = {}, 0, "", "", False
+    with open(out) as file:
+        for line in file:
+            kind, _, said = line.rstrip().partition("=")
+            if is_call:
+                found += int(line.split()[-1]) if is_inside(callee) and not is_inside(caller) else 0
+                is_call = False
+            elif kind in ("fn", "cfn"):
+                number, _, name = said.partition(" ")
+                name = names.setdefault(number, name)
+                caller, callee = (name, callee) if kind == "fn" else (caller, name)
+            elif kind == "calls":
+                is_call = True
+    return found
 
 
 class Taken(NamedTuple):
@@ -83,6 +103,13 @@ def taken_in(out):
     return Taken(total(out), calls, ran)
 
 
+def ends(process, seconds):
+    """Whether a process ends within these seconds."""
+    with contextlib.suppress(subprocess.TimeoutExpired):
+        process.wait(seconds)
+    return process.returncode is not None
+
+
 class Counted(Room):
     """A room whose server runs under callgrind."""
     how, dumps = (), 0
@@ -106,9 +133,11 @@ class Counted(Room):
 
     def monitor(self, line, *words):
         """Tells callgrind something. It looks for that while the server runs, so the server is asked for no route until
-        then: a wait that is broken off from outside would end the connection."""
-        told = subprocess.Popen(["vgdb", "--max-invoke-ms=0", f"--pid={self.server.pid}", *words], stdout=subprocess.DEVNULL, stderr=subprocess.DEVNULL)
-        while told.poll() is None:
+        then: a wait that is broken off from outside would end the connection. With POLLED one such message is enough,
+        and the counting begins and ends as it comes in; `vgdb` has a while to say its words, and then to end."""
+        how = ["vgdb", "--max-invoke-ms=0", f"--pid={self.server.pid}", *words]
+        told = subprocess.Popen(how, stdout=subprocess.DEVNULL, stderr=subprocess.DEVNULL)
+        while not ends(told, 0.1):
             line.ask(NO_ROUTE)
         if told.returncode:
             sys.exit(f"bench: vgdb ended with {told.returncode}")
@@ -116,11 +145,11 @@ class Counted(Room):
     def counts(self, line, whether):
         self.monitor(line, "instrumentation", "on" if whether else "off")
 
-    def instructions_so_far(self, line):
-        """Those since the start, or since this was asked for last."""
+    def instructions_so_far(self, line, of=total):
+        """Those since the start, or since this was asked for last; or what else is read off what was counted."""
         self.monitor(line, "dump")
         self.dumps += 1
-        return total(f"{self.out}.{self.dumps}")
+        return of(f"{self.out}.{self.dumps}")
 
 
 class CountedAnchor(Counted):

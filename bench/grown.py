@@ -1,8 +1,8 @@
 """Rooms of a shape: how many documents of 1 KiB, at which depth, in folders of which size, with lists of which length.
 
-They lie below `/p/g0/f0`, `/p/g0/f1` and so on, at a greater depth with more folders `p` above; at depth 1 those that are
-asked for lie at the root, and the others below `/p`. Each object has the list that the root hands down, of which the
-last entry, or the first, decides and the others are somebody else's.
+They lie below `/p/g0/f0`, `/p/g0/f1` and so on, at a greater depth with more folders `p` above. At depth 1 some lie at
+the root, as many as are asked for, and some in folders there, which are listed; the others below `/p`. Each object has
+the list that the root hands down, of which the last entry, or the first, decides and the others are somebody else's.
 """
 import contextlib
 import os
@@ -16,6 +16,7 @@ AT_ROOT, FOLDERS_PART, FILES_PART = 3, 0x83, 0x80  # flags: handed down to all, 
 USERS = [f"u{n:02}".ljust(32, "u") for n in range(16)]
 GROUPS = [f"g{n:02}".ljust(32, "g") for n in range(16)]
 ROSTER = "[users]\nann = []\n" + "".join(f"{user} = {GROUPS}\n" for user in USERS)
+AT_THE_ROOT, FOLDERS_THERE = 110, 25  # documents and folders at the root, at depth 1
 
 
 class Shape(NamedTuple):
@@ -24,27 +25,36 @@ class Shape(NamedTuple):
     size: int = 10
     length: int = 4
     is_last: bool = True  # whether the last entry of a list decides, or the first
+    letters: int = 0  # of a document's name, at least
 
 
 class Grown:
-    """A room of a shape. Its folders are pairs of a path and the paths of the documents in it."""
+    """A room of a shape. Its folders are pairs of a path and the paths of the documents in it; `listed` are the paths
+    of those that have the shape's size."""
 
     def __init__(self, home, name, shape):
         folder = os.path.join(home, name)
         os.mkdir(folder)
-        self.room, self.nodes, self.folders = Room(folder, ROSTER), [], []
+        self.room, self.shape, self.nodes, self.folders = Room(folder, ROSTER), shape, [], []
         if shape.depth == 1:
-            self.filled(1, "", shape.size - 1)
+            self.filled(1, "", AT_THE_ROOT)
+            for n in range(FOLDERS_THERE):
+                self.filled(self.node(1, f"l{n}", 1), f"/l{n}", shape.size)
+        self.below((shape.objects - sum(len(paths) for _, paths in self.folders)) // shape.size)
+        self.put(shape.length - 1, shape.length - 1 if shape.is_last else 0)
+        self.listed = [path for path, _ in self.folders if path]
+        if shape.depth == 1:
+            self.listed, self.folders = self.listed[:FOLDERS_THERE], self.folders[:1]
+
+    def below(self, folders):
+        """So many folders below `/p`."""
         top, path = 1, ""
-        for _ in range(max(1, shape.depth - 3)):
+        for _ in range(max(1, self.shape.depth - 3)):
             top, path = self.node(top, "p", 1), f"{path}/p"
-        for n in range(shape.objects // shape.size):
+        for n in range(folders):
             if n % 100 == 0:
                 upper, above = self.node(top, f"g{n // 100}", 1), f"{path}/g{n // 100}"
-            self.filled(self.node(upper, f"f{n}", 1), f"{above}/f{n}", shape.size)
-        self.put(shape.length - 1, shape.length - 1 if shape.is_last else 0)
-        if shape.depth == 1:
-            self.folders = self.folders[:1]
+            self.filled(self.node(upper, f"f{n}", 1), f"{above}/f{n}", self.shape.size)
 
     def node(self, parent, name, kind):
         number = len(self.nodes) + 2
@@ -52,9 +62,10 @@ class Grown:
         return number
 
     def filled(self, parent, path, count):
-        self.folders.append((path, [f"{path}/o{n}" for n in range(count)]))
-        for n in range(count):
-            self.node(parent, f"o{n}", 0)
+        names = [f"o{n}".ljust(self.shape.letters, "o") for n in range(count)]
+        self.folders.append((path, [f"{path}/{name}" for name in names]))
+        for name in names:
+            self.node(parent, name, 0)
 
     def put(self, last, place):
         """Writes the rows into the file, with lists of entries up to the last, of which the one at a place decides."""
