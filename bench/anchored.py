@@ -36,7 +36,7 @@ class Anchored(Room):
 
     def start(self, count=0):
         """Starts it. It serves any number of connections."""
-        self.server = subprocess.Popen(self.words(), preexec_fn=end_with_parent)
+        self.server = subprocess.Popen(self.words(), preexec_fn=end_with_parent, env=self.env)
         started_here.append(self.server)
         if not self.listens():
             sys.exit(f"bench: the anchor ended with {self.server.returncode}")
