@@ -119,7 +119,8 @@ class Counted(Room):
 
     def start(self, count=0):
         self.out = f"{self.db}.instructions"
-        self.server = subprocess.Popen(callgrind(self.out, *self.how, *self.words()), preexec_fn=end_with_parent, env=ENVIRONMENT)
+        words = callgrind(self.out, *self.how, *self.words())
+        self.server = subprocess.Popen(words, preexec_fn=end_with_parent, env=ENVIRONMENT)
         started_here.append(self.server)
         if not self.listens():
             sys.exit(f"bench: the server ended with {self.server.returncode}")

@@ -21,7 +21,8 @@ LISTS = [[(0, 3, 1 << bit, f"u{bit}{place}") for place in range(4)] for bit in (
 
 def list_rows(number, entries):
     """The statement that puts a list."""
-    rows = ", ".join(f"({number}, {place}, {kind}, {flag}, {mask}, '{who}')" for place, (kind, flag, mask, who) in enumerate(entries))
+    rows = ", ".join(f"({number}, {place}, {kind}, {flag}, {mask}, '{who}')"
+                     for place, (kind, flag, mask, who) in enumerate(entries))
     return f"INSERT INTO entry VALUES {rows};"
 
 
