@@ -110,8 +110,8 @@ def free_port():
     sys.exit(f"{SCRIPT}: no port is free")
 
 
-def wait_for_port(port, server, pause=0.01):
-    """Waits until this server listens on a port, and looks for it after each pause. False where it ended before."""
+def wait_for_port(port, server):
+    """Waits until this server listens on a port. False where it ended before."""
     listening = f":{port:04X} 00000000:0000 0A"
     end = time.monotonic() + WAIT
     while time.monotonic() < end:
@@ -120,7 +120,7 @@ def wait_for_port(port, server, pause=0.01):
         with open("/proc/net/tcp") as sockets:
             if listening in sockets.read():
                 return True
-        time.sleep(pause)
+        time.sleep(0.01)
     sys.exit(f"{SCRIPT}: the server does not listen")
 
 
