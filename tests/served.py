@@ -153,9 +153,8 @@ def has_file(server, name):
     return False
 
 
-def wait_for_port(port, server, pause=0.005):
-    """Waits until this server, and no other, listens on a port, and looks for it after each pause. False where it
-    ended before."""
+def wait_for_port(port, server):
+    """Waits until this server, and no other, listens on a port. False where it ended before."""
     end = time.monotonic() + WAIT
     while time.monotonic() < end:
         if server.poll() is not None:
@@ -163,7 +162,7 @@ def wait_for_port(port, server, pause=0.005):
         name = listener(port)
         if name and has_file(server, name):
             return True
-        time.sleep(pause)
+        time.sleep(0.005)
     sys.exit(f"{SCRIPT}: the server does not listen")
 
 
