@@ -21,7 +21,7 @@ pub record JoinsHistory (start : Room) (past : History) (event : EventModel)
   pub settled : new.is_intact → changes_rows past event ≡ true →
       OnOk result (LeavesNew new (StandsWith start past event))
 
--- the call over any shelf: it answers while the store is there, and a refusal leaves the same rows
+-- the call over any shelf: where it answers, an intact store is there, and a refusal leaves the same rows
 pub record EventTried (event : EventModel) (old new : View) (result : Result Answer ShelfFault) : Type 0 where
   pub there : new.is_intact → OnOk result new.is_available
   pub frame : ShelfCall old new (fault_in result)
