@@ -2,19 +2,24 @@
 # Only `make test` is a verdict.
 RT ?= rt
 
-.PHONY: demo build test wrong growth failing full wire tables upgrade crash hostile front soak client page bench
+.PHONY: demo quick build test wrong growth failing full wire tables upgrade crash hostile front soak client page bench
 .PHONY: install uninstall service firstday
 
 # Answers the questions of examples/, and walks through a served room with curl: with build/fileroom where `make build`
-# made it, and else with the toolchain's quick build, which proves nothing.
+# made it, and else with the quick build, which proves nothing.
 demo:
 	@RT='$(RT)' examples/demo
 	@if [ -x build/fileroom ]; then \
 		echo "demo: a walk with build/fileroom, proved and optimised"; examples/walk; \
 	else \
-		echo "demo: a walk with the quick build, which proves nothing (some minutes)"; \
+		echo "demo: a walk with the quick build, which proves nothing"; \
 		RT='$(RT)' FILEROOM=examples/quick examples/walk; \
 	fi
+
+# Leaves the quick build at build/quick/fileroom: compiled with checks in place of the proofs, in some minutes.
+# It proves nothing. It is made anew once a source has changed; examples/quick runs it.
+quick:
+	@RT='$(RT)' tools/quickbuild
 
 # Leaves the program, proved and optimised, at build/fileroom, and shows how far it is. Where `make test` has proved
 # these very crates in this checkout, it takes that program.

@@ -30,10 +30,10 @@ def crates_below(name, uses):
     return found
 
 
-def files():
-    """The files that the proofs of fileroom read."""
+def files(parts):
+    """The files that the proofs of fileroom read, of these parts of its crates."""
     for crate in sorted(crates_below("fileroom", libraries())):
-        for part in PARTS:
+        for part in parts:
             for at, folders, names in os.walk(os.path.join(TOP, "crates", crate, part)):
                 folders.sort()
                 yield from (os.path.join(at, name) for name in sorted(names))
@@ -53,10 +53,10 @@ def sum_of(path):
         return hashlib.sha256(file.read()).hexdigest()
 
 
-def sources():
-    """A sum of all that the proofs read."""
+def sources(parts=PARTS):
+    """A sum of all that the proofs read, or of these parts alone."""
     whole = hashlib.sha256()
-    for path in files():
+    for path in files(parts):
         name = os.path.relpath(path, TOP) if path.startswith(TOP + os.sep) else "toolchain"
         whole.update(f"{name}\0{sum_of(path)}\n".encode())
     return whole.hexdigest()
