@@ -2,7 +2,7 @@
 
     from room_client import Room, Settings
 
-    with Room(Settings(url="http://127.0.0.1:8080", room_user="ann")) as room:
+    with Room(Settings(url="http://127.0.0.1:8001", room_user="ann")) as room:
         room.append("/log", b"one more line\\n")
 """
 from .faults import BadWords, Fault, LocalFault, NoAnswer, Refused, SessionLost

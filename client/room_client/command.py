@@ -33,13 +33,14 @@ A path begins with /. A name with blanks or other letters of the shell's is quot
 SETTINGS = """\
 where the room is stands in a file of lines, ~/.config/room or --config FILE:
 
-  url = "http://127.0.0.1:8000/rooms/plans"    the front's address of the room
+  url = "http://127.0.0.1:8080/rooms/plans"    the front's address of the room
   login = "ann"                                who asks; the front wants a password
   password-file = "~/.config/room-password"    its first line; only you may read it (without it you are asked)
+  ca-file = "~/.config/room-ca.pem"            where the front's certificate is of an authority of one's own
 
-or, on the room's own machine, straight to its port: url = "http://127.0.0.1:8080" and room-user = "ann".
-A flag goes before the environment (ROOM_URL, ROOM_LOGIN, ROOM_PASSWORD_FILE, ROOM_USER, ROOM_STATE, ROOM_PATIENCE,
-ROOM_CONFIG), and that before the file.
+or, on the room's own machine, straight to its port: url = "http://127.0.0.1:8001" and room-user = "ann".
+A flag goes before the environment (ROOM_URL, ROOM_LOGIN, ROOM_PASSWORD_FILE, ROOM_CA_FILE, ROOM_USER, ROOM_STATE,
+ROOM_PATIENCE, ROOM_CONFIG), and that before the file.
 
 exit status: 0 done; 1 the room refused it; 2 bad words or settings; 3 no answer in time, or a login that is wrong;
 4 the session is lost; 5 a file on this machine; 130 stopped at the keyboard. A fault is one line on standard error.
@@ -250,6 +251,7 @@ def add_settings(parser: argparse.ArgumentParser) -> None:
     parser.add_argument("--url", help="of the room, by the front or by its port")
     parser.add_argument("--login", metavar="NAME", help="through a front that asks for a password")
     parser.add_argument("--password-file", metavar="FILE", help="its first line is the password")
+    parser.add_argument("--ca-file", metavar="FILE", help="certificates (PEM) that https: trusts, as one's own")
     parser.add_argument("--room-user", metavar="NAME", help="straight to the room's port, on its own machine")
     parser.add_argument("--state", metavar="FILE", help="keeps the session; else one in ~/.local/state/room")
     parser.add_argument("--patience", metavar="SECONDS", help="how long it goes on sending (60)")
@@ -313,7 +315,7 @@ def run(asked: argparse.Namespace) -> None:
     settings = find_settings(vars(asked), asked.config)
     if asked.does is session:
         return session(asked, settings)
-    Line(settings)  # (a bad URL is told before a file is made)
+    Line(settings)  # (a bad ca-file is told before a file is made)
     with Room(settings) as room:
         asked.does(room, asked)
 

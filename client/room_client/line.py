@@ -2,15 +2,17 @@
 import base64
 import http.client
 import json
+import os
+import ssl
 from dataclasses import dataclass
-from urllib.parse import SplitResult, urlsplit
 
-from .faults import BadWords
-from .settings import Settings
+from .faults import LocalFault, NoAnswer, reading
+from .settings import Settings, read_url
 from .words import shown
 
 MOST = 1 << 20  # bytes of an answer; a room's have at most some 90,000
-CONNECTIONS = {"http": http.client.HTTPConnection, "https": http.client.HTTPSConnection}
+OTHER_NAME = (62, 64)  # of OpenSSL's codes: the certificate is for another name, or another address
+NO_TLS = ("HTTP_REQUEST", "WRONG_VERSION_NUMBER")
 TRY_AGAIN = (408, 429, 500, 502, 503, 504)
 
 
@@ -51,16 +53,26 @@ def reply_of(body: bytes) -> dict | None:
     return reply if isinstance(reply, dict) and isinstance(reply.get("code"), int) else None
 
 
-def read_url(url: str) -> tuple[SplitResult, int | None]:
-    try:
-        parts = urlsplit(url)
-        port = parts.port
-        is_room = parts.scheme in CONNECTIONS and parts.hostname and not parts.username
-    except ValueError:
-        is_room = False
-    if not is_room or not url.isascii() or not url.isprintable() or set(url) & set(" ?#%"):
-        raise BadWords(f"{shown(url)} is no URL of a room: http://HOST:PORT, or http://HOST/rooms/NAME")
-    return parts, port
+def trusting(ca_file: str | None) -> ssl.SSLContext:
+    """Trusts the authorities of a file, or those of this machine."""
+    if ca_file is None:
+        return ssl.create_default_context()
+    with reading(ca_file):
+        try:
+            return ssl.create_default_context(cafile=os.path.expanduser(ca_file))
+        except ssl.SSLError:
+            raise LocalFault(f"{shown(ca_file)} has no certificate in it (PEM): mend ca-file") from None
+
+
+def untrusted(fault: ssl.SSLError, host: str) -> str | None:
+    """What to do where TLS failed for good, or None where it may do later."""
+    if isinstance(fault, ssl.SSLCertVerificationError):
+        why = fault.verify_message.rstrip(".")
+        if fault.verify_code in OTHER_NAME:
+            return f"its certificate is for another name ({why}): write the name that it is for into the URL"
+        return (f"its certificate is not trusted ({why}): where the room has an authority of its own, ask who runs it "
+                "for its certificate, and name that by ca-file; else do not go on")
+    return f"{host} speaks no TLS there: ask who runs the room for its address" if fault.reason in NO_TLS else None
 
 
 class Line:
@@ -69,8 +81,12 @@ class Line:
 
     def __init__(self, settings: Settings):
         parts, port = read_url(settings.url)
-        self.base = parts.path.rstrip("/")
-        self.connection = CONNECTIONS[parts.scheme](parts.hostname, port)
+        self.url, self.base = settings.url, parts.path.rstrip("/")
+        if parts.scheme == "https":
+            context = trusting(settings.ca_file)
+            self.connection = http.client.HTTPSConnection(parts.hostname, port, context=context)
+        else:
+            self.connection = http.client.HTTPConnection(parts.hostname, port)
         self.fields = {"content-type": "application/json"}
         if settings.room_user is not None:
             self.fields["room-user"] = settings.room_user
@@ -87,6 +103,9 @@ class Line:
             self.connection.connect()
         except OSError as fault:
             self.close()
+            told = untrusted(fault, self.connection.host) if isinstance(fault, ssl.SSLError) else None
+            if told:
+                raise NoAnswer(f"{self.url}: {told}") from None
             raise NotSent(fault.strerror or str(fault)) from None
 
     def ask(self, method: str, target: str, body: bytes) -> Answer:

@@ -1,15 +1,17 @@
 """Where the room is and who asks: from flags, the environment, and a small file, in this order."""
 import getpass
 import hashlib
+import ipaddress
 import math
 import os
 import stat
 import tomllib
 import warnings
 from dataclasses import dataclass, fields
-from urllib.parse import urlsplit
+from urllib.parse import SplitResult, urlsplit
 
 from .faults import BadWords, LocalFault, reading
+from .words import shown
 
 HOME_FILE = "~/.config/room"
 USERS = {"login", "room_user"}  # the names of who asks, of which one is given
@@ -20,6 +22,7 @@ class Settings:
     url: str = ""
     login: str | None = None  # a name that the front asks for, with its password
     password_file: str | None = None
+    ca_file: str | None = None  # certificates of the authorities that are trusted, in place of this machine's
     room_user: str | None = None  # a user, told to the room itself
     state: str | None = None
     patience: float = 60.0  # seconds that a request is sent again
@@ -34,6 +37,10 @@ class Settings:
             raise BadWords("the user's name has odd letters")
         self.patience = patience_of(self.patience)
         self.url = self.url.rstrip("/")
+        parts, _ = read_url(self.url)
+        if self.login is not None and parts.scheme != "https" and not is_here(parts.hostname):
+            raise BadWords(f"your password would go to {shown(parts.hostname)} in the clear, and nothing was sent: the "
+                           "URL has to begin with https: (ask who runs the room)")
 
     @property
     def user(self) -> str:
@@ -63,6 +70,26 @@ class Settings:
             raise BadWords("no password: give --password-file, or run it at a terminal") from None
 
 
+def read_url(url: str) -> tuple[SplitResult, int | None]:
+    try:
+        parts = urlsplit(url)
+        port = parts.port
+        is_room = parts.scheme in ("http", "https") and parts.hostname and not parts.username
+    except ValueError:
+        is_room = False
+    if not is_room or not url.isascii() or not url.isprintable() or set(url) & set(" ?#%"):
+        raise BadWords(f"{shown(url)} is no URL of a room: http://HOST:PORT, or http://HOST/rooms/NAME")
+    return parts, port
+
+
+def is_here(host: str) -> bool:
+    """Whether what is sent to a host stays on this machine."""
+    try:
+        return ipaddress.ip_address(host).is_loopback
+    except ValueError:
+        return host == "localhost"
+
+
 def patience_of(given: float | str) -> float:
     try:
         seconds = float(given)
@@ -90,7 +117,7 @@ def read_file(path: str) -> dict:
         with reading(path), open(os.path.expanduser(path), "rb") as file:
             return tomllib.load(file)
     except ValueError:
-        raise LocalFault(f"{path} is no TOML file of lines like: url = \"http://127.0.0.1:8080\"") from None
+        raise LocalFault(f"{path} is no TOML file of lines like: url = \"http://127.0.0.1:8001\"") from None
 
 
 def variable(name: str) -> str:

@@ -195,7 +195,7 @@ class Places(Desk):
                 self.refuses("ls", flags=flags, status=status, want=want)
         self.file("odd", b'colour = "red"\n')
         self.refuses("ls", flags=["--config", "odd"], status=2, want="odd: colour is no setting: url, login, "
-                     "password_file, room_user, state, patience")
+                     "password_file, ca_file, room_user, state, patience")
         self.assertEqual(self.does("nothing")[0], 2)
 
     def test_the_state_file_is_one_users_and_one_process_has_it(self):
