@@ -13,7 +13,8 @@ from .line import Line
 from .room import MOST_BYTES, Room, say, told
 from .settings import Settings, find_settings
 from .state import State
-from .words import shown
+from .version import version
+from .words import neat, shown
 
 STOPPED = 130  # the exit status after a stop at the keyboard, as of a shell
 
@@ -109,7 +110,7 @@ def get(room: Room, asked) -> None:
 
 
 def put(room: Room, asked) -> None:
-    path = into(asked.path, asked.file)
+    path = neat(into(asked.path, asked.file))
     reply = room.create(path, asked.data) if asked.new else room.put(path, asked.data)
     show(asked, reply, f"{shown(path)}: {reply['size']} bytes")
 
@@ -124,12 +125,13 @@ def rm(room: Room, asked) -> None:
 
 
 def mv(room: Room, asked) -> None:
-    to = into(asked.to, asked.path)
+    to = neat(into(asked.to, asked.path))
     show(asked, room.rename(asked.path, to), f"{shown(asked.path)} is now {shown(to)}")
 
 
 def mkdir(room: Room, asked) -> None:
-    show(asked, room.mkdir(asked.path), f"{shown(asked.path)}: made")
+    path = neat(asked.path)
+    show(asked, room.mkdir(path), f"{shown(path)}: made")
 
 
 def chown(room: Room, asked) -> None:
@@ -270,6 +272,7 @@ def add_command(commands, name: str, does: Callable, about: str, *arguments: tup
 def parser() -> argparse.ArgumentParser:
     raw = argparse.RawDescriptionHelpFormatter
     whole = argparse.ArgumentParser(prog="room", description=ABOUT, epilog=SETTINGS, formatter_class=raw)
+    whole.add_argument("--version", action="version", version=f"room {version()}")
     add_settings(whole)
     commands = whole.add_subparsers(metavar="COMMAND", required=True)
     path = ("path", {"metavar": "PATH"})

@@ -1,5 +1,6 @@
 """Access lists in words, and back. docs/LISTS.md has what they mean; nothing here decides anything."""
 import re
+import unicodedata
 from collections.abc import Iterable, Iterator
 
 FILE, FOLDER = "file", "folder"
@@ -61,9 +62,25 @@ whatever auto-inherit says), defaulted (kept, no effect), or none.
 """
 
 
+# Letters that Python takes for printable and that show nothing (Unicode: Default_Ignorable_Code_Point, and a blank).
+UNSEEN = re.compile("[\u034f\u115f\u1160\u17b4\u17b5\u180b-\u180f\u2800\u3164\ufe00-\ufe0f\uffa0\U000e0100-\U000e01ef]")
+END_BLANKS = re.compile("(?<![^/]) +| +(?![^/])")
+
+
+def escaped(letters: str) -> str:
+    return "".join(f"\\x{ord(it):02x}" if it == " " else ascii(it)[1:-1] for it in letters)
+
+
 def shown(text: str) -> str:
-    """A text whose letters can do nothing to a terminal: others than printable ones are written as escapes."""
-    return "".join(it if it.isprintable() else ascii(it)[1:-1] for it in text)
+    """A text whose letters can do nothing to a terminal and hide nothing from who reads it: others than printable
+    ones, those that show nothing, and blanks at the ends of names are written as escapes."""
+    text = END_BLANKS.sub(lambda it: escaped(it[0]), text)
+    return "".join(it if it.isprintable() and not UNSEEN.match(it) else escaped(it) for it in text)
+
+
+def neat(path: str) -> str:
+    """A path for what is made: its letters composed (Unicode NFC), and without blanks at the ends of its names."""
+    return "/".join(it.strip() for it in unicodedata.normalize("NFC", path).split("/"))
 
 
 def right_words(bit: int, *kinds: str) -> list[str]:

@@ -4,6 +4,7 @@ import os
 import shutil
 import ssl
 import subprocess
+import tempfile
 import unittest
 from unittest import mock
 
@@ -16,12 +17,16 @@ HERE = ["http://127.0.0.1:1", "http://127.9.9.9", "http://[::1]:1", "http://loca
 
 
 class Clear(unittest.TestCase):
+    def open(self, url):
+        with tempfile.TemporaryDirectory() as folder:
+            with Room(Settings(url=url, login="ann", password="x", state=os.path.join(folder, "x"), patience=0)):
+                pass
+
     def test_a_login_stays_here_where_it_is_not_ciphered(self):
         for url in AWAY:
             with self.subTest(url), mock.patch.object(http.client.HTTPConnection, "connect") as connect:
                 with self.assertRaisesRegex(BadWords, "in the clear, and nothing was sent.*has to begin with https:"):
-                    with Room(Settings(url=url, login="ann", password="x", state="/dev/null/x", patience=0)):
-                        pass
+                    self.open(url)
                 connect.assert_not_called()
         for url in HERE:
             Settings(url=url, login="ann", password="x")
@@ -62,8 +67,8 @@ class Tls(Desk):
 
     def test_an_authority_of_ones_own(self):
         server = self.serve("DNS:localhost,IP:127.0.0.1")
-        self.says("mkdir", "/a", status=3, want=r"its certificate is not trusted \(.*\): where the room has an authority "
-                  r"of its own, ask who runs it for its certificate, and name that by ca-file; else do not go on")
+        self.says("mkdir", "/a", status=3, want=r"its certificate is not trusted \(.*\): where the room has an "
+                  "authority of its own, ask who runs it for its certificate, and name that by ca-file; else do not go")
         self.assertEqual(server.passed, 0)
         self.words += ["--ca-file", "ca.pem"]
         self.assertEqual(self.does("mkdir", "/a", flags=self.words, own_settings=False), (0, "/a: made\n", ""))
@@ -73,8 +78,8 @@ class Tls(Desk):
     def test_another_name(self):
         server = self.serve("DNS:other.example")
         self.words += ["--ca-file", "ca.pem"]
-        self.says("mkdir", "/a", status=3, want=r"its certificate is for another name \(.*\): write the name that it is "
-                  "for into the URL")
+        self.says("mkdir", "/a", status=3, want=r"its certificate is for another name \(.*\): write the name that it "
+                  "is for into the URL")
         self.assertEqual(server.passed, 0)
 
     def test_what_is_no_authority_or_no_tls(self):

@@ -2,6 +2,7 @@
 import os
 import random
 import re
+import unicodedata
 import unittest
 
 from room_client import Refused, SessionLost, words
@@ -64,6 +65,13 @@ class Words(unittest.TestCase):
 
     def test_no_letter_reaches_the_terminal(self):
         self.assertEqual(words.shown("é \u202e\x9b2J\u00a0"), "é \\u202e\\x9b2J\\xa0")
+
+    def test_no_letter_hides(self):
+        told = "/a\\x20/\\x20b c\\x20/\\u3164\\ufe0f\\u200b\\xad"
+        self.assertEqual(words.shown("/a / b c /\u3164\ufe0f\u200b\u00ad"), told)
+        self.assertEqual(words.neat("/ a\u0308 b\u00a0/c "), "/\u00e4 b/c")
+        ignored = [it for it in map(chr, range(0x110000)) if unicodedata.category(it) in ("Cf", "Cc", "Zl", "Zp", "Cs")]
+        self.assertEqual([it for it in ignored if words.shown(it) == it], [])
 
     def test_each_refusal_has_a_line(self):
         with open(os.path.join(os.path.dirname(__file__), "..", "..", "docs", "CODES.md"), encoding="utf-8") as file:
