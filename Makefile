@@ -1,9 +1,14 @@
-# `make demo` shows the program, `make test` proves and tests everything, `make build` makes the proved program.
+# `make try` shows a room, `make test` proves and tests everything, `make build` makes the proved program.
 # Only `make test` is a verdict.
 RT ?= rt
 
-.PHONY: demo quick build test wrong growth failing full wire tables upgrade crash hostile front soak client page bench
-.PHONY: install uninstall service firstday
+.PHONY: try demo quick build test wrong growth failing full wire tables upgrade crash hostile front soak client page
+.PHONY: bench install uninstall service firstday
+
+# Serves a room with sample folders, the front and the page, until Ctrl-C: with build/fileroom where `make build` made
+# it, and else with the quick build, which proves nothing. It goes again; with FOLDER=.. it is kept there.
+try:
+	@RT='$(RT)' examples/try $(if $(FOLDER),'$(FOLDER)')
 
 # Answers the questions of examples/, and walks through a served room with curl: with build/fileroom where `make build`
 # made it, and else with the quick build, which proves nothing.
@@ -83,9 +88,10 @@ soak: build
 	tests/soak/run
 
 # Does the README's first screen, with the quick build too, and the first day of docs/RUNNING.md by their own lines, and
-# times them. Needs nginx, openssl, sqlite3 and curl, and for the first day root.
+# times them; then tries `make try`. Needs nginx, openssl, sqlite3 and curl, and for the first day root.
 firstday: build
 	tests/firstday/run
+	tests/firstday/try
 	RT='$(RT)' tests/firstday/run quick
 
 # Tries the page in a browser. Needs nginx-light, chromium and chromium-driver, and says so where they are not
