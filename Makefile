@@ -3,7 +3,7 @@
 RT ?= rt
 
 .PHONY: try demo quick build test wrong growth failing full wire tables upgrade crash hostile front soak client page
-.PHONY: bench install uninstall service firstday
+.PHONY: bench dist install uninstall service firstday
 
 # Serves a room with sample folders, the front and the page, until Ctrl-C: with build/fileroom where `make build` made
 # it, and else with the quick build, which proves nothing. It goes again; with FOLDER=.. it is kept there.
@@ -88,10 +88,11 @@ soak: build
 	tests/soak/run
 
 # Does the README's first screen, with the quick build too, and the first day of docs/RUNNING.md by their own lines, and
-# times them; then tries `make try`. Needs nginx, openssl, sqlite3 and curl, and for the first day root.
+# times them; then tries `make try` and `make dist`. Needs nginx, openssl, sqlite3 and curl, and for the first day root.
 firstday: build
 	tests/firstday/run
 	tests/firstday/try
+	tests/firstday/dist
 	RT='$(RT)' tests/firstday/run quick
 
 # Tries the page in a browser. Needs nginx-light, chromium and chromium-driver, and says so where they are not
@@ -115,6 +116,11 @@ bench: build
 	bench/growth
 	bench/upgrade
 	bench/many
+
+# Leaves build/fileroom-VERSION-COMMIT.tar.gz: the program that `make build` proved of this commit, with client, page,
+# front, units, man pages and docs. It runs on Debian 12 without the toolchain.
+dist: build
+	tools/dist
 
 # Puts the proved program that `make build` made below PREFIX, with its man pages, the client, the page, units, the
 # backup script, and samples of roster and front: docs/RUNNING.md goes on from there. DESTDIR stands before each path,

@@ -74,9 +74,9 @@ def note(of_sources):
         file.write(f"{of_sources} {sum_of(PROGRAM)}\n")
 
 
-def is_proved():
-    """Whether the program was proved from the crates as they are now."""
-    if not os.path.isfile(NOTE) or not os.path.isfile(PROGRAM):
+def is_proved(program=PROGRAM):
+    """Whether this program was proved from the crates as they are now."""
+    if not os.path.isfile(NOTE) or not os.path.isfile(program):
         return False
     with open(NOTE, encoding="utf-8") as file:
-        return file.read() == f"{sources()} {sum_of(PROGRAM)}\n"
+        return file.read() == f"{sources()} {sum_of(program)}\n"
