@@ -1,13 +1,13 @@
 /** The view of an access list: what it says in words, and changing it. */
 import { Refusal } from "./codes.js";
+import { ask } from "./dialogs.js";
 import { button, checkbox, link, make } from "./dom.js";
 import { entryEditor } from "./editor.js";
 import { head } from "./heads.js";
-import { asOwn, follows, isInherited, newEntry, sentence, whomOf, withFollows } from "./lists.js";
+import { asOwn, follows, isInherited, newEntry, sentence, whomFault, whomOf, withFollows } from "./lists.js";
 import { ROOT, addressOf, folderOf } from "./places.js";
 import { FOLDER } from "./rights.js";
-
-const CHANGED = "Somebody changed this list meanwhile: nothing was set. Look at it as it is now.";
+import { standing } from "./stand.js";
 
 /** The names that may be meant in an entry: of the roster, and of the list itself. */
 function knownNames(roster, entries) {
@@ -16,13 +16,25 @@ function knownNames(roster, entries) {
   return make("datalist", { id: "known-names" }, ...[...names].sort().map((value) => make("option", { value })));
 }
 
+const ownOf = (list) => list.entries.filter((it) => !isInherited(it));
+
+/** The entries as sentences. */
+const sentences = (entries, standing, how) =>
+  make("ol", how, ...entries.map((it) => make("li", {}, sentence(it, standing.kind, standing))));
+
 class ListView {
-  constructor(app, place, standing, list) {
-    Object.assign(this, { app, place, standing, list });
+  constructor(app, place, standing, list, roster) {
+    Object.assign(this, { app, place, standing, list, roster });
     this.aclflag = list.aclflag;
-    this.own = list.entries.filter((it) => !isInherited(it));
+    this.own = ownOf(list);
     this.opened = null;
-    this.element = make("div", {});
+    this.element = make("div", { className: "typed" });
+    this.element.isUnsaved = () => this.text !== this.start;
+    this.start = this.text;
+  }
+
+  get text() {
+    return JSON.stringify([this.aclflag, this.own]);
   }
 
   get inherited() {
@@ -32,17 +44,17 @@ class ListView {
   /** Draws the list anew, where entries come, go or move. */
   draw() {
     const own = this.own.map((it, at) => this.entry(it, at));
-    const rest = this.inherited.map((it) => make("li", {}, sentence(it, this.standing.kind, this.standing)));
+    const rest = this.inherited;
     const handed = make("section", { hidden: rest.length === 0 },
       make("h2", {}, "Handed down from the folder above"),
       make("p", {}, "These stand behind its own entries, and are changed ",
         link(addressOf({ ...this.place, path: folderOf(this.place.path) }), "in that folder"), "."),
-      make("ol", { className: "entries handed", start: own.length + 1 }, ...rest));
+      sentences(rest, this.standing, { className: "entries handed", start: own.length + 1 }));
     this.element.replaceChildren(this.taking(), make("h2", {}, "Its own entries"),
       own.length ? make("ol", { className: "entries" }, ...own) : make("p", {}, "It has none of its own."),
       make("p", { className: "tools" }, button("Add an entry", () => this.add())), handed,
       make("p", { className: "actions" }, button("Save the list", () => this.save(), { className: "main" }),
-        button("Leave it as it was", () => this.app.show())));
+        button("Leave it as it was", () => this.app.show(standing()))));
   }
 
   taking() {
@@ -60,7 +72,7 @@ class ListView {
   entry(it, at) {
     const does = { Up: () => this.move(at, at - 1), Down: () => this.move(at, at + 1), Remove: () => this.drop(at) };
     return entryEditor(it, { kind: this.standing.kind, standing: this.standing, names: "known-names",
-      isOpen: this.opened === at, does, changed: (now) => {
+      roster: this.roster, isOpen: this.opened === at, does, changed: (now) => {
         this.own[at] = now;
       } });
   }
@@ -87,29 +99,54 @@ class ListView {
     this.draw();
   }
 
-  save() {
-    return this.app.act("The list is set.", async () => {
-      const { path } = this.place;
-      const now = await this.app.room.run("GETLIST", path);
-      if (JSON.stringify(now) !== JSON.stringify(this.list)) throw new Error(CHANGED);
-      await this.app.room.run("SETLIST", path, { aclflag: this.aclflag, entries: this.own });
+  /** Sets it, where nobody set another meanwhile; what was changed here stays until it is set. */
+  async save() {
+    const unknown = this.own.map((it) => whomFault(it, this.roster)).filter((it) => it !== "");
+    if (unknown.length && !await askAbout(unknown)) return;
+    let now = null;
+    const isDone = await this.app.attempt(async () => {
+      now = await this.app.room.run("GETLIST", this.place.path);
+      if (isSame(now, this.list)) await this.set();
     });
+    if (!isDone) return;
+    if (isSame(now, this.list) || await this.settle(now)) await this.app.done("The list is set.");
+  }
+
+  async set() {
+    await this.app.room.run("SETLIST", this.place.path, { aclflag: this.aclflag, entries: this.own });
+    this.start = this.text;
+  }
+
+  /** Somebody changed the list meanwhile: both are shown. True where this one was set. */
+  async settle(now) {
+    const parts = [["Theirs", ownOf(now)], ["Yours", this.own]].flatMap(([title, entries]) =>
+      [make("h3", {}, title), sentences(entries, this.standing, { className: "entries" })]);
+    const chosen = await ask({ title: "Somebody changed this list meanwhile", words: parts, task: () => this.set(),
+      does: "Set yours in its place", others: [{ words: "Take theirs", value: "theirs" }] });
+    if (chosen === "theirs") await this.app.show(standing());
+    return chosen === true;
   }
 }
 
-function words(standing) {
-  const thing = standing.kind === FOLDER ? "folder" : "document";
-  const whose = standing.owner ? `Its owner is ${standing.owner}, its group ${standing.group}. ` : "";
+const isSame = (one, other) => JSON.stringify(one) === JSON.stringify(other);
+
+const askAbout = (faults) => ask({ title: "Set it all the same?", does: "Set it all the same",
+  words: faults.map((it) => make("p", {}, `${it} The entry counts for nobody until the roster has that name.`)) });
+
+function words({ kind, owner, group }) {
+  const thing = kind === FOLDER ? "folder" : "document";
+  const whose = owner ? `Its owner is ${owner}, its group ${group}. ` : "";
   return make("p", {}, `${whose}For each right, the first entry that names it and the person decides; what no entry ` +
     `decides is denied. To get at this ${thing} one must also pass through each folder above it.`);
 }
 
 export async function showAccess(app, place) {
-  const standing = await app.room.standing(place.path);
+  const its = await app.room.standing(place.path);
   const list = await app.room.run("GETLIST", place.path).catch((fault) => fault);
   if (list instanceof Refusal) return [...head(place), make("p", { className: "fault" }, list.message)];
   if (list instanceof Error) throw list;
-  const view = new ListView(app, place, standing, list);
+  const roster = await app.room.users();
+  const view = new ListView(app, place, its, list, roster);
   view.draw();
-  return [...head(place), words(standing), view.element, knownNames(await app.room.users(), list.entries)];
+  return [...head(place), words(its), view.element, knownNames(roster, list.entries)];
 }

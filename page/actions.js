@@ -1,75 +1,121 @@
-/** What a user does with objects: each asks for what it needs in a dialog, and is then one request. */
-import { MOST_BYTES, fromBase64, fromText, toBase64 } from "./bytes.js";
-import { area, ask, files, input } from "./dialogs.js";
-import { folderOf, inFolder, lastName, nameFault, pathFault } from "./places.js";
+/** What a user does with one object: each asks for what it needs in a dialog, which stays until it is done. */
+import { MOST_BYTES, fromBase64, fromText, toBase64, toText } from "./bytes.js";
+import { Refusal } from "./codes.js";
+import { area, ask, input } from "./dialogs.js";
+import { make } from "./dom.js";
+import { clean, shown } from "./names.js";
+import { folderOf, inFolder, lastName, nameFault, pathFault, withMark } from "./places.js";
+
+const EXIST = 4;
 
 function tooLong(bytes) {
-  return bytes.length > MOST_BYTES ? `These are ${bytes.length} bytes, and 65,536 are the most in a document.` : "";
+  return bytes.length > MOST_BYTES ? `These are ${bytes.length} bytes, and 65,536 are the most of a text.` : "";
 }
 
 export async function makeFolder(app, folder) {
   const name = input();
   const isDone = await ask({ title: "New folder", does: "Make", fields: { name: { label: "Name", field: name } },
-    faultOf: () => nameFault(name.value) });
-  if (isDone) await app.act(`Folder ${name.value} is made.`, () => app.room.run("MKDIR", inFolder(folder, name.value)));
+    faultOf: () => nameFault(clean(name.value)),
+    task: () => app.room.run("MKDIR", inFolder(folder, clean(name.value))) });
+  if (isDone) await app.done(`Folder ${shown(clean(name.value))} is made.`);
 }
 
 export async function makeDocument(app, folder) {
-  const [name, text, file] = [input(), area(), files()];
+  const [name, text, file] = [input(), area(), make("input", { type: "file" })];
   file.onchange = () => {
     name.value ||= file.files[0]?.name ?? "";
   };
-  const isDone = await ask({ title: "New document", does: "Make", faultOf: () => nameFault(name.value),
+  const isDone = await ask({ title: "New document", does: "Make",
     fields: { name: { label: "Name", field: name }, text: { label: "Text", field: text },
-      file: { label: "or a file of yours, in place of the text", field: file } } });
-  if (!isDone) return;
-  await app.act(`Document ${name.value} is made.`, async () => {
-    const bytes = file.files[0] ? new Uint8Array(await file.files[0].arrayBuffer()) : fromText(text.value);
-    if (tooLong(bytes)) throw new Error(tooLong(bytes));
-    await app.room.run("CREATE", inFolder(folder, name.value), { data: toBase64(bytes) });
-  });
+      file: { label: "or a file of yours, in place of the text", field: file } },
+    faultOf: () => nameFault(clean(name.value)) || tooLong(fromText(text.value)),
+    task: async () => {
+      const bytes = file.files[0] ? new Uint8Array(await file.files[0].arrayBuffer()) : fromText(text.value);
+      if (tooLong(bytes)) throw new Error(tooLong(bytes));
+      await app.room.run("CREATE", inFolder(folder, clean(name.value)), { data: toBase64(bytes) });
+    } });
+  if (isDone) await app.done(`Document ${shown(clean(name.value))} is made.`);
 }
 
 export async function append(app, path) {
   const text = area();
-  const isDone = await ask({ title: `Append to ${lastName(path)}`, does: "Append",
-    words: "The text is added at the end, with a line end behind it.",
-    fields: { text: { label: "Text", field: text } }, faultOf: () => tooLong(fromText(text.value)) });
-  const data = toBase64(fromText(`${text.value}\n`));
-  if (isDone) await app.act("Appended.", () => app.room.run("APPEND", path, { data }));
+  const isDone = await ask({ title: `Append to ${shown(lastName(path))}`, does: "Append",
+    words: make("p", {}, "The text is added at the end, with a line end behind it."),
+    fields: { text: { label: "Text", field: text } }, faultOf: () => tooLong(fromText(text.value)),
+    task: () => app.room.run("APPEND", path, { data: toBase64(fromText(`${text.value}\n`)) }) });
+  if (isDone) await app.done("Appended.");
 }
 
-/** Replaces the text, where nobody changed the document since it was shown. */
-export async function edit(app, path, shown, shownText) {
-  const text = area(shownText);
-  const lineEnd = shownText.includes("\r\n") ? "\r\n" : "\n"; // (a text field has \n alone)
-  const bytes = () => fromText(text.value.replaceAll("\n", lineEnd));
-  const isDone = await ask({ title: `Edit ${lastName(path)}`, does: "Replace",
-    fields: { text: { label: "Text", field: text } }, faultOf: () => tooLong(bytes()) });
-  if (!isDone) return;
-  await app.act("Replaced.", async () => {
-    const now = (await app.room.run("READ", path)).data;
-    if (now !== toBase64(shown)) throw new Error("Somebody changed this document meanwhile: nothing was replaced.");
-    await app.room.run("WRITE", path, { data: toBase64(bytes()) });
-  });
+/** Makes a document beside that one, of the first name that is free. Its path. */
+async function createBeside(app, path, data) {
+  for (let count = 1; ; count += 1) {
+    const words = `copy of ${app.user}${count > 1 ? ` ${count}` : ""}`;
+    const to = inFolder(folderOf(path), withMark(lastName(path), words));
+    try {
+      await app.room.run("CREATE", to, { data });
+      return to;
+    } catch (fault) {
+      if (!(fault instanceof Refusal && fault.code === EXIST)) throw fault;
+    }
+  }
+}
+
+class Editing {
+  constructor(app, path, bytes, text) {
+    Object.assign(this, { app, path, shown: toBase64(bytes), field: area(text), words: "Replaced." });
+    this.lineEnd = text.includes("\r\n") ? "\r\n" : "\n"; // (a text field has \n alone)
+  }
+
+  get bytes() {
+    return fromText(this.field.value.replaceAll("\n", this.lineEnd));
+  }
+
+  /** Replaces the text, where nobody changed the document since it was shown; else both texts are shown. */
+  async replace() {
+    const now = (await this.app.room.run("READ", this.path)).data;
+    const data = toBase64(this.bytes);
+    if (now === this.shown) await this.app.room.run("WRITE", this.path, { data });
+    else if (!await this.settle(now, data)) throw new Error("Nothing was replaced.");
+  }
+
+  /** True where the user chose what becomes of both texts, and that is done. */
+  settle(now, data) {
+    const text = (words, it) => [make("h3", {}, words), make("pre", { tabIndex: 0 }, it)];
+    const theirs = toText(fromBase64(now)) ?? "These are bytes that are no text.";
+    const keep = async () => {
+      this.words = `Yours is kept as ${shown(lastName(await createBeside(this.app, this.path, data)))}.`;
+    };
+    const take = () => {
+      this.words = "Theirs stands as it is.";
+    };
+    return ask({ title: "Somebody changed this document meanwhile", does: "Keep mine as a copy", task: keep,
+      words: [...text("Theirs, as it is now", theirs), ...text("Yours", this.field.value)],
+      others: [{ words: "Take theirs", value: "theirs", task: take }] });
+  }
+}
+
+export async function edit(app, path, bytes, text) {
+  const it = new Editing(app, path, bytes, text);
+  const isDone = await ask({ title: `Edit ${shown(lastName(path))}`, does: "Replace",
+    fields: { text: { label: "Text", field: it.field } }, faultOf: () => tooLong(it.bytes), task: () => it.replace() });
+  if (isDone) await app.done(it.words);
 }
 
 export async function rename(app, path) {
-  const to = input(path, { size: 30 });
-  const target = () => to.value.startsWith("/") ? to.value : inFolder(folderOf(path), to.value);
-  const isDone = await ask({ title: `Rename ${lastName(path)}`, does: "Rename",
-    words: "A path that begins with / moves it there. What the new folder hands down takes the old folder's place.",
-    fields: { to: { label: "New name or path", field: to } },
-    faultOf: () => to.value.startsWith("/") ? pathFault(to.value) : nameFault(to.value) });
-  const moved = { from: path, to: target() };
-  if (isDone) await app.act(`${path} is now ${moved.to}.`, () => app.room.run("RENAME", path, { to: moved.to }), moved);
+  const to = input(lastName(path), { size: 30 });
+  const target = () => (to.value.startsWith("/") ? clean(to.value) : inFolder(folderOf(path), clean(to.value)));
+  const isDone = await ask({ title: `Rename ${shown(lastName(path))}`, does: "Rename",
+    fields: { to: { label: "New name", field: to } },
+    faultOf: () => (to.value.startsWith("/") ? pathFault(target()) : nameFault(clean(to.value))),
+    task: () => app.room.run("RENAME", path, { to: target() }) });
+  if (isDone) await app.done(`${shown(path)} is now ${shown(target())}.`, { from: path, to: target() });
 }
 
 export async function remove(app, path) {
-  const isDone = await ask({ title: `Remove ${lastName(path)}`, does: "Remove",
-    words: "It cannot be brought back. A folder must be empty." });
-  const moved = { from: path, to: folderOf(path) };
-  if (isDone) await app.act(`${path} is removed.`, () => app.room.run("REMOVE", path), moved);
+  const isDone = await ask({ title: `Remove ${shown(lastName(path))}`, does: "Remove",
+    words: make("p", {}, "It cannot be brought back. A folder must be empty."),
+    task: () => app.room.run("REMOVE", path) });
+  if (isDone) await app.done(`${shown(path)} is removed.`, { from: path, to: folderOf(path) });
 }
 
 export async function read(room, path) {

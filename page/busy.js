@@ -1,32 +1,59 @@
-/** Tells that a request waits for its answer, and how often it was sent. */
+/** Tells that requests wait for their answers, and how often they were sent. */
 
 const SHORTEST = 250; // milliseconds
 const LONGEST = 5_000;
+const waiting = new Set();
 
 /** The user has given up: whether the request acted is not known. */
-export class GaveUp extends Error {}
+export class GaveUp extends Error {
+  constructor() {
+    super("Given up. Whether it was done is not known: look before you do it again.");
+  }
+}
 
 const part = (id) => document.getElementById(id);
+const section = part("busy");
+const words = part("busy-text");
 
-export function over() {
-  part("busy").hidden = true;
+function tell() {
+  const told = [...waiting].filter((it) => it.times >= 2).sort((a, b) => b.times - a.times)[0];
+  section.hidden = !told;
+  if (!told) return;
+  const which = waiting.size > 1 ? `${waiting.size} requests are kept, and` : "The request is kept, and";
+  words.textContent = `${told.why} ${which} sent again until ${waiting.size > 1 ? "they are" : "it is"} ` +
+    `answered. Sent so far: ${told.times}.`;
 }
 
-/** Waits longer each time, or until a button is pressed. */
-export function wait(why, times) {
-  part("busy-text").textContent =
-    `${why} The request is kept, and sent again until it is answered. Sent so far: ${times}.`;
-  part("busy").hidden = times < 2;
-  return new Promise((goOn, stop) => {
-    const timer = setTimeout(goOn, Math.min(SHORTEST * 2 ** (times - 1), LONGEST));
-    part("busy-now").onclick = () => {
-      clearTimeout(timer);
-      goOn();
-    };
-    part("busy-stop").onclick = () => {
-      clearTimeout(timer);
-      over();
-      stop(new GaveUp("Given up. Whether it was done is not known: look before you do it again."));
-    };
-  });
+/** What a request waits by: longer each time, or until a button is pressed. */
+class Waiting {
+  times = 0;
+
+  wait(why, times) {
+    Object.assign(this, { why, times });
+    waiting.add(this);
+    tell();
+    return new Promise((goOn, stop) => {
+      this.goOn = goOn;
+      this.stop = () => stop(new GaveUp());
+      this.timer = setTimeout(goOn, Math.min(SHORTEST * 2 ** (times - 1), LONGEST));
+    });
+  }
+
+  over() {
+    clearTimeout(this.timer);
+    waiting.delete(this);
+    tell();
+  }
 }
+
+export const begin = () => new Waiting();
+
+/** The section stands in the dialog that is open, as the rest of the page cannot be pressed then. */
+export function standIn(element) {
+  const { parentNode, nextSibling } = section;
+  element.prepend(section);
+  return () => parentNode.insertBefore(section, nextSibling?.parentNode === parentNode ? nextSibling : null);
+}
+
+part("busy-now").onclick = () => waiting.forEach((it) => it.goOn());
+part("busy-stop").onclick = () => waiting.forEach((it) => it.stop());

@@ -1,9 +1,15 @@
 /** Bytes of documents: base64 as the room has it, text where they are text, a file on the user's disk. */
+import { forDisk } from "./names.js";
 
 export const MOST_BYTES = 65_536;
+const STRETCH = 8_192; // bytes that are one call's arguments
 
 export function toBase64(bytes) {
-  return btoa(Array.from(bytes, (it) => String.fromCharCode(it)).join(""));
+  let letters = "";
+  for (let at = 0; at < bytes.length; at += STRETCH) {
+    letters += String.fromCharCode(...bytes.subarray(at, at + STRETCH));
+  }
+  return btoa(letters);
 }
 
 export function fromBase64(text) {
@@ -24,9 +30,10 @@ export function toText(bytes) {
   }
 }
 
-export function save(bytes, name) {
-  const address = URL.createObjectURL(new Blob([bytes], { type: "application/octet-stream" }));
-  const link = Object.assign(document.createElement("a"), { href: address, download: name });
+/** Gives it to the user's disk. */
+export function save(blob, name) {
+  const address = URL.createObjectURL(blob);
+  const link = Object.assign(document.createElement("a"), { href: address, download: forDisk(name) });
   link.click();
-  setTimeout(() => URL.revokeObjectURL(address), 10_000);
+  setTimeout(() => URL.revokeObjectURL(address), 60_000);
 }

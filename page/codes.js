@@ -1,4 +1,5 @@
 /** What the room refuses, in words, with the remedy. docs/CODES.md has each of them. */
+import { shown } from "./names.js";
 import { FILE, FOLDER, rightsIn } from "./rights.js";
 
 const ACCESS = 5;
@@ -30,7 +31,7 @@ const REFUSALS = {
 
 function lackedRight({ bit, path }, command) {
   const kind = OF_DOCUMENTS.has(command.cmd) && path === command.path ? FILE : FOLDER;
-  return [`The list of ${path} does not allow you to ${rightsIn(bit, kind)}.`,
+  return [`The list of ${shown(path)} does not allow you to ${rightsIn(bit, kind)}.`,
     "Ask its owner, or whoever may change its list."];
 }
 

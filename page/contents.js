@@ -4,6 +4,7 @@ import { save, toText } from "./bytes.js";
 import { Refusal } from "./codes.js";
 import { button, link, make, nameText } from "./dom.js";
 import { head } from "./heads.js";
+import { shown } from "./names.js";
 import { ROOT, addressOf, inFolder, lastName } from "./places.js";
 import { FOLDER } from "./rights.js";
 
@@ -36,7 +37,7 @@ function row(app, place, [name, kind]) {
   const path = inFolder(place.path, name);
   const word = kind === FOLDER ? "folder" : "document";
   const buttons = changes(app, path);
-  for (const it of buttons) it.setAttribute("aria-label", `${it.textContent} ${name}`);
+  for (const it of buttons) it.setAttribute("aria-label", `${it.textContent} ${shown(name)}`);
   return make("tr", {},
     make("th", { scope: "row" }, link(addressOf({ room: place.room, path }), nameText(name))),
     make("td", {}, word), make("td", { className: "tools" }, ...buttons));
@@ -71,7 +72,7 @@ async function document_(app, place, stat) {
   const text = isRefused ? null : toText(found);
   const buttons = [button("Append", () => actions.append(app, path))];
   if (text !== null) buttons.push(button("Edit", () => actions.edit(app, path, found, text)));
-  if (!isRefused) buttons.push(button("Download", () => save(found, lastName(path))));
+  if (!isRefused) buttons.push(button("Download", () => save(new Blob([found]), lastName(path))));
   const shown = isRefused ? make("p", { className: "fault" }, found.message) : shownBytes(found, text);
   const size = isRefused ? "document" : `${found.length} bytes`;
   return [tools(...buttons, ...changes(app, path)), about(stat, size), shown];

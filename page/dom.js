@@ -1,4 +1,5 @@
 /** Elements of the page. Whatever comes from the room is put in as text, never as markup. */
+import { partsOf } from "./names.js";
 
 /** An element with these properties or attributes. Children that are no elements are put in as text. */
 export function make(tag, how = {}, ...children) {
@@ -14,8 +15,14 @@ export function make(tag, how = {}, ...children) {
 export const button = (words, onclick, how = {}) => make("button", { type: "button", onclick, ...how }, words);
 export const link = (href, ...words) => make("a", { href }, ...words);
 
-/** A name of the room, kept apart from the direction in which the text around it is written. */
-export const nameText = (name) => make("bdi", {}, name);
+/** A name of the room, kept apart from the direction in which the text around it is written, with marks in the place of
+ * what could not be seen. */
+export function nameText(name) {
+  const it = make("bdi", {});
+  for (const { text, isMark } of partsOf(name)) it.append(isMark ? make("span", { className: "mark" }, text) : text);
+  it.normalize();
+  return it;
+}
 
 let ids = 0;
 

@@ -1,19 +1,21 @@
 /** One entry of a list, as a sentence that opens into its fields. */
 import { button, checkbox, make, select } from "./dom.js";
 import { input } from "./dialogs.js";
-import { REACH, WHOM, isDeny, sentence, whomOf, withWhom } from "./lists.js";
+import { REACH, WHOM, isDeny, sentence, whomFault, whomOf, withWhom } from "./lists.js";
 import { FOLDER, RIGHTS, SETS, bothWords } from "./rights.js";
 
 const CHOSEN = "chosen";
 
 /** The fields of an entry; `entry` is what they say now, and `changed` is called with each change. */
 class Fields {
-  constructor(entry, kind, names, changed) {
-    Object.assign(this, { entry, kind, names, changed });
+  constructor(entry, { kind, names, roster }, changed) {
+    Object.assign(this, { entry, kind, names, roster, changed });
+    this.fault = make("p", { className: "fault", role: "status" }, whomFault(entry, roster));
   }
 
   set(entry) {
     this.entry = entry;
+    this.fault.textContent = whomFault(entry, this.roster);
     this.changed(entry);
   }
 
@@ -37,7 +39,7 @@ class Fields {
 
   rights() {
     const boxes = RIGHTS.map((it) => this.right(it));
-    const choices = [...SETS.map(({ mask, name }) => ({ value: String(mask), word: name })),
+    const choices = [...SETS.map(({ mask, does }) => ({ value: String(mask), word: does })),
       { value: CHOSEN, word: "do what is chosen below" }];
     this.sets = select(choices, this.setNow(), (it) => {
       if (it !== CHOSEN) this.set({ ...this.entry, mask: Number(it) });
@@ -54,7 +56,7 @@ class Fields {
 
   right(it) {
     const words = this.kind === FOLDER ? bothWords(it) : it[this.kind];
-    return checkbox(words, (this.entry.mask & it.bit) !== 0, () => {
+    return checkbox(`${words} (${it.words.join(", ")})`, (this.entry.mask & it.bit) !== 0, () => {
       this.set({ ...this.entry, mask: this.entry.mask ^ it.bit });
       this.sets.value = this.setNow();
     });
@@ -70,14 +72,15 @@ class Fields {
 
   all() {
     const rights = this.rights();
-    return [make("p", { className: "row" }, this.verb(), ...this.whom(), "to", this.sets), ...rights, ...this.reach()];
+    return [make("p", { className: "row" }, this.verb(), ...this.whom(), "to", this.sets), this.fault, ...rights,
+      ...this.reach()];
   }
 }
 
 /** An entry that can be changed. `does` has what its buttons do: up, down, remove. */
-export function entryEditor(entry, { kind, standing, names, isOpen, changed, does }) {
+export function entryEditor(entry, { kind, standing, names, roster, isOpen, changed, does }) {
   const summary = make("summary", {}, sentence(entry, kind, standing));
-  const fields = new Fields(entry, kind, names, (now) => {
+  const fields = new Fields(entry, { kind, names, roster }, (now) => {
     summary.textContent = sentence(now, kind, standing);
     changed(now);
   });

@@ -1,5 +1,5 @@
 /** Entries of a list in words, and back. docs/LISTS.md has the rules; whether an entry is lawful the room says. */
-import { FOLDER, FILE, RIGHTS, SETS, bothWords, rightsIn } from "./rights.js";
+import { FILE, FOLDER, RIGHTS, SETS, bothWords, rightsIn } from "./rights.js";
 
 const DENY = 1;
 const GROUP_FLAG = 0x40;
@@ -10,6 +10,14 @@ const CHILDREN_ALONE = 0x4;
 const NOT_HERE = 0x8;
 const AUTO_INHERIT = 1;
 const PROTECTED = 2;
+
+/** Why an entry would count for nobody by the roster, `{"ann":["eng"]}`, or nothing. */
+export function whomFault(entry, roster) {
+  const { id, name } = whomOf(entry);
+  if (!roster || !WHOM.find((it) => it.id === id).isNamed) return "";
+  const known = id === "user" ? Object.keys(roster) : Object.values(roster).flat();
+  return known.includes(name) ? "" : `${name || "Nobody"} is no ${id} of this room's roster.`;
+}
 
 /** Whom an entry can name: the word of the choice, and whether a name stands behind it. */
 export const WHOM = [
@@ -71,7 +79,7 @@ export function joined(words) {
 /** The rights of an entry, in the words of the kinds of objects for which it counts. */
 function rightsWords({ mask, flag }, kind) {
   const set = SETS.find((it) => it.mask === mask);
-  if (set) return set.name;
+  if (set) return set.does;
   if (mask === 0) return "do nothing";
   const isForFiles = kind === FILE || flag & NOT_HERE && flag & TO_FILES && !(flag & TO_FOLDERS);
   const isForBoth = !isForFiles && kind === FOLDER && flag & TO_FILES;

@@ -1,4 +1,5 @@
 /** Who is logged in, as the front says. */
+import { end } from "./unsaved.js";
 import { fileOfFront } from "./wire.js";
 
 export class Login {
@@ -11,7 +12,18 @@ export class Login {
   async stillSame() {
     const { user } = await Login.ask();
     if (user === this.user) return;
+    end();
     location.reload();
     await new Promise(() => {});
   }
+}
+
+/** Has the browser forget the login: it does so once a request with another one is refused. Whether it was. */
+export function logOut() {
+  return new Promise((tell) => {
+    const request = new XMLHttpRequest();
+    request.open("GET", new URL("/whoami", location.origin), true, "nobody", `${Math.random()}`);
+    request.onloadend = () => tell(request.status === 401);
+    request.send();
+  });
 }

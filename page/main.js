@@ -3,13 +3,17 @@ import * as busy from "./busy.js";
 import { showAccess } from "./access.js";
 import { Refusal } from "./codes.js";
 import { showContents } from "./contents.js";
-import { button, make } from "./dom.js";
+import { ask, closeAll } from "./dialogs.js";
+import { button, link, make } from "./dom.js";
 import { head } from "./heads.js";
-import { Login } from "./login.js";
+import { Login, logOut } from "./login.js";
 import { showMatrix } from "./matrix.js";
+import { shown } from "./names.js";
 import { ROOT, addressOf, placeOf } from "./places.js";
 import { Room } from "./room.js";
+import { arrive, leave, standing } from "./stand.js";
 import { sessionOfTab } from "./tabs.js";
+import { end, isUnsaved, watch } from "./unsaved.js";
 import { fileOfFront } from "./wire.js";
 
 const VIEWS = { open: showContents, access: showAccess, who: showMatrix };
@@ -17,7 +21,7 @@ const part = (id) => document.getElementById(id);
 
 class App {
   constructor(login, rooms) {
-    Object.assign(this, { login, user: login.user, rooms, opened: new Map(), turn: 0, room: null });
+    Object.assign(this, { login, user: login.user, rooms, opened: new Map(), turn: 0, room: null, here: "" });
   }
 
   /** The room of that name, with a session of this tab. */
@@ -39,7 +43,7 @@ class App {
     const { cmd, path } = command;
     if (["STAT", "LIST", "READ", "GETLIST", "ACCESS"].includes(cmd)) return;
     const end = fault?.message ?? (reply.code === 0 ? "it is done, once." : new Refusal(reply, command).message);
-    this.say(`A request from before was sent again, ${cmd} of ${path}: ${end}`, reply?.code === 0);
+    this.say(`A request from before was sent again, ${cmd} of ${shown(path)}: ${end}`, reply?.code === 0);
   }
 
   say(words, isGood = true) {
@@ -64,58 +68,95 @@ class App {
     }
   }
 
-  /** Does it, tells the end, and shows what is then there; `moved` where what was shown is at another place then. */
-  async act(done, task, moved = null) {
-    part("notices").replaceChildren();
-    const isDone = await this.attempt(task);
-    if (isDone) this.say(done);
+  /** Something was done: tells it, and shows what is there then; `moved` where what was shown is elsewhere now. */
+  async done(words, moved = null) {
     const here = placeOf(location.hash);
-    this.isMoving = Boolean(isDone && moved && here?.path === moved.from);
-    if (this.isMoving) location.hash = addressOf({ room: here.room, path: moved.to });
-    else await this.show();
+    if (here && moved && isAt(here.path, moved.from)) {
+      this.saying = words; // (the next place tells it)
+      location.hash = addressOf({ room: here.room, path: moved.to });
+    } else {
+      const back = standing();
+      this.say(words);
+      await this.show(back);
+    }
   }
 
   /** The address has changed. What was said before is of another place, save where an action led here. */
-  come() {
-    if (!this.isMoving) part("notices").replaceChildren();
-    this.isMoving = false;
-    return this.show();
+  async come() {
+    if (isUnsaved() && location.hash !== this.here && !this.isLosing) return this.askToLeave();
+    this.isLosing = false;
+    closeAll();
+    part("notices").replaceChildren();
+    if (this.saying) this.say(this.saying);
+    this.saying = null;
+    leave(this.here);
+    await this.show(() => arrive(location.hash));
+  }
+
+  /** Something is typed and not done: the address stays until the user wants to lose it. */
+  async askToLeave() {
+    const wanted = location.hash;
+    history.pushState(null, "", this.here || "#");
+    this.isLosing = Boolean(await mayLose());
+    if (this.isLosing) location.hash = wanted;
   }
 
   async nodesOf(place) {
     try {
+      if (!this.rooms.includes(place.room)) throw new Error(`There is no room ${shown(place.room)} here.`);
       this.room = await this.openRoom(place.room);
       return await (VIEWS[place.view] ?? showContents)(this, place);
     } catch (fault) {
-      return [...head(place), make("p", { className: "fault" }, fault.message)];
+      const rooms = this.rooms.map((room) => make("li", {}, link(addressOf({ room, path: ROOT }), room)));
+      const isKnown = this.rooms.includes(place.room);
+      const more = isKnown ? [] : [make("p", {}, "The rooms that are here:"), make("ul", {}, ...rooms)];
+      return [...head(place), make("p", { className: "fault" }, fault.message), ...more];
     }
   }
 
-  async show() {
+  async show(then = () => arrive(location.hash)) {
     const place = placeOf(location.hash) ?? { view: "open", room: this.rooms[0], path: ROOT };
     const turn = this.turn += 1;
+    this.here = location.hash;
     await this.attempt(async () => {
       const nodes = await this.nodesOf(place);
       if (turn !== this.turn) return;
       part("main").replaceChildren(...nodes);
       part("main").dataset.place = addressOf(place); // (for tests: what is shown, once it is)
       part("rooms").value = place.room;
-      document.title = `${place.path} – ${place.room}`;
+      document.title = `${shown(place.path)} – ${place.room}`;
     });
-    part("main").querySelector("h1")?.focus();
+    if (turn === this.turn) then();
   }
 }
 
+const isAt = (path, from) => path === from || path.startsWith(`${from}/`);
+
 const INSECURE = "This page needs https, or the address 127.0.0.1: elsewhere a browser has no locks, which keep two " +
   "tabs from one session.";
+
+/** Whether the user wants to lose what is typed. */
+const mayLose = () => ask({ title: "Leave this?", words: make("p", {}, "What you typed is not saved."),
+  does: "Leave, and lose it" });
 
 function fail(words) {
   part("main").replaceChildren(make("p", { className: "fault" }, words));
 }
 
+async function leaveAll() {
+  if (isUnsaved() && !await mayLose()) return;
+  end();
+  const isOut = await logOut();
+  document.body.replaceChildren(make("main", {}, make("h1", {}, isOut ? "You are logged out" : "Not logged out"),
+    make("p", {}, isOut ? "This browser has forgotten your login. What you downloaded is still on this machine."
+      : "The front still takes your login: close all windows of this browser."),
+    make("p", {}, button("Log in", () => location.reload()))));
+}
+
 async function start() {
   part("help").onclick = () => part("help-page").showModal();
   part("help-close").onclick = () => part("help-page").close();
+  part("log-out").onclick = leaveAll;
   if (!navigator.locks) return fail(INSECURE);
   const login = await Login.ask();
   const rooms = JSON.parse(await fileOfFront("/rooms.json") ?? "[]");
@@ -126,6 +167,7 @@ async function start() {
   part("rooms").onchange = () => {
     location.hash = addressOf({ room: part("rooms").value, path: ROOT });
   };
+  watch(() => part("main").querySelector(".typed")?.isUnsaved());
   addEventListener("hashchange", () => app.come());
   return app.show();
 }

@@ -2,6 +2,7 @@
 import { button, labelled, make, nameText } from "./dom.js";
 import { head } from "./heads.js";
 import { joined, whomOf } from "./lists.js";
+import { shown } from "./names.js";
 import { foldersAbove, inFolder, lastName, ROOT } from "./places.js";
 import { ALL, FOLDER, LEGEND, NOT_KNOWN, PASS_THROUGH, SHUT_OUT, levelOf, rightsIn } from "./rights.js";
 
@@ -61,11 +62,12 @@ async function cellOf(questions, { path, kind }, user, groups) {
 }
 
 /** A cell in whole sentences. */
-function told({ path, kind, user, allowed, barrier }) {
+function told({ path: itsPath, kind, user, allowed, barrier }) {
+  const path = shown(itsPath);
   if (allowed === null && !barrier.folder) return `What ${user} may do with ${path}: ${NOT_KNOWN.tells}.`;
   const rights = allowed ? joined(rightsIn(allowed, kind)) : "do nothing with it";
   const may = allowed === null ? "" : `The list of ${path} lets ${user} ${rights}.`;
-  if (barrier.folder) return `${user} may not pass through ${barrier.folder}, so cannot get at ${path}. ${may}`;
+  if (barrier.folder) return `${user} may not pass through ${shown(barrier.folder)}, so cannot get at ${path}. ${may}`;
   return barrier.isKnown ? may : `${may} Whether ${user} may pass through each folder above is not known to you.`;
 }
 
@@ -91,8 +93,8 @@ async function table(questions, objects, users, detail) {
     for (const [user, groups] of users) {
       cells.push(cellElement(await cellOf(questions, object, user, groups), detail));
     }
-    const name = `${lastName(object.path)}${object.kind === FOLDER && object.path !== ROOT ? "/" : ""}`;
-    rows.push(make("tr", {}, make("th", { scope: "row" }, nameText(name)), ...cells));
+    const end = object.kind === FOLDER && object.path !== ROOT ? "/" : "";
+    rows.push(make("tr", {}, make("th", { scope: "row" }, nameText(lastName(object.path)), end), ...cells));
   }
   return make("div", { className: "wide", tabIndex: 0, role: "region", "aria-label": "Users and objects" },
     make("table", { className: "matrix" }, make("thead", {}, make("tr", {}, make("th", { scope: "col" }, "Object"),

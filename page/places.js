@@ -62,3 +62,13 @@ export function placeOf(address) {
     return null;
   }
 }
+
+/** A name with words in brackets, in front of its ending; as much of it as a name may have. */
+export function withMark(name, words) {
+  const dot = name.lastIndexOf(".");
+  const [stem, ending] = dot > 0 && name.length - dot < 12 ? [name.slice(0, dot), name.slice(dot)] : [name, ""];
+  const letters = [...stem];
+  const whole = () => `${letters.join("")} (${words})${ending}`;
+  while (letters.length > 1 && nameFault(whole())) letters.pop();
+  return whole();
+}

@@ -3,59 +3,66 @@
 export const FILE = "file";
 export const FOLDER = "folder";
 
-const right = (bit, onFile, onFolder = onFile) => ({ bit, [FILE]: onFile, [FOLDER]: onFolder, isAsked: true });
-const ofFolders = (bit, words) => ({ ...right(bit, `${words} (of folders alone)`, words), isOfFolders: true });
-const unasked = (bit, name) => ({ ...right(bit, name), isAsked: false });
+const right = (bit, words, onFile, onFolder = onFile) =>
+  ({ bit, words, [FILE]: onFile, [FOLDER]: onFolder, isAsked: true });
+const ofFolders = (bit, words, does) =>
+  ({ ...right(bit, words, `${does} (of folders alone)`, does), isOfFolders: true });
+const unasked = (bit, word) => ({ ...right(bit, [word], word.replaceAll("-", " ")), isAsked: false });
 
-/** In the order in which they are shown. No command of the room asks for those that are not `isAsked`. */
+/** In the order in which they are shown, with the words that the command `room` has for them: of a document and of a
+ * folder, where these are two. No command of the room asks for those that are not `isAsked`. */
 export const RIGHTS = [
-  right(0x1, "read it", "see what is in it"),
-  right(0x4, "append to it", "make folders in it"),
-  right(0x2, "replace its text", "make documents in it"),
-  ofFolders(0x20, "pass through to what is in it"),
-  right(0x10000, "remove or rename it"),
-  ofFolders(0x40, "remove or rename what is in it"),
-  right(0x80, "see its owner and size"),
-  right(0x20000, "see its list"),
-  right(0x40000, "change its list"),
-  right(0x80000, "give it another owner"),
-  unasked(0x8, "read named attributes"),
-  unasked(0x10, "write named attributes"),
-  unasked(0x100, "write attributes"),
-  unasked(0x200, "write retention"),
-  unasked(0x400, "write retention hold"),
+  right(0x1, ["read", "list"], "read it", "see what is in it"),
+  right(0x4, ["append", "add-folder"], "append to it", "make folders in it"),
+  right(0x2, ["write", "add-file"], "replace its text", "make documents in it"),
+  ofFolders(0x20, ["execute", "traverse"], "pass through to what is in it"),
+  right(0x10000, ["delete"], "remove or rename it"),
+  ofFolders(0x40, ["delete-child"], "remove or rename what is in it"),
+  right(0x80, ["read-attributes"], "see its owner and size"),
+  right(0x20000, ["read-acl"], "see its list"),
+  right(0x40000, ["write-acl"], "change its list"),
+  right(0x80000, ["write-owner"], "give it another owner"),
+  unasked(0x8, "read-named-attrs"),
+  unasked(0x10, "write-named-attrs"),
+  unasked(0x100, "write-attributes"),
+  unasked(0x200, "write-retention"),
+  unasked(0x400, "write-retention-hold"),
   unasked(0x100000, "synchronize"),
 ];
 
 export const ALL = RIGHTS.reduce((mask, it) => mask | it.bit, 0);
 export const PASS_THROUGH = 0x20;
 
-/** Sets of rights that have a name of their own. The first is what a new room gives to its group. */
+/** Sets of rights, by the names that they have everywhere. The first is what a new room gives to its group. */
 export const SETS = [
-  { mask: 0x1200a9, name: "read" },
-  { mask: 0x1200af, name: "read and write" },
-  { mask: 0x1301ef, name: "read, write and remove" },
-  { mask: ALL, name: "do everything" },
+  { mask: 0x1200a9, name: "view", does: "view", tells: "see it, and what is in it" },
+  { mask: 0x1200af, name: "edit", does: "edit", tells: "view, and replace, append, and make things in it" },
+  { mask: 0x1301ef, name: "change", does: "change", tells: "edit, and remove or rename it and what is in it" },
+  { mask: ALL, name: "all", does: "do all", tells: "everything, its list and its owner too" },
 ];
 
-/** What somebody may do, summed up: the first level of which a right is allowed. */
-const LEVELS = [
-  { name: "rule", word: "rules", tells: "may change its list or its owner", [FILE]: 0xc0000, [FOLDER]: 0xc0000 },
-  { name: "change", word: "changes", tells: "may replace or remove it, or what is in it",
-    [FILE]: 0x10002, [FOLDER]: 0x10040 },
-  { name: "add", word: "adds", tells: "may append to it, or make things in it", [FILE]: 0x4, [FOLDER]: 0x6 },
-  { name: "read", word: "reads", tells: "may read it, or see what is in it", [FILE]: 0x1, [FOLDER]: 0x1 },
-  { name: "other", word: "other", tells: "has other rights alone, as passing through", [FILE]: ALL, [FOLDER]: ALL },
-];
-const NO_LEVEL = { name: "none", word: "nothing", tells: "has no right on it" };
-
-/** For the legend of the matrix, with two that stand for what the rights alone do not tell. */
+/** For the legend of the matrix: the sets, and what they alone do not tell. */
+const SOME = { name: "some", word: "some", tells: "other rights alone, as passing through: press the cell" };
+const NONE = { name: "none", word: "none", tells: "no right on it" };
 export const SHUT_OUT = { name: "shut", word: "shut out", tells: "may not pass through a folder above" };
 export const NOT_KNOWN = { name: "unknown", word: "?", tells: "you may not see this list, so it is not known" };
-export const LEGEND = [...LEVELS, NO_LEVEL, SHUT_OUT, NOT_KNOWN];
+const LEVELS = SETS.map(({ name, tells }) => ({ name, word: name, tells }));
+const MORE = { name: "more", word: "view+", tells: "view and more, which is no set of its own: press the cell" };
+export const LEGEND = [...LEVELS.toReversed(), MORE, SOME, NONE, SHUT_OUT, NOT_KNOWN];
 
+/** The rights of a mask that commands ask for, of that kind of object. */
+function askedOf(mask, kind) {
+  return RIGHTS.filter((it) => it.isAsked && !(kind === FILE && it.isOfFolders))
+    .reduce((found, { bit }) => found | (mask & bit), 0);
+}
+
+/** What somebody may do, summed up: the largest set that is allowed whole, with a + where more is allowed. */
 export function levelOf(allowed, kind) {
-  return LEVELS.find((it) => allowed & it[kind]) ?? NO_LEVEL;
+  const has = askedOf(allowed, kind);
+  const at = SETS.findLastIndex(({ mask }) => askedOf(mask & ~has, kind) === 0);
+  if (at < 0) return has ? SOME : NONE;
+  const isMore = has !== askedOf(SETS[at].mask, kind);
+  return isMore ? { ...LEVELS[at], word: `${LEVELS[at].word}+` } : LEVELS[at];
 }
 
 /** The rights of a mask, each in words for that kind of object. */
@@ -63,7 +70,7 @@ export function rightsIn(mask, kind) {
   return RIGHTS.filter((it) => mask & it.bit).map((it) => it[kind]);
 }
 
-/** A right in words that stand for both kinds of objects. */
+/** A right in a sentence that stands for both kinds of objects. */
 export function bothWords(right) {
   return right[FILE] === right[FOLDER] || right.isOfFolders ? right[FOLDER] : `${right[FOLDER]} / ${right[FILE]}`;
 }

@@ -1,5 +1,5 @@
 /**
- * A session of one slot, which acts once for each request.
+ * A session of sixteen slots, which acts once for each request.
  *
  * What is needed to send a request again is kept in localStorage before it is sent: the session's name, the number, the
  * body. So it is sent again after a lost answer, and after a reload or a crash of the tab too (docs/SLOTS.md).
@@ -7,6 +7,9 @@
 import { untilAnswered } from "./wire.js";
 
 const NUMBERS = 2 ** 32;
+const SLOTS = 16;
+const ASIDE = 6; // how many requests go beside each other: as many as a browser has connections to one place
+const NOT_KEPT = 25;
 const OWN_REFUSALS = new Set([20, 21, 22, 23, 24, 25]); // of the session, slot or number, and not of the request
 
 /** A request that was sent before, and whose session is gone: whether it acted is not known. */
@@ -20,46 +23,65 @@ function randomName() {
   return [...crypto.getRandomValues(new Uint8Array(16))].map((it) => it.toString(16).padStart(2, "0")).join("");
 }
 
-export class Session {
-  /** `base` is the room's address, `key` where it is kept, `patience` tells and waits (busy.js); `stillUser` ends this
-   * page where the browser is logged in as another user by now, since its requests would be that user's. */
-  constructor(base, key, patience, stillUser) {
-    Object.assign(this, { base, key, patience, stillUser });
-    this.kept = JSON.parse(localStorage.getItem(key)) ?? this.#fresh();
-    this.turn = Promise.resolve();
-  }
+const read = (key) => JSON.parse(localStorage.getItem(key));
 
-  #fresh() {
-    return { name: randomName(), isOpen: false, number: 0, pending: null };
+/** The body of a command. Its members stand as in the command's text, so that the room knows a repeat by its bytes. */
+function bodyOf(command) {
+  return JSON.stringify(Object.fromEntries(Object.entries(command).sort(([a], [b]) => (a < b ? -1 : 1))));
+}
+
+/** One slot: its requests run one after another, in the order in which they are asked. */
+class Lane {
+  constructor(session, slot) {
+    Object.assign(this, { session, slot, key: `${session.key}/slot/${slot}`, isNewest: false });
+    this.bodyKey = `${this.key}/body`;
+    this.kept = read(this.key) ?? { name: "", number: 0, pending: null };
+    this.turn = Promise.resolve();
   }
 
   #keep(change) {
     this.kept = { ...this.kept, ...change };
     localStorage.setItem(this.key, JSON.stringify(this.kept));
+    if (!this.kept.pending) localStorage.removeItem(this.bodyKey);
+  }
+
+  /** The body first, so that what is kept as pending always has one. Others may fill the browser's store for a time. */
+  async #keepPending(pending, body) {
+    for (let times = 0; ; times += 1) {
+      try {
+        localStorage.setItem(this.bodyKey, body);
+        return this.#keep({ pending });
+      } catch (fault) {
+        localStorage.removeItem(this.bodyKey);
+        if (times === 100) throw new Error(`This browser can keep no more requests: close other tabs. (${fault.name})`);
+        await new Promise((goOn) => setTimeout(goOn, 100));
+      }
+    }
   }
 
   /** The command that waits for its answer, or null. */
   get pending() {
-    return this.kept.pending && JSON.parse(this.kept.pending.body);
+    return this.kept.pending && JSON.parse(localStorage.getItem(this.bodyKey));
   }
 
-  /** The reply to a command. Commands run one after another, in the order in which they are asked. The body's members
-   * stand as in the command's text, so that the room knows a repeat by its bytes. */
   ask(command) {
-    const members = Object.entries(command).sort(([a], [b]) => (a < b ? -1 : 1));
-    return this.#inTurn(() => this.#new(JSON.stringify(Object.fromEntries(members))));
+    return this.#inTurn(async () => {
+      if (!this.isNewest) await this.#probe();
+      return this.#new(bodyOf(command));
+    });
   }
 
   /** The reply to the request that was under way when the page ended. */
   finish() {
-    return this.#inTurn(() => this.#settle());
+    return this.#inTurn(() => this.#settle(localStorage.getItem(this.bodyKey)));
   }
 
   /** Finds out whether what is kept is the newest: a browser that crashed may have lost it. A number that was used for
    * another command is refused, and the session changed for a new one; this command is hardly ever the same. */
-  probe() {
+  async #probe() {
     const mask = crypto.getRandomValues(new Uint32Array(1))[0] & 0x1f07ff;
-    return this.ask({ cmd: "ACCESS", mask, path: "/" });
+    await this.#new(bodyOf({ cmd: "ACCESS", mask, path: "/" }));
+    this.isNewest = true;
   }
 
   #inTurn(task) {
@@ -68,31 +90,22 @@ export class Session {
     return done;
   }
 
-  async #open() {
-    while (!this.kept.isOpen) {
-      this.#keep({});
-      const reply = await untilAnswered(`${this.base}/v1/sessions/${this.kept.name}`, '{"slots":1}', this.patience);
-      await this.stillUser();
-      if (OWN_REFUSALS.has(reply.code)) this.#keep(this.#fresh());
-      else if (reply.code === 0) this.#keep({ isOpen: true });
-      else return reply;
-    }
-    return null;
-  }
-
   async #new(body) {
-    const refused = await this.#open();
+    const refused = await this.session.open();
     if (refused) return refused;
-    this.#keep({ pending: { number: (this.kept.number + 1) % NUMBERS, body, sent: 0 } });
-    return this.#settle();
+    const { name } = this.session.kept;
+    if (this.kept.name !== name) this.#keep({ name, number: 0, pending: null });
+    await this.#keepPending({ number: (this.kept.number + 1) % NUMBERS, sent: 0 }, body);
+    return this.#settle(body);
   }
 
   /** Sends what is pending until it is answered. */
-  async #settle() {
-    const { number, body } = this.kept.pending;
+  async #settle(body) {
+    const { number } = this.kept.pending;
     const reply = await this.#send(number, body);
+    if (reply.code === NOT_KEPT) return this.#again(number, body);
     if (OWN_REFUSALS.has(reply.code)) {
-      await this.stillUser();
+      await this.session.stillUser();
       return this.#anew(body);
     }
     const wasRun = reply.code < 20;
@@ -101,21 +114,105 @@ export class Session {
   }
 
   async #send(number, body) {
-    const before = () => this.#keep({ pending: { number, body, sent: this.kept.pending.sent + 1 } });
+    const before = () => this.#keep({ pending: { number, sent: this.kept.pending.sent + 1 } });
     try {
-      const url = `${this.base}/v1/sessions/${this.kept.name}/slots/0/${number}`;
-      return await untilAnswered(url, body, this.patience, before);
+      const url = `${this.session.base}/v1/sessions/${this.kept.name}/slots/${this.slot}/${number}`;
+      return await untilAnswered(url, body, this.session.patience, before);
     } catch (givenUp) {
-      this.#keep(this.#fresh());
+      this.session.renew(this.kept.name);
+      this.#keep({ pending: null });
       throw givenUp;
     }
+  }
+
+  /** What asked that its reply be not kept only reads, and is asked anew. */
+  #again(number, body) {
+    this.#keep({ pending: null, number });
+    return this.#new(body);
   }
 
   /** In a new session, where it was sent only now: then it cannot have acted. */
   #anew(body) {
     const wasSentBefore = this.kept.pending.sent > 1;
-    this.#keep(this.#fresh());
+    this.session.renew(this.kept.name);
+    this.#keep({ pending: null });
     if (wasSentBefore) throw new Unknown();
     return this.#new(body);
+  }
+}
+
+export class Session {
+  /** `base` is the room's address, `key` where it is kept, `patience` tells and waits (busy.js); `stillUser` ends this
+   * page where the browser is logged in as another user by now, since its requests would be that user's. */
+  constructor(base, key, patience, stillUser) {
+    Object.assign(this, { base, key, patience, stillUser });
+    Session.#renewOldForm(key);
+    this.kept = read(key) ?? { name: randomName(), isOpen: false };
+    this.lanes = Array.from({ length: SLOTS }, (_, slot) => new Lane(this, slot));
+    this.free = this.lanes.slice(1, 1 + ASIDE);
+    this.queue = [];
+  }
+
+  /** A session of before had one slot, and all in one text: its slot finishes what it has, and a new session begins. */
+  static #renewOldForm(key) {
+    const { name, number, pending } = read(key) ?? {};
+    if (number === undefined) return;
+    if (pending) localStorage.setItem(`${key}/slot/0/body`, pending.body);
+    const itsPending = pending && { number: pending.number, sent: pending.sent };
+    localStorage.setItem(`${key}/slot/0`, JSON.stringify({ name, number, pending: itsPending }));
+    localStorage.removeItem(key);
+  }
+
+  #keep(change) {
+    this.kept = { ...this.kept, ...change };
+    localStorage.setItem(this.key, JSON.stringify(this.kept));
+  }
+
+  /** The slots whose last request waits for its answer. */
+  get pending() {
+    return this.lanes.filter((it) => it.pending);
+  }
+
+  /** The reply to a command. Commands run one after another, in the order in which they are asked. */
+  ask(command) {
+    return this.lanes[0].ask(command);
+  }
+
+  /** The reply to a command that may run beside others. */
+  async askAside(command) {
+    const lane = this.free.pop() ?? await new Promise((goOn) => this.queue.push(goOn));
+    try {
+      return await lane.ask(command);
+    } finally {
+      const next = this.queue.shift();
+      if (next) next(lane);
+      else this.free.push(lane);
+    }
+  }
+
+  /** A new session takes the place of that one, where it is still this one's. */
+  renew(name) {
+    if (this.kept.name === name) this.#keep({ name: randomName(), isOpen: false });
+  }
+
+  /** Opens it, where it is not open: null, or why that is refused. */
+  open() {
+    this.opening ??= this.#open().finally(() => {
+      this.opening = null;
+    });
+    return this.opening;
+  }
+
+  async #open() {
+    while (!this.kept.isOpen) {
+      this.#keep({});
+      const { name } = this.kept;
+      const reply = await untilAnswered(`${this.base}/v1/sessions/${name}`, `{"slots":${SLOTS}}`, this.patience);
+      await this.stillUser();
+      if (OWN_REFUSALS.has(reply.code)) this.renew(name);
+      else if (reply.code === 0) this.#keep({ isOpen: true });
+      else return reply;
+    }
+    return null;
   }
 }

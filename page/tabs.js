@@ -23,21 +23,12 @@ async function firstFree(prefix) {
   }
 }
 
-/** Once no tab holds that session any more, sends again what it left. */
-function finishLeft(key, sessionAt, tell) {
-  return navigator.locks.request(key, async () => {
-    const session = sessionAt(key);
-    if (session.pending) await finish(session, tell);
-  });
-}
-
+/** Sends again what that session has under way, each request in its slot. */
 async function finish(session, tell) {
-  const command = session.pending;
-  try {
-    tell(command, await session.finish());
-  } catch (fault) {
-    tell(command, null, fault);
-  }
+  await Promise.all(session.pending.map(async (lane) => {
+    const command = lane.pending;
+    await lane.finish().then((reply) => tell(command, reply), (fault) => tell(command, null, fault));
+  }));
 }
 
 /** The session of this tab. What was under way when a tab ended is sent again first; `tell` gets command and reply. */
@@ -45,12 +36,11 @@ export async function sessionOfTab(base, room, patience, login, tell) {
   const prefix = `fileroom/${login.user}/${room}/`;
   const sessionAt = (key) => new Session(base, key, patience, () => login.stillSame());
   const mine = await firstFree(prefix);
+  const others = new Set(Object.keys(localStorage).filter((it) => it.startsWith(prefix))
+    .map((it) => prefix + it.slice(prefix.length).split("/")[0]));
+  others.delete(mine);
   const session = sessionAt(mine);
-  if (session.pending) await finish(session, tell);
-  for (const key of Object.keys(localStorage)) {
-    const isLeft = key.startsWith(prefix) && key !== mine && JSON.parse(localStorage.getItem(key)).pending;
-    if (isLeft) finishLeft(key, sessionAt, tell);
-  }
-  await session.probe();
+  await finish(session, tell);
+  for (const key of others) navigator.locks.request(key, () => finish(sessionAt(key), tell));
   return session;
 }

@@ -3,6 +3,16 @@
 const WAIT = 30_000; // milliseconds for an answer
 const DELAY = 30; // the code of 'later': the message did nothing
 
+const STEP = 11; // milliseconds a request: the front takes 100 of a login each second, and some 200 at once
+const BURST = 100;
+let ready = 0; // when the next request may go
+
+async function turn() {
+  const now = performance.now();
+  ready = Math.max(ready, now - BURST * STEP) + STEP;
+  if (ready > now) await new Promise((goOn) => setTimeout(goOn, ready - now));
+}
+
 /** No answer of the room came. Whether it acted is not known, and the very same message may be sent again. */
 export class NoAnswer extends Error {}
 
@@ -21,7 +31,7 @@ function readReply(text) {
 
 function whyNoReply(status) {
   if (status === 401) return "The login is not accepted any more. Log in again in another tab, or reload this page.";
-  if (status === 404) return "The front knows no such room.";
+  if (status === 404) return "The front knows this room no more.";
   if (status >= 500 || status === 429) return "The room is busy, or is being started again.";
   return `The front answers with status ${status}.`;
 }
@@ -49,17 +59,23 @@ async function exchange(url, body) {
 
 /** Sends until there is an answer. `before` is called before each sending; `patience` waits, or throws to give up. */
 export async function untilAnswered(url, body, patience, before = () => {}) {
-  for (let times = 1; ; times += 1) {
-    before();
-    try {
-      const reply = await exchange(url, body);
-      patience.over();
-      return reply;
-    } catch (fault) {
-      if (!(fault instanceof NoAnswer)) throw fault;
-      await patience.wait(fault.message, times);
+  const waiting = patience.begin();
+  try {
+    for (let times = 1; ; times += 1) {
+      before();
+      await turn();
+      const reply = await exchange(url, body).catch(noAnswer);
+      if (!(reply instanceof NoAnswer)) return reply;
+      await waiting.wait(reply.message, times);
     }
+  } finally {
+    waiting.over();
   }
+}
+
+function noAnswer(fault) {
+  if (fault instanceof NoAnswer) return fault;
+  throw fault;
 }
 
 /** A file of the front's, as text; null where it has none. */

@@ -1,0 +1,29 @@
+/** Names as they are shown, and as they are sent. */
+
+/** In turn: a pictograph with what belongs to it; what nobody would see or what turns the text around it; the rest. */
+const PARTS = new RegExp(
+  "(\\p{Extended_Pictographic}(?:\\ufe0f|\\p{Emoji_Modifier})?" +
+  "(?:\\u200d\\p{Extended_Pictographic}(?:\\ufe0f|\\p{Emoji_Modifier})?)*)" +
+  "|([\\p{C}\\p{Zl}\\p{Zp}\\p{Default_Ignorable_Code_Point}\\u2800]|(?! )\\p{Zs}|^ | (?= *$)|(?<= ) )|[^]", "gu");
+
+const NOT_COMPOSED = "⟨not composed⟩"; // letters with their accents apart look like letters with them
+
+function markOf(letter) {
+  return letter === " " ? "⟨blank⟩" : `⟨U+${letter.codePointAt(0).toString(16).toUpperCase().padStart(4, "0")}⟩`;
+}
+
+/** The parts of a name: texts, and marks in the place of what could not be seen. */
+export function partsOf(name) {
+  const parts = [...name.matchAll(PARTS)].map(([text, , hidden]) =>
+    hidden ? { text: markOf(hidden), isMark: true } : { text, isMark: false });
+  return name === name.normalize("NFC") ? parts : [...parts, { text: NOT_COMPOSED, isMark: true }];
+}
+
+/** A name or path in a sentence. */
+export const shown = (name) => partsOf(name).map((it) => it.text).join("");
+
+/** A name for the user's own disk, where nothing marks what cannot be seen. */
+export const forDisk = (name) => partsOf(name).map((it) => (it.isMark ? "_" : it.text)).join("");
+
+/** As it is sent: one way to write each letter, and no blanks at the ends. */
+export const clean = (name) => name.normalize("NFC").trim();

@@ -1,0 +1,153 @@
+"""Scenes of the page: what somebody typed is never lost, names that deceive, and where the page stands."""
+from club import append, make_document, set_list
+from words import RIGHTS, SETS
+
+WORDS = "import('/rights.js').then((it) => arguments[0]([it.RIGHTS.map(({bit, words}) => [bit, words]), " \
+        "it.SETS.map(({name, mask}) => [name, mask])]))"
+FOCUS = "return document.activeElement.getAttribute('aria-label') ?? document.activeElement.textContent"
+
+
+def names(club, differs):
+    """Names whose letters deceive are shown with marks, and sent in one form."""
+    browser = club.browser
+    for name in "invoice\u202egpj.exe", "zero\u200bwidth", "end ", "e\u0301t\u00e9", "heart \u2764\ufe0f":
+        club.holds({"cmd": "CREATE", "path": f"/plans/{name}", "data": ""})
+    club.go("#open/club/plans")
+    shown = browser.script("return [...document.querySelectorAll('.things bdi')].map((it) => it.textContent)")
+    for name in ("invoice⟨U+202E⟩gpj.exe", "zero⟨U+200B⟩width", "end⟨blank⟩", "e\u0301t\u00e9⟨not composed⟩",
+                 "heart \u2764\ufe0f"):
+        differs(f"shown as {name!r}", name in shown, True)
+    browser.act("//main//a[contains(., 'gpj')]", "click")
+    differs("above the document", browser.sees("invoice⟨U+202E⟩gpj.exe", "h1"), True)
+    differs("in the title", "invoice⟨U+202E⟩gpj.exe" in browser.script("return document.title"), True)
+    club.go("#who/club/plans")
+    differs("in the matrix", browser.sees("invoice⟨U+202E⟩gpj.exe", ".matrix"), True)
+    club.go("#open/club/plans")
+    make_document(browser, "  cafe\u0301 ", "")
+    browser.sees("Document café is made.")
+    differs("it is sent composed, without blanks", "caf\u00e9" in club.names("/plans"), True)
+    for name in club.names("/plans"):
+        if name not in ("june.txt",):
+            club.holds({"cmd": "REMOVE", "path": f"/plans/{name}"})
+
+
+def leaving(club, differs):
+    """Escape, another view, Back and a closed tab ask where something is typed."""
+    browser = club.browser
+    club.go("#open/club")
+    club.go("#open/club/plans/june.txt")
+    browser.press("Append", "//main")
+    browser.keys("escape")
+    browser.until("an empty dialog closes", lambda: not browser.script("return document.querySelector('dialog[open]')"))
+    browser.press("Append", "//main")
+    browser.fill("Text", "typed")
+    browser.keys("escape", "escape", "escape")
+    differs("escape asks", browser.sees("What you typed is not saved.", "dialog"), True)
+    browser.press("Go on typing")
+    differs("it is still there", browser.script("return document.querySelector('textarea').value"), "typed")
+    asked = "const it = new Event('beforeunload', {cancelable: true}); dispatchEvent(it); return it.defaultPrevented"
+    differs("a closed tab asks", browser.script(asked), True)
+    browser.script("history.back()")
+    browser.sees("Leave this?", "dialog h2")
+    differs("back stays", browser.script("return location.hash"), "#open/club/plans/june.txt")
+    browser.press("Cancel", "//dialog[@aria-label='Leave this?']")
+    differs("after staying", browser.script("return document.querySelector('textarea').value"), "typed")
+    browser.script("history.back()")
+    browser.press("Leave, and lose it")
+    browser.until("the folder", lambda: browser.script("return document.querySelector('main').dataset.place") != "x")
+    browser.until("no dialog", lambda: not browser.script("return document.querySelector('dialog[open]')"))
+    differs("nothing typed, nothing asked", browser.script(asked), False)
+    club.go("#access/club/plans/june.txt")
+    browser.press("Add an entry")
+    browser.script("location.hash = '#open/club'")
+    differs("a list that was changed asks", browser.sees("Leave this?", "dialog h2"), True)
+    browser.press("Leave, and lose it")
+    browser.sees("plans", ".things")
+
+
+def conflicts(club, differs):
+    """Somebody else was there first: both texts, or both lists, are shown."""
+    browser = club.browser
+    for words, mine, left in ("Keep mine as a copy", "mine", "theirs"), ("Take theirs", "mine too", "theirs"):
+        club.holds({"cmd": "WRITE", "path": "/plans/june.txt", "data": "YmVmb3Jl"})
+        club.go("#open/club/plans")
+        browser.follow("june.txt")
+        browser.sees("before", "pre")
+        browser.press("Edit")
+        browser.fill("Text", mine)
+        club.holds({"cmd": "WRITE", "path": "/plans/june.txt", "data": "dGhlaXJz"})
+        browser.press("Replace")
+        differs("theirs is shown", browser.sees("theirs", "dialog pre"), True)
+        differs("mine is shown", browser.sees(mine, "dialog pre"), True)
+        browser.press(words)
+        browser.sees("theirs", "main pre")
+        differs("theirs stands", club.text("/plans/june.txt"), left)
+    differs("mine is beside it", club.text("/plans/june (copy of ann).txt"), "mine")
+    differs("and once", len(club.names("/plans")), 2)
+    club.holds({"cmd": "REMOVE", "path": "/plans/june (copy of ann).txt"})
+    lists_at_once(club, differs)
+
+
+def lists_at_once(club, differs):
+    browser = club.browser
+    path, new = "/plans/june.txt", {"type": 0, "flag": 0, "mask": 1, "who": "bob"}
+    club.go("#access/club/plans/june.txt")
+    set_list(browser, "the user", "nobody-here", "view", False)
+    browser.sees("nobody-here is no user of this room's roster.", "main")
+    club.holds({"cmd": "SETLIST", "path": path, "aclflag": 1, "entries": [new]})
+    browser.press("Save the list")
+    differs("an unknown user is pointed out", browser.sees("nobody-here is no user", "dialog"), True)
+    browser.press("Set it all the same")
+    browser.sees("Somebody changed this list meanwhile", "dialog")
+    differs("their list", browser.sees("Allow the user bob to read it.", "dialog"), True)
+    differs("my list", browser.sees("Allow the user nobody-here to view.", "dialog"), True)
+    browser.press("Take theirs")
+    browser.sees("Allow the user bob to read it.", "summary")
+    differs("theirs stands", [it["who"] for it in club.holds({"cmd": "GETLIST", "path": path})["entries"]][0], "bob")
+    club.holds({"cmd": "SETLIST", "path": path, "aclflag": 1, "entries": []})
+
+
+def stays(club, differs):
+    """After an action the page stands where it stood; an unknown room is told at once."""
+    browser = club.browser
+    club.holds({"cmd": "MKDIR", "path": "/long"})
+    for count in range(60):
+        club.holds({"cmd": "CREATE", "path": f"/long/{count:02}.txt", "data": ""})
+    club.go("#open/club/long")
+    browser.press("Rename 40.txt")
+    top = browser.script("return Math.round(scrollY)")
+    browser.fill("New name", "40 b.txt")
+    browser.press("Rename", "//dialog[@open]")
+    browser.sees("is now /long/40 b.txt")
+    browser.until("at rest", lambda: browser.script(FOCUS).startswith("Rename"))
+    moved = abs(browser.script("return Math.round(scrollY)") - top)
+    differs("it stands where it stood", [top > 100, moved < 80], [True, True])  # (a notice takes a line or two)
+    differs("the focus", browser.script(FOCUS), "Rename 40 b.txt")
+    browser.go(club.address("#open/nowhere/plans"))
+    differs("an unknown room", browser.sees("There is no room nowhere here.", "main"), True)
+    differs("the rooms that are there", browser.sees("club", "main li"), True)
+
+
+def one_vocabulary(club, differs):
+    """The page's words for rights and sets are those of the command."""
+    told = club.browser.ask("POST", "/execute/async", {"script": WORDS, "args": []})
+    ours = sorted([bit, list(dict.fromkeys(words[:2]))] for bit, *words in RIGHTS)
+    differs("words of rights", sorted(told[0]), ours)
+    differs("sets", sorted(map(tuple, told[1])), sorted(it for it in SETS.items() if it[0] != "none"))
+
+
+def log_out(club, differs):
+    """The browser forgets the login: a request of the page is asked for one again."""
+    browser = club.browser
+    club.go("#open/club")
+    ask = ("fetch(new URL('/whoami', location.origin), {signal: AbortSignal.timeout(3000)})"
+           ".then((it) => arguments[0](it.status), () => arguments[0]('waits for a login'))")
+    asked = {"script": ask, "args": []}
+    differs("before", browser.ask("POST", "/execute/async", asked), 200)
+    browser.press("Log out")
+    differs("it is told", browser.sees("You are logged out", "h1"), True)
+    differs("after", browser.ask("POST", "/execute/async", asked), "waits for a login")
+    club.log_in("ann")
+
+
+SCENES = [names, leaving, conflicts, stays, one_vocabulary, log_out]
