@@ -29,15 +29,16 @@ def login(user, password):
 class Front:
     """`users` is each user's password, `rooms` each room's port, `page` the folder that stands at /.
 
-    `rate` is how often a login may ask, as nginx writes it; by itself that of the front's files.
+    `rate` is how often a login may ask, `opens` how often it may open a session, as nginx writes it; by itself those of
+    the front's files.
     """
 
-    def __init__(self, folder, users, rooms, page, **rate):
-        self.folder, self.users, self.page, self.port = folder, users, page, free_port()
+    def __init__(self, folder, users, rooms, page, port=None, **rates):
+        self.folder, self.users, self.page, self.port = folder, users, page, port or free_port()
         with open(os.path.join(folder, "users"), "w") as file:
             file.writelines(f"{user}:{it}\n" for user, it in zip(users, hashed(users.values())))
         words = [os.path.join(FOLDER, "start"), folder, str(self.port), page, *(f"{it}={rooms[it]}" for it in rooms)]
-        env = {**os.environ, "PATH": PATH, **{name.upper(): it for name, it in rate.items()}}
+        env = {**os.environ, "PATH": PATH, **{name.upper(): it for name, it in rates.items()}}
         self.server = subprocess.Popen(words, preexec_fn=end_with_parent, env=env)
         started_here.append(self.server)
         if not wait_for_port(self.port, self.server):

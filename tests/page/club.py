@@ -22,7 +22,7 @@ def start_front(folder, room, users):
     os.makedirs(os.path.join(folder, "rooms"))
     with open(os.path.join(folder, "rooms", "club.users.json"), "w") as file:
         json.dump(users, file)
-    return Front(folder, {user: f"{user}-word" for user in users}, {"club": room.port}, PAGE).port
+    return Front(folder, {user: f"{user}-word" for user in users}, {"club": room.port}, PAGE, opens="100r/s").port
 
 
 class Club:

@@ -1,0 +1,135 @@
+"""What somebody hostile does at the front: a user whom all lists shut out, a stranger without a password."""
+import contextlib
+import os
+import re
+import shutil
+import statistics
+import subprocess
+import threading
+import time
+
+from nginx import FOLDER, login
+from served import Line, message, text_of
+
+OPENS_AT_ONCE, OPENS_A_MINUTE = 30, 6  # of front/fileroom.conf
+WRONG_WAITS = 2  # seconds
+OPEN_AT_ONCE = 16  # requests of one login at one address
+SHUT_OUT = "hal"  # who has opened no session before
+SESSION = "/v1/sessions/" + 32 * "0"
+LOGINS = ("work", "fileroom-logins.log")
+
+
+def status(answer):
+    return answer and answer.status
+
+
+def at_once(count, task):
+    """The results of so many calls that run beside each other."""
+    found = [None] * count
+
+    def put(at):
+        found[at] = task(at)
+    threads = [threading.Thread(target=put, args=(it,), daemon=True) for it in range(count)]
+    for it in threads:
+        it.start()
+    for it in threads:
+        it.join()
+    return found
+
+
+def sessions_without_end(front, room, tally):
+    """A login opens sessions as often as the front lets it, by whatever address and way of writing the target."""
+    begin = time.monotonic()
+    strange = at_once(OPEN_AT_ONCE, lambda _: status(front.once(None, "POST", room + SESSION, b"{}", [
+        login(SHUT_OUT, "no")], "127.0.0.2")))
+    tally.differs("a stranger opens in another's name", set(strange), {401})
+    ways = [room + SESSION, room + "/" + SESSION, room + "/." + SESSION, room + SESSION.replace("s", "%73"),
+            room + "/x/.." + SESSION, "http://a.b" + room + SESSION]
+    passed = 0
+    for at in range(2 * OPENS_AT_ONCE):
+        got = front.once(SHUT_OUT, "POST", ways[at % len(ways)], b"{}", source=f"127.0.0.{1 + at % 4}")
+        tally.differs("OPEN", status(got) in (200, 429), True)
+        passed += status(got) == 200
+    most = OPENS_AT_ONCE + 2 + (time.monotonic() - begin) * OPENS_A_MINUTE / 60
+    tally.differs(f"sessions of one login, {passed} of {2 * OPENS_AT_ONCE}", OPENS_AT_ONCE <= passed <= most, True)
+    tally.differs("CLOSE", status(front.once(SHUT_OUT, "DELETE", room + SESSION)), 200)
+    tally.differs("a request in a session", status(front.once(SHUT_OUT, "POST", room + SESSION + "/slots/0/1")), 200)
+    tally.differs("another login", status(front.once("u02", "POST", room + SESSION)), 200)
+
+
+def timed(front, user, password):
+    begin = time.monotonic()
+    got = front.once(None, "GET", "/whoami", more=[login(user, password)], source="127.0.0.3")
+    return status(got), time.monotonic() - begin
+
+
+def wrong_logins(front, tally):
+    """Each waits, for a name that is there and one that is not; more than 16 at once of a name are not looked at."""
+    there, none = (at_once(OPEN_AT_ONCE - 2, lambda at, it=it: timed(front, it, f"no{at}")) for it in ("u01", "zed"))
+    tally.differs("wrong logins", {it for it, _ in there + none}, {401})
+    tally.differs("each waits", min(seconds for _, seconds in there + none) >= WRONG_WAITS, True)
+    middle = [statistics.median(seconds for _, seconds in it) for it in (there, none)]
+    tally.differs(f"as long for either name: {middle}", abs(middle[0] - middle[1]) < WRONG_WAITS / 4, True)
+    begin = time.monotonic()
+    many = at_once(3 * OPEN_AT_ONCE, lambda at: timed(front, "u01", f"no{at}")[0])
+    rounds = (time.monotonic() - begin) // WRONG_WAITS
+    tally.differs("guesses at once", set(many), {401, 429})
+    tally.differs(f"guesses: {many.count(401)}", many.count(401) <= OPEN_AT_ONCE * max(rounds, 1), True)
+    tally.differs("who guesses right while others guess", timed(front, "u02", front.users["u02"])[0], 200)
+
+
+def wrong_logins_are_told(front, tally):
+    """A line each, of which no name makes another; none of a caller who gives no login, or the right one."""
+    log = os.path.join(front.folder, *LOGINS)
+    before = len(text_of(log).splitlines())
+    names = ["u01", 'a" from 192.0.2.1 as "b',
+             "x wrong login from 192.0.2.1", "\n2026-01-01T00:00:00+00:00 wrong login from 192.0.2.1"]
+    at_once(len(names), lambda at: timed(front, names[at], "no"))
+    for user in None, "u01":
+        front.once(user, "GET", "/whoami")
+    line = Line(front.port, "127.0.0.3")
+    line.send(message(None, "GET", "/whoami", fields=front.fields(None, [login("u01", "not waited for")])))
+    time.sleep(0.5)
+    line.close()
+    time.sleep(0.5)
+    told = text_of(log).splitlines()[before:]
+    form = r'\d{4}-\d\d-\d\dT[0-9:]{8}[+-]\d\d:\d\d wrong login from 127\.0\.0\.3 as "[^"]*"'
+    tally.differs("lines of wrong logins", (len(told), [it for it in told if not re.fullmatch(form, it)]),
+                  (len(names) + 1, []))
+    fail2ban_reads(log, before + len(told), tally)
+
+
+def fail2ban_reads(log, count, tally):
+    """The shipped filter finds each line, where this machine has fail2ban."""
+    if not shutil.which("fail2ban-regex"):
+        print("front: NOT TRIED: fail2ban's filter, since this machine lacks fail2ban")
+        return
+    words = ["fail2ban-regex", "--out", "ip", log, os.path.join(FOLDER, "..", "service", "fail2ban", "filter.conf")]
+    told = subprocess.run(words, capture_output=True, text=True, timeout=60).stdout.split()
+    tally.differs("addresses that fail2ban finds", (len(told), set(told) <= {f"127.0.0.{it}" for it in (1, 2, 3)}),
+                  (count, True))
+
+
+def what_strangers_see(front, tally):
+    """Without a login, or with a wrong one: 401 for each room's name, with or without a slash, there or not."""
+    paths = "/rooms/plans", "/rooms/plans/", "/rooms/none", "/rooms/none/", "/none"
+    wrong = at_once(len(paths), lambda at: status(front.once(None, "GET", paths[at], more=[login("u01", "no")])))
+    for path, found in zip(paths, wrong):
+        got = front.once(None, "GET", path)
+        asked = 'WWW-Authenticate: Basic realm="rooms"' in got.fields
+        tally.differs(f"{path}, no login", (status(got), asked), (401, True))
+        tally.differs(f"{path}, a wrong login", found, 401)
+    for user in None, "u01":
+        fields = [it.lower() for it in front.once(user, "GET", "/").fields]
+        tally.differs("who may show it", "cross-origin-resource-policy: same-origin" in fields, True)
+
+
+def half_a_head(front, tally):
+    """A head that does not end is not waited for longer than the front says."""
+    line = Line(front.port)
+    begin = time.monotonic()
+    line.send(message(None, "GET", "/", fields=front.fields(None))[:-4])
+    with contextlib.suppress(OSError):
+        line.to_end()
+    tally.differs("half a head waits", time.monotonic() - begin < 10, True)
+    line.close()
