@@ -7,6 +7,7 @@ servers and folders with it, when it is stopped, when its parent ends, and when 
 import atexit
 import contextlib
 import ctypes
+import fcntl
 import http
 import json
 import os
@@ -16,6 +17,7 @@ import shutil
 import signal
 import socket
 import sqlite3
+import struct
 import subprocess
 import sys
 import tempfile
@@ -31,6 +33,7 @@ WAIT = 30  # seconds for any one answer
 STOPS = (signal.SIGTERM, signal.SIGINT, signal.SIGHUP, signal.SIGALRM)
 LIBC = ctypes.CDLL(None)
 SET_PDEATHSIG = 1  # of prctl
+SIOCGIFFLAGS, SIOCSIFFLAGS, IFF_UP = 0x8913, 0x8914, 1
 started_here = []
 stopping = threading.Event()  # from then on no server is started
 
@@ -136,6 +139,13 @@ def free_port():
             it.bind(("127.0.0.1", port))
             return port
     sys.exit(f"{SCRIPT}: no port is free")
+
+
+def loopback():
+    """Sets the loopback of this namespace going."""
+    with socket.socket() as it:
+        flags, = struct.unpack_from("16xH", fcntl.ioctl(it, SIOCGIFFLAGS, struct.pack("16s16x", b"lo")))
+        fcntl.ioctl(it, SIOCSIFFLAGS, struct.pack("16sH14x", b"lo", flags | IFF_UP))
 
 
 def listener(port):
