@@ -26,19 +26,29 @@ def login(user, password):
     return "authorization: Basic " + base64.b64encode(f"{user}:{password}".encode()).decode()
 
 
+def certified(folder, *names):
+    """Makes a certificate of its own, with its key, for these names: `DNS:a.b`, `IP:127.0.0.1`."""
+    os.makedirs(folder, exist_ok=True)
+    cert, key = (os.path.join(folder, it) for it in ("cert.pem", "key.pem"))
+    words = ["openssl", "req", "-x509", "-newkey", "rsa:2048", "-nodes", "-days", "2", "-subj", "/CN=a front",
+             "-addext", f"subjectAltName={','.join(names)}", "-keyout", key, "-out", cert]
+    subprocess.run(words, check=True, capture_output=True)
+    return cert, key
+
+
 class Front:
     """`users` is each user's password, `rooms` each room's port, `page` the folder that stands at /.
 
     `rate` is how often a login may ask, `opens` how often it may open a session, as nginx writes it; by itself those of
-    the front's files.
+    the front's files. `http` is a port for who comes without TLS, where the folder has a certificate (`certified`).
     """
 
-    def __init__(self, folder, users, rooms, page, port=None, **rates):
+    def __init__(self, folder, users, rooms, page, port=None, **how):
         self.folder, self.users, self.page, self.port = folder, users, page, port or free_port()
         with open(os.path.join(folder, "users"), "w") as file:
             file.writelines(f"{user}:{it}\n" for user, it in zip(users, hashed(users.values())))
         words = [os.path.join(FOLDER, "start"), folder, str(self.port), page, *(f"{it}={rooms[it]}" for it in rooms)]
-        env = {**os.environ, "PATH": PATH, **{name.upper(): it for name, it in rates.items()}}
+        env = {**os.environ, "PATH": PATH, **{name.upper(): str(it) for name, it in how.items()}}
         self.server = subprocess.Popen(words, preexec_fn=end_with_parent, env=env)
         started_here.append(self.server)
         if not wait_for_port(self.port, self.server):

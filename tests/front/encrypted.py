@@ -1,0 +1,60 @@
+"""The front by TLS, with a certificate of its own: front/tls.conf in the place of listen.conf, and redirect.conf."""
+import contextlib
+import os
+import ssl
+
+from hostile import status
+from nginx import Front, certified, login
+from served import Line, free_port, message
+
+NAME = "room.example"
+
+
+def ask(front, trusted, method, target, *fields):
+    """The answer to one message by TLS, asked by that name."""
+    with contextlib.closing(Line(front.port)) as line:
+        context = ssl.create_default_context(cafile=trusted)
+        line.socket = context.wrap_socket(line.socket, server_hostname=NAME)
+        return line.ask(message(None, method, target, fields=[f"host: {NAME}", *fields]))
+
+
+def in_the_clear(port, *fields):
+    with contextlib.closing(Line(port)) as line:
+        return line.ask(message(None, "GET", "/whoami?a=b", fields=[f"host: {NAME}", *fields]))
+
+
+def by_tls(front, cert, user, tally):
+    right = login(user, front.users[user])
+    got = ask(front, cert, "GET", "/whoami", right)
+    tally.differs("the login by TLS", (status(got), got.body), (200, f'"{user}"\n'.encode()))
+    tally.differs("the next time too", "Strict-Transport-Security: max-age=15768000" in got.fields, True)
+    tally.differs("its policy", any(it.startswith("Content-Security-Policy: ") for it in got.fields), True)
+    for fields in [], [login(user, "no")]:
+        tally.differs(f"{len(fields)} logins, none right", status(ask(front, cert, "GET", "/whoami", *fields)), 401)
+    for origin, want in (f"https://{NAME}", 200), (f"http://{NAME}", 403), ("https://a.b", 403):
+        tally.differs(origin, status(ask(front, cert, "GET", "/whoami", right, f"origin: {origin}")), want)
+    try:
+        found = ask(front, None, "GET", "/whoami", right)
+    except ssl.SSLCertVerificationError:
+        found = "not trusted"
+    tally.differs("who does not trust the certificate", found, "not trusted")
+
+
+def by_http(front, port, user, tally):
+    """Nothing is answered in the clear but the way to https, also to who sends a password."""
+    right = login(user, front.users[user])
+    for fields in [], [right]:
+        got = in_the_clear(port, *fields)
+        way = [it for it in got.fields if it.startswith("Location: ")]
+        tally.differs("http", (status(got), way), (301, [f"Location: https://{NAME}/whoami?a=b"]))
+    tally.differs("http at the port of https", status(in_the_clear(front.port, right)), 400)
+
+
+def tried(other, tally):
+    """A front with the users of another one."""
+    folder = os.path.join(other.folder, "encrypted")
+    cert, _ = certified(os.path.join(folder, "tls"), f"DNS:{NAME}")
+    port = free_port()
+    front = Front(folder, {"u01": other.users["u01"]}, {}, other.page, http=port)
+    by_tls(front, cert, "u01", tally)
+    by_http(front, port, "u01", tally)
