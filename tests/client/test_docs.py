@@ -11,7 +11,6 @@ DOC = os.path.join(HERE, "..", "docs", "CLIENT.md")
 
 class Docs(Desk):
     def test_what_is_shown(self):
-        self.file("notes.txt", b"hi")
         self.file("roster.toml", ROSTER.encode())
         os.symlink(COMMAND, self.path("room"))
         env = self.environment() | {"ROOM_URL": self.url, "ROOM_USER": "ann", "PYTHONDONTWRITEBYTECODE": "1"}
