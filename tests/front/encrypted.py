@@ -18,9 +18,9 @@ def ask(front, trusted, method, target, *fields):
         return line.ask(message(None, method, target, fields=[f"host: {NAME}", *fields]))
 
 
-def in_the_clear(port, *fields):
+def in_the_clear(port, *fields, target="/whoami?a=b"):
     with contextlib.closing(Line(port)) as line:
-        return line.ask(message(None, "GET", "/whoami?a=b", fields=[f"host: {NAME}", *fields]))
+        return line.ask(message(None, "GET", target, fields=[f"host: {NAME}", *fields]))
 
 
 def by_tls(front, cert, user, tally):
@@ -41,12 +41,18 @@ def by_tls(front, cert, user, tally):
 
 
 def by_http(front, port, user, tally):
-    """Nothing is answered in the clear but the way to https, also to who sends a password."""
+    """Nothing is answered in the clear but the way to https, also to who sends a password, and what certbot puts there."""
     right = login(user, front.users[user])
     for fields in [], [right]:
         got = in_the_clear(port, *fields)
         way = [it for it in got.fields if it.startswith("Location: ")]
         tally.differs("http", (status(got), way), (301, [f"Location: https://{NAME}/whoami?a=b"]))
+    proof = os.path.join(front.folder, "www", ".well-known", "acme-challenge")
+    os.makedirs(proof)
+    with open(os.path.join(proof, "x"), "w", encoding="utf-8") as file:
+        file.write("it is mine")
+    got = in_the_clear(port, target="/.well-known/acme-challenge/x")
+    tally.differs("what certbot puts there", (status(got), got.body), (200, b"it is mine"))
     tally.differs("http at the port of https", status(in_the_clear(front.port, right)), 400)
 
 

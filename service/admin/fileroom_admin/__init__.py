@@ -1,0 +1,1 @@
+"""What an administrator does to rooms, users and front: `fileroom-admin`. Python's standard library alone."""

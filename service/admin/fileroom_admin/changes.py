@@ -1,0 +1,223 @@
+"""A change of several files and services, whole or not at all.
+
+The new files are written beside the old ones, and a journal says what is to happen. Then they are renamed into place,
+looked at, and the services take them. A fault undoes all of it. Where the machine or this program stops in the middle,
+the next call reads the journal: up to the mark `decided` it undoes, from there on it goes on, unless it was undoing.
+"""
+import contextlib
+import fcntl
+import grp
+import json
+import os
+import shutil
+import socket
+import stat
+import time
+
+from .places import Fault, asked, said
+
+JOURNAL, LOCK = "etc/fileroom/admin.journal", "etc/fileroom/admin.lock"
+NEW, OLD = ".fileroom-new", ".fileroom-old"
+
+
+def beside(path, end):
+    """(No name that nginx would include.)"""
+    return os.path.join(os.path.dirname(path), f".{os.path.basename(path)}{end}")
+
+
+def forget(path):
+    with contextlib.suppress(FileNotFoundError):
+        os.unlink(path)
+
+
+def keep(path):
+    """Has the disk hold what a folder says."""
+    folder = os.open(os.path.dirname(path), os.O_RDONLY)
+    os.fsync(folder)
+    os.close(folder)
+
+
+def write(path, data, mode, owner):
+    forget(path)
+    with open(path, "wb", opener=lambda name, flags: os.open(name, flags | os.O_EXCL, 0o600)) as file:
+        file.write(data)
+        if owner:
+            os.chown(path, *owner)
+        os.chmod(path, mode)
+        os.fsync(file.fileno())
+
+
+class Change:
+    """What is to become of files and services. `room` is a room's file that is made with it, by its owner and group."""
+
+    def __init__(self, places):
+        self.places = places
+        self.files, self.looks, self.does, self.undoes, self.room = {}, [], [], [], None
+
+    def put(self, path, text, mode=None, group=None):
+        """(A file that is there keeps its mode and owner, unless a mode is given.)"""
+        self.files[path] = text if isinstance(text, bytes) else text.encode(), mode, group
+
+    def remove(self, path):
+        self.files[path] = None, 0, None
+
+    def look(self, *words):
+        """What has to end well once the files are there, before a service reads them."""
+        self.looks.append(words)
+
+    def then(self, *words, undo=None):
+        """A service's part, once the files are there; and what brings back the old state, by itself the same."""
+        self.does.append(words)
+        self.undoes.insert(0, undo or words)
+
+    def happen(self):
+        files = [[path, os.path.exists(path), data is not None] for path, (data, *_) in self.files.items()]
+        for path, was, stays in files:
+            os.makedirs(os.path.dirname(path), exist_ok=True)
+            forget(beside(path, OLD))
+            if was:
+                os.link(path, beside(path, OLD))
+            if stays:
+                self.prepare(path, was)
+        Journal(self.places, {"files": files, "room": self.room, "looks": self.looks, "does": self.does,
+                              "undoes": self.undoes}).play()
+
+    def prepare(self, path, was):
+        data, mode, group = self.files[path]
+        owner = (0, grp.getgrnam(group).gr_gid if group else 0) if self.places.is_machine else None
+        if was and not mode:
+            now = os.stat(path)
+            mode, owner = stat.S_IMODE(now.st_mode), (now.st_uid, now.st_gid)
+        write(beside(path, NEW), data, mode or 0o644, owner)
+
+
+class Journal:
+    def __init__(self, places, says):
+        self.places, self.says, self.path = places, says, places.at(JOURNAL)
+
+    def write(self, state):
+        self.says["state"] = state
+        write(beside(self.path, NEW), json.dumps(self.says).encode(), 0o600, None)
+        os.replace(beside(self.path, NEW), self.path)
+        keep(self.path)
+
+    def play(self):
+        """Does it all, or undoes it and says why."""
+        try:
+            self.write("prepared")
+            for path, _, stays in self.says["files"]:
+                if stays:
+                    os.replace(beside(path, NEW), path)
+                else:
+                    forget(path)
+                keep(path)
+            if self.says["room"]:
+                make_room(self.places, *self.says["room"])
+            for words in self.says["looks"]:
+                asked(*words)
+            self.write("decided")
+            self.finish()
+        except BaseException:
+            self.undo()
+            raise
+
+    def finish(self):
+        for words in self.says["does"]:
+            if words[0] == "listens":
+                wait_until_listens(self.places, int(words[1]))
+            else:
+                asked(*words)
+        self.clear()
+
+    def undo(self):
+        """The files of before, and services that have read them."""
+        was_decided = self.says["state"] in ("decided", "undoing")
+        with contextlib.suppress(OSError):  # (on a full disk too)
+            self.write("undoing" if was_decided else "prepared")
+        if self.says["room"]:
+            unmake_room(self.places, self.says["room"][0], was_decided)
+        for path, was, _ in self.says["files"]:
+            forget(beside(path, NEW))
+            if not was:
+                forget(path)
+            elif os.path.exists(beside(path, OLD)):
+                os.link(beside(path, OLD), beside(path, NEW))
+                os.replace(beside(path, NEW), path)
+        if was_decided:
+            for words in self.says["undoes"]:
+                said(*words)
+        self.clear()
+
+    def clear(self):
+        forget(self.path)
+        keep(self.path)
+        for path, *_ in self.says["files"]:
+            forget(beside(path, OLD))
+            forget(beside(path, NEW))
+
+
+def make_room(places, name, owner, group):
+    state, as_user = places.state(name), ["runuser", "-u", "fileroom", "--"]
+    for folder in os.path.dirname(state), state, places.backups().rstrip("/"):
+        os.makedirs(folder, mode=0o700, exist_ok=True)
+        if places.is_machine:
+            shutil.chown(folder, "fileroom", "fileroom")
+    asked(*as_user, places.program, "init", places.file(name), "--", owner, group)
+
+
+def unmake_room(places, name, may_be_used):
+    """A room that was made takes no part in what stays. One that was served is not removed, but moved aside."""
+    room = places.file(name)
+    for path in room, room + "-wal":
+        if may_be_used and os.path.exists(path):
+            os.replace(path, f"{path}.undone-{int(time.time())}")
+        forget(path)
+
+
+def wait_until_listens(places, port):
+    """A room's program is soon there; on another root than / nothing is started."""
+    end = time.monotonic() + 20
+    while places.is_machine:
+        with socket.socket() as line:
+            if line.connect_ex(("127.0.0.1", port)) == 0:
+                return
+        if time.monotonic() > end:
+            raise Fault(f"nothing listens on the port {port}: journalctl -u 'fileroom@*' says why")
+        time.sleep(0.1)
+
+
+@contextlib.contextmanager
+def alone(places, tell):
+    """One call at a time; and what a call before left in the middle is undone, or goes on, first."""
+    os.makedirs(places.at("etc/fileroom"), exist_ok=True)
+    with open(places.at(LOCK), "w", encoding="utf-8") as lock:
+        fcntl.flock(lock, fcntl.LOCK_EX)
+        recover(places, tell)
+        yield
+
+
+def recover(places, tell):
+    path = places.at(JOURNAL)
+    if os.path.exists(path):
+        with open(path, encoding="utf-8") as file:
+            journal = Journal(places, json.load(file))
+        if journal.says["state"] == "decided":
+            tell("a change that was stopped goes on")
+            try:
+                journal.finish()
+            except Fault:
+                journal.undo()
+                raise
+        else:
+            tell("a change that was stopped is undone")
+            journal.undo()
+    for folder in "etc/fileroom", "etc/nginx/fileroom", "etc/nginx/fileroom/rooms", "etc/nginx/fileroom/tls", \
+            "etc/nginx/conf.d", "etc/nginx/modules-enabled", "etc/nginx":
+        clear_folder(places.at(folder))
+
+
+def clear_folder(folder):
+    """What a call left that was stopped before it wrote its journal."""
+    for name in os.listdir(folder) if os.path.isdir(folder) else []:
+        if name.endswith((NEW, OLD)):
+            forget(os.path.join(folder, name))

@@ -1,0 +1,149 @@
+"""`fileroom-admin check`: what is wrong with a machine, each finding with its remedy."""
+import datetime
+import json
+import os
+import pwd
+import re
+import shutil
+import stat
+
+from . import rosters
+from .changes import JOURNAL
+from .commands import end_of, room_conf
+from .places import FRONT_FILES, LISTEN, SEARCHED, Fault, read, said, sample
+
+PROGRAMS = {"nginx": "nginx-light", "openssl": "openssl", "sqlite3": "sqlite3", "nft": "nftables", "curl": "curl"}
+ROOM_LEFT = 1 << 30  # bytes that a disk should have free, or a tenth of it
+DAYS_LEFT = 21  # of a certificate
+OTHERS = stat.S_IRWXG | stat.S_IRWXO
+FRONT_REMEDY = "fileroom-admin front puts it right"
+
+
+class Findings:
+    def __init__(self, places):
+        self.places, self.found = places, []
+
+    def add(self, text, remedy):
+        self.found.append((text, remedy))
+
+    def part(self, task, *words):
+        """A look that cannot be done is a finding too."""
+        try:
+            task(*words)
+        except (Fault, OSError, ValueError) as fault:
+            self.add(str(fault), "mend what it names")
+
+    def programs(self):
+        for name, package in PROGRAMS.items():
+            if not shutil.which(name, path=SEARCHED):
+                self.add(f"there is no {name}", f"apt-get install {package}")
+        versions = [said(it, "--version")[1].split()[-1:] for it in (self.places.program, "room")]
+        if versions[0] != versions[1]:
+            self.add(f"program and client are of two versions, {versions}", "make install, of one version")
+        if os.path.exists(self.places.at(JOURNAL)):
+            self.add("a change was stopped in its middle", "fileroom-admin user list: the next call ends it")
+
+    def front(self):
+        for name, path in FRONT_FILES.items():
+            if read(self.places.at(path), "") != sample(name):
+                self.add(f"/{path} is not that of the installed program", FRONT_REMEDY)
+        if re.search(r"(?m)^\s*worker_connections 768;", read(self.places.at("etc/nginx/nginx.conf"))):
+            self.add("nginx holds 768 connections a process", FRONT_REMEDY)
+        status, told = said("nginx", "-tq")
+        if status:
+            self.add(f"nginx does not take its files: {told[:200]}", "mend what it names")
+        if sorted(json.loads(read(self.places.front("rooms.json")))) != self.places.rooms():
+            self.add("rooms.json names other rooms than /etc/fileroom has", FRONT_REMEDY)
+        self.listening(read(self.places.at(LISTEN)))
+
+    def listening(self, text):
+        clear = [it for it in re.findall(r"(?m)^\s*listen (.*);", text) if " ssl" not in it]
+        outside = [it for it in clear if not it.startswith(("127.", "[::1]", "unix:"))]
+        for it in outside:
+            self.add(f"the front listens in the clear for other machines ({it})", "fileroom-admin tls CERT KEY")
+        if " ssl" in text:
+            cert = self.places.front("tls/cert.pem")
+            if said("openssl", "x509", "-noout", "-checkend", str(DAYS_LEFT * 86400), "-in", cert)[0]:
+                self.add(f"the certificate ends: {end_of(cert)}", "fileroom-admin tls, with a new one")
+            self.mode(self.places.front("tls/key.pem"), OTHERS, "chmod 600")
+
+    def passwords(self):
+        users = self.places.front("users")
+        self.mode(users, stat.S_IRWXO | stat.S_IWGRP, "chown root:www-data, chmod 640")
+        known = {user for room in self.places.rooms() for user in self.users(room)}
+        for it in sorted({*rosters.logins_of(read(users))} - known):
+            self.add(f"{it} has a login, and is in no roster", f"fileroom-admin user add ROOM {it}")
+
+    def mode(self, path, not_these, remedy):
+        if stat.S_IMODE(os.stat(path).st_mode) & not_these:
+            self.add(f"{path} is open to too many", f"{remedy} {path}")
+
+    def users(self, room):
+        return rosters.users_of(read(self.places.roster(room)), self.places.roster(room))
+
+    def room(self, room):
+        places = self.places
+        self.mode(places.roster(room), stat.S_IWGRP | stat.S_IWOTH, "chmod go-w")
+        if read(places.front(f"rooms/{room}.users.json"), "") != rosters.page_copy(read(places.roster(room))):
+            self.add(f"{room}: the page has another roster than the room", FRONT_REMEDY)
+        if read(places.front(f"rooms/{room}.conf"), "") != room_conf(room, places.port(room)):
+            self.add(f"{room}: its place in the front is not as it should be", FRONT_REMEDY)
+        same = [it for it in places.rooms() if it != room and places.port(it) == places.port(room)]
+        if same:
+            self.add(f"{room} has the port of {same[0]}", f"another PORT in {places.env(room)}")
+        self.mode(places.state(room), OTHERS, "chmod 700")
+        self.owner(places.file(room))
+        for unit in f"fileroom@{room}", f"fileroom-backup@{room}.timer":
+            if said("systemctl", "is-active", "-q", unit)[0]:
+                self.add(f"{unit} does not run", f"systemctl enable --now {unit}; journalctl -u {unit} says why not")
+        self.wall(room)
+
+    def owner(self, path):
+        if not self.places.is_machine:
+            return
+        owner = pwd.getpwuid(os.stat(path).st_uid).pw_name
+        if owner != "fileroom":
+            self.add(f"{path} is {owner}'s", f"chown fileroom:fileroom {path}")
+
+    def wall(self, room):
+        told = said("nft", "list", "set", "inet", "fileroom", "rooms")[1]
+        if str(self.places.port(room)) not in re.findall(r"\d+", told):
+            self.add(f"{room}: users of this machine reach its port past the front",
+                     "systemctl enable fileroom-ports; systemctl restart fileroom-ports")
+
+    def backup(self, room, hours):
+        folder = self.places.backups(room)
+        names = [it for it in (os.listdir(folder) if os.path.isdir(folder) else []) if it.endswith("Z")]
+        if not names:
+            self.add(f"{room} has no backup", f"systemctl start fileroom-backup@{room}")
+            return
+        made = datetime.datetime.strptime(max(names), "%Y-%m-%dT%H-%M-%SZ").replace(tzinfo=datetime.timezone.utc)
+        age = datetime.datetime.now(datetime.timezone.utc) - made
+        if age > datetime.timedelta(hours=hours):
+            self.add(f"{room}: the latest backup is {age.total_seconds() / 3600:.0f} hours old",
+                     f"journalctl -u fileroom-backup@{room} says why")
+
+    def disk(self, folder):
+        if os.path.isdir(folder):
+            it = shutil.disk_usage(folder)
+            if it.free < min(ROOM_LEFT, it.total / 10):
+                self.add(f"the disk of {folder} has {it.free >> 20} MiB free", "take away what is not needed")
+
+
+def check(places, hours, say):
+    """Says each finding, or that there is none. The exit status."""
+    it = Findings(places)
+    for task in it.programs, it.front, it.passwords:
+        it.part(task)
+    if not places.rooms():
+        it.add("there is no room", "fileroom-admin room add NAME OWNER GROUP")
+    for room in places.rooms():
+        it.part(it.room, room)
+        it.part(it.backup, room, hours)
+    for folder in places.at("var/lib/fileroom"), places.backups().rstrip("/"):
+        it.part(it.disk, folder)
+    for text, remedy in it.found:
+        say(f"{text}\n    {remedy}")
+    if not it.found:
+        say(f"nothing is wrong that was looked at; rooms: {', '.join(places.rooms())}")
+    return 1 if it.found else 0

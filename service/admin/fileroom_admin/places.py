@@ -1,0 +1,101 @@
+"""Where everything lies on a machine, below a root, and how its programs are asked."""
+import os
+import subprocess
+
+HERE = os.path.dirname(os.path.abspath(__file__))
+SEARCHED = os.pathsep.join([os.environ.get("PATH", ""), "/usr/local/bin", "/usr/sbin"])
+FRONT_FILES = {  # of the front's samples: where each goes
+    "fileroom.conf": "etc/nginx/conf.d/fileroom.conf",
+    "proxy.conf": "etc/nginx/fileroom/proxy.conf",
+    "worker.conf": "etc/nginx/modules-enabled/60-fileroom.conf",
+}
+LISTEN = "etc/nginx/fileroom/listen.conf"
+REDIRECT = "etc/nginx/conf.d/fileroom-redirect.conf"
+
+
+class Fault(Exception):
+    """What is wrong, in a line for who called."""
+
+
+def said(*words, stdin=""):
+    """The status of a program, and all that it says."""
+    env = {**os.environ, "PATH": SEARCHED, "LC_ALL": "C"}
+    try:
+        done = subprocess.run(words, input=stdin, capture_output=True, text=True, env=env, cwd="/", timeout=120)
+    except FileNotFoundError:
+        return 127, f"there is no {words[0]}"
+    except subprocess.TimeoutExpired:
+        return 124, f"{words[0]} took longer than two minutes"
+    return done.returncode, (done.stdout + done.stderr).strip()
+
+
+def asked(*words, stdin=""):
+    """What a program says that is to end well."""
+    status, told = said(*words, stdin=stdin)
+    if status:
+        raise Fault(f"{' '.join(words[:4])}: {told[:300] or f'status {status}'}")
+    return told
+
+
+class Places:
+    """A machine whose root is this folder: another one than / is for a test, and no owners are set there."""
+
+    def __init__(self, root="/"):
+        self.root = os.path.abspath(root)
+        self.is_machine = self.root == "/"
+        self.program = "fileroom" if self.is_machine else os.environ.get("FILEROOM", "fileroom")
+
+    def at(self, path):
+        return os.path.join(self.root, path)
+
+    def roster(self, room):
+        return self.at(f"etc/fileroom/{room}.toml")
+
+    def env(self, room):
+        return self.at(f"etc/fileroom/{room}.env")
+
+    def state(self, room):
+        return self.at(f"var/lib/fileroom/{room}")
+
+    def file(self, room):
+        return os.path.join(self.state(room), "room.db")
+
+    def backups(self, room=""):
+        return self.at(os.path.join("var/backups/fileroom", room))
+
+    def front(self, name):
+        return self.at(f"etc/nginx/fileroom/{name}")
+
+    def rooms(self):
+        """The rooms' names, by the files that their units read."""
+        folder = self.at("etc/fileroom")
+        names = os.listdir(folder) if os.path.isdir(folder) else []
+        return sorted(it.removesuffix(".env") for it in names if it.endswith(".env"))
+
+    def port(self, room):
+        for line in read(self.env(room)).splitlines():
+            name, _, value = line.partition("=")
+            if name == "PORT" and value.isdecimal():
+                return int(value)
+        raise Fault(f"{self.env(room)} has no line PORT=NUMBER")
+
+
+def sample(name):
+    """A file of the front as it was installed, or as the checkout has it."""
+    for folder in "../../../doc/fileroom/front", "../../../front":
+        path = os.path.join(HERE, folder, name)
+        if os.path.exists(path):
+            return read(path)
+    raise Fault(f"the front's file {name} is not installed")
+
+
+def read(path, default=None):
+    try:
+        with open(path, encoding="utf-8") as file:
+            return file.read()
+    except FileNotFoundError:
+        if default is None:
+            raise Fault(f"there is no {path}") from None
+        return default
+    except (OSError, UnicodeDecodeError) as fault:
+        raise Fault(f"{path} cannot be read: {fault}") from None

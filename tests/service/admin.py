@@ -1,0 +1,308 @@
+"""`fileroom-admin` below a root of its own: each change whole or not at all, also where it stops at any step.
+
+What stands for systemctl, nft and runuser writes down what it is asked; nginx looks at the very files, moved; program
+and openssl are the machine's.
+"""
+import json
+import os
+import shutil
+import subprocess
+import sys
+
+from nginx import PATH, certified
+from served import HERE, PROGRAM, Tally, text_of
+
+ADMIN = os.path.join(HERE, "..", "service", "admin", "fileroom-admin")
+NGINX = """user www-data;
+include /etc/nginx/modules-enabled/*.conf;
+events {
+    worker_connections 768;
+}
+http {
+    include /etc/nginx/conf.d/*.conf;
+}
+"""
+TOLD = 'echo "$(basename "$0") $*" >>"$ROOT/../told"\n'
+STAND_INS = {
+    "systemctl": TOLD + '[ ! -e "$ROOT/../broken" ] || ! grep -q -- "$2" "$ROOT/../broken"',
+    "runuser": 'shift 3; exec "$@"',
+    "nft": TOLD + 'echo "elements = { 8001, 8002, 8003 }"',
+    "room": 'exec "$FILEROOM" --version',
+    # (the same files, with the root's folders in the place of the machine's)
+    "nginx": """set -e
+at=$(mktemp -d); trap 'rm -r "$at"' EXIT
+cp -r "$ROOT/etc/nginx" "$at/nginx"
+find "$at/nginx" -name '*.conf' -exec sed -i "s,/etc/nginx,$at/nginx,g; s,/var/log/nginx,$at,; /^user /d" {} +
+PATH=$PATH:/usr/sbin; for it in $(which -a nginx); do [ "$it" = "$0" ] || break; done
+"$it" -tq -e "$at/errors" -g "pid $at/pid;" -c "$at/nginx/nginx.conf" """,
+}
+
+
+class Machine:
+    """A root with what Debian's nginx has there, and the stand-ins."""
+
+    def __init__(self, folder):
+        self.folder, self.root, self.tools = folder, os.path.join(folder, "root"), os.path.join(folder, "tools")
+        for it in "etc/nginx/conf.d", "etc/nginx/modules-enabled", "var/log/nginx":
+            os.makedirs(self.at(it))
+        self.write("etc/nginx/nginx.conf", NGINX)
+        os.mkdir(self.tools)
+        for name, text in STAND_INS.items():
+            path = os.path.join(self.tools, name)
+            with open(path, "w", encoding="utf-8") as file:
+                file.write(f"#!/bin/bash\n{text}\n")
+            os.chmod(path, 0o755)
+        self.env = {**os.environ, "PATH": f"{self.tools}:{PATH}", "ROOT": self.root, "FILEROOM": PROGRAM}
+
+    def at(self, path):
+        return os.path.join(self.root, path)
+
+    def write(self, path, text):
+        with open(self.at(path), "w", encoding="utf-8") as file:
+            file.write(text)
+
+    def does(self, *words, stdin="", first=()):
+        """Status, what is said, and what is told as a fault."""
+        line = [sys.executable, "-B", *(first or [ADMIN]), "--root", self.root, *words]
+        done = subprocess.run(line, input=stdin, capture_output=True, text=True, env=self.env, timeout=60)
+        return done.returncode, done.stdout, done.stderr
+
+    def told(self):
+        """What the stand-ins were asked since the last time."""
+        path = os.path.join(self.folder, "told")
+        lines = text_of(path).splitlines() if os.path.exists(path) else []
+        with open(path, "w", encoding="utf-8"):
+            pass
+        return lines
+
+    def breaks(self, what):
+        """From now on systemctl fails where its second word has this."""
+        with open(os.path.join(self.folder, "broken"), "w", encoding="utf-8") as file:
+            file.write(what)
+
+    def mended(self):
+        os.remove(os.path.join(self.folder, "broken"))
+
+    def files(self):
+        """Each file below the root but the lock, a room's log and hashes, which have salt: its mode and text."""
+        found = {}
+        for folder, _, names in os.walk(self.root):
+            for name in names:
+                path = os.path.join(folder, name)
+                if name.startswith("room.db-") or ".undone-" in name or name == "admin.lock":
+                    continue
+                text = "a room" if name == "room.db" else text_of(path)
+                if name == "users":
+                    text = "".join(f"{it.partition(':')[0]}\n" for it in text.splitlines())
+                found[os.path.relpath(path, self.root)] = oct(os.stat(path).st_mode), text
+        return found
+
+
+def a_room(machine, tally):
+    status, said, faults = machine.does("room", "add", "plans", "ann", "eng")
+    tally.differs("room add", (status, faults), (0, ""))
+    word = said.splitlines()[-1].removeprefix("the password of ann: ")
+    tally.differs("a password of 16 letters", len(word), 16)
+    for path, want in (
+            ("etc/fileroom/plans.toml", '[users]\nann = ["eng"]\n'), ("etc/fileroom/plans.env", "PORT=8001\n"),
+            ("etc/nginx/fileroom/rooms.json", '["plans"]\n'),
+            ("etc/nginx/fileroom/rooms/plans.users.json", '{"ann": ["eng"]}\n')):
+        tally.differs(path, text_of(machine.at(path)), want)
+    tally.differs("more connections", "worker_connections 4096;" in text_of(machine.at("etc/nginx/nginx.conf")), True)
+    tally.differs("the passwords' mode", os.stat(machine.at("etc/nginx/fileroom/users")).st_mode & 0o777, 0o640)
+    tally.differs("a room", os.path.exists(machine.at("var/lib/fileroom/plans/room.db")), True)
+    tally.differs("what the services are asked", machine.told(), [f"systemctl {it}" for it in (
+        "daemon-reload", "enable fileroom-ports", "restart fileroom-ports", "enable --now fileroom@plans",
+        "enable --now fileroom-backup@plans.timer", "reload-or-restart nginx")])
+    tally.differs("the login", fits(machine, "ann", word), True)
+    tally.differs("once more", machine.does("room", "add", "plans", "ann", "eng")[0], 1)
+    tally.differs("the next port", (machine.does("room", "add", "club", "ann", "eng")[0],
+                                    text_of(machine.at("etc/fileroom/club.env"))), (0, "PORT=8002\n"))
+    for words in (["../x", "ann", "eng"], ["x", "a b", "eng"], ["x", "ann", ""], ["x", "ann", "eng", "--port", "8001"]):
+        before = machine.files()
+        tally.differs(f"room add {words}", (machine.does("room", "add", *words)[0], machine.files() == before), (1, True))
+
+
+def fits(machine, user, word):
+    """Whether a password is that of the front's line."""
+    line = next(it for it in text_of(machine.at("etc/nginx/fileroom/users")).splitlines() if it.startswith(f"{user}:"))
+    _, _, salt, _ = line.split(":", 1)[1].split("$")
+    words = ["openssl", "passwd", "-apr1", "-salt", salt, "-stdin"]
+    done = subprocess.run(words, input=word, capture_output=True, text=True)
+    return f"{user}:{done.stdout.strip()}" == line
+
+
+def users(machine, tally):
+    """Roster, the page's copy, and logins go together; the roster's other lines stay."""
+    roster = machine.at("etc/fileroom/plans.toml")
+    machine.write("etc/fileroom/plans.toml", '# who is here\n[users]\nann = ["eng"]  # since 2020\n"b.c" = []\n')
+    machine.told()
+    status, said, faults = machine.does("-q", "user", "add", "plans", "bob", "eng", "staff")
+    tally.differs("user add", (status, faults, fits(machine, "bob", said.strip())), (0, "", True))
+    tally.differs("the roster", text_of(roster),
+                  '# who is here\n[users]\nann = ["eng"]  # since 2020\n"b.c" = []\nbob = ["eng", "staff"]\n')
+    tally.differs("the page's", json.loads(text_of(machine.at("etc/nginx/fileroom/rooms/plans.users.json"))),
+                  {"ann": ["eng"], "b.c": [], "bob": ["eng", "staff"]})
+    tally.differs("the room reads it", machine.told(), ["systemctl try-restart fileroom@plans"])
+    machine.does("user", "groups", "plans", "b.c", "eng")
+    machine.does("user", "groups", "plans", "bob")
+    tally.differs("other groups", text_of(roster),
+                  '# who is here\n[users]\nann = ["eng"]  # since 2020\n"b.c" = ["eng"]\nbob = []\n')
+    for word, want in ("long enough it is", 0), ("short", 1):
+        status, _, _ = machine.does("user", "passwd", "bob", "--stdin", stdin=f"{word}\n")
+        tally.differs(f"passwd of {word}", (status, fits(machine, "bob", word)), (want, want == 0))
+    tally.differs("the list", machine.does("user", "list", "plans")[1], "plans  ann  eng  login\n"
+                  "plans  b.c  eng  no login\nplans  bob  -  login\n")
+    tally.differs("user remove", machine.does("user", "remove", "plans", "bob")[0], 0)
+    tally.differs("whose login is gone", "bob:" in text_of(machine.at("etc/nginx/fileroom/users")), False)
+    machine.does("user", "remove", "plans", "ann")
+    tally.differs("whose login another room wants", "ann:" in text_of(machine.at("etc/nginx/fileroom/users")), True)
+    machine.does("user", "add", "plans", "ann", "eng")
+    before = machine.files()
+    for words in ("user add plans ann", "user add none bob", "user add plans a:b", "user add plans bob x/y",
+                  "user remove plans zed", "user groups plans zed eng", "user passwd zed",
+                  "user add plans bob " + " ".join(f"g{it}" for it in range(17))):
+        tally.differs(words, (machine.does(*words.split())[0], machine.files() == before), (1, True))
+    machine.write("etc/fileroom/club.toml", '[users]\n# many\nann = [\n    "eng",\n]\n')
+    machine.does("user", "groups", "club", "ann", "staff")
+    tally.differs("a roster of another form", text_of(machine.at("etc/fileroom/club.toml")), '[users]\nann = ["staff"]\n')
+
+
+def faults_undo(machine, tally):
+    """What a service, nginx or the room refuses leaves all as it was."""
+    for what, words in ("nginx", "room add new ann eng"), ("fileroom@plans", "user add plans kim eng"):
+        machine.breaks(what)
+        before = machine.files()
+        status, _, faults = machine.does(*words.split())
+        machine.mended()
+        tally.differs(f"{words}: {faults}", (status, machine.files() == before), (1, True))
+    aside = sorted(it.rpartition("-")[0] for it in os.listdir(machine.at("var/lib/fileroom/new")))
+    tally.differs("a room that was served is kept aside", aside, ["room.db-wal.undone", "room.db.undone"])
+    machine.write("etc/nginx/conf.d/other.conf", "no such word;\n")
+    before = machine.files()
+    tally.differs("another site is broken", (machine.does("room", "add", "newer", "ann", "eng")[0],
+                                             machine.files() == before), (1, True))
+    tally.differs("a room that was not served", os.listdir(machine.at("var/lib/fileroom/newer")), [])
+    os.remove(machine.at("etc/nginx/conf.d/other.conf"))
+
+
+STOPPED = """
+import os, subprocess, sys
+left = [int(sys.argv.pop(1))]
+def counted(task):
+    def one(*words, **how):
+        left[0] -= 1
+        if left[0] < 0:
+            os._exit(9)
+        return task(*words, **how)
+    return one
+for name in "replace", "unlink", "link", "fsync", "chmod":
+    setattr(os, name, counted(getattr(os, name)))
+subprocess.run = counted(subprocess.run)
+sys.path.insert(0, sys.argv.pop(1))
+sys.dont_write_bytecode = True
+from fileroom_admin.command import main
+sys.exit(main(sys.argv[1:]))
+"""
+
+
+def stops(machine, words, tally):
+    """A call that is killed at each of its steps in turn: after the next call all is as before it, or as after it."""
+    saved, outcomes = os.path.join(machine.folder, "saved"), set()
+    shutil.copytree(machine.root, saved, symlinks=True)
+    before = machine.files()
+    machine.does(*words)
+    after = machine.files()
+    for at in range(1000):
+        shutil.rmtree(machine.root)
+        shutil.copytree(saved, machine.root, symlinks=True)
+        status = machine.does(*words, first=["-c", STOPPED, str(at), os.path.dirname(ADMIN)])[0]
+        tally.differs(f"{words}, stopped at {at}", status in (0, 9), True)
+        next_call = machine.does("user", "list")
+        found = machine.files()
+        tally.differs(f"the next call, {words} stopped at {at}: {next_call[2]}",
+                      (next_call[0], found in (before, after)), (0, True))
+        outcomes.add("before" if found == before else "after")
+        if status == 0:
+            break
+    tally.differs(f"{words}: undone, and gone on", outcomes, {"before", "after"})
+    shutil.rmtree(saved)
+    return at
+
+
+def certificate(machine, tally):
+    folder = os.path.join(machine.folder, "tls")
+    cert, key = certified(folder, "DNS:room.example", "DNS:www.room.example", "IP:127.0.0.1")
+    other, _ = certified(os.path.join(folder, "other"), "IP:127.0.0.1")
+    before = machine.files()
+    for words in (other, key), (cert, cert), (key, key), (cert, os.path.join(folder, "none")):
+        tally.differs(f"tls {words}", (machine.does("tls", *words)[0], machine.files() == before), (1, True))
+    status, said, faults = machine.does("tls", cert, key)
+    told = said.startswith("the front listens by https, as room.example www.room.example, until ")
+    tally.differs(f"tls: {faults}", (status, told), (0, True))
+    tally.differs("the key's mode", os.stat(machine.at("etc/nginx/fileroom/tls/key.pem")).st_mode & 0o777, 0o600)
+    tally.differs("the way to https", "server_name room.example www.room.example;" in text_of(
+        machine.at("etc/nginx/conf.d/fileroom-redirect.conf")), True)
+
+
+def looked_at(machine, tally):
+    """A finding for each thing that is put wrong, and none where nothing is."""
+    machine.does("front")
+    for room in "club", "more", "plans":
+        folder = machine.at(f"var/backups/fileroom/{room}")
+        os.makedirs(os.path.join(folder, "2999-01-01T00-00-00Z"))
+    cert = machine.at("etc/nginx/fileroom/tls/cert.pem")
+    listed = machine.does("check")
+    # (the certificate is of two days)
+    tally.differs("check", (listed[0], listed[1].splitlines()[0][:20], len(listed[1].splitlines())),
+                  (1, "the certificate ends", 2))
+    key = machine.at("etc/nginx/fileroom/tls/key.pem")
+    words = ["openssl", "req", "-x509", "-key", key, "-days", "90", "-subj", "/CN=x", "-out", cert]
+    subprocess.run(words, check=True, capture_output=True)
+    tally.differs("nothing is wrong", machine.does("check")[:2],
+                  (0, "nothing is wrong that was looked at; rooms: club, more, plans\n"))
+    put_wrong = {
+        "the page has another roster": lambda: machine.write("etc/fileroom/club.toml", "[users]\nann = []\n"),
+        "not that of the installed program": lambda: machine.write("etc/nginx/fileroom/proxy.conf", "\n"),
+        "has a login, and is in no roster": lambda: machine.write(
+            "etc/nginx/fileroom/users", text_of(machine.at("etc/nginx/fileroom/users")) + "zed:x\n"),
+        "key.pem is open to too many": lambda: os.chmod(machine.at("etc/nginx/fileroom/tls/key.pem"), 0o644),
+        "users is open to too many": lambda: os.chmod(machine.at("etc/nginx/fileroom/users"), 0o644),
+        "plans is open to too many": lambda: os.chmod(machine.at("var/lib/fileroom/plans"), 0o755),
+        "in the clear": lambda: machine.write("etc/nginx/fileroom/listen.conf", "listen 8080;\n"),
+        "has no backup": lambda: shutil.rmtree(machine.at("var/backups/fileroom/club")),
+        "hours old": lambda: os.rename(machine.at("var/backups/fileroom/club/2999-01-01T00-00-00Z"),
+                                       machine.at("var/backups/fileroom/club/2020-01-01T00-00-00Z")),
+        "does not run": lambda: machine.breaks("-q"),
+        "reach its port": lambda: machine.write("etc/fileroom/club.env", "PORT=8004\n"),
+        "rooms.json names other rooms": lambda: machine.write("etc/nginx/fileroom/rooms.json", "[]\n"),
+        "768": lambda: machine.write("etc/nginx/nginx.conf", NGINX),
+    }
+    for what, task in put_wrong.items():
+        saved = os.path.join(machine.folder, "saved")
+        shutil.copytree(machine.root, saved, symlinks=True)
+        task()
+        status, said, _ = machine.does("check")
+        tally.differs(f"check: {what}", (status, what in said, said.count("\n    ") >= 1), (1, True, True))
+        shutil.rmtree(machine.root)
+        os.rename(saved, machine.root)
+    machine.mended()
+
+
+def tried(folder, tally):
+    machine = Machine(folder)
+    a_room(machine, tally)
+    users(machine, tally)
+    faults_undo(machine, tally)
+    certificate(machine, tally)
+    steps = [stops(machine, it.split(), tally) for it in ("user add plans kim eng", "room add more ann eng")]
+    looked_at(machine, tally)
+    print(f"service: fileroom-admin, stopped at each of {sum(steps)} steps")
+
+
+if __name__ == "__main__":
+    import tempfile
+    counts = Tally()
+    with tempfile.TemporaryDirectory() as made:
+        tried(made, counts)
+    counts.end()
