@@ -21,19 +21,12 @@ export async function makeFolder(app, folder) {
 }
 
 export async function makeDocument(app, folder) {
-  const [name, text, file] = [input(), area(), make("input", { type: "file" })];
-  file.onchange = () => {
-    name.value ||= file.files[0]?.name ?? "";
-  };
+  const [name, text] = [input(), area()];
   const isDone = await ask({ title: "New document", does: "Make",
-    fields: { name: { label: "Name", field: name }, text: { label: "Text", field: text },
-      file: { label: "or a file of yours, in place of the text", field: file } },
+    fields: { name: { label: "Name", field: name }, text: { label: "Text", field: text } },
     faultOf: () => nameFault(clean(name.value)) || tooLong(fromText(text.value)),
-    task: async () => {
-      const bytes = file.files[0] ? new Uint8Array(await file.files[0].arrayBuffer()) : fromText(text.value);
-      if (tooLong(bytes)) throw new Error(tooLong(bytes));
-      await app.room.run("CREATE", inFolder(folder, clean(name.value)), { data: toBase64(bytes) });
-    } });
+    task: () => app.room.run("CREATE", inFolder(folder, clean(name.value)), { data: toBase64(fromText(text.value)) }),
+  });
   if (isDone) await app.done(`Document ${shown(clean(name.value))} is made.`);
 }
 
@@ -109,15 +102,4 @@ export async function rename(app, path) {
     faultOf: () => (to.value.startsWith("/") ? pathFault(target()) : nameFault(clean(to.value))),
     task: () => app.room.run("RENAME", path, { to: target() }) });
   if (isDone) await app.done(`${shown(path)} is now ${shown(target())}.`, { from: path, to: target() });
-}
-
-export async function remove(app, path) {
-  const isDone = await ask({ title: `Remove ${shown(lastName(path))}`, does: "Remove",
-    words: make("p", {}, "It cannot be brought back. A folder must be empty."),
-    task: () => app.room.run("REMOVE", path) });
-  if (isDone) await app.done(`${shown(path)} is removed.`, { from: path, to: folderOf(path) });
-}
-
-export async function read(room, path) {
-  return fromBase64((await room.run("READ", path)).data);
 }

@@ -4,7 +4,9 @@ import { forDisk } from "./names.js";
 export const MOST_BYTES = 65_536;
 const STRETCH = 8_192; // bytes that are one call's arguments
 
+/** (Browsers of before 2025 have no form of their own.) */
 export function toBase64(bytes) {
+  if (bytes.toBase64) return bytes.toBase64();
   let letters = "";
   for (let at = 0; at < bytes.length; at += STRETCH) {
     letters += String.fromCharCode(...bytes.subarray(at, at + STRETCH));
@@ -13,6 +15,7 @@ export function toBase64(bytes) {
 }
 
 export function fromBase64(text) {
+  if (Uint8Array.fromBase64) return Uint8Array.fromBase64(text);
   return Uint8Array.from(atob(text), (it) => it.charCodeAt(0));
 }
 

@@ -1,14 +1,23 @@
 /** The view of what is in a folder, or of a document. */
 import * as actions from "./actions.js";
-import { save, toText } from "./bytes.js";
+import { fromBase64, toText } from "./bytes.js";
 import { Refusal } from "./codes.js";
-import { button, link, make, nameText } from "./dom.js";
+import { button, link, make } from "./dom.js";
+import { manifestAt, readFile } from "./files.js";
 import { head } from "./heads.js";
+import { isPart } from "./manifest.js";
 import { shown } from "./names.js";
-import { ROOT, addressOf, inFolder, lastName } from "./places.js";
-import { FOLDER } from "./rights.js";
+import { ADD_FILE, ADD_FOLDER, READ, offersFor, rightsAt, textOffers } from "./offers.js";
+import { addressOf, lastName } from "./places.js";
+import { preview } from "./preview.js";
+import { FILE, FOLDER } from "./rights.js";
+import { things } from "./things.js";
+import { sizeWords } from "./transfers.js";
+import { kindBy } from "./trees.js";
+import { dropped, filesButton, upload } from "./uploads.js";
 
 const ACCESS = 5;
+const PREVIEWED = 2 ** 22; // bytes of a large file that are read to be shown without being asked for
 
 /** What the task gives, or the refusal of a right on this very object: then the rest of the view is still of use. */
 async function orRefused(task, path) {
@@ -20,65 +29,98 @@ async function orRefused(task, path) {
   }
 }
 
-function tools(...buttons) {
-  return make("p", { className: "tools" }, ...buttons);
-}
-
-function changes(app, path) {
-  if (path === ROOT) return [];
-  return [button("Rename", () => actions.rename(app, path)), button("Remove", () => actions.remove(app, path))];
-}
+const tools = (...buttons) => make("p", { className: "tools" }, ...buttons);
 
 function about(stat, size) {
   return make("p", { className: "about" }, stat.owner ? `${size}, owner ${stat.owner}, group ${stat.group}` : size);
 }
 
-function row(app, place, [name, kind]) {
-  const path = inFolder(place.path, name);
-  const word = kind === FOLDER ? "folder" : "document";
-  const buttons = changes(app, path);
-  for (const it of buttons) it.setAttribute("aria-label", `${it.textContent} ${shown(name)}`);
-  return make("tr", {},
-    make("th", { scope: "row" }, link(addressOf({ room: place.room, path }), nameText(name))),
-    make("td", {}, word), make("td", { className: "tools" }, ...buttons));
+/** Takes what is dropped on the element. */
+function takeDrops(app, folder, element) {
+  element.classList.add("drops");
+  element.ondragover = (event) => {
+    if (![...event.dataTransfer.types].includes("Files")) return;
+    event.preventDefault();
+    element.classList.add("dropping");
+  };
+  element.ondragleave = (event) => element.contains(event.relatedTarget) || element.classList.remove("dropping");
+  element.ondrop = async (event) => {
+    event.preventDefault();
+    element.classList.remove("dropping");
+    const chosen = await dropped(event.dataTransfer).catch((fault) => app.say(fault.message, false));
+    if (chosen) await upload(app, folder, chosen);
+  };
 }
 
-function things(app, place, names) {
-  if (names.length === 0) return make("p", {}, "Nothing is in this folder.");
-  const sorted = [...names.filter(([, kind]) => kind === FOLDER), ...names.filter(([, kind]) => kind !== FOLDER)];
-  return make("table", { className: "things" }, make("caption", { className: "unseen" }, "What is in this folder"),
-    make("tbody", {}, ...sorted.map((it) => row(app, place, it))));
+function makers(app, path, own) {
+  const put = (chosen) => upload(app, path, chosen);
+  const does = [
+    [own & ADD_FOLDER, () => button("New folder", () => actions.makeFolder(app, path))],
+    [own & ADD_FILE, () => button("New document", () => actions.makeDocument(app, path))],
+    [own & ADD_FILE, () => filesButton("Upload files", {}, put)],
+    [own & ADD_FILE && own & ADD_FOLDER, () => filesButton("Upload a folder", { isFolder: true }, put)],
+  ];
+  return does.filter(([isOffered]) => isOffered).map(([, it]) => it());
 }
 
-async function folder(app, place, stat) {
-  const found = await orRefused(app.room.run("LIST", place.path), place.path);
-  const shown = found instanceof Refusal ? make("p", { className: "fault" }, found.message)
-    : things(app, place, found.names);
-  return [
-    tools(button("New folder", () => actions.makeFolder(app, place.path)),
-      button("New document", () => actions.makeDocument(app, place.path)), ...changes(app, place.path)),
-    about(stat, found.names ? `${found.names.length} in it` : "folder"), shown];
+/** What stopped replacements of documents left in a folder. */
+function leftWords(names) {
+  const count = names.filter(([name]) => isPart(name)).length;
+  const words = "Something is left here of a large file that was to take a document's place, and was stopped: " +
+    "upload that file again, by the same name.";
+  return count ? [make("p", { className: "fault" }, words)] : [];
 }
 
-function shownBytes(bytes, text) {
-  if (text === null) return make("p", {}, `This is no text that can be shown. Download it to look at its bytes.`);
-  return text === "" ? make("p", {}, "This document is empty.") : make("pre", { tabIndex: 0 }, text);
+function folder(app, place, stat, rights, found) {
+  const search = link(addressOf({ ...place, view: "find" }), "Search");
+  const bar = tools(...makers(app, place.path, rights.own), ...offersFor(app, place.path, FOLDER, rights), search);
+  if (found instanceof Refusal) return [bar, about(stat, "folder"), make("p", { className: "fault" }, found.message)];
+  const names = found.names.filter(([name]) => !isPart(name));
+  const hint = rights.own & ADD_FILE ? [make("p", { className: "about" }, "Files can be dropped here.")] : [];
+  const area = make("div", {}, ...leftWords(found.names), things(app, place, names, rights), ...hint);
+  if (rights.own & ADD_FILE) takeDrops(app, place.path, area);
+  return [bar, about(stat, `${names.length} in it`), area];
 }
 
-async function document_(app, place, stat) {
+async function document_(app, place, stat, rights) {
   const { path } = place;
-  const found = await orRefused(actions.read(app.room, path), path);
+  const found = await orRefused(app.room.run("READ", path), path);
   const isRefused = found instanceof Refusal;
-  const text = isRefused ? null : toText(found);
-  const buttons = [button("Append", () => actions.append(app, path))];
-  if (text !== null) buttons.push(button("Edit", () => actions.edit(app, path, found, text)));
-  if (!isRefused) buttons.push(button("Download", () => save(new Blob([found]), lastName(path))));
-  const shown = isRefused ? make("p", { className: "fault" }, found.message) : shownBytes(found, text);
-  const size = isRefused ? "document" : `${found.length} bytes`;
-  return [tools(...buttons, ...changes(app, path)), about(stat, size), shown];
+  const bytes = isRefused ? null : fromBase64(found.data);
+  const text = bytes && toText(bytes);
+  const buttons = textOffers(app, path, rights.own, bytes, text);
+  const shownPart = isRefused ? make("p", { className: "fault" }, found.message) : preview(bytes, lastName(path));
+  const size = isRefused ? "document" : `${bytes.length} bytes`;
+  const offers = offersFor(app, path, FILE, { ...rights, size: bytes?.length });
+  return [tools(...buttons, ...offers), about(stat, size), shownPart];
+}
+
+async function large(app, place, stat, rights) {
+  const { path } = place;
+  const its = await manifestAt(app.room, path);
+  if (!its) return null;
+  const area = make("div", {});
+  const show = async () => area.replaceChildren(preview(await readFile(app.room, path), lastName(path)));
+  if (rights.own & READ && its.size <= PREVIEWED) await show().catch((fault) => area.append(fault.message));
+  else area.append(button("Show it", () => app.attempt(show)));
+  const offers = offersFor(app, path, "large", { ...rights, size: its.size });
+  return [tools(...offers), about(stat, sizeWords(its.size)), area];
+}
+
+function unfinished(app, place, stat, rights) {
+  const words = `An upload of ${shown(lastName(place.path))} was stopped, or is under way. What is there is no whole ` +
+    "file. Upload it again, or remove it.";
+  return [tools(...offersFor(app, place.path, "unfinished", rights)), about(stat, "unfinished upload"),
+    make("p", { className: "fault" }, words)];
 }
 
 export async function showContents(app, place) {
-  const stat = await app.room.standing(place.path);
-  return [...head(place), ...await (stat.kind === FOLDER ? folder : document_)(app, place, stat)];
+  const { room } = app;
+  const [stat, rights] = await Promise.all([room.standing(place.path), rightsAt(room, place.path)]);
+  if (stat.kind !== FOLDER) return [...head(place), ...await document_(app, place, stat, rights)];
+  const found = await orRefused(room.run("LIST", place.path), place.path);
+  const kind = found.names ? kindBy(found.names) : FOLDER;
+  if (kind === "unfinished") return [...head(place), ...unfinished(app, place, stat, rights)];
+  const shownLarge = kind === "file" && await large(app, place, stat, rights);
+  return [...head(place), ...shownLarge || folder(app, place, stat, rights, found)];
 }

@@ -5,18 +5,20 @@ import { Refusal } from "./codes.js";
 import { showContents } from "./contents.js";
 import { ask, closeAll } from "./dialogs.js";
 import { button, link, make } from "./dom.js";
+import { showFind } from "./find.js";
 import { head } from "./heads.js";
 import { Login, logOut } from "./login.js";
+import { isPart } from "./manifest.js";
 import { showMatrix } from "./matrix.js";
 import { shown } from "./names.js";
-import { ROOT, addressOf, placeOf } from "./places.js";
+import { ROOT, addressOf, namesOf, placeOf } from "./places.js";
 import { Room } from "./room.js";
 import { arrive, leave, standing } from "./stand.js";
 import { sessionOfTab } from "./tabs.js";
 import { end, isUnsaved, watch } from "./unsaved.js";
 import { fileOfFront } from "./wire.js";
 
-const VIEWS = { open: showContents, access: showAccess, who: showMatrix };
+const VIEWS = { open: showContents, access: showAccess, who: showMatrix, find: showFind };
 const part = (id) => document.getElementById(id);
 
 class App {
@@ -41,6 +43,10 @@ class App {
   /** Tells how a request ended that was under way when a tab ended. */
   tellLeft(command, reply, fault) {
     const { cmd, path } = command;
+    if (namesOf(path).some(isPart)) {
+      this.say("An upload was under way as the page ended: look at it, and upload it again where it is not whole.");
+      return;
+    }
     if (["STAT", "LIST", "READ", "GETLIST", "ACCESS"].includes(cmd)) return;
     const end = fault?.message ?? (reply.code === 0 ? "it is done, once." : new Refusal(reply, command).message);
     this.say(`A request from before was sent again, ${cmd} of ${shown(path)}: ${end}`, reply?.code === 0);
@@ -79,6 +85,13 @@ class App {
       this.say(words);
       await this.show(back);
     }
+  }
+
+  /** What went on beside the page has ended: a folder is shown anew, where nobody is at something else. */
+  async ended(words, isGood) {
+    this.say(words, isGood);
+    const isAtRest = !document.querySelector("dialog[open], main[aria-busy]");
+    if (isAtRest && placeOf(location.hash)?.view === "open") await this.show(standing());
   }
 
   /** The address has changed. What was said before is of another place, save where an action led here. */

@@ -13,8 +13,8 @@ export function pathOf(names) {
   return `/${names.join("/")}`;
 }
 
-export function inFolder(folder, name) {
-  return pathOf([...namesOf(folder), name]);
+export function inFolder(folder, ...names) {
+  return pathOf([...namesOf(folder), ...names]);
 }
 
 export function folderOf(path) {

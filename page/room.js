@@ -21,6 +21,18 @@ export class Room {
     return need(await this.session.ask(command), command);
   }
 
+  /** As `run`, beside other commands. */
+  async aside(cmd, path, more = {}) {
+    const command = { cmd, path, ...more };
+    return need(await this.session.askAside(command), command);
+  }
+
+  /** As `aside`, and null where the room refuses it. */
+  async asideIfAllowed(cmd, path, more = {}) {
+    const reply = await this.session.askAside({ cmd, path, ...more });
+    return reply.code === 0 ? reply : null;
+  }
+
   /** As `run`, and null where the room refuses it. */
   async runIfAllowed(cmd, path, more = {}) {
     const reply = await this.session.ask({ cmd, path, ...more });

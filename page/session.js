@@ -36,6 +36,7 @@ class Lane {
     Object.assign(this, { session, slot, key: `${session.key}/slot/${slot}`, isNewest: false });
     this.bodyKey = `${this.key}/body`;
     this.kept = read(this.key) ?? { name: "", number: 0, pending: null };
+    if (!this.kept.pending) localStorage.removeItem(this.bodyKey); // (kept, and never sent)
     this.turn = Promise.resolve();
   }
 
@@ -45,12 +46,13 @@ class Lane {
     if (!this.kept.pending) localStorage.removeItem(this.bodyKey);
   }
 
-  /** The body first, so that what is kept as pending always has one. Others may fill the browser's store for a time. */
+  /** The body first, so that what is kept as pending has one. Others may fill the browser's store for a time. */
   async #keepPending(pending, body) {
     for (let times = 0; ; times += 1) {
       try {
         localStorage.setItem(this.bodyKey, body);
-        return this.#keep({ pending });
+        this.kept = { ...this.kept, pending }; // (it is kept as it is sent)
+        return;
       } catch (fault) {
         localStorage.removeItem(this.bodyKey);
         if (times === 100) throw new Error(`This browser can keep no more requests: close other tabs. (${fault.name})`);

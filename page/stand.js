@@ -6,22 +6,23 @@ const part = (id) => document.getElementById(id);
 const wordsOf = (it) => it.getAttribute("aria-label") ?? it.textContent;
 const within = () => [...part("main").querySelectorAll("a, button, input, select, summary")];
 
-/** What has the focus, by its words, and which of those that have them. */
+/** What has the focus: its words, which of those that have them it is, and its row. */
 function focused() {
   const it = document.activeElement;
   if (!part("main").contains(it)) return null;
   const words = wordsOf(it);
-  return { words, at: within().indexOf(it), count: within().filter((other) => wordsOf(other) === words).indexOf(it) };
+  const count = within().filter((other) => wordsOf(other) === words).indexOf(it);
+  return { words, count, row: it.closest("tr")?.rowIndex };
 }
 
 /** Where the page stands now; what is returned leads back there once the page is drawn anew. */
 export function standing() {
   const [from, top] = [focused(), scrollY];
   return () => {
-    const all = within();
-    const same = from && all.filter((it) => wordsOf(it) === from.words);
-    const to = from && (same[from.count] ?? all[Math.min(from.at, all.length - 1)]);
-    (to ?? part("main").querySelector("h1"))?.focus({ preventScroll: true });
+    const same = from && within().filter((it) => wordsOf(it) === from.words)[from.count];
+    const rows = part("main").querySelector("table")?.rows ?? [];
+    const row = from?.row === undefined ? null : rows[Math.min(from.row, rows.length - 1)];
+    (same ?? row?.querySelector("td button") ?? part("main").querySelector("h1"))?.focus({ preventScroll: true });
     scrollTo({ top, behavior: "instant" });
   };
 }

@@ -3,8 +3,8 @@
 const WAIT = 30_000; // milliseconds for an answer
 const DELAY = 30; // the code of 'later': the message did nothing
 
-const STEP = 11; // milliseconds a request: the front takes 100 of a login each second, and some 200 at once
-const BURST = 100;
+const STEP = 10.2; // milliseconds a request: the front takes 100 of a login each second, and some 200 at once
+const BURST = 150;
 let ready = 0; // when the next request may go
 
 async function turn() {

@@ -32,11 +32,12 @@ class Club:
         self.folder, self.numbers, self.logins = folder, {}, 0
         self.room = start_room(folder, users)
         self.lossy = Lossy(start_front(os.path.join(folder, "front"), self.room, users))
+        self.port = self.lossy.port
         self.browser = Browser(folder)
 
     def address(self, place="", user=None):
         login = f"{user}:{user}-word@" if user else ""
-        return f"http://{login}127.0.0.1:{self.lossy.port}/{place}"
+        return f"http://{login}127.0.0.1:{self.port}/{place}"
 
     def log_in(self, user):
         # (an address that is new to the browser: a page from its cache would ask for no password)
@@ -61,8 +62,15 @@ class Club:
         finally:
             line.close()
 
+    def bytes(self, path):
+        return base64.b64decode(self.holds({"cmd": "READ", "path": path}).get("data", ""))
+
     def text(self, path):
-        return base64.b64decode(self.holds({"cmd": "READ", "path": path}).get("data", "")).decode()
+        return self.bytes(path).decode()
+
+    @staticmethod
+    def base64(data):
+        return base64.b64encode(data).decode()
 
     def names(self, path):
         return [name for name, _ in self.holds({"cmd": "LIST", "path": path})["names"]]
@@ -73,6 +81,12 @@ def make_document(browser, name, text):
     browser.fill("Name", name)
     browser.fill("Text", text)
     browser.press("Make")
+
+
+def choose(browser, words, *paths):
+    """Chooses files, or a folder, for the button of these words."""
+    browser.script("document.getElementById('notices').replaceChildren()")
+    browser.act(f"//main//input[@type='file' and @aria-label='{words}']", "value", {"text": "\n".join(paths)})
 
 
 def append(browser, text, before=lambda: None):

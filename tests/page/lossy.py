@@ -7,12 +7,14 @@ from browser import ANSWER
 
 
 class Lossy(http.server.ThreadingHTTPServer):
-    """`lose(word, count)`: the next so many requests whose body has that word are passed on, and their answers lost."""
+    """`lose(word, count)`: the next so many requests whose body has that word are passed on, and their answers lost.
+    `hold(words)`: requests whose body has all these words wait until `go_on()`; `held` tells whether one does."""
     daemon_threads = True
 
     def __init__(self, front):
         super().__init__(("127.0.0.1", 0), Passing)
         self.front, self.word, self.left, self.bodies = front, b"", 0, []
+        self.wanted, self.held, self.going = [], False, threading.Event()
         threading.Thread(target=self.serve_forever, daemon=True).start()
 
     @property
@@ -21,6 +23,20 @@ class Lossy(http.server.ThreadingHTTPServer):
 
     def lose(self, word, count=1):
         self.word, self.left = word.encode(), count
+
+    def hold(self, *words):
+        self.held = False
+        self.going.clear()
+        self.wanted = [it.encode() for it in words]
+
+    def go_on(self):
+        self.wanted = []
+        self.going.set()
+
+    def wait(self, body):
+        if self.wanted and all(it in body for it in self.wanted):
+            self.held = True
+            self.going.wait(ANSWER)
 
     def times(self, word):
         """How often a request with that word was sent."""
@@ -36,6 +52,7 @@ class Passing(http.server.BaseHTTPRequestHandler):
     def pass_on(self):
         body = self.rfile.read(int(self.headers.get("content-length", 0)))
         self.server.bodies.append(body)
+        self.server.wait(body)
         line = http.client.HTTPConnection("127.0.0.1", self.server.front, timeout=ANSWER)
         try:
             line.request(self.command, self.path, body or None, dict(self.headers))

@@ -1,6 +1,6 @@
 """Scenes of the page: what somebody typed is never lost, names that deceive, and where the page stands."""
 from club import append, make_document, set_list
-from words import RIGHTS, SETS
+from room_client.words import RIGHTS, SETS
 
 WORDS = "import('/rights.js').then((it) => arguments[0]([it.RIGHTS.map(({bit, words}) => [bit, words]), " \
         "it.SETS.map(({name, mask}) => [name, mask])]))"
@@ -114,15 +114,15 @@ def stays(club, differs):
     for count in range(60):
         club.holds({"cmd": "CREATE", "path": f"/long/{count:02}.txt", "data": ""})
     club.go("#open/club/long")
+    browser.press("More for 40.txt")
     browser.press("Rename 40.txt")
     top = browser.script("return Math.round(scrollY)")
     browser.fill("New name", "40 b.txt")
     browser.press("Rename", "//dialog[@open]")
     browser.sees("is now /long/40 b.txt")
-    browser.until("at rest", lambda: browser.script(FOCUS).startswith("Rename"))
+    browser.until("at rest", lambda: browser.script(FOCUS) == "More for 40 b.txt")
     moved = abs(browser.script("return Math.round(scrollY)") - top)
     differs("it stands where it stood", [top > 100, moved < 80], [True, True])  # (a notice takes a line or two)
-    differs("the focus", browser.script(FOCUS), "Rename 40 b.txt")
     browser.go(club.address("#open/nowhere/plans"))
     differs("an unknown room", browser.sees("There is no room nowhere here.", "main"), True)
     differs("the rooms that are there", browser.sees("club", "main li"), True)

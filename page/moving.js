@@ -1,0 +1,176 @@
+/** What a user does with a file or a folder as a whole: move, copy, remove, download. */
+import { save } from "./bytes.js";
+import { ask, input } from "./dialogs.js";
+import { button, checkbox, make, nameText } from "./dom.js";
+import { EXIST, NOBODY, isRefused, readFile, removeAll } from "./files.js";
+import { isPart } from "./manifest.js";
+import { clean, forDisk, shown } from "./names.js";
+import { ROOT, folderOf, inFolder, lastName, nameFault, namesOf } from "./places.js";
+import { FOLDER } from "./rights.js";
+import { sizeWords, transferring } from "./transfers.js";
+import { below, copy, kindBy } from "./trees.js";
+import { Zip } from "./zip.js";
+
+const TRASH = "/trash";
+const MOST_NAME = 64; // bytes
+
+/** A field that holds a folder, and walks. */
+class Chooser {
+  constructor(app, value) {
+    Object.assign(this, { app, value });
+    this.element = make("fieldset", { className: "chooser" });
+    this.draw();
+  }
+
+  async go(to) {
+    const found = await this.app.room.aside("LIST", to).catch((fault) => fault);
+    if (found instanceof Error || kindBy(found.names) !== FOLDER) {
+      this.told.textContent = found.message ?? "This is a document.";
+    } else {
+      this.value = to;
+      this.draw(found.names);
+    }
+  }
+
+  draw(names = null) {
+    const folders = (names ?? []).filter(([name, kind]) => kind === FOLDER && !isPart(name));
+    const up = this.value === ROOT ? [] : [button("One up", () => this.go(folderOf(this.value)))];
+    this.told = make("p", { role: "status" }, names && folders.length === 0 ? "No folder is in it." : "");
+    this.element.replaceChildren(make("legend", {}, "To the folder ", make("b", {}, nameText(this.value))), ...up,
+      ...folders.map(([name]) => button(nameText(name), () => this.go(inFolder(this.value, name)))), this.told);
+    if (!names) this.go(this.value);
+  }
+}
+
+async function askWhere(app, path, words, does, task) {
+  const [chooser, name] = [new Chooser(app, folderOf(path)), input(lastName(path))];
+  const to = () => inFolder(chooser.value, clean(name.value));
+  const isDone = await ask({ title: `${does} ${shown(lastName(path))}`, does: `${does} it there`,
+    words: [make("p", {}, words), chooser.element], fields: { name: { label: "Name there", field: name } },
+    faultOf: () => nameFault(clean(name.value)), task: () => task(to()) });
+  return isDone && to();
+}
+
+export async function move(app, path) {
+  const words = "What the new folder hands down takes the place of what the old one did.";
+  const to = await askWhere(app, path, words, "Move", (it) => app.room.run("RENAME", path, { to: it }));
+  if (to) await app.done(`${shown(path)} is now ${shown(to)}.`, { from: path, to });
+}
+
+export async function copyTo(app, path) {
+  const words = "A copy is yours, and takes over what its new folder hands down.";
+  const { room } = app;
+  const to = await askWhere(app, path, words, "Copy", async (it) => {
+    if (`${it}/`.startsWith(`${path}/`)) throw new Error("Choose another place or name.");
+    const isThere = await room.aside("STAT", it).then(() => true, (fault) => !isRefused(fault, 1));
+    if (isThere) throw new Error("Something has this name already.");
+  });
+  if (!to) return;
+  await transferring(app, `Copy of ${shown(lastName(path))}`, { total: 1, unit: String }, async (transfer) => {
+    await copy(room, path, to, transfer);
+    return `${shown(path)} is copied to ${shown(to)}.`;
+  });
+}
+
+/** The user's own trash, where there is one that they may look at. */
+async function trashOf(app) {
+  const path = `${TRASH}/${app.user}`;
+  return (await app.room.asideIfAllowed("STAT", path))?.kind === FOLDER ? path : null;
+}
+
+/** It tells where it came from, as far as a name has room; the command `room` gives it its place back by that. */
+function nameInTrash(path, now) {
+  const stamp = now.toISOString().replace(/[^0-9]/g, "").slice(0, 14);
+  const [name, ...folders] = [lastName(path), ...namesOf(folderOf(path))];
+  const bytes = (it) => new TextEncoder().encode(it).length;
+  const whole = [name, ...folders, stamp].join("~");
+  if (bytes(whole) <= MOST_NAME && !/[~…]/.test(path)) return whole;
+  const end = `~…~${stamp}`;
+  if (bytes(name + end) <= MOST_NAME) return name + end;
+  const ending = /\.[^.]{1,6}$/.exec(name)?.[0] ?? "";
+  const letters = [...name];
+  while (bytes(`${letters.join("")}…${ending}${end}`) > MOST_NAME) letters.pop();
+  return `${letters.join("")}…${ending}${end}`;
+}
+
+async function toTrash(room, path, trash) {
+  for (let more = 0; ; more += 1) {
+    const name = nameInTrash(path, new Date(Date.now() + more * 1_000));
+    try {
+      return await room.run("RENAME", path, { to: inFolder(trash, name) });
+    } catch (fault) {
+      if (!isRefused(fault, EXIST) || more === 30) throw fault;
+    }
+  }
+}
+
+const isIn = (path, folder) => path === folder || path.startsWith(`${folder}/`);
+
+/** What is in it, in words. */
+async function contentsWords(app, path) {
+  const found = (await below(app.room, path, NOBODY)).filter((it) => it.path !== path);
+  const files = found.filter((it) => it.kind !== FOLDER).length;
+  const [folders, shut] = [found.length - files, found.filter((it) => it.isShut).length];
+  if (found.length === 0) return [];
+  const hidden = shut ? ` You may not look into ${shut} of them.` : "";
+  const words = `With it go ${files} documents and ${folders} folders that are in it.${hidden}`;
+  return [make("p", { className: "fault" }, words)];
+}
+
+export async function remove(app, path) {
+  const trash = isIn(path, TRASH) ? null : await trashOf(app);
+  let isForGood = !trash;
+  const box = checkbox("for good, and not to the trash", false, (it) => {
+    isForGood = it;
+  });
+  const words = trash ? [make("p", {}, `It goes to the trash, ${trash}.`), box]
+    : [make("p", {}, "It cannot be brought back.")];
+  let what = [];
+  const isAsked = await app.attempt(async () => {
+    what = await contentsWords(app, path);
+  });
+  if (!isAsked) return;
+  const task = () => (isForGood ? removeAll(app.room, path) : toTrash(app.room, path, trash));
+  const title = `Remove ${shown(lastName(path))}`;
+  const isDone = await ask({ title, does: "Remove", words: [...words, ...what], task });
+  const end = isForGood ? "removed" : "in the trash";
+  if (isDone) await app.done(`${shown(path)} is ${end}.`, { from: path, to: folderOf(path) });
+}
+
+/** A file to the user's disk, once its sum is right. */
+export async function download(app, path, size) {
+  const title = `Download of ${shown(lastName(path))}`;
+  const { room } = app;
+  await transferring(app, title, { total: size ?? 0 }, async (transfer) => {
+    const start = performance.now();
+    const bytes = await readFile(room, path, transfer);
+    save(new Blob([bytes], { type: "application/octet-stream" }), lastName(path));
+    const seconds = (performance.now() - start) / 1_000;
+    return `${shown(lastName(path))}: ${sizeWords(bytes.length)} in ${seconds.toFixed(1)} seconds.`;
+  });
+}
+
+/** A folder as a zip. What may not be read is told, and is not in it. */
+export async function downloadFolder(app, path) {
+  const name = path === ROOT ? app.room.name : lastName(path);
+  const { room } = app;
+  await transferring(app, `Zip of ${shown(name)}`, { total: 0, unit: String }, async (transfer) => {
+    const found = await below(room, path, transfer);
+    found.sort((a, b) => (a.path < b.path ? -1 : 1));
+    const [zip, start, left] = [new Zip(), namesOf(path).length, []];
+    transfer.total = transfer.bar.max = found.length;
+    for (const it of found) {
+      transfer.check();
+      const inside = [name, ...namesOf(it.path).slice(start)].map(forDisk).join("/");
+      if (it.isShut) left.push(it.path);
+      if (it.kind === FOLDER) zip.add(`${inside}/`);
+      else await readFile(room, it.path, { ...NOBODY, check: () => transfer.check() })
+        .then((bytes) => zip.add(inside, bytes), (fault) => left.push(`${it.path} (${fault.message})`));
+      transfer.add(1);
+    }
+    transfer.check();
+    if (left.length) transfer.note(`Not in it: ${left.map(shown).join(", ")}.`);
+    save(zip.end(), `${name}.zip`);
+    return `${shown(name)}.zip is made, of ${found.length} things.`;
+  });
+}

@@ -1,0 +1,88 @@
+/** The table of what is in a folder. Sizes are asked for rows that are seen, rights where a row's menu is opened. */
+import { button, link, make, nameText } from "./dom.js";
+import { manifestAt } from "./files.js";
+import { shown } from "./names.js";
+import { offersFor, rightsOn } from "./offers.js";
+import { addressOf, inFolder } from "./places.js";
+import { FILE, FOLDER } from "./rights.js";
+import { sizeWords } from "./transfers.js";
+import { kindBy } from "./trees.js";
+
+/** What a row's object is, and how large: `{kind, words, size}`. */
+async function lookAt(room, path, kind) {
+  if (kind !== FOLDER) {
+    const stat = await room.asideIfAllowed("STAT", path);
+    return { kind: FILE, words: stat ? sizeWords(stat.size) : "document" };
+  }
+  const names = (await room.asideIfAllowed("LIST", path))?.names;
+  if (!names) return { kind: FOLDER, words: "folder" };
+  const found = kindBy(names);
+  if (found === "unfinished") return { kind: found, words: "unfinished upload" };
+  const its = found === "file" && await manifestAt(room, path);
+  if (its) return { kind: "large", words: sizeWords(its.size), size: its.size };
+  return { kind: FOLDER, words: `folder, ${names.length} in it` };
+}
+
+class Row {
+  constructor(app, place, [name, kind], rights) {
+    Object.assign(this, { app, name, kind, rights, room: app.room, path: inFolder(place.path, name) });
+    this.word = make("td", {}, kind === FOLDER ? "folder" : "document");
+    this.menu = make("span", { className: "tools", hidden: true });
+    this.more = button("⋯", () => this.toggle(), { "aria-label": `More for ${shown(name)}`, "aria-expanded": "false" });
+    this.element = make("tr", {},
+      make("th", { scope: "row" }, link(addressOf({ room: place.room, path: this.path }), nameText(name))),
+      this.word, make("td", { className: "tools" }, this.more, this.menu));
+    this.element.row = this;
+  }
+
+  look() {
+    this.looked ??= this.#look();
+    return this.looked;
+  }
+
+  async #look() {
+    const its = await lookAt(this.room, this.path, this.kind);
+    this.word.textContent = its.words;
+    if (its.kind === "large") this.moveToDocuments();
+    return its;
+  }
+
+  /** A large file stands among the documents, in order. */
+  moveToDocuments() {
+    const rows = [...this.element.closest("table")?.tBodies[1].rows ?? []];
+    const next = rows.find((it) => it.row.name > this.name);
+    if (next) next.before(this.element);
+    else this.element.closest("table")?.tBodies[1].append(this.element);
+  }
+
+  async toggle() {
+    const isOpen = this.menu.hidden;
+    this.more.setAttribute("aria-expanded", String(isOpen));
+    this.menu.hidden = !isOpen;
+    if (!isOpen) return;
+    const [its, own] = await Promise.all([this.look(), rightsOn(this.room, this.path)]);
+    const offers = offersFor(this.app, this.path, its.kind, { own, above: this.rights.own, size: its.size });
+    for (const it of offers) {
+      const itsButton = it.querySelector("button") ?? it;
+      itsButton.setAttribute("aria-label", `${itsButton.textContent} ${shown(this.name)}`);
+    }
+    this.menu.replaceChildren(...offers.length ? offers : ["You may only look."]);
+  }
+}
+
+export function things(app, place, names, rights) {
+  if (names.length === 0) return make("p", {}, "Nothing is in this folder.");
+  const seen = new IntersectionObserver((entries) => {
+    for (const { target, isIntersecting } of entries) {
+      if (!isIntersecting) continue;
+      seen.unobserve(target);
+      target.row.look().catch((fault) => app.say(fault.message, false));
+    }
+  });
+  const rows = names.map((it) => new Row(app, place, it, rights));
+  const body = (isFolder) => make("tbody", {}, ...rows.filter((it) => (it.kind === FOLDER) === isFolder)
+    .map((it) => it.element));
+  for (const it of rows) seen.observe(it.element);
+  return make("table", { className: "things" }, make("caption", { className: "unseen" }, "What is in this folder"),
+    body(true), body(false));
+}

@@ -1,0 +1,75 @@
+/** What goes on beside the page: how far it is, and an end to it. */
+import { ask } from "./dialogs.js";
+import { button, make } from "./dom.js";
+import { shown } from "./names.js";
+import { folderOf, inFolder, lastName, withMark } from "./places.js";
+import { watchEnd } from "./unsaved.js";
+
+/** The user ended it. */
+class Cancelled extends Error {}
+
+export function sizeWords(bytes) {
+  if (bytes < 1_024) return `${bytes} bytes`;
+  const [count, unit] = bytes < 2 ** 20 ? [bytes / 1_024, "KiB"] : [bytes / 2 ** 20, "MiB"];
+  return `${count < 10 ? count.toFixed(1) : Math.round(count)} ${unit}`;
+}
+
+class Transfer {
+  notes = [];
+  done = 0;
+  isCancelled = false;
+
+  /** `unit` tells a count of what is to be done in words. */
+  constructor(app, title, total, unit = sizeWords) {
+    Object.assign(this, { app, total, unit });
+    this.bar = make("progress", { max: Math.max(total, 1), value: 0, "aria-label": title });
+    this.words = make("span", {});
+    this.element = make("p", { className: "transfer" }, make("span", {}, title), this.bar, this.words,
+      button("Cancel", () => this.cancel(), { className: "small" }));
+    this.add(0);
+  }
+
+  cancel() {
+    this.isCancelled = true;
+    this.words.textContent = "ends …";
+  }
+
+  check() {
+    if (this.isCancelled) throw new Cancelled();
+  }
+
+  add(count) {
+    this.done += count;
+    this.bar.value = this.done;
+    if (!this.isCancelled) this.words.textContent = `${this.unit(this.done)} of ${this.unit(this.total)}`;
+  }
+
+  note(words) {
+    this.notes.push(words);
+  }
+
+  /** Somebody else wrote a version meanwhile: true to put this one in its place, the path of a copy, or null. */
+  async overtaken(path) {
+    const chosen = await ask({ title: `Somebody else wrote ${shown(lastName(path))} meanwhile`, does: "Put mine there",
+      words: make("p", {}, "A new version came while yours was under way."),
+      others: [{ words: "Keep mine as a copy", value: "copy" }] });
+    return chosen === "copy" ? inFolder(folderOf(path), withMark(lastName(path), `copy of ${this.app.user}`)) : chosen;
+  }
+}
+
+/** Runs the task with a transfer, beside the page, and tells its end: what the task gives, in words. */
+export async function transferring(app, title, { total, unit }, task) {
+  const it = new Transfer(app, title, total, unit);
+  const unwatch = watchEnd(() => true);
+  document.getElementById("transfers").append(it.element);
+  const tell = (words, isGood) => app.ended([words, ...it.notes].join(" "), isGood && it.notes.length === 0);
+  try {
+    await tell(await task(it), true);
+  } catch (fault) {
+    const isCancelled = fault instanceof Cancelled;
+    await tell(isCancelled ? `${title}: cancelled.` : `${title}: ${fault.message}`, false);
+  } finally {
+    unwatch();
+    it.element.remove();
+  }
+}

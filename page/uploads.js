@@ -1,0 +1,156 @@
+/** Files and folders of the user's disk go into the room. */
+import { ask } from "./dialogs.js";
+import { button, make } from "./dom.js";
+import { EXIST, forEach, orElse, writeFile } from "./files.js";
+import { MOST } from "./manifest.js";
+import { clean, shown } from "./names.js";
+import { folderOf, inFolder, lastName, nameFault, namesOf, withMark } from "./places.js";
+import { sizeWords, transferring } from "./transfers.js";
+
+const AT_ONCE = 3; // files; the pieces of each go beside each other too
+
+/** A button by which the user chooses files, or with `isFolder` a folder; `chosen` gets them, each `{names, file}`. */
+export function filesButton(words, { isFolder = false, isOne = false }, chosen) {
+  const field = make("input", { type: "file", multiple: !isOne, hidden: true, "aria-label": words });
+  field.webkitdirectory = isFolder;
+  field.onchange = () => {
+    const files = [...field.files].map((file) => ({ names: (file.webkitRelativePath || file.name).split("/"), file }));
+    field.value = ""; // (so that the same file can be chosen again)
+    chosen(files);
+  };
+  return make("span", {}, button(words, () => field.click()), field);
+}
+
+/** What an entry of a drop has in it: files, and folders with `file` null. */
+async function within(entry, above = []) {
+  const names = [...above, entry.name];
+  if (entry.isFile) return [{ names, file: await new Promise((tell, fail) => entry.file(tell, fail)) }];
+  const [reader, found] = [entry.createReader(), [{ names, file: null }]];
+  for (;;) {
+    const some = await new Promise((tell, fail) => reader.readEntries(tell, fail)); // (a hundred at a time)
+    if (some.length === 0) return found;
+    for (const it of some) found.push(...await within(it, names));
+  }
+}
+
+/** What was dropped. */
+export async function dropped(data) {
+  const items = [...data.items].filter((it) => it.kind === "file");
+  const entries = items.map((it) => it.webkitGetAsEntry() ?? it.getAsFile());
+  const found = await Promise.all(entries.map((it) => (it instanceof File ? [{ names: [it.name], file: it }]
+    : within(it))));
+  return found.flat();
+}
+
+const plural = (count, one) => `${count} ${one}${count === 1 ? "" : "s"}`;
+
+/** Why one of them cannot be sent, before anything is. */
+function faultOf({ names, file }) {
+  const fault = names.map(clean).map(nameFault).find((it) => it !== "");
+  if (fault) return `${shown(names.join("/"))}: ${fault}`;
+  return file?.size > MOST ? `${shown(names.join("/"))} has ${sizeWords(file.size)}; 16 MiB is the most.` : "";
+}
+
+/** Asks what to do with names that are there already: true to write new versions, "both", "skip", or null. */
+function askAbout(clashes) {
+  const names = clashes.slice(0, 10).map((it) => make("li", {}, shown(it)));
+  const more = clashes.length > 10 ? [make("p", {}, `and ${clashes.length - 10} more.`)] : [];
+  return ask({ title: clashes.length === 1 ? "This is there already" : "These are there already",
+    words: [make("ul", {}, ...names), ...more], does: "Upload as new versions",
+    others: [{ words: "Keep both", value: "both" }, { words: "Leave these out", value: "skip" }] });
+}
+
+/** The names that are in each folder, asked once. */
+class Folders {
+  constructor(room) {
+    Object.assign(this, { room, asked: new Map() });
+  }
+
+  names(folder) {
+    if (!this.asked.has(folder)) this.asked.set(folder, this.#ask(folder));
+    return this.asked.get(folder);
+  }
+
+  async #ask(folder) {
+    const reply = await this.room.asideIfAllowed("LIST", folder);
+    return new Set((reply?.names ?? []).map(([name]) => name));
+  }
+
+  /** A name that is free there, and taken from now on. */
+  async free(path) {
+    const names = await this.names(folderOf(path));
+    let name = lastName(path);
+    for (let count = 2; names.has(name); count += 1) name = withMark(lastName(path), String(count));
+    names.add(name);
+    return inFolder(folderOf(path), name);
+  }
+}
+
+async function clashesOf(wanted, folders) {
+  const found = [];
+  for (const it of wanted) {
+    if (it.file && (await folders.names(folderOf(it.path))).has(lastName(it.path))) found.push(it);
+  }
+  return found;
+}
+
+/** The folders that the files need, from the top down. */
+function foldersOf(wanted, folder) {
+  const found = new Set();
+  for (const { path, file } of wanted) {
+    const names = namesOf(path).slice(0, file ? -1 : undefined);
+    for (let count = namesOf(folder).length + 1; count <= names.length; count += 1) {
+      found.add(inFolder("/", ...names.slice(0, count)));
+    }
+  }
+  return [...found].sort((a, b) => namesOf(a).length - namesOf(b).length);
+}
+
+async function sendAll(app, transfer, wanted, folder) {
+  const { room } = app;
+  for (const path of foldersOf(wanted, folder)) await orElse(room.aside("MKDIR", path), null, EXIST);
+  const [faults, start, files] = [[], performance.now(), wanted.filter((it) => it.file)];
+  await forEach(files, async ({ path, file, isNew }) => {
+    transfer.check();
+    try {
+      await writeFile(room, path, new Uint8Array(await file.arrayBuffer()), transfer, isNew);
+    } catch (fault) {
+      transfer.check();
+      faults.push(`${shown(lastName(path))}: ${fault.message}`);
+    }
+  }, AT_ONCE);
+  if (faults.length) throw new Error(`${faults.length} of ${plural(files.length, "file")} failed. ${faults.join(" ")}`);
+  const seconds = (performance.now() - start) / 1_000;
+  return `${plural(files.length, "file")} uploaded: ${sizeWords(transfer.done)} in ${seconds.toFixed(1)} seconds.`;
+}
+
+/** Uploads what was chosen or dropped into the folder. */
+export async function upload(app, folder, chosen) {
+  if (chosen.length === 0) return;
+  const fault = chosen.map(faultOf).find((it) => it !== "");
+  if (fault) return app.say(`${fault} Nothing was sent.`, false);
+  const folders = new Folders(app.room);
+  let wanted = chosen.map(({ names, file }) => ({ path: inFolder(folder, ...names.map(clean)), file, isNew: true }));
+  const clashes = await clashesOf(wanted, folders);
+  const answer = clashes.length ? await askAbout(clashes.map((it) => it.path)) : true;
+  if (answer === null) return;
+  if (answer === "skip") wanted = wanted.filter((it) => !clashes.includes(it));
+  for (const it of clashes) {
+    if (answer === "both") it.path = await folders.free(it.path);
+    else it.isNew = false;
+  }
+  if (wanted.length) await start(app, wanted, folder);
+}
+
+/** A new version of one file. */
+export async function newVersion(app, path, [it]) {
+  const fault = faultOf({ ...it, names: [lastName(path)] });
+  if (fault) return app.say(fault, false);
+  await start(app, [{ path, file: it.file, isNew: false }], folderOf(path));
+}
+
+function start(app, wanted, folder) {
+  const total = wanted.reduce((sum, { file }) => sum + (file?.size ?? 0), 0);
+  const title = wanted.length === 1 ? `Upload of ${shown(lastName(wanted[0].path))}` : `Upload of ${wanted.length}`;
+  return transferring(app, title, { total }, (it) => sendAll(app, it, wanted, folder));
+}

@@ -1,0 +1,258 @@
+"""Scenes of the page: files up to 16 MiB, there and back, whole whatever comes in between (docs/FILES.md)."""
+import hashlib
+import json
+import os
+import random
+import re
+import time
+
+from club import choose
+
+NAME, PIECE, MIB = ".room-file", 65536, 1 << 20
+dice = random.Random(7)
+
+
+def names_at(club, path):
+    return dict(club.holds({"cmd": "LIST", "path": path}).get("names", []))
+
+
+def bytes_at(club, path):
+    return club.bytes(path)
+
+
+def held(club, path):
+    """The bytes of a file, read by the form that docs/FILES.md has and by nothing of the page's."""
+    if NAME not in names_at(club, path):
+        return bytes_at(club, path)
+    text = bytes_at(club, f"{path}/{NAME}")
+    its = json.loads(text)
+    pieces = [bytes_at(club, f"{path}/{its['folder']}/{it}") for it in its["pieces"]]
+    data = b"".join(pieces)
+    form = {"folder": its["folder"], "form": 1, "pieces": [f"{it:03}" for it in range(len(pieces))],
+            "sha256": hashlib.sha256(data).hexdigest(), "size": len(data)}
+    if text != json.dumps(form, separators=(",", ":")).encode() or {len(it) for it in pieces[:-1]} - {PIECE}:
+        return f"another form: {text}"
+    return data
+
+
+def beside(name):
+    mark = hashlib.sha256(name.encode()).hexdigest()[:16]
+    return f".room-gone-{mark}", f".room-new-{mark}"
+
+
+def on_disk(club, name, data):
+    path = os.path.join(club.folder, "disk", name)
+    os.makedirs(os.path.dirname(path), exist_ok=True)
+    with open(path, "wb") as file:
+        file.write(data)
+    return path
+
+
+def put(club, folder, *files):
+    club.go(f"#open/club{folder}")
+    choose(club.browser, "Upload files", *files)
+
+
+def saved(club, name, count=1):
+    """What the browser saved, once it is whole."""
+    path = os.path.join(club.folder, "back", name)
+    club.browser.until(name, lambda: os.path.exists(path))
+    with open(path, "rb") as file:
+        data = file.read()
+    os.remove(path)
+    return data
+
+
+def row(browser, name):
+    return browser.script("return [...document.querySelectorAll('.things tr')].find((it) => "
+                          "it.querySelector('bdi').textContent === arguments[0])?.innerText ?? ''", name)
+
+
+def sizes(club, differs):
+    """Files of all sizes go up at once, and come back; what is too large is told before anything is sent."""
+    browser = club.browser
+    browser.devtools("Browser.setDownloadBehavior", behavior="allow", downloadPath=os.path.join(club.folder, "back"))
+    club.holds({"cmd": "MKDIR", "path": "/big"})
+    data = {f"of {size}": dice.randbytes(size) for size in (0, 1, PIECE, PIECE + 1, 3 * PIECE)}
+    put(club, "/big", *(on_disk(club, name, it) for name, it in data.items()))
+    browser.sees("5 files uploaded")
+    for name, it in data.items():
+        differs(name, held(club, f"/big/{name}") == it, True)
+    differs("kinds", [kind for _, kind in sorted(names_at(club, "/big").items())],
+            ["file", "file", "folder", "file", "folder"])
+    for name, size in ("of 196608", "192 KiB"), ("of 65537", "64 KiB"):
+        browser.until(f"the size of {name}", lambda: size in row(browser, name))
+    differs("sizes are shown", [row(browser, f"of {it}").split("\n")[1] for it in (0, PIECE, PIECE + 1)],
+            ["0 bytes", "64 KiB", "64 KiB"])
+    browser.follow("of 65537")
+    browser.sees("64 KiB, owner ann")
+    browser.press("Download")
+    differs("what comes back", saved(club, "of 65537") == data["of 65537"], True)
+    sent = len(club.lossy.bodies)
+    put(club, "/big", on_disk(club, "too large", bytes(16 * MIB + 1)))
+    differs("too large", browser.sees("16 MiB is the most. Nothing was sent.", "#notices"), True)
+    differs("nothing was sent of it", [it for it in club.lossy.bodies[sent:] if b"CREATE" in it or b"MKDIR" in it], [])
+
+
+def largest(club, differs):
+    """16 MiB up and down through the front, with nothing else between, and how fast."""
+    browser = club.browser
+    club.port = club.lossy.front
+    club.log_in("ann")
+    data = dice.randbytes(16 * MIB)
+    put(club, "/big", on_disk(club, "largest", data))
+    browser.sees("1 file uploaded", "#notices")
+    up = told_pace(browser)
+    differs("it is there", hashlib.sha256(held(club, "/big/largest")).digest() == hashlib.sha256(data).digest(), True)
+    browser.until("its size", lambda: "16 MiB" in row(browser, "largest"))
+    browser.follow("largest")
+    browser.sees("Show it")
+    browser.press("Download")
+    browser.sees("largest: 16 MiB in", "#notices")
+    down = told_pace(browser)
+    differs("it comes back", saved(club, "largest") == data, True)
+    print(f"16 MiB through the front, load {os.getloadavg()[0]:.1f}: {up:.1f} MiB a second up, {down:.1f} down")
+    if os.getloadavg()[0] < os.cpu_count():  # (on a machine that others use too a pace says nothing)
+        differs("at least 5 MiB a second", min(up, down) >= 5, True)
+    club.port = club.lossy.port
+    club.log_in("ann")
+
+
+def told_pace(browser):
+    text = browser.script("return document.getElementById('notices').innerText")
+    return 16 / float(re.search(r"in ([0-9.]+) seconds", text)[1])
+
+
+def versions(club, differs):
+    """New versions: of a large file, of a small one that becomes large, and small again; two writers at once."""
+    browser = club.browser
+    path = "/big/of 65537"
+    for name, size in ("v2", 4 * PIECE + 5), ("v3", 10):
+        data = dice.randbytes(size)
+        club.go(f"#open/club{path.replace(' ', '%20')}")
+        choose(browser, "Upload a new version", on_disk(club, name, data))
+        browser.sees("1 file uploaded", "#notices")
+        differs(f"{name} is there", held(club, path) == data, True)
+        differs(f"{name} alone", len(names_at(club, path)), 2)
+    club.holds({"cmd": "CREATE", "path": "/big/grows", "data": "aGk="})
+    club.holds({"cmd": "SETLIST", "path": "/big/grows", "aclflag": 1, "entries": [
+        {"type": 0, "flag": 0, "mask": 1, "who": "bob"}]})
+    data = dice.randbytes(2 * PIECE)
+    put(club, "/big", on_disk(club, "grows", data))
+    browser.press("Upload as new versions")
+    browser.sees("1 file uploaded", "#notices")
+    differs("it has grown", held(club, "/big/grows") == data, True)
+    list_ = club.holds({"cmd": "GETLIST", "path": "/big/grows"})["entries"][0]
+    differs("its list", (list_["who"], list_["mask"], list_["flag"]), ("bob", 0x21, 3))
+    differs("nothing is beside it", [it for it in names_at(club, "/big") if it.startswith(".room")], [])
+    put(club, "/big", on_disk(club, "grows", b"both"))
+    browser.press("Keep both")
+    browser.sees("1 file uploaded", "#notices")
+    differs("both are there", [held(club, "/big/grows (2)"), held(club, "/big/grows") == data], [b"both", True])
+
+
+def overtaken(club, differs):
+    """Somebody else writes a version while one's own is under way: the user is asked."""
+    browser, lossy = club.browser, club.lossy
+    path = "/big/of 196608"
+    data = dice.randbytes(2 * PIECE + 1)
+    for words, is_mine in ("Put mine there", True), ("Keep mine as a copy", False):
+        club.go(f"#open/club{path.replace(' ', '%20')}")
+        browser.sees("Upload a new version")
+        lossy.hold(".room-pieces-", '"RENAME"')
+        choose(browser, "Upload a new version", on_disk(club, "mine", data))
+        browser.until("it waits", lambda: lossy.held)
+        theirs = json.dumps({**json.loads(bytes_at(club, f"{path}/{NAME}")), "sha256": "0" * 64}, separators=(",", ":"))
+        club.holds({"cmd": "WRITE", "path": f"{path}/{NAME}", "data": club.base64(theirs.encode())})
+        lossy.go_on()
+        browser.sees("Somebody else wrote of 196608 meanwhile", "dialog")
+        browser.press(words)
+        browser.sees("1 file uploaded", "#notices")
+        differs(f"{words}: the file", bytes_at(club, f"{path}/{NAME}") == theirs.encode(), not is_mine)
+        at = path if is_mine else "/big/of 196608 (copy of ann)"
+        differs(f"{words}: mine", held(club, at) == data, True)
+    club.go(f"#open/club{path.replace(' ', '%20')}")
+    differs("what is damaged is not given out", browser.sees("is damaged", "main"), True)
+
+
+def stopped(club, differs):
+    """An upload that a crash or the user ends: each request acts once, it is shown, and the next one clears it."""
+    browser, lossy = club.browser, club.lossy
+    data = dice.randbytes(3 * MIB)
+    file = on_disk(club, "stopped", data)
+    lossy.lose('"CREATE"', 10_000)
+    put(club, "/big", file)
+    browser.sees("sent again until", "#busy")
+    kept = browser.script("return Object.keys(localStorage).filter((it) => /^fileroom.ann.*body$/.test(it)).length")
+    differs("several are under way, each kept", kept, 6)
+    browser.go("about:blank")
+    lossy.lose("")
+    club.go("#open/club/big")
+    browser.sees("An upload was under way as the page ended", "#notices")
+    browser.until("it is shown", lambda: "unfinished upload" in row(browser, "stopped"))
+    browser.follow("stopped")
+    differs("it is told", browser.sees("was stopped, or is under way", "main"), True)
+    writing = next(iter(names_at(club, "/big/stopped")))
+    pieces = names_at(club, f"/big/stopped/{writing}")
+    numbers = sorted(map(int, pieces))
+    differs("pieces of the first requests", [len(pieces) >= 2, numbers == list(range(len(numbers)))], [True, True])
+    differs("each as it was", all(bytes_at(club, f"/big/stopped/{writing}/{it}") ==
+                                  data[PIECE * int(it):PIECE * (int(it) + 1)] for it in pieces), True)
+    choose(browser, "Upload a new version", file)
+    browser.sees("What a stopped upload of stopped left is cleared.", "#notices")
+    differs("whole", held(club, "/big/stopped") == data, True)
+    differs("and nothing else", len(names_at(club, "/big/stopped")), 2)
+    lossy.hold(".room-writing-", '"CREATE"')
+    put(club, "/big", on_disk(club, "cancelled", data))
+    browser.until("it waits", lambda: lossy.held)
+    browser.press("Cancel", "//section[@id='transfers']")
+    browser.sees("ends …", "#transfers")
+    lossy.go_on()
+    differs("cancelled", browser.sees("Upload of cancelled: cancelled.", "#notices"), True)
+    differs("nothing of it is left", "cancelled" in names_at(club, "/big"), False)
+
+
+def left_beside(club, differs):
+    """A document's replacement that was stopped between its two renames is told, and the next upload goes on."""
+    browser = club.browser
+    gone, new = beside("between")
+    club.holds({"cmd": "CREATE", "path": f"/big/{gone}", "data": "b2xk"})
+    club.holds({"cmd": "MKDIR", "path": f"/big/{new}"})
+    club.go("#open/club/big")
+    differs("it is told", browser.sees("Something is left here of a large file", "main"), True)
+    data = dice.randbytes(PIECE + 3)
+    put(club, "/big", on_disk(club, "between", data))
+    browser.sees("1 file uploaded", "#notices")
+    differs("it is there", held(club, "/big/between") == data, True)
+    differs("nothing is left", [it for it in names_at(club, "/big") if it.startswith(".room")], [])
+
+
+def drops(club, differs):
+    """A folder with folders and files is dropped, and one is chosen."""
+    browser = club.browser
+    files = {"tree/a.txt": b"a", "tree/deep/b.bin": dice.randbytes(PIECE + 9), "tree/deep/er/c.txt": b"c"}
+    for name, data in files.items():
+        on_disk(club, name, data)
+    top = os.path.join(club.folder, "disk", "tree")
+    os.makedirs(os.path.join(top, "empty"))
+    club.holds({"cmd": "MKDIR", "path": "/dropped"})
+    club.go("#open/club/dropped")
+    browser.sees("Files can be dropped here.")
+    at = browser.script("const it = document.querySelector('.drops').getBoundingClientRect();"
+                        "return [it.x + 5, it.y + 5]")
+    data = {"items": [], "files": [top], "dragOperationsMask": 1}
+    for kind in "dragEnter", "dragOver", "drop":
+        browser.devtools("Input.dispatchDragEvent", type=kind, x=at[0], y=at[1], data=data)
+    browser.sees("3 files uploaded", "#notices")
+    for name, it in files.items():
+        differs(f"dropped: {name}", held(club, f"/dropped/{name}") == it, True)
+    differs("an empty folder too", names_at(club, "/dropped/tree/empty"), {})
+    club.holds({"cmd": "MKDIR", "path": "/chosen"})
+    club.go("#open/club/chosen")
+    choose(browser, "Upload a folder", top)
+    browser.sees("3 files uploaded", "#notices")
+    for name, it in files.items():
+        differs(f"chosen: {name}", held(club, f"/chosen/{name}") == it, True)
+
+
+SCENES = [sizes, largest, versions, overtaken, stopped, left_beside, drops]
