@@ -41,7 +41,7 @@ def by_tls(front, cert, user, tally):
 
 
 def by_http(front, port, user, tally):
-    """Nothing is answered in the clear but the way to https, also to who sends a password, and what certbot puts there."""
+    """In the clear there is the way to https alone, also for who sends a password, and what certbot puts there."""
     right = login(user, front.users[user])
     for fields in [], [right]:
         got = in_the_clear(port, *fields)

@@ -120,7 +120,8 @@ def a_room(machine, tally):
                                     text_of(machine.at("etc/fileroom/club.env"))), (0, "PORT=8002\n"))
     for words in (["../x", "ann", "eng"], ["x", "a b", "eng"], ["x", "ann", ""], ["x", "ann", "eng", "--port", "8001"]):
         before = machine.files()
-        tally.differs(f"room add {words}", (machine.does("room", "add", *words)[0], machine.files() == before), (1, True))
+        status = machine.does("room", "add", *words)[0]
+        tally.differs(f"room add {words}", (status, machine.files() == before), (1, True))
 
 
 def fits(machine, user, word):
@@ -165,7 +166,8 @@ def users(machine, tally):
         tally.differs(words, (machine.does(*words.split())[0], machine.files() == before), (1, True))
     machine.write("etc/fileroom/club.toml", '[users]\n# many\nann = [\n    "eng",\n]\n')
     machine.does("user", "groups", "club", "ann", "staff")
-    tally.differs("a roster of another form", text_of(machine.at("etc/fileroom/club.toml")), '[users]\nann = ["staff"]\n')
+    made = text_of(machine.at("etc/fileroom/club.toml"))
+    tally.differs("a roster of another form", made, '[users]\nann = ["staff"]\n')
 
 
 def faults_undo(machine, tally):
