@@ -7,23 +7,31 @@ import sys
 from collections.abc import Callable
 from dataclasses import asdict
 
-from . import report, who, words
-from .faults import BadWords, Fault, LocalFault, Refused, reading
+from . import acl, documents, report, who
+from .documents import there
+from .faults import BadWords, Fault, LocalFault
+from .files import need_size
 from .line import Line
-from .room import MOST_BYTES, Room, say, told
+from .local import need_file, read_local
+from .manifest import MOST
+from .room import MOST_BYTES, Room, say
 from .settings import Settings, find_settings
+from .showing import Told, show, write_bytes
+from .slots import told
 from .state import State
+from .sync import sync
 from .version import version
-from .words import neat, shown
+from .words import shown
 
 STOPPED = 130  # the exit status after a stop at the keyboard, as of a shell
 
 ABOUT = """\
 Folders and documents of a room, kept by a fileroom server.
 
-  room ls /plans                      what is in a folder
-  room put notes.txt /plans/notes     makes a document, or replaces its bytes
-  room get /plans/notes               writes it to standard output
+  room ls -l /plans                   what is in a folder
+  room put lake.jpg tea.jpg /photos/  makes files of up to 16 MiB, or new versions of them
+  room get /plans/notes               writes a file to standard output
+  room sync photos room:/photos       makes a folder as another one is
   room acl /plans                     its access list in words; room acl --help teaches them
   room who /plans                     who may do what with it
 
@@ -44,169 +52,16 @@ A flag goes before the environment (ROOM_URL, ROOM_LOGIN, ROOM_PASSWORD_FILE, RO
 ROOM_PATIENCE, ROOM_CONFIG), and that before the file.
 
 exit status: 0 done; 1 the room refused it; 2 bad words or settings; 3 no answer in time, or a login that is wrong;
-4 the session is lost; 5 a file on this machine; 130 stopped at the keyboard. A fault is one line on standard error.
+4 the session is lost; 5 a file on this machine; 6 a file of the room is damaged; 7 somebody else's version came first;
+130 stopped at the keyboard. A fault is one line on standard error.
 """
-
-ACL = """\
-without an action: shows the list as lines that `give` takes back. Actions:
-
-  set ENTRY..     these are its own entries, and no others
-  add ENTRY..     puts them in front of its own entries (where one is there already, it goes to the front)
-  drop ENTRY..    takes them away
-  flags WORDS     sets the flags; where it no longer follows its folder, what it inherited becomes its own
-  give [FILE]     sets the list as FILE or standard input says, in the form that is shown
-
-  room acl /plans add 'allow bob read,list inherit' 'deny group:staff write'
-  room acl /plans > list; edit list; room acl /plans give list
-
-Between seeing and setting somebody else may set it too: the last one counts.
-
-""" + words.GRAMMAR
-
-
-def write_bytes(data: bytes) -> None:
-    sys.stdout.flush()
-    sys.stdout.buffer.write(data)
-    sys.stdout.buffer.flush()
-
-
-def read_local(name: str, most: int = -1) -> bytes:
-    """A file's bytes, or those of standard input for `-`."""
-    with reading(name), sys.stdin.buffer if name == "-" else open(name, "rb") as file:
-        return file.read(most)
-
-
-def into(path: str, name: str) -> str:
-    """A path that ends with / is a folder, for the same name."""
-    return path + os.path.basename(name) if path.endswith("/") else path
-
-
-def show(asked, reply: dict | list, text: str) -> None:
-    print(json.dumps(reply, ensure_ascii=False) if asked.json else text, flush=True)
-
-
-def ls(room: Room, asked) -> None:
-    reply = room.ask({"cmd": "LIST", "path": asked.path})
-    names = [shown(name) + "/" * (kind == words.FOLDER) for name, kind in reply["names"]]
-    if asked.json or names:
-        show(asked, reply, "\n".join(names))
-
-
-def stat(room: Room, asked) -> None:
-    its = room.stat(asked.path)
-    size = f"{its['size']} {'inside' if its['kind'] == words.FOLDER else 'bytes'}"
-    flags = words.list_flag_words(its["aclflag"])
-    show(asked, its, f"{its['kind']}, {size}, owner {its['owner']}, group {its['group']}, list flags {flags}")
-
-
-def get(room: Room, asked) -> None:
-    data = room.read(asked.path)
-    if asked.file is None or asked.file == "-":
-        return write_bytes(data)
-    name = os.path.join(asked.file, os.path.basename(asked.path)) if os.path.isdir(asked.file) else asked.file
-    with reading(name), open(name, "wb") as file:
-        file.write(data)
-    print(f"{len(data)} bytes to {shown(name)}", flush=True)
-
-
-def put(room: Room, asked) -> None:
-    path = neat(into(asked.path, asked.file))
-    reply = room.create(path, asked.data) if asked.new else room.put(path, asked.data)
-    show(asked, reply, f"{shown(path)}: {reply['size']} bytes")
-
-
-def append(room: Room, asked) -> None:
-    reply = room.append(asked.path, asked.data)
-    show(asked, reply, f"{shown(asked.path)}: {reply['size']} bytes")
-
-
-def rm(room: Room, asked) -> None:
-    show(asked, room.remove(asked.path), f"{shown(asked.path)}: removed")
-
-
-def mv(room: Room, asked) -> None:
-    to = neat(into(asked.to, asked.path))
-    show(asked, room.rename(asked.path, to), f"{shown(asked.path)} is now {shown(to)}")
-
-
-def mkdir(room: Room, asked) -> None:
-    path = neat(asked.path)
-    show(asked, room.mkdir(path), f"{shown(path)}: made")
-
 
 def chown(room: Room, asked) -> None:
     owner, colon, group = asked.owner.partition(":")
     if not colon:
         raise BadWords(f"'{shown(asked.owner)}' is not OWNER:GROUP")
-    show(asked, room.chown(asked.path, owner, group), f"{shown(asked.path)}: owner {owner}, group {group}")
-
-
-def acl(room: Room, asked) -> None:
-    if asked.action is None:
-        return show_list(room, asked)
-    aclflag, own = new_list(room, asked)
-    show(asked, room.set_list(asked.path, aclflag, own), f"{shown(asked.path)}: list set")
-
-
-def show_list(room: Room, asked) -> None:
-    reply = room.get_list(asked.path)
-    if asked.json:
-        return show(asked, reply, "")
-    try:
-        its = room.stat(asked.path)
-        about = f"# {shown(asked.path)}: {its['kind']} of owner {its['owner']} and group {its['group']}\n"
-    except Refused as fault:
-        # (without its kind the words for folders do: either word of a right is taken)
-        its, about = {"kind": words.FOLDER}, f"# {shown(asked.path)}: {fault}\n"
-    sys.stdout.write(about + words.list_text(reply, its["kind"]))
-    sys.stdout.flush()
-
-
-def new_list(room: Room, asked) -> tuple[int, list[dict]]:
-    """The flags and entries that are to be set. Inherited ones are the room's to give, where the object follows; where
-    `flags` makes that end, they become its own, so that nobody is shut out by it."""
-    flags, given = asked.given
-    if asked.action == "give" and flags is not None:
-        return flags, given
-    now = room.get_list(asked.path)
-    if asked.action == "flags":
-        return flags, now["entries"]
-    flags = now["aclflag"] if flags is None else flags
-    own = [it for it in now["entries"] if not it["flag"] & words.INHERITED]
-    if asked.action == "add":
-        return flags, given + [it for it in own if it not in given]  # (the same, given again, is in front once)
-    if asked.action == "drop":
-        return flags, without(own, given)
-    return flags, given
-
-
-def without(own: list[dict], given: list[dict]) -> list[dict]:
-    left = [it for it in own if it not in given]
-    missing = next((it for it in given if it not in own), None)
-    if missing:
-        its = words.entry_words(missing, words.FOLDER)
-        raise BadWords(f"the list has no entry of its own '{its}': nothing was set")
-    return left
-
-
-def read_given(asked) -> None:
-    """The entries in words are read before anything is sent."""
-    try:
-        if asked.action == "flags":
-            if len(asked.words) != 1:
-                raise BadWords("give the list's flags as one word, with commas between them")
-            asked.given = words.read_list_flags(asked.words[0]), []
-        elif asked.action == "give":
-            if len(asked.words) > 1:
-                raise BadWords("give one FILE")
-            text = read_local(*asked.words or ["-"]).decode()
-            asked.given = words.read_list(text.splitlines())
-        elif asked.action and not asked.words and asked.action != "set":
-            raise BadWords(f"{asked.action} needs an ENTRY")
-        else:
-            asked.given = None, [words.read_entry(it) for it in asked.words]
-    except ValueError as fault:
-        raise BadWords(str(fault)) from None
+    path = there(room, asked.path)
+    show(asked, room.chown(path, owner, group), f"{shown(path)}: owner {owner}, group {group}")
 
 
 def who_may(room: Room, asked) -> None:
@@ -218,7 +73,7 @@ def who_may(room: Room, asked) -> None:
 def session(asked, settings: Settings) -> None:
     if asked.action == "finish":
         with Room(settings) as room:
-            if room.finished is None:
+            if not room.was_pending:
                 print("nothing was pending")
     elif asked.action == "close":
         with Room(settings) as room:
@@ -232,13 +87,15 @@ def session(asked, settings: Settings) -> None:
 
 def show_session(state: State, is_new: bool) -> None:
     its = state.session
-    pending = told(json.loads(its.pending)) if its.pending else "nothing"
+    pending = ", ".join(told(json.loads(state.kept[slot].pending)) for slot in state.pending()) or "nothing"
     if is_new:
+        is_known = not state.pending()
         state.begin_anew()
-        print("begun anew" + (f"; whether this was done is not known, look: {pending}" if its.pending else ""))
+        print("begun anew" + ("" if is_known else f"; whether this was done is not known, look: {pending}"))
         return
     is_open = "open" if its.is_open else "not open yet"
-    print(f"{its.user} at {its.url}\nfile {state.path}\nsession {its.name}, {is_open}, last number {its.number}\n"
+    numbers = ",".join(str(it.number) for it in state.kept)
+    print(f"{its.user} at {its.url}\nfile {state.path}\nsession {its.name}, {is_open}, last numbers {numbers}\n"
           f"pending: {pending}")
 
 
@@ -246,6 +103,16 @@ def make_report(asked) -> None:
     rights = report.read_report(read_local(asked.file))
     text = report.as_html(rights) if asked.html else "\ufeff" + report.as_csv(rights)
     write_bytes(text.encode())
+
+
+SYNC = """\
+One of FROM and TO is a folder of the room, written as room:/PATH, the other one of this machine. Files that differ in
+size, or else in their sums, go over; nothing is removed without --delete, and then into the trash where you have one.
+Links are not followed.
+
+  room sync photos room:/photos
+  room sync --delete --dry-run room:/photos photos
+"""
 
 
 def add_settings(parser: argparse.ArgumentParser) -> None:
@@ -264,7 +131,7 @@ def add_command(commands, name: str, does: Callable, about: str, *arguments: tup
     parser = commands.add_parser(name, help=about, description=about, epilog=more, formatter_class=raw)
     for word, how in arguments:
         parser.add_argument(word, **how)
-    if does is not make_report and does is not session:
+    if does not in (make_report, session, sync, documents.find, documents.trash_can, documents.get):
         parser.add_argument("--json", action="store_true", help="the room's reply, for scripts")
     parser.set_defaults(does=does)
 
@@ -276,22 +143,43 @@ def parser() -> argparse.ArgumentParser:
     add_settings(whole)
     commands = whole.add_subparsers(metavar="COMMAND", required=True)
     path = ("path", {"metavar": "PATH"})
+    paths = {"metavar": "PATH", "nargs": "+"}
     local = ("file", {"metavar": "FILE", "help": "a file here, or - for standard input"})
-    add_command(commands, "ls", ls, "what is in a folder",
-                ("path", {"metavar": "PATH", "nargs": "?", "default": "/"}))
-    add_command(commands, "get", get, "a document, to a file or standard output", path,
-                ("file", {"metavar": "FILE", "nargs": "?", "help": "a file or folder here"}))
-    add_command(commands, "put", put, "makes a document, or replaces its bytes (at most 65,536)", local,
-                ("path", {"metavar": "PATH", "help": "with a / at its end: the folder for the same name"}),
-                ("--new", {"action": "store_true", "help": "refused where something is there"}))
-    add_command(commands, "append", append, "adds bytes at a document's end", local, path)
-    add_command(commands, "rm", rm, "removes a document or an empty folder", path)
-    add_command(commands, "mv", mv, "renames or moves", path, ("to", {"metavar": "TO"}))
-    add_command(commands, "mkdir", mkdir, "makes a folder", path)
-    add_command(commands, "stat", stat, "kind, size, owner and group", path)
-    add_command(commands, "acl", acl, "shows or sets an access list in words", path,
+    below = ("-r", {"action": "store_true", "dest": "recursive", "help": "folders, with all that is in them"})
+    add_command(commands, "ls", documents.ls, "what is in a folder",
+                ("path", {"metavar": "PATH", "nargs": "?", "default": "/"}),
+                ("-l", {"action": "store_true", "dest": "long", "help": "with sizes, owners and groups"}))
+    add_command(commands, "get", documents.get, "files of the room, to a file, a folder or standard output",
+                ("paths", {"metavar": "PATH", "nargs": "+", "help": "and behind them a file or folder here"}), below)
+    add_command(commands, "put", documents.put, "makes files, or new versions of them (at most 16 MiB each)",
+                ("names", {"metavar": "FILE", "nargs": "+",
+                           "help": "files here, or - for standard input, and behind them a path of the room; "
+                                   "with a / at its end: the folder for the same name"}),
+                ("--new", {"action": "store_true", "help": "one file: refused where something is there"}), below)
+    add_command(commands, "append", documents.append, "adds bytes at the end of a document of at most 65,536", local,
+                path)
+    add_command(commands, "rm", documents.rm, "moves files and empty folders to the trash, where you have one; else "
+                "removes them", ("paths", paths), below,
+                ("--for-good", {"action": "store_true", "help": "removes them, whether there is a trash or not"}))
+    add_command(commands, "mv", documents.mv, "renames or moves",
+                ("paths", paths | {"help": "and behind them where to"}))
+    add_command(commands, "cp", documents.cp, "copies within the room; a copy has the list of where it comes to",
+                ("paths", paths | {"help": "and behind them where to"}), below)
+    add_command(commands, "find", documents.find, "what has such a name, in a folder and below it", path,
+                ("pattern", {"metavar": "NAME", "help": "a part of the name, or a pattern with * ? [..]"}))
+    add_command(commands, "sync", sync, "makes a folder as another one is, one way",
+                ("source", {"metavar": "FROM"}), ("to", {"metavar": "TO"}),
+                ("--delete", {"action": "store_true", "help": "removes what FROM has not"}),
+                ("--dry-run", {"action": "store_true", "help": "tells what it would do"}), more=SYNC)
+    add_command(commands, "trash", documents.trash_can, "what is in your trash, and where it came from",
+                ("action", {"nargs": "?", "choices": ["list", "empty", "restore"], "default": "list"}),
+                ("names", {"nargs": "*", "metavar": "NAME [TO]"}),
+                more="empty: removes it for good. restore: gives NAME its place back, or moves it to TO.")
+    add_command(commands, "mkdir", documents.mkdir, "makes a folder", path)
+    add_command(commands, "stat", documents.stat, "kind, size, owner and group", path)
+    add_command(commands, "acl", acl.acl, "shows or sets an access list in words", path,
                 ("action", {"nargs": "?", "choices": ["set", "add", "drop", "flags", "give"], "metavar": "ACTION"}),
-                ("words", {"nargs": "*", "metavar": "WORDS"}), more=ACL)
+                ("words", {"nargs": "*", "metavar": "WORDS"}), more=acl.ACL)
     add_command(commands, "chown", chown, "sets owner and group",
                 ("owner", {"metavar": "OWNER:GROUP", "help": "put -- in front where it begins with -"}), path)
     add_command(commands, "who", who_may, "who may do what, as the room decides for each name", path,
@@ -307,14 +195,29 @@ def parser() -> argparse.ArgumentParser:
     return whole
 
 
+def read_words(asked: argparse.Namespace) -> None:
+    """What is on this machine, and no more of it than it takes to see that it is too large."""
+    if asked.does is acl.acl:
+        acl.read_given(asked)
+    elif asked.does is documents.append:
+        asked.data = read_local(asked.file, MOST_BYTES + 1)
+    elif asked.does is documents.put:
+        if len(asked.names) < 2:
+            raise BadWords("give one FILE or more, and behind them a path of the room")
+        if not asked.recursive and len(asked.names) == 2:
+            asked.data = read_local(need_file(asked.names[0]), MOST + 1)
+            need_size(asked.data, asked.names[1])
+        elif asked.new:
+            raise BadWords("--new is for one file")
+    elif asked.does in (documents.mv, documents.cp) and len(asked.paths) < 2:
+        raise BadWords("give one PATH or more, and behind them where to")
+
+
 def run(asked: argparse.Namespace) -> None:
     if asked.does is make_report:
         return make_report(asked)
     # What comes from here is read first: neither the state file nor a connection waits for somebody who types.
-    if asked.does is acl:
-        read_given(asked)
-    if asked.does in (put, append):
-        asked.data = read_local(asked.file, MOST_BYTES + 1)  # (no more than it takes to see that it is too large)
+    read_words(asked)
     settings = find_settings(vars(asked), asked.config)
     if asked.does is session:
         return session(asked, settings)
@@ -329,6 +232,8 @@ def main(arguments: list[str]) -> int:
     asked = parser().parse_args(arguments)
     try:
         run(asked)
+    except Told as fault:
+        return fault.status
     except Fault as fault:
         say(str(fault))
         return fault.status

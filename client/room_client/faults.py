@@ -19,7 +19,7 @@ REFUSALS = {
     8: ("inheritance that this object cannot have: on a document none, and on a folder 'not-here' only beside it",
         "mend the entry"),
     9: ("a document has at most 65,536 bytes", "split it"),
-    10: ("a path has at most 16 names", "move it higher"),
+    10: ("a path has at most 16 names, and a large file takes two of them", "move it higher"),
     11: ("the folder is full: it has 256 things in it", "make another folder"),
     12: ("the room is full: a million things were made in it", "ask who runs the room for a new one"),
     20: ("the session is not open: the room was made anew or set back to a copy, or the session was closed",
@@ -49,9 +49,9 @@ class Fault(Exception):
 class Refused(Fault):
     """The room refused it; nothing was changed by it. `reply` is the room's."""
 
-    def __init__(self, reply: dict, command: dict | None = None):
+    def __init__(self, reply: dict, command: dict | None = None, why: str | None = None):
         self.reply = reply
-        super().__init__(refusal_line(reply, command or {}))
+        super().__init__(refusal_line(reply, command or {}, why))
 
 
 class BadWords(Fault):
@@ -78,6 +78,18 @@ class LocalFault(Fault):
     status = 5
 
 
+class NotWhole(Fault):
+    """A large file is damaged: nothing of it is given out."""
+
+    status = 6
+
+
+class OtherVersion(Fault):
+    """Somebody else's version of a file came first, and stands."""
+
+    status = 7
+
+
 @contextlib.contextmanager
 def reading(path: str) -> Iterator[None]:
     """What fails on a file here is a fault of that file."""
@@ -87,14 +99,16 @@ def reading(path: str) -> Iterator[None]:
         raise LocalFault(f"{shown(path)}: {fault.strerror}") from None
 
 
-def refusal_line(reply: dict, command: dict) -> str:
+def refusal_line(reply: dict, command: dict, why: str | None = None) -> str:
     code, name = reply["code"], reply.get("error", "?")
+    place = f" at {shown(command['path'])}" if "path" in command else ""
+    if why:
+        return f"{name} ({code}){place}: {why}"
     if code == ACCESS:
         kind = FILE if command.get("cmd") in ("READ", "WRITE", "APPEND") else FOLDER
         path, right = shown(reply["path"]), "/".join(right_words(reply["bit"], kind))
         return f"ACCESS (5) at {path}: you lack the right {right}: ask its owner, or who may set its list"
     cause, remedy = REFUSALS.get(code, ("the client does not know this refusal", "docs/CODES.md"))
-    place = f" at {shown(command['path'])}" if "path" in command else ""
     return f"{name} ({code}){place}: {cause}: {remedy}"
 
 

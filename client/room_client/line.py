@@ -1,8 +1,10 @@
 """One connection to a room or the front before it, and what one request over it comes to."""
 import base64
+import contextlib
 import http.client
 import json
 import os
+import socket
 import ssl
 from dataclasses import dataclass
 
@@ -123,6 +125,13 @@ class Line:
             self.close()
             raise
         return Answer(response.status, reply_of(text))
+
+    def end(self) -> None:
+        """Ends what is under way, from another thread: no answer comes."""
+        sock = self.connection.sock
+        if sock:
+            with contextlib.suppress(OSError):
+                sock.shutdown(socket.SHUT_RDWR)
 
     def close(self) -> None:
         self.connection.close()

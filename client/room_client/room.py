@@ -2,41 +2,27 @@
 import base64
 import contextlib
 import json
-import random
 import sys
-import time
-from collections.abc import Callable
+from collections.abc import Callable, Iterable
 
-from .faults import FBIG, BadWords, Fault, NoAnswer, Refused, refused
-from .line import Answer, Line, Lost, NotSent
+from .faults import FBIG, Fault, Refused, refused
+from .line import Line
 from .settings import Settings
-from .state import State
-from .words import shown
+from .slots import Crew, Pace, Slot, compact, told
+from .state import SLOTS, State
+from .words import is_part, shown, whole_of
 
 MOST_BYTES = 65536  # of a document
-FIRST_PAUSE, LONGEST_PAUSE = 0.05, 5.0  # seconds between two attempts
-LONGEST_ATTEMPT = 90.0  # seconds; a room may be held for a minute by somebody else
+SAME = "that was this very request, done once: give it again to do it a second time"
 CHANGES = ("APPEND", "CHOWN", "CREATE", "MKDIR", "REMOVE", "RENAME", "SETLIST", "WRITE")
-FRONT = {
-    401: "the login or its password is wrong: mend --login or the password file",
-    403: "the front does not let you in: ask who runs it",
-    404: "the front knows no room there: mend the URL",
-    413: "that is larger than the front takes: split it",
-}
-
-
-def compact(command: dict) -> str:
-    return json.dumps(command, ensure_ascii=False, separators=(",", ":"), sort_keys=True)
-
-
-def told(command: dict) -> str:
-    """A command in a few words."""
-    names = [shown(command[it]) for it in ("path", "to") if it in command]
-    return " ".join([command["cmd"], *names])
 
 
 def say(text: str) -> None:
     print(f"room: {text}", file=sys.stderr, flush=True)
+
+
+def unheard(_: dict) -> None:
+    pass
 
 
 class Room:
@@ -46,14 +32,16 @@ class Room:
     def __init__(self, settings: Settings, say: Callable[[str], None] = say):
         self.settings, self.say = settings, say
         self.state: State | None = None
-        self.finished: tuple[str, dict] | None = None  # what was pending, and its reply
-        self.is_answered = self.may_be_sent = False
+        self.finished: list[tuple[dict, dict]] = []  # what was pending, and its reply
+        self.was_pending = False
+        self.slots: dict[int, Slot] = {}
+        self.pace = Pace(is_free=settings.login is None)
 
     def __enter__(self) -> "Room":
         its = self.settings
         its.find_password()
         with contextlib.ExitStack() as opened:
-            self.line = opened.enter_context(contextlib.closing(Line(its)))
+            opened.callback(self._hang_up)
             state = State(its.state_path, its.url, its.user, its.patience)
             self.state = opened.enter_context(contextlib.closing(state))
             self._begin()
@@ -63,119 +51,103 @@ class Room:
     def __exit__(self, kind, fault, _) -> None:
         """Where all that was answered has been told, it is no longer pending."""
         with self.opened:
-            if self.is_answered and (fault is None or isinstance(fault, Fault)):
-                self.state.told()
+            if fault is None or isinstance(fault, Fault):
+                for slot in self.slots.values():
+                    if slot.is_answered:
+                        self.state.told(slot.number)
+
+    def _hang_up(self) -> None:
+        for slot in self.slots.values():
+            slot.line.close()
+
+    def slot(self, number: int = 0) -> Slot:
+        if number not in self.slots:
+            self.slots[number] = Slot(number, self.settings, self.state, self.pace, self.say)
+        return self.slots[number]
+
+    @property
+    def line(self) -> Line:
+        return self.slot().line
 
     def _begin(self) -> None:
-        its = self.state.session
-        if not its.is_open:
-            self.state.save(its)
+        pending = self.state.pending()
+        if self.state.session.is_open and self.state.session.slots < SLOTS and not pending:
+            self.close_session()  # (one of before, with one slot)
+        if not self.state.session.is_open:
+            self.state.save(self.state.session)
             self._open()
-        if its.pending is not None:
-            self._finish()
+        self.was_pending = bool(pending)
+        parts = {}
+        for number in pending:
+            command = json.loads(self.state.kept[number].pending)
+            if is_part(command):
+                done = self.slot(number).settle_part(command)
+                parts.setdefault(whole_of(command), []).append((command, done))
+            else:
+                self._finish(self.slot(number), command)
+        for whole, found in parts.items():
+            self._tell_parts(whole, found)
 
     def _open(self) -> None:
-        name = self.state.session.name
-        self.may_be_sent = False
-        self._need_done(self._until_answered("POST", f"/v1/sessions/{name}", '{"slots":1}'))
+        name, slot = self.state.session.name, self.slot()
+        slot.may_be_sent = False
+        body = compact({"slots": self.state.session.slots})
+        slot.need_done(slot.until_answered("POST", f"/v1/sessions/{name}", body))
         self.state.opened()
 
-    def _finish(self) -> None:
-        request = self.state.session.pending
-        command = json.loads(request)
-        self.may_be_sent = True
-        reply = self._send_pending(command)
-        self.finished = request, reply
+    def _finish(self, slot: Slot, command: dict) -> None:
+        reply = slot.finish(command)
+        self.finished.append((command, reply))
         came = "done" if reply["code"] == 0 else str(refused(reply, command))
         self.say(f"finished what was pending: {told(command)}: {came}")
 
-    def ask(self, command: dict) -> dict:
-        """The reply to a command, or a fault. Where the first changing one is what was pending, it is that one."""
-        request = compact(command)
+    def _tell_parts(self, whole: str, found: list[tuple[dict, dict | None]]) -> None:
+        """Of what many requests do together, only those are done that were done when it was stopped."""
+        if any(command["cmd"] in CHANGES for command, _ in found):
+            self.say(f"what was under way at {shown(whole)} was stopped: give it again")
+
+    def ask(self, command: dict, is_step: bool = False) -> dict:
+        """The reply to a command, or a fault. Where the first changing one is what was pending, it is that one; it
+        may be a step of something larger."""
         if command["cmd"] in CHANGES:
-            was, self.finished = self.finished, None
-            if was and was[0] == request and was[1]["code"] == 0:
-                self.say("that was this very request, done once: give it again to do it a second time")
-                return was[1]
-        try:
-            request.encode()
-        except UnicodeEncodeError:
-            raise BadWords("a name is no UTF-8") from None
-        self.is_answered = self.may_be_sent = False
-        self.state.record(request)
-        reply = self._send_pending(command)
+            was, self.finished = self.finished, []
+            done = next((reply for its, reply in was if its == command and reply["code"] == 0), None)
+            if done:
+                if not is_step:
+                    self.say(SAME)
+                return done
+        reply = self.slot().ask(command)
         if reply["code"] != 0:
             raise Refused(reply, command)
         return reply
 
-    def _send_pending(self, command: dict) -> dict:
-        """Sends the request on record. Where it surely was not done, it is on record no longer."""
-        its = self.state.session
-        try:
-            answer = self._until_answered("POST", f"/v1/sessions/{its.name}/slots/0/{its.number}", its.pending)
-            reply = self._need_done(answer, command)
-        except NoAnswer as fault:
-            raise NoAnswer(f"{fault}; {self._settle()}") from None
-        except Fault:
-            self._settle()
-            raise
-        except BaseException:  # (stopped at the keyboard)
-            self.say(f"{told(command)}: {self._settle()}")
-            raise
-        self.is_answered = True
-        return reply
+    def was_done(self, fits: Callable[[dict], bool]) -> dict | None:
+        """The request that was pending as the client began and was done, where it is as wanted."""
+        found = next((its for its, reply in self.finished if reply["code"] == 0 and fits(its)), None)
+        if found:
+            self.finished = []
+            self.say(SAME)
+        return found
 
-    def _settle(self) -> str:
-        """What holds of a request that got no reply, in words."""
-        if self.may_be_sent:
-            return ("whether it was done is not known: it is kept, and sent again before your next command, "
-                    "or by: room session finish")
-        self.state.withdraw()
-        return "nothing was done, and nothing is kept"
+    def ask_all(self, commands: Iterable[dict], heard: Callable[[dict], None] = unheard) -> list[dict]:
+        """The replies to some commands, refusals too, of which none waits for another: over several slots at once."""
+        commands = list(commands)
+        # (a room's port serves one connection after another: a second one would wait for the end of the first)
+        width = 1 if self.settings.login is None else self.state.session.slots
+        slots = [self.slot(number) for number in range(min(width, len(commands)))]
+        crew = Crew(commands, heard)
+        if len(slots) > 1:
+            return crew.run(slots)
+        for slot in slots:
+            crew.work(slot)
+        if crew.faults:
+            raise crew.faults[0]
+        return crew.replies
 
     def check(self, question: dict) -> dict:
         """The answer to a question about a list, which needs no session."""
-        return self._need_done(self._until_answered("POST", "/v1/check", compact(question)))
-
-    def _need_done(self, answer: Answer, command: dict | None = None) -> dict:
-        if answer.is_done:
-            return answer.reply
-        if answer.reply is not None:
-            raise refused(answer.reply, command)
-        what = FRONT.get(answer.status, "what answers there is no room: mend the URL")
-        raise NoAnswer(f"{self.settings.url} answered {answer.status}: {what}")
-
-    def _until_answered(self, method: str, target: str, body: str) -> Answer:
-        """Sends until something else than 'later' is answered, in the time that is given. Notes in `may_be_sent`
-        whether an attempt went out of which it is not known that nothing came of it."""
-        end = time.monotonic() + self.settings.patience
-        pause = FIRST_PAUSE
-        while True:
-            left = max(end - time.monotonic(), 1.0)
-            answer = self._attempt(method, target, body.encode(), min(left, LONGEST_ATTEMPT))
-            if isinstance(answer, Answer):
-                return answer
-            if time.monotonic() + pause >= end:
-                seconds = f"{self.settings.patience:g} s"
-                raise NoAnswer(f"no answer from {self.settings.url} in {seconds} ({answer}; is the room served?)")
-            self.line.close()
-            time.sleep(pause * random.uniform(0.5, 1.0))
-            pause = min(2 * pause, LONGEST_PAUSE)
-
-    def _attempt(self, method: str, target: str, body: bytes, seconds: float) -> Answer | str:
-        """An answer that settles it, or why there is none."""
-        before = self.may_be_sent
-        try:
-            self.line.open(seconds)
-            self.may_be_sent = True
-            answer = self.line.ask(method, target, body)
-        except (NotSent, Lost) as fault:
-            return str(fault)
-        if answer.is_later:
-            return f"it answered {answer.status}"
-        if answer.is_refused:
-            self.may_be_sent = before
-        return answer
+        slot = self.slot()
+        return slot.need_done(slot.until_answered("POST", "/v1/check", compact(question)))
 
     # The commands, as docs/WIRE.md has them.
 
@@ -236,6 +208,7 @@ class Room:
 
     def close_session(self) -> None:
         """Ends the session for good; the next command begins another."""
-        self.is_answered = False
-        self._need_done(self._until_answered("DELETE", f"/v1/sessions/{self.state.session.name}", ""))
+        slot = self.slot()
+        slot.is_answered = False
+        slot.need_done(slot.until_answered("DELETE", f"/v1/sessions/{self.state.session.name}", ""))
         self.state.begin_anew()

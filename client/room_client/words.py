@@ -83,6 +83,23 @@ def neat(path: str) -> str:
     return "/".join(it.strip() for it in unicodedata.normalize("NFC", path).split("/"))
 
 
+PART = ".room-"  # begins the names of what a large file is made of (docs/FILES.md)
+
+
+def is_part(command: dict) -> bool:
+    """Whether a request is a step of many, which nobody goes on with once they were stopped. (The one that gives a
+    file its name back is done, however late.)"""
+    path, to = command.get("path", ""), command.get("to", "")
+    gives_back = path.rpartition("/")[2].startswith(PART + "new-") and to and PART not in to
+    return not gives_back and any(f"/{PART}" in it for it in (path, to))
+
+
+def whole_of(command: dict) -> str:
+    """What such a request is a step of: the file, or the folder that it is in."""
+    path, to = command["path"], command.get("to", "")
+    return path if f"/{PART}" in to and f"/{PART}" not in path else path.partition(f"/{PART}")[0] or "/"
+
+
 def right_words(bit: int, *kinds: str) -> list[str]:
     """The word or words of one right, on the kinds of objects that are named."""
     file_word, folder_word = next(it[1:3] for it in RIGHTS if it[0] == bit)

@@ -295,7 +295,7 @@ class Gone(Desk):
         with self.room() as room:
             room.create("/a", b"")
             room.state.record('{"cmd":"APPEND","data":"eA==","path":"/a"}')
-            room.is_answered = False
+            room.slot().is_answered = False
         self.assertIn("\npending: APPEND /a\n", self.does("session")[1])
         self.prints("session", "new", want="begun anew; whether this was done is not known, look: APPEND /a\n")
         self.prints("get", "/a", want="")

@@ -1,0 +1,283 @@
+"""The commands on files and folders: each is given a room and its words, and shows what came of it."""
+import os
+
+from . import files, local, trash, trees, words
+from . import manifest as form
+from .faults import BadWords, Fault, LocalFault, Refused
+from .local import Progress, fits_here
+from .room import Room
+from .showing import Faults, show, write_bytes
+from .words import FILE, FOLDER, neat, shown
+
+OF_ONE = *trees.OF_ONE, BadWords
+
+
+def into(path: str, name: str) -> str:
+    """A path that ends with / is a folder, for the same name."""
+    return path + os.path.basename(name.rstrip("/")) if path.endswith("/") else path
+
+
+def targets(to: str, names: list[str]) -> list[str]:
+    """Where each goes: several go into a folder."""
+    return [neat(into(to if len(names) == 1 else to.rstrip("/") + "/", it)) for it in names]
+
+
+def there(room: Room, path: str) -> str:
+    """The path of something that is there: as it was given, or as it would have been made."""
+    if neat(path) != path:
+        try:
+            room.stat(path)
+        except Refused as fault:
+            return neat(path) if files.refused_as(fault, "NOENT") else path
+    return path
+
+
+def each(items: list, does) -> None:
+    faults = Faults(len(items))
+    for it in items:
+        try:
+            does(it)
+        except OF_ONE as fault:
+            faults.take(fault)
+    faults.end()
+
+
+# Looking
+
+def ls(room: Room, asked) -> None:
+    path = there(room, asked.path)
+    reply = room.ask({"cmd": "LIST", "path": path})
+    if asked.json and not asked.long:
+        return show(asked, reply, "")
+    names = dict(reply["names"])
+    if form.NAME in names and files.manifest_at(room, path):
+        raise Refused({"code": 2, "error": "NOTDIR"}, {"path": path})
+    left = [it for it in names if it.startswith(words.PART)]
+    folders = [it for it, kind in names.items() if kind == FOLDER and it not in left]
+    large = dict(zip(folders, files.manifests(room, [trees.join(path, it) for it in folders])))
+    seen = {it: FILE if large.get(it) else kind for it, kind in names.items() if it not in left}
+    if asked.long:
+        long_lines(room, asked, path, seen, large)
+    else:
+        show(asked, reply, "\n".join(shown(it) + "/" * (kind == FOLDER) for it, kind in seen.items()))
+    for it in left:
+        room.say(f"{shown(trees.join(path, it))} was left by an upload that was stopped, or is under way")
+
+
+def long_lines(room: Room, asked, path: str, seen: dict[str, str], large: dict) -> None:
+    """A line for each name with its size, and whose it is."""
+    replies = room.ask_all({"cmd": "STAT", "path": trees.join(path, it)} for it in seen)
+    rows = []
+    for name, its in zip(seen, replies):
+        size = large[name].size if large.get(name) else its.get("size")
+        whose = f"{its['owner']}:{its['group']}" if its["code"] == 0 else "?"
+        rows.append({"name": name, "kind": seen[name], "size": size, "whose": whose})
+    if asked.json:
+        return show(asked, rows, "")
+    sizes = [f"{it['size']} inside" if it["kind"] == FOLDER else str(it["size"]) for it in rows]
+    wide, wider = (max(map(len, its), default=0) for its in (sizes, [it["whose"] for it in rows]))
+    lines = [f"{size:>{wide}}  {it['whose']:{wider}}  {shown(it['name'])}" + "/" * (it["kind"] == FOLDER)
+             for it, size in zip(rows, sizes)]
+    show(asked, rows, "\n".join(lines))
+
+
+def stat(room: Room, asked) -> None:
+    path = there(room, asked.path)
+    its = room.stat(path)
+    large = its["kind"] == FOLDER and files.manifest_at(room, path)
+    if large:
+        what = f"file, {large.size} bytes in {len(large.pieces)} pieces"
+    else:
+        what = f"{its['kind']}, {its['size']} {'inside' if its['kind'] == FOLDER else 'bytes'}"
+        if its["kind"] == FOLDER and its["size"] and form.is_unfinished(room.children(path)):
+            what = "unfinished upload"
+    flags = words.list_flag_words(its["aclflag"])
+    show(asked, its, f"{what}, owner {its['owner']}, group {its['group']}, list flags {flags}")
+
+
+def find(room: Room, asked) -> None:
+    for path in trees.find(room, there(room, asked.path), asked.pattern):
+        print(shown(path))
+
+
+# Getting
+
+def get(room: Room, asked) -> None:
+    *paths, to = asked.paths if len(asked.paths) > 1 else [*asked.paths, None]
+    paths = [there(room, it) for it in paths]
+    if asked.recursive:
+        return each(paths, lambda it: get_folder(room, asked, it, to or ".", len(paths) > 1))
+    if len(paths) > 1 and not os.path.isdir(to):
+        raise LocalFault(f"{shown(to)} is no folder here, and several files are to go there")
+    each(paths, lambda it: get_one(room, it, to))
+
+
+def get_one(room: Room, path: str, to: str | None) -> None:
+    data = read_all(room, path)
+    if to is None or to == "-":
+        return write_bytes(data)
+    name = os.path.basename(path)
+    if os.path.isdir(to):
+        if not fits_here(name):
+            raise LocalFault(f"{shown(name)} is no name of a file here: name another one")
+        to = os.path.join(to, name)
+    local.write_local(to, data)
+    print(f"{len(data)} bytes to {shown(to)}", flush=True)
+
+
+def read_all(room: Room, path: str) -> bytes:
+    bar = Progress(path, None, form.PIECE)
+    try:
+        return files.read(room, path, bar.heard)
+    finally:
+        bar.end()
+
+
+def get_folder(room: Room, asked, path: str, to: str, is_one_of_some: bool) -> None:
+    """What is in a folder of the room, into a folder here."""
+    if room.stat(path)["kind"] == FILE or files.manifest_at(room, path):
+        return get_one(room, path, to)
+    if is_one_of_some or to == "." or to.endswith("/"):
+        to = os.path.join(to, os.path.basename(path.rstrip("/")))
+    tree = trees.tree_of(room, path)
+    paths = [it for it, kind in sorted(tree.kinds.items()) if can_be_here(room, path, it)]
+    local.make_below(to, [])
+    faults = Faults(0)
+    for it in paths:
+        if tree.kinds[it] == FOLDER:
+            local.make_below(to, it.split("/"))
+
+    def take(it: str, data: bytes | Fault) -> None:
+        try:
+            if isinstance(data, Fault):
+                raise data
+            local.write_below(to, it.split("/"), data)
+            print(f"{len(data)} bytes to {shown(os.path.join(to, it))}", flush=True)
+        except OF_ONE as fault:
+            faults.take(fault)
+
+    trees.fetch_all(room, path, [it for it in paths if tree.kinds[it] == FILE], tree.large, take)
+    faults.end()
+
+
+def can_be_here(room: Room, top: str, path: str) -> bool:
+    if all(map(fits_here, path.split("/"))):
+        return True
+    room.say(f"{shown(trees.join(top, path))} is left out: no file here can have that name")
+    return False
+
+
+# Putting
+
+def put(room: Room, asked) -> None:
+    *names, to = asked.names
+    if not asked.recursive and len(names) == 1:
+        return put_one(room, asked, names[0], neat(into(to, names[0])))
+    pairs, faults = [], Faults(0)
+    for name, path in zip(names, targets(to, names)):
+        if asked.recursive and os.path.isdir(name):
+            tree = local.tree_here(name, room.say)
+            trees.make_folders(room, path, [it for it in tree.kinds if tree.kinds[it] == FOLDER])
+            pairs += [(tree.places[it], trees.join(path, it)) for it in tree.kinds if tree.kinds[it] == FILE]
+        else:
+            pairs.append((name, path))
+
+    def told(it: trees.Sent) -> None:
+        if it.fault:
+            return faults.take(it.fault)
+        show(asked, {"code": 0, "size": it.size}, f"{shown(it.path)}: {it.size} bytes")
+
+    trees.send_all(room, pairs, told)
+    faults.end()
+
+
+def put_one(room: Room, asked, name: str, path: str) -> None:
+    bar = Progress(path, len(asked.data), form.PIECE)
+    fills = os.path.basename(name) == os.path.basename(path)
+    try:
+        files.write(room, path, asked.data, is_new=asked.new, fills=fills, heard=bar.heard)
+    finally:
+        bar.end()
+    show(asked, {"code": 0, "size": len(asked.data)}, f"{shown(path)}: {len(asked.data)} bytes")
+
+
+def append(room: Room, asked) -> None:
+    path = there(room, asked.path)
+    reply = room.append(path, asked.data)
+    show(asked, reply, f"{shown(path)}: {reply['size']} bytes")
+
+
+def mkdir(room: Room, asked) -> None:
+    path = neat(asked.path)
+    show(asked, room.mkdir(path), f"{shown(path)}: made")
+
+
+# Moving and removing
+
+def mv(room: Room, asked) -> None:
+    *paths, to = asked.paths
+
+    def move(pair: tuple[str, str]) -> None:
+        path = there(room, pair[0])
+        show(asked, room.rename(path, pair[1]), f"{shown(path)} is now {shown(pair[1])}")
+
+    each(list(zip(paths, targets(to, paths))), move)
+
+
+def cp(room: Room, asked) -> None:
+    *paths, to = asked.paths
+
+    def copy(pair: tuple[str, str]) -> None:
+        path = there(room, pair[0])
+        if asked.recursive and room.stat(path)["kind"] == FOLDER and not files.manifest_at(room, path):
+            return copy_folder(room, asked, path, pair[1])
+        data = read_all(room, path)
+        files.write(room, pair[1], data)
+        show(asked, {"code": 0, "size": len(data)}, f"{shown(path)} is also {shown(pair[1])}")
+
+    each(list(zip(paths, targets(to, paths))), copy)
+
+
+def copy_folder(room: Room, asked, path: str, to: str) -> None:
+    if f"{to}/".startswith(f"{path}/"):
+        raise Refused({"code": 7, "error": "INVAL"}, {"path": path})
+    tree = trees.tree_of(room, path)
+    trees.make_folders(room, to, [it for it, kind in tree.kinds.items() if kind == FOLDER])
+    faults = Faults(0)
+
+    def take(it: str, data: bytes | Fault) -> None:
+        try:
+            if isinstance(data, Fault):
+                raise data
+            one, other = trees.join(path, it), trees.join(to, it)
+            files.write(room, other, data)
+            show(asked, {"code": 0, "size": len(data)}, f"{shown(one)} is also {shown(other)}")
+        except OF_ONE as fault:
+            faults.take(fault)
+
+    trees.fetch_all(room, path, [it for it, kind in tree.kinds.items() if kind == FILE], tree.large, take)
+    faults.end()
+
+
+def rm(room: Room, asked) -> None:
+    place = None if asked.for_good else trash.trash_of(room)
+
+    def remove(path: str) -> None:
+        path = there(room, path)
+        name = trash.discard(room, path, place, asked.recursive)
+        show(asked, {"code": 0}, f"{shown(path)}: removed" if name is None else f"{shown(path)}: in {shown(place)}")
+
+    each(asked.paths, remove)
+
+
+def trash_can(room: Room, asked) -> None:
+    if asked.action == "empty":
+        count = trash.empty(room)
+        print(f"{count} removed for good")
+    elif asked.action == "restore":
+        if not 1 <= len(asked.names) <= 2:
+            raise BadWords("room trash restore NAME [TO]")
+        print(f"{shown(trash.restore(room, *asked.names, *[None] * (2 - len(asked.names))))}: restored")
+    else:
+        for name, place in trash.what_is_there(room, trash.need_trash(room)):
+            print(shown(name) + (f"  (from {shown(place)})" if place else ""))

@@ -1,0 +1,345 @@
+"""Files of up to 16 MiB: a small one is a document, and a large one a folder with pieces and a manifest."""
+import base64
+from collections.abc import Callable
+from dataclasses import dataclass
+
+from . import manifest as form
+from .faults import ACCESS, Fault, NotWhole, OtherVersion, Refused, refused
+from .manifest import MOST, Manifest, read_manifest
+from .room import MOST_BYTES, Room, unheard
+from .words import FILE, FOLDER, INHERITED, TO_FILES, TO_FOLDERS, shown
+
+TRIES = 5  # of a reader that meets one new version after another
+# On a document's list, and what the folder that takes its place has to allow beside it.
+BESIDE = {0x1: 0x20, 0x2: 0x66, 0x4: 0x66}
+TOO_LARGE = "a file has at most 16 MiB (16,777,216 bytes): split it; nothing was sent"
+DEEPEST = 14  # names of the path of a large file
+
+
+def folder_of(path: str) -> tuple[str, str]:
+    """The folder above with a / at its end, and the name."""
+    above, _, name = path.rpartition("/")
+    return above + "/", name
+
+
+def overtaken(path: str, more: str = "") -> str:
+    return (f"{shown(path)}: somebody else wrote another version meanwhile, or removed it, and what they did "
+            f"stands{more}: look at it, and put yours again where it is to take its place")
+
+
+def need_size(data: bytes, path: str) -> None:
+    if len(data) > MOST:
+        raise Refused({"code": 9, "error": "FBIG"}, {"path": path}, TOO_LARGE)
+
+
+def refused_as(fault: Refused, *names: str) -> bool:
+    return fault.reply.get("error") in names
+
+
+def text_at(room: Room, path: str) -> bytes | None:
+    """What the manifest's document has, or None where there is none."""
+    try:
+        return room.read(f"{path}/{form.NAME}")
+    except Refused as fault:
+        if refused_as(fault, "NOENT", "ISDIR", "NOTDIR"):
+            return None
+        raise
+
+
+def manifest_at(room: Room, path: str) -> Manifest | None:
+    text = text_at(room, path)
+    return None if text is None else read_manifest(text)
+
+
+def manifests(room: Room, paths: list[str]) -> list[Manifest | None]:
+    """Of folders, which of them are large files: where one may not look, it is a folder."""
+    replies = room.ask_all({"cmd": "READ", "path": f"{path}/{form.NAME}"} for path in paths)
+    return [read_manifest(base64.b64decode(it["data"])) if it["code"] == 0 else None for it in replies]
+
+
+# Reading
+
+def read(room: Room, path: str, heard: Callable[[dict], None] = unheard) -> bytes:
+    """All bytes of a file, of one version."""
+    try:
+        return room.read(path)
+    except Refused as fault:
+        if not refused_as(fault, "ISDIR"):
+            raise
+        text = text_at(room, path)
+        if text is None or read_manifest(text) is None:
+            raise fault
+    for _ in range(TRIES):
+        its = read_manifest(text)
+        data = its and pieces_of(room, path, its, heard)
+        if data is not None:
+            return data
+        before, text = text, text_at(room, path)
+        if text is None:
+            raise Refused({"code": 1, "error": "NOENT"}, {"path": path})
+        if text == before:
+            raise NotWhole(f"{shown(path)} is damaged: its pieces are not what its manifest says, and nothing of it is "
+                           "given out: put it again, or ask who keeps the backup")
+    raise OtherVersion(f"{shown(path)}: new versions come too fast: get it again")
+
+
+def pieces_of(room: Room, path: str, its: Manifest, heard: Callable[[dict], None]) -> bytes | None:
+    """None where it is not whole."""
+    commands = [{"cmd": "READ", "keep": False, "path": f"{path}/{its.folder}/{it}"} for it in its.pieces]
+    replies = room.ask_all(commands, heard)
+    denied = next((it for it in zip(replies, commands) if it[0]["code"] == ACCESS), None)
+    if denied:
+        raise Refused(*denied)
+    data = b"".join(base64.b64decode(it.get("data", "")) for it in replies)
+    return data if all(it["code"] == 0 for it in replies) and its.is_of(data) else None
+
+
+# Writing
+
+def write(room: Room, path: str, data: bytes, *, is_new: bool = False, fills: bool = False,
+          heard: Callable[[dict], None] = unheard) -> None:
+    """Makes the file, or a new version of it: with `is_new` only where nothing is there. With `fills` an empty folder
+    is taken for what is left of an upload that was stopped."""
+    need_size(data, path)
+    if len(data) > MOST_BYTES:
+        return Upload(room, path, data, heard).run(is_new, fills)
+    try:
+        if is_new:
+            room.create(path, data)
+        else:
+            room.put(path, data)
+    except Refused as fault:
+        if is_new or not refused_as(fault, "ISDIR") or not is_file_folder(room, path):
+            raise
+        Upload(room, path, data, heard).run(is_new, fills)
+
+
+def is_file_folder(room: Room, path: str) -> bool:
+    names = room.children(path)
+    return form.is_unfinished(names) or form.NAME in names and manifest_at(room, path) is not None
+
+
+@dataclass
+class Upload:
+    """One new version of a file that is a folder, or becomes one."""
+
+    room: Room
+    path: str
+    data: bytes
+    heard: Callable[[dict], None]
+
+    def __post_init__(self):
+        self.its = Manifest.of(self.data)
+        self.names: dict[str, str] = {}  # what was in the folder as it began
+        self.before: bytes | None = None  # the manifest's text then
+
+    def run(self, is_new: bool, fills: bool) -> None:
+        if self.path.count("/") > DEEPEST:
+            raise Refused({"code": 10, "error": "TOO_DEEP"}, {"path": self.path})
+        made, its_document = self.begin(is_new, fills)
+        if its_document is not None:
+            return Replacement(self, its_document).run()
+        try:
+            self.put_pieces(self.path)
+        except Refused:
+            if made:
+                remove_one(self.room, self.path)
+            raise
+        if not made and text_at(self.room, self.path) != self.before:
+            self.give_way("")
+        self.put_manifest(self.path, self.before is None)
+        try:
+            self.look_after()
+            clear_beside(self.room, self.path)
+        except Refused as fault:
+            self.room.say(f"{shown(self.path)}: it is there, and what was before it is not cleared: {fault}")
+
+    def begin(self, is_new: bool, fills: bool) -> tuple[bool, dict | None]:
+        """Whether the file's folder was made, and the document (as STAT has it) that is there instead."""
+        try:
+            self.room.ask({"cmd": "MKDIR", "path": self.path}, is_step=True)
+            return True, None
+        except Refused as fault:
+            if is_new or not refused_as(fault, "EXIST"):
+                raise
+        its = self.room.stat(self.path)
+        if its["kind"] == FILE:
+            return False, its
+        self.names = self.room.children(self.path)
+        self.before = text_at(self.room, self.path) if form.NAME in self.names else None
+        is_left = form.is_unfinished(self.names)
+        if not (is_left or self.before and read_manifest(self.before) or fills and not self.names):
+            raise Refused({"code": 3, "error": "ISDIR"}, {"path": self.path})
+        if is_left or any(it.startswith((form.WRITING, form.GONE)) for it in self.names):
+            self.room.say(f"{shown(self.path)}: an upload was stopped here, or is under way: what it left is cleared")
+        return False, None
+
+    def put_pieces(self, at: str) -> None:
+        """All pieces in a folder of that name, which is there once they are."""
+        writing = f"{at}/{form.other_name(form.WRITING)}"
+        self.room.ask({"cmd": "MKDIR", "path": writing}, is_step=True)
+        commands = [{"cmd": "CREATE", "data": base64.b64encode(piece).decode(), "path": f"{writing}/{name}"}
+                    for name, piece in form.split(self.data, self.its)]
+        replies = self.room.ask_all(commands, self.heard)
+        failed = next((it for it in zip(replies, commands) if it[0]["code"] != 0), None)
+        try:
+            if failed:
+                raise refused(*failed)
+            self.room.rename(writing, f"{at}/{self.its.folder}")
+        except Refused as fault:
+            if refused_as(fault, "NOENT"):
+                self.give_way("")
+            clear(self.room, at, writing.rpartition("/")[2])
+            raise
+
+    def give_way(self, more: str) -> None:
+        """Somebody else's version came first."""
+        clear(self.room, self.path, self.its.folder)
+        raise OtherVersion(overtaken(self.path, more))
+
+    def put_manifest(self, at: str, is_first: bool) -> None:
+        """The one request that is the new version."""
+        path, text = f"{at}/{form.NAME}", self.its.text()
+        try:
+            self.room.create(path, text) if is_first else self.room.write(path, text)
+        except Refused as fault:
+            if refused_as(fault, "EXIST", "NOENT"):
+                self.give_way("")
+            clear(self.room, at, self.its.folder)
+            raise
+
+    def look_after(self) -> None:
+        """Whether the new version is whole, and then clears what was before it."""
+        now = text_at(self.room, self.path)
+        if now != self.its.text():
+            return self.give_way(", and came right behind yours")
+        names = self.room.children(self.path)
+        if self.its.folder not in names:  # (another writer, who began before, took it for left over)
+            self.put_pieces(self.path)
+        old = read_manifest(self.before) if self.before else None
+        for name in names:
+            is_old = name.startswith(form.PIECES) and name != self.its.folder and (
+                name in self.names or old and name == old.folder)
+            if is_old or name.startswith((form.WRITING, form.GONE)):
+                clear(self.room, self.path, name)
+
+
+class Replacement:
+    """A document gives its name to a large file, which keeps its owner and its list."""
+
+    def __init__(self, upload: Upload, its: dict):
+        self.room, self.path, self.upload, self.its = upload.room, upload.path, upload, its
+        self.above, name = folder_of(self.path)
+        self.gone, self.new = (self.above + it for it in form.beside(name))
+
+    def run(self) -> None:
+        before = self.room.read(self.path)
+        clear_beside(self.room, self.path)
+        self.room.ask({"cmd": "MKDIR", "path": self.new}, is_step=True)
+        try:
+            self.take_list()
+            self.upload.put_pieces(self.new)
+            self.upload.put_manifest(self.new, True)
+            self.take_owner()
+            self.need_same(before)
+            self.room.rename(self.path, self.gone)
+        except Fault:
+            clear(self.room, self.above.rstrip("/"), self.new.rpartition("/")[2])
+            raise
+        self.take_name()
+        clear_beside(self.room, self.path)
+
+    def take_list(self) -> None:
+        """The document's own entries, handed down to the pieces, with what it takes to get at them."""
+        found = self.room.get_list(self.path)
+        own = [carried(it) for it in found["entries"] if not it["flag"] & INHERITED]
+        if own or found["aclflag"] != 1:
+            inherited = [] if found["aclflag"] & 3 == 1 else [
+                carried(it) for it in found["entries"] if it["flag"] & INHERITED]
+            self.room.set_list(self.new, found["aclflag"], own + inherited)
+
+    def take_owner(self) -> None:
+        now = self.room.stat(self.new)
+        if (now["owner"], now["group"]) == (self.its["owner"], self.its["group"]):
+            return
+        try:
+            self.room.chown(self.new, self.its["owner"], self.its["group"])
+        except Refused:
+            whose = f"{self.its['owner']} and {self.its['group']}"
+            raise OtherVersion(f"{shown(self.path)} is of {whose}, and a large file in its place would be yours: ask "
+                               "its owner to put it, or choose another name") from None
+
+    def need_same(self, before: bytes) -> None:
+        if self.room.stat(self.path)["kind"] != FILE or self.room.read(self.path) != before:
+            raise OtherVersion(overtaken(self.path))
+
+    def take_name(self) -> None:
+        """Between the two, nothing has the name."""
+        try:
+            self.room.rename(self.new, self.path)
+        except Refused as fault:
+            if not refused_as(fault, "EXIST"):
+                self.room.rename(self.gone, self.path)
+            raise
+
+
+def carried(entry: dict) -> dict:
+    """An entry of a document, for the folder in its place."""
+    more = 0
+    for bit, extra in BESIDE.items():
+        if entry["mask"] & bit and entry["type"] == 0:
+            more |= extra
+    return entry | {"flag": entry["flag"] & ~INHERITED | TO_FILES | TO_FOLDERS, "mask": entry["mask"] | more}
+
+
+# Removing and clearing
+
+def clear(room: Room, at: str, name: str) -> None:
+    """Takes a folder out of a file, in one request, and then removes it. What is in the way is told, and left."""
+    gone = f"{at}/{form.other_name(form.GONE)}"
+    try:
+        if not name.startswith(form.GONE):
+            room.rename(f"{at}/{name}", gone)
+        else:
+            gone = f"{at}/{name}"
+        remove_all(room, gone)
+    except Refused as fault:
+        if not refused_as(fault, "NOENT", "NOTDIR"):
+            room.say(f"{shown(gone)} is left of it: {fault}")
+
+
+def clear_beside(room: Room, path: str) -> None:
+    """What a document's replacement left beside it, where it was stopped."""
+    above, name = folder_of(path)
+    left = set(form.beside(name)) & room.children(above.rstrip("/") or "/").keys()
+    for it in sorted(left):
+        clear(room, above.rstrip("/"), it)
+
+
+def remove_all(room: Room, path: str) -> None:
+    """An object with all that is in it: the manifest of a large file first."""
+    try:
+        names = room.children(path)
+    except Refused as fault:
+        if not refused_as(fault, "NOTDIR"):
+            raise
+        names = {}
+    if form.NAME in names:
+        remove_one(room, f"{path}/{form.NAME}")
+    commands = [{"cmd": "REMOVE", "path": f"{path}/{name}"} for name, kind in names.items()
+                if kind == FILE and name != form.NAME]
+    for reply, command in zip(room.ask_all(commands), commands):
+        if reply["code"] and reply.get("error") != "NOENT":
+            raise refused(reply, command)
+    for name, kind in names.items():
+        if kind == FOLDER:
+            remove_all(room, f"{path}/{name}")
+    remove_one(room, path)
+
+
+def remove_one(room: Room, path: str) -> None:
+    try:
+        room.ask({"cmd": "REMOVE", "path": path}, is_step=True)
+    except Refused as fault:
+        if not refused_as(fault, "NOENT"):
+            raise

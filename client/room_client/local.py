@@ -1,0 +1,167 @@
+"""Files and folders of this machine: whole files alone are put in place, and no link is followed out of a folder."""
+import os
+import secrets
+import stat
+import sys
+from collections.abc import Callable, Iterator
+from contextlib import closing, contextmanager, suppress
+from dataclasses import dataclass, field
+
+from .faults import LocalFault, reading
+from .words import FILE, FOLDER, PART, neat, shown
+
+FOLDER_HERE = os.O_RDONLY | os.O_DIRECTORY | os.O_CLOEXEC
+NEW_HERE = os.O_WRONLY | os.O_CREAT | os.O_EXCL | os.O_CLOEXEC
+BAR = 1 << 18  # bytes from which on progress is shown
+
+
+def read_local(name: str, most: int = -1) -> bytes:
+    """A file's bytes, or those of standard input for `-`."""
+    with reading(name), sys.stdin.buffer if name == "-" else open(name, "rb") as file:
+        return file.read(most)
+
+
+def write_local(name: str, data: bytes) -> None:
+    """A file is there whole, or as it was before."""
+    with reading(name):
+        name = os.path.realpath(name)
+        if os.path.exists(name) and not stat.S_ISREG(os.stat(name).st_mode):
+            with open(name, "wb") as file:  # (a pipe, or a terminal)
+                file.write(data)
+            return
+        with open_folder(os.path.dirname(name), []) as folder:
+            put_in_place(folder, os.path.basename(name), data)
+
+
+def write_below(top: str, names: list[str], data: bytes) -> None:
+    """A file below a folder, by names that come from elsewhere."""
+    with reading(os.path.join(top, *names)), open_folder(top, names[:-1]) as folder:
+        put_in_place(folder, names[-1], data)
+
+
+def make_below(top: str, names: list[str]) -> None:
+    with reading(os.path.join(top, *names)), open_folder(top, names):
+        pass
+
+
+def remove_below(top: str, names: list[str], kind: str) -> None:
+    with reading(os.path.join(top, *names)), open_folder(top, names[:-1]) as folder:
+        (os.rmdir if kind == FOLDER else os.remove)(names[-1], dir_fd=folder)
+
+
+@contextmanager
+def open_folder(top: str, names: list[str]) -> Iterator[int]:
+    """A folder below `top`, made where it is not there. None of the names is followed as a link."""
+    if not names:
+        os.makedirs(top, exist_ok=True)
+    folder = os.open(top, FOLDER_HERE)
+    try:
+        for name in names:
+            with suppress(FileExistsError):
+                os.mkdir(name, dir_fd=folder)
+            below = os.open(name, FOLDER_HERE | os.O_NOFOLLOW, dir_fd=folder)
+            os.close(folder)
+            folder = below
+        yield folder
+    finally:
+        os.close(folder)
+
+
+def put_in_place(folder: int, name: str, data: bytes) -> None:
+    part = f"{PART}part-{secrets.token_hex(8)}"
+    with open(os.open(part, NEW_HERE, 0o666, dir_fd=folder), "wb") as file:
+        try:
+            with suppress(FileNotFoundError):
+                its = os.stat(name, dir_fd=folder, follow_symlinks=False)
+                if stat.S_ISREG(its.st_mode):
+                    os.fchmod(file.fileno(), stat.S_IMODE(its.st_mode))
+            file.write(data)
+            file.flush()
+            os.replace(part, name, src_dir_fd=folder, dst_dir_fd=folder)
+        except BaseException:
+            with suppress(OSError):
+                os.remove(part, dir_fd=folder)
+            raise
+
+
+def fits_here(name: str) -> bool:
+    """Whether a name of the room is one that a file here can have."""
+    return name not in (".", "..") and "/" not in name and "\0" not in name and not name.startswith(PART)
+
+
+@dataclass
+class Tree:
+    """What is below a folder: for each path, with / between its names, its kind and where it is; and what was left
+    out, which nobody knows the inside of."""
+
+    kinds: dict[str, str] = field(default_factory=dict)
+    places: dict[str, str] = field(default_factory=dict)
+    left_out: set[str] = field(default_factory=set)
+
+    def is_known(self, path: str) -> bool:
+        """Whether nothing at, above or below a path was left out."""
+        return not any(f"{it}/".startswith(f"{path}/") or path.startswith(f"{it}/") for it in self.left_out)
+
+
+def tree_here(top: str, say: Callable[[str], None]) -> Tree:
+    """Files and folders below a folder, by the names that they get in the room."""
+    tree = Tree()
+    with reading(top):
+        walk_here(top, "", tree, say)
+    return tree
+
+
+def walk_here(at: str, above: str, tree: Tree, say: Callable[[str], None]) -> None:
+    with closing(os.scandir(at)) as found:
+        entries = sorted(found, key=lambda it: it.name)
+    for it in entries:
+        path, why = above + neat(it.name), why_not(it)
+        if path in tree.kinds:
+            why = "another one gets the same name in the room"
+        if why:
+            tree.left_out.add(path)
+            say(f"{shown(it.path)} is left out: {why}")
+            continue
+        tree.kinds[path] = FOLDER if it.is_dir(follow_symlinks=False) else FILE
+        tree.places[path] = it.path
+        if tree.kinds[path] == FOLDER:
+            with reading(it.path):
+                walk_here(it.path, path + "/", tree, say)
+
+
+def why_not(it: os.DirEntry) -> str | None:
+    """Why a file does not go into the room."""
+    if it.is_symlink():
+        return "it is a link, and links are not followed"
+    if not it.is_dir() and not it.is_file():
+        return "it is neither a file nor a folder"
+    try:
+        it.name.encode()
+    except UnicodeEncodeError:
+        return "its name is no UTF-8"
+    return "its name is one of the client's own" if it.name.startswith(PART) else None
+
+
+class Progress:
+    """One line at a terminal on how far it is, gone in the end. Of a size that is not known, how much came."""
+
+    def __init__(self, name: str, size: int | None, piece: int):
+        self.name, self.size, self.piece, self.done = name, size, piece, 0
+        self.is_shown = (size is None or size >= BAR) and sys.stderr.isatty()
+
+    def heard(self, reply: dict) -> None:
+        self.done += self.piece
+        if self.is_shown and reply["code"] == 0:
+            far = f"{self.done >> 10} KiB" if self.size is None else f"{min(100 * self.done // self.size, 100)} %"
+            print(f"\r{shown(self.name)}: {far}", end="", file=sys.stderr, flush=True)
+
+    def end(self) -> None:
+        if self.is_shown and self.done:
+            print("\r\033[K", end="", file=sys.stderr, flush=True)
+
+
+def need_file(name: str) -> str:
+    """(A folder is told before anything is sent.)"""
+    if name != "-" and os.path.isdir(name):
+        raise LocalFault(f"{shown(name)} is a folder: -r puts it with what is in it")
+    return name

@@ -1,0 +1,42 @@
+"""How a command shows what came of it."""
+import json
+import sys
+
+from .faults import Fault, SessionLost
+from .room import say
+
+
+class Told(Fault):
+    """What went wrong was told already; its exit status is left."""
+
+    def __init__(self, status: int):
+        super().__init__("")
+        self.status = status
+
+
+def show(asked, reply: dict | list, text: str) -> None:
+    if asked.json or text:
+        print(json.dumps(reply, ensure_ascii=False) if asked.json else text, flush=True)
+
+
+def write_bytes(data: bytes) -> None:
+    sys.stdout.flush()
+    sys.stdout.buffer.write(data)
+    sys.stdout.buffer.flush()
+
+
+class Faults:
+    """Of several things: what fails is told, the others are done, and the first fault's status is the whole's."""
+
+    def __init__(self, count: int):
+        self.count, self.first = count, None
+
+    def take(self, fault: Fault) -> None:
+        if self.count == 1 or isinstance(fault, SessionLost):
+            raise fault
+        say(str(fault))
+        self.first = self.first or fault
+
+    def end(self) -> None:
+        if self.first:
+            raise Told(self.first.status)

@@ -1,0 +1,214 @@
+"""The slots of a session: each sends one request after another over a connection of its own, until it is answered."""
+import json
+import random
+import threading
+import time
+from collections.abc import Callable, Sequence
+
+from .faults import BadWords, Fault, NoAnswer, refused
+from .line import Answer, Line, Lost, NotSent
+from .settings import Settings
+from .state import State
+from .words import shown
+
+FIRST_PAUSE, LONGEST_PAUSE = 0.05, 5.0  # seconds between two attempts
+LONGEST_ATTEMPT = 90.0  # seconds; a room may be held for a minute by somebody else
+RATE, BURST = 95.0, 60.0  # requests a second: a front takes 100 of a login, and a page may be open beside
+FALSE_RETRY, UNCACHED = 23, 25
+HARMLESS = {"cmd": "STAT", "path": "/"}
+FRONT = {
+    401: "the login or its password is wrong: mend --login or the password file",
+    403: "the front does not let you in, or you began too many sessions: wait a minute, or ask who runs it",
+    404: "the front knows no room there: mend the URL",
+    413: "that is larger than the front takes: split it",
+}
+
+
+def compact(command: dict) -> str:
+    return json.dumps(command, ensure_ascii=False, separators=(",", ":"), sort_keys=True)
+
+
+def told(command: dict) -> str:
+    """A command in a few words."""
+    names = [shown(command[it]) for it in ("path", "to") if it in command]
+    return " ".join([command["cmd"], *names])
+
+
+class Pace:
+    """Keeps all slots together below what a front takes."""
+
+    def __init__(self, is_free: bool):
+        self.lock, self.is_free = threading.Lock(), is_free
+        self.left, self.at = BURST, time.monotonic()
+
+    def wait(self) -> None:
+        if self.is_free:
+            return
+        with self.lock:
+            now = time.monotonic()
+            self.left, self.at = min(self.left + (now - self.at) * RATE, BURST) - 1, now
+            pause = max(-self.left / RATE, 0)
+        time.sleep(pause)
+
+
+class Slot:
+    """One slot. A request is on record before it is sent, and until its reply was told: until the next request."""
+
+    def __init__(self, number: int, settings: Settings, state: State, pace: Pace, say: Callable[[str], None]):
+        self.number, self.settings, self.state, self.pace, self.say = number, settings, state, pace, say
+        self.line = Line(settings)
+        self.is_answered = self.may_be_sent = self.is_stopped = False
+
+    def ask(self, command: dict) -> dict:
+        """The room's reply, a refusal too. One that was not to be kept, and is lost, is asked for anew."""
+        request = compact(command)
+        try:
+            request.encode()
+        except UnicodeEncodeError:
+            raise BadWords("a name is no UTF-8") from None
+        while True:
+            self.is_answered = self.may_be_sent = False
+            self.state.record(request, self.number)
+            reply = self.send_pending(command)
+            if reply["code"] != UNCACHED:
+                return reply
+
+    def send_pending(self, command: dict) -> dict:
+        """Sends the request on record. Where it surely was not done, it is on record no longer."""
+        try:
+            answer = self._send(self.state.kept[self.number].pending)
+            if not (is_refused_as(answer, UNCACHED) and command.get("keep") is False):
+                self.need_done(answer, command)
+        except NoAnswer as fault:
+            raise NoAnswer(f"{fault}; {self._settle()}") from None
+        except Fault:
+            self._settle()
+            raise
+        except BaseException:  # (stopped at the keyboard)
+            self.say(f"{told(command)}: {self._settle()}")
+            raise
+        self.is_answered = True
+        return answer.reply
+
+    def finish(self, command: dict) -> dict:
+        """The reply to what was pending as the client began."""
+        self.may_be_sent = True
+        return self.send_pending(command)
+
+    def settle_part(self, command: dict) -> dict | None:
+        """Of what was pending, whether it had been done: its reply, or None where it was not, and never will be. The
+        same number with a harmless request tells that, and is used up by it."""
+        answer = self._send(compact(HARMLESS))
+        if is_refused_as(answer, FALSE_RETRY):
+            return self.finish(command)
+        self.need_done(answer, command)
+        self.state.told(self.number)
+        return None
+
+    def _send(self, request: str) -> Answer:
+        number = self.state.kept[self.number].number
+        target = f"/v1/sessions/{self.state.session.name}/slots/{self.number}/{number}"
+        return self.until_answered("POST", target, request)
+
+    def _settle(self) -> str:
+        """What holds of a request that got no reply, in words."""
+        if self.may_be_sent:
+            return ("whether it was done is not known: it is kept, and sent again before your next command, "
+                    "or by: room session finish")
+        self.state.withdraw(self.number)
+        return "nothing was done, and nothing is kept"
+
+    def need_done(self, answer: Answer, command: dict | None = None) -> dict:
+        if answer.is_done:
+            return answer.reply
+        if answer.reply is not None:
+            raise refused(answer.reply, command)
+        what = FRONT.get(answer.status, "what answers there is no room: mend the URL")
+        raise NoAnswer(f"{self.settings.url} answered {answer.status}: {what}")
+
+    def until_answered(self, method: str, target: str, body: str) -> Answer:
+        """Sends until something else than 'later' is answered, in the time that is given. Notes in `may_be_sent`
+        whether an attempt went out of which it is not known that nothing came of it."""
+        end = time.monotonic() + self.settings.patience
+        pause = FIRST_PAUSE
+        while True:
+            left = max(end - time.monotonic(), 1.0)
+            self.pace.wait()
+            answer = self._attempt(method, target, body.encode(), min(left, LONGEST_ATTEMPT))
+            if isinstance(answer, Answer):
+                return answer
+            if self.is_stopped:
+                raise NoAnswer("stopped")
+            if time.monotonic() + pause >= end:
+                seconds = f"{self.settings.patience:g} s"
+                raise NoAnswer(f"no answer from {self.settings.url} in {seconds} ({answer}; is the room served?)")
+            self.line.close()
+            time.sleep(pause * random.uniform(0.5, 1.0))
+            pause = min(2 * pause, LONGEST_PAUSE)
+
+    def _attempt(self, method: str, target: str, body: bytes, seconds: float) -> Answer | str:
+        """An answer that settles it, or why there is none."""
+        before = self.may_be_sent
+        try:
+            self.line.open(seconds)
+            self.may_be_sent = True
+            answer = self.line.ask(method, target, body)
+        except (NotSent, Lost) as fault:
+            return str(fault)
+        if answer.is_later:
+            return f"it answered {answer.status}"
+        if answer.is_refused:
+            self.may_be_sent = before
+        return answer
+
+    def stop(self) -> None:
+        """Ends a wait for an answer, from another thread."""
+        self.is_stopped = True
+        self.line.end()
+
+
+def is_refused_as(answer: Answer, code: int) -> bool:
+    return answer.reply is not None and answer.reply["code"] == code
+
+
+class Crew:
+    """Some requests over several slots at once: each slot takes the next one that nobody took."""
+
+    def __init__(self, commands: Sequence[dict], heard: Callable[[dict], None]):
+        self.left, self.heard = iter(enumerate(commands)), heard
+        self.replies: list[dict | None] = [None] * len(commands)
+        self.faults: list[BaseException] = []
+        self.lock = threading.Lock()
+
+    def next(self) -> tuple[int, dict] | None:
+        with self.lock:
+            return None if self.faults else next(self.left, None)
+
+    def work(self, slot: Slot) -> None:
+        try:
+            while (taken := self.next()) is not None:
+                reply = slot.ask(taken[1])
+                with self.lock:
+                    self.replies[taken[0]] = reply
+                    self.heard(reply)
+        except BaseException as fault:
+            self.faults.append(fault)
+
+    def run(self, slots: Sequence[Slot]) -> list[dict]:
+        """The replies in the order of the requests, or the first fault, once no request is under way."""
+        threads = [threading.Thread(target=self.work, args=(slot,)) for slot in slots]
+        for thread in threads:
+            thread.start()
+        try:
+            for thread in threads:
+                thread.join()
+        except BaseException as fault:  # (stopped at the keyboard)
+            self.faults.append(fault)
+            for slot in slots:
+                slot.stop()
+            for thread in threads:
+                thread.join()
+            raise
+        if self.faults:
+            raise self.faults[0]
+        return self.replies

@@ -1,0 +1,153 @@
+"""`room sync`: makes a folder as another one is, one way, up or down."""
+import hashlib
+import os
+from dataclasses import dataclass
+
+from . import local, trash, trees
+from .faults import BadWords, Fault, Refused
+from .local import Tree, fits_here
+from .room import Room
+from .showing import Faults
+from .words import FILE, FOLDER, shown
+
+MARK = "room:"
+WORDS = "one of FROM and TO is a folder of the room, written as room:/PATH"
+
+
+@dataclass
+class Sync:
+    """`here` is a folder of this machine, and `top` one of the room."""
+
+    room: Room
+    here: str
+    top: str
+    is_up: bool
+    deletes: bool
+    only_tells: bool
+
+    def __post_init__(self):
+        self.faults, self.counts = Faults(0), {"sent": 0, "got": 0, "made": 0, "removed": 0, "same": 0}
+
+    def run(self) -> None:
+        mine, its = self.both_trees()
+        source, aim = (mine, its) if self.is_up else (its, mine)
+        folders = [it for it, kind in source.kinds.items() if kind == FOLDER and it not in aim.kinds]
+        odd = {it for it in source.kinds.keys() & aim.kinds.keys() if source.kinds[it] != aim.kinds[it]}
+        for it in sorted(odd):
+            self.take(Refused({"code": 4, "error": "EXIST"}, {"path": it}, "a file on one side, a folder on the other"))
+        self.make(sorted(folders))
+        is_odd = lambda it: any(it == one or it.startswith(one + "/") for one in odd)  # noqa: E731
+        wanted = [it for it, kind in sorted(source.kinds.items()) if kind == FILE and not is_odd(it)]
+        self.move(self.changed(wanted, mine, its), mine, its)
+        if self.deletes:
+            self.remove([it for it in sorted(aim.kinds) if it not in source.kinds and source.is_known(it)
+                         and not is_odd(it)], aim)
+        told = ", ".join(f"{count} {word}" for word, count in self.counts.items() if count)
+        print(told or "nothing to do", flush=True)
+        self.faults.end()
+
+    def both_trees(self) -> tuple[Tree, trees.RoomTree]:
+        """What is below the folder here, and below the room's; the one that is to be made may not be there yet."""
+        if self.is_up:
+            mine = local.tree_here(self.here, self.room.say)
+            if not self.only_tells:
+                trees.make_folders(self.room, self.top, [])
+            return mine, self.room_tree()
+        its = self.room_tree()
+        for it in [it for it in its.kinds if not all(map(fits_here, it.split("/")))]:
+            self.room.say(f"{shown(trees.join(self.top, it))} is left out: no file here can have that name")
+            del its.kinds[it]
+            its.left_out.add(it)
+        is_there = os.path.isdir(self.here)
+        return local.tree_here(self.here, self.room.say) if is_there else Tree(), its
+
+    def room_tree(self) -> trees.RoomTree:
+        try:
+            return trees.tree_of(self.room, self.top)
+        except Refused as fault:
+            if self.is_up and self.only_tells and fault.reply.get("error") == "NOENT":
+                return trees.RoomTree()
+            raise
+
+    def changed(self, paths: list[str], mine: Tree, its: trees.RoomTree) -> list[str]:
+        """The files that differ: by size, and where that is the same by their sums."""
+        both = [it for it in paths if it in mine.places and it in its.kinds]
+        sizes = trees.sizes_of(self.room, self.top, its, both)
+        alike = [it for it in both if os.path.getsize(mine.places[it]) == sizes[it]]
+        sums = trees.sums_of(self.room, self.top, its, alike)
+        same = {it for it in alike if sums[it] == sum_here(mine.places[it])}
+        self.counts["same"] = len(same)
+        return [it for it in paths if it not in same]
+
+    def make(self, folders: list[str]) -> None:
+        for it in folders:
+            self.tell("made", f"{it}/")
+        if self.only_tells:
+            return
+        if self.is_up:
+            return trees.make_folders(self.room, self.top, folders)
+        for it in ["", *folders]:
+            local.make_below(self.here, it.split("/") if it else [])
+
+    def move(self, paths: list[str], mine: Tree, its: trees.RoomTree) -> None:
+        if self.only_tells:
+            for it in paths:
+                self.tell("sent" if self.is_up else "got", it)
+        elif self.is_up:
+            trees.send_all(self.room, [(mine.places[it], trees.join(self.top, it)) for it in paths], self.sent)
+        else:
+            trees.fetch_all(self.room, self.top, paths, its.large, self.got)
+
+    def sent(self, it: trees.Sent) -> None:
+        if it.fault:
+            return self.take(it.fault)
+        self.tell("sent", it.path.removeprefix(self.top.rstrip("/") + "/"))
+
+    def got(self, path: str, data: bytes | Fault) -> None:
+        try:
+            if isinstance(data, Fault):
+                raise data
+            local.write_below(self.here, path.split("/"), data)
+        except Fault as fault:
+            return self.take(trees.stop_on(fault))
+        self.tell("got", path)
+
+    def remove(self, paths: list[str], aim: Tree) -> None:
+        """What the source has not. A folder of the room goes as a whole, a folder here once it is empty."""
+        if self.is_up:
+            whole = [it for it in paths if it.rpartition("/")[0] not in paths and aim.is_known(it)]
+        else:
+            whole = paths[::-1]
+        place = trash.trash_of(self.room) if self.is_up and whole else None
+        for it in whole:
+            try:
+                if self.only_tells:
+                    pass
+                elif self.is_up:
+                    trash.discard(self.room, trees.join(self.top, it), place, True)
+                else:
+                    local.remove_below(self.here, it.split("/"), aim.kinds[it])
+                self.tell("removed", it)
+            except Fault as fault:
+                self.take(trees.stop_on(fault))
+
+    def take(self, fault: Fault) -> None:
+        self.faults.take(fault)
+
+    def tell(self, word: str, path: str) -> None:
+        self.counts[word] += 1
+        print(f"{word} {shown(path)}", flush=True)
+
+
+def sum_here(path: str) -> str:
+    with local.reading(path), open(path, "rb") as file:
+        return hashlib.file_digest(file, "sha256").hexdigest()
+
+
+def sync(room: Room, asked) -> None:
+    is_up = asked.to.startswith(MARK)
+    if is_up == asked.source.startswith(MARK):
+        raise BadWords(WORDS)
+    here, top = (asked.source, asked.to) if is_up else (asked.to, asked.source)
+    top = top.removeprefix(MARK).rstrip("/") or "/"
+    Sync(room, here, top, is_up, asked.delete, asked.dry_run).run()

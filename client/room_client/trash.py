@@ -1,0 +1,127 @@
+"""The trash: what was removed lies in /trash/USER, where that is there, until it is emptied. docs/FILES.md has the
+names."""
+import time
+from collections.abc import Iterator
+
+from . import files
+from .faults import ACCESS, BadWords, Refused
+from .room import Room
+from .words import FOLDER, shown
+
+TOP = "/trash"
+SEPARATOR, CUT = "~", "…"
+MOST_BYTES = 64  # of a name
+STAMP = "%Y%m%d%H%M%S"
+TRIES = 30
+
+
+def trash_of(room: Room) -> str | None:
+    """The caller's trash, where there is one that they reach."""
+    path = f"{TOP}/{room.settings.user}"
+    try:
+        return path if room.stat(path)["kind"] == FOLDER else None
+    except Refused as fault:
+        if fault.reply["code"] == ACCESS or files.refused_as(fault, "NOENT", "NOTDIR"):
+            return None
+        raise
+
+
+def name_in_trash(path: str, stamp: str) -> str:
+    """It tells where it came from, as far as a name has room."""
+    *folders, name = path.split("/")[1:]
+    whole = SEPARATOR.join([name, *folders, stamp])
+    if len(whole.encode()) <= MOST_BYTES and SEPARATOR not in path and CUT not in path:
+        return whole
+    end = f"{SEPARATOR}{CUT}{SEPARATOR}{stamp}"
+    if len((name + end).encode()) > MOST_BYTES:
+        kind = name[name.rfind("."):] if "." in name and len(name) - name.rfind(".") < 8 else ""
+        left = MOST_BYTES - len((CUT + kind + end).encode())
+        name = name.encode()[:left].decode(errors="ignore") + CUT + kind
+    return name + end
+
+
+def place_before(name: str) -> str | None:
+    """Where something in the trash came from, or None where its name does not say."""
+    its, *folders, stamp = name.split(SEPARATOR) if SEPARATOR in name else (name, "", "")
+    is_whole = len(stamp) == 14 and stamp.isdecimal() and its and all(folders) and CUT not in name
+    return "/" + "/".join([*folders, its]) if is_whole else None
+
+
+def put_in_trash(room: Room, path: str, trash: str) -> str:
+    """The name that it has there: by one request."""
+    now = time.time()
+    for more in range(TRIES):
+        name = name_in_trash(path, time.strftime(STAMP, time.gmtime(now + more)))
+        try:
+            room.rename(path, f"{trash}/{name}")
+            return name
+        except Refused as fault:
+            if not files.refused_as(fault, "EXIST"):
+                raise not_taken(fault, path, trash) from None
+    raise BadWords(f"{shown(trash)} has too many things of that name: room trash empty")
+
+
+def not_taken(fault: Refused, path: str, trash: str) -> Refused:
+    """What to do where it is the trash that does not take it."""
+    its = fault.reply
+    if files.refused_as(fault, "FOLDER_FULL", "TOO_DEEP") or its["code"] == ACCESS and its["path"].startswith(TOP):
+        why = f"the trash {shown(trash)} does not take it: room trash empty, or room rm --for-good ({fault})"
+        return Refused(its | {"code": its["code"]}, {"path": path}, why)
+    return fault
+
+
+def discard(room: Room, path: str, trash: str | None, is_whole: bool) -> str | None:
+    """Removes a file, an empty folder or, with `is_whole`, a folder with all that is in it. Its name in the trash, or
+    None where it is gone for good."""
+    if trash is None or path == TOP or path.startswith(TOP + "/"):
+        remove(room, path, is_whole)
+        return None
+    done = room.was_done(lambda it: it["cmd"] == "RENAME" and it["path"] == path and it["to"].startswith(trash + "/"))
+    if done:
+        return done["to"].rpartition("/")[2]
+    its = room.stat(path)
+    if its["kind"] == FOLDER and its["size"] and not is_whole and not files.is_file_folder(room, path):
+        raise Refused({"code": 6, "error": "NOTEMPTY"}, {"path": path})
+    return put_in_trash(room, path, trash)
+
+
+def remove(room: Room, path: str, is_whole: bool) -> None:
+    """For good."""
+    try:
+        room.remove(path)
+    except Refused as fault:
+        if not files.refused_as(fault, "NOTEMPTY") or not is_whole and not files.is_file_folder(room, path):
+            raise
+        files.remove_all(room, path)
+
+
+def what_is_there(room: Room, trash: str) -> Iterator[tuple[str, str | None]]:
+    """Each thing in the trash, and where it came from."""
+    for name in room.children(trash):
+        yield name, place_before(name)
+
+
+def need_trash(room: Room) -> str:
+    trash = trash_of(room)
+    if trash is None:
+        raise BadWords(f"there is no trash of yours: ask for a folder {TOP}/{room.settings.user}, that is yours")
+    return trash
+
+
+def restore(room: Room, name: str, to: str | None) -> str:
+    """Gives something its place back."""
+    trash = need_trash(room)
+    place = to or place_before(name)
+    if place is None:
+        raise BadWords(f"the name does not say where it came from: room trash restore '{shown(name)}' TO")
+    room.rename(f"{trash}/{name}", place)
+    return place
+
+
+def empty(room: Room) -> int:
+    """Removes what is in the trash for good, and tells how many things that were."""
+    trash = need_trash(room)
+    names = room.children(trash)
+    for name in names:
+        files.remove_all(room, f"{trash}/{name}")
+    return len(names)

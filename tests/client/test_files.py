@@ -1,0 +1,464 @@
+"""Large files: sizes, each step stopped, two writers at once, readers beside them, and what is damaged."""
+import contextlib
+import json
+import os
+import random
+import threading
+from unittest import mock
+
+from desk import Desk, PASSWORDS, serve_front
+from room_client import files, manifest
+from room_client.faults import NotWhole, OtherVersion
+from room_client.files import Upload
+from room_client.line import Line
+from room_client.manifest import MOST, PIECE
+from room_client.state import SLOTS
+from served import end_with_parent
+from test_once import STOPPED, steps_to
+
+SEED = int(os.environ.get("SEED", "1"))
+STEPS = [(Line, "ask", True)]  # (before it the request is on record, and behind it the next one is not yet)
+
+
+def some(size, seed):
+    return random.Random(seed).randbytes(size)
+
+
+class Behind(Desk):
+    """Through a front, so over several slots at once."""
+
+    def setUp(self):
+        super().setUp()
+        self.front, self.front_url = serve_front(self)
+        os.chmod(self.file("secret", PASSWORDS["ann"].encode()), 0o600)
+
+    def words_of(self, user):
+        return ["--url", self.front_url, "--login", user, "--password-file", self.path("secret"),
+                "--state", self.path("front.json"), "--patience", "20"]
+
+    def behind(self, say=lambda _: None, **how):
+        settings = {"url": self.front_url, "room_user": None, "login": "ann", "password": PASSWORDS["ann"]}
+        return self.room(say=say, **settings | {"state": self.path("behind.json")} | how)
+
+    def parts(self, room, path):
+        """What a file's folder has in it but its manifest, by kind."""
+        return sorted(it.rpartition("-")[0] for it in room.children(path) if it != manifest.NAME)
+
+
+class Sizes(Behind):
+    def test_each_size_comes_back(self):
+        for size in (0, 1, PIECE, PIECE + 1, 3 * PIECE):
+            data = some(size, size)
+            self.file("in", data)
+            self.prints("put", "in", f"/{size}", want=f"/{size}: {size} bytes\n")
+            self.prints("get", f"/{size}", "out", want=f"{size} bytes to out\n")
+            with open(self.path("out"), "rb") as file:
+                self.assertEqual(file.read(), data)
+        with self.room() as room:
+            self.assertEqual(room.children("/"), {"0": "file", "1": "file", str(PIECE): "file",
+                                                  str(PIECE + 1): "folder", str(3 * PIECE): "folder"})
+            self.assertEqual(room.stat(f"/{PIECE + 1}")["size"], 2)
+        self.prints("ls", want="0\n1\n196608\n65536\n65537\n")
+        self.prints("stat", "/65537",
+                    want="file, 65537 bytes in 2 pieces, owner ann, group eng, list flags auto-inherit\n")
+        self.assertIn("\n 65537  ann:eng  65537\n", self.does("ls", "-l")[1])
+
+    def test_the_largest_and_one_more(self):
+        data = some(MOST, 1)
+        self.file("in", data)
+        self.prints("put", "in", "/big", want=f"/big: {MOST} bytes\n")
+        with self.behind() as room:
+            self.assertEqual(files.read(room, "/big"), data)
+        self.file("in", data + b"x")
+        passed = self.front.passed
+        self.refuses("put", "in", "/bigger", want="FBIG (9) at /bigger: a file has at most 16 MiB (16,777,216 bytes): "
+                     "split it; nothing was sent")
+        self.assertEqual(self.front.passed, passed)
+
+    def test_small_over_large_and_back(self):
+        large, small = some(2 * PIECE + 5, 1), b"small"
+        with self.behind() as room:
+            for data in (small, large, small, b"", large):
+                files.write(room, "/a", data)
+                self.assertEqual(files.read(room, "/a"), data)
+                self.assertEqual(list(room.children("/")), ["a"])
+            self.assertEqual(self.parts(room, "/a"), [".room-pieces"])
+
+    def test_what_is_there_is_not_taken(self):
+        self.file("in", some(PIECE + 1, 1))
+        self.prints("mkdir", "/d", want="/d: made\n")
+        folder = "ISDIR (3) at /d: a document is wanted, and a folder is there: mend the path"
+        self.refuses("put", "in", "/d", want=folder)
+        self.prints("put", "in", "/d/", want="/d/in: 65537 bytes\n")
+        self.refuses("put", "in", "/d", want=folder)
+        self.refuses("put", "--new", "in", "/d/in",
+                     want="EXIST (4) at /d/in: something is there already: choose another name, or remove it first")
+        deep = "/" + "/".join("d" * 15)
+        self.refuses("put", "in", deep, want=f"TOO_DEEP (10) at {deep}: a path has at most 16 names, and a large file "
+                     "takes two of them: move it higher")
+
+    def test_moved_copied_removed(self):
+        data = some(PIECE + 1, 2)
+        self.file("in", data)
+        self.prints("put", "in", "/a", want="/a: 65537 bytes\n")
+        self.prints("mv", "/a", "/b", want="/a is now /b\n")
+        self.prints("cp", "/b", "/c", want="/b is also /c\n")
+        with self.behind() as room:
+            self.assertEqual(files.read(room, "/c"), data)
+        self.prints("rm", "/b", want="/b: removed\n")
+        self.prints("rm", "/c", want="/c: removed\n")
+        with self.room() as room:
+            self.assertEqual(room.children("/"), {})
+
+
+class Damaged(Behind):
+    def setUp(self):
+        super().setUp()
+        self.data = some(2 * PIECE + 1, 1)
+        with self.behind() as room:
+            files.write(room, "/a", self.data)
+            self.its = files.manifest_at(room, "/a")
+            self.at = f"/a/{self.its.folder}"
+
+    def told_damaged(self):
+        self.file("out", b"as it was")
+        status, out, err = self.does("get", "/a", "out")
+        self.assertEqual((status, out), (6, ""))
+        self.assertRegex(err, "^room: /a is damaged: its pieces are not what its manifest says, and nothing of it is")
+        with open(self.path("out"), "rb") as file:
+            self.assertEqual(file.read(), b"as it was")
+        self.assertEqual(self.does("get", "/a")[:2], (6, ""))
+
+    def test_another_byte(self):
+        with self.room() as room:
+            room.write(f"{self.at}/001", bytes(PIECE))
+        self.told_damaged()
+
+    def test_a_piece_that_is_gone_or_longer(self):
+        with self.room() as room:
+            room.append(f"{self.at}/002", b"x")
+        self.told_damaged()
+        with self.room() as room:
+            room.remove(f"{self.at}/002")
+        self.told_damaged()
+        self.file("in", self.data)
+        self.prints("put", "in", "/a", want="/a: 131073 bytes\n")
+        with self.behind() as room:
+            self.assertEqual(files.read(room, "/a"), self.data)
+
+    def test_what_is_no_manifest_is_a_folder(self):
+        good = json.loads(self.its.text())
+        for other in (good | {"form": 2}, good | {"more": 1}, good | {"size": MOST + 1}, good | {"pieces": ["/"]}, 7,
+                      good | {"folder": "../x"}, good | {"sha256": "x"}, []):
+            with self.room() as room:
+                room.write(f"/a/{manifest.NAME}", json.dumps(other).encode())
+            self.assertEqual(self.does("ls")[1], "a/\n", other)
+            folder = "ISDIR (3) at /a: a document is wanted, and a folder is there: mend the path"
+            self.refuses("get", "/a", want=folder)
+
+
+class Writers(Behind):
+    """Two who write the same file at once."""
+
+    def between(self, name, does):
+        """Has `does` happen before the first call of a step of an upload."""
+        left = [does]
+        call = getattr(Upload, name)
+
+        def around(*words):
+            if left:
+                left.pop()()
+            return call(*words)
+        return mock.patch.object(Upload, name, around)
+
+    def other(self, data):
+        with self.room(state=self.path("other")) as room:
+            files.write(room, "/a", data, fills=True)
+
+    def test_another_version_came_first(self):
+        old, mine, theirs = (some(PIECE + 1, it) for it in range(3))
+        for is_there in (False, True):
+            with self.behind() as room:
+                if is_there:
+                    files.write(room, "/a", old)
+                with self.between("put_pieces", lambda: self.other(theirs)):
+                    with self.assertRaisesRegex(OtherVersion, "somebody else wrote another version meanwhile"):
+                        files.write(room, "/a", mine)
+                self.assertEqual(files.read(room, "/a"), theirs)
+                self.assertEqual(self.parts(room, "/a"), [".room-pieces"])
+                files.remove_all(room, "/a")
+
+    def test_another_version_came_right_before_the_manifest(self):
+        """Neither knows of the other: the later one stands, and is whole."""
+        old, mine, theirs = (some(PIECE + 1, it) for it in range(3))
+        with self.behind() as room:
+            files.write(room, "/a", old)
+            with self.between("put_manifest", lambda: self.other(theirs)):
+                files.write(room, "/a", mine)
+            self.assertEqual(files.read(room, "/a"), mine)
+
+    def test_another_version_came_right_behind(self):
+        old, mine, theirs = (some(PIECE + 1, it) for it in range(3))
+        with self.behind() as room:
+            files.write(room, "/a", old)
+            with self.between("look_after", lambda: self.other(theirs)):
+                with self.assertRaisesRegex(OtherVersion, "came right behind yours"):
+                    files.write(room, "/a", mine)
+            self.assertEqual(files.read(room, "/a"), theirs)
+            self.assertEqual(self.parts(room, "/a"), [".room-pieces"])
+
+    def test_pieces_that_were_taken_for_left_over(self):
+        """The folder of a writer who is slow is cleared: it says so, and the other's version stands."""
+        mine, theirs = some(PIECE + 1, 1), some(PIECE + 1, 2)
+        with self.behind() as room:
+            files.write(room, "/a", b"")
+            files.remove_all(room, "/a")
+            with self.between("put_manifest", lambda: self.other(theirs)):
+                with self.assertRaises(OtherVersion):
+                    files.write(room, "/a", mine)
+            self.assertEqual(files.read(room, "/a"), theirs)
+
+    def test_a_document_that_changed(self):
+        mine = some(PIECE + 1, 1)
+        with self.behind() as room:
+            room.create("/a", b"old")
+            with self.between("put_pieces", lambda: self.other(b"theirs")):
+                with self.assertRaises(OtherVersion):
+                    files.write(room, "/a", mine)
+            self.assertEqual(files.read(room, "/a"), b"theirs")
+            self.assertEqual(list(room.children("/")), ["a"])
+
+    def test_readers_see_one_version_whole(self):
+        wholes = [some(3 * PIECE, 1), some(2 * PIECE, 2), b"small"]
+        with self.behind() as room:
+            files.write(room, "/a", wholes[0])
+        seen, ends = [], threading.Event()
+
+        def look():
+            with self.behind(state=self.path("reader")) as reader:
+                while not ends.is_set() or not seen:
+                    with contextlib.suppress(OtherVersion):
+                        seen.append(files.read(reader, "/a"))
+        thread = threading.Thread(target=look)
+        thread.start()
+        try:
+            with self.behind() as room:
+                for count in range(9):
+                    files.write(room, "/a", wholes[count % 3])
+        finally:
+            ends.set()
+            thread.join()
+        self.assertLessEqual({*map(hash, seen)}, {*map(hash, wholes)})
+        self.assertGreater(len(seen), 1)
+
+
+class Stopped(Behind):
+    """An upload is stopped at each of its steps: before and after each request."""
+
+    def put_in_child(self, data, stop_at, room):
+        pid = os.fork()
+        if pid == 0:
+            end_with_parent()
+            status = 1
+            with contextlib.suppress(BaseException):
+                steps_to(stop_at, STEPS)
+                with room:
+                    files.write(room, "/d/a", data, fills=True)
+                status = 0
+            os._exit(status)
+        return os.waitstatus_to_exitcode(os.waitpid(pid, 0)[1])
+
+    def stop_at_each_step(self, before, data):
+        """Of three in a row a reader sees the old file or the new one, and the next writer leaves nothing else."""
+        stop_at, ends = 0, set()
+        while True:
+            with self.room(state=self.path("other")) as other:
+                other.mkdir("/d")
+                if before is not None:
+                    files.write(other, "/d/a", before)
+            status = self.put_in_child(data, stop_at, self.room(state=self.path("mine")))
+            self.assertIn(status, (0, STOPPED))
+            with self.room(state=self.path("other")) as other:
+                ends.add(self.found(other, before, data))
+            if status == 0:
+                break
+            with self.room(state=self.path("mine")) as room:
+                files.write(room, "/d/a", data, fills=True)
+            with self.room(state=self.path("other")) as other:
+                self.assertEqual(files.read(other, "/d/a"), data, stop_at)
+                self.assertEqual(list(other.children("/d")), ["a"], stop_at)
+                self.assertEqual(self.parts(other, "/d/a"), [".room-pieces"], stop_at)
+                files.remove_all(other, "/d")
+            stop_at += 1
+        self.assertGreater(stop_at, 16)
+        return ends
+
+    def found(self, room, before, data):
+        """Which of them is there, seen by another: None is nothing, or a folder that is no file yet."""
+        try:
+            now = files.read(room, "/d/a")
+        except files.Refused as fault:
+            self.assertIn(fault.reply["error"], ("NOENT", "ISDIR"))
+            return None
+        self.assertIn(now, (before, data))
+        return "new" if now == data else "old"
+
+    def test_a_new_file(self):
+        self.assertEqual(self.stop_at_each_step(None, some(PIECE + 1, 1)), {None, "new"})
+
+    def test_a_new_version(self):
+        self.assertEqual(self.stop_at_each_step(some(2 * PIECE, 2), some(PIECE + 1, 1)), {"old", "new"})
+
+    def test_in_the_place_of_a_document(self):
+        """(Between two of its requests nothing has the name.)"""
+        self.assertEqual(self.stop_at_each_step(b"small", some(PIECE + 1, 1)), {"old", None, "new"})
+
+    def test_at_random_over_several_slots(self):
+        dice, data = random.Random(SEED), some(20 * PIECE, 1)
+        old = some(PIECE + 2, 3)
+        with self.behind() as room:
+            room.mkdir("/d")
+            files.write(room, "/d/a", old)
+        stops, said = 0, []
+        for _ in range(12):
+            stops += self.put_in_child(data, dice.randrange(70), self.behind(state=self.path("mine"))) == STOPPED
+            with self.behind(said.append) as room:
+                self.assertIn(files.read(room, "/d/a"), (old, data))
+        self.assertGreater(stops, 4)
+        with self.behind(said.append, state=self.path("mine")) as room:
+            files.write(room, "/d/a", data)
+            self.assertEqual(files.read(room, "/d/a"), data)
+            self.assertEqual(self.parts(room, "/d/a"), [".room-pieces"])
+        self.assertIn("what was under way at /d/a was stopped: give it again", said)
+
+    def test_a_manifest_that_is_late_does_not_come(self):
+        """An upload stopped as its manifest is under way; somebody writes a newer version; the first one goes on."""
+        old, mine, theirs = (some(PIECE + 1, it) for it in range(3))
+        with self.behind() as room:
+            room.mkdir("/d")
+            files.write(room, "/d/a", old)
+        stop_at = 0
+        while self.manifest_is_pending() is None:
+            self.put_in_child(mine, stop_at, self.room(state=self.path("mine")))
+            stop_at += 1
+        with self.behind() as room:
+            files.write(room, "/d/a", theirs)
+        said = []
+        with self.room(state=self.path("mine"), say=said.append) as room:
+            self.assertEqual(files.read(room, "/d/a"), theirs)
+        self.assertEqual(said, ["what was under way at /d/a was stopped: give it again"])
+
+    def manifest_is_pending(self):
+        with contextlib.suppress(FileNotFoundError), open(self.path("mine")) as file:
+            pending = json.load(file)["pending"]
+            return pending if pending and '"WRITE"' in pending and manifest.NAME in pending else None
+
+
+class Slots(Behind):
+    """Requests over several slots at once act once each."""
+
+    def append_in_child(self, count, stop_at):
+        """Pieces of one document each, several at once: ends at a step."""
+        pid = os.fork()
+        if pid == 0:
+            end_with_parent()
+            with contextlib.suppress(BaseException):
+                steps_to(stop_at, STEPS)
+                with self.behind() as room:
+                    room.ask_all({"cmd": "APPEND", "data": "eA==", "path": f"/log{it}"} for it in range(count))
+                os._exit(0)
+            os._exit(1)
+        return os.waitstatus_to_exitcode(os.waitpid(pid, 0)[1])
+
+    def test_each_acts_once(self):
+        dice, count, stops = random.Random(SEED), 24, 0
+        for _ in range(12):
+            with self.behind() as room:
+                room.ask_all({"cmd": "CREATE", "data": "", "path": f"/log{it}"} for it in range(count))
+            stops += self.append_in_child(count, dice.randrange(2 * count)) == STOPPED
+            pending = self.pending()
+            with self.behind() as room:
+                sizes = [room.stat(f"/log{it}")["size"] for it in range(count)]
+                for it in range(count):
+                    room.remove(f"/log{it}")
+            self.assertLessEqual(set(sizes), {0, 1})
+            self.assertTrue(all(sizes[it] == 1 for it in pending), (sizes, pending))
+        self.assertGreater(stops, 6)
+
+    def pending(self):
+        """Which are on record."""
+        found = []
+        for slot in range(SLOTS):
+            name = self.path("behind.json") + f".{slot}" * (slot > 0)
+            if os.path.exists(name):
+                with open(name) as file:
+                    text = json.load(file)["pending"]
+                if text and "APPEND" in text:
+                    found.append(int(json.loads(text)["path"][4:]))
+        return found
+
+    def test_lost_answers(self):
+        dice = random.Random(SEED)
+        with self.behind() as room:
+            room.ask_all({"cmd": "CREATE", "data": "", "path": f"/log{it}"} for it in range(30))
+            for _ in range(3):
+                self.front.faults[:] = dice.choices(["lose", "drop", "cut", 503, 429, "pass"], k=30)
+                replies = room.ask_all({"cmd": "APPEND", "data": "eA==", "path": f"/log{it}"} for it in range(30))
+                self.assertEqual({it["code"] for it in replies}, {0})
+            self.assertEqual({room.stat(f"/log{it}")["size"] for it in range(30)}, {3})
+
+    def test_a_piece_whose_reply_was_lost_is_read_anew(self):
+        data = some(3 * PIECE, 1)
+        with self.behind() as room:
+            files.write(room, "/a", data)
+            self.front.faults[:] = ["pass", "pass", "lose", "cut", "lose"]
+            self.assertEqual(files.read(room, "/a"), data)
+            self.assertEqual(self.front.faults, [])
+
+    def test_a_state_file_of_before(self):
+        """One slot, with something pending: it is done once, and the next session has more."""
+        with self.behind() as room:
+            room.create("/log", b"")
+        old = {"url": self.front_url, "user": "ann", "name": "0123456789abcdef" * 2, "is_open": True, "number": 1,
+               "pending": '{"cmd":"APPEND","data":"eA==","path":"/log"}'}
+        with self.behind(state=self.path("opens")) as room:
+            slot = room.slot()
+            slot.need_done(slot.until_answered("POST", f"/v1/sessions/{old['name']}", '{"slots":1}'))
+        self.file("old", json.dumps(old).encode())
+        said = []
+        with self.behind(said.append, state=self.path("old")) as room:
+            self.assertEqual(room.read("/log"), b"x")
+            self.assertEqual(room.state.session.slots, 1)
+        self.assertEqual(said, ["finished what was pending: APPEND /log: done"])
+        with self.behind(said.append, state=self.path("old")) as room:
+            self.assertEqual((room.read("/log"), room.state.session.slots), (b"x", SLOTS))
+
+
+class Kept(Behind):
+    """A large file in the place of a document is nobody else's, and nobody else reads it."""
+
+    def test_list_and_owner(self):
+        data = some(PIECE + 1, 1)
+        with self.behind() as room:
+            room.create("/a", b"x")
+            room.set_list("/a", 3, [{"flag": 0, "mask": 0x1F07FF, "type": 0, "who": "OWNER@"},
+                                    {"flag": 0, "mask": 1, "type": 0, "who": "bob"}])
+            files.write(room, "/a", data)
+            self.assertEqual(room.stat("/a")["aclflag"], 3)
+        with self.room(user="bob") as bob:
+            self.assertEqual(files.read(bob, "/a"), data)
+        with self.behind() as room:
+            room.set_list("/a", 3, [{"flag": 3, "mask": 0x1F07FF, "type": 0, "who": "OWNER@"}])
+        with self.room(user="bob") as bob, self.assertRaisesRegex(files.Refused, "you lack the right"):
+            files.read(bob, "/a")
+
+    def test_of_somebody_else(self):
+        with self.behind() as room:
+            room.set_list("/", 0, [{"flag": 3, "mask": 0x1F07FF, "type": 0, "who": "EVERYONE@"}])
+            room.create("/a", b"x")
+            room.set_list("/a", 1, [{"flag": 0, "mask": 0x1701FF, "type": 0, "who": "bob"},
+                                    {"flag": 0, "mask": 0x80000, "type": 1, "who": "bob"}])
+        with self.room(user="bob") as bob:
+            with self.assertRaisesRegex(OtherVersion, "ask its owner to put it"):
+                files.write(bob, "/a", some(PIECE + 1, 1))
+            self.assertEqual((bob.read("/a"), list(bob.children("/"))), (b"x", ["a"]))

@@ -1,0 +1,296 @@
+"""Several files and folders: put, get, cp, find, sync, and the trash."""
+import json
+import os
+import stat
+from unittest import mock
+
+from desk import Desk
+from room_client import files, trash
+from room_client.manifest import PIECE
+from room_client.slots import Slot
+from test_files import Behind, some
+
+EVERYBODY = {"flag": 3, "mask": 0x1F07FF, "type": 0, "who": "EVERYONE@"}
+
+
+class Trees(Behind):
+    def setUp(self):
+        super().setUp()
+        self.large = some(PIECE + 1, 1)
+        self.tree("photos", {"a.txt": b"a", "2026/lake.jpg": self.large, "2026/June/b.txt": b"b"})
+        os.mkdir(self.path("photos/empty"))
+
+    def tree(self, top, contents):
+        for name, data in contents.items():
+            os.makedirs(os.path.dirname(self.path(f"{top}/{name}")), exist_ok=True)
+            self.file(f"{top}/{name}", data)
+
+    def here(self, top):
+        """What is below a folder here: the bytes of files, None for folders."""
+        found = {}
+        for at, folders, names in os.walk(self.path(top)):
+            for it in folders:
+                found[os.path.relpath(os.path.join(at, it), self.path(top))] = None
+            for it in names:
+                with open(os.path.join(at, it), "rb") as file:
+                    found[os.path.relpath(os.path.join(at, it), self.path(top))] = file.read()
+        return found
+
+    def test_there_and_back(self):
+        self.prints("put", "-r", "photos", "/album", want="/album/2026/June/b.txt: 1 bytes\n"
+                    "/album/2026/lake.jpg: 65537 bytes\n/album/a.txt: 1 bytes\n")
+        self.prints("ls", "-l", "/album", want="2 inside  ann:eng  2026/\n       1  ann:eng  a.txt\n"
+                    "0 inside  ann:eng  empty/\n")
+        self.prints("find", "/", "B.T", want="/album/2026/June/b.txt\n")
+        self.prints("find", "/album", "*.[jt]*", want="/album/2026/June/b.txt\n/album/2026/lake.jpg\n/album/a.txt\n")
+        self.prints("find", "/", "June", want="/album/2026/June/\n")
+        self.assertEqual(self.does("get", "-r", "/album", "back")[0], 0)
+        self.assertEqual(self.here("back"), self.here("photos"))
+        self.assertEqual(self.does("cp", "-r", "/album", "/other")[0], 0)
+        self.assertEqual(self.does("get", "-r", "/other")[0], 0)
+        self.assertEqual(self.here("other"), self.here("photos"))
+        self.refuses("cp", "-r", "/album", "/album/2026/x", want="INVAL (7) at /album: the root neither moves nor "
+                     "goes, nothing moves into itself, and a list has at most 32 entries of its own: mend the words")
+        full = "NOTEMPTY (6) at /album: the folder has something in it: remove that first"
+        self.refuses("rm", "/album", want=full)
+        self.prints("rm", "-r", "/album", "/other", want="/album: removed\n/other: removed\n")
+        self.prints("ls", want="")
+
+    def test_several(self):
+        self.file("b", b"22")
+        self.prints("mkdir", "/d", want="/d: made\n")
+        self.prints("put", "photos/a.txt", "b", "/d", want="/d/a.txt: 1 bytes\n/d/b: 2 bytes\n")
+        self.file("b", b"333")
+        self.prints("put", "b", "photos/2026/lake.jpg", "/d/", want="/d/b: 3 bytes\n/d/lake.jpg: 65537 bytes\n")
+        self.file("lake.jpg", b"small")
+        self.prints("put", "lake.jpg", "b", "/d", want="/d/lake.jpg: 5 bytes\n/d/b: 3 bytes\n")
+        self.prints("get", "/d/b", "/d/lake.jpg", "photos/empty",
+                    want="3 bytes to photos/empty/b\n5 bytes to photos/empty/lake.jpg\n")
+        self.prints("mkdir", "/e", want="/e: made\n")
+        self.prints("mv", "/d/b", "/d/a.txt", "/e", want="/d/b is now /e/b\n/d/a.txt is now /e/a.txt\n")
+        status, out, err = self.does("rm", "/e/b", "/e/none", "/e/a.txt")
+        self.assertEqual((status, out), (1, "/e/b: removed\n/e/a.txt: removed\n"))
+        self.assertEqual(err, "room: NOENT (1) at /e/none: nothing is there, or a folder above it is missing: look "
+                         "with: room ls\n")
+        status, out, err = self.does("put", "none", "b", "/e")
+        self.assertEqual((status, out, err), (5, "/e/b: 3 bytes\n", "room: none: No such file or directory\n"))
+
+    def test_links_are_not_followed(self):
+        os.mkdir(self.path("hidden"))
+        self.file("hidden/s", b"s")
+        os.symlink(self.path("hidden"), self.path("photos/linked"))
+        os.symlink(self.path("hidden/s"), self.path("photos/2026/s"))
+        os.mkfifo(self.path("photos/pipe"))
+        status, out, err = self.does("put", "-r", "photos", "/album")
+        self.assertEqual((status, out.count("bytes")), (0, 3))
+        for it in ("linked is left out: it is a link", "2026/s is left out: it is a link", "pipe is left out: it is"):
+            self.assertIn(f"photos/{it}", err)
+        with self.room() as room:
+            room.mkdir("/album/linked")
+            room.create("/album/linked/s", b"new")
+            room.create("/album/2026/s", b"new")
+        os.remove(self.path("photos/pipe"))
+        status, out, err = self.does("get", "-r", "/album", "photos")
+        self.assertEqual(status, 5)
+        with open(self.path("hidden/s"), "rb") as file:
+            self.assertEqual(file.read(), b"s")
+        self.assertIn("photos/linked", err)
+
+    def test_names_that_are_none_here(self):
+        """(This room takes no such names: one that tells them is played.)"""
+        with self.room() as room:
+            room.mkdir("/d")
+            room.mkdir("/d/up")
+            room.create("/d/up/x", b"out")
+            room.create("/d/here", b"out")
+            room.create("/d/a", b"in")
+        before, asked = self.here("."), Slot.ask
+
+        def ask(slot, command):
+            text = json.dumps(asked(slot, json.loads(json.dumps(command).replace("/d/..", "/d/up"))))
+            return json.loads(text.replace('"up"', '".."').replace('"here"', '"."'))
+
+        for words in (["get", "-r", "/d", "to"], ["sync", "room:/d", "to"]):
+            with mock.patch.object(Slot, "ask", ask):
+                status, _, err = self.does(*words)
+            self.assertEqual(status, 0)
+            self.assertIn("room: /d/. is left out: no file here can have that name\n", err)
+            self.assertIn("room: /d/.. is left out: no file here can have that name\n", err)
+            after = self.here(".")
+            self.assertEqual(self.here("to"), {"a": b"in"})
+            self.assertLessEqual({it for it in after if it not in before and "json" not in it}, {"to", "to/a"})
+
+    def test_sync_up(self):
+        self.prints("sync", "photos", "room:/album", want="made 2026/\nmade 2026/June/\nmade empty/\n"
+                    "sent 2026/June/b.txt\nsent 2026/lake.jpg\nsent a.txt\n3 sent, 3 made\n")
+        self.prints("sync", "photos", "room:/album", want="3 same\n")
+        self.file("photos/a.txt", b"A")
+        self.file("photos/2026/lake.jpg", self.large[::-1])
+        os.remove(self.path("photos/2026/June/b.txt"))
+        os.rmdir(self.path("photos/2026/June"))
+        os.symlink("nowhere", self.path("photos/empty/kept"))
+        with self.room() as room:
+            room.create("/album/empty/kept", b"its source is a link")
+        want = "sent 2026/lake.jpg\nsent a.txt\n2 sent\n"
+        self.assertEqual(self.does("sync", "--dry-run", "photos", "room:/album")[:2], (0, want))
+        self.assertEqual(self.does("sync", "photos", "room:/album")[:2], (0, want))
+        told = self.does("sync", "--delete", "--dry-run", "photos", "room:/album")
+        self.assertEqual(told[:2], (0, "removed 2026/June\n1 removed, 2 same\n"))
+        self.assertEqual(self.does("sync", "--delete", "photos", "room:/album")[:2], told[:2])
+        with self.behind() as room:
+            self.assertEqual(files.read(room, "/album/2026/lake.jpg"), self.large[::-1])
+            self.assertEqual(room.read("/album/a.txt"), b"A")
+            self.assertEqual(list(room.children("/album/2026")), ["lake.jpg"])
+            self.assertEqual(list(room.children("/album/empty")), ["kept"])
+
+    def test_sync_down(self):
+        self.assertEqual(self.does("put", "-r", "photos", "/album")[0], 0)
+        self.prints("sync", "room:/album", "copy", want="made 2026/\nmade 2026/June/\nmade empty/\n"
+                    "got 2026/June/b.txt\ngot a.txt\ngot 2026/lake.jpg\n3 got, 3 made\n")
+        self.assertEqual(self.here("copy"), self.here("photos"))
+        self.prints("sync", "room:/album", "copy", want="3 same\n")
+        self.tree("copy", {"more/x": b"x", "2026/y": b"y"})
+        self.file("copy/a.txt", b"other")
+        self.prints("sync", "room:/album", "copy", want="got a.txt\n1 got, 2 same\n")
+        self.prints("sync", "--delete", "room:/album", "copy",
+                    want="removed more/x\nremoved more\nremoved 2026/y\n3 removed, 3 same\n")
+        self.assertEqual(self.here("copy"), self.here("photos"))
+
+    def test_a_folder_that_may_not_be_listed_is_not_removed_here(self):
+        self.assertEqual(self.does("put", "-r", "photos", "/album")[0], 0)
+        self.assertEqual(self.does("sync", "room:/album", "copy")[0], 0)
+        with self.room() as room:
+            room.set_list("/album/2026", 3, [{"flag": 3, "mask": 0x1F07FE, "type": 0, "who": "OWNER@"}])
+        status, out, err = self.does("sync", "--delete", "room:/album", "copy")
+        self.assertEqual((status, out), (0, "1 same\n"))
+        self.assertIn("you lack the right list", err)
+        self.assertEqual(self.here("copy"), self.here("photos"))
+
+    def test_wrong_words(self):
+        for words in (["photos", "/album"], ["room:/a", "room:/b"]):
+            self.refuses("sync", *words, status=2,
+                         want="one of FROM and TO is a folder of the room, written as room:/PATH")
+        self.refuses("sync", "none", "room:/a", status=5, want="none: No such file or directory")
+        self.refuses("put", "photos", "/a", status=5, want="photos is a folder: -r puts it with what is in it")
+        self.refuses("get", "/a", "/b", "none", status=5,
+                     want="none is no folder here, and several files are to go there")
+        self.file("photos/d", b"")
+        with self.room() as room:
+            room.mkdir("/album")
+            room.mkdir("/album/d")
+        status, _, err = self.does("sync", "photos", "room:/album")
+        self.assertEqual((status, err), (1, "room: EXIST (4) at d: a file on one side, a folder on the other\n"))
+
+
+class Names(Desk):
+    def test_names_are_composed_and_trimmed_as_they_are_made(self):
+        self.prints("put", "-", "/a\u0308 ", stdin=b"x", want="/\u00e4: 1 bytes\n")
+        self.prints("mkdir", "/ d ", want="/d: made\n")
+        self.prints("mv", "/a\u0308", "/d /o\u0308", want="/\u00e4 is now /d/\u00f6\n")
+        self.prints("get", "/d/o\u0308", want="x")
+        with self.room() as room:
+            room.create("/u\u0308", b"of another client")
+        self.prints("get", "/u\u0308", want="of another client")
+        os.mkdir(self.path("up"))
+        self.file("up/e\u0301", b"1")
+        self.prints("put", "-r", "up", "/up", want="/up/\u00e9: 1 bytes\n")
+        self.prints("sync", "up", "room:/up", want="1 same\n")
+
+    def test_two_that_become_one(self):
+        os.mkdir(self.path("up"))
+        self.file("up/e\u0301", b"1")
+        self.file("up/\u00e9", b"2")
+        status, out, err = self.does("put", "-r", "up", "/up")
+        self.assertEqual((status, out), (0, "/up/\u00e9: 1 bytes\n"))
+        self.assertIn("is left out: another one gets the same name in the room", err)
+
+    def test_a_file_here_is_whole_and_keeps_its_mode(self):
+        self.prints("put", "-", "/a", stdin=b"x", want="/a: 1 bytes\n")
+        os.chmod(self.file("mine", b"longer"), 0o600)
+        os.symlink("mine", self.path("link"))
+        self.prints("get", "/a", "link", want="1 bytes to link\n")
+        self.assertEqual(stat.S_IMODE(os.stat(self.path("mine")).st_mode), 0o600)
+        with open(self.path("mine"), "rb") as file:
+            self.assertEqual(file.read(), b"x")
+        self.assertTrue(os.path.islink(self.path("link")))
+
+
+class Trash(Behind):
+    def setUp(self):
+        super().setUp()
+        with self.room() as room:
+            for path in ("/trash", "/trash/ann", "/d", "/d/e"):
+                room.mkdir(path)
+            room.create("/d/e/a.txt", b"x")
+            files.write(room, "/d/large", some(PIECE + 1, 1))
+
+    def in_trash(self):
+        with self.room() as room:
+            return list(room.children("/trash/ann"))
+
+    def test_there_and_back(self):
+        self.prints("rm", "/d/e/a.txt", "/d/large", want="/d/e/a.txt: in /trash/ann\n/d/large: in /trash/ann\n")
+        first, second = self.in_trash()
+        self.assertRegex(first, "^a.txt~d~e~[0-9]{14}$")
+        self.assertRegex(second, "^large~d~[0-9]{14}$")
+        self.prints("trash", want=f"{first}  (from /d/e/a.txt)\n{second}  (from /d/large)\n")
+        self.prints("trash", "restore", first, want="/d/e/a.txt: restored\n")
+        self.prints("trash", "restore", second, "/big", want="/big: restored\n")
+        self.prints("get", "/d/e/a.txt", want="x")
+        self.prints("rm", "/big", want="/big: in /trash/ann\n")
+        self.refuses("rm", "/d", want="NOTEMPTY (6) at /d: the folder has something in it: remove that first")
+        self.prints("rm", "-r", "/d", want="/d: in /trash/ann\n")
+        self.prints("trash", "empty", want="2 removed for good\n")
+        self.assertEqual(self.in_trash(), [])
+
+    def test_the_same_name_again_and_again(self):
+        for _ in range(3):
+            self.prints("put", "-", "/d/x", stdin=b"x", want="/d/x: 1 bytes\n")
+            self.prints("rm", "/d/x", want="/d/x: in /trash/ann\n")
+        self.assertEqual(len(self.in_trash()), 3)
+
+    def test_for_good(self):
+        self.prints("rm", "--for-good", "/d/large", want="/d/large: removed\n")
+        self.assertEqual(self.in_trash(), [])
+        self.prints("rm", "/d/e/a.txt", want="/d/e/a.txt: in /trash/ann\n")
+        self.prints("rm", f"/trash/ann/{self.in_trash()[0]}", want=f"/trash/ann/{self.in_trash()[0]}: removed\n")
+
+    def test_who_has_none_removes(self):
+        with self.room() as room:
+            room.set_list("/", 0, [EVERYBODY])
+        self.prints("rm", "/d/e/a.txt", user="ann", want="/d/e/a.txt: in /trash/ann\n")
+        with self.room(user="bob") as room:
+            room.create("/d/b", b"")
+            self.assertIsNone(trash.trash_of(room))
+            self.assertIsNone(trash.discard(room, "/d/b", None, False))
+
+    def test_a_trash_that_does_not_take_it(self):
+        with self.room() as room:
+            room.set_list("/trash/ann", 3, [{"flag": 3, "mask": 0x1200A9, "type": 0, "who": "OWNER@"}])
+        status, out, err = self.does("rm", "/d/e/a.txt")
+        self.assertEqual((status, out), (1, ""))
+        self.assertRegex(err, "the trash /trash/ann does not take it: room trash empty, or room rm --for-good")
+        self.prints("get", "/d/e/a.txt", want="x")
+
+    def test_done_once_though_its_answer_was_lost(self):
+        self.front.faults[:] = ["pass"] * 3 + ["lose"] + [504] * 99
+        words = ["--patience", "0.2"]
+        status, _, err = self.does("rm", "/d/e/a.txt", flags=words)
+        self.assertEqual(status, 3, err)
+        del self.front.faults[:]
+        status, out, err = self.does("rm", "/d/e/a.txt")
+        self.assertEqual((status, out), (0, "/d/e/a.txt: in /trash/ann\n"), err)
+        self.assertIn("that was this very request, done once", err)
+        self.assertEqual(len(self.in_trash()), 1)
+
+    def test_names(self):
+        stamp = "20261126214307"
+        for path, name, place in [
+            ("/a", f"a~{stamp}", "/a"), ("/photos/2026/lake.jpg", f"lake.jpg~photos~2026~{stamp}", None),
+            ("/a~b", f"a~b~…~{stamp}", ""), ("/" + "x" * 60 + "/b", f"b~…~{stamp}", ""),
+            ("/" + "x" * 60 + ".jpg", "x" * 38 + f"….jpg~…~{stamp}", ""),
+        ]:
+            self.assertEqual(trash.name_in_trash(path, stamp), name)
+            self.assertLessEqual(len(name.encode()), 64)
+            self.assertEqual(trash.place_before(name), (path if place is None else place or None))
+        self.assertIsNone(trash.place_before("odd"))
