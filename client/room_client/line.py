@@ -81,12 +81,13 @@ class Line:
     """Opened when it is first needed, and again after a fault. A room serves one connection after another, so an open
     one holds others back: close it before a wait."""
 
-    def __init__(self, settings: Settings):
+    def __init__(self, settings: Settings, context: ssl.SSLContext | None = None):
         parts, port = read_url(settings.url)
         self.url, self.base = settings.url, parts.path.rstrip("/")
+        self.context = context
         if parts.scheme == "https":
-            context = trusting(settings.ca_file)
-            self.connection = http.client.HTTPSConnection(parts.hostname, port, context=context)
+            self.context = context or trusting(settings.ca_file)
+            self.connection = http.client.HTTPSConnection(parts.hostname, port, context=self.context)
         else:
             self.connection = http.client.HTTPConnection(parts.hostname, port)
         self.fields = {"content-type": "application/json"}

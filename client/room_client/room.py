@@ -62,7 +62,9 @@ class Room:
 
     def slot(self, number: int = 0) -> Slot:
         if number not in self.slots:
-            self.slots[number] = Slot(number, self.settings, self.state, self.pace, self.say)
+            context = self.slots[0].line.context if 0 in self.slots else None
+            line = Line(self.settings, context)
+            self.slots[number] = Slot(number, line, self.settings, self.state, self.pace, self.say)
         return self.slots[number]
 
     @property

@@ -54,9 +54,10 @@ class Pace:
 class Slot:
     """One slot. A request is on record before it is sent, and until its reply was told: until the next request."""
 
-    def __init__(self, number: int, settings: Settings, state: State, pace: Pace, say: Callable[[str], None]):
-        self.number, self.settings, self.state, self.pace, self.say = number, settings, state, pace, say
-        self.line = Line(settings)
+    def __init__(self, number: int, line: Line, settings: Settings, state: State, pace: Pace,
+                 say: Callable[[str], None]):
+        self.number, self.line, self.settings = number, line, settings
+        self.state, self.pace, self.say = state, pace, say
         self.is_answered = self.may_be_sent = self.is_stopped = False
 
     def ask(self, command: dict) -> dict:

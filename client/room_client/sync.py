@@ -73,7 +73,7 @@ class Sync:
         """The files that differ: by size, and where that is the same by their sums."""
         both = [it for it in paths if it in mine.places and it in its.kinds]
         sizes = trees.sizes_of(self.room, self.top, its, both)
-        alike = [it for it in both if os.path.getsize(mine.places[it]) == sizes[it]]
+        alike = [it for it in both if size_here(mine.places[it]) == sizes[it]]
         sums = trees.sums_of(self.room, self.top, its, alike)
         same = {it for it in alike if sums[it] == sum_here(mine.places[it])}
         self.counts["same"] = len(same)
@@ -139,9 +139,20 @@ class Sync:
         print(f"{word} {shown(path)}", flush=True)
 
 
-def sum_here(path: str) -> str:
-    with local.reading(path), open(path, "rb") as file:
-        return hashlib.file_digest(file, "sha256").hexdigest()
+def size_here(path: str) -> int | None:
+    """None where it is gone meanwhile, which is told as it is read."""
+    try:
+        return os.path.getsize(path)
+    except OSError:
+        return None
+
+
+def sum_here(path: str) -> str | None:
+    try:
+        with open(path, "rb") as file:
+            return hashlib.file_digest(file, "sha256").hexdigest()
+    except OSError:
+        return None
 
 
 def sync(room: Room, asked) -> None:
