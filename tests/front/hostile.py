@@ -87,6 +87,8 @@ def wrong_logins_are_told(front, tally):
     at_once(len(names), lambda at: timed(front, names[at], "no"))
     for user in None, "u01":
         front.once(user, "GET", "/whoami")
+    found, seconds = timed(front, "logged-out", "x")
+    tally.differs("logging out is no wrong login, and at once", (found, seconds < WRONG_WAITS), (401, True))
     line = Line(front.port, "127.0.0.3")
     line.send(message(None, "GET", "/whoami", fields=front.fields(None, [login("u01", "not waited for")])))
     time.sleep(0.5)
