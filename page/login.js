@@ -22,7 +22,7 @@ export class Login {
 export function logOut() {
   return new Promise((tell) => {
     const request = new XMLHttpRequest();
-    request.open("GET", new URL("/whoami", location.origin), true, "nobody", `${Math.random()}`);
+    request.open("GET", new URL("/whoami", location.origin), true, "logged-out", `${Math.random()}`);
     request.onloadend = () => tell(request.status === 401);
     request.send();
   });

@@ -58,7 +58,9 @@ class Club:
         self.numbers[user] = self.numbers.get(user, 0) + 1
         try:
             line.ask(session(1, sid, user))
-            return json.loads(line.ask(slot(0, self.numbers[user], command, user, sid)).body)
+            told = json.loads(line.ask(slot(0, self.numbers[user], command, user, sid)).body)
+            assert told["code"] < 20, (command, told)  # (then the numbers fit no more)
+            return told
         finally:
             line.close()
 

@@ -1,0 +1,178 @@
+"""Scenes of the page: folders and files as wholes: move, copy, remove, trash, search, zip, previews."""
+import io
+import re
+import zipfile
+import zlib
+
+from carried import PIECE, dice, held, names_at, on_disk, put, row, saved
+
+ALL = 0x1F07FF
+# a picture of one red dot, and an SVG that would run
+PNG = (b"\x89PNG\r\n\x1a\n\x00\x00\x00\rIHDR\x00\x00\x00\x01\x00\x00\x00\x01\x08\x02\x00\x00\x00\x90wS\xde"
+       b"\x00\x00\x00\x0cIDATx\x9cc\xf8\xcf\xc0\x00\x00\x03\x01\x01\x00\xc9\xfe\x92\xef\x00\x00\x00\x00IEND\xaeB`\x82")
+SVG = b"<svg xmlns='http://www.w3.org/2000/svg'><script>window.ran=1</script><rect width='9' height='9'/></svg>"
+TREE = {"/t/a.txt": b"a", "/t/sub/b.txt": b"b", "/t/sub/deep/\u00fc.txt": "\u00fc".encode(), "/t/empty/": None}
+
+
+def make_tree(club):
+    """A tree with a large file, put by the page."""
+    for path in "/t", "/t/sub", "/t/sub/deep", "/t/empty", "/other":
+        club.holds({"cmd": "MKDIR", "path": path})
+    for path, data in TREE.items():
+        if data is not None:
+            club.holds({"cmd": "CREATE", "path": path, "data": club.base64(data)})
+    large = dice.randbytes(2 * PIECE + 7)
+    put(club, "/t/sub", on_disk(club, "large.bin", large))
+    club.browser.sees("1 file uploaded", "#notices")
+    return large
+
+
+def below(club, path):
+    """All that is below a folder, with the bytes of files, read past the page."""
+    found = {}
+    for name, kind in names_at(club, path).items():
+        at = f"{path}/{name}"
+        if kind == "file" or ".room-file" in names_at(club, at):
+            found[at] = held(club, at)
+        else:
+            found.update({f"{at}/": None} | below(club, at))
+    return found
+
+
+def wholes(club, differs):
+    """Copy, zip, search, move and removal of a folder with a large file in it."""
+    browser = club.browser
+    large = make_tree(club)
+    tree = {**TREE, "/t/sub/": None, "/t/sub/deep/": None, "/t/sub/large.bin": large}
+    differs("the tree", below(club, "/t") == tree, True)
+    club.go("#open/club")
+    browser.press("More for t")
+    browser.press("Copy t")
+    browser.press("other", "//dialog[@open]")
+    browser.sees("To the folder /other", "dialog")
+    browser.press("Copy it there")
+    browser.sees("/t is copied to /other/t.", "#notices")
+    copied = {f"/other{path}": data for path, data in tree.items()}
+    differs("the copy", below(club, "/other/t") == copied, True)
+    zipped(club, differs, tree)
+    search(club, differs)
+    moved(club, differs, large)
+    removed(club, differs)
+
+
+def zipped(club, differs, tree):
+    browser = club.browser
+    club.go("#open/club/t")
+    browser.press("Download as zip")
+    browser.sees("t.zip is made", "#notices")
+    with zipfile.ZipFile(io.BytesIO(saved(club, "t.zip"))) as file:
+        differs("its sums", file.testzip(), None)
+        differs("its names", sorted(file.namelist()), sorted(it[1:] for it in tree))
+        differs("its bytes", all(file.read(it[1:]) == data for it, data in tree.items() if data is not None), True)
+        differs("it is stored", {it.compress_type for it in file.infolist()}, {zipfile.ZIP_STORED})
+        differs("names are UTF-8", all(it.flag_bits & 0x800 for it in file.infolist()), True)
+    sums = "import('/zip.js').then((it) => arguments[0]([it.crcOf(new Uint8Array(0)), " \
+           "it.crcOf(new TextEncoder().encode('123456789'))]))"
+    differs("CRC-32", browser.ask("POST", "/execute/async", {"script": sums, "args": []}),
+            [zlib.crc32(b""), zlib.crc32(b"123456789")])
+
+
+def search(club, differs):
+    browser = club.browser
+    club.go("#open/club/t")
+    browser.follow("Search")
+    browser.act("//main//input[@type='search']", "value", {"text": "LARGE"})
+    browser.press("Search", "//main")
+    browser.sees("That is all.", "main")
+    found = "return [...document.querySelectorAll('.found li')].map((it) => it.textContent)"
+    differs("found", browser.script(found), ["/t/sub/large.bin"])
+    differs("the words", browser.sees("1 found among 7 names.", "main"), True)
+    browser.follow("/t/sub/large.bin")
+    browser.sees("128 KiB, owner ann", "main")
+    browser.script("history.back()")
+    browser.sees("1 found among 7 names.", "main")
+    differs("who comes back finds it", browser.script(found), ["/t/sub/large.bin"])
+
+
+def moved(club, differs, large):
+    browser = club.browser
+    club.go("#open/club/t/sub")
+    browser.until("its size", lambda: "128 KiB" in row(browser, "large.bin"))
+    browser.press("More for large.bin")
+    browser.press("Move large.bin")
+    browser.press("One up", "//dialog[@open]")
+    browser.press("empty", "//dialog[@open]")
+    browser.sees("To the folder /t/empty", "dialog")
+    browser.fill("Name there", "moved.bin")
+    browser.press("Move it there")
+    browser.sees("is now /t/empty/moved.bin", "#notices")
+    differs("it is moved", held(club, "/t/empty/moved.bin") == large, True)
+    differs("and here no more", "large.bin" in names_at(club, "/t/sub"), False)
+
+
+def removed(club, differs):
+    """For good where there is no trash; else to the trash, by a name that tells where it came from."""
+    browser = club.browser
+    club.go("#open/club/t")
+    browser.press("Remove", "//main")
+    browser.sees("It cannot be brought back.", "dialog")
+    differs("how much", browser.sees("With it go 4 documents and 3 folders that are in it.", "dialog"), True)
+    browser.press("Remove", "//dialog[@open]")
+    browser.sees("/t is removed.", "#notices")
+    differs("it is gone", "t" in names_at(club, "/"), False)
+    club.holds({"cmd": "MKDIR", "path": "/trash"})
+    club.holds({"cmd": "MKDIR", "path": "/trash/ann"})
+    club.go("#open/club/other")
+    browser.press("More for t")
+    browser.press("Remove t")
+    browser.sees("It goes to the trash, /trash/ann.", "dialog")
+    browser.press("Remove", "//dialog[@open]")
+    browser.sees("/other/t is in the trash.", "#notices")
+    names = list(names_at(club, "/trash/ann"))
+    differs("its name there", [bool(re.fullmatch(r"t~other~[0-9]{14}", it)) for it in names], [True])
+    club.go("#open/club/trash/ann")
+    browser.press(f"More for {names[0]}")
+    browser.press(f"Remove {names[0]}")
+    browser.sees("It cannot be brought back.", "dialog")
+    browser.press("Remove", "//dialog[@open]")
+    browser.sees("is removed.", "#notices")
+    differs("out of the trash for good", names_at(club, "/trash/ann"), {})
+    club.holds({"cmd": "REMOVE", "path": "/trash/ann"})
+
+
+def previews(club, differs):
+    """Pictures are shown by how they begin; an SVG never is, and runs nothing."""
+    browser = club.browser
+    shown = "const it = document.querySelector('img.picture'); return it && [it.complete, it.naturalWidth]"
+    for name, data in ("dot.txt", PNG), ("picture.svg", SVG), ("not.png", SVG):
+        club.holds({"cmd": "CREATE", "path": f"/other/{name}", "data": club.base64(data)})
+        club.go(f"#open/club/other/{name}")
+        if data is PNG:
+            differs("a picture", browser.until("it", lambda: browser.script(shown)), [True, 1])
+        else:
+            differs(f"{name} is text", browser.sees("window.ran=1", "pre"), True)
+            differs(f"{name} runs nothing", browser.script("return window.ran ?? null"), None)
+
+
+def offered(club, differs):
+    """What one's rights refuse is not offered: in a folder, in a row, and of a document."""
+    browser = club.browser
+    entries = [{"type": 0, "flag": 3, "mask": mask, "who": who} for who, mask in (("ann", ALL), ("eve", 0x1200A9))]
+    club.holds({"cmd": "SETLIST", "path": "/other", "aclflag": 2, "entries": entries})
+    club.log_in("eve")
+    club.go("#open/club/other")
+    browser.sees("dot.txt", ".things")
+    buttons = "return [...document.querySelectorAll('main > .tools button')].map((it) => it.textContent)"
+    differs("in a folder", browser.script(buttons), ["Download as zip", "Copy"])
+    browser.press("More for dot.txt")
+    browser.sees("Download", ".things")
+    row_ = "return [...document.querySelectorAll('.things .tools .tools button')].map((it) => it.textContent)"
+    browser.until("its buttons", lambda: browser.script(row_))
+    differs("in a row", browser.script(row_), ["Download", "Copy"])
+    club.log_in("ann")
+    club.go("#open/club/other/picture.svg")
+    differs("of an own document", browser.script(buttons),
+            ["Append", "Edit", "Download", "Upload a new version", "Rename", "Move", "Copy", "Remove"])
+
+
+SCENES = [wholes, previews, offered]
