@@ -54,7 +54,7 @@ class ListView {
       own.length ? make("ol", { className: "entries" }, ...own) : make("p", {}, "It has none of its own."),
       make("p", { className: "tools" }, button("Add an entry", () => this.add())), handed,
       make("p", { className: "actions" }, button("Save the list", () => this.save(), { className: "main" }),
-        button("Leave it as it was", () => this.app.show(standing()))));
+        button("Leave it as it was", () => this.leave())));
   }
 
   taking() {
@@ -110,6 +110,12 @@ class ListView {
     });
     if (!isDone) return;
     if (isSame(now, this.list) || await this.settle(now)) await this.app.done("The list is set.");
+  }
+
+  /** What was changed here is lost, as the user wants. */
+  leave() {
+    this.element.classList.remove("typed");
+    return this.app.show(standing());
   }
 
   async set() {

@@ -125,7 +125,7 @@ class Upload {
     try {
       await this.putPieces(this.path);
     } catch (fault) {
-      if (this.isMade) await orElse(this.room.aside("REMOVE", this.path), null, NOENT, NOTEMPTY);
+      if (this.isMade) await orElse(this.room.step("REMOVE", this.path), null, NOENT, NOTEMPTY);
       throw fault;
     }
     return await this.needFirst() ?? this.finish();
@@ -140,7 +140,7 @@ class Upload {
 
   /** The document, as STAT has it, that is there instead, or null. */
   async begin(isNew) {
-    this.isMade = Boolean(await orElse(this.room.aside("MKDIR", this.path), null, ...(isNew ? [] : [EXIST])));
+    this.isMade = Boolean(await orElse(this.room.step("MKDIR", this.path), null, ...(isNew ? [] : [EXIST])));
     if (this.isMade) return null;
     const stat = await this.room.aside("STAT", this.path);
     if (stat.kind === FILE) return stat;
@@ -159,16 +159,16 @@ class Upload {
   /** All pieces in a folder of that name, which is there once they are. */
   async putPieces(at) {
     const writing = form.otherName(form.WRITING);
-    await this.room.aside("MKDIR", inFolder(at, writing));
+    await this.room.step("MKDIR", inFolder(at, writing));
     try {
       await forEach([...this.its.pieces.keys()], async (number) => {
         this.transfer.check();
         const piece = this.bytes.subarray(number * form.PIECE, (number + 1) * form.PIECE);
-        await this.room.aside("CREATE", inFolder(at, writing, this.its.pieces[number]), { data: toBase64(piece) });
+        await this.room.step("CREATE", inFolder(at, writing, this.its.pieces[number]), { data: toBase64(piece) });
         this.transfer.add(piece.length);
       });
       this.transfer.check();
-      await this.room.aside("RENAME", inFolder(at, writing), { to: inFolder(at, this.its.folder) });
+      await this.room.step("RENAME", inFolder(at, writing), { to: inFolder(at, this.its.folder) });
     } catch (fault) {
       await clear(this.room, at, writing, this.transfer);
       if (isRefused(fault, NOENT)) throw new Error(`Somebody else's version of ${shown(this.path)} came first.`);
@@ -194,7 +194,7 @@ class Upload {
   /** The one request that is the new version. */
   async putManifest(at, isFirst) {
     try {
-      await this.room.aside(isFirst ? "CREATE" : "WRITE", inFolder(at, form.NAME),
+      await this.room.step(isFirst ? "CREATE" : "WRITE", inFolder(at, form.NAME),
         { data: toBase64(form.bytesOf(this.its)) });
     } catch (fault) {
       await clear(this.room, at, this.its.folder, this.transfer);
@@ -241,14 +241,14 @@ class Replacement {
     const [gone, its] = [inFolder(above, names.gone), inFolder(above, names.its)];
     const before = await bytesAt(this.room, this.path);
     await clearBeside(this.room, this.path, this.transfer);
-    await this.room.aside("MKDIR", its);
+    await this.room.step("MKDIR", its);
     try {
       await this.takeList(its);
       await this.upload.putPieces(its);
       await this.upload.putManifest(its, true);
       await this.takeOwner(its);
       if (!isSame(before, await bytesAt(this.room, this.path))) throw new Error("Somebody changed it meanwhile.");
-      await this.room.aside("RENAME", this.path, { to: gone });
+      await this.room.step("RENAME", this.path, { to: gone });
     } catch (fault) {
       await clear(this.room, above, names.its, this.transfer);
       throw fault;
@@ -261,21 +261,21 @@ class Replacement {
   async takeList(its) {
     const { aclflag, entries } = await this.room.aside("GETLIST", this.path);
     const own = entries.filter((it) => !isInherited(it) || !follows(aclflag)).map(carried);
-    if (own.length || aclflag !== 1) await this.room.aside("SETLIST", its, { aclflag, entries: own });
+    if (own.length || aclflag !== 1) await this.room.step("SETLIST", its, { aclflag, entries: own });
   }
 
   async takeOwner(its) {
     const { owner, group } = this.its;
     const now = await this.room.aside("STAT", its);
-    if (now.owner !== owner || now.group !== group) await this.room.aside("CHOWN", its, { owner, group });
+    if (now.owner !== owner || now.group !== group) await this.room.step("CHOWN", its, { owner, group });
   }
 
   /** Between the two, nothing has the name. */
   async takeName(its, gone) {
     try {
-      await this.room.aside("RENAME", its, { to: this.path });
+      await this.room.step("RENAME", its, { to: this.path });
     } catch (fault) {
-      if (!isRefused(fault, EXIST)) await this.room.aside("RENAME", gone, { to: this.path });
+      if (!isRefused(fault, EXIST)) await this.room.step("RENAME", gone, { to: this.path });
       throw fault;
     }
   }
@@ -285,7 +285,7 @@ class Replacement {
 async function clear(room, at, name, transfer) {
   const gone = inFolder(at, name.startsWith(form.GONE) ? name : form.otherName(form.GONE));
   try {
-    if (!name.startsWith(form.GONE)) await room.aside("RENAME", inFolder(at, name), { to: gone });
+    if (!name.startsWith(form.GONE)) await room.step("RENAME", inFolder(at, name), { to: gone });
     await removeAll(room, gone);
   } catch (fault) {
     if (!isRefused(fault, NOENT, NOTDIR)) transfer.note(`Something is left of the upload: ${fault.message}`);
@@ -305,7 +305,7 @@ async function clearBeside(room, path, transfer) {
 export async function removeAll(room, path, transfer = NOBODY) {
   transfer.check();
   const { names } = await orElse(room.aside("LIST", path), { names: [] }, NOTDIR);
-  const remove = (it) => orElse(room.aside("REMOVE", it), null, NOENT);
+  const remove = (it) => orElse(room.step("REMOVE", it), null, NOENT);
   if (names.some(([name]) => name === form.NAME)) await remove(inFolder(path, form.NAME));
   const documents = names.filter(([name, kind]) => kind !== FOLDER && name !== form.NAME);
   await forEach(documents, ([name]) => remove(inFolder(path, name)));

@@ -8,10 +8,9 @@ import { button, link, make } from "./dom.js";
 import { showFind } from "./find.js";
 import { head } from "./heads.js";
 import { Login, logOut } from "./login.js";
-import { isPart } from "./manifest.js";
 import { showMatrix } from "./matrix.js";
 import { shown } from "./names.js";
-import { ROOT, addressOf, namesOf, placeOf } from "./places.js";
+import { ROOT, addressOf, placeOf } from "./places.js";
 import { Room } from "./room.js";
 import { arrive, leave, standing } from "./stand.js";
 import { sessionOfTab } from "./tabs.js";
@@ -43,10 +42,7 @@ class App {
   /** Tells how a request ended that was under way when a tab ended. */
   tellLeft(command, reply, fault) {
     const { cmd, path } = command;
-    if (namesOf(path).some(isPart)) {
-      this.say("An upload was under way as the page ended: look at it, and upload it again where it is not whole.");
-      return;
-    }
+    if (!reply && !fault) return this.say(LEFT, false);
     if (["STAT", "LIST", "READ", "GETLIST", "ACCESS"].includes(cmd)) return;
     const end = fault?.message ?? (reply.code === 0 ? "it is done, once." : new Refusal(reply, command).message);
     this.say(`A request from before was sent again, ${cmd} of ${shown(path)}: ${end}`, reply?.code === 0);
@@ -143,6 +139,8 @@ class App {
   }
 }
 
+const LEFT = "An upload, a copy or a removal was under way as the page ended, and is not whole. Look at what is " +
+  "there, and do it again.";
 const isAt = (path, from) => path === from || path.startsWith(`${from}/`);
 
 const INSECURE = "This page needs https, or the address 127.0.0.1: elsewhere a browser has no locks, which keep two " +

@@ -27,6 +27,12 @@ export class Room {
     return need(await this.session.askAside(command), command);
   }
 
+  /** As `aside`, of a step of something longer, which is not done once the page has ended. */
+  async step(cmd, path, more = {}) {
+    const command = { cmd, path, ...more };
+    return need(await this.session.askAside(command, true), command);
+  }
+
   /** As `aside`, and null where the room refuses it. */
   async asideIfAllowed(cmd, path, more = {}) {
     const reply = await this.session.askAside({ cmd, path, ...more });

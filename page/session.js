@@ -9,6 +9,7 @@ import { untilAnswered } from "./wire.js";
 const NUMBERS = 2 ** 32;
 const SLOTS = 16;
 const ASIDE = 6; // how many requests go beside each other: as many as a browser has connections to one place
+const FALSE_RETRY = 23;
 const NOT_KEPT = 25;
 const OWN_REFUSALS = new Set([20, 21, 22, 23, 24, 25]); // of the session, slot or number, and not of the request
 
@@ -29,6 +30,10 @@ const read = (key) => JSON.parse(localStorage.getItem(key));
 function bodyOf(command) {
   return JSON.stringify(Object.fromEntries(Object.entries(command).sort(([a], [b]) => (a < b ? -1 : 1))));
 }
+
+/** A command that changes nothing, and hardly ever is the same again. */
+const harmless = () =>
+  ({ cmd: "ACCESS", mask: crypto.getRandomValues(new Uint32Array(1))[0] & 0x1f07ff, path: "/" });
 
 /** One slot: its requests run one after another, in the order in which they are asked. */
 class Lane {
@@ -66,23 +71,24 @@ class Lane {
     return this.kept.pending && JSON.parse(localStorage.getItem(this.bodyKey));
   }
 
-  ask(command) {
+  /** With `isStep` it is a step of something longer, which is not sent again once the page has ended. */
+  ask(command, isStep = false) {
     return this.#inTurn(async () => {
       if (!this.isNewest) await this.#probe();
-      return this.#new(bodyOf(command));
+      return this.#new(bodyOf(command), isStep);
     });
   }
 
-  /** The reply to the request that was under way when the page ended. */
+  /** The reply to the request that was under way when the page ended, or null where it was a step. */
   finish() {
-    return this.#inTurn(() => this.#settle(localStorage.getItem(this.bodyKey)));
+    const body = localStorage.getItem(this.bodyKey);
+    return this.#inTurn(() => (this.kept.pending.isStep ? this.#drop() : this.#settle(body)));
   }
 
   /** Finds out whether what is kept is the newest: a browser that crashed may have lost it. A number that was used for
-   * another command is refused, and the session changed for a new one; this command is hardly ever the same. */
+   * another command is refused, and the session changed for a new one. */
   async #probe() {
-    const mask = crypto.getRandomValues(new Uint32Array(1))[0] & 0x1f07ff;
-    await this.#new(bodyOf({ cmd: "ACCESS", mask, path: "/" }));
+    await this.#new(bodyOf(harmless()), false);
     this.isNewest = true;
   }
 
@@ -92,12 +98,12 @@ class Lane {
     return done;
   }
 
-  async #new(body) {
+  async #new(body, isStep) {
     const refused = await this.session.open();
     if (refused) return refused;
     const { name } = this.session.kept;
     if (this.kept.name !== name) this.#keep({ name, number: 0, pending: null });
-    await this.#keepPending({ number: (this.kept.number + 1) % NUMBERS, sent: 0 }, body);
+    await this.#keepPending({ number: (this.kept.number + 1) % NUMBERS, sent: 0, isStep }, body);
     return this.#settle(body);
   }
 
@@ -115,8 +121,19 @@ class Lane {
     return reply;
   }
 
+  /** A step of what was stopped is not done late, behind what others did meanwhile: another request takes its number.
+   * Where that is a false retry, the step had been done. */
+  async #drop() {
+    const { number } = this.kept.pending;
+    const reply = await this.#send(number, bodyOf(harmless()));
+    const isUsed = reply.code < 20 || reply.code === FALSE_RETRY;
+    if (!isUsed) this.session.renew(this.kept.name);
+    this.#keep({ pending: null, number: isUsed ? number : this.kept.number });
+    return null;
+  }
+
   async #send(number, body) {
-    const before = () => this.#keep({ pending: { number, sent: this.kept.pending.sent + 1 } });
+    const before = () => this.#keep({ pending: { ...this.kept.pending, sent: this.kept.pending.sent + 1 } });
     try {
       const url = `${this.session.base}/v1/sessions/${this.kept.name}/slots/${this.slot}/${number}`;
       return await untilAnswered(url, body, this.session.patience, before);
@@ -130,16 +147,16 @@ class Lane {
   /** What asked that its reply be not kept only reads, and is asked anew. */
   #again(number, body) {
     this.#keep({ pending: null, number });
-    return this.#new(body);
+    return this.#new(body, false);
   }
 
   /** In a new session, where it was sent only now: then it cannot have acted. */
   #anew(body) {
-    const wasSentBefore = this.kept.pending.sent > 1;
+    const { sent, isStep } = this.kept.pending;
     this.session.renew(this.kept.name);
     this.#keep({ pending: null });
-    if (wasSentBefore) throw new Unknown();
-    return this.#new(body);
+    if (sent > 1) throw new Unknown();
+    return this.#new(body, isStep);
   }
 }
 
@@ -181,10 +198,10 @@ export class Session {
   }
 
   /** The reply to a command that may run beside others. */
-  async askAside(command) {
+  async askAside(command, isStep = false) {
     const lane = this.free.pop() ?? await new Promise((goOn) => this.queue.push(goOn));
     try {
-      return await lane.ask(command);
+      return await lane.ask(command, isStep);
     } finally {
       const next = this.queue.shift();
       if (next) next(lane);

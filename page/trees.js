@@ -48,8 +48,8 @@ export async function copy(room, from, to, transfer) {
   const at = (path) => inFolder(to, ...namesOf(path).slice(namesOf(from).length));
   const folders = found.filter((it) => it.kind === FOLDER).map((it) => it.path);
   folders.sort((a, b) => namesOf(a).length - namesOf(b).length);
-  if (isFolder) await room.aside("MKDIR", to);
-  for (const path of folders) await room.aside("MKDIR", at(path));
+  if (isFolder) await room.step("MKDIR", to);
+  for (const path of folders) await room.step("MKDIR", at(path));
   const files = found.filter((it) => it.kind === "file");
   transfer.total = transfer.bar.max = files.length;
   await forEach(files, async ({ path }) => {

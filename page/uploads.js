@@ -108,7 +108,7 @@ function foldersOf(wanted, folder) {
 
 async function sendAll(app, transfer, wanted, folder) {
   const { room } = app;
-  for (const path of foldersOf(wanted, folder)) await orElse(room.aside("MKDIR", path), null, EXIST);
+  for (const path of foldersOf(wanted, folder)) await orElse(room.step("MKDIR", path), null, EXIST);
   const [faults, start, files] = [[], performance.now(), wanted.filter((it) => it.file)];
   await forEach(files, async ({ path, file, isNew }) => {
     transfer.check();

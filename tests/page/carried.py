@@ -188,7 +188,7 @@ def stopped(club, differs):
     browser.go("about:blank")
     lossy.lose("")
     club.go("#open/club/big")
-    browser.sees("An upload was under way as the page ended", "#notices")
+    browser.sees("was under way as the page ended, and is not whole", "#notices")
     browser.until("it is shown", lambda: "unfinished upload" in row(browser, "stopped"))
     browser.follow("stopped")
     differs("it is told", browser.sees("was stopped, or is under way", "main"), True)
@@ -212,12 +212,32 @@ def stopped(club, differs):
     differs("nothing of it is left", "cancelled" in names_at(club, "/big"), False)
 
 
+def late(club, differs):
+    """The manifest of an upload that was stopped does not come late, behind somebody else's new version."""
+    browser, lossy = club.browser, club.lossy
+    club.go("#open/club/big/stopped")
+    browser.sees("Upload a new version")
+    lossy.lose('"cmd":"WRITE"', 10_000, passes=False)
+    choose(browser, "Upload a new version", on_disk(club, "late", dice.randbytes(PIECE + 1)))
+    browser.sees("sent again until", "#busy")
+    browser.go("about:blank")
+    lossy.lose("")
+    path = f"/big/stopped/{NAME}"
+    theirs = bytes_at(club, path).replace(b'"form":1', b'"form":2')
+    club.holds({"cmd": "WRITE", "path": path, "data": club.base64(theirs)})
+    club.go("#open/club/big")
+    browser.sees("was under way as the page ended, and is not whole", "#notices")
+    differs("theirs stands", bytes_at(club, path) == theirs, True)
+    club.holds({"cmd": "WRITE", "path": path, "data": club.base64(theirs.replace(b'"form":2', b'"form":1'))})
+
+
 def left_beside(club, differs):
     """A document's replacement that was stopped between its two renames is told, and the next upload goes on."""
     browser = club.browser
     gone, new = beside("between")
     club.holds({"cmd": "CREATE", "path": f"/big/{gone}", "data": "b2xk"})
     club.holds({"cmd": "MKDIR", "path": f"/big/{new}"})
+    club.go("#open/club")
     club.go("#open/club/big")
     differs("it is told", browser.sees("Something is left here of a large file", "main"), True)
     data = dice.randbytes(PIECE + 3)
@@ -255,4 +275,4 @@ def drops(club, differs):
         differs(f"chosen: {name}", held(club, f"/chosen/{name}") == it, True)
 
 
-SCENES = [sizes, largest, versions, overtaken, stopped, left_beside, drops]
+SCENES = [sizes, largest, versions, overtaken, stopped, late, left_beside, drops]

@@ -7,13 +7,14 @@ from browser import ANSWER
 
 
 class Lossy(http.server.ThreadingHTTPServer):
-    """`lose(word, count)`: the next so many requests whose body has that word are passed on, and their answers lost.
+    """`lose(word, count)`: the next so many requests whose body has that word are passed on, and their answers lost;
+    without `passes` the requests are lost.
     `hold(words)`: requests whose body has all these words wait until `go_on()`; `held` tells whether one does."""
     daemon_threads = True
 
     def __init__(self, front):
         super().__init__(("127.0.0.1", 0), Passing)
-        self.front, self.word, self.left, self.bodies = front, b"", 0, []
+        self.front, self.word, self.left, self.passes, self.bodies = front, b"", 0, True, []
         self.wanted, self.held, self.going = [], False, threading.Event()
         threading.Thread(target=self.serve_forever, daemon=True).start()
 
@@ -21,8 +22,14 @@ class Lossy(http.server.ThreadingHTTPServer):
     def port(self):
         return self.server_address[1]
 
-    def lose(self, word, count=1):
-        self.word, self.left = word.encode(), count
+    def lose(self, word, count=1, passes=True):
+        self.word, self.left, self.passes = word.encode(), count, passes
+
+    def loses(self, body):
+        """Whether this one's answer is lost."""
+        is_lost = self.left > 0 and self.word in body
+        self.left -= is_lost
+        return is_lost
 
     def hold(self, *words):
         self.held = False
@@ -53,6 +60,9 @@ class Passing(http.server.BaseHTTPRequestHandler):
         body = self.rfile.read(int(self.headers.get("content-length", 0)))
         self.server.bodies.append(body)
         self.server.wait(body)
+        if not self.server.passes and self.server.loses(body):
+            self.close_connection = True
+            return
         line = http.client.HTTPConnection("127.0.0.1", self.server.front, timeout=ANSWER)
         try:
             line.request(self.command, self.path, body or None, dict(self.headers))
@@ -60,8 +70,7 @@ class Passing(http.server.BaseHTTPRequestHandler):
             told = answer.read()
         finally:
             line.close()
-        if self.server.left and self.server.word in body:
-            self.server.left -= 1
+        if self.server.loses(body):
             self.close_connection = True
         else:
             self.answer(answer, told)
