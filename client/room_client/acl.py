@@ -3,6 +3,7 @@ import sys
 
 from . import words
 from .faults import BadWords, Refused
+from .files import carried, large_at
 from .local import read_local
 from .room import Room
 from .showing import show
@@ -29,6 +30,8 @@ def acl(room: Room, asked) -> None:
     if asked.action is None:
         return show_list(room, asked)
     aclflag, own = new_list(room, asked)
+    if asked.action != "drop" and large_at(room, asked.path):  # (what is said of a large file is said of its pieces)
+        own = [it if it["flag"] & words.INHERITED else carried(it) for it in own]
     show(asked, room.set_list(asked.path, aclflag, own), f"{shown(asked.path)}: list set")
 
 

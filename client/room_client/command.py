@@ -10,7 +10,7 @@ from dataclasses import asdict
 from . import acl, documents, report, who
 from .documents import there
 from .faults import BadWords, Fault, LocalFault
-from .files import need_size
+from .files import give, large_at, need_size
 from .line import Line
 from .local import need_file, read_local
 from .manifest import MOST
@@ -61,7 +61,12 @@ def chown(room: Room, asked) -> None:
     if not colon:
         raise BadWords(f"'{shown(asked.owner)}' is not OWNER:GROUP")
     path = there(room, asked.path)
-    show(asked, room.chown(path, owner, group), f"{shown(path)}: owner {owner}, group {group}")
+    large = large_at(room, path)
+    refusal = large and give(room, path, large, owner, group)
+    if refusal:
+        raise refusal
+    reply = {"code": 0} if large else room.chown(path, owner, group)
+    show(asked, reply, f"{shown(path)}: owner {owner}, group {group}")
 
 
 def who_may(room: Room, asked) -> None:

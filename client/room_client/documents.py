@@ -84,7 +84,7 @@ def long_lines(room: Room, asked, path: str, seen: dict[str, str], large: dict) 
 def stat(room: Room, asked) -> None:
     path = there(room, asked.path)
     its = room.stat(path)
-    large = its["kind"] == FOLDER and files.manifest_at(room, path)
+    large = its["kind"] == FOLDER and files.large_at(room, path)
     if large:
         what = f"file, {large.size} bytes in {len(large.pieces)} pieces"
     else:
@@ -177,7 +177,7 @@ def put(room: Room, asked) -> None:
     for name, path in zip(names, targets(to, names)):
         if asked.recursive and os.path.isdir(name):
             tree = local.tree_here(name, room.say)
-            trees.make_folders(room, path, [it for it in tree.kinds if tree.kinds[it] == FOLDER])
+            trees.make_folders(room, path, [it for it in tree.kinds if tree.kinds[it] == FOLDER], faults.take)
             pairs += [(tree.places[it], trees.join(path, it)) for it in tree.kinds if tree.kinds[it] == FILE]
         else:
             pairs.append((name, path))
@@ -203,7 +203,13 @@ def put_one(room: Room, asked, name: str, path: str) -> None:
 
 def append(room: Room, asked) -> None:
     path = there(room, asked.path)
-    reply = room.append(path, asked.data)
+    try:
+        reply = room.append(path, asked.data)
+    except Refused as fault:
+        if files.refused_as(fault, "ISDIR") and files.large_at(room, path):
+            why = "it is a large file, and nothing is added at its end: get it, and put it anew"
+            raise Refused(fault.reply, {"path": path}, why) from None
+        raise
     show(asked, reply, f"{shown(path)}: {reply['size']} bytes")
 
 
@@ -241,9 +247,8 @@ def cp(room: Room, asked) -> None:
 def copy_folder(room: Room, asked, path: str, to: str) -> None:
     if f"{to}/".startswith(f"{path}/"):
         raise Refused({"code": 7, "error": "INVAL"}, {"path": path})
-    tree = trees.tree_of(room, path)
-    trees.make_folders(room, to, [it for it, kind in tree.kinds.items() if kind == FOLDER])
-    faults = Faults(0)
+    tree, faults = trees.tree_of(room, path), Faults(0)
+    trees.make_folders(room, to, [it for it, kind in tree.kinds.items() if kind == FOLDER], faults.take)
 
     def take(it: str, data: bytes | Fault) -> None:
         try:

@@ -51,6 +51,14 @@ def manifest_at(room: Room, path: str) -> Manifest | None:
     return None if text is None else read_manifest(text)
 
 
+def large_at(room: Room, path: str) -> Manifest | None:
+    """As far as one may look: where one may not, it is a folder."""
+    try:
+        return manifest_at(room, path)
+    except Refused:
+        return None
+
+
 def manifests(room: Room, paths: list[str]) -> list[Manifest | None]:
     """Of folders, which of them are large files: where one may not look, it is a folder."""
     replies = room.ask_all({"cmd": "READ", "path": f"{path}/{form.NAME}"} for path in paths)
@@ -145,8 +153,10 @@ class Upload:
             if made:
                 remove_one(self.room, self.path)
             raise
-        if not made and text_at(self.room, self.path) != self.before:
-            self.give_way("")
+        if not made:
+            self.share()
+            if text_at(self.room, self.path) != self.before:
+                self.give_way("")
         self.put_manifest(self.path, self.before is None)
         try:
             self.look_after()
@@ -191,6 +201,16 @@ class Upload:
                 self.give_way("")
             clear(self.room, at, writing.rpartition("/")[2])
             raise
+
+    def share(self) -> None:
+        """The pieces belong to whom the file belongs, who may have no rights on what is somebody else's."""
+        its, ours = self.room.stat(self.path), self.room.stat(f"{self.path}/{self.its.folder}")
+        whose = its["owner"], its["group"]
+        if whose != (ours["owner"], ours["group"]):
+            refusal = give_pieces(self.room, self.path, self.its, *whose)
+            if refusal:
+                self.room.say(f"{shown(self.path)}: the pieces stay yours, and {whose[0]} may lack rights on them: "
+                              f"{refusal}")
 
     def give_way(self, more: str) -> None:
         """Somebody else's version came first."""
@@ -262,12 +282,11 @@ class Replacement:
         now = self.room.stat(self.new)
         if (now["owner"], now["group"]) == (self.its["owner"], self.its["group"]):
             return
-        try:
-            self.room.chown(self.new, self.its["owner"], self.its["group"])
-        except Refused:
+        refusal = give(self.room, self.new, self.upload.its, self.its["owner"], self.its["group"])
+        if refusal:
             whose = f"{self.its['owner']} and {self.its['group']}"
             raise OtherVersion(f"{shown(self.path)} is of {whose}, and a large file in its place would be yours: ask "
-                               "its owner to put it, or choose another name") from None
+                               "its owner to put it, or choose another name")
 
     def need_same(self, before: bytes) -> None:
         if self.room.stat(self.path)["kind"] != FILE or self.room.read(self.path) != before:
@@ -290,6 +309,33 @@ def carried(entry: dict) -> dict:
         if entry["mask"] & bit and entry["type"] == 0:
             more |= extra
     return entry | {"flag": entry["flag"] & ~INHERITED | TO_FILES | TO_FOLDERS, "mask": entry["mask"] | more}
+
+
+# Owners
+
+def give_pieces(room: Room, at: str, its: Manifest, owner: str, group: str) -> Refused | None:
+    """Gives all pieces of a version to somebody, and then their folder; or why that is refused."""
+    folder = f"{at}/{its.folder}"
+    levels = [f"{folder}/{it}" for it in its.pieces], [folder]
+    for paths in levels:
+        commands = [{"cmd": "CHOWN", "group": group, "owner": owner, "path": it} for it in paths]
+        failed = next((it for it in zip(room.ask_all(commands), commands) if it[0]["code"]), None)
+        if failed:
+            return refused(*failed)
+    return None
+
+
+def give(room: Room, path: str, its: Manifest, owner: str, group: str) -> Refused | None:
+    """Gives a large file to somebody, its own folder last."""
+    refusal = give_pieces(room, path, its, owner, group)
+    if refusal:
+        return refusal
+    try:
+        room.chown(f"{path}/{form.NAME}", owner, group)
+        room.chown(path, owner, group)
+    except Refused as fault:
+        return fault
+    return None
 
 
 # Removing and clearing

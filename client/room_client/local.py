@@ -12,6 +12,7 @@ from .words import FILE, FOLDER, PART, neat, shown
 
 FOLDER_HERE = os.O_RDONLY | os.O_DIRECTORY | os.O_CLOEXEC
 NEW_HERE = os.O_WRONLY | os.O_CREAT | os.O_EXCL | os.O_CLOEXEC
+MOST_NAME = 64  # bytes of a name in the room
 BAR = 1 << 18  # bytes from which on progress is shown
 
 
@@ -125,8 +126,17 @@ def walk_here(at: str, above: str, tree: Tree, say: Callable[[str], None]) -> No
         tree.kinds[path] = FOLDER if it.is_dir(follow_symlinks=False) else FILE
         tree.places[path] = it.path
         if tree.kinds[path] == FOLDER:
-            with reading(it.path):
-                walk_here(it.path, path + "/", tree, say)
+            walk_below(it.path, path, tree, say)
+
+
+def walk_below(at: str, path: str, tree: Tree, say: Callable[[str], None]) -> None:
+    """(What cannot be read is told, and left out.)"""
+    try:
+        with reading(at):
+            walk_here(at, path + "/", tree, say)
+    except LocalFault as fault:
+        tree.left_out.add(path)
+        say(f"what is in it is left out: {fault}")
 
 
 def why_not(it: os.DirEntry) -> str | None:
@@ -139,6 +149,8 @@ def why_not(it: os.DirEntry) -> str | None:
         it.name.encode()
     except UnicodeEncodeError:
         return "its name is no UTF-8"
+    if not 0 < len(neat(it.name).encode()) <= MOST_NAME:
+        return "a name in the room has 1 to 64 bytes, without blanks at its ends"
     return "its name is one of the client's own" if it.name.startswith(PART) else None
 
 

@@ -5,7 +5,7 @@ import threading
 import time
 from collections.abc import Callable, Sequence
 
-from .faults import BadWords, Fault, NoAnswer, refused
+from .faults import BadWords, Fault, NoAnswer, Refused, refused
 from .line import Answer, Line, Lost, NotSent
 from .settings import Settings
 from .state import State
@@ -14,7 +14,7 @@ from .words import shown
 FIRST_PAUSE, LONGEST_PAUSE = 0.05, 5.0  # seconds between two attempts
 LONGEST_ATTEMPT = 90.0  # seconds; a room may be held for a minute by somebody else
 RATE, BURST = 95.0, 60.0  # requests a second: a front takes 100 of a login, and a page may be open beside
-FALSE_RETRY, UNCACHED = 23, 25
+FALSE_RETRY, UNCACHED, BAD_REQUEST = 23, 25, 43
 HARMLESS = {"cmd": "STAT", "path": "/"}
 FRONT = {
     401: "the login or its password is wrong: mend --login or the password file",
@@ -172,6 +172,16 @@ def is_refused_as(answer: Answer, code: int) -> bool:
     return answer.reply is not None and answer.reply["code"] == code
 
 
+def answered(slot: Slot, command: dict) -> dict:
+    """The reply, also where the room takes no such words: of several requests the others are done."""
+    try:
+        return slot.ask(command)
+    except Refused as fault:
+        if fault.reply["code"] != BAD_REQUEST:
+            raise
+        return fault.reply
+
+
 class Crew:
     """Some requests over several slots at once: each slot takes the next one that nobody took."""
 
@@ -188,7 +198,7 @@ class Crew:
     def work(self, slot: Slot) -> None:
         try:
             while (taken := self.next()) is not None:
-                reply = slot.ask(taken[1])
+                reply = answered(slot, taken[1])
                 with self.lock:
                     self.replies[taken[0]] = reply
                     self.heard(reply)
@@ -197,6 +207,8 @@ class Crew:
 
     def run(self, slots: Sequence[Slot]) -> list[dict]:
         """The replies in the order of the requests, or the first fault, once no request is under way."""
+        for slot in slots:
+            slot.is_stopped = False
         threads = [threading.Thread(target=self.work, args=(slot,)) for slot in slots]
         for thread in threads:
             thread.start()
@@ -209,6 +221,8 @@ class Crew:
                 slot.stop()
             for thread in threads:
                 thread.join()
+            slots[0].say("stopped: of what was under way it is not known whether it was done; your next command finds "
+                         "that out first")
             raise
         if self.faults:
             raise self.faults[0]

@@ -51,7 +51,7 @@ class Sync:
         if self.is_up:
             mine = local.tree_here(self.here, self.room.say)
             if not self.only_tells:
-                trees.make_folders(self.room, self.top, [])
+                trees.make_folders(self.room, self.top, [], self.take)
             return mine, self.room_tree()
         its = self.room_tree()
         for it in [it for it in its.kinds if not all(map(fits_here, it.split("/")))]:
@@ -85,7 +85,7 @@ class Sync:
         if self.only_tells:
             return
         if self.is_up:
-            return trees.make_folders(self.room, self.top, folders)
+            return trees.make_folders(self.room, self.top, folders, self.take)
         for it in ["", *folders]:
             local.make_below(self.here, it.split("/") if it else [])
 

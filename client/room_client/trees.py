@@ -174,14 +174,16 @@ def fetch_large(room: Room, path: str, size: int) -> bytes | Fault:
         bar.end()
 
 
-def make_folders(room: Room, top: str, paths: Sequence[str]) -> None:
-    """Makes each folder that is not there yet, the upper ones first."""
+def make_folders(room: Room, top: str, paths: Sequence[str], take: Callable[[Fault], None]) -> None:
+    """Makes each folder that is not there yet, the upper ones first; `take` hears of one that cannot be made."""
     for path in ["", *paths]:
         try:
             room.ask({"cmd": "MKDIR", "path": join(top, path) if path else top}, is_step=True)
         except Refused as fault:
-            if not files.refused_as(fault, "EXIST"):
+            if not path and not files.refused_as(fault, "EXIST"):
                 raise
+            if not files.refused_as(fault, "EXIST"):
+                take(stop_on(fault))
 
 
 def sums_of(room: Room, top: str, tree: RoomTree, paths: Sequence[str]) -> dict[str, str]:

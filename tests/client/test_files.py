@@ -3,10 +3,14 @@ import contextlib
 import json
 import os
 import random
+import signal
+import subprocess
+import sys
 import threading
+import time
 from unittest import mock
 
-from desk import Desk, PASSWORDS, serve_front
+from desk import COMMAND, Desk, PASSWORDS, serve_front
 from room_client import files, manifest
 from room_client.faults import NotWhole, OtherVersion
 from room_client.files import Upload
@@ -109,6 +113,23 @@ class Sizes(Behind):
         self.prints("rm", "/c", want="/c: removed\n")
         with self.room() as room:
             self.assertEqual(room.children("/"), {})
+
+
+class Shown(Behind):
+    def test_progress_at_a_terminal_alone(self):
+        self.file("in", some(8 * PIECE, 1))
+        self.prints("put", "in", "/a", want="/a: 524288 bytes\n")  # (nothing on standard error)
+        main, terminal = os.openpty()
+        line = [sys.executable, "-B", COMMAND, *self.words_of("ann"), "get", "/a", "out"]
+        for words, far in (line, "/a: 512 KiB"), ([*line[:-3], "put", "in", "/a"], "/a: 100 %"):
+            done = subprocess.run(words, env=self.environment(), cwd=self.folder, stdout=subprocess.PIPE,
+                                  stderr=terminal, stdin=subprocess.DEVNULL, timeout=60)
+            self.assertEqual(done.returncode, 0)
+            said = os.read(main, 1 << 16).decode()
+            self.assertIn(far, said)
+            self.assertTrue(said.endswith("\r\033[K"), said)
+        os.close(main)
+        os.close(terminal)
 
 
 class Damaged(Behind):
@@ -397,6 +418,41 @@ class Slots(Behind):
                     found.append(int(json.loads(text)["path"][4:]))
         return found
 
+    def test_stopped_at_the_keyboard(self):
+        """Several requests are under way: it ends at once, and each acts once."""
+        with self.behind() as room:
+            room.mkdir("/d")
+        self.file("in", some(40 * PIECE, 1))
+        os.kill(self.served.server.pid, signal.SIGSTOP)
+        self.addCleanup(os.kill, self.served.server.pid, signal.SIGCONT)
+        child = self.start("put", "in", "/d/a")
+        time.sleep(1.5)
+        child.send_signal(signal.SIGINT)
+        self.assertEqual(child.wait(20), 130)
+        os.kill(self.served.server.pid, signal.SIGCONT)
+        self.assertEqual(self.does("put", "in", "/d/a")[0], 0)
+        child = self.start("put", "in", "/d/a")
+        self.wait_for_pieces()
+        os.kill(self.served.server.pid, signal.SIGSTOP)
+        time.sleep(0.5)
+        child.send_signal(signal.SIGINT)
+        out, err = child.communicate(timeout=20)
+        os.kill(self.served.server.pid, signal.SIGCONT)
+        self.assertEqual((child.returncode, out), (130, b""))
+        self.assertIn(b"room: stopped: of what was under way it is not known whether it was done", err)
+        said = "room: what was under way at /d/a was stopped: give it again\n"
+        self.assertEqual(self.does("session", "finish"), (0, "", said))
+        self.prints("get", "/d/a", "out", want=f"{40 * PIECE} bytes to out\n")
+
+    def wait_for_pieces(self):
+        end = time.monotonic() + 20
+        while time.monotonic() < end:
+            with contextlib.suppress(OSError), open(self.path("front.json.3")) as file:
+                if "CREATE" in file.read():
+                    return
+            time.sleep(0.002)
+        self.fail("no piece is under way")
+
     def test_lost_answers(self):
         dice = random.Random(SEED)
         with self.behind() as room:
@@ -451,6 +507,45 @@ class Kept(Behind):
             room.set_list("/a", 3, [{"flag": 3, "mask": 0x1F07FF, "type": 0, "who": "OWNER@"}])
         with self.room(user="bob") as bob, self.assertRaisesRegex(files.Refused, "you lack the right"):
             files.read(bob, "/a")
+
+    def test_a_new_version_by_somebody_else(self):
+        """(bob has rights by his name, and ann as the owner alone.)"""
+        first, second, third = (some(PIECE + it, it) for it in (1, 2, 3))
+        with self.behind() as room:
+            room.set_list("/", 0, [{"flag": 3, "mask": 0x1F07FF, "type": 0, "who": "OWNER@"},
+                                   {"flag": 3, "mask": 0x1301EF, "type": 0, "who": "bob"}])
+            files.write(room, "/a", first)
+        said = []
+        with self.room(user="bob", say=said.append) as bob:
+            files.write(bob, "/a", second)
+        with self.behind(said.append) as room:
+            self.assertEqual(files.read(room, "/a"), second)
+            files.write(room, "/a", third)
+            self.assertEqual(files.read(room, "/a"), third)
+            self.assertEqual(self.parts(room, "/a"), [".room-pieces"])
+        self.assertEqual(said, [])
+
+    def test_rights_and_owner_by_command(self):
+        data = some(PIECE + 1, 1)
+        self.file("in", data)
+        self.prints("put", "in", "/a", want="/a: 65537 bytes\n")
+        with self.behind() as room:
+            room.set_list("/", 0, [{"flag": 3, "mask": 0x1F07FF, "type": 0, "who": "OWNER@"},
+                                   {"flag": 0, "mask": 0x21, "type": 0, "who": "bob"}])
+        self.prints("acl", "/a", "add", "allow bob read", want="/a: list set\n")
+        with self.room(user="bob") as bob:
+            self.assertEqual(files.read(bob, "/a"), data)
+        self.prints("acl", "/a", "set", want="/a: list set\n")
+        self.prints("chown", "bob:staff", "/a", want="/a: owner bob, group staff\n")
+        with self.room(user="bob") as bob:
+            self.assertEqual(files.read(bob, "/a"), data)
+        self.assertEqual(self.does("get", "/a")[:2], (1, ""))
+
+    def test_nothing_is_added_to_a_large_file(self):
+        self.file("in", some(PIECE + 1, 1))
+        self.prints("put", "in", "/a", want="/a: 65537 bytes\n")
+        self.refuses("append", "-", "/a", want="ISDIR (3) at /a: it is a large file, and nothing is added at its end: "
+                     "get it, and put it anew")
 
     def test_of_somebody_else(self):
         with self.behind() as room:

@@ -166,6 +166,18 @@ class Trees(Behind):
         self.assertIn("you lack the right list", err)
         self.assertEqual(self.here("copy"), self.here("photos"))
 
+    def test_what_does_not_fit_stays_here(self):
+        """Too long, too deep, too large: each is told, and the others go."""
+        deep = "/".join("d" * 15)
+        self.tree("photos", {"x" * 65: b"", f"{deep}/in": b"x", f"{deep}/d/out": b"x", " ": b""})
+        with open(self.path("photos/huge"), "wb") as file:
+            file.truncate((1 << 24) + 1)
+        status, out, err = self.does("put", "-r", "photos", "/album")
+        self.assertEqual((status, len(out.splitlines())), (1, 3), out)
+        self.assertEqual(len(err.splitlines()), 6, err)
+        for it in ("FBIG (9) at /album/huge", f"BAD_REQUEST (43) at /album/{deep}/d", "a name in the room has 1 to 64"):
+            self.assertIn(it, err)
+
     def test_wrong_words(self):
         for words in (["photos", "/album"], ["room:/a", "room:/b"]):
             self.refuses("sync", *words, status=2,
