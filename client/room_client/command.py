@@ -131,9 +131,10 @@ def add_settings(parser: argparse.ArgumentParser) -> None:
     parser.add_argument("--patience", metavar="SECONDS", help="how long it goes on sending (60)")
 
 
-def add_command(commands, name: str, does: Callable, about: str, *arguments: tuple, more: str = "") -> None:
-    raw = argparse.RawDescriptionHelpFormatter
-    parser = commands.add_parser(name, help=about, description=about, epilog=more, formatter_class=raw)
+def add_command(commands, name: str, does: Callable, about: str, *arguments: tuple, more: str = "",
+                usage: str | None = None) -> None:
+    raw, line = argparse.RawDescriptionHelpFormatter, usage and f"room {name} {usage}"
+    parser = commands.add_parser(name, help=about, description=about, epilog=more, formatter_class=raw, usage=line)
     for word, how in arguments:
         parser.add_argument(word, **how)
     if does not in (make_report, session, sync, documents.find, documents.trash_can, documents.get):
@@ -155,21 +156,23 @@ def parser() -> argparse.ArgumentParser:
                 ("path", {"metavar": "PATH", "nargs": "?", "default": "/"}),
                 ("-l", {"action": "store_true", "dest": "long", "help": "with sizes, owners and groups"}))
     add_command(commands, "get", documents.get, "files of the room, to a file, a folder or standard output",
-                ("paths", {"metavar": "PATH", "nargs": "+", "help": "and behind them a file or folder here"}), below)
+                ("paths", {"metavar": "PATH", "nargs": "+", "help": "and behind them a file or folder here"}), below,
+                usage="[-h] [-r] PATH.. [FILE]")
     add_command(commands, "put", documents.put, "makes files, or new versions of them (at most 16 MiB each)",
                 ("names", {"metavar": "FILE", "nargs": "+",
                            "help": "files here, or - for standard input, and behind them a path of the room; "
                                    "with a / at its end: the folder for the same name"}),
-                ("--new", {"action": "store_true", "help": "one file: refused where something is there"}), below)
+                ("--new", {"action": "store_true", "help": "one file: refused where something is there"}), below,
+                usage="[-h] [--new] [-r] [--json] FILE.. PATH")
     add_command(commands, "append", documents.append, "adds bytes at the end of a document of at most 65,536", local,
                 path)
     add_command(commands, "rm", documents.rm, "moves files and empty folders to the trash, where you have one; else "
                 "removes them", ("paths", paths), below,
                 ("--for-good", {"action": "store_true", "help": "removes them, whether there is a trash or not"}))
     add_command(commands, "mv", documents.mv, "renames or moves",
-                ("paths", paths | {"help": "and behind them where to"}))
+                ("paths", paths | {"help": "and behind them where to"}), usage="[-h] [--json] PATH.. TO")
     add_command(commands, "cp", documents.cp, "copies within the room; a copy has the list of where it comes to",
-                ("paths", paths | {"help": "and behind them where to"}), below)
+                ("paths", paths | {"help": "and behind them where to"}), below, usage="[-h] [-r] [--json] PATH.. TO")
     add_command(commands, "find", documents.find, "what has such a name, in a folder and below it", path,
                 ("pattern", {"metavar": "NAME", "help": "a part of the name, or a pattern with * ? [..]"}))
     add_command(commands, "sync", sync, "makes a folder as another one is, one way",
