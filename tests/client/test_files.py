@@ -132,6 +132,24 @@ class Shown(Behind):
         os.close(terminal)
 
 
+    def test_what_is_left_of_an_upload_is_told(self):
+        left = ".room-writing-0123456789abcdef"
+        with self.room() as room:
+            for path in ("/a", f"/a/{left}", "/.room-gone-0123456789abcdef"):
+                room.mkdir(path)
+            room.create(f"/a/{left}/000", b"x")
+        was_left = "/.room-gone-0123456789abcdef was left by an upload that was stopped, or is under way"
+        self.assertEqual(self.does("ls"), (0, "a/\n", f"room: {was_left}\n"))
+        self.prints("stat", "/a", want="unfinished upload, owner ann, group eng, list flags auto-inherit\n")
+        data = some(PIECE + 1, 1)
+        self.file("in", data)
+        cleared = "room: /a: an upload was stopped here, or is under way: what it left is cleared\n"
+        self.assertEqual(self.does("put", "in", "/a"), (0, "/a: 65537 bytes\n", cleared))
+        with self.behind() as room:
+            self.assertEqual(files.read(room, "/a"), data)
+            self.assertEqual(self.parts(room, "/a"), [".room-pieces"])
+
+
 class Damaged(Behind):
     def setUp(self):
         super().setUp()
