@@ -5,6 +5,7 @@ import re
 import shutil
 import statistics
 import subprocess
+import tempfile
 import threading
 import time
 
@@ -102,7 +103,7 @@ def wrong_logins_are_told(front, tally):
 
 
 def fail2ban_reads(log, count, tally):
-    """The shipped filter finds each line, where this machine has fail2ban."""
+    """The shipped filter finds each line, and the jail is one, where this machine has fail2ban."""
     if not shutil.which("fail2ban-regex"):
         print("front: NOT TRIED: fail2ban's filter, since this machine lacks fail2ban")
         return
@@ -110,6 +111,17 @@ def fail2ban_reads(log, count, tally):
     told = subprocess.run(words, capture_output=True, text=True, timeout=60).stdout.split()
     tally.differs("addresses that fail2ban finds", (len(told), set(told) <= {f"127.0.0.{it}" for it in (1, 2, 3)}),
                   (count, True))
+    with tempfile.TemporaryDirectory() as folder:
+        etc = os.path.join(folder, "etc")
+        shutil.copytree("/etc/fail2ban", etc)
+        shutil.rmtree(os.path.join(etc, "jail.d"))
+        os.mkdir(os.path.join(etc, "jail.d"))
+        for kind in "filter", "jail":
+            text = text_of(os.path.join(FOLDER, "..", "service", "fail2ban", f"{kind}.conf"))
+            with open(os.path.join(etc, f"{kind}.d", "fileroom.conf"), "w", encoding="utf-8") as file:
+                file.write(text.replace("/var/log/nginx/fileroom-logins.log", log))
+        done = subprocess.run(["fail2ban-client", "-c", etc, "-t"], capture_output=True, text=True, timeout=60)
+        tally.differs(f"the jail: {done.stderr}", (done.returncode, "successful" in done.stdout), (0, True))
 
 
 def what_strangers_see(front, tally):

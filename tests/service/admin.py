@@ -161,6 +161,7 @@ def users(machine, tally):
     machine.does("user", "add", "plans", "ann", "eng")
     before = machine.files()
     for words in ("user add plans ann", "user add none bob", "user add plans a:b", "user add plans bob x/y",
+                  "user add plans logged-out",
                   "user remove plans zed", "user groups plans zed eng", "user passwd zed",
                   "user add plans bob " + " ".join(f"g{it}" for it in range(17))):
         tally.differs(words, (machine.does(*words.split())[0], machine.files() == before), (1, True))

@@ -10,9 +10,14 @@ ROOM_NAME = r"[A-Za-z0-9][A-Za-z0-9_-]{0,31}"
 USERS, GROUPS = 1000, 16  # a roster has at most so many, and a user so many groups
 
 
+LOGGED_OUT = "logged-out"  # by which the page has a browser forget its login: the front lets nobody in by that name
+
+
 def need_name(name, what):
     if not re.fullmatch(NAME, name):
         raise Fault(f"{what} {name!r} is not 1 to 32 letters, digits, '.', '_' or '-'")
+    if name == LOGGED_OUT:
+        raise Fault(f"{what} cannot be {LOGGED_OUT}: by that name the page logs out")
 
 
 def need_room_name(name):
