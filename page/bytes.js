@@ -23,10 +23,11 @@ export function fromText(text) {
   return new TextEncoder().encode(text);
 }
 
-/** The text that the bytes are, or null where they are none that can be shown. */
-export function toText(bytes) {
+/** The text that the bytes are, or null where they are none that can be shown; with `isStart` they may end in
+ * the middle of a letter. */
+export function toText(bytes, isStart = false) {
   try {
-    const text = new TextDecoder("utf-8", { fatal: true, ignoreBOM: true }).decode(bytes);
+    const text = new TextDecoder("utf-8", { fatal: true, ignoreBOM: true }).decode(bytes, { stream: isStart });
     return /[\u0000-\u0008\u000b\u000c\u000e-\u001f]/.test(text) ? null : text;
   } catch {
     return null;

@@ -8,8 +8,8 @@ import { head } from "./heads.js";
 import { isPart } from "./manifest.js";
 import { shown } from "./names.js";
 import { ADD_FILE, ADD_FOLDER, READ, offersFor, rightsAt, textOffers } from "./offers.js";
-import { addressOf, lastName } from "./places.js";
-import { preview } from "./preview.js";
+import { addressOf, inFolder, lastName } from "./places.js";
+import { canShow, nothing, preview } from "./preview.js";
 import { FILE, FOLDER } from "./rights.js";
 import { things } from "./things.js";
 import { sizeWords } from "./transfers.js";
@@ -29,6 +29,7 @@ async function orRefused(task, path) {
   }
 }
 
+const sizeOf = ({ length }) => (length === 1 ? "1 byte" : `${length} bytes`);
 const tools = (...buttons) => make("p", { className: "tools" }, ...buttons);
 
 function about(stat, size) {
@@ -90,7 +91,7 @@ async function document_(app, place, stat, rights) {
   const text = bytes && toText(bytes);
   const buttons = textOffers(app, path, rights.own, bytes, text);
   const shownPart = isRefused ? make("p", { className: "fault" }, found.message) : preview(bytes, lastName(path));
-  const size = isRefused ? "document" : `${bytes.length} bytes`;
+  const size = isRefused ? "document" : sizeOf(bytes);
   const offers = offersFor(app, path, FILE, { ...rights, size: bytes?.length });
   return [tools(...buttons, ...offers), about(stat, size), shownPart];
 }
@@ -101,7 +102,9 @@ async function large(app, place, stat, rights) {
   if (!its) return null;
   const area = make("div", {});
   const show = async () => area.replaceChildren(preview(await readFile(app.room, path), lastName(path)));
-  if (rights.own & READ && its.size <= PREVIEWED) await show().catch((fault) => area.append(fault.message));
+  const start = await app.room.asideIfAllowed("READ", inFolder(path, its.folder, its.pieces[0]), { keep: false });
+  if (start && !canShow(fromBase64(start.data))) area.append(nothing());
+  else if (rights.own & READ && its.size <= PREVIEWED) await show().catch((fault) => area.append(fault.message));
   else area.append(button("Show it", () => app.attempt(show)));
   const offers = offersFor(app, path, "large", { ...rights, size: its.size });
   return [tools(...offers), about(stat, sizeWords(its.size)), area];

@@ -2,6 +2,7 @@
 import { NOBODY } from "./files.js";
 import { button, labelled, link, make, nameText } from "./dom.js";
 import { head } from "./heads.js";
+import { shown } from "./names.js";
 import { addressOf, lastName } from "./places.js";
 import { FOLDER } from "./rights.js";
 import { matches, walk } from "./trees.js";
@@ -12,10 +13,10 @@ const kept = new Map(); // each place's view, so that who comes back finds it
 class Search {
   constructor(app, place) {
     Object.assign(this, { app, place, turn: 0 });
-    this.field = make("input", { type: "search", autocomplete: "off", spellcheck: false });
+    this.field = make("input", { type: "search", autocomplete: "off", spellcheck: false, className: "first" });
     this.told = make("p", { role: "status" }, "");
     this.list = make("ul", { className: "found" });
-    const form = make("form", {}, labelled("Letters of the name", this.field),
+    const form = make("form", {}, labelled(`Letters of a name below ${shown(place.path)}`, this.field),
       make("p", { className: "tools" }, make("button", { className: "main" }, "Search"),
         button("Stop", () => this.stop())));
     form.onsubmit = (event) => {
@@ -39,7 +40,9 @@ class Search {
     this.list.replaceChildren();
     try {
       await walk(this.app.room, this.place.path, (it) => this.meet(it, counts, turn), transfer);
-      if (turn === this.turn) this.tell(counts, "That is all.");
+      if (turn !== this.turn) return;
+      this.list.append(...[...this.list.children].sort((a, b) => (a.textContent < b.textContent ? -1 : 1)));
+      this.tell(counts, "That is all.");
     } catch (fault) {
       this.told.textContent = fault.message;
     }

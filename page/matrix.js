@@ -5,6 +5,7 @@ import { joined, whomOf } from "./lists.js";
 import { shown } from "./names.js";
 import { foldersAbove, inFolder, lastName, ROOT } from "./places.js";
 import { ALL, FOLDER, LEGEND, NOT_KNOWN, PASS_THROUGH, SHUT_OUT, levelOf, rightsIn } from "./rights.js";
+import { kindBy } from "./trees.js";
 
 const MOST_USERS = 20; // columns shown at once
 const MOST_OBJECTS = 40; // rows shown at first, and added each time: two requests each
@@ -117,7 +118,8 @@ async function usersOf(app, questions, objects) {
 async function objectsOf(app, path) {
   const { kind } = await app.room.standing(path);
   const inside = kind === FOLDER ? await app.room.runIfAllowed("LIST", path) : null;
-  const children = (inside?.names ?? []).map(([name, itsKind]) => ({ path: inFolder(path, name), kind: itsKind }));
+  const names = inside && kindBy(inside.names) === FOLDER ? inside.names : []; // (of a large file it has one row)
+  const children = names.map(([name, itsKind]) => ({ path: inFolder(path, name), kind: itsKind }));
   return [{ path, kind }, ...children];
 }
 

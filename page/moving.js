@@ -2,22 +2,22 @@
 import { save } from "./bytes.js";
 import { ask, input } from "./dialogs.js";
 import { button, checkbox, make, nameText } from "./dom.js";
-import { EXIST, NOBODY, isRefused, readFile, removeAll } from "./files.js";
+import { NOBODY, isRefused, manifestAt, readFile, removeAll } from "./files.js";
 import { isPart } from "./manifest.js";
 import { clean, forDisk, shown } from "./names.js";
 import { ROOT, folderOf, inFolder, lastName, nameFault, namesOf } from "./places.js";
 import { FOLDER } from "./rights.js";
 import { sizeWords, transferring } from "./transfers.js";
+import { TRASH, placeBefore, toTrash, trashOf } from "./trash.js";
 import { below, copy, kindBy } from "./trees.js";
 import { Zip } from "./zip.js";
 
-const TRASH = "/trash";
-const MOST_NAME = 64; // bytes
+const LIKE_FILE = /\.[^.]{1,5}$/; // of such folders it is asked whether they are large files
 
-/** A field that holds a folder, and walks. */
+/** A field that holds a folder, and walks; what is at `path` cannot go into itself. */
 class Chooser {
-  constructor(app, value) {
-    Object.assign(this, { app, value });
+  constructor(app, path) {
+    Object.assign(this, { app, path, value: folderOf(path) });
     this.element = make("fieldset", { className: "chooser" });
     this.draw();
   }
@@ -26,14 +26,17 @@ class Chooser {
     const found = await this.app.room.aside("LIST", to).catch((fault) => fault);
     if (found instanceof Error || kindBy(found.names) !== FOLDER) {
       this.told.textContent = found.message ?? "This is a document.";
-    } else {
-      this.value = to;
-      this.draw(found.names);
+      return;
     }
+    const isNone = ([name, kind]) => kind !== FOLDER || isPart(name) || inFolder(to, name) === this.path;
+    const isFile = await Promise.all(found.names.map((it) => isNone(it) ||
+      LIKE_FILE.test(it[0]) && manifestAt(this.app.room, inFolder(to, it[0]))));
+    this.value = to;
+    this.draw(found.names.filter((_, at) => !isFile[at]));
   }
 
   draw(names = null) {
-    const folders = (names ?? []).filter(([name, kind]) => kind === FOLDER && !isPart(name));
+    const folders = names ?? [];
     const up = this.value === ROOT ? [] : [button("One up", () => this.go(folderOf(this.value)))];
     this.told = make("p", { role: "status" }, names && folders.length === 0 ? "No folder is in it." : "");
     this.element.replaceChildren(make("legend", {}, "To the folder ", make("b", {}, nameText(this.value))), ...up,
@@ -43,7 +46,7 @@ class Chooser {
 }
 
 async function askWhere(app, path, words, does, task) {
-  const [chooser, name] = [new Chooser(app, folderOf(path)), input(lastName(path))];
+  const [chooser, name] = [new Chooser(app, path), input(lastName(path))];
   const to = () => inFolder(chooser.value, clean(name.value));
   const isDone = await ask({ title: `${does} ${shown(lastName(path))}`, does: `${does} it there`,
     words: [make("p", {}, words), chooser.element], fields: { name: { label: "Name there", field: name } },
@@ -70,38 +73,6 @@ export async function copyTo(app, path) {
     await copy(room, path, to, transfer);
     return `${shown(path)} is copied to ${shown(to)}.`;
   });
-}
-
-/** The user's own trash, where there is one that they may look at. */
-async function trashOf(app) {
-  const path = `${TRASH}/${app.user}`;
-  return (await app.room.asideIfAllowed("STAT", path))?.kind === FOLDER ? path : null;
-}
-
-/** It tells where it came from, as far as a name has room; the command `room` gives it its place back by that. */
-function nameInTrash(path, now) {
-  const stamp = now.toISOString().replace(/[^0-9]/g, "").slice(0, 14);
-  const [name, ...folders] = [lastName(path), ...namesOf(folderOf(path))];
-  const bytes = (it) => new TextEncoder().encode(it).length;
-  const whole = [name, ...folders, stamp].join("~");
-  if (bytes(whole) <= MOST_NAME && !/[~…]/.test(path)) return whole;
-  const end = `~…~${stamp}`;
-  if (bytes(name + end) <= MOST_NAME) return name + end;
-  const ending = /\.[^.]{1,6}$/.exec(name)?.[0] ?? "";
-  const letters = [...name];
-  while (bytes(`${letters.join("")}…${ending}${end}`) > MOST_NAME) letters.pop();
-  return `${letters.join("")}…${ending}${end}`;
-}
-
-async function toTrash(room, path, trash) {
-  for (let more = 0; ; more += 1) {
-    const name = nameInTrash(path, new Date(Date.now() + more * 1_000));
-    try {
-      return await room.run("RENAME", path, { to: inFolder(trash, name) });
-    } catch (fault) {
-      if (!isRefused(fault, EXIST) || more === 30) throw fault;
-    }
-  }
 }
 
 const isIn = (path, folder) => path === folder || path.startsWith(`${folder}/`);
@@ -135,6 +106,13 @@ export async function remove(app, path) {
   const isDone = await ask({ title, does: "Remove", words: [...words, ...what], task });
   const end = isForGood ? "removed" : "in the trash";
   if (isDone) await app.done(`${shown(path)} is ${end}.`, { from: path, to: folderOf(path) });
+}
+
+/** Out of the trash, to where it was. */
+export async function putBack(app, path) {
+  const to = placeBefore(path);
+  const isDone = await app.attempt(() => app.room.run("RENAME", path, { to }));
+  if (isDone) await app.done(`${shown(to)} is there again.`, { from: path, to });
 }
 
 /** A file to the user's disk, once its sum is right. */

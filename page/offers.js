@@ -5,6 +5,7 @@ import { button } from "./dom.js";
 import * as moving from "./moving.js";
 import { ROOT, folderOf } from "./places.js";
 import { ALL, FILE, FOLDER } from "./rights.js";
+import { placeBefore } from "./trash.js";
 import { filesButton, newVersion } from "./uploads.js";
 
 export const READ = 0x1;
@@ -41,6 +42,7 @@ export function offersFor(app, path, kind, { own, above, size }) {
     [isFile && has(own, WRITE) || isOver,
       () => filesButton("Upload a new version", { isOne: true }, (it) => newVersion(app, path, it))],
     [isMovable && has(above, isFile ? ADD_FILE : ADD_FOLDER), () => button("Rename", () => actions.rename(app, path))],
+    [isMovable && placeBefore(path), () => button("Put back", () => moving.putBack(app, path))],
     [isMovable, () => button("Move", () => moving.move(app, path))],
     [!isTop && kind !== "unfinished" && has(own, READ), () => button("Copy", () => moving.copyTo(app, path))],
     [isMovable, () => button("Remove", () => moving.remove(app, path))],

@@ -15,6 +15,9 @@ const PICTURES = [
 
 const typeOf = (bytes) => PICTURES.find(([, start]) => start.every((it, at) => it === null || it === bytes[at]))?.[0];
 
+/** Whether what begins with these bytes may be something to show. */
+export const canShow = (start) => Boolean(typeOf(start)) || toText(start, true) !== null;
+
 /** (As a text in the address: the policy of the page has no place for anything else.) */
 function picture(bytes, type, name) {
   const it = make("img", { src: `data:${type};base64,${toBase64(bytes)}`, alt: shown(name), className: "picture" });
@@ -22,11 +25,14 @@ function picture(bytes, type, name) {
   return it;
 }
 
+export const nothing = () =>
+  make("p", {}, "This is no text that can be shown. Download it to look at its bytes.");
+
 export function preview(bytes, name) {
   const type = typeOf(bytes);
   if (type) return picture(bytes, type, name);
   const text = toText(bytes);
-  if (text === null) return make("p", {}, "This is no text that can be shown. Download it to look at its bytes.");
+  if (text === null) return nothing();
   if (text === "") return make("p", {}, "This document is empty.");
   const isWhole = text.length <= MOST_TEXT;
   const end = isWhole ? [] : [make("p", {}, "This is its beginning. Download it to read all.")];

@@ -32,6 +32,7 @@ export const leave = (address) => seen.set(address, scrollY);
 
 /** The place is come to: at its head, or as far down as it was left. */
 export function arrive(address) {
-  part("main").querySelector("h1")?.focus({ preventScroll: true });
+  const first = part("main").querySelector(".first") ?? part("main").querySelector("h1");
+  first?.focus({ preventScroll: true });
   scrollTo({ top: seen.get(address) ?? 0, behavior: "instant" });
 }

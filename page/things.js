@@ -31,7 +31,7 @@ class Row {
     this.more = button("⋯", () => this.toggle(), { "aria-label": `More for ${shown(name)}`, "aria-expanded": "false" });
     this.element = make("tr", {},
       make("th", { scope: "row" }, link(addressOf({ room: place.room, path: this.path }), nameText(name))),
-      this.word, make("td", { className: "tools" }, this.more, this.menu));
+      this.word, make("td", { className: "own" }, this.more, this.menu));
     this.element.row = this;
   }
 

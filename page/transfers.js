@@ -9,7 +9,7 @@ import { watchEnd } from "./unsaved.js";
 class Cancelled extends Error {}
 
 export function sizeWords(bytes) {
-  if (bytes < 1_024) return `${bytes} bytes`;
+  if (bytes < 1_024) return bytes === 1 ? "1 byte" : `${bytes} bytes`;
   const [count, unit] = bytes < 2 ** 20 ? [bytes / 1_024, "KiB"] : [bytes / 2 ** 20, "MiB"];
   return `${count < 10 ? count.toFixed(1) : Math.round(count)} ${unit}`;
 }

@@ -106,7 +106,7 @@ def largest(club, differs):
     differs("it is there", hashlib.sha256(held(club, "/big/largest")).digest() == hashlib.sha256(data).digest(), True)
     browser.until("its size", lambda: "16 MiB" in row(browser, "largest"))
     browser.follow("largest")
-    browser.sees("Show it")
+    browser.sees("This is no text that can be shown.")
     browser.press("Download")
     browser.sees("largest: 16 MiB in", "#notices")
     down = told_pace(browser)
@@ -172,7 +172,9 @@ def overtaken(club, differs):
         at = path if is_mine else "/big/of 196608 (copy of ann)"
         differs(f"{words}: mine", held(club, at) == data, True)
     club.go(f"#open/club{path.replace(' ', '%20')}")
-    differs("what is damaged is not given out", browser.sees("is damaged", "main"), True)
+    browser.press("Download")
+    differs("what is damaged is told", browser.sees("is damaged", "#notices"), True)
+    differs("and not given out", "of 196608" in os.listdir(os.path.join(club.folder, "back")), False)
 
 
 def stopped(club, differs):

@@ -132,6 +132,12 @@ def removed(club, differs):
     differs("its name there", [bool(re.fullmatch(r"t~other~[0-9]{14}", it)) for it in names], [True])
     club.go("#open/club/trash/ann")
     browser.press(f"More for {names[0]}")
+    browser.press(f"Put back {names[0]}")
+    browser.sees("/other/t is there again.", "#notices")
+    differs("where it was", [list(names_at(club, "/other")), names_at(club, "/trash/ann")], [["t"], {}])
+    club.holds({"cmd": "RENAME", "path": "/other/t", "to": f"/trash/ann/{names[0]}"})
+    club.go("#open/club/trash/ann")
+    browser.press(f"More for {names[0]}")
     browser.press(f"Remove {names[0]}")
     browser.sees("It cannot be brought back.", "dialog")
     browser.press("Remove", "//dialog[@open]")
@@ -166,7 +172,7 @@ def offered(club, differs):
     differs("in a folder", browser.script(buttons), ["Download as zip", "Copy"])
     browser.press("More for dot.txt")
     browser.sees("Download", ".things")
-    row_ = "return [...document.querySelectorAll('.things .tools .tools button')].map((it) => it.textContent)"
+    row_ = "return [...document.querySelectorAll('.things .tools button')].map((it) => it.textContent)"
     browser.until("its buttons", lambda: browser.script(row_))
     differs("in a row", browser.script(row_), ["Download", "Copy"])
     club.log_in("ann")
