@@ -12,6 +12,7 @@ from .state import State
 from .words import shown
 
 FIRST_PAUSE, LONGEST_PAUSE = 0.05, 5.0  # seconds between two attempts
+WORD_AFTER = 2.0  # seconds without an answer until the user is told why
 LONGEST_ATTEMPT = 90.0  # seconds; a room may be held for a minute by somebody else
 RATE, BURST = 95.0, 60.0  # requests a second: a front takes 100 of a login, and a page may be open beside
 FALSE_RETRY, UNCACHED, BAD_REQUEST = 23, 25, 43
@@ -35,11 +36,18 @@ def told(command: dict) -> str:
 
 
 class Pace:
-    """Keeps all slots together below what a front takes."""
+    """What the slots share: together they keep below what a front takes, and say once that they wait."""
 
     def __init__(self, is_free: bool):
         self.lock, self.is_free = threading.Lock(), is_free
         self.left, self.at = BURST, time.monotonic()
+        self.has_told = False
+
+    def is_first_word(self) -> bool:
+        """Whether none of the slots has told yet why no answer comes."""
+        with self.lock:
+            before, self.has_told = self.has_told, True
+            return not before
 
     def wait(self) -> None:
         if self.is_free:
@@ -130,8 +138,8 @@ class Slot:
     def until_answered(self, method: str, target: str, body: str) -> Answer:
         """Sends until something else than 'later' is answered, in the time that is given. Notes in `may_be_sent`
         whether an attempt went out of which it is not known that nothing came of it."""
-        end = time.monotonic() + self.settings.patience
-        pause = FIRST_PAUSE
+        begin, pause = time.monotonic(), FIRST_PAUSE
+        end = begin + self.settings.patience
         while True:
             left = max(end - time.monotonic(), 1.0)
             self.pace.wait()
@@ -144,6 +152,8 @@ class Slot:
                 seconds = f"{self.settings.patience:g} s"
                 raise NoAnswer(f"no answer from {self.settings.url} in {seconds} ({answer}; is the room served?)")
             self.line.close()
+            if time.monotonic() - begin > WORD_AFTER and self.pace.is_first_word():
+                self.say(f"no answer yet ({answer}): the room is being started again, or is busy; it is sent again")
             time.sleep(pause * random.uniform(0.5, 1.0))
             pause = min(2 * pause, LONGEST_PAUSE)
 
