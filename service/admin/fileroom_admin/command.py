@@ -7,6 +7,8 @@ from . import changes, looking
 from .commands import Commands
 from .places import Fault, Places
 
+HERE = os.path.dirname(os.path.realpath(__file__))
+STANDBY = os.path.join(HERE, "..", "..", "standby", "fileroom-standby")
 ABOUT = "Changes rooms, users and the front of this machine, each time whole or not at all; and looks what is wrong."
 
 
@@ -39,6 +41,9 @@ def parser():
     words.add_parser("front", help="after an update: the front's files as this program has them")
     check = words.add_parser("check", help="what is wrong with this machine, and its remedy; status 1: something is")
     check.add_argument("--backup-hours", type=int, default=26, help="how old the latest backup may be (26)")
+    standby = words.add_parser("standby", help="check NAME: whether another machine could take over a room")
+    standby.add_argument("what", choices=["check"])
+    standby.add_argument("NAME")
     return it
 
 
@@ -67,6 +72,8 @@ def main(words):
     try:
         if places.is_machine and os.geteuid() != 0:
             raise Fault("it wants root")
+        if given.command == "standby":
+            os.execv(STANDBY, [STANDBY, given.what, given.NAME])
         if given.command == "check":
             return looking.check(places, given.backup_hours, print)
         with changes.alone(places, lambda text: print(f"fileroom-admin: {text}", file=sys.stderr)):
