@@ -3,7 +3,7 @@
 RT ?= rt
 
 .PHONY: try demo quick build test wrong growth failing full wire tables upgrade crash hostile front soak client page
-.PHONY: bench dist install uninstall service firstday
+.PHONY: bench dist install uninstall service firstday standby
 
 # Serves a room with sample folders, the front and the page, until Ctrl-C: with build/fileroom where `make build` made
 # it, and else with the quick build, which proves nothing. It goes again; with FOLDER=.. it is kept there.
@@ -82,6 +82,12 @@ client: build
 # Forty clients with a password each through nginx with the files of front/, and kills. Needs nginx and openssl.
 front: build
 	tests/front/run
+
+# A room on three machines, of which some die: namespaces, GlusterFS, and the settings of service/standby. By hand and
+# each night; not part of `make test`. Needs root, glusterfs-server and btrfs-progs; for Pacemaker's lines pacemaker and
+# pcs, for people at a desk nginx and chromium. TAKEOVERS=100 plays so many.
+standby: build
+	tests/standby/run
 
 # A million requests to one served room: its memory stays, and so does the time of a request. Not part of `make test`.
 soak: build

@@ -1,0 +1,175 @@
+"""People at a desk while the room's machine dies: the client `room`, and the page in a browser, through the front.
+
+The front stands before a relay that passes each connection on to the machine that serves: it stands for the address
+that moves, and for the front of that machine.
+"""
+import contextlib
+import json
+import os
+import shutil
+import socket
+import subprocess
+import sys
+import threading
+import time
+
+from lab import PATH, until
+from load import PORT, USERS
+from served import HERE, end_with_parent, first_answer, message
+
+WORDS = "the room is being started again"
+BEFORE, AFTER = 5, 5  # commands of the client before the machine stops, and after the first that waited
+OPEN_TO_ALL = {"cmd": "SETLIST", "path": "/", "aclflag": 0, "entries": [
+    {"flag": 3, "mask": 0x1F07FF, "type": 0, "who": "EVERYONE@"}]}
+
+
+class Relay:
+    """A loopback port whose connections go to the room, wherever it is; closed at once where it is nowhere."""
+
+    def __init__(self, where):
+        self.where, self.listener = where, socket.create_server(("127.0.0.1", 0))
+        self.port = self.listener.getsockname()[1]
+        threading.Thread(target=self.serve, daemon=True).start()
+
+    def serve(self):
+        while True:
+            threading.Thread(target=self.one, args=self.listener.accept()[:1], daemon=True).start()
+
+    def one(self, line):
+        with contextlib.suppress(OSError, AttributeError), line, self.where().connect(PORT, 2) as room:
+            threading.Thread(target=self.passed, args=(line, room), daemon=True).start()
+            self.passed(room, line)
+
+    @staticmethod
+    def passed(source, to):
+        with contextlib.suppress(OSError):
+            while piece := source.recv(1 << 17):
+                to.sendall(piece)
+        with contextlib.suppress(OSError):
+            to.shutdown(socket.SHUT_WR)
+
+
+def front(folder, port):
+    """The front, with the page, before that port as the room club. (Its modules want a network that is there.)"""
+    from nginx import Front
+    os.makedirs(os.path.join(folder, "rooms"))
+    with open(os.path.join(folder, "rooms", "club.users.json"), "w", encoding="utf-8") as file:
+        json.dump(USERS, file)
+    passwords = {user: f"{user}-word" for user in USERS}
+    return Front(folder, passwords, {"club": port}, os.path.join(HERE, "..", "page"), opens="100r/s")
+
+
+def lacking():
+    from nginx import lacking as of_front
+    return of_front()
+
+
+class Client:
+    """The command `room`, one after another, each with a piece for one document."""
+
+    def __init__(self, folder, port):
+        self.folder, self.done, self.is_stopping = folder, [], threading.Event()
+        with open(os.path.join(folder, "password"), "w", encoding="utf-8") as file:
+            file.write("ann-word\n")
+        os.chmod(file.name, 0o600)
+        self.words = [sys.executable, "-B", os.path.join(HERE, "..", "client", "room"),
+                      "--url", f"http://127.0.0.1:{port}/rooms/club", "--login", "ann", "--password-file", file.name,
+                      "--state", os.path.join(folder, "state"), "--patience", "120"]
+
+    def does(self, *words, data=""):
+        env = {it: os.environ[it] for it in os.environ if not it.startswith("ROOM_")} | {"HOME": self.folder}
+        return subprocess.run([*self.words, *words], input=data, capture_output=True, text=True, timeout=180, env=env,
+                              preexec_fn=end_with_parent)
+
+    def append(self):
+        number, begin = len(self.done), time.monotonic()
+        told = self.does("append", "-", "/log", data=f"{number:04d};")
+        self.done.append((told.returncode, told.stdout, told.stderr, time.monotonic() - begin))
+
+    def play(self):
+        while not self.is_stopping.is_set():
+            self.append()
+
+
+def stop_and_go_on(standby, is_cut):
+    """The machine that serves dies, and another goes on."""
+    dead, target = standby.on, next(it for it in standby.machines if it is not standby.on)
+    if is_cut:
+        dead.cut()
+        time.sleep(3)
+    standby.kill(dead)
+    time.sleep(1)
+    return standby.serve(target)
+
+
+def client(standby, tally, dice, folder):
+    """A user at the command line notices a pause, is told why, and nothing else."""
+    standby.serve(standby.machines[0])
+    os.mkdir(os.path.join(folder, "front"))
+    its = Client(folder, front(os.path.join(folder, "front"), Relay(standby.where).port).port)
+    tally.differs("put", its.does("put", "-", "/log").returncode, 0)
+    thread = threading.Thread(target=its.play, daemon=True)
+    thread.start()
+    until(lambda: len(its.done) >= BEFORE, 120, "the client's first commands")
+    stop_and_go_on(standby, True)
+    until(lambda: any(it[2] for it in its.done), 120, "a command that had to wait")
+    count = len(its.done) + AFTER
+    until(lambda: len(its.done) >= count, 120, "the client's last commands")
+    its.is_stopping.set()
+    thread.join(180)
+    tally.differs("each command is done", {it[0] for it in its.done}, {0})
+    told = [f"/log: {5 * (n + 1)} bytes\n" for n in range(len(its.done))]
+    tally.differs("each once, as it says", [it[1] for it in its.done], told)
+    said = {it[2] for it in its.done if it[2]}
+    tally.differs("what it says meanwhile", [WORDS in it for it in said], [True])
+    tally.differs("what is there", its.does("get", "/log").stdout, "".join(f"{n:04d};" for n in range(len(its.done))))
+    longest = max(it[3] for it in its.done)
+    print(f"standby: the client: {len(its.done)} commands, the longest {longest:.1f} seconds; it said: {said.pop()!r}")
+
+
+def opened_to_all(standby):
+    """The room's root is open to its users, by a session of its own."""
+    sid, rest = "e" * 32, b""
+    with standby.on.connect(PORT, 5) as line:
+        line.sendall(message("ann", "POST", f"/v1/sessions/{sid}", b'{"slots":1}')
+                     + message("ann", "POST", f"/v1/sessions/{sid}/slots/0/1", OPEN_TO_ALL))
+        while rest.count(b"HTTP/1.1 200") < 2 or not first_answer(rest):
+            rest += line.recv(1 << 16)
+
+
+def page(standby, tally, dice, folder):
+    """A user of the page: it says that the room is being started again, and goes on by itself."""
+    sys.path.append(os.path.join(HERE, "page"))
+    from club import Club, append, make_document
+    from browser import Browser
+    from lossy import Lossy
+
+    class Desk(Club):
+        """The club's page before a room that moves."""
+
+        def __init__(self, port):
+            self.folder, self.numbers, self.logins = folder, {}, 0
+            self.lossy, self.browser = Lossy(port), Browser(folder)
+
+    standby.serve(standby.machines[0])
+    os.mkdir(os.path.join(folder, "front"))
+    desk = Desk(front(os.path.join(folder, "front"), Relay(standby.where).port).port)
+    try:
+        desk.log_in("ann")
+        desk.go("#open/club/")
+        make_document(desk.browser, "log.txt", "before")
+        desk.browser.follow("log.txt")
+        append(desk.browser, " and after", lambda: standby.kill(standby.on))
+        tally.differs("the page says so", desk.browser.sees("is being started again", "#busy"), True)
+        begin = time.monotonic()
+        standby.serve(standby.machines[1])
+        desk.browser.sees("Appended.")
+        took = time.monotonic() - begin
+        tally.differs("it acted once", desk.browser.sees("before and after", "pre"), True)
+        print(f"standby: the page went on by itself {took:.1f} seconds after another machine began", flush=True)
+    finally:
+        desk.browser.close()
+
+
+def no_browser():
+    return [it for it in ("chromium", "chromedriver") if not shutil.which(it, path=PATH)] + lacking()
