@@ -254,6 +254,8 @@ def looked_at(machine, tally):
     for room in "club", "more", "plans":
         folder = machine.at(f"var/backups/fileroom/{room}")
         os.makedirs(os.path.join(folder, "2999-01-01T00-00-00Z"))
+    os.makedirs(machine.at("var/backups/fileroom-front"))
+    machine.write("var/backups/fileroom-front/2999-01-01.tar.gz", "")
     cert = machine.at("etc/nginx/fileroom/tls/cert.pem")
     listed = machine.does("check")
     # (the certificate is of two days)
@@ -276,6 +278,8 @@ def looked_at(machine, tally):
         "has no backup": lambda: shutil.rmtree(machine.at("var/backups/fileroom/club")),
         "hours old": lambda: os.rename(machine.at("var/backups/fileroom/club/2999-01-01T00-00-00Z"),
                                        machine.at("var/backups/fileroom/club/2020-01-01T00-00-00Z")),
+        "the front has no backup": lambda: os.utime(
+            machine.at("var/backups/fileroom-front/2999-01-01.tar.gz"), (1, 1)),
         "does not run": lambda: machine.breaks("-q"),
         "reach its port": lambda: machine.write("etc/fileroom/club.env", "PORT=8004\n"),
         "rooms.json names other rooms": lambda: machine.write("etc/nginx/fileroom/rooms.json", "[]\n"),

@@ -6,6 +6,7 @@ import pwd
 import re
 import shutil
 import stat
+import time
 
 from . import rosters
 from .changes import JOURNAL
@@ -123,6 +124,13 @@ class Findings:
             self.add(f"{room}: the latest backup is {age.total_seconds() / 3600:.0f} hours old",
                      f"journalctl -u fileroom-backup@{room} says why")
 
+    def backup_of_front(self, hours):
+        folder = self.places.at("var/backups/fileroom-front")
+        names = os.listdir(folder) if os.path.isdir(folder) else []
+        made = [os.stat(os.path.join(folder, it)).st_mtime for it in names]
+        if not made or time.time() - max(made) > hours * 3600:
+            self.add("the front has no backup of the last day", f"fileroom-backup --front {folder}")
+
     def disk(self, folder):
         if os.path.isdir(folder):
             it = shutil.disk_usage(folder)
@@ -140,6 +148,7 @@ def check(places, hours, say):
     for room in places.rooms():
         it.part(it.room, room)
         it.part(it.backup, room, hours)
+    it.part(it.backup_of_front, hours)
     for folder in places.at("var/lib/fileroom"), places.backups().rstrip("/"):
         it.part(it.disk, folder)
     for text, remedy in it.found:
