@@ -5,8 +5,10 @@
     with Room(Settings(url="http://127.0.0.1:8001", room_user="ann")) as room:
         room.append("/log", b"one more line\\n")
 """
-from .faults import BadWords, Fault, LocalFault, NoAnswer, Refused, SessionLost
+from . import files
+from .faults import BadWords, Fault, LocalFault, NotWhole, NoAnswer, OtherVersion, Refused, SessionLost
 from .room import Room
 from .settings import Settings
 
-__all__ = ["BadWords", "Fault", "LocalFault", "NoAnswer", "Refused", "Room", "SessionLost", "Settings"]
+__all__ = ["BadWords", "Fault", "LocalFault", "NoAnswer", "NotWhole", "OtherVersion", "Refused", "Room", "SessionLost",
+           "Settings", "files"]

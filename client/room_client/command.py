@@ -148,33 +148,51 @@ def parser() -> argparse.ArgumentParser:
     whole.add_argument("--version", action="version", version=f"room {version()}")
     add_settings(whole)
     commands = whole.add_subparsers(metavar="COMMAND", required=True)
-    path = ("path", {"metavar": "PATH"})
-    paths = {"metavar": "PATH", "nargs": "+"}
-    local = ("file", {"metavar": "FILE", "help": "a file here, or - for standard input"})
-    below = ("-r", {"action": "store_true", "dest": "recursive", "help": "folders, with all that is in them"})
+    add_contents(commands)
+    add_moves(commands)
+    add_rights(commands)
+    add_command(commands, "session", session, "what is kept between commands, and whether something is pending",
+                ("action", {"nargs": "?", "default": "show", "choices": ["show", "finish", "new", "close"]}),
+                more="finish: sends what is pending. new: forgets it, and begins another session.\nclose: ends it.")
+    return whole
+
+
+PATH = ("path", {"metavar": "PATH"})
+PATHS = {"metavar": "PATH", "nargs": "+"}
+BELOW = ("-r", {"action": "store_true", "dest": "recursive", "help": "folders, with all that is in them"})
+
+
+def add_contents(commands) -> None:
+    """What is there, and what is in it."""
     add_command(commands, "ls", documents.ls, "what is in a folder",
                 ("path", {"metavar": "PATH", "nargs": "?", "default": "/"}),
                 ("-l", {"action": "store_true", "dest": "long", "help": "with sizes, owners and groups"}))
     add_command(commands, "get", documents.get, "files of the room, to a file, a folder or standard output",
-                ("paths", {"metavar": "PATH", "nargs": "+", "help": "and behind them a file or folder here"}), below,
+                ("paths", {"metavar": "PATH", "nargs": "+", "help": "and behind them a file or folder here"}), BELOW,
                 usage="[-h] [-r] PATH.. [FILE]")
     add_command(commands, "put", documents.put, "makes files, or new versions of them (at most 16 MiB each)",
                 ("names", {"metavar": "FILE", "nargs": "+",
                            "help": "files here, or - for standard input, and behind them a path of the room; "
                                    "with a / at its end: the folder for the same name"}),
-                ("--new", {"action": "store_true", "help": "one file: refused where something is there"}), below,
+                ("--new", {"action": "store_true", "help": "one file: refused where something is there"}), BELOW,
                 usage="[-h] [--new] [-r] [--json] FILE.. PATH")
-    add_command(commands, "append", documents.append, "adds bytes at the end of a document of at most 65,536", local,
-                path)
+    add_command(commands, "append", documents.append, "adds bytes at the end of a document of at most 65,536",
+                ("file", {"metavar": "FILE", "help": "a file here, or - for standard input"}), PATH)
+    add_command(commands, "mkdir", documents.mkdir, "makes a folder", PATH)
+    add_command(commands, "stat", documents.stat, "kind, size, owner and group", PATH)
+    add_command(commands, "find", documents.find, "what has such a name, in a folder and below it", PATH,
+                ("pattern", {"metavar": "NAME", "help": "a part of the name, or a pattern with * ? [..]"}))
+
+
+def add_moves(commands) -> None:
+    """Where it is."""
     add_command(commands, "rm", documents.rm, "moves files and empty folders to the trash, where you have one; else "
-                "removes them", ("paths", paths), below,
+                "removes them", ("paths", PATHS), BELOW,
                 ("--for-good", {"action": "store_true", "help": "removes them, whether there is a trash or not"}))
     add_command(commands, "mv", documents.mv, "renames or moves",
-                ("paths", paths | {"help": "and behind them where to"}), usage="[-h] [--json] PATH.. TO")
+                ("paths", PATHS | {"help": "and behind them where to"}), usage="[-h] [--json] PATH.. TO")
     add_command(commands, "cp", documents.cp, "copies within the room; a copy has the list of where it comes to",
-                ("paths", paths | {"help": "and behind them where to"}), below, usage="[-h] [-r] [--json] PATH.. TO")
-    add_command(commands, "find", documents.find, "what has such a name, in a folder and below it", path,
-                ("pattern", {"metavar": "NAME", "help": "a part of the name, or a pattern with * ? [..]"}))
+                ("paths", PATHS | {"help": "and behind them where to"}), BELOW, usage="[-h] [-r] [--json] PATH.. TO")
     add_command(commands, "sync", sync, "makes a folder as another one is, one way",
                 ("source", {"metavar": "FROM"}), ("to", {"metavar": "TO"}),
                 ("--delete", {"action": "store_true", "help": "removes what FROM has not"}),
@@ -183,24 +201,22 @@ def parser() -> argparse.ArgumentParser:
                 ("action", {"nargs": "?", "choices": ["list", "empty", "restore"], "default": "list"}),
                 ("names", {"nargs": "*", "metavar": "NAME [TO]"}),
                 more="empty: removes it for good. restore: gives NAME its place back, or moves it to TO.")
-    add_command(commands, "mkdir", documents.mkdir, "makes a folder", path)
-    add_command(commands, "stat", documents.stat, "kind, size, owner and group", path)
-    add_command(commands, "acl", acl.acl, "shows or sets an access list in words", path,
+
+
+def add_rights(commands) -> None:
+    """Who may do what with it."""
+    add_command(commands, "acl", acl.acl, "shows or sets an access list in words", PATH,
                 ("action", {"nargs": "?", "choices": ["set", "add", "drop", "flags", "give"], "metavar": "ACTION"}),
                 ("words", {"nargs": "*", "metavar": "WORDS"}), more=acl.ACL)
     add_command(commands, "chown", chown, "sets owner and group",
-                ("owner", {"metavar": "OWNER:GROUP", "help": "put -- in front where it begins with -"}), path)
-    add_command(commands, "who", who_may, "who may do what, as the room decides for each name", path,
+                ("owner", {"metavar": "OWNER:GROUP", "help": "put -- in front where it begins with -"}), PATH)
+    add_command(commands, "who", who_may, "who may do what, as the room decides for each name", PATH,
                 ("--roster", {"metavar": "FILE", "help": "for each user in it; else for the names in the list"}))
-    add_command(commands, "session", session, "what is kept between commands, and whether something is pending",
-                ("action", {"nargs": "?", "default": "show", "choices": ["show", "finish", "new", "close"]}),
-                more="finish: sends what is pending. new: forgets it, and begins another session.\nclose: ends it.")
     add_command(commands, "report", make_report, "an access report as a table or a page, to standard output",
                 ("file", {"metavar": "FILE", "nargs": "?", "default": "-",
                           "help": "what fileroom report DB ROSTER access wrote, or standard input"}),
                 ("--csv", {"action": "store_true", "help": "for a spreadsheet (without --html)"}),
                 ("--html", {"action": "store_true", "help": "a page with users and objects as a matrix"}))
-    return whole
 
 
 def read_words(asked: argparse.Namespace) -> None:

@@ -134,6 +134,8 @@ class Room:
     def ask_all(self, commands: Iterable[dict], heard: Callable[[dict], None] = unheard) -> list[dict]:
         """The replies to some commands, refusals too, of which none waits for another: over several slots at once."""
         commands = list(commands)
+        if any(it["cmd"] in CHANGES for it in commands):
+            self.finished = []
         # (a room's port serves one connection after another: a second one would wait for the end of the first)
         width = 1 if self.settings.login is None else self.state.session.slots
         slots = [self.slot(number) for number in range(min(width, len(commands)))]

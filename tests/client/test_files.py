@@ -12,7 +12,7 @@ from unittest import mock
 
 from desk import COMMAND, Desk, PASSWORDS, serve_front
 from room_client import files, manifest
-from room_client.faults import NotWhole, OtherVersion
+from room_client.faults import OtherVersion
 from room_client.files import Upload
 from room_client.line import Line
 from room_client.manifest import MOST, PIECE

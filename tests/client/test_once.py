@@ -9,7 +9,7 @@ import time
 from dataclasses import replace
 
 from desk import Desk, PASSWORDS, serve_front
-from room_client import NoAnswer, Refused, Room, SessionLost
+from room_client import NoAnswer, Refused, SessionLost
 from room_client.line import Line
 from room_client.state import State
 from served import end_with_parent
