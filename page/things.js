@@ -20,7 +20,7 @@ async function lookAt(room, path, kind) {
   if (found === "unfinished") return { kind: found, words: "unfinished upload" };
   const its = found === "file" && await manifestAt(room, path);
   if (its) return { kind: "large", words: sizeWords(its.size), size: its.size };
-  return { kind: FOLDER, words: `folder, ${names.length} in it` };
+  return { kind: FOLDER, words: names.length ? `folder, ${names.length} in it` : "empty folder" };
 }
 
 class Row {

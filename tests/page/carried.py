@@ -4,9 +4,12 @@ import json
 import os
 import random
 import re
-import time
+import subprocess
 
+from browser import WAIT
 from club import choose
+from served import HERE
+from typed import ASKED
 
 NAME, PIECE, MIB = ".room-file", 65536, 1 << 20
 dice = random.Random(7)
@@ -207,6 +210,7 @@ def stopped(club, differs):
     lossy.hold(".room-writing-", '"CREATE"')
     put(club, "/big", on_disk(club, "cancelled", data))
     browser.until("it waits", lambda: lossy.held)
+    differs("a closed tab asks", browser.script(ASKED), True)
     browser.press("Cancel", "//section[@id='transfers']")
     browser.sees("ends …", "#transfers")
     lossy.go_on()
@@ -277,4 +281,39 @@ def drops(club, differs):
         differs(f"chosen: {name}", held(club, f"/chosen/{name}") == it, True)
 
 
-SCENES = [sizes, largest, versions, overtaken, stopped, late, left_beside, drops]
+def both_ways(club, differs):
+    """What the page wrote the command `room` reads, and the other way round; trash and names too."""
+    browser = club.browser
+    mine, theirs = dice.randbytes(2 * PIECE + 1), dice.randbytes(3 * PIECE)
+    put(club, "/big", on_disk(club, "by the page", mine))
+    browser.sees("1 file uploaded", "#notices")
+    differs("the command gets what the page put", room(club, "get", "/big/by the page") == mine, True)
+    room(club, "put", on_disk(club, "by the page", theirs), "/big/")
+    differs("a new version of the command's", held(club, "/big/by the page") == theirs, True)
+    club.go("#open/club")
+    club.go("#open/club/big")
+    browser.follow("by the page")
+    browser.sees("192 KiB, owner ann", "main")
+    browser.press("Download")
+    differs("the page gets it", saved(club, "by the page") == theirs, True)
+    for path in "/trash", "/trash/ann":
+        club.holds({"cmd": "MKDIR", "path": path})
+    browser.press("Remove")
+    browser.press("Remove", "//dialog[@open]")
+    browser.sees("is in the trash", "#notices")
+    room(club, "trash", "restore", *names_at(club, "/trash/ann"))
+    differs("the command puts back what the page removed", held(club, "/big/by the page") == theirs, True)
+    for path in "/trash/ann", "/trash":
+        club.holds({"cmd": "REMOVE", "path": path})
+
+
+def room(club, *words):
+    """What the command writes, as ann straight at the room."""
+    command = [os.path.join(HERE, "..", "client", "room"), "--url", f"http://127.0.0.1:{club.room.port}", "--room-user",
+               "ann", "--state", os.path.join(club.folder, "state"), "--config", os.devnull]
+    done = subprocess.run([*command, *words], capture_output=True, timeout=WAIT, check=False)
+    assert done.returncode == 0, (words, done.stderr)
+    return done.stdout
+
+
+SCENES = [sizes, largest, versions, overtaken, stopped, late, left_beside, drops, both_ways]

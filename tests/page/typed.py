@@ -4,6 +4,7 @@ from room_client.words import RIGHTS, SETS
 
 WORDS = "import('/rights.js').then((it) => arguments[0]([it.RIGHTS.map(({bit, words}) => [bit, words]), " \
         "it.SETS.map(({name, mask}) => [name, mask])]))"
+ASKED = "const it = new Event('beforeunload', {cancelable: true}); dispatchEvent(it); return it.defaultPrevented"
 FOCUS = "return document.activeElement.getAttribute('aria-label') ?? document.activeElement.textContent"
 
 
@@ -45,8 +46,7 @@ def leaving(club, differs):
     differs("escape asks", browser.sees("What you typed is not saved.", "dialog"), True)
     browser.press("Go on typing")
     differs("it is still there", browser.script("return document.querySelector('textarea').value"), "typed")
-    asked = "const it = new Event('beforeunload', {cancelable: true}); dispatchEvent(it); return it.defaultPrevented"
-    differs("a closed tab asks", browser.script(asked), True)
+    differs("a closed tab asks", browser.script(ASKED), True)
     browser.script("history.back()")
     browser.sees("Leave this?", "dialog h2")
     differs("back stays", browser.script("return location.hash"), "#open/club/plans/june.txt")
@@ -56,9 +56,12 @@ def leaving(club, differs):
     browser.press("Leave, and lose it")
     browser.until("the folder", lambda: browser.script("return document.querySelector('main').dataset.place") != "x")
     browser.until("no dialog", lambda: not browser.script("return document.querySelector('dialog[open]')"))
-    differs("nothing typed, nothing asked", browser.script(asked), False)
+    differs("nothing typed, nothing asked", browser.script(ASKED), False)
     club.go("#access/club/plans/june.txt")
     browser.press("Add an entry")
+    browser.press("Log out")
+    differs("logging out asks", browser.sees("Leave this?", "dialog h2"), True)
+    browser.press("Cancel", "//dialog[@open]")
     browser.script("location.hash = '#open/club'")
     differs("a list that was changed asks", browser.sees("Leave this?", "dialog h2"), True)
     browser.press("Leave, and lose it")
