@@ -64,7 +64,8 @@ class Machine:
     def does(self, *words, stdin="", first=()):
         """Status, what is said, and what is told as a fault."""
         line = [sys.executable, "-B", *(first or [ADMIN]), "--root", self.root, *words]
-        done = subprocess.run(line, input=stdin, capture_output=True, text=True, env=self.env, timeout=60)
+        how = {"capture_output": True, "text": True, "env": self.env, "timeout": 60, "umask": 0o077}
+        done = subprocess.run(line, input=stdin, **how)
         return done.returncode, done.stdout, done.stderr
 
     def told(self):
@@ -98,6 +99,19 @@ class Machine:
         return found
 
 
+def a_front(machine, tally):
+    """Without a room yet, and taken away again."""
+    saved = os.path.join(machine.folder, "saved")
+    shutil.copytree(machine.root, saved)
+    tally.differs("a front without a room", machine.does("front"), (
+        0, "the front has the files of this program, and the rooms none\n", ""))
+    tally.differs("nobody's password", text_of(machine.at("etc/nginx/fileroom/users")), "")
+    tally.differs("what is wrong then", machine.does("check")[1].count("there is no room"), 1)
+    shutil.rmtree(machine.root)
+    os.rename(saved, machine.root)
+    machine.told()
+
+
 def a_room(machine, tally):
     status, said, faults = machine.does("room", "add", "plans", "ann", "eng")
     tally.differs("room add", (status, faults), (0, ""))
@@ -110,6 +124,8 @@ def a_room(machine, tally):
         tally.differs(path, text_of(machine.at(path)), want)
     tally.differs("more connections", "worker_connections 4096;" in text_of(machine.at("etc/nginx/nginx.conf")), True)
     tally.differs("the passwords' mode", os.stat(machine.at("etc/nginx/fileroom/users")).st_mode & 0o777, 0o640)
+    modes = [oct(os.stat(machine.at(f"etc/nginx/fileroom/{it}")).st_mode & 0o777) for it in ("rooms", "rooms.json")]
+    tally.differs("what nginx reads", modes, ["0o755", "0o644"])
     tally.differs("a room", os.path.exists(machine.at("var/lib/fileroom/plans/room.db")), True)
     tally.differs("what the services are asked", machine.told(), [f"systemctl {it}" for it in (
         "daemon-reload", "enable fileroom-ports", "restart fileroom-ports", "enable --now fileroom@plans",
@@ -185,7 +201,7 @@ def faults_undo(machine, tally):
     before = machine.files()
     tally.differs("another site is broken", (machine.does("room", "add", "newer", "ann", "eng")[0],
                                              machine.files() == before), (1, True))
-    tally.differs("a room that was not served", os.listdir(machine.at("var/lib/fileroom/newer")), [])
+    tally.differs("its room is kept aside", os.path.exists(machine.at("var/lib/fileroom/newer/room.db")), False)
     os.remove(machine.at("etc/nginx/conf.d/other.conf"))
 
 
@@ -231,6 +247,22 @@ def stops(machine, words, tally):
     tally.differs(f"{words}: undone, and gone on", outcomes, {"before", "after"})
     shutil.rmtree(saved)
     return at
+
+
+def written_since(machine, tally):
+    """What somebody writes between a call that was killed and the next one is not lost by the undoing."""
+    roster, journal = (machine.at(f"etc/fileroom/{it}") for it in ("plans.toml", "admin.journal"))
+    words, at = ["user", "add", "plans", "lee", "eng"], 0
+    while not os.path.exists(journal) or "lee" not in text_of(roster):
+        machine.does("user", "list")
+        machine.does(*words, first=["-c", STOPPED, str(at), os.path.dirname(ADMIN)])
+        at += 1
+    before = text_of(roster)
+    machine.write("etc/fileroom/plans.toml", before + "# by hand\n")
+    told = machine.does("user", "list")
+    tally.differs("what was written by hand", (told[0], text_of(roster)), (0, before + "# by hand\n"))
+    machine.does("front")
+    machine.does("user", "remove", "plans", "lee")
 
 
 def certificate(machine, tally):
@@ -298,11 +330,13 @@ def looked_at(machine, tally):
 
 def tried(folder, tally):
     machine = Machine(folder)
+    a_front(machine, tally)
     a_room(machine, tally)
     users(machine, tally)
     faults_undo(machine, tally)
     certificate(machine, tally)
     steps = [stops(machine, it.split(), tally) for it in ("user add plans kim eng", "room add more ann eng")]
+    written_since(machine, tally)
     looked_at(machine, tally)
     print(f"service: fileroom-admin, stopped at each of {sum(steps)} steps")
 

@@ -7,6 +7,7 @@ the next call reads the journal: up to the mark `decided` it undoes, from there 
 import contextlib
 import fcntl
 import grp
+import hashlib
 import json
 import os
 import shutil
@@ -28,6 +29,24 @@ def beside(path, end):
 def forget(path):
     with contextlib.suppress(FileNotFoundError):
         os.unlink(path)
+
+
+def sum_of(data):
+    return None if data is None else hashlib.sha256(data).hexdigest()
+
+
+def sum_in(path):
+    """Of what a file has now, or nothing where there is none."""
+    with contextlib.suppress(FileNotFoundError), open(path, "rb") as file:
+        return sum_of(file.read())
+
+
+def bring_back(path, was):
+    if not was:
+        forget(path)
+    elif os.path.exists(beside(path, OLD)):
+        os.link(beside(path, OLD), beside(path, NEW))
+        os.replace(beside(path, NEW), path)
 
 
 def keep(path):
@@ -71,13 +90,13 @@ class Change:
         self.undoes.insert(0, undo or words)
 
     def happen(self):
-        files = [[path, os.path.exists(path), data is not None] for path, (data, *_) in self.files.items()]
-        for path, was, stays in files:
+        files = [[path, os.path.exists(path), sum_of(data)] for path, (data, *_) in self.files.items()]
+        for path, was, its_sum in files:
             os.makedirs(os.path.dirname(path), exist_ok=True)
             forget(beside(path, OLD))
             if was:
                 os.link(path, beside(path, OLD))
-            if stays:
+            if its_sum:
                 self.prepare(path, was)
         Journal(self.places, {"files": files, "room": self.room, "looks": self.looks, "does": self.does,
                               "undoes": self.undoes}).play()
@@ -105,8 +124,8 @@ class Journal:
         """Does it all, or undoes it and says why."""
         try:
             self.write("prepared")
-            for path, _, stays in self.says["files"]:
-                if stays:
+            for path, _, its_sum in self.says["files"]:
+                if its_sum:
                     os.replace(beside(path, NEW), path)
                 else:
                     forget(path)
@@ -130,19 +149,16 @@ class Journal:
         self.clear()
 
     def undo(self):
-        """The files of before, and services that have read them."""
+        """The files of before, but where somebody else wrote one since, and services that have read them."""
         was_decided = self.says["state"] in ("decided", "undoing")
         with contextlib.suppress(OSError):  # (on a full disk too)
             self.write("undoing" if was_decided else "prepared")
         if self.says["room"]:
-            unmake_room(self.places, self.says["room"][0], was_decided)
-        for path, was, _ in self.says["files"]:
+            put_aside(self.places.file(self.says["room"][0]))
+        for path, was, its_sum in self.says["files"]:
             forget(beside(path, NEW))
-            if not was:
-                forget(path)
-            elif os.path.exists(beside(path, OLD)):
-                os.link(beside(path, OLD), beside(path, NEW))
-                os.replace(beside(path, NEW), path)
+            if its_sum == sum_in(path):
+                bring_back(path, was)
         if was_decided:
             for words in self.says["undoes"]:
                 said(*words)
@@ -165,13 +181,11 @@ def make_room(places, name, owner, group):
     asked(*as_user, places.program, "init", places.file(name), "--", owner, group)
 
 
-def unmake_room(places, name, may_be_used):
-    """A room that was made takes no part in what stays. One that was served is not removed, but moved aside."""
-    room = places.file(name)
+def put_aside(room):
+    """A room that was made is not removed: somebody may have put another one there since."""
     for path in room, room + "-wal":
-        if may_be_used and os.path.exists(path):
+        if os.path.exists(path):
             os.replace(path, f"{path}.undone-{int(time.time())}")
-        forget(path)
 
 
 def wait_until_listens(places, port):

@@ -67,6 +67,7 @@ def play(given, commands):
 
 def main(words):
     given = parser().parse_args(words)
+    os.umask(0o022)  # (nginx reads what is not closed to it on purpose)
     places = Places(given.root)
     say = (lambda text: None) if given.quiet else print
     try:

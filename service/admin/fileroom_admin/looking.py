@@ -1,5 +1,6 @@
 """`fileroom-admin check`: what is wrong with a machine, each finding with its remedy."""
 import datetime
+import grp
 import json
 import os
 import pwd
@@ -70,7 +71,9 @@ class Findings:
 
     def passwords(self):
         users = self.places.front("users")
-        self.mode(users, stat.S_IRWXO | stat.S_IWGRP, "chown root:www-data, chmod 640")
+        self.mode(users, stat.S_IRWXO | stat.S_IWGRP, "chmod 640")
+        if self.places.is_machine and grp.getgrgid(os.stat(users).st_gid).gr_name != "www-data":
+            self.add(f"{users} is not the group's that nginx is in", f"chgrp www-data {users}")
         known = {user for room in self.places.rooms() for user in self.users(room)}
         for it in sorted({*rosters.logins_of(read(users))} - known):
             self.add(f"{it} has a login, and is in no roster", f"fileroom-admin user add ROOM {it}")
