@@ -28,11 +28,13 @@ STAND_INS = {
     "runuser": 'shift 3; exec "$@"',
     "nft": TOLD + 'echo "elements = { 8001, 8002, 8003 }"',
     "room": 'exec "$FILEROOM" --version',
-    # (the same files, with the root's folders in the place of the machine's)
+    # (the same files, with the root's folders in the place of the machine's, and ports that need no root)
     "nginx": """set -e
 at=$(mktemp -d); trap 'rm -r "$at"' EXIT
 cp -r "$ROOT/etc/nginx" "$at/nginx"
 find "$at/nginx" -name '*.conf' -exec sed -i "s,/etc/nginx,$at/nginx,g; s,/var/log/nginx,$at,; /^user /d" {} +
+find "$at/nginx" -name '*.conf' -exec sed -i "s,listen 443,listen 20443,; s,listen 80;,listen 20080;,;
+    s,::]:443,::]:20443,; s,::]:80;,::]:20080;," {} +
 PATH=$PATH:/usr/sbin; for it in $(which -a nginx); do [ "$it" = "$0" ] || break; done
 "$it" -tq -e "$at/errors" -g "pid $at/pid;" -c "$at/nginx/nginx.conf" """,
 }
