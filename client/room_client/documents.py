@@ -235,6 +235,8 @@ def cp(room: Room, asked) -> None:
 
     def copy(pair: tuple[str, str]) -> None:
         path = there(room, pair[0])
+        if f"{pair[1]}/".startswith(f"{path.rstrip('/')}/"):
+            raise Refused({"code": 7, "error": "INVAL"}, {"path": path}, "nothing is copied into itself: mend the path")
         if asked.recursive and room.stat(path)["kind"] == FOLDER and not files.manifest_at(room, path):
             return copy_folder(room, asked, path, pair[1])
         data = read_all(room, path)
@@ -245,8 +247,6 @@ def cp(room: Room, asked) -> None:
 
 
 def copy_folder(room: Room, asked, path: str, to: str) -> None:
-    if f"{to}/".startswith(f"{path}/"):
-        raise Refused({"code": 7, "error": "INVAL"}, {"path": path})
     tree, faults = trees.tree_of(room, path), Faults(0)
     trees.make_folders(room, to, [it for it, kind in tree.kinds.items() if kind == FOLDER], faults.take)
 

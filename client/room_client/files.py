@@ -39,7 +39,7 @@ def refused_as(fault: Refused, *names: str) -> bool:
 def text_at(room: Room, path: str) -> bytes | None:
     """What the manifest's document has, or None where there is none."""
     try:
-        return room.read(f"{path}/{form.NAME}")
+        return room.read(f"{path.rstrip('/')}/{form.NAME}")
     except Refused as fault:
         if refused_as(fault, "NOENT", "ISDIR", "NOTDIR"):
             return None

@@ -80,14 +80,13 @@ class Sync:
         return [it for it in paths if it not in same]
 
     def make(self, folders: list[str]) -> None:
+        if self.is_up and not self.only_tells:
+            trees.make_folders(self.room, self.top, folders, self.take)
+        elif not self.only_tells:
+            for it in ["", *folders]:
+                local.make_below(self.here, it.split("/") if it else [])
         for it in folders:
             self.tell("made", f"{it}/")
-        if self.only_tells:
-            return
-        if self.is_up:
-            return trees.make_folders(self.room, self.top, folders, self.take)
-        for it in ["", *folders]:
-            local.make_below(self.here, it.split("/") if it else [])
 
     def move(self, paths: list[str], mine: Tree, its: trees.RoomTree) -> None:
         if self.only_tells:

@@ -49,8 +49,11 @@ class Trees(Behind):
         self.assertEqual(self.does("cp", "-r", "/album", "/other")[0], 0)
         self.assertEqual(self.does("get", "-r", "/other")[0], 0)
         self.assertEqual(self.here("other"), self.here("photos"))
-        self.refuses("cp", "-r", "/album", "/album/2026/x", want="INVAL (7) at /album: the root neither moves nor "
-                     "goes, nothing moves into itself, and a list has at most 32 entries of its own: mend the words")
+        for words in (["-r", "/album", "/album/2026/x"], ["-r", "/", "/x"], ["/album/a.txt", "/album/"]):
+            path = words[-2]
+            self.refuses("cp", *words, want=f"INVAL (7) at {path}: nothing is copied into itself: mend the path")
+        self.assertEqual(self.does("get", "-r", "/", "all")[0], 0)
+        self.assertEqual(sorted(os.listdir(self.path("all"))), ["album", "other"])
         full = "NOTEMPTY (6) at /album: the folder has something in it: remove that first"
         self.refuses("rm", "/album", want=full)
         self.prints("rm", "-r", "/album", "/other", want="/album: removed\n/other: removed\n")
