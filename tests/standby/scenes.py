@@ -63,7 +63,7 @@ class Takeovers:
         self.kinds = {it: Times() for it in ("killed", "cut off")}
         self.mounted = {it: Times() for it in ("killed, mounted before", "cut off, mounted before")}
         self.mounts, self.serves, self.heals = Times(), Times(), Times()
-        self.count = self.not_whole = 0
+        self.count = self.not_whole = self.stuck = 0
 
 
 def takeovers(standby, tally, dice, count, room_for=1.0):
@@ -75,7 +75,14 @@ def takeovers(standby, tally, dice, count, room_for=1.0):
     for n in range(count):
         name = f"takeover {n + 1}"
         found.not_whole += not whole
-        takeover(standby, load, dice, found, tally, name, room_for)
+        try:
+            takeover(standby, load, dice, found, tally, name, room_for)
+        except RuntimeError as fault:  # (before all was whole none is promised, but nothing may be lost)
+            if whole:
+                raise
+            print(f"standby: {name}: stuck until the machine is back: {fault}", flush=True)
+            found.stuck += 1
+            unstuck(standby, load, tally, name)
         whole = come_back(standby, load, dice, found, tally, name)
         if n % 10 == 9:
             print(f"standby: {n + 1} takeovers, {load.answered} answers", flush=True)
@@ -83,8 +90,8 @@ def takeovers(standby, tally, dice, count, room_for=1.0):
     for kind, its in {**found.kinds, **found.mounted}.items():
         print(f"standby: {kind}: from the stop to the first answer {its}")
     print(f"standby: mounting: {found.mounts}; serving once mounted: {found.serves}; whole again: {found.heals}")
-    print(f"standby: {found.count} takeovers, {found.not_whole} while a copy may have been behind; {load.answered} "
-          f"answers, {load.again} after being sent again, {load.repeats} repeats, {load.delays} DELAY")
+    print(f"standby: {found.count} takeovers, {found.not_whole} while a copy may be behind, {found.stuck} stuck; "
+          f"{load.answered} answers, {load.again} after being sent again, {load.repeats} repeats, {load.delays} DELAY")
     return found
 
 
@@ -115,12 +122,25 @@ def takeover(standby, load, dice, found, tally, name, room_for):
     found.count += 1
 
 
+def unstuck(standby, load, tally, name):
+    """The machine that stopped is started again, and another serves as soon as it can."""
+    dead = next(it for it in standby.machines if not it.is_up())
+    target = others(standby, dead)[0]
+    dead.boot()
+    if standby.program:
+        standby.program.end()
+    standby.serve(target)
+    load.stop()
+    need_sound(load, tally, name)
+
+
 def come_back(standby, load, dice, found, tally, name):
     """The dead machine is back; the program is started again. Answers whether all copies were whole before that."""
-    dead = next(it for it in standby.machines if not it.is_up())
-    dead.boot()
+    dead = next((it for it in standby.machines if not it.is_up()), None)
+    if dead:
+        dead.boot()
     begin = time.monotonic()
-    until(lambda: standby.is_connected(standby.on), 120, f"{name}: the copy of {dead.name} is there again")
+    until(lambda: standby.is_connected(standby.on), 120, f"{name}: all copies are there again")
     whole = dice.random() < 0.6
     if whole:
         standby.need_whole(standby.on)

@@ -127,7 +127,16 @@ class Standby:
     def mount(self, machine):
         """As Pacemaker's lines do, and again where glusterd is not ready yet."""
         words = ["mount", "-t", "glusterfs", "-o", MOUNT, f"localhost:/{NAME}", FOLDER]
-        until(lambda: machine.status(*words)[0] == 0, LISTENS, f"a mount on {machine.name}", 0.5)
+        try:
+            until(lambda: machine.status(*words)[0] == 0, LISTENS, f"a mount on {machine.name}", 0.5)
+        except RuntimeError as fault:
+            raise RuntimeError(f"{fault}\n{self.why(machine)}") from None
+
+    def why(self, machine):
+        """What Gluster says on that machine."""
+        told = [machine.status("timeout", "20", "gluster", *it)[1] for it in (["pool", "list"], ["volume", "status"])]
+        return "\n".join(told) + machine.status("sh", "-c", "tail -n 12 /var/log/glusterfs/*plans.log "
+                                                "/var/log/glusterfs/glusterd.log | cut -c1-200")[1]
 
     def local(self):
         """In the place of the volume a folder of the first machine's own disk, with a fresh room."""
@@ -183,11 +192,17 @@ class Standby:
         counts = [line.rpartition(" ")[2] for line in told.splitlines() if line.startswith("Total Number of entries")]
         return status == 0 and counts == ["0"] * 3
 
+    def knows_all(self, machine):
+        return machine.status("gluster", "pool", "list")[1].count("Connected") == 3
+
     def need_whole(self, machine):
-        """Waits until this machine's mount has all three copies and none is behind: the seconds."""
+        """Waits until this machine's mount has all three copies, none is behind, and each machine knows the others: the
+        seconds."""
         begin = time.monotonic()
         until(lambda: self.is_connected(machine), WHOLE, "all copies are connected")
         until(lambda: self.is_healed(machine), WHOLE, "no copy is behind", 0.5)
+        for it in self.machines:
+            until(lambda it=it: self.knows_all(it), WHOLE, f"{it.name} knows the others", 0.5)
         return time.monotonic() - begin
 
     def look(self, load, tally, name):
