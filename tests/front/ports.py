@@ -20,7 +20,7 @@ from served import Tally, end_with_parent, guard, loopback, work_folder
 
 FRONT, ROOM, OTHER = 8080, 8001, 8002  # ports of that network
 HALVES = 700  # half-sent heads of one address: more than nginx here has connections (512)
-AT_ONCE = 100  # connections of one address, as the file says
+AT_ONCE = 250  # connections of one address, as the file says
 SERVER = "fd00::1"  # of IPv6
 UNSHARE = ["unshare", "--net"]
 tally = Tally()
@@ -120,7 +120,7 @@ def connected(sources):
     lines = []
     for source in sources:
         line = socket.socket(socket.AF_INET6)
-        line.settimeout(0.5)
+        line.settimeout(0.05)
         with contextlib.suppress(OSError):
             line.bind((source, 0))
             line.connect((SERVER, FRONT))
@@ -136,9 +136,9 @@ def networks():
     near, far = [f"fd00:0:0:1::{at:x}" for at in range(1, 31)], "fd00:0:0:2::1"
     for it in SERVER, *near, far:
         subprocess.run(["ip", "-6", "addr", "add", f"{it}/128", "dev", "lo", "nodad"], check=True)
-    with socket.create_server((SERVER, FRONT), family=socket.AF_INET6, backlog=4 * AT_ONCE):
-        lines = connected(5 * near)
-        tally.differs(f"connections of one network: {len(lines)} of {5 * len(near)}", 0 < len(lines) <= AT_ONCE, True)
+    with socket.create_server((SERVER, FRONT), family=socket.AF_INET6, backlog=2 * AT_ONCE):
+        lines = connected(10 * near)
+        tally.differs(f"connections of one network: {len(lines)} of {10 * len(near)}", 0 < len(lines) <= AT_ONCE, True)
         tally.differs("another network beside them", len(connected([far])), 1)
 
 
