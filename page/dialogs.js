@@ -8,6 +8,11 @@ const open = new Set();
 /** Closes all of them: the page goes elsewhere. */
 export const closeAll = () => open.forEach((it) => it.end(null));
 
+/** Waits until none is open. */
+export async function untilClosed() {
+  while (open.size > 0) await Promise.race([...open].map((it) => it.closed));
+}
+
 /** What a field has now, to see whether something was typed. */
 function valueOf(field) {
   if (field.type === "file") return String(field.files.length);
@@ -93,9 +98,10 @@ class Dialog {
     this.unwatch = watch(() => this.now !== this.start);
     document.body.append(this.element);
     this.element.showModal();
-    return new Promise((tell) => {
+    this.closed = new Promise((tell) => {
       this.tell = tell;
     });
+    return this.closed;
   }
 }
 

@@ -3,7 +3,7 @@ import * as busy from "./busy.js";
 import { showAccess } from "./access.js";
 import { Refusal } from "./codes.js";
 import { showContents } from "./contents.js";
-import { ask, closeAll } from "./dialogs.js";
+import { ask, closeAll, untilClosed } from "./dialogs.js";
 import { button, link, make } from "./dom.js";
 import { showFind } from "./find.js";
 import { head } from "./heads.js";
@@ -86,8 +86,9 @@ class App {
   /** What went on beside the page has ended: a folder is shown anew, where nobody is at something else. */
   async ended(words, isGood) {
     this.say(words, isGood);
-    const isAtRest = !document.querySelector("dialog[open], main[aria-busy]");
-    if (isAtRest && placeOf(location.hash)?.view === "open") await this.show(standing());
+    await untilClosed();
+    await this.shown;
+    if (placeOf(location.hash)?.view === "open") await this.show(standing());
   }
 
   /** The address has changed. What was said before is of another place, save where an action led here. */
@@ -123,7 +124,12 @@ class App {
     }
   }
 
-  async show(then = () => arrive(location.hash)) {
+  show(then = () => arrive(location.hash)) {
+    this.shown = this.#show(then);
+    return this.shown;
+  }
+
+  async #show(then) {
     const place = placeOf(location.hash) ?? { view: "open", room: this.rooms[0], path: ROOT };
     const turn = this.turn += 1;
     this.here = location.hash;

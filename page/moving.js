@@ -135,11 +135,13 @@ export async function downloadFolder(app, path) {
   await transferring(app, `Zip of ${shown(name)}`, { total: 0, unit: String }, async (transfer) => {
     const found = await below(room, path, transfer);
     found.sort((a, b) => (a.path < b.path ? -1 : 1));
-    const [zip, start, left] = [new Zip(), namesOf(path).length, []];
+    const [zip, start, left, used] = [new Zip(), namesOf(path).length, [], new Set()];
     transfer.total = transfer.bar.max = found.length;
     for (const it of found) {
       transfer.check();
-      const inside = [name, ...namesOf(it.path).slice(start)].map(forDisk).join("/");
+      let inside = [name, ...namesOf(it.path).slice(start)].map(forDisk).join("/");
+      while (used.has(inside)) inside += "_";
+      used.add(inside);
       if (it.isShut) left.push(it.path);
       if (it.kind === FOLDER) zip.add(`${inside}/`);
       else await readFile(room, it.path, { ...NOBODY, check: () => transfer.check() })

@@ -22,8 +22,10 @@ export function partsOf(name) {
 /** A name or path in a sentence. */
 export const shown = (name) => partsOf(name).map((it) => it.text).join("");
 
-/** A name for the user's own disk, where nothing marks what cannot be seen. */
-export const forDisk = (name) => partsOf(name).map((it) => (it.isMark ? "_" : it.text)).join("");
+/** A name for the user's own disk, where nothing marks what cannot be seen, and some systems part names at other
+ * letters than /. */
+export const forDisk = (name) =>
+  partsOf(name).map((it) => (it.isMark ? "_" : it.text)).join("").replace(/[\\:*?"<>|]/g, "_");
 
 /** As it is sent: one way to write each letter, and no blanks at the ends. */
 export const clean = (name) => name.normalize("NFC").trim();

@@ -62,14 +62,15 @@ export async function transferring(app, title, { total, unit }, task) {
   const it = new Transfer(app, title, total, unit);
   const unwatch = watchEnd(() => true);
   document.getElementById("transfers").append(it.element);
-  const tell = (words, isGood) => app.ended([words, ...it.notes].join(" "), isGood && it.notes.length === 0);
+  let [words, isGood] = ["", false];
   try {
-    await tell(await task(it), true);
+    words = await task(it);
+    isGood = it.notes.length === 0;
   } catch (fault) {
-    const isCancelled = fault instanceof Cancelled;
-    await tell(isCancelled ? `${title}: cancelled.` : `${title}: ${fault.message}`, false);
+    words = fault instanceof Cancelled ? `${title}: cancelled.` : `${title}: ${fault.message}`;
   } finally {
     unwatch();
     it.element.remove();
   }
+  await app.ended([words, ...it.notes].join(" "), isGood);
 }

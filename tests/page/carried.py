@@ -211,8 +211,9 @@ def stopped(club, differs):
     put(club, "/big", on_disk(club, "cancelled", data))
     browser.until("it waits", lambda: lossy.held)
     differs("a closed tab asks", browser.script(ASKED), True)
-    browser.press("Cancel", "//section[@id='transfers']")
-    browser.sees("ends …", "#transfers")
+    told = "return document.getElementById('transfers').innerText"
+    browser.until("it ends", lambda: browser.press("Cancel", "//section[@id='transfers']") or
+                  "ends …" in browser.script(told))
     lossy.go_on()
     differs("cancelled", browser.sees("Upload of cancelled: cancelled.", "#notices"), True)
     differs("nothing of it is left", "cancelled" in names_at(club, "/big"), False)

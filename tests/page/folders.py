@@ -11,7 +11,8 @@ ALL = 0x1F07FF
 PNG = (b"\x89PNG\r\n\x1a\n\x00\x00\x00\rIHDR\x00\x00\x00\x01\x00\x00\x00\x01\x08\x02\x00\x00\x00\x90wS\xde"
        b"\x00\x00\x00\x0cIDATx\x9cc\xf8\xcf\xc0\x00\x00\x03\x01\x01\x00\xc9\xfe\x92\xef\x00\x00\x00\x00IEND\xaeB`\x82")
 SVG = b"<svg xmlns='http://www.w3.org/2000/svg'><script>window.ran=1</script><rect width='9' height='9'/></svg>"
-TREE = {"/t/a.txt": b"a", "/t/sub/b.txt": b"b", "/t/sub/deep/\u00fc.txt": "\u00fc".encode(), "/t/empty/": None}
+TREE = {"/t/a.txt": b"a", "/t/..\\x:y": b"slip", "/t/sub/b.txt": b"b", "/t/sub/deep/\u00fc.txt": "\u00fc".encode(),
+        "/t/empty/": None}
 
 
 def make_tree(club):
@@ -67,8 +68,9 @@ def zipped(club, differs, tree):
     browser.sees("t.zip is made", "#notices")
     with zipfile.ZipFile(io.BytesIO(saved(club, "t.zip"))) as file:
         differs("its sums", file.testzip(), None)
-        differs("its names", sorted(file.namelist()), sorted(it[1:] for it in tree))
-        differs("its bytes", all(file.read(it[1:]) == data for it, data in tree.items() if data is not None), True)
+        names = {it: it[1:].replace("\\", "_").replace(":", "_") for it in tree}
+        differs("its names", sorted(file.namelist()), sorted(names.values()))
+        differs("its bytes", all(file.read(names[it]) == data for it, data in tree.items() if data is not None), True)
         differs("it is stored", {it.compress_type for it in file.infolist()}, {zipfile.ZIP_STORED})
         differs("names are UTF-8", all(it.flag_bits & 0x800 for it in file.infolist()), True)
     sums = "import('/zip.js').then((it) => arguments[0]([it.crcOf(new Uint8Array(0)), " \
@@ -86,11 +88,11 @@ def search(club, differs):
     browser.sees("That is all.", "main")
     found = "return [...document.querySelectorAll('.found li')].map((it) => it.textContent)"
     differs("found", browser.script(found), ["/t/sub/large.bin"])
-    differs("the words", browser.sees("1 found among 7 names.", "main"), True)
+    differs("the words", browser.sees("1 found among 8 names.", "main"), True)
     browser.follow("/t/sub/large.bin")
     browser.sees("128 KiB, owner ann", "main")
     browser.script("history.back()")
-    browser.sees("1 found among 7 names.", "main")
+    browser.sees("1 found among 8 names.", "main")
     differs("who comes back finds it", browser.script(found), ["/t/sub/large.bin"])
 
 
@@ -116,7 +118,7 @@ def removed(club, differs):
     club.go("#open/club/t")
     browser.press("Remove", "//main")
     browser.sees("It cannot be brought back.", "dialog")
-    differs("how much", browser.sees("With it go 4 documents and 3 folders that are in it.", "dialog"), True)
+    differs("how much", browser.sees("With it go 5 documents and 3 folders that are in it.", "dialog"), True)
     browser.press("Remove", "//dialog[@open]")
     browser.sees("/t is removed.", "#notices")
     differs("it is gone", "t" in names_at(club, "/"), False)
