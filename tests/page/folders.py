@@ -138,6 +138,7 @@ def removed(club, differs):
     browser.sees("/other/t is there again.", "#notices")
     differs("where it was", [list(names_at(club, "/other")), names_at(club, "/trash/ann")], [["t"], {}])
     club.holds({"cmd": "RENAME", "path": "/other/t", "to": f"/trash/ann/{names[0]}"})
+    club.go("#open/club")
     club.go("#open/club/trash/ann")
     browser.press(f"More for {names[0]}")
     browser.press(f"Remove {names[0]}")
