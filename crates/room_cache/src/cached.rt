@@ -69,6 +69,10 @@ impl<S: Shelf> Shelf for CachedShelf<S> {
 
     ghost available_is_intact = { λ s h. S.available_is_intact s.0 h };
 
+    ghost settled = { λ s left h may. S.settled s.0 left h may };
+
+    ghost stays = { λ s h. S.stays s.0 h };
+
     fn node(&mut self, id: u32) -> Result<Option<Node>, ShelfFault> {
         if let Some(node) = self.known.node(id) {
             return Ok(Some(node.clone()?));

@@ -66,12 +66,11 @@ LeavesNew new Made = (left : Records) → new.crash_may_leave left → Made left
 abbrev pub Tells : {T : Type 0} → View → View → Result T ShelfFault → (Records → T → Type 0) → Type 0
 Tells old new result P = new.is_available → old.is_laid_out → IfOk result (P old.records)
 
--- a shelf as it is made: available, laid out, without a failure, and a crash may leave something
+-- a shelf as it is made: available, laid out, without a failure
 pub record IsNewShelf (made : View) : Type 0 where
   pub available : made.is_available
   pub laid_out : made.is_laid_out
   pub no_failure : made.failures ≡ 0
-  pub leaves : (left : Records) × made.crash_may_leave left
 
 abbrev pub name_of : Node → Name
 name_of node = unwrap_or node.name []

@@ -31,7 +31,7 @@ pub struct MemShelf {
 }
 
 impl Shelf for MemShelf {
-    ghost use Rattle.std.specs.Prelude.{◌≡◌};
+    ghost use Rattle.std.specs.Prelude.{◌≡◌, refl};
     ghost use Rattle.room_records.specs.Mem.{mem_records};
 
     ghost view = { λ s. record {
@@ -44,6 +44,10 @@ impl Shelf for MemShelf {
     } };
 
     ghost available_is_intact = { λ s h. h };
+
+    ghost settled = { λ s left h may. may };
+
+    ghost stays = { λ s h. refl };
 
     fn node(&mut self, id: u32) -> Result<Option<Node>, ShelfFault> {
         Ok(self.nodes.node(id)?)

@@ -1,10 +1,11 @@
 //! The shelf that keeps the rows.
 ghost use Rattle.std.specs.Prelude.{◌≡◌, [], length, unwrap_or, OnOk};
 ghost use Rattle.room_acl.specs.Access.{decision};
+ghost use Rattle.room_records.specs.Records.{Records};
 ghost use Rattle.room_records.specs.Rules.{NodeRules};
 ghost use Rattle.room_records.specs.Changes.{apply_changes, RulesHoldAfterEach, Untouched};
 ghost use Rattle.room_records.specs.Shelf.{View, ShelfCall, ShelfRead, Tells, fault_in, AreChildren};
-ghost use Rattle.room_records.specs.Shelf.{AreNames, IsChildCount, IsChildNamed, LeavesOldOrNew, LeavesNew};
+ghost use Rattle.room_records.specs.Shelf.{AreNames, IsChildCount, IsChildNamed, LeavesOldOrNew};
 ghost use Rattle.room_slots.specs.Slots.{kept_seq};
 
 use crate::change::Change;
@@ -154,10 +155,6 @@ pub trait Shelf {
         ensures ok { (view self.new).is_intact → (view self.old).is_laid_out
             → RulesHoldAfterEach changes.now (view self.old).records →
             OnOk result ((view self.new).records ≡ apply_changes changes.now (view self.old).records) }
-        ensures settled { (view self.new).is_intact → (view self.old).is_laid_out
-            → RulesHoldAfterEach changes.now (view self.old).records →
-            OnOk result (LeavesNew (view self.new)
-            (λ left. left ≡ apply_changes changes.now (view self.old).records)) }
         ensures crash { (view self.old).is_laid_out → RulesHoldAfterEach changes.now (view self.old).records →
             LeavesOldOrNew (view self.old) (view self.new)
             (λ left. left ≡ apply_changes changes.now (view self.old).records) }
@@ -166,4 +163,11 @@ pub trait Shelf {
 
     /// An available store is intact.
     ghost available_is_intact: { (s : Self) → (view s).is_available → (view s).is_intact };
+
+    /// While the store is available, a crash leaves the records as they are, and nothing else.
+    ghost settled: { (s : Self) (left : Records) → (view s).is_available → (view s).crash_may_leave left
+        → left ≡ (view s).records };
+
+    /// And these it may leave.
+    ghost stays: { (s : Self) → (view s).is_available → (view s).crash_may_leave (view s).records };
 }

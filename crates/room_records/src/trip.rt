@@ -76,13 +76,17 @@ impl<S: Shelf> Shelf for TripShelf<S> {
     ghost use Rattle.room_records.specs.Rules.{NodeRules};
     ghost use Rattle.room_records.specs.Changes.{apply_changes, RulesHoldAfterEach, Untouched};
     ghost use Rattle.room_records.specs.Shelf.{ShelfCall, ShelfRead, Tells, fault_in, AreChildren};
-    ghost use Rattle.room_records.specs.Shelf.{AreNames, IsChildCount, IsChildNamed, LeavesOldOrNew, LeavesNew};
+    ghost use Rattle.room_records.specs.Shelf.{AreNames, IsChildCount, IsChildNamed, LeavesOldOrNew};
     ghost use Rattle.room_slots.specs.Slots.{kept_seq};
     ghost use Rattle.room_records.specs.Trip.{TripCall, trip_view};
 
     ghost view = { trip_view S.view };
 
     ghost available_is_intact = { λ s h. S.available_is_intact s.inner h };
+
+    ghost settled = { λ s left h may. S.settled s.inner left h may };
+
+    ghost stays = { λ s h. S.stays s.inner h };
 
     fn node(&mut self, id: u32) -> Result<Option<Node>, ShelfFault>
         ensures value { Tells (trip_view S.view self.old) (trip_view S.view self.new)
@@ -266,10 +270,6 @@ impl<S: Shelf> Shelf for TripShelf<S> {
             → RulesHoldAfterEach changes.now (trip_view S.view self.old).records →
             OnOk result ((trip_view S.view self.new).records
             ≡ apply_changes changes.now (trip_view S.view self.old).records) }
-        ensures settled { (trip_view S.view self.new).is_intact → (trip_view S.view self.old).is_laid_out
-            → RulesHoldAfterEach changes.now (trip_view S.view self.old).records →
-            OnOk result (LeavesNew (trip_view S.view self.new)
-            (λ left. left ≡ apply_changes changes.now (trip_view S.view self.old).records)) }
         ensures crash { (trip_view S.view self.old).is_laid_out
             → RulesHoldAfterEach changes.now (trip_view S.view self.old).records →
             LeavesOldOrNew (trip_view S.view self.old) (trip_view S.view self.new)

@@ -115,7 +115,6 @@ module _ {S : Type 0} {store : Ghosts S} {Commits : Database → Trees → Type 
       → CommitFrame store Commits a d r
   committed_then early late may = record {
     mode = late.mode;
-    settled = late.settled;
     was_open = λ clean is. early.was_open (was_clean late.crash clean) (late.was_open clean is);
     crash = survives_then _ _ _ _ _ _ (λ clean db none. absurd none) may early.crash late.crash;
   }

@@ -53,9 +53,6 @@ module _ {S : Type 0} (store : Ghosts S) where
       (result : Result T Error) : Type 0 where
     -- no transaction is left open
     pub mode : new.in_transaction ≡ false
-    -- what is seen after Ok is what was committed
-    pub settled : HasCleanDisk (state store new)
-        → OnOk result ((state store new).committed ≡ (state store new).now)
     -- a connection that is open was open
     pub was_open : HasCleanDisk (state store new) → IsTrue (state store new).is_open → IsTrue (state store old).is_open
     -- a crash leaves what could be left before, or what is committed

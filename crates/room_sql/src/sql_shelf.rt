@@ -1,12 +1,13 @@
 //! The shelf.
 
-ghost use Rattle.std.specs.Prelude.{◌≡◌, ◌≢◌, ◌≤◌, true, false, None, Ok, Err, IfOk, IfErr, OnOk, OnErr};
+ghost use Rattle.std.specs.Prelude.{◌≡◌, ◌≢◌, ◌≤◌, true, false, None, Ok, Err, IsTrue, IfOk, IfErr, OnOk, OnErr};
 ghost use Rattle.sqlite.specs.State.{HasCleanDisk};
 ghost use Rattle.sqlite.specs.Held.{state};
 ghost use Rattle.room_records.specs.Shelf.{FailureCounted};
 ghost use Rattle.room_records.specs.declared.shelf.ShelfFault.TheVariants.{Store};
 ghost use Rattle.room_sql.specs.Causes.{IsFaultOf};
 ghost use Rattle.room_sql.specs.NodeFacts.{KnowsNothing};
+ghost use Rattle.room_sql.specs.Resting.{rests_prop};
 
 use crate::node_facts::NodeFacts;
 use crate::rows::{
@@ -31,6 +32,8 @@ pub struct SqlShelf<S: Alter> {
     known: NodeFacts,
     ghost outside: { conn.in_transaction ≡ false },
     ghost there: { known.counted ≢ None → HasCleanDisk (state S.Store conn) → (state S.Store conn).is_open ≡ true },
+    ghost rests: { IsTrue (state S.Store conn).is_open
+        → (state S.Store conn).now.trees ≡ (state S.Store conn).committed.trees } by { rests_prop _ _ _ },
 }
 
 impl<S: Alter> SqlShelf<S> {
@@ -39,6 +42,7 @@ impl<S: Alter> SqlShelf<S> {
         ensures new { (result.conn ≡ conn) × (result.failures ≡ 0) }
         ensures known { KnowsNothing result.known }
     {
+        let _outside = conn.is_autocommit();
         SqlShelf {
             alloc,
             conn,
@@ -113,7 +117,7 @@ impl<S: Alter> Shelf for SqlShelf<S> {
     ghost use Rattle.room_records.specs.Rules.{NodeRules};
     ghost use Rattle.room_records.specs.Changes.{apply_changes, RulesHoldAfterEach, Untouched};
     ghost use Rattle.room_records.specs.Shelf.{ShelfCall, ShelfRead, Tells, fault_in, AreChildren};
-    ghost use Rattle.room_records.specs.Shelf.{AreNames, IsChildCount, IsChildNamed, LeavesOldOrNew, LeavesNew};
+    ghost use Rattle.room_records.specs.Shelf.{AreNames, IsChildCount, IsChildNamed, LeavesOldOrNew};
     ghost use Rattle.room_slots.specs.Slots.{kept_seq};
     ghost use Rattle.room_tables.specs.Texts.{find_node_text, find_child_text, list_children_text, count_children_text};
     ghost use Rattle.room_tables.specs.Texts.{list_entries_text, find_doc_text, find_session_text, find_slot_text};
@@ -123,10 +127,16 @@ impl<S: Alter> Shelf for SqlShelf<S> {
     ghost use Rattle.sqlite.specs.State.{Survives};
     ghost use Rattle.room_tables.specs.Steps.{StaysRoom};
     ghost use Rattle.room_sql.specs.SqlView.{sql_view, ReadCause, DecisionCause, CommitCause};
+    ghost use Rattle.room_sql.specs.Resting.{leaves_rest, leaves_these};
 
     ghost view = { sql_view S.Store };
 
     ghost available_is_intact = { λ s h. h.0 };
+
+    ghost settled = { λ s left h may.
+        leaves_rest (s.rests h.1) (λ trees. S.Store.settled s.conn.store trees h.1) left may.1 };
+
+    ghost stays = { λ s h. (h.0, leaves_these (s.rests h.1) (S.Store.stays s.conn.store h.1)) };
 
     fn node(&mut self, id: u32) -> Result<Option<Node>, ShelfFault>
         ensures value { Tells (sql_view S.Store self.old) (sql_view S.Store self.new)
@@ -138,6 +148,7 @@ impl<S: Alter> Shelf for SqlShelf<S> {
     {
         let _outside = self.conn.is_autocommit();
         let rows = reads::node_rows(&mut self.conn, id);
+        let _rests = self.conn.is_autocommit();
         let rows = or_fault(&mut self.failures, &mut self.known, rows)?;
         self.known = self.known.with_free(id, rows.is_empty());
         let found = one_node(self.alloc, rows.as_slice());
@@ -154,6 +165,7 @@ impl<S: Alter> Shelf for SqlShelf<S> {
     {
         let _outside = self.conn.is_autocommit();
         let rows = reads::named_rows(&mut self.conn, parent, name.text());
+        let _rests = self.conn.is_autocommit();
         let rows = or_fault(&mut self.failures, &mut self.known, rows)?;
         let found = first_node(self.alloc, rows.as_slice());
         or_fault(&mut self.failures, &mut self.known, found)
@@ -169,6 +181,7 @@ impl<S: Alter> Shelf for SqlShelf<S> {
     {
         let _outside = self.conn.is_autocommit();
         let rows = reads::child_rows(&mut self.conn, parent);
+        let _rests = self.conn.is_autocommit();
         let rows = or_fault(&mut self.failures, &mut self.known, rows)?;
         let found = all_nodes(self.alloc, rows.as_slice());
         or_fault(&mut self.failures, &mut self.known, found)
@@ -185,6 +198,7 @@ impl<S: Alter> Shelf for SqlShelf<S> {
     {
         let _outside = self.conn.is_autocommit();
         let rows = reads::name_rows(&mut self.conn, parent);
+        let _rests = self.conn.is_autocommit();
         let rows = or_fault(&mut self.failures, &mut self.known, rows)?;
         let found = all_names(self.alloc, rows.as_slice());
         or_fault(&mut self.failures, &mut self.known, found)
@@ -203,6 +217,7 @@ impl<S: Alter> Shelf for SqlShelf<S> {
         }
         let _outside = self.conn.is_autocommit();
         let rows = reads::count_rows(&mut self.conn, parent);
+        let _rests = self.conn.is_autocommit();
         let rows = or_fault(&mut self.failures, &mut self.known, rows)?;
         let found = one_count(rows.as_slice());
         let count = or_fault(&mut self.failures, &mut self.known, found)?;
@@ -220,6 +235,7 @@ impl<S: Alter> Shelf for SqlShelf<S> {
     {
         let _outside = self.conn.is_autocommit();
         let rows = reads::entry_rows(&mut self.conn, id);
+        let _rests = self.conn.is_autocommit();
         let rows = or_fault(&mut self.failures, &mut self.known, rows)?;
         let found = all_entries(self.alloc, rows.as_slice());
         or_fault(&mut self.failures, &mut self.known, found)
@@ -241,6 +257,7 @@ impl<S: Alter> Shelf for SqlShelf<S> {
         let _outside = self.conn.is_autocommit();
         let conn = &mut self.conn;
         let found = deciding::decide_entries(self.alloc, conn, id, subject, standing, wanted);
+        let _rests = self.conn.is_autocommit();
         or_fault(&mut self.failures, &mut self.known, found)
     }
 
@@ -254,6 +271,7 @@ impl<S: Alter> Shelf for SqlShelf<S> {
     {
         let _outside = self.conn.is_autocommit();
         let rows = reads::doc_rows(&mut self.conn, id);
+        let _rests = self.conn.is_autocommit();
         let rows = or_fault(&mut self.failures, &mut self.known, rows)?;
         let found = one_doc(self.alloc, rows.as_slice());
         or_fault(&mut self.failures, &mut self.known, found)
@@ -271,6 +289,7 @@ impl<S: Alter> Shelf for SqlShelf<S> {
         // The database is sound, so the column holds bytes.
         let _live = self.conn.schema();
         let rows = reads::size_rows(&mut self.conn, id);
+        let _rests = self.conn.is_autocommit();
         let rows = or_fault(&mut self.failures, &mut self.known, rows)?;
         let found = one_size(rows.as_slice());
         or_fault(&mut self.failures, &mut self.known, found)
@@ -286,6 +305,7 @@ impl<S: Alter> Shelf for SqlShelf<S> {
     {
         let _outside = self.conn.is_autocommit();
         let rows = reads::session_rows(&mut self.conn, sid.text());
+        let _rests = self.conn.is_autocommit();
         let rows = or_fault(&mut self.failures, &mut self.known, rows)?;
         let found = one_session(self.alloc, sid, rows.as_slice());
         or_fault(&mut self.failures, &mut self.known, found)
@@ -301,6 +321,7 @@ impl<S: Alter> Shelf for SqlShelf<S> {
     {
         let _outside = self.conn.is_autocommit();
         let rows = reads::slot_rows(&mut self.conn, sid.text(), slot);
+        let _rests = self.conn.is_autocommit();
         let rows = or_fault(&mut self.failures, &mut self.known, rows)?;
         let found = one_kept(rows.as_slice());
         or_fault(&mut self.failures, &mut self.known, found)
@@ -316,6 +337,7 @@ impl<S: Alter> Shelf for SqlShelf<S> {
     {
         let _outside = self.conn.is_autocommit();
         let rows = reads::seq_rows(&mut self.conn, sid.text(), slot);
+        let _rests = self.conn.is_autocommit();
         let rows = or_fault(&mut self.failures, &mut self.known, rows)?;
         let found = one_seq(rows.as_slice());
         or_fault(&mut self.failures, &mut self.known, found)
@@ -330,6 +352,7 @@ impl<S: Alter> Shelf for SqlShelf<S> {
     {
         let _outside = self.conn.is_autocommit();
         let rows = reads::next_rows(&mut self.conn);
+        let _rests = self.conn.is_autocommit();
         let rows = or_fault(&mut self.failures, &mut self.known, rows)?;
         let found = one_number(rows.as_slice());
         or_fault(&mut self.failures, &mut self.known, found)
@@ -342,10 +365,6 @@ impl<S: Alter> Shelf for SqlShelf<S> {
             → RulesHoldAfterEach changes.now (sql_view S.Store self.old).records →
             OnOk result ((sql_view S.Store self.new).records
             ≡ apply_changes changes.now (sql_view S.Store self.old).records) }
-        ensures settled { (sql_view S.Store self.new).is_intact → (sql_view S.Store self.old).is_laid_out
-            → RulesHoldAfterEach changes.now (sql_view S.Store self.old).records →
-            OnOk result (LeavesNew (sql_view S.Store self.new)
-            (λ left. left ≡ apply_changes changes.now (sql_view S.Store self.old).records)) }
         ensures crash { (sql_view S.Store self.old).is_laid_out
             → RulesHoldAfterEach changes.now (sql_view S.Store self.old).records →
             LeavesOldOrNew (sql_view S.Store self.old) (sql_view S.Store self.new)
@@ -361,6 +380,7 @@ impl<S: Alter> Shelf for SqlShelf<S> {
     {
         let _outside = self.conn.is_autocommit();
         let done = writes::commit(&mut self.conn, self.known.free(), changes);
+        let _rests = self.conn.is_autocommit();
         or_fault(&mut self.failures, &mut self.known, done)?;
         self.known = self.known.after(changes);
         Ok(())

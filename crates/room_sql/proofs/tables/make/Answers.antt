@@ -21,7 +21,6 @@ returns-clause-ok g c clean =
 pub returns-clause-frame : goal.returns-clause-frame
 returns-clause-frame g c = record {
   mode = c.commit_fresh.ensures.frame.mode;
-  settled = c.commit_fresh.ensures.frame.settled;
   was_open = c.commit_fresh.ensures.frame.was_open;
   crash = survives_weaker _ _ _ _ (λ _ db h none. ((h none).0, fresh g c _ (h none).1))
       c.commit_fresh.ensures.frame.crash;

@@ -20,7 +20,6 @@ returns-clause-frame g c =
     let same : c.commit.new.self.0 ≡ c.conn-2-1.given.0 = search rules in
     record {
       mode = search rules;
-      settled = search rules;
       was_open = search rules;
       crash = rw (← same) (survives_then (state g.S.Store old) (state g.S.Store last)
           (state g.S.Store c.commit.new.self.0) _ _ (MayBeMovedWith c.args.next (state g.S.Store old).now)

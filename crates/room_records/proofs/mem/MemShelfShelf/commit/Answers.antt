@@ -20,11 +20,6 @@ returns-clause-ok c = λ _ _ hold.
     after_copies _ _ _ c.in_ok-steps.steps.items c.args.changes.now c.prepare.ensures.same
     c.in_ok-steps.ensures.steps c.apply_all.ensures.records hold
 
-pub returns-clause-settled : goal.returns-clause-settled
-returns-clause-settled c = λ _ _ hold left is.
-    is ∙ after_copies _ _ _ c.in_ok-steps.steps.items c.args.changes.now c.prepare.ensures.same
-    c.in_ok-steps.ensures.steps c.apply_all.ensures.records hold
-
 pub returns-clause-crash : goal.returns-clause-crash
 returns-clause-crash c = λ _ hold left is.
     inr (is ∙ after_copies _ _ _ c.in_ok-steps.steps.items c.args.changes.now c.prepare.ensures.same
