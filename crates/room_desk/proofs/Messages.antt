@@ -22,7 +22,6 @@ use Rattle.room_desk.specs.History.{History}
 use Rattle.room_desk.specs.Representation.{StandsFor}
 use Rattle.room_desk.specs.Serving.{AnswersOrDelays, AnswersMessage, DeskCall, Answered, MayAnswer}
 use Rattle.room_desk.proofs.Calls.{no_call, calls_then}
-use Rattle.room_desk.proofs.Crashes.{nothing_settled}
 
 -- an answer that leaves the shelf as it was
 pub stays : (ask : Result AskModel WireFault) (s : View) (answered : AnswerModel)
@@ -36,7 +35,6 @@ stays ask s answered delays says = record {
   refused = λ h d away. refl;
   idle = λ h d start past stands idle. refl;
   crash = λ k start past stands left may. inl may;
-  settled = λ k start past stands changes other. absurd (nothing_settled past ask answered delays changes other);
 }
 
 pub question_stays : (q : QuestionModel) (s : View) (answered : AnswerModel)

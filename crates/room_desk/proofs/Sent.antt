@@ -1,7 +1,6 @@
 -- Reads before a request is answered, and what is answered by them alone.
-use Rattle.std.proofs.Common.{◌≡◌, ◌∙◌, refl, sym, true, ◌∷◌, Bool, Option, None, Some}
+use Rattle.std.proofs.Common.{◌∙◌, refl, ◌∷◌, Bool, Option, None, Some}
 use Rattle.std.proofs.Common.{Result, inl, inr}
-use Rattle.std.proofs.lemmas.Bool.{false≢true}
 use Rattle.room_slots.specs.KeptModel.{KeptModel}
 use Rattle.room_records.specs.declared.shelf.ShelfFault.{ShelfFault}
 use Rattle.room_records.specs.declared.shelf.ShelfFault.TheVariants.{Store}
@@ -19,7 +18,7 @@ use Rattle.room_desk.specs.AnswerModel.{AnswerModel, Refused}
 use Rattle.room_desk.specs.Bodies.{KeepsNumber, IsText, AnswersBody}
 use Rattle.room_desk.specs.History.{History}
 use Rattle.room_desk.specs.Representation.{RepresentsHistory, StandsFor}
-use Rattle.room_desk.specs.Serving.{Answered, AnswersOrDelays, ask_changes_rows}
+use Rattle.room_desk.specs.Serving.{Answered, AnswersOrDelays}
 use Rattle.room_desk.proofs.Alike.{stand_after_idle}
 use Rattle.room_desk.proofs.Bodies.{request_of, is_text, not_accepted, answer_is}
 use Rattle.room_desk.proofs.Calls.{one_call}
@@ -42,7 +41,6 @@ delayed_by_read ask a b fault read = record {
   refused = λ h d away. read.same h d;
   idle = λ h d start past stand idle. read.same h d;
   crash = λ k start past stands left may. inl (read.crash left may);
-  settled = λ k start past stands changes other. absurd (other refl);
 }
 
 -- what is asked, by the command of the body
@@ -62,10 +60,6 @@ module _ {start : Room} {past : History} {r : Records} (stand : RepresentsHistor
     stand_after_idle start r past (Slot (request_of sent asked)) (not_accepted stand keeps asked) stand,
   )
   joins wanted answered (inr is) = (past, inr (is, refl), stand)
-
-  changes_nothing : (wanted : Option (CommandModel × Bool)) → ask_changes_rows past (asked_of sent wanted) ≡ true → ⊥
-  changes_nothing None changes = absurd (false≢true changes)
-  changes_nothing (Some asked) changes = false≢true (sym (not_accepted stand keeps asked) ∙ changes)
 
 -- what is answered by the kept text, after a read of it
 pub answered_by_kept : (sent : SentRequest) (wanted : Option (CommandModel × Bool)) (kept : KeptModel) (a b : View)
@@ -88,7 +82,4 @@ answered_by_kept sent wanted kept a b answered read there keeps says = record {
   refused = λ h d away. read.same h d;
   idle = λ h d start past stand idle. read.same h d;
   crash = λ k start past stands left may. inl (read.crash left may);
-  settled = λ k start past stands changes other.
-      let stood = stands (read.call.was_available (there k)) in
-      absurd (changes_nothing stood.1 sent kept (keeps (there k) stood.0) wanted changes);
 }

@@ -1,6 +1,6 @@
 -- What a stop may leave after several events, and an event that is sent again after it.
-use Rattle.std.proofs.Common.{◌≡◌, ◌≢◌, suc, refl, ap, sym, ◌∙◌, arith, ◌⊎◌, inl, inr, Ok, true, false, List, [], ◌∷◌}
-use Rattle.std.proofs.lemmas.Bool.{both_ways, cases_Bool}
+use Rattle.std.proofs.Common.{◌≡◌, suc, refl, ap, sym, subst, ◌∙◌, arith, ◌⊎◌, inl, inr, Ok, true, false, List, [], ◌∷◌}
+use Rattle.std.proofs.lemmas.Bool.{both_ways}
 use Rattle.std.proofs.lemmas.Grind.{common_steps}
 use Rattle.room_records.specs.Records.{Records}
 use Rattle.room_records.specs.Room.{Room}
@@ -9,26 +9,16 @@ use Rattle.room_wire.specs.declared.answers.code.Code.TheVariants.{Delay, RetryU
 use Rattle.room_wire.specs.Asks.AskOf.{Event}
 use Rattle.room_wire.specs.Asks.EventModel.{EventModel}
 use Rattle.room_desk.specs.AnswerModel.{AnswerModel, Refused}
-use Rattle.room_desk.specs.History.{History, answer_to, changes_rows, leaves_no_reply}
-use Rattle.room_desk.specs.Representation.{StandsFor, InTurn, Run, Step}
+use Rattle.room_desk.specs.History.{History, answer_to, leaves_no_reply}
+use Rattle.room_desk.specs.Representation.{RepresentsHistory, StandsFor, InTurn, Run, Step}
 use Rattle.room_desk.specs.Serving.{Answered, EventAnswered}
-use Rattle.room_desk.specs.Stops.{is_delay, in_doubt, doubt_after, StandsInDoubt}
+use Rattle.room_desk.specs.Stops.{is_delay, AreDelayed, in_doubt, doubt_after, StandsInDoubt}
 use Rattle.room_desk.proofs.Repeats.{again_is_idle, same_answer_again, uncached_again}
-use Rattle.room_desk.proofs.Alike.{alike_after_idle, alike_swapped, alike_then, stand_alike, changes_alike}
-use Rattle.room_desk.proofs.Alike.{stand_after_idle}
+use Rattle.room_desk.proofs.Alike.{alike_after_idle, alike_swapped, stand_alike}
 
 -- the answer by a history is never DELAY
 never_delay : (start : Room) (past : History) (event : EventModel) → is_delay (answer_to start past event) ≡ false
 never_delay start past event = grind (arith, common_steps)
-
--- an event that changes nothing leaves doubt as it is
-idle_below : (start : Room) (past : History) (doubted : List EventModel) (event : EventModel) (r : Records)
-    → changes_rows past event ≡ false → StandsInDoubt start past doubted r
-    → StandsInDoubt start (event ∷ past) doubted r
-idle_below start past doubted event r idle (inl stand) = inl (stand_after_idle start r past event idle stand)
-idle_below start past doubted event r idle (inr (other, at, (changes, stand))) =
-    let alike = alike_after_idle start past event idle in
-    inr (other, at, (sym (changes_alike alike other) ∙ changes, stand_alike (alike_then alike other) r stand))
 
 -- an event that was answered: it joins the history, or is answered DELAY
 module _ {before after : View} {event : EventModel} {answered : AnswerModel}
@@ -41,57 +31,62 @@ module _ {before after : View} {event : EventModel} {answered : AnswerModel}
     | inr (is, same) ↦ inr (is, rw same at stand)
   ]
 
-  -- one that changes what is kept and was not answered DELAY: nothing is in doubt then
-  pub after_settled : changes_rows past event ≡ true → answered ≢ Refused Delay
-      → StandsFor start (event ∷ past) after × LeavesNew after (StandsInDoubt start (event ∷ past) [])
-  after_settled changes other = (
-    elim joins_or_not [ inl joins ↦ joins.1 | inr delays ↦ absurd (other delays.0) ],
-    (λ left may. inl (call.settled intact start past stands changes other left may).1),
+  -- one that found the store there and left it gone
+  pub is_delayed : (after.is_available → ⊥) → answered ≡ Refused Delay
+  is_delayed gone = elim joins_or_not [
+    | inl (is, stand) ↦ absurd (gone (call.alive intact event refl (λ delay. both_ways _
+        (ap is_delay is ∙ never_delay start past event) (ap is_delay delay))))
+    | inr (is, stand) ↦ is
+  ]
+
+  -- a store that is gone stays as it is
+  pub stays_shut : (before.is_available → ⊥) → (answered ≡ Refused Delay) × StandsFor start past after
+      × ((left : Records) → after.crash_may_leave left → before.crash_may_leave left)
+  stays_shut gone = (
+    is_delayed (λ there. gone (call.frame.was_available there)),
+    λ there. absurd (gone (call.frame.was_available there)),
+    λ left may. elim (call.crash intact start past stands left may) [
+      | inl old ↦ old
+      | inr made ↦ absurd (gone made.0)
+    ],
   )
 
-  module _ (doubted : List EventModel) (leaves : LeavesNew before (StandsInDoubt start past doubted)) where
-    in_doubt_as_before : changes_rows past event ≡ false → LeavesNew after (StandsInDoubt start (event ∷ past) doubted)
-    in_doubt_as_before idle = λ left may. elim (call.crash intact start past stands left may) [
-      | inl old ↦ idle_below start past doubted event left idle (leaves left old)
-      | inr made ↦ absurd (both_ways _ idle made.0)
-    ]
+module _ {S : Type 0} (view : S → View)
+    (settled : (s : S) (left : Records) → (view s).is_available → (view s).crash_may_leave left
+    → left ≡ (view s).records) where
+  -- while the store is there, a stop leaves what was answered and nothing else
+  pub at_rest : (s : S) (start : Room) (past : History) → (view s).is_available → StandsFor start past (view s)
+      → LeavesNew (view s) (λ left. RepresentsHistory start left past)
+  at_rest s start past there stands = λ left may.
+      subst (λ r. RepresentsHistory start r past) (sym (settled s left there may)) (stands there).1
 
-    one_more_in_doubt : LeavesNew after (StandsInDoubt start past (event ∷ doubted))
-    one_more_in_doubt = λ left may. elim (call.crash intact start past stands left may) [
+  module _ {before after : S} {event : EventModel} {answered : AnswerModel}
+      (call : EventAnswered view before event answered after) (intact : (view after).is_intact)
+      (start : Room) (past : History) (stands : StandsFor start past (view before))
+      (doubted : List EventModel) (leaves : LeavesNew (view before) (StandsInDoubt start past doubted)) where
+    pub one_more : LeavesNew (view after) (StandsInDoubt start past (event ∷ doubted))
+    one_more = λ left may. elim (call.crash intact start past stands left may) [
       | inl old ↦ elim (leaves left old) [
         | inl stand ↦ inl stand
         | inr (other, at, stand) ↦ inr (other, (suc at.0, omega (arith, at.1), at.2), stand)
       ]
-      | inr made ↦ inr (event, (0, omega arith, refl), made)
+      | inr made ↦ inr (event, (0, omega arith, refl), made.1)
     ]
 
-    -- the history that it leads to, and what is in doubt then
-    pub after_event : (next : History) × Step start past event answered next × StandsFor start next after
-        × LeavesNew after (StandsInDoubt start next (doubt_after past doubted (Ok (Event event)) answered))
-    after_event = elim joins_or_not [
+    -- the history that an event leads to, and what is in doubt then
+    pub after_event : (next : History) × Step start past event answered next × StandsFor start next (view after)
+        × LeavesNew (view after) (StandsInDoubt start next (doubt_after doubted (Ok (Event event)) answered))
+    after_event = elim (joins_or_not call intact start past stands) [
       | inl (is, stand) ↦ (let other : is_delay answered ≡ false = ap is_delay is ∙ never_delay start past event in (
         event ∷ past,
         inl (is, refl),
         stand,
-        rw other (elim (cases_Bool (changes_rows past event)) [
-          | inl changes ↦ rw changes (after_settled changes (λ delay. both_ways _ other (ap is_delay delay))).1
-          | inr idle ↦ rw idle (in_doubt_as_before idle)
-        ]),
+        rw other (λ left may. inl (at_rest after start (event ∷ past)
+            (call.alive intact event refl (λ delay. both_ways _ other (ap is_delay delay))) stand left may)),
       ))
-      | inr (is, stand) ↦ (past, inr (is, refl), stand, rw (ap is_delay is) one_more_in_doubt)
+      | inr (is, stand) ↦ (past, inr (is, refl), stand, rw (ap is_delay is) one_more)
     ]
 
--- what is in doubt after an event, and after those that follow
-doubt_goes_on : (start : Room) (past next : History) (doubted : List EventModel) (event : EventModel)
-    (answered : AnswerModel) (events : List EventModel) (answers : List AnswerModel)
-    → Step start past event answered next
-    → in_doubt next (doubt_after past doubted (Ok (Event event)) answered) events answers
-    ≡ in_doubt past doubted (event ∷ events) (answered ∷ answers)
-doubt_goes_on start past next doubted event answered events answers step =
-    grind (arith, common_steps, never_delay start past event)
-
-module _ {S : Type 0} (view : S → View) where
-  -- what is intact after a run was intact before it
   intact_before : (before after : S) (events : List EventModel) (answers : List AnswerModel)
       → InTurn (EventAnswered view) before events answers after → (view after).is_intact → (view before).is_intact
   intact_before before after [] [] is intact = rw is at intact
@@ -100,44 +95,66 @@ module _ {S : Type 0} (view : S → View) where
   intact_before before after (e ∷ events) (a ∷ answers) (mid, call, run) intact =
       call.frame.was_intact (intact_before mid after events answers run intact)
 
-  -- what a run from a history leaves
-  abbrev Left : S → List EventModel → List AnswerModel → Room → History → List EventModel → Type 0
-  Left after events answers start past doubted =
-      (next : History) × Run start past events answers next × StandsFor start next (view after)
-      × LeavesNew (view after) (StandsInDoubt start next (in_doubt past doubted events answers))
-
   -- events in turn, from rows in doubt
-  pub left_in_doubt : (before after : S) (events : List EventModel) (answers : List AnswerModel)
+  left_in_doubt : (before after : S) (events : List EventModel) (answers : List AnswerModel)
       (start : Room) (past : History) (doubted : List EventModel)
       → InTurn (EventAnswered view) before events answers after → (view after).is_intact
       → StandsFor start past (view before) → LeavesNew (view before) (StandsInDoubt start past doubted)
-      → Left after events answers start past doubted
+      → (next : History) × Run start past events answers next × StandsFor start next (view after)
+      × LeavesNew (view after) (StandsInDoubt start next (in_doubt doubted events answers))
   left_in_doubt before after [] [] start past doubted is intact stands leaves = (past, refl, rw is stands, rw is leaves)
   left_in_doubt before after [] (a ∷ answers) start past doubted none intact stands leaves = absurd none
   left_in_doubt before after (e ∷ events) [] start past doubted none intact stands leaves = absurd none
   left_in_doubt before after (event ∷ events) (answered ∷ answers) start past doubted (mid, call, run)
       intact stands leaves =
-      let there = intact_before mid after events answers run intact in
-      let (next, step, stand, left) = after_event call there start past stands doubted leaves in
-      let later = left_in_doubt mid after events answers start next _ run intact stand left in (
-        later.0,
-        (next, step, later.1),
-        later.2,
-        rw (doubt_goes_on start past next doubted event answered events answers step) at later.3,
-      )
+      let (next, step, stand, left) = after_event call (intact_before mid after events answers run intact)
+      start past stands doubted leaves in
+      let later = left_in_doubt mid after events answers start next _ run intact stand left in
+      (later.0, (next, step, later.1), later.2, later.3)
 
-  -- the same from an answer on that settled: nothing is asked of what a crash might have left before it
-  pub left_since_reply : (before mid after : S) (event : EventModel) (answered : AnswerModel)
+  -- and from a store that is there
+  pub left_from_there : (before after : S) (events : List EventModel) (answers : List AnswerModel)
+      (start : Room) (past : History) → (view before).is_available → StandsFor start past (view before)
+      → InTurn (EventAnswered view) before events answers after → (view after).is_intact
+      → (next : History) × Run start past events answers next × StandsFor start next (view after)
+      × LeavesNew (view after) (StandsInDoubt start next (in_doubt [] events answers))
+  left_from_there before after events answers start past there stands run intact =
+      left_in_doubt before after events answers start past [] run intact stands
+      (λ left may. inl (at_rest before start past there stands left may))
+
+  -- events over a store that is gone
+  after_shut : (before after : S) (events : List EventModel) (answers : List AnswerModel) (start : Room)
+      (past : History) → ((view before).is_available → ⊥)
+      → InTurn (EventAnswered view) before events answers after → (view after).is_intact
+      → StandsFor start past (view before)
+      → AreDelayed answers × StandsFor start past (view after)
+      × ((left : Records) → (view after).crash_may_leave left → (view before).crash_may_leave left)
+  after_shut before after [] [] start past gone is intact stands = (tt, rw is stands, rw is (λ left may. may))
+  after_shut before after [] (a ∷ answers) start past gone none intact stands = absurd none
+  after_shut before after (e ∷ events) [] start past gone none intact stands = absurd none
+  after_shut before after (event ∷ events) (answered ∷ answers) start past gone (mid, call, run) intact stands =
+      let (is, stand, left) = stays_shut call (intact_before mid after events answers run intact)
+      start past stands gone in
+      let later = after_shut mid after events answers start past
+      (λ there. gone (call.frame.was_available there)) run intact stand in
+      ((is, later.0), later.1, λ r may. left r (later.2 r may))
+
+  -- the event in which a fault shut the store
+  pub left_by_shutting : (before mid after : S) (event : EventModel) (answered : AnswerModel)
       (events : List EventModel) (answers : List AnswerModel) (start : Room) (past : History)
-      → EventAnswered view before event answered mid
+      → (view before).is_available → StandsFor start past (view before)
+      → EventAnswered view before event answered mid → ((view mid).is_available → ⊥)
       → InTurn (EventAnswered view) mid events answers after → (view after).is_intact
-      → StandsFor start past (view before) → changes_rows past event ≡ true → answered ≢ Refused Delay
-      → Left after events answers start (event ∷ past) []
-  left_since_reply before mid after event answered events answers start past call run intact stands changes other =
-      let settled = after_settled call (intact_before mid after events answers run intact)
-      start past stands changes other in
-      left_in_doubt mid after events answers start (event ∷ past) [] run intact settled.0 settled.1
+      → AreDelayed (answered ∷ answers) × StandsFor start past (view after)
+      × LeavesNew (view after) (StandsInDoubt start past (event ∷ []))
+  left_by_shutting before mid after event answered events answers start past there stands call gone run intact =
+      let was = intact_before mid after events answers run intact in
+      let left = one_more call was start past stands []
+      (λ r may. inl (at_rest before start past there stands r may)) in
+      let later = after_shut mid after events answers start past gone run intact (λ h. absurd (gone h)) in
+      ((is_delayed call was start past stands gone, later.0), later.1, λ r may. left r (later.2 r may))
 
+module _ {S : Type 0} (view : S → View) where
   -- an event that is sent again after a stop
   module _ (found after : S) (event : EventModel) (answered : AnswerModel) (start : Room) (past : History)
       (call : EventAnswered view found event answered after) (intact : (view after).is_intact) where

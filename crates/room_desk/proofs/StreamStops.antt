@@ -1,6 +1,7 @@
 -- What a stop may leave after several messages.
-use Rattle.std.proofs.Common.{◌≡◌, ℕ, refl, ◌⊎◌, inl, inr, Result, Ok, Err, ◌≢◌, true, List, [], ◌∷◌}
+use Rattle.std.proofs.Common.{◌≡◌, ℕ, refl, ◌⊎◌, inl, inr, Result, Ok, Err, List, [], ◌∷◌}
 use Rattle.room_acl.specs.SubjectModel.{SubjectModel}
+use Rattle.room_records.specs.Records.{Records}
 use Rattle.room_records.specs.Room.{Room}
 use Rattle.room_records.specs.Shelf.{View, LeavesNew, LeavesOldOrNew}
 use Rattle.room_wire.specs.declared.fault.WireFault.{WireFault}
@@ -10,33 +11,11 @@ use Rattle.room_wire.specs.Asks.EventModel.{EventModel}
 use Rattle.room_wire.specs.Messages.MessageModel.{MessageModel}
 use Rattle.room_wire.specs.Serving.Outputs.{Outputs}
 use Rattle.room_desk.specs.AnswerModel.{AnswerModel, Refused}
-use Rattle.room_desk.specs.History.{History, changes_rows}
+use Rattle.room_desk.specs.History.{History}
 use Rattle.room_desk.specs.Representation.{StandsFor}
 use Rattle.room_desk.specs.Serving.{Answered, MayAnswer, AnswersOrDelays}
 use Rattle.room_desk.specs.Stops.{doubt_after, StandsInDoubt, Doubt, no_doubt, AnswersInDoubt}
-use Rattle.room_desk.proofs.Stops.{after_event, after_settled}
-
--- one message that was answered, and what is in doubt after it
-module _ (start : Room) (past : History) (doubted : List EventModel) (before after : View) (answered : AnswerModel)
-    (intact : after.is_intact) (stands : StandsFor start past before)
-    (leaves : LeavesNew before (StandsInDoubt start past doubted)) where
-  -- what asks no event adds nothing
-  kept : {P Q : Type 0} (next : History) → (P × (next ≡ past)) ⊎ (Q × (next ≡ past))
-      → LeavesOldOrNew before after (λ left. ⊥) → LeavesNew after (StandsInDoubt start next doubted)
-  kept next step crash =
-      let same : next ≡ past = elim step [ inl is ↦ is.1 | inr is ↦ is.1 ] in
-      rw same (λ left may. elim (crash left may) [ inl old ↦ leaves left old | inr none ↦ absurd none ])
-
-  pub after_ask : (ask : Result AskModel WireFault) → Answered ask before answered after
-      → (next : History) × AnswersOrDelays start past ask answered next × StandsFor start next after
-      × LeavesNew after (StandsInDoubt start next (doubt_after past doubted ask answered))
-  after_ask (Ok (Check question)) call =
-      let (next, step, stand) = call.step intact start past stands in
-      (next, step, stand, kept next step (call.crash intact start past stands))
-  after_ask (Err fault) call =
-      let (next, step, stand) = call.step intact start past stands in
-      (next, step, stand, kept next step (call.crash intact start past stands))
-  after_ask (Ok (Event event)) call = after_event call intact start past stands doubted leaves
+use Rattle.room_desk.proofs.Stops.{after_event, at_rest, one_more, is_delayed}
 
 module _ {S : Type 0} (view : S → View) (users : List SubjectModel) where
   intact_before : (before after : S) (ms : List MessageModel) (out : List ℕ)
@@ -45,32 +24,90 @@ module _ {S : Type 0} (view : S → View) (users : List SubjectModel) where
   intact_before before after (m ∷ ms) out run intact =
       run.3.frame.was_intact (intact_before run.1 after ms run.2 run.4 intact)
 
-  -- messages in turn, from rows in doubt
-  pub stream_in_doubt : (before after : S) (ms : List MessageModel) (out : List ℕ) (start : Room) (known : Doubt)
-      → Outputs (MayAnswer view users) before ms out after → (view after).is_intact
-      → StandsFor start known.past (view before)
-      → LeavesNew (view before) (StandsInDoubt start known.past known.doubted)
-      → (next : Doubt) × Outputs (AnswersInDoubt users start) known ms out next
-      × StandsFor start next.past (view after) × LeavesNew (view after) (StandsInDoubt start next.past next.doubted)
-  stream_in_doubt before after [] out start known run intact stands leaves =
-      (known, (run.0, refl), rw run.1 stands, rw run.1 leaves)
-  stream_in_doubt before after (m ∷ ms) out start known run intact stands leaves =
-      let one = after_ask start known.past known.doubted (view before) (view run.1) run.0
-      (intact_before run.1 after ms run.2 run.4 intact) stands leaves (ask_of users m) run.3 in
-      let mid : Doubt =
-      record { past = one.0; doubted = doubt_after known.past known.doubted (ask_of users m) run.0 } in
-      let later = stream_in_doubt run.1 after ms run.2 start mid run.4 intact one.2 one.3 in
-      (later.0, (run.0, mid, run.2, (one.1, refl), later.1, run.5), later.2, later.3)
+  -- messages over a store that is gone leave it so
+  after_shut : (before after : S) (ms : List MessageModel) (out : List ℕ) (start : Room) (past : History)
+      → ((view before).is_available → ⊥) → Outputs (MayAnswer view users) before ms out after
+      → (view after).is_intact → ((view after).is_available → ⊥)
+      × ((left : Records) → (view after).crash_may_leave left → (view before).crash_may_leave left)
+  after_shut before after [] out start past gone run intact = rw run.1 (gone, λ left may. may)
+  after_shut before after (m ∷ ms) out start past gone run intact =
+      let was = intact_before run.1 after ms run.2 run.4 intact in
+      let later = after_shut run.1 after ms run.2 start past
+      (λ there. gone (run.3.frame.was_available there)) run.4 intact in (
+        later.0,
+        λ left may. elim (run.3.crash was start past (λ h. absurd (gone h)) left (later.1 left may)) [
+          | inl old ↦ old
+          | inr made ↦ absurd (gone made.0)
+        ],
+      )
 
-  -- the same from a message on whose answer settled: nothing is asked of what a crash might have left before it
-  pub stream_since_reply : (before mid after : S) (m : MessageModel) (event : EventModel) (answered : AnswerModel)
-      (ms : List MessageModel) (out : List ℕ) (start : Room) (past : History)
-      → ask_of users m ≡ Ok (Event event) → MayAnswer view users before m answered mid
-      → Outputs (MayAnswer view users) mid ms out after → (view after).is_intact
-      → StandsFor start past (view before) → changes_rows past event ≡ true → answered ≢ Refused Delay
-      → (next : Doubt) × Outputs (AnswersInDoubt users start) (no_doubt (event ∷ past)) ms out next
-      × StandsFor start next.past (view after) × LeavesNew (view after) (StandsInDoubt start next.past next.doubted)
-  stream_since_reply before mid after m event answered ms out start past asks call run intact stands changes other =
-      let settled = after_settled (rw asks at call) (intact_before mid after ms out run intact)
-      start past stands changes other in
-      stream_in_doubt mid after ms out start (no_doubt (event ∷ past)) run intact settled.0 settled.1
+module _ {S : Type 0} (view : S → View)
+    (settled : (s : S) (left : Records) → (view s).is_available → (view s).crash_may_leave left
+    → left ≡ (view s).records) where
+  -- one message that was answered, and what is in doubt after it
+  module _ (start : Room) (past : History) (doubted : List EventModel) (before after : S) (answered : AnswerModel)
+      (intact : (view after).is_intact) (stands : StandsFor start past (view before))
+      (leaves : LeavesNew (view before) (StandsInDoubt start past doubted)) where
+    -- what asks no event adds nothing
+    kept : {P Q There : Type 0} (next : History) → (P × (next ≡ past)) ⊎ (Q × (next ≡ past))
+        → LeavesOldOrNew (view before) (view after) (λ left. There × ⊥)
+        → LeavesNew (view after) (StandsInDoubt start next doubted)
+    kept next step crash =
+        let same : next ≡ past = elim step [ inl is ↦ is.1 | inr is ↦ is.1 ] in
+        rw same (λ left may. elim (crash left may) [ inl old ↦ leaves left old | inr none ↦ absurd none.1 ])
+
+    after_ask : (ask : Result AskModel WireFault) → Answered ask (view before) answered (view after)
+        → (next : History) × AnswersOrDelays start past ask answered next × StandsFor start next (view after)
+        × LeavesNew (view after) (StandsInDoubt start next (doubt_after doubted ask answered))
+    after_ask (Ok (Check question)) call =
+        let (next, step, stand) = call.step intact start past stands in
+        (next, step, stand, kept next step (call.crash intact start past stands))
+    after_ask (Err fault) call =
+        let (next, step, stand) = call.step intact start past stands in
+        (next, step, stand, kept next step (call.crash intact start past stands))
+    after_ask (Ok (Event event)) call =
+        after_event view settled {before = before} {after = after} call intact start past stands doubted leaves
+
+  module _ (users : List SubjectModel) where
+    -- messages in turn, from rows in doubt
+    stream_in_doubt : (before after : S) (ms : List MessageModel) (out : List ℕ) (start : Room) (known : Doubt)
+        → Outputs (MayAnswer view users) before ms out after → (view after).is_intact
+        → StandsFor start known.past (view before)
+        → LeavesNew (view before) (StandsInDoubt start known.past known.doubted)
+        → (next : Doubt) × Outputs (AnswersInDoubt users start) known ms out next
+        × StandsFor start next.past (view after) × LeavesNew (view after) (StandsInDoubt start next.past next.doubted)
+    stream_in_doubt before after [] out start known run intact stands leaves =
+        (known, (run.0, refl), rw run.1 stands, rw run.1 leaves)
+    stream_in_doubt before after (m ∷ ms) out start known run intact stands leaves =
+        let one = after_ask start known.past known.doubted before run.1 run.0
+        (intact_before view users run.1 after ms run.2 run.4 intact) stands leaves (ask_of users m) run.3 in
+        let mid : Doubt =
+        record { past = one.0; doubted = doubt_after known.doubted (ask_of users m) run.0 } in
+        let later = stream_in_doubt run.1 after ms run.2 start mid run.4 intact one.2 one.3 in
+        (later.0, (run.0, mid, run.2, (one.1, refl), later.1, run.5), later.2, later.3)
+
+    -- and from a store that is there
+    pub stream_from_there : (before after : S) (ms : List MessageModel) (out : List ℕ) (start : Room) (past : History)
+        → (view before).is_available → StandsFor start past (view before)
+        → Outputs (MayAnswer view users) before ms out after → (view after).is_intact
+        → (next : Doubt) × Outputs (AnswersInDoubt users start) (no_doubt past) ms out next
+        × StandsFor start next.past (view after) × LeavesNew (view after) (StandsInDoubt start next.past next.doubted)
+    stream_from_there before after ms out start past there stands run intact =
+        stream_in_doubt before after ms out start (no_doubt past) run intact stands
+        (λ left may. inl (at_rest view settled before start past there stands left may))
+
+    -- the message in which a fault shut the store
+    pub stream_by_shutting : (before mid after : S) (m : MessageModel) (event : EventModel) (answered : AnswerModel)
+        (ms : List MessageModel) (out : List ℕ) (start : Room) (past : History)
+        → (view before).is_available → StandsFor start past (view before) → ask_of users m ≡ Ok (Event event)
+        → MayAnswer view users before m answered mid → ((view mid).is_available → ⊥)
+        → Outputs (MayAnswer view users) mid ms out after → (view after).is_intact
+        → (answered ≡ Refused Delay) × StandsFor start past (view after)
+        × LeavesNew (view after) (StandsInDoubt start past (event ∷ []))
+    stream_by_shutting before mid after m event answered ms out start past there stands asks call gone run intact =
+        let was = intact_before view users mid after ms out run intact in
+        let one = rw asks at call in
+        let left = one_more view settled {before = before} {after = mid} one was start past stands []
+        (λ r may. inl (at_rest view settled before start past there stands r may)) in
+        let later = after_shut view users mid after ms out start past gone run intact in
+        (is_delayed one was start past stands gone, λ h. absurd (later.0 h), λ r may. left r (later.1 r may))

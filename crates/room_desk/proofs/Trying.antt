@@ -4,7 +4,7 @@ use Rattle.std.proofs.lemmas.Bool.{both_ways}
 use Rattle.room_records.specs.declared.shelf.ShelfFault.{ShelfFault}
 use Rattle.room_records.specs.Records.{Records}
 use Rattle.room_records.specs.Room.{Room}
-use Rattle.room_records.specs.Shelf.{View, ShelfCall, ShelfRead, fault_in, LeavesOldOrNew, LeavesNew}
+use Rattle.room_records.specs.Shelf.{View, ShelfCall, ShelfRead, fault_in, LeavesOldOrNew}
 use Rattle.room_records.proofs.Shelves.{call_then}
 use Rattle.room_wire.specs.declared.answers.answer.Answer.{Answer}
 use Rattle.room_wire.specs.Asks.EventModel.{EventModel}
@@ -14,7 +14,7 @@ use Rattle.room_desk.specs.Representation.{RepresentsHistory, StandsFor}
 use Rattle.room_desk.specs.Trying.{EventTried, JoinsHistory}
 use Rattle.room_desk.proofs.Alike.{stand_after_idle}
 use Rattle.room_desk.proofs.Crashes.{leaves_either}
-use Rattle.room_desk.proofs.Results.{if_ok_then, if_ok_after}
+use Rattle.room_desk.proofs.Results.{if_ok_then}
 
 -- a call that answers Ok leaves the store there
 pub there_where_ok : {a b : View} (r : Result Answer ShelfFault) → ShelfCall a b (fault_in r)
@@ -24,33 +24,27 @@ there_where_ok (Err fault) call there intact = tt
 
 -- reads alone: the answer is the history's, to an event that changes nothing
 pub joins_by_reads : {start : Room} {past : History} {event : EventModel} {a b : View} {r : Result Answer ShelfFault}
-    → ShelfRead a b (fault_in r) → (b.is_intact → OnOk r b.is_available) → StandsFor start past a
+    → ShelfRead a b (fault_in r) → StandsFor start past a
     → (b.is_available → a.is_laid_out → RepresentsHistory start a.records past →
     IfOk r (λ answer. (answer_model answer ≡ answer_to start past event) × (changes_rows past event ≡ false)))
     → JoinsHistory start past event a b r
-joins_by_reads {start} {past} {event} {a} {b} {r} read there stands says = record {
+joins_by_reads {start} {past} {event} {a} {b} {r} read stands says = record {
   step = λ h. let (d, stand) = stands (read.call.was_available h) in if_ok_then r (says h d stand)
       (λ answer told. (told.0, rw (read.same h d) (stand_after_idle start a.records past event told.1 stand)));
   idle = λ h idle. read.same h (stands (read.call.was_available h)).0;
   crash = λ k left may. inl (read.crash left may);
-  settled = λ k changes. if_ok_after r (there k)
-      (λ h. let (d, stand) = stands (read.call.was_available h) in says h d stand)
-      (λ answer told. absurd (both_ways _ told.1 changes));
 }
 
 -- a commit that leaves rows like these, which stand for the history with the event
 pub joins_by_commit : {start : Room} {past : History} {event : EventModel} {a b : View} {r : Result Answer ShelfFault}
-    {Made : Records → Type 0} → changes_rows past event ≡ true
+    {Made : Records → Type 0} → a.is_available → changes_rows past event ≡ true
     → ((left : Records) → Made left → RepresentsHistory start left (event ∷ past))
     → (b.is_available → IfOk r (λ answer. (answer_model answer ≡ answer_to start past event) × Made b.records))
-    → (b.is_intact → LeavesOldOrNew a b Made) → (b.is_intact → OnOk r (LeavesNew b Made))
-    → JoinsHistory start past event a b r
-joins_by_commit {start} {past} {event} {a} {b} {r} changes stands ok crash settled = record {
+    → (b.is_intact → LeavesOldOrNew a b Made) → JoinsHistory start past event a b r
+joins_by_commit {start} {past} {event} {a} {b} {r} there changes stands ok crash = record {
   step = λ h. if_ok_then r (ok h) (λ answer done. (done.0, stands b.records done.1));
   idle = λ h idle. absurd (both_ways _ idle changes);
-  crash = λ k left may. leaves_either (crash k left may) (λ old. old) (λ made. (changes, stands left made));
-  settled = λ k again. if_ok_then r (settled k)
-      (λ answer leaves left may. (changes, stands left (leaves left may)));
+  crash = λ k left may. leaves_either (crash k left may) (λ old. old) (λ made. (there, (changes, stands left made)));
 }
 
 -- a call after a read, which found the store there
@@ -66,8 +60,8 @@ module _ {event : EventModel} {a b c : View} {r : Result Answer ShelfFault} (rea
         step = λ h. (now (call.was_available h)).1.step h;
         idle = λ h idle. (now (call.was_available h)).1.idle h idle ∙ (now (call.was_available h)).0;
         crash = λ k left may.
-            leaves_either ((now (there (call.was_intact k))).1.crash k left may) (read.crash left) (λ made. made);
-        settled = λ k. (now (there (call.was_intact k))).1.settled k;
+            leaves_either ((now (there (call.was_intact k))).1.crash k left may) (read.crash left)
+                (λ made. (read.call.was_available made.0, made.1));
       }
 
   pub tried_after_read : (c.is_available → b.is_laid_out →

@@ -1,10 +1,10 @@
 -- What is answered over a room to an event or a message and to runs of messages, and what calls of a desk leave (our
 -- own rules).
-use Rattle.std.specs.Prelude.{◌≡◌, ◌≢◌, ℕ, ◌≤◌, ◌⊎◌, Bool, true, false, List, ◌∷◌, Result, Ok, Err}
+use Rattle.std.specs.Prelude.{◌≡◌, ◌≢◌, ℕ, ◌≤◌, ◌⊎◌, Bool, false, List, ◌∷◌, Result, Ok, Err}
 use Rattle.room_acl.specs.SubjectModel.{SubjectModel}
 use Rattle.room_records.specs.Records.{Records}
 use Rattle.room_records.specs.Room.{Room}
-use Rattle.room_records.specs.Shelf.{View, LeavesOldOrNew, LeavesNew}
+use Rattle.room_records.specs.Shelf.{View, LeavesOldOrNew}
 use Rattle.room_wire.specs.declared.answers.code.Code.TheVariants.{Delay}
 use Rattle.room_wire.specs.declared.fault.WireFault.{WireFault}
 use Rattle.room_wire.specs.Asks.EventModel.{EventModel}
@@ -60,8 +60,8 @@ pub record DeskCall (old new : View) : Type 0 where
 -- what a shelf is after an answer: the rows stand for the history before it, or for one event more. While the store is
 -- available, they are the same rows after a refusal, and where what was asked changes nothing. Save where the answer is
 -- DELAY, the count of failures is the same, and an intact store is available where an event was asked. A crash leaves
--- what it could leave before, or, of an event that changes what is kept, the rows that stand for the history with it;
--- those alone, where the answer is not DELAY
+-- what it could leave before, or, of an event that changes what is kept and found the store there, the rows that stand
+-- for the history with it
 pub record Answered (ask : Result AskModel WireFault) (before : View)
     (answered : AnswerModel) (after : View) : Type 0 where
   pub frame : DeskCall before after
@@ -75,9 +75,7 @@ pub record Answered (ask : Result AskModel WireFault) (before : View)
       → RepresentsHistory start before.records past →
       ask_changes_rows past ask ≡ false → after.records ≡ before.records
   pub crash : after.is_intact → (start : Room) (past : History) → StandsFor start past before →
-      LeavesOldOrNew before after (StandsWithAsked start past ask)
-  pub settled : after.is_intact → (start : Room) (past : History) → StandsFor start past before →
-      ask_changes_rows past ask ≡ true → answered ≢ Refused Delay → LeavesNew after (StandsWithAsked start past ask)
+      LeavesOldOrNew before after (λ left. before.is_available × StandsWithAsked start past ask left)
 
 -- what a shelf is after an event was answered
 abbrev pub EventAnswered : {S : Type 0} (view : S → View) → S → EventModel → AnswerModel → S → Type 0

@@ -1,8 +1,8 @@
 -- What a call says that is to answer an event, with a fault where it gives up (our own rules).
-use Rattle.std.specs.Prelude.{◌≡◌, true, false, ◌∷◌, Result, IfOk, OnOk}
+use Rattle.std.specs.Prelude.{◌≡◌, false, ◌∷◌, Result, IfOk, OnOk}
 use Rattle.room_records.specs.declared.shelf.ShelfFault.{ShelfFault}
 use Rattle.room_records.specs.Room.{Room}
-use Rattle.room_records.specs.Shelf.{View, ShelfCall, fault_in, LeavesOldOrNew, LeavesNew}
+use Rattle.room_records.specs.Shelf.{View, ShelfCall, fault_in, LeavesOldOrNew}
 use Rattle.room_wire.specs.declared.answers.answer.Answer.{Answer}
 use Rattle.room_wire.specs.Asks.EventModel.{EventModel}
 use Rattle.room_desk.specs.AnswerModel.{answer_model, IsTurnedAway}
@@ -11,15 +11,13 @@ use Rattle.room_desk.specs.Representation.{RepresentsHistory, StandsFor, StandsW
 
 -- the call over rows that stood for this history: an answer is the history's, and the event joins it. The rows are the
 -- same where the event changes nothing. A crash leaves what it could leave before, or, of an event that changes what is
--- kept, the rows that stand for the history with it; those alone, where the call answers
+-- kept and found the store there, the rows that stand for the history with it
 pub record JoinsHistory (start : Room) (past : History) (event : EventModel)
     (old new : View) (result : Result Answer ShelfFault) : Type 0 where
   pub step : new.is_available → IfOk result (λ answer. (answer_model answer ≡ answer_to start past event)
       × RepresentsHistory start new.records (event ∷ past))
   pub idle : new.is_available → changes_rows past event ≡ false → new.records ≡ old.records
-  pub crash : new.is_intact → LeavesOldOrNew old new (StandsWith start past event)
-  pub settled : new.is_intact → changes_rows past event ≡ true →
-      OnOk result (LeavesNew new (StandsWith start past event))
+  pub crash : new.is_intact → LeavesOldOrNew old new (λ left. old.is_available × StandsWith start past event left)
 
 -- the call over any shelf: where it answers, an intact store is there, and a refusal leaves the same rows
 pub record EventTried (event : EventModel) (old new : View) (result : Result Answer ShelfFault) : Type 0 where

@@ -24,5 +24,5 @@ pub use room_wire::Answer;
 pub use run_laws::runs_in_turn_are_one_run;
 pub use stop_laws::{
     a_request_sent_again_after_a_stop_acts_once, a_run_goes_to_one_history,
-    a_stop_leaves_what_was_answered_and_at_most_one_more,
+    a_stop_leaves_what_was_answered,
 };

@@ -3,7 +3,7 @@ ghost use Rattle.std.specs.Prelude.{◌≡◌, IfOk, OnOk, true, option_map};
 ghost use Rattle.room_records.specs.Rules.{SlotRules};
 ghost use Rattle.room_records.specs.Room.{Room};
 ghost use Rattle.room_records.specs.Representation.{RepresentsRoom};
-ghost use Rattle.room_records.specs.Shelf.{ShelfCall, ShelfRead, Tells, fault_in, LeavesOldOrNew, LeavesNew};
+ghost use Rattle.room_records.specs.Shelf.{ShelfCall, ShelfRead, Tells, fault_in, LeavesOldOrNew};
 ghost use Rattle.room_commands.specs.Lawful.{IsLawful};
 ghost use Rattle.room_wire.specs.Asks.EventModel.{Slot};
 ghost use Rattle.room_wire.specs.Forms.Texts.{command_text};
@@ -105,10 +105,6 @@ fn run_new<S: Shelf>(
         (room : Room) → RepresentsRoom (S.view shelf.old).records.objects room →
         SlotRules (S.view shelf.old).records → HasSlot (S.view shelf.old).records asked.now.sid asked.now.slot →
         LeavesOldOrNew (S.view shelf.old) (S.view shelf.new) (RanTo (S.view shelf.old).records room asked.now) }
-    ensures settled { (S.view shelf.new).is_intact → (S.view shelf.old).is_available → (S.view shelf.old).is_laid_out →
-        (room : Room) → RepresentsRoom (S.view shelf.old).records.objects room →
-        SlotRules (S.view shelf.old).records → HasSlot (S.view shelf.old).records asked.now.sid asked.now.slot →
-        OnOk result (LeavesNew (S.view shelf.new) (RanTo (S.view shelf.old).records room asked.now)) }
 {
     let outcome = plan(alloc, shelf, asked.subject, asked.command)?;
     let reply = reply_text(alloc, &outcome.reply)?;

@@ -4,7 +4,7 @@ ghost use Rattle.std.specs.Str.{bytes_eq};
 ghost use Rattle.room_records.specs.Rules.{RulesHold};
 ghost use Rattle.room_records.specs.declared.change.Change.TheVariants.{PutSession};
 ghost use Rattle.room_records.specs.Changes.{apply_change};
-ghost use Rattle.room_records.specs.Shelf.{ShelfCall, fault_in, LeavesOldOrNew, LeavesNew};
+ghost use Rattle.room_records.specs.Shelf.{ShelfCall, fault_in, LeavesOldOrNew};
 ghost use Rattle.room_commands.specs.ReplyModel.{Done, Opened};
 ghost use Rattle.room_wire.specs.Forms.Texts.{reply_text};
 ghost use Rattle.room_wire.specs.Asks.EventModel.{Open, Close};
@@ -87,10 +87,6 @@ fn open_first<S: Shelf>(
         RulesHold (apply_change (PutSession (opened_row subject.now sid.now slots)) (S.view shelf.old).records) →
         LeavesOldOrNew (S.view shelf.old) (S.view shelf.new) (λ left.
         left ≡ apply_change (PutSession (opened_row subject.now sid.now slots)) (S.view shelf.old).records) }
-    ensures settled { (S.view shelf.new).is_intact → (S.view shelf.old).is_laid_out →
-        RulesHold (apply_change (PutSession (opened_row subject.now sid.now slots)) (S.view shelf.old).records) →
-        OnOk result (LeavesNew (S.view shelf.new) (λ left.
-        left ≡ apply_change (PutSession (opened_row subject.now sid.now slots)) (S.view shelf.old).records)) }
 {
     let text = reply_text(alloc, &Reply::Opened(slots))?;
     let changes = [Change::PutSession(opened_row(subject, sid, slots)?)];
@@ -127,11 +123,6 @@ fn end_session<S: Shelf>(shelf: &mut S, sid: &Sid, row: SessionRow) -> Result<()
         RulesHold (with_session_ended sid.now row (S.view shelf.old).records) →
         LeavesOldOrNew (S.view shelf.old) (S.view shelf.new) (λ left.
         left ≡ with_session_ended sid.now row (S.view shelf.old).records) }
-    ensures settled { (S.view shelf.new).is_intact → (S.view shelf.old).is_laid_out →
-        RulesHold (apply_change (PutSession (closed_row row)) (S.view shelf.old).records) →
-        RulesHold (with_session_ended sid.now row (S.view shelf.old).records) →
-        OnOk result (LeavesNew (S.view shelf.new) (λ left.
-        left ≡ with_session_ended sid.now row (S.view shelf.old).records)) }
 {
     let closed = SessionRow {
         sid: row.sid,
@@ -163,11 +154,6 @@ fn close_owned<S: Shelf>(
         RulesHold (with_session_ended sid.now row (S.view shelf.old).records) →
         LeavesOldOrNew (S.view shelf.old) (S.view shelf.new) (λ left.
         (row.is_open ≡ true) × (left ≡ with_session_ended sid.now row (S.view shelf.old).records)) }
-    ensures settled { row.is_open ≡ true → (S.view shelf.new).is_intact → (S.view shelf.old).is_laid_out →
-        RulesHold (apply_change (PutSession (closed_row row)) (S.view shelf.old).records) →
-        RulesHold (with_session_ended sid.now row (S.view shelf.old).records) →
-        OnOk result (LeavesNew (S.view shelf.new) (λ left.
-        left ≡ with_session_ended sid.now row (S.view shelf.old).records)) }
 {
     let text = reply_text(alloc, &Reply::Done)?;
     if row.is_open {

@@ -1,5 +1,5 @@
 //! Laws of what a stop leaves after several events, and of an event that is sent again after it.
-ghost use Rattle.std.specs.Prelude.{◌≡◌, ◌≢◌, ◌⊎◌, ℕ, true, false, List, [], ◌∷◌, Ok};
+ghost use Rattle.std.specs.Prelude.{◌≡◌, ◌⊎◌, ℕ, true, false, List, [], ◌∷◌, Ok};
 ghost use Rattle.room_acl.specs.SubjectModel.{SubjectModel};
 ghost use Rattle.room_records.specs.Room.{Room};
 ghost use Rattle.room_records.specs.Shelf.{LeavesNew};
@@ -9,49 +9,48 @@ ghost use Rattle.room_wire.specs.declared.answers.code.Code.TheVariants.{Delay, 
 ghost use Rattle.room_wire.specs.Messages.MessageModel.{MessageModel};
 ghost use Rattle.room_wire.specs.Serving.Outputs.{Outputs};
 ghost use Rattle.room_desk.specs.AnswerModel.{AnswerModel, Refused};
-ghost use Rattle.room_desk.specs.History.{History, answer_to, changes_rows, leaves_no_reply};
-ghost use Rattle.room_desk.specs.Representation.{StandsFor, InTurn, Run};
+ghost use Rattle.room_desk.specs.History.{History, answer_to, leaves_no_reply};
+ghost use Rattle.room_desk.specs.Representation.{RepresentsHistory, StandsFor, InTurn, Run};
 ghost use Rattle.room_desk.specs.Serving.{EventAnswered, MayAnswer};
-ghost use Rattle.room_desk.specs.Stops.{StandsInDoubt, in_doubt, Doubt, no_doubt, AnswersInDoubt};
+ghost use Rattle.room_desk.specs.Stops.{StandsInDoubt, in_doubt, Doubt, no_doubt, AnswersInDoubt, AreDelayed};
 
 use room_records::Shelf;
 
-/// Events are answered in turn, as `run` says it. A crash after the last may leave rows that stand for the history by
-/// their answers, or for it with one event more, which is in doubt: it was answered DELAY, and no event that changes
-/// what is kept was answered otherwise since. So it is where a crash before the first left such rows (`run`), and
-/// wherever an event just before them changed what is kept and was not answered DELAY (`since`). `stream` and
-/// `stream_since` say the same of the messages of a stream, the event before them asked by a message too.
-pub fn a_stop_leaves_what_was_answered_and_at_most_one_more<S: Shelf>()
+/// While the store is there, a stop leaves rows that stand for the history, and no others (`there`). After events that
+/// were answered in turn from a store that was there, it leaves those, or, where the last answers were DELAY, rows that
+/// stand for the history with one of these events more, which is in doubt (`run`). `stream` says the same of the
+/// messages of a stream. Only the event in which a fault shut the store is in doubt: where the store was there before it
+/// and is not after it, it and all events after it are answered DELAY, and a stop leaves rows that stand for the history
+/// or for it with that event (`shut`; `stream_shut` of messages).
+pub fn a_stop_leaves_what_was_answered<S: Shelf>()
+    ensures there { (s : S) (start : Room) (past : History) → (S.view s).is_available →
+        StandsFor start past (S.view s) → LeavesNew (S.view s) (λ left. RepresentsHistory start left past) }
     ensures run { (before after : S) (events : List EventModel) (answers : List AnswerModel)
-        (start : Room) (past : History) (doubted : List EventModel) →
+        (start : Room) (past : History) → (S.view before).is_available → StandsFor start past (S.view before) →
         InTurn (EventAnswered S.view) before events answers after → (S.view after).is_intact →
-        StandsFor start past (S.view before) → LeavesNew (S.view before) (StandsInDoubt start past doubted) →
         (next : History) × Run start past events answers next × StandsFor start next (S.view after)
-        × LeavesNew (S.view after) (StandsInDoubt start next (in_doubt past doubted events answers)) }
-    ensures since { (before mid after : S) (event : EventModel) (answered : AnswerModel)
-        (events : List EventModel) (answers : List AnswerModel) (start : Room) (past : History) →
-        EventAnswered S.view before event answered mid →
-        InTurn (EventAnswered S.view) mid events answers after → (S.view after).is_intact →
-        StandsFor start past (S.view before) → changes_rows past event ≡ true → answered ≢ Refused Delay →
-        (next : History) × Run start (event ∷ past) events answers next × StandsFor start next (S.view after)
-        × LeavesNew (S.view after) (StandsInDoubt start next (in_doubt (event ∷ past) [] events answers)) }
+        × LeavesNew (S.view after) (StandsInDoubt start next (in_doubt [] events answers)) }
     ensures stream { (users : List SubjectModel) (before after : S) (ms : List MessageModel) (out : List ℕ)
-        (start : Room) (known : Doubt) →
+        (start : Room) (past : History) → (S.view before).is_available → StandsFor start past (S.view before) →
         Outputs (MayAnswer S.view users) before ms out after → (S.view after).is_intact →
-        StandsFor start known.past (S.view before)
-        → LeavesNew (S.view before) (StandsInDoubt start known.past known.doubted) →
-        (next : Doubt) × Outputs (AnswersInDoubt users start) known ms out next
+        (next : Doubt) × Outputs (AnswersInDoubt users start) (no_doubt past) ms out next
         × StandsFor start next.past (S.view after)
         × LeavesNew (S.view after) (StandsInDoubt start next.past next.doubted) }
-    ensures stream_since { (users : List SubjectModel) (before mid after : S)
+    ensures shut { (before mid after : S) (event : EventModel) (answered : AnswerModel)
+        (events : List EventModel) (answers : List AnswerModel) (start : Room) (past : History) →
+        (S.view before).is_available → StandsFor start past (S.view before) →
+        EventAnswered S.view before event answered mid → ((S.view mid).is_available → ⊥) →
+        InTurn (EventAnswered S.view) mid events answers after → (S.view after).is_intact →
+        AreDelayed (answered ∷ answers) × StandsFor start past (S.view after)
+        × LeavesNew (S.view after) (StandsInDoubt start past (event ∷ [])) }
+    ensures stream_shut { (users : List SubjectModel) (before mid after : S)
         (m : MessageModel) (event : EventModel) (answered : AnswerModel)
         (ms : List MessageModel) (out : List ℕ) (start : Room) (past : History) →
-        ask_of users m ≡ Ok (Event event) → MayAnswer S.view users before m answered mid →
+        (S.view before).is_available → StandsFor start past (S.view before) → ask_of users m ≡ Ok (Event event) →
+        MayAnswer S.view users before m answered mid → ((S.view mid).is_available → ⊥) →
         Outputs (MayAnswer S.view users) mid ms out after → (S.view after).is_intact →
-        StandsFor start past (S.view before) → changes_rows past event ≡ true → answered ≢ Refused Delay →
-        (next : Doubt) × Outputs (AnswersInDoubt users start) (no_doubt (event ∷ past)) ms out next
-        × StandsFor start next.past (S.view after)
-        × LeavesNew (S.view after) (StandsInDoubt start next.past next.doubted) }
+        (answered ≡ Refused Delay) × StandsFor start past (S.view after)
+        × LeavesNew (S.view after) (StandsInDoubt start past (event ∷ [])) }
 {}
 
 /// The answers to events tell to which history they went: an answer by a history is never DELAY.

@@ -17,12 +17,11 @@ returns-then-is_next-clause-joins g c = λ d start past stand usable has.
     c.asked.view_is c.is_next.ensures (c.in_ok-last.ensures.value read d) ∙ c.if-is_next.true in
     let room = state_after start past in
     let its : HasSlot (g.S.Shelf.view c.slot_seq.new.self).records q.sid q.slot = rw (first.same read d) has in
-    joins_by_commit new (λ left ran. stand_after_run start past q new now ran)
+    joins_by_commit read new (λ left ran. stand_after_run start past q new now ran)
     (λ h. if_ok_then c.run_new.result
     (c.run_new.ensures.ok h (first.call.laid_out read d) room now.room now.rules its)
     (λ answer ran. (new_answer stand q usable has new ran.says, rw ran.says at ran)))
-    (λ k. c.run_new.ensures.crash k read (first.call.laid_out read d) room now.room now.rules its)
-    (λ k. c.run_new.ensures.settled k read (first.call.laid_out read d) room now.room now.rules its))
+    (λ k. c.run_new.ensures.crash k read (first.call.laid_out read d) room now.room now.rules its))
 
 pub returns-else-is_next-clause-frame : goal.returns-else-is_next-clause-frame
 returns-else-is_next-clause-frame g c =
@@ -32,7 +31,7 @@ pub returns-else-is_next-clause-joins : goal.returns-else-is_next-clause-joins
 returns-else-is_next-clause-joins g c = λ d start past stand usable has.
     let first = c.in_ok-last.ensures.frame in
     joins_by_reads (read_then _ _ _ _ c.answer_from_row.ensures.frame first)
-    c.answer_from_row.ensures.there (λ _. (d, stand)) (λ h d stand.
+    (λ _. (d, stand)) (λ h d stand.
     let q = c.args.asked.now in
     let read = c.answer_from_row.ensures.frame.call.was_available h in
     let other = accepted_by_number stand q usable has

@@ -37,15 +37,6 @@ returns-clause-crash g c = λ intact available d room stand slots has left may.
     leaves_either (c.commit.ensures.crash (c.plan.ensures.frame.call.laid_out read d) made.rules left may)
     (c.plan.ensures.frame.crash left) (made.ran left)
 
-pub returns-clause-settled : goal.returns-clause-settled
-returns-clause-settled g c = λ intact available d room stand slots has left may.
-    let read = c.in_ok-outcome.ensures.frame.call.alive (c.commit.ensures.frame.was_intact intact) available in
-    let made = commits c.asked.view_is (c.plan.ensures.frame.same read d) stand slots has
-    (c.in_ok-outcome.ensures.effect read d room stand) c.in_ok-row.ensures.lawful c.in_ok-reply.ensures
-    c.in_ok-row.ensures.row (c.deref.ensures.value ∙ c.in-Ok.ensures.items) in
-    made.ran left
-    (c.in_ok-commit.ensures.settled intact (c.plan.ensures.frame.call.laid_out read d) made.rules left may)
-
 pub returns-in_err-row-clause-frame : goal.returns-in_err-row-clause-frame
 returns-in_err-row-clause-frame g c =
     memory_after _ _ c.from_residual-in_err-row.result

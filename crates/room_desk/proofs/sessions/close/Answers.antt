@@ -7,7 +7,7 @@ use Rattle.room_desk.proofs.Closing.{put_rules, all_rules, changes_if_open, clos
 use Rattle.room_desk.proofs.Crashes.{leaves_either}
 use Rattle.room_desk.proofs.Idle.{refused_is_idle}
 use Rattle.room_desk.proofs.Results.{if_ok_both, if_ok_then}
-use Rattle.room_desk.proofs.Trying.{there_where_ok, tried_after_read, joins_by_commit, joins_by_reads}
+use Rattle.room_desk.proofs.Trying.{tried_after_read, joins_by_commit, joins_by_reads}
 use Rattle.room_desk.proofs.sessions.close.Goals as goal
 
 pub returns-then-not-owns : goal.returns-then-not-owns
@@ -16,7 +16,7 @@ returns-then-not-owns g c =
       there = c.in_ok-row.ensures.there;
       frame = first.call;
       refused = λ h d away. first.same h d;
-      joins = λ start past stands. joins_by_reads first c.in_ok-row.ensures.there stands (λ h d stand.
+      joins = λ start past stands. joins_by_reads first stands (λ h d stand.
           let some = sym (c.in_ok-row.ensures.value h d) ∙ c.in-Some.is in
           let told = close_refused stand c.args.sid.now c.in-Some.row some c.args.subject.now
           (sym c.owns.ensures ∙ c.if-not-owns.true) in
@@ -41,12 +41,11 @@ returns g c =
     let puts = put_rules stand caller some mine in
     let all = all_rules stand caller some mine in
     elim (cases_Bool c.in-Some.row.is_open) [
-      | inl is_open ↦ joins_by_commit (changes ∙ is_open)
+      | inl is_open ↦ joins_by_commit read (changes ∙ is_open)
           (λ left is. rw is (close_stands stand caller some mine))
           (λ h. if_ok_both c.close_owned.result done.reply (done.ok is_open h laid_out puts all)
           (λ answer says after. (says ∙ answered, after)))
           (λ k left may. leaves_either (done.crash laid_out puts all left may) (λ old. old) (λ made. made.1))
-          (λ k. done.settled is_open k laid_out puts all)
       | inr closed ↦
           (let only_read : ShelfRead found (g.S.Shelf.view c.close_owned.new.shelf) (fault_in c.close_owned.result) =
           record {
@@ -57,7 +56,7 @@ returns g c =
               | inr made ↦ absurd (both_ways _ closed made.0)
             ];
           } in
-          joins_by_reads only_read (there_where_ok c.close_owned.result done.frame (λ k. read)) (λ _. (laid_out, stand))
+          joins_by_reads only_read (λ _. (laid_out, stand))
           (λ h d again.
           if_ok_then c.close_owned.result done.reply (λ answer says. (says ∙ answered, changes ∙ closed))))
     ])
