@@ -1,4 +1,5 @@
 mod Calls
+mod Found
 mod Jobs
 mod Streams
 mod Faults

@@ -2,6 +2,7 @@ pub mod Calls
 pub mod Ends
 pub mod Faults
 pub mod Files
+pub mod Found
 pub mod Machines
 pub mod Replays
 pub mod Rooms

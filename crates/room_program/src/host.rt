@@ -2,34 +2,44 @@
 
 use crate::listening::Listener;
 use crate::machine::Machine;
-use sqlite::{Connection, Error};
-use sqlite_std_file::File;
-use sqlite_store::FileStore;
+use sqlite::{Connection, Error, ErrorCode, FileFrom, FileStore, Files, Start};
 use std::fs;
 use std::io::{self, ErrorKind};
 use std::net::{Ipv4Addr, TcpListener, TcpStream};
 
-/// A connection to a file.
-pub type FileConnection = Connection<FileStore<File>>;
+/// A connection to a file and its log, where `S` stands for what the two held as they were opened.
+pub type FileConnection<S> = Connection<FileStore<FileFrom<S>>>;
 
-/// The files and sockets of the system. No contract says what a file or a socket gives.
+/// The files and sockets of the system. A store that is opened finds what `S` says that its files held, while the disk
+/// returns what was written; no other contract says what a file or a socket gives.
 #[derive(Drop)]
-pub struct Host<'a> {
+pub struct Host<'a, S: Start> {
     rt: &'a HostRuntime,
+    /// It stands for the files of one path, so it is used up as they are opened.
+    start: Option<S>,
     listener: Option<TcpListener>,
+    /// The files of the store that was closed last, where its log was copied.
+    left: Option<Files<FileFrom<S>>>,
 }
 
-impl<'a> Host<'a> {
-    /// The system of this runtime. It listens for nothing yet.
-    pub fn new(rt: &'a HostRuntime) -> Host<'a> {
-        Host { rt, listener: None }
+impl<'a, S: Start> Host<'a, S> {
+    /// The system of this runtime. It opens one store, whose files hold what `start` stands for, and listens for
+    /// nothing yet.
+    pub fn new(rt: &'a HostRuntime, start: S) -> Host<'a, S> {
+        Host {
+            rt,
+            start: Some(start),
+            listener: None,
+            left: None,
+        }
     }
 }
 
-impl<'a> Machine<FileConnection> for Host<'a> {
-    ghost use Rattle.std.specs.Prelude.{⊤};
+impl<'a, S: Start> Machine<FileConnection<S>> for Host<'a, S> {
+    ghost use Rattle.sqlite.specs.WalFiles.{image_at};
+    ghost use Rattle.room_program.specs.Found.{Found, Leaves};
 
-    ghost does = { λ _ _ _. ⊤ };
+    ghost does = { λ _ call new. Found (image_at S.Start) call × Leaves call new.left };
 
     fn read_text(&mut self, path: &str) -> io::Result<String> {
         fs::read_to_string(self.rt, path)
@@ -43,15 +53,24 @@ impl<'a> Machine<FileConnection> for Host<'a> {
         }
     }
 
-    fn open(&mut self, path: &str) -> Result<FileConnection, Error> {
-        Connection::open(self.rt, path)
+    fn open(&mut self, path: &str) -> Result<FileConnection<S>, Error> {
+        let Some(start) = self.start.take() else {
+            return Err(Error::SqliteFailure(ErrorCode::CannotOpen));
+        };
+        match Connection::open_from(self.rt, path, false, start) {
+            Ok(connection) => Ok(connection),
+            Err((error, _)) => Err(error),
+        }
     }
 
-    fn close(&mut self, connection: FileConnection) {
-        let _ = connection.close();
+    fn close(&mut self, connection: FileConnection<S>) {
+        self.left = match connection.close_files() {
+            Ok(files) => Some(files),
+            Err(_) => None,
+        };
     }
 
-    fn leave(&mut self, connection: FileConnection) {
+    fn leave(&mut self, connection: FileConnection<S>) {
         let _gone = connection;
     }
 
@@ -71,7 +90,7 @@ impl<'a> Machine<FileConnection> for Host<'a> {
     }
 }
 
-impl<'a> Listener for Host<'a> {
+impl<'a, S: Start> Listener for Host<'a, S> {
     ghost use Rattle.std.specs.Prelude.{⊤};
 
     ghost accepts = { λ _ _. ⊤ };

@@ -6,6 +6,7 @@
 
 mod fault;
 mod host;
+mod laws;
 mod listening;
 mod machine;
 mod making;
@@ -21,8 +22,13 @@ mod serving;
 
 pub use fault::Fault;
 pub use host::{FileConnection, Host};
+pub use laws::{
+    a_room_in_the_files_goes_on, a_room_in_the_files_is_reported,
+    a_stop_is_found_and_the_event_acts_once,
+};
 pub use listening::Listener;
 pub use machine::Machine;
 pub use network::serve_listener;
 pub use room_words::{Job, ReportKind, WordsFault, read_words};
 pub use running::{run_machine, run_program};
+pub use sqlite::{Start, Unknown};

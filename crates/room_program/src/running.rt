@@ -21,9 +21,7 @@ use room_records::{Shelf, write_whole};
 use room_sql::SqlShelf;
 use room_wire::serve_checks;
 use room_words::{Job, ReportKind, WordsFault, read_words};
-use sqlite::{Alter, Connection};
-use sqlite_std_file::File;
-use sqlite_store::FileStore;
+use sqlite::{Alter, Connection, FileFrom, FileStore, Start};
 use sqlite_trees::store::Store;
 use std::alloc::Global;
 use std::io::{Read, Write};
@@ -286,23 +284,25 @@ pub fn run_machine<
 
 /// Runs the program on the words behind its name, and answers its exit status: 0 where the job was
 /// done or help was shown, 1 after a fault, whose line goes to `errors`, 2 where the words are no
-/// row of the command table. Memory is taken from `rt`.
-pub fn run_program<R: Read, W: Write, E: Write>(
+/// row of the command table. Memory is taken from `rt`. It holds for any `S`, which stands for what the files of the
+/// store held as they were opened; `main` passes `Unknown`.
+pub fn run_program<S: Start, R: Read, W: Write, E: Write>(
     rt: &HostRuntime,
     words: &[String],
     input: &mut R,
     output: &mut W,
     errors: &mut E,
+    start: S,
 ) -> u8
-    ensures { (before later : _) × Runs (means ⟦<Host<'static> as Machine<FileConnection>>⟧.does
-        ⟦<Host<'static> as Listener>⟧.accepts ⟦<Host<'static> as Listener>⟧.fails
-        (λ opened shelf. Adopted ⟦<FileStore<File> as Store>⟧ opened shelf)
-        (λ shelf. shelf.0.conn) (Made ⟦<FileStore<File> as Store>⟧)
-        HasATable ⟦<CachedShelf<SqlShelf<FileStore<File>>> as Shelf>⟧.view)
+    ensures { (before later : _) × Runs (means ⟦<Host<'static, S> as Machine<FileConnection<S>>>⟧.does
+        ⟦<Host<'static, S> as Listener>⟧.accepts ⟦<Host<'static, S> as Listener>⟧.fails
+        (λ opened shelf. Adopted ⟦<FileStore<FileFrom<S>> as Store>⟧ opened shelf)
+        (λ shelf. shelf.0.conn) (Made ⟦<FileStore<FileFrom<S>> as Store>⟧)
+        HasATable ⟦<CachedShelf<SqlShelf<FileStore<FileFrom<S>>>> as Shelf>⟧.view)
         before later (texts_of words.now)
         (streams (R.remaining input.old) (W.contents output.old) (E.contents errors.old))
         (streams (R.remaining input.new) (W.contents output.new) (E.contents errors.new)) result }
 {
-    let mut host = Host::new(rt);
+    let mut host = Host::new(rt, start);
     run_machine(rt.alloc(), &mut host, words, input, output, errors)
 }
