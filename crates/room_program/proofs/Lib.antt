@@ -1,5 +1,6 @@
 mod Calls
 mod Found
+mod Stopped
 mod Jobs
 mod Streams
 mod Faults

@@ -3,6 +3,7 @@ pub mod Ends
 pub mod Faults
 pub mod Files
 pub mod Found
+pub mod Halts
 pub mod Machines
 pub mod Replays
 pub mod Rooms

@@ -5,6 +5,7 @@
 #![tactic(auto)]
 
 mod fault;
+mod halts;
 mod host;
 mod laws;
 mod listening;
@@ -21,6 +22,7 @@ mod selftest;
 mod serving;
 
 pub use fault::Fault;
+pub use halts::{an_event_cut_off_acts_once, an_event_cut_off_leaves_old_or_new};
 pub use host::{FileConnection, Host};
 pub use laws::{
     a_room_in_the_files_goes_on, a_room_in_the_files_is_reported,

@@ -1,0 +1,99 @@
+//! Laws of a stop in the middle of an event. Their functions make the calls of a desk that they speak of: the program
+//! makes these by itself, and calls none of the functions here.
+ghost use Rattle.std.specs.Prelude.{◌≡◌, ℕ, false};
+ghost use Rattle.sqlite_trees.specs.Tree.{Trees};
+ghost use Rattle.sqlite.specs.WalFiles.{image_at, outcomes};
+ghost use Rattle.sqlite.specs.WalReads.{AreClean};
+ghost use Rattle.sqlite.specs.Recovery.{Image};
+ghost use Rattle.sqlite.specs.State.{HasCleanDisk};
+ghost use Rattle.sqlite.specs.Files.{file_state, HoldsDatabase};
+ghost use Rattle.room_records.specs.Room.{Room};
+ghost use Rattle.room_records.specs.Shelf.{LeavesNew};
+ghost use Rattle.room_tables.specs.Layout.{IsRoomOfVersion2};
+ghost use Rattle.room_tables.specs.Rows.{records_of};
+ghost use Rattle.room_wire.specs.Asks.EventModel.{EventModel, event_model};
+ghost use Rattle.room_desk.specs.AnswerModel.{AnswerModel};
+ghost use Rattle.room_desk.specs.History.{History, leaves_no_reply};
+ghost use Rattle.room_desk.specs.Representation.{StandsFor};
+ghost use Rattle.room_desk.specs.Serving.{EventAnswered};
+ghost use Rattle.room_program.specs.Files.{Adopted};
+ghost use Rattle.room_program.specs.Found.{IsOpenedOver, StandsOrWith, ActsOnce};
+ghost use Rattle.room_program.specs.Halts.{WereClean, MayBeLeftThen, HoldsOldOrNew};
+
+use crate::host::FileConnection;
+use room_cache::CachedShelf;
+use room_desk::Desk;
+use room_records::Shelf;
+use room_sql::SqlShelf;
+use room_wire::{Answer, Event};
+use sqlite::{FileFrom, FileStore, Files, Start};
+use sqlite_disk::{Disk, Fuse};
+use sqlite_trees::store::Store;
+
+/// The shelf of the program over two files.
+type FileShelf<D> = CachedShelf<SqlShelf<FileStore<D>>>;
+
+/// Where the store was there, and its rows stood for a history, a crash as the event's answer is known leaves rows that
+/// stand for that history, or for it with the event, and no others: also where a fault shut the store on the way.
+fn answered<S: Shelf>(desk: &mut Desk<S>, event: &Event) -> Answer
+    ensures { (start : Room) (past : History) → StandsFor start past (S.view desk.old)
+        → (S.view desk.old).is_available → (S.view desk.new).is_intact →
+        LeavesNew (S.view desk.new) (StandsOrWith start past (event_model event.now)) }
+{
+    desk.handle(event)
+}
+
+/// The files of a shelf, to which nothing more is written. Where they have returned what was written, each content that
+/// a crash may leave of them holds a database, whose records are among those that a crash may leave of the shelf.
+fn files_of<D: Disk + Drop>(shelf: FileShelf<D>) -> Files<D>
+    ensures intact { AreClean D.Disk result.log result.db → (⟦<FileShelf<D> as Shelf>⟧.view shelf).is_intact }
+    ensures left { AreClean D.Disk result.log result.db → (image : Image) → outcomes D.Disk result.log result.db image
+        → ∥ ((db : Trees) × HoldsDatabase image db
+        × (⟦<FileShelf<D> as Shelf>⟧.view shelf).crash_may_leave (records_of db)) ∥₁ }
+{
+    let store = shelf.into_inner().into_connection().into_store();
+    store.close()
+}
+
+/// What a stop in the middle of an event leaves.
+///
+/// Each of the two files passes on as many calls to its disk as its fuse has left as the event comes, whatever these
+/// two numbers are, and then acts no more: each call fails and changes nothing (`frozen` of `Disk`). Where the store was
+/// there and its rows stood for a history, each content that a crash may leave of the two disks then holds a database
+/// whose rows stand for that history, or for it with the event, while the disks returned what was written. Nobody sees
+/// the answer.
+///
+/// One step is for the reader to believe: a machine that stops in the middle of an event has made the calls that are
+/// passed on here, with the same answers, and so leaves of its disks what a crash may leave of these. A stop inside a
+/// write or a change of length is one behind it, since a crash may leave any part of it, and one inside a sync is one
+/// before it.
+pub fn an_event_cut_off_leaves_old_or_new<D: Disk + Drop>(
+    desk: Desk<FileShelf<Fuse<D>>>,
+    event: &Event,
+) -> Files<Fuse<D>>
+    ensures { (start : Room) (past : History) → StandsFor start past (⟦<FileShelf<Fuse<D>> as Shelf>⟧.view desk)
+        → (⟦<FileShelf<Fuse<D>> as Shelf>⟧.view desk).is_available → WereClean D.Disk result
+        → (image : Image) → MayBeLeftThen D.Disk result image
+        → HoldsOldOrNew image start past (event_model event.now) }
+{
+    let mut desk = desk;
+    let _answer = answered(&mut desk, event);
+    files_of(desk.into_shelf())
+}
+
+/// The next run opens such files, which `T` stands for, takes the room that it finds, and the event is sent again
+/// first: it acts once, or is answered DELAY. What is found has to be a room of version 2, as `adopt` tells it of
+/// version and columns: that an event leaves it one is proved where the store is there as the event ends, and not of
+/// one that a fault has shut.
+pub fn an_event_cut_off_acts_once<T: Start>(opened: &FileConnection<T>)
+    ensures { (taken after : _) (event : EventModel) (answered : AnswerModel) (start : Room) (past : History) →
+        HoldsOldOrNew (image_at T.Start) start past event
+        → IsOpenedOver (image_at T.Start) opened.now → HasCleanDisk (file_state opened.now)
+        → IsRoomOfVersion2 (file_state opened.now).now
+        → Adopted ⟦<FileStore<FileFrom<T>> as Store>⟧ opened.now taken
+        → EventAnswered ⟦<FileShelf<FileFrom<T>> as Shelf>⟧.view taken event answered after
+        → (⟦<FileShelf<FileFrom<T>> as Shelf>⟧.view after).is_intact → leaves_no_reply past event ≡ false
+        → ∥ ActsOnce start past event answered (⟦<FileShelf<FileFrom<T>> as Shelf>⟧.view after) ∥₁ }
+{
+    let _opened = opened;
+}
