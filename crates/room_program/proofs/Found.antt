@@ -1,182 +1,297 @@
--- A room that is served over the files that held it.
-use Rattle.std.proofs.Common.{◌≡◌, ◌∙◌, ℕ, List, Bool, true, false, Option, None, Some, Result, Ok, Err, IsTrue}
-use Rattle.std.proofs.Common.{OnOk, inl, inr, refl, sym, ap, subst, true≢false, ◌∷◌, ◌⊎◌}
+-- A room that is served over the files that held it, and what the files hold then.
+use Rattle.std.proofs.Common.{◌≡◌, ◌∙◌, ℕ, List, [], Bool, true, false, Option, None, Some, Result, Ok, Err, IsTrue}
+use Rattle.std.proofs.Common.{OnOk, inl, inr, refl, sym, ap, subst, true≢false, ◌∷◌, ◌⊎◌, arith}
+use Rattle.std.specs.Prelude.{IfOk, string_bytes}
+use Rattle.std.specs.List.{AllZip}
 use Rattle.std.proofs.Math.Logic.{∥∥₁_map, ∥∥₁_elim}
 use Rattle.sqlite_disk.specs.declared.Disk.{Ghosts}
+use Rattle.sqlite_disk.specs.declared.Files.{Files}
 use Rattle.sqlite_trees.specs.Tree.{Trees}
 use Rattle.sqlite_trees.specs.Objects.{catalog_tree}
 use Rattle.sqlite_trees.specs.Props.{Trees-set}
-use Rattle.sqlite_catalog.specs.Listing.{Lists}
+use Rattle.sqlite_tied.specs.Compute.{everything}
+use Rattle.sqlite_schema.specs.Names.{same_name}
+use Rattle.sqlite_catalog.specs.Listing.{Lists, IsTableRow, IsIndexRow, IsViewRow}
 use Rattle.sqlite_catalog.proofs.ReadLemmas.{lists_once}
-use Rattle.sqlite.specs.FileStore.{recovers}
-use Rattle.sqlite.proofs.Theorems.{next_run}
 use Rattle.sqlite.specs.Effect.{Database, IsDatabase}
+use Rattle.sqlite.specs.Schema.{Schema}
 use Rattle.sqlite.specs.Recovery.{Image}
+use Rattle.sqlite.specs.Closing.{HoldsAlone}
+use Rattle.sqlite.specs.FileStore.{recovers}
+use Rattle.sqlite.proofs.Theorems.{opens_again}
+use Rattle.sqlite_store.specs.Laws.{settled_at}
 use Rattle.sqlite.specs.declared.FileStore.{FileStore}
-use Rattle.sqlite.specs.State.{HasCleanDisk}
+use Rattle.sqlite.specs.State.{HasCleanDisk, IsLive}
 use Rattle.sqlite.specs.Held.{Held, AreDatabases}
-use Rattle.sqlite.specs.Files.{file_state, over_files}
+use Rattle.sqlite.specs.Files.{file_state, over_files, HoldsDatabase}
 use Rattle.room_acl.specs.SubjectModel.{SubjectModel}
-use Rattle.room_records.specs.Room.{Room}
-use Rattle.room_records.specs.Shelf.{View, LeavesNew}
+use Rattle.room_records.specs.Room.{Room, fresh_room}
+use Rattle.room_records.specs.Shelf.{View}
 use Rattle.room_cache.specs.declared.known.Known.{Known}
 use Rattle.room_cache.specs.Cached.{cached_view}
-use Rattle.room_tables.specs.Tables.{has_room}
-use Rattle.room_tables.specs.Layout.{IsRoomOfVersion2}
+use Rattle.room_tables.specs.Tables.{Layout, Fresh, Upgraded, has_room, has_a_table}
+use Rattle.room_tables.specs.Tables.{schema_0, room_schema, first_schema}
+use Rattle.room_tables.specs.Layout.{IsRoomOfVersion1, IsRoomOfVersion2}
 use Rattle.room_tables.specs.Rows.{records_of}
-use Rattle.room_tables.proofs.Meaning.{room_has_room}
+use Rattle.room_tables.proofs.Meaning.{room_has_room, first_has_no_kept}
 use Rattle.room_sql.specs.declared.sql_shelf.SqlShelf.{SqlShelf}
 use Rattle.room_sql.specs.SqlView.{sql_view}
 use Rattle.room_sql.proofs.Frames.{was_clean}
-use Rattle.room_wire.specs.Asks.EventModel.{EventModel}
-use Rattle.room_desk.specs.AnswerModel.{AnswerModel}
-use Rattle.room_desk.specs.History.{History, leaves_no_reply, state_after}
+use Rattle.room_desk.specs.History.{History, state_after}
 use Rattle.room_desk.specs.Representation.{RepresentsHistory, StandsFor}
-use Rattle.room_desk.specs.Serving.{EventAnswered}
-use Rattle.room_desk.proofs.Stops.{sent_again}
+use Rattle.room_desk.proofs.Beginnings.{stand_at_first}
 use Rattle.room_report.specs.declared.reports.ReportFault.{ReportFault}
 use Rattle.room_report.specs.declared.reports.ReportFault.TheVariants as report
+use Rattle.clap.specs.Words.{Text}
+use Rattle.room_words.specs.declared.fault.WordsFault.{WordsFault}
 use Rattle.room_words.specs.declared.job.ReportKind.{ReportKind}
+use Rattle.room_words.specs.declared.job.Job.{Job}
+use Rattle.room_words.specs.declared.job.Job.TheVariants.{Check, Init, Replay, Serve, Report, Selftest}
 use Rattle.std.specs.Io.KnownBytes.{Appends}
 use Rattle.room_program.specs.declared.fault.Fault.{Fault}
+use Rattle.room_program.specs.declared.fault.Fault.TheVariants as fault
 use Rattle.room_program.specs.Machines.{Call}
-use Rattle.room_program.specs.Machines.Call.{opens}
-use Rattle.room_program.specs.Files.{Adopted, TakesRoom, IsUnopened}
+use Rattle.room_program.specs.Machines.Call.{opens, closes}
+use Rattle.room_program.specs.Files.{Adopted, Made, Unmade, TakesRoom, IsUnopened}
 use Rattle.room_program.specs.Faults.{done_of_report}
+use Rattle.room_program.specs.Ends.{InitEnds}
 use Rattle.room_program.specs.Rooms.{ServesRoom, Listens, Reports, report_text}
 use Rattle.room_program.specs.Streams.{ServesSome}
-use Rattle.room_program.specs.Found.{IsOpenedOver, HoldsRoom, GoesOnIn, ServesFound, ReportsFound, MayBeLeft, IsLeftAtRest, StandsOrWith, ActsOnce}
+use Rattle.room_program.specs.Found.{IsOpenedOver, Holds, HoldsRoom, HoldsNothing, MayBeLeft, IsLeftBy, Leaves}
+use Rattle.room_program.specs.Found.{ServesFound, ReportsFound, MakesFound, JobFound, RunFound}
+use Rattle.room_program.specs.Runs.{Means, Streams, Ends, Runs, RunsJob, RunsRead, means}
 use Rattle.room_program.proofs.Streams.{serves_none}
 
 -- a room of version 2 is not taken for one of version 1
 not_first : (db : Database) → IsRoomOfVersion2 db → has_room db.schema ≡ false → ⊥
 not_first db is none = true≢false (sym (room_has_room is.room.layout) ∙ sym (ap has_room is.room.schema) ∙ none)
 
+-- nor the other way round
+not_second : (db : Database) → IsRoomOfVersion1 db → IsTrue (has_room db.schema) → ⊥
+not_second db is some = true≢false (sym some ∙ ap has_room is.schema ∙ first_has_no_kept)
+
+-- the tables of either are seen
+room_has_a_table : (l : Layout) → has_a_table (room_schema l) ≡ true
+unfolding everything same_name
+room_has_a_table Fresh = refl
+room_has_a_table Upgraded = refl
+
+first_has_a_table : has_a_table first_schema ≡ true
+unfolding everything same_name
+first_has_a_table = refl
+
+has_tables : (db : Database) → IsRoomOfVersion2 db ⊎ IsRoomOfVersion1 db → has_a_table db.schema ≡ true
+has_tables db (inl two) = ap has_a_table two.room.schema ∙ room_has_a_table two.room.layout
+has_tables db (inr one) = ap has_a_table one.schema ∙ first_has_a_table
+
 -- trees list one schema
-one_database : (a b : Database) → IsDatabase a → IsDatabase b → a.trees ≡ b.trees → a ≡ b
+pub one_database : (a b : Database) → IsDatabase a → IsDatabase b → a.trees ≡ b.trees → a ≡ b
 one_database a b sound other same =
     let there = subst (λ t. Lists (t catalog_tree) a.schema) same sound.lists in
     let schema = lists_once (b.trees catalog_tree) a.schema b.schema there other.lists in
     λ i. record { schema = schema i; trees = same i }
 
-done_of_written : (written : Result (Unit {0}) ReportFault) (P : Type 0) → OnOk written P → OnOk (done_of_report written) P
+none_of : {A B : Type 0} (P : A → B → Type 0) (bs : List B) → AllZip P [] bs → bs ≡ []
+none_of P [] all = refl
+none_of P (b ∷ bs) all = absurd all
+
+-- and none where nothing is listed
+empty_schema : (schema : Schema) → Lists [] schema → schema ≡ schema_0
+empty_schema schema lists =
+    let tables = none_of IsTableRow schema.tables lists.listed.tables in
+    let indexes = none_of (IsIndexRow schema.tables) schema.indexes lists.listed.indexes in
+    let views = none_of IsViewRow schema.views lists.listed.views in
+    λ i. record { tables = tables i; indexes = indexes i; views = views i }
+
+done_of_written : (written : Result (Unit {0}) ReportFault) (P : Type 0) → OnOk written P
+    → OnOk (done_of_report written) P
 done_of_written (Ok done) P h = h
 done_of_written (Err report.Memory) P h = tt
 done_of_written (Err report.Store) P h = tt
 done_of_written (Err report.WriteFailed) P h = tt
 
+pub unopened : {Shelf : Type 0} (begun : Option Bool) (taken : Shelf) → IsUnopened begun (Ok taken) → ⊥
+unopened (Some true) taken is = is
+unopened (Some false) taken is = is
+unopened None taken is = is
+
+-- connections were served, or none where the port could not be listened on
+pub served : {M C Shelf : Type 0} (does : M → Call C → M → Type 0) (view : Shelf → View)
+    (accepts fails : M → M → Type 0) (users : List SubjectModel) (port count : ℕ) (taken over : M)
+    (before after : Shelf) (done : Result (Unit {0}) Fault)
+    → Listens does accepts fails view users port count taken over before after done
+    → ServesSome view users before after
+served does view accepts fails users port count taken over before after done (inl (is, same, bound)) =
+    subst (ServesSome view users before) (sym same) (serves_none view users before)
+served does view accepts fails users port count taken over before after done (inr (bound, did, all)) = all.served
+
+end_so : {P Q : Result (Unit {0}) Fault → Type 0} → ((done : Result (Unit {0}) Fault) → P done → Q done)
+    → (old new : Option (List ℕ)) (status : ℕ) → Ends P old new status → Ends Q old new status
+end_so so old new status (done, p, ends) = (done, so done p, ends)
+
 module _ {D : Type 0} (g : Ghosts D) where
   -- a room that is found in a store, and is taken, is on the shelf
   pub on_shelf : (opened : Held (FileStore D g)) (taken : SqlShelf (FileStore D g) over_files × Known)
       (start : Room) (past : History) → Adopted over_files opened taken
-      → (HasCleanDisk (file_state opened) → IsRoomOfVersion2 (file_state opened).now
+      → (HasCleanDisk (file_state opened)
+      → (IsRoomOfVersion2 (file_state opened).now ⊎ IsRoomOfVersion1 (file_state opened).now)
       × RepresentsHistory start (records_of (file_state opened).now.trees) past)
       → StandsFor start past (cached_view (sql_view over_files) taken)
   on_shelf opened taken start past adopted found there =
       let (room, rows) = found (was_clean adopted.2 there.0) in
-      let same : (file_state taken.0.conn).now ≡ (file_state opened).now = elim (adopted.1 there.0).1 [
-        | inl second ↦ second.same
-        | inr first ↦ absurd (not_first (file_state opened).now room first.0.no_second)
+      let old : Database = (file_state opened).now in
+      let new : Database = (file_state taken.0.conn).now in
+      let shown : IsRoomOfVersion2 new × (records_of new.trees ≡ records_of old.trees) = elim (adopted.1 there.0).1 [
+        | inl second ↦ elim room [
+          | inl two ↦ (
+            subst IsRoomOfVersion2 (sym second.same) two,
+            ap (λ (d : Database). records_of d.trees) second.same,
+          )
+          | inr one ↦ absurd (not_second old one second.tables)
+        ]
+        | inr first ↦ elim room [
+          | inl two ↦ absurd (not_first old two first.0.no_second)
+          | inr one ↦ (let is = first.1 one in (is.room, is.records))
+        ]
       ] in (
-        ((subst IsRoomOfVersion2 (sym same) room, adopted.3 _), adopted.4 _),
-        subst (λ (d : Database). RepresentsHistory start (records_of d.trees) past) (sym same) rows,
+        ((shown.0, adopted.3 _), adopted.4 _),
+        subst (λ r. RepresentsHistory start r past) (sym shown.1) rows,
       )
 
-  -- what a crash left of a store is found by the next run
-  pub found_left : (it : FileStore D g) {E : Type 0} {h : Ghosts E} (left : Image) (opened : Held (FileStore E h))
-      → MayBeLeft it left → IsOpenedOver left opened → HasCleanDisk (file_state opened)
-      → ∥ recovers it (file_state opened).now.trees ∥₁
-  found_left it left opened may is clean =
+  -- what the files held is found
+  pub found_database : (image : Image) (db : Database) → Holds image db → (opened : Held (FileStore D g))
+      → IsOpenedOver image opened → HasCleanDisk (file_state opened) → (file_state opened).now ≡ db
+  found_database image db held opened is clean =
       let (shown, finds) = is clean in
-      ∥∥₁_map (next_run it may.numbered may.sound left may.may (file_state opened) finds)
-      (λ found. subst (λ (d : Database). recovers it d.trees) (sym shown.0.clean) found)
+      let same = ap (λ (d : Database). d.trees) shown.0.clean
+      ∙ ∥∥₁_elim held.trees (Trees-set _ _) (finds.holds db.trees) in
+      one_database _ _ (shown.1 shown.0.is_open).0 held.sound same
 
-  -- what a crash left of a store that was there is the database that it was
-  pub found_same : (was : Held (FileStore D g)) {E : Type 0} {h : Ghosts E} (left : Image) (opened : Held (FileStore E h))
-      → IsLeftAtRest was left → IsOpenedOver left opened → HasCleanDisk (file_state opened)
-      → (file_state opened).now ≡ (file_state was).now
-  found_same was left opened rest is clean =
-      let sound : AreDatabases (recovers was.store) = λ db may.
-      (was.schema, subst (λ t. IsDatabase (record { schema = was.schema; trees = t })) (sym (rest.only db may)) rest.sound) in
+  -- where they held nothing, there is no table
+  pub found_nothing : (image : Image) → HoldsNothing image → (opened : Held (FileStore D g))
+      → IsOpenedOver image opened → HasCleanDisk (file_state opened) → opened.schema ≡ schema_0
+  found_nothing image empty opened is clean =
       let (shown, finds) = is clean in
-      let same : (file_state opened).now.trees ≡ (file_state was).now.trees = ∥∥₁_elim
-      (found_left was.store left opened (record { may = rest.may; numbered = rest.numbered; sound = sound }) is clean)
-      (Trees-set _ _) (rest.only _) in
-      one_database _ _ (shown.1 shown.0.is_open).0 rest.sound same
+      let none : (file_state opened).committed.trees catalog_tree ≡ [] = elim finds.reads [
+        | inl (size, pages, wanted, adopts, ours, reads) ↦
+            absurd (let some = rw empty at adopts.found.present in omega (arith, some))
+        | inr (nothing, none) ↦ none.1
+      ] in
+      let unlisted : (file_state opened).now.trees catalog_tree ≡ []
+      = ap (λ (d : Database). d.trees catalog_tree) shown.0.clean ∙ none in
+      empty_schema opened.schema
+      (subst (λ objects. Lists objects opened.schema) unlisted (shown.1 shown.0.is_open).0.lists)
 
-module _ {D : Type 0} (g : Ghosts D) (image : Image) (start : Room) (past : History) (held : HoldsRoom image start past) where
+  -- a crash leaves of a store what it may leave alone
+  pub may_hold : (it : FileStore D g) (image : Image) (db : Database) → MayBeLeft it image → IsDatabase db
+      → ((trees : Trees) → recovers it trees → trees ≡ db.trees) → Holds image db
+  may_hold it image db left sound only =
+      let all : AreDatabases (recovers it) = λ trees may. (
+        db.schema,
+        subst (λ t. IsDatabase (record { schema = db.schema; trees = t })) (sym (only trees may)) sound,
+      ) in record {
+        trees = ∥∥₁_map (opens_again it left.numbered all image left.may)
+            (λ found. subst (HoldsDatabase image) (only found.0 found.1) found.2);
+        sound = sound;
+      }
+
+  -- so while it is there, what it showed
+  pub stopped_holds : ((file : D) → g.may_leave file (g.seen file)) → (was : SqlShelf (FileStore D g) over_files)
+      (image : Image) → IsLive (file_state was.conn) → IsTrue (file_state was.conn).is_open
+      → MayBeLeft was.conn.store image → Holds image (file_state was.conn).now
+  stopped_holds stays was image live is_open left =
+      may_hold was.conn.store image (file_state was.conn).now left (live is_open).0
+      (λ trees may. settled_at was.conn.store stays trees is_open may ∙ sym (was.rests is_open))
+
+  -- and a store that is closed what it showed
+  pub closed_holds : ((file : D) → g.may_leave file (g.seen file)) → (closed : Held (FileStore D g))
+      (left : Option (Files D)) (image : Image) → Leaves (closes closed) left → IsTrue (file_state closed).is_open
+      → (file_state closed).now.trees ≡ (file_state closed).committed.trees → IsLeftBy closed left image
+      → Holds image (file_state closed).now
+  closed_holds stays closed (Some files) image (live, copied) is_open rests (clean, at) =
+      let alone : HoldsAlone image (file_state closed).committed.trees = elim at [
+        | inl is ↦ subst (λ i. HoldsAlone i (file_state closed).committed.trees) (sym is) (copied clean).seen
+        | inr out ↦ (copied clean).left image out
+      ] in record {
+        trees = subst (λ t. ∥ HoldsDatabase image t ∥₁) (sym rests) alone.both;
+        sound = (live is_open).0;
+      }
+  closed_holds stays closed None image (live, kept) is_open rests (it, same, clean, left) =
+      may_hold it image (file_state closed).now left (live is_open).0
+      (λ trees may. settled_at closed.store stays trees is_open (same.quiet.outcomes trees may) ∙ sym rests)
+
+-- a room that the files held
+module _ {D : Type 0} (g : Ghosts D) (image : Image) (start : Room) (past : History)
+    (held : HoldsRoom image start past) where
+  -- the shelf over it stands for the history
+  pub stands : (opened : Held (FileStore D g)) (taken : SqlShelf (FileStore D g) over_files × Known)
+      → IsOpenedOver image opened → Adopted over_files opened taken
+      → StandsFor start past (cached_view (sql_view over_files) taken)
+  stands opened taken is adopted = on_shelf g opened taken start past adopted (λ clean.
+      let same = sym (found_database g image held.db held.held opened is clean) in (
+        subst (λ (d : Database). IsRoomOfVersion2 d ⊎ IsRoomOfVersion1 d) same held.room,
+        subst (λ (d : Database). RepresentsHistory start (records_of d.trees) past) same held.rows,
+      ))
+
+module _ {D M : Type 0} (g : Ghosts D) (image : Image) (does : M → Call (Held (FileStore D g)) → M → Type 0)
+    (left : M → Option (Files D)) (stays : (file : D) → g.may_leave file (g.seen file))
+    (finds : (old new : M) (path : List ℕ) (c : Held (FileStore D g)) → does old (opens path (Some c)) new
+    → IsOpenedOver image c)
+    (shut : (old new : M) (c : Held (FileStore D g)) → does old (closes c) new → Leaves (closes c) (left new)) where
   abbrev File : Type 0
   File = Held (FileStore D g)
 
   abbrev Taken : Type 0
   Taken = SqlShelf (FileStore D g) over_files × Known
 
-  found_room : (opened : File) → IsOpenedOver image opened → HasCleanDisk (file_state opened)
-      → (file_state opened).now ≡ held.db
-  found_room opened is clean =
-      let (shown, finds) = is clean in
-      let same = ap (λ (d : Database). d.trees) shown.0.clean ∙ finds.holds held.db.trees held.holds in
-      one_database _ _ (shown.1 shown.0.is_open).0 held.sound same
+  abbrev adopts : File → Taken → Type 0
+  adopts opened taken = Adopted over_files opened taken
 
-  -- the shelf over it stands for the history
-  pub stands : (opened : File) (taken : Taken) → IsOpenedOver image opened → Adopted over_files opened taken
-      → StandsFor start past (cached_view (sql_view over_files) taken)
-  stands opened taken is adopted = on_shelf g opened taken start past adopted (λ clean.
-      let same = sym (found_room opened is clean) in (
-        subst IsRoomOfVersion2 same held.room,
-        subst (λ (d : Database). RepresentsHistory start (records_of d.trees) past) same held.rows,
-      ))
+  abbrev shown : Taken → View
+  shown = cached_view (sql_view over_files)
 
-  module _ {M : Type 0} (does : M → Call File → M → Type 0)
-      (finds : (old new : M) (path : List ℕ) (c : File) → does old (opens path (Some c)) new → IsOpenedOver image c) where
-    abbrev adopts : File → Taken → Type 0
-    adopts opened taken = Adopted over_files opened taken
-
-    unopened : (begun : Option Bool) (taken : Taken) → IsUnopened begun (Ok taken) → ⊥
-    unopened (Some true) taken is = is
-    unopened (Some false) taken is = is
-    unopened None taken is = is
-
-    -- a room that was taken is one that was found and adopted
+  module _ (start : Room) (past : History) (held : HoldsRoom image start past) where
     taken_stands : (path : List ℕ) (old new : M) (taken : Taken) → TakesRoom does adopts path old new (Ok taken)
-        → StandsFor start past (cached_view (sql_view over_files) taken)
+        → StandsFor start past (shown taken)
     taken_stands path old new taken (inl (begun, looked, none)) = absurd (unopened begun taken none)
     taken_stands path old new taken (inr (seen, looked, inl (fault, bad, opened))) = absurd (let e = bad in cc)
     taken_stands path old new taken (inr (seen, looked, inr (opened, is, adopted))) =
-        stands opened taken (finds seen new path opened is) adopted
-
-    abbrev shown : Taken → View
-    shown = cached_view (sql_view over_files)
-
-    served : (accepts fails : M → M → Type 0) (users : List SubjectModel) (port count : ℕ) (taken over : M)
-        (before after : Taken) (done : Result (Unit {0}) Fault)
-        → Listens does accepts fails shown users port count taken over before after done
-        → ServesSome shown users before after
-    served accepts fails users port count taken over before after done (inl (is, same, bound)) =
-        subst (ServesSome shown users before) (sym same) (serves_none shown users before)
-    served accepts fails users port count taken over before after done (inr (bound, did, all)) = all.served
+        stands g image start past held opened taken (finds seen new path opened is) adopted
 
     pub serves_found : (accepts fails : M → M → Type 0) (db roster : List ℕ) (port count : ℕ) (before later : M)
         (done : Result (Unit {0}) Fault)
         → ServesRoom does accepts fails adopts (λ taken. taken.0.conn) shown db roster port count before later done
-        → ServesFound does adopts db roster start past before later done
+        → ServesFound does left adopts db roster start past before later done
     serves_found accepts fails db roster port count before later done (inl fails_roster) = inl fails_roster
     serves_found accepts fails db roster port count before later done (inr (users, read, took, inl fails_room)) =
         inr (users, read, took, inl fails_room)
     serves_found accepts fails db roster port count before later done
-        (inr (users, read, took, inr (shelf, left, taken, over, room, listens, closed))) =
-        let some = served accepts fails users port count taken over shelf left done listens in
+        (inr (users, read, took, inr (shelf, last, taken, over, room, listens, closed))) =
+        let some = served does shown accepts fails users port count taken over shelf last done listens in
         inr (
           users,
           read,
           took,
           inr (
             over,
-            left.0.conn,
+            last.0.conn,
             closed,
             λ clean.
-                let gone = some.run clean start past (taken_stands db read taken shelf room) in
-                (gone.0, gone.1, λ is_open. (gone.2 (clean, is_open)).1),
+                let gone = some.run clean start past (taken_stands db read taken shelf room) in (
+                  gone.0,
+                  gone.1,
+                  λ is_open.
+                      let (laid_out, rows) = gone.2 (clean, is_open) in (
+                        rows,
+                        λ one at. record {
+                          db = (file_state last.0.conn).now;
+                          held = closed_holds g stays last.0.conn (left later) one (shut over later last.0.conn closed)
+                              is_open (last.0.rests is_open) at;
+                          room = inl laid_out.0.0;
+                          rows = rows;
+                        },
+                      ),
+                ),
           ),
         )
 
@@ -195,51 +310,118 @@ module _ {D : Type 0} (g : Ghosts D) (image : Image) (start : Room) (past : Hist
     reports_found db roster kind before later old new done (inr (users, read, took, inl none)) =
         inr (users, read, took, inl none)
     reports_found db roster kind before later old new done
-        (inr (users, read, took, inr (taken, left, seen, room, writes, gone))) =
+        (inr (users, read, took, inr (taken, last, seen, room, writes, gone))) =
         inr (
           users,
           read,
           took,
           inr (
             seen,
-            left.0.conn,
+            last.0.conn,
             gone,
             λ clean.
                 let was = writes.read.call.was_intact clean in
                 let stand = taken_stands db read seen taken room (was, taken_open db read seen taken room was) in
-                subst (λ d. OnOk d (Appends old new (report_text kind (state_after start past) users))) (sym writes.ends)
-                (done_of_written writes.written _
+                subst (λ d. OnOk d (Appends old new (report_text kind (state_after start past) users)))
+                (sym writes.ends) (done_of_written writes.written _
                 (writes.reported.ok clean stand.0 (state_after start past) stand.1.room)),
           ),
         )
 
--- From one run to the next: what a crash left of a store is opened and taken, and the event that was under way is sent
--- again
-module _ {D E : Type 0} (g : Ghosts D) (h : Ghosts E) (was : SqlShelf (FileStore D g) over_files) (left : Image)
-    (opened : Held (FileStore E h)) (may : MayBeLeft was.conn.store left) (is : IsOpenedOver left opened)
-    (clean : HasCleanDisk (file_state was.conn)) where
-  -- it holds records that the crash may leave
-  pub found_records : HasCleanDisk (file_state opened)
-      → ∥ (sql_view over_files was).crash_may_leave (records_of (file_state opened).now.trees) ∥₁
-  found_records there =
-      ∥∥₁_map (found_left g was.conn.store left opened may is there) (λ found. (clean, (_, found, refl)))
+  -- a store in which no room was made shows what it showed
+  unmade_same : (owner group : List ℕ) (opened let_go : File) (why : Fault)
+      → Unmade over_files owner group opened let_go why → HasCleanDisk (file_state let_go)
+      → IsTrue (file_state let_go).is_open
+      → ((file_state let_go).now ≡ (file_state opened).now) × HasCleanDisk (file_state opened)
+  unmade_same owner group opened let_go fault.RoomExists (some, same) clean is_open =
+      (ap (λ c. (file_state c).now) same, subst (λ c. HasCleanDisk (file_state c)) same clean)
+  unmade_same owner group opened let_go fault.StoreFailed (none, same, survives) clean is_open =
+      (same clean is_open, was_clean survives clean)
+  unmade_same owner group opened let_go fault.Memory (none, same, survives) clean is_open =
+      (same clean is_open, was_clean survives clean)
+  unmade_same owner group opened let_go fault.BadName none clean is_open = absurd none
+  unmade_same owner group opened let_go fault.CannotReadRoster none clean is_open = absurd none
+  unmade_same owner group opened let_go fault.BadRoster none clean is_open = absurd none
+  unmade_same owner group opened let_go fault.NotARoom none clean is_open = absurd none
+  unmade_same owner group opened let_go fault.NetworkFailed none clean is_open = absurd none
+  unmade_same owner group opened let_go fault.BadMessage none clean is_open = absurd none
+  unmade_same owner group opened let_go fault.ReadFailed none clean is_open = absurd none
+  unmade_same owner group opened let_go fault.WriteFailed none clean is_open = absurd none
+  unmade_same owner group opened let_go fault.SelftestFailed none clean is_open = absurd none
 
-  pub again : (taken after : SqlShelf (FileStore E h) over_files × Known) (event : EventModel) (answered : AnswerModel)
-      (start : Room) (past : History) → HasCleanDisk (file_state opened) → IsRoomOfVersion2 (file_state opened).now
-      → LeavesNew (sql_view over_files was) (StandsOrWith start past event)
-      → Adopted over_files opened taken
-      → EventAnswered (cached_view (sql_view over_files)) taken event answered after
-      → (cached_view (sql_view over_files) after).is_intact → leaves_no_reply past event ≡ false
-      → ∥ ActsOnce start past event answered (cached_view (sql_view over_files) after) ∥₁
-  again taken after event answered start past there room leaves adopted call intact none =
-      ∥∥₁_map (found_records there) (λ found.
-      let stand : (other : History) → RepresentsHistory start (records_of (file_state opened).now.trees) other
-      → StandsFor start other (cached_view (sql_view over_files) taken)
-      = λ other rows. on_shelf h opened taken start other adopted (λ _. (room, rows)) in
-      let either : StandsFor start past (cached_view (sql_view over_files) taken)
-      ⊎ StandsFor start (event ∷ past) (cached_view (sql_view over_files) taken)
-      = elim (leaves _ found) [
-        | inl without ↦ inl (stand past without)
-        | inr with_it ↦ inr (stand (event ∷ past) with_it.1)
-      ] in
-      sent_again (cached_view (sql_view over_files)) taken after event answered start past call intact none either)
+  pub makes_found : (db owner group : List ℕ) (before later : M) (done : Result (Unit {0}) Fault)
+      → InitEnds does (Made over_files owner group) (Unmade over_files owner group) db owner group before later done
+      → MakesFound does left image db owner group before later done
+  makes_found db owner group before later done (inl (why, is, names, same)) =
+      subst (MakesFound does left image db owner group before later) (sym is) (inl (names, same))
+  makes_found db owner group before later done (inr (principals, inl (why, is, none))) =
+      subst (MakesFound does left image db owner group before later) (sym is) (inr (inl none))
+  makes_found db owner group before later (Err why)
+      (inr (principals, inr (opened, begun, is, (let_go, unmade, gone)))) =
+      inr (inr (
+        opened,
+        begun,
+        is,
+        (
+          let_go,
+          gone,
+          λ clean is_open held holds.
+              let same = unmade_same owner group opened let_go why unmade clean is_open in
+              same.0 ∙ found_database g image held holds opened (finds before begun db opened is) same.1,
+        ),
+      ))
+  makes_found db owner group before later (Ok done)
+      (inr (principals, inr (opened, begun, is, (closed, made, did)))) = (
+        begun,
+        closed,
+        did,
+        λ clean.
+            let was = was_clean made.3 clean in
+            let over = finds before begun db opened is in (
+              λ start past held.
+                  let same = found_database g image held.db held.held opened over was in
+                  true≢false (sym (has_tables held.db held.room)
+                  ∙ ap (λ (d : Database). has_a_table d.schema) (sym same)
+                  ∙ made.0),
+              λ empty.
+                  let (is_open, made_fresh) = made.2 clean in
+                  let fresh = made_fresh (found_nothing g image empty opened over was) in
+                  λ one at. record {
+                    db = (file_state closed).now;
+                    held = closed_holds g stays closed (left later) one (shut begun later closed did)
+                        is_open (made.1 is_open) at;
+                    room = inl fresh.0.room;
+                    rows = stand_at_first (fresh_room owner group) _ fresh.1.room fresh.1.sessions fresh.1.slots;
+                  },
+            ),
+      )
+
+  -- what a run of the program's words does, said of the files
+  module _ (accepts fails : M → M → Type 0) (before later : M) (old new : Streams) (status : ℕ) where
+    abbrev program : Means M File Taken
+    program =
+        means does accepts fails adopts (λ taken. taken.0.conn) (Made over_files) (Unmade over_files) shown
+
+    job_found : (job : Job) → RunsJob program before later job old new status
+        → JobFound program left image before later job old new status
+    job_found (Init db owner group) (input, output, ends) =
+        end_so (makes_found (string_bytes db) (string_bytes owner) (string_bytes group) before later)
+        old.errors new.errors status ends
+    job_found (Serve db roster port count) (input, output, ends) = λ start past held.
+        end_so (serves_found start past held accepts fails (string_bytes db) (string_bytes roster) port count
+        before later) old.errors new.errors status ends
+    job_found (Report db roster kind) (input, ends) = λ start past held.
+        end_so (reports_found start past held (string_bytes db) (string_bytes roster) kind before later
+        old.output new.output) old.errors new.errors status ends
+    job_found Check ran = tt
+    job_found (Replay roster owner group) ran = tt
+    job_found Selftest ran = tt
+
+    read_found : (read : Result Job WordsFault) → RunsRead program before later read old new status
+        → IfOk read (λ job. JobFound program left image before later job old new status)
+    read_found (Ok job) ran = job_found job ran
+    read_found (Err why) ran = tt
+
+    pub run_found : (words : List Text) → Runs program before later words old new status
+        → RunFound program left image before later words old new status
+    run_found words (read, reads, ran) = (read, reads, read_found read ran)

@@ -22,11 +22,11 @@ module _ {M C Shelf : Type 0} (m : Means M C Shelf) (before later : M) where
   pub ran_init : (job : Job) (db owner group : String Global) (d o g : List ℕ)
       (input output errors told : Option (List ℕ)) (status : ℕ) → job ≡ Init db owner group
       → d ≡ string_bytes db → o ≡ string_bytes owner → g ≡ string_bytes group
-      → Ends (InitEnds m.does (m.made o g) m.has_one d o g before later) errors told status
+      → Ends (InitEnds m.does (m.made o g) (m.unmade o g) d o g before later) errors told status
       → RunsJob m before later job (streams input output errors) (streams input output told) status
   ran_init job db owner group d o g input output errors told status is is_db is_owner is_group ends =
       let May : List ℕ → List ℕ → List ℕ → Type 0 = λ d o g.
-      Ends (InitEnds m.does (m.made o g) m.has_one d o g before later) errors told status in
+      Ends (InitEnds m.does (m.made o g) (m.unmade o g) d o g before later) errors told status in
       let Ran : Job → Type 0 = λ job.
       RunsJob m before later job (streams input output errors) (streams input output told) status in
       subst Ran (sym is) (refl, refl, of_three May d o g _ _ _ is_db is_owner is_group ends)

@@ -1,6 +1,7 @@
 mod Calls
 mod Found
 mod Stopped
+mod Restarts
 mod Jobs
 mod Streams
 mod Faults

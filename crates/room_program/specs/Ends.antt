@@ -23,12 +23,13 @@ IsNamesFault owner group Memory = Unit {0}
 IsNamesFault owner group other = ⊥
 
 -- `init`: `bad name` comes only where a name is no principal, and then no store is opened; else a room is made in the
--- store at the path, and the store is closed with this room in it
+-- store at the path, and the store is closed with this room in it, or it is let go
 abbrev pub InitEnds : {M C : Type 0} → (does : M → Call C → M → Type 0) → (made : C → C → Type 0)
-    → (has_one : C → Type 0) → (db owner group : List ℕ) → (old new : M) → Result (Unit {0}) Fault → Type 0
-InitEnds does made has_one db owner group old new done =
+    → (unmade : C → C → Fault → Type 0) → (db owner group : List ℕ) → (old new : M)
+    → Result (Unit {0}) Fault → Type 0
+InitEnds does made unmade db owner group old new done =
     ((fault : Fault) × (done ≡ Err fault) × IsNamesFault owner group fault × (new ≡ old))
-    ⊎ (ArePrincipals owner group × MakesAt does made has_one db old new done)
+    ⊎ (ArePrincipals owner group × MakesAt does made unmade db old new done)
 
 -- the faults of serving connections
 abbrev pub ServeEnds : Result (Unit {0}) Fault → Type 0

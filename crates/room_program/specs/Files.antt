@@ -17,7 +17,7 @@ use Rattle.room_program.specs.declared.fault.Fault.{Fault}
 use Rattle.room_program.specs.declared.fault.Fault.TheVariants.{CannotReadRoster, BadRoster, RoomExists, NotARoom}
 use Rattle.room_program.specs.declared.fault.Fault.TheVariants.{StoreFailed, Memory}
 use Rattle.room_program.specs.Machines.{Call}
-use Rattle.room_program.specs.Machines.Call.{reads, looks, opens, closes}
+use Rattle.room_program.specs.Machines.Call.{reads, looks, opens, closes, leaves}
 
 -- the roster of a text: its users are those that the text gives
 abbrev pub GivesRoster : List ℕ → Result (List SubjectModel) Fault → Type 0
@@ -83,31 +83,43 @@ Adopted g opened taken = (IsTrue (has_room opened.schema) ⊎ IsTrue (has_first_
     × Survives (state g opened) (state g taken.0.conn) (adoption.MayBeTaken (state g opened))
     × KnowsNothing taken.0.known × ((r : Records) → IsTrueOf taken.1 r)
 
--- a store that was opened had no table of a room, and a fresh room was made in it, as `SqlShelf::init` has it
+-- a store that was opened had no table of a room, and a fresh room was made in it and committed, as `SqlShelf::init`
+-- has it
 abbrev pub Made : {S : Type 0} → Ghosts S → (owner group : List ℕ) → (opened made : Held S) → Type 0
 Made g owner group opened made = (has_a_table opened.schema ≡ false)
+    × (IsTrue (state g made).is_open → (state g made).now.trees ≡ (state g made).committed.trees)
     × (HasCleanDisk (state g made) → IsTrue (state g made).is_open
     × (opened.schema ≡ schema_0 → IsFreshRoom owner group (state g made).now))
     × Survives (state g opened) (state g made) (MayBeMade owner group (state g opened).now)
 
--- a store that was opened had a table of a room
-abbrev pub HasATable : {S : Type 0} → (opened : Held S) → Type 0
-HasATable opened = IsTrue (has_a_table opened.schema)
+-- a store in which no room was made shows what it showed, where no fault has shut it, and a crash leaves that or a
+-- fresh room
+abbrev pub IsSpared : {S : Type 0} → Ghosts S → (owner group : List ℕ) → (opened let_go : Held S) → Type 0
+IsSpared g owner group opened let_go = (has_a_table opened.schema ≡ false)
+    × (HasCleanDisk (state g let_go) → IsTrue (state g let_go).is_open
+    → (state g let_go).now ≡ (state g opened).now)
+    × Survives (state g opened) (state g let_go) (MayBeMade owner group (state g opened).now)
 
--- a fresh room was made in a store, and so it is closed; or why not, and then no store is closed
+-- why no room was made in a store that was opened, and what is let go: it had a table of a room and is as it was, or
+-- it had none and is spared
+abbrev pub Unmade : {S : Type 0} → Ghosts S → (owner group : List ℕ) → (opened let_go : Held S) → Fault → Type 0
+Unmade g owner group opened let_go RoomExists = IsTrue (has_a_table opened.schema) × (let_go ≡ opened)
+Unmade g owner group opened let_go StoreFailed = IsSpared g owner group opened let_go
+Unmade g owner group opened let_go Memory = IsSpared g owner group opened let_go
+Unmade g owner group opened let_go other = ⊥
+
+-- a fresh room was made in a store, and so it is closed; or why not, and then it is let go
 abbrev pub Makes : {M C : Type 0} → (does : M → Call C → M → Type 0) → (made : C → C → Type 0)
-    → (has_one : C → Type 0) → C → M → M → Result (Unit {0}) Fault → Type 0
-Makes {M} {C} does made has_one opened old new (Ok done) =
+    → (unmade : C → C → Fault → Type 0) → C → M → M → Result (Unit {0}) Fault → Type 0
+Makes {M} {C} does made unmade opened old new (Ok done) =
     (closed : C) × made opened closed × does old (closes closed) new
-Makes does made has_one opened old new (Err RoomExists) = has_one opened × (new ≡ old)
-Makes does made has_one opened old new (Err StoreFailed) = new ≡ old
-Makes does made has_one opened old new (Err Memory) = new ≡ old
-Makes does made has_one opened old new (Err other) = ⊥
+Makes {M} {C} does made unmade opened old new (Err fault) =
+    (let_go : C) × unmade opened let_go fault × does old (leaves let_go) new
 
 -- and in the store at a path
 abbrev pub MakesAt : {M C : Type 0} → (does : M → Call C → M → Type 0)
-    → (made : C → C → Type 0) → (has_one : C → Type 0) → List ℕ → M → M → Result (Unit {0}) Fault → Type 0
-MakesAt {M} {C} does made has_one path old new done =
+    → (made : C → C → Type 0) → (unmade : C → C → Fault → Type 0) → List ℕ → M → M → Result (Unit {0}) Fault → Type 0
+MakesAt {M} {C} does made unmade path old new done =
     ((fault : Fault) × (done ≡ Err fault) × OpensStore does path old new (Err fault))
     ⊎ ((opened : C) × (begun : M) × OpensStore does path old begun (Ok opened)
-    × Makes does made has_one opened begun new done)
+    × Makes does made unmade opened begun new done)

@@ -4,6 +4,7 @@ pub mod Faults
 pub mod Files
 pub mod Found
 pub mod Halts
+pub mod Restarts
 pub mod Machines
 pub mod Replays
 pub mod Rooms

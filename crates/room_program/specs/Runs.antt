@@ -62,16 +62,16 @@ pub record Means (M C Shelf : Type 0) : Type 1 where
   pub store : Shelf → C
   -- a fresh room of an owner and a group was made in a store that was opened, which is another one then
   pub made : (owner group : List ℕ) → C → C → Type 0
-  -- a table of a room is in a store
-  pub has_one : C → Type 0
+  -- none was made in it, and the store that is let go, with the fault that tells why
+  pub unmade : (owner group : List ℕ) → C → C → Fault → Type 0
   pub view : Shelf → View
 
 abbrev pub means : {M C Shelf : Type 0} → (does : M → Call C → M → Type 0)
     → (accepts fails : M → M → Type 0) → (adopts : C → Shelf → Type 0)
     → (store : Shelf → C) → (made : (owner group : List ℕ) → C → C → Type 0)
-    → (has_one : C → Type 0) → (view : Shelf → View) → Means M C Shelf
-means d a f p s m o v =
-    record { does = d; accepts = a; fails = f; adopts = p; store = s; made = m; has_one = o; view = v }
+    → (unmade : (owner group : List ℕ) → C → C → Fault → Type 0) → (view : Shelf → View) → Means M C Shelf
+means d a f p s m u v =
+    record { does = d; accepts = a; fails = f; adopts = p; store = s; made = m; unmade = u; view = v }
 
 -- the line `selftest ok` goes to the output after two connections were served, or a fault is told
 abbrev pub Tries : {M C : Type 0} → (does : M → Call C → M → Type 0)
@@ -86,7 +86,8 @@ RunsJob m before later Check old new status = (later ≡ before) × Checks old n
 -- nothing is read, and nothing is written but a fault's line
 RunsJob m before later (Init db owner group) old new status =
     (new.input ≡ old.input) × (new.output ≡ old.output)
-    × Ends (InitEnds m.does (m.made (string_bytes owner) (string_bytes group)) m.has_one
+    × Ends (InitEnds m.does (m.made (string_bytes owner) (string_bytes group))
+    (m.unmade (string_bytes owner) (string_bytes group))
     (string_bytes db) (string_bytes owner) (string_bytes group) before later)
     old.errors new.errors status
 -- nothing is read, and the output is the report's

@@ -1,4 +1,6 @@
 //! The machine that the program runs on.
+ghost use Rattle.room_program.specs.Machines.Call.{closes};
+ghost use Rattle.room_program.specs.Found.{Leaves};
 
 use crate::listening::Listener;
 use crate::machine::Machine;
@@ -35,6 +37,21 @@ impl<'a, S: Start> Host<'a, S> {
     }
 }
 
+/// Closes a store. Its files are answered, where its log was copied.
+fn close<S: Start>(connection: FileConnection<S>) -> Option<Files<FileFrom<S>>>
+    ensures { Leaves (closes connection) result }
+{
+    // What it shows is a database.
+    let _live = connection.schema();
+    match connection.close_files() {
+        Ok(files) => Some(files),
+        Err((_, store)) => {
+            drop(store.close());
+            None
+        }
+    }
+}
+
 impl<'a, S: Start> Machine<FileConnection<S>> for Host<'a, S> {
     ghost use Rattle.sqlite.specs.WalFiles.{image_at};
     ghost use Rattle.room_program.specs.Found.{Found, Leaves};
@@ -64,10 +81,7 @@ impl<'a, S: Start> Machine<FileConnection<S>> for Host<'a, S> {
     }
 
     fn close(&mut self, connection: FileConnection<S>) {
-        self.left = match connection.close_files() {
-            Ok(files) => Some(files),
-            Err(_) => None,
-        };
+        self.left = close(connection);
     }
 
     fn leave(&mut self, connection: FileConnection<S>) {

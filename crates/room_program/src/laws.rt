@@ -1,22 +1,26 @@
 //! Laws of runs over files. Each function here does nothing: its contract follows from that of `run_program`.
-ghost use Rattle.std.specs.Prelude.{◌≡◌, ℕ, List, Option, Result, false};
+ghost use Rattle.std.specs.Prelude.{◌≡◌, ◌⊎◌, ℕ, List, ◌∷◌, Result, false, Ok, IsTrue};
+ghost use Rattle.clap.specs.Words.{Text};
 ghost use Rattle.sqlite.specs.WalFiles.{image_at};
+ghost use Rattle.sqlite.specs.Recovery.{Image};
 ghost use Rattle.sqlite.specs.State.{HasCleanDisk};
 ghost use Rattle.sqlite.specs.Files.{file_state};
+ghost use Rattle.room_acl.specs.SubjectModel.{SubjectModel};
 ghost use Rattle.room_records.specs.Room.{Room};
-ghost use Rattle.room_records.specs.Shelf.{LeavesNew};
-ghost use Rattle.room_tables.specs.Layout.{IsRoomOfVersion2};
 ghost use Rattle.room_tables.specs.Rows.{records_of};
 ghost use Rattle.room_wire.specs.Asks.EventModel.{EventModel};
 ghost use Rattle.room_desk.specs.AnswerModel.{AnswerModel};
 ghost use Rattle.room_desk.specs.History.{History, leaves_no_reply};
 ghost use Rattle.room_desk.specs.Serving.{EventAnswered};
 ghost use Rattle.room_program.specs.declared.fault.Fault.{Fault};
-ghost use Rattle.room_program.specs.Files.{Adopted};
-ghost use Rattle.room_words.specs.declared.job.ReportKind.{ReportKind};
-ghost use Rattle.room_program.specs.Rooms.{ServesRoom, Reports};
-ghost use Rattle.room_program.specs.Found.{HoldsRoom, ServesFound, IsOpenedOver, MayBeLeft, IsLeftAtRest};
-ghost use Rattle.room_program.specs.Found.{ReportsFound, StandsOrWith, ActsOnce};
+ghost use Rattle.room_program.specs.Files.{Adopted, Made, Unmade, TakesRoom};
+ghost use Rattle.room_program.specs.Machines.Call.{closes};
+ghost use Rattle.room_program.specs.Rooms.{Listens};
+ghost use Rattle.room_program.specs.Runs.{Runs, Streams, means};
+ghost use Rattle.room_program.specs.Streams.{ServesSome};
+ghost use Rattle.room_program.specs.Found.{HoldsRoom, IsOpenedOver, IsLeftBy, MayBeLeft, RunFound};
+ghost use Rattle.room_program.specs.Restarts.{MayBeLeftShut, LeavesRooms, ActsOnce, AnswersOrMore};
+ghost use Rattle.room_program.specs.Restarts.{Steps, KeepsRoom, KeepsRoomOrMore, GoesOnBySome, GoesOnOrMore};
 
 use crate::host::{FileConnection, Host};
 use crate::listening::Listener;
@@ -27,61 +31,115 @@ use room_sql::SqlShelf;
 use sqlite::{FileFrom, FileStore, Start};
 use sqlite_trees::store::Store;
 
-/// Where the files held a room whose rows stand for a history, `serve` closes a store whose rows stand for that history
-/// followed by events that messages of users of the roster ask, while the disk returns what was written and no fault has
-/// shut the store; or the roster or the room could not be had.
-pub fn a_room_in_the_files_goes_on<S: Start>()
-    ensures { (db roster : List ℕ) (port count : ℕ) (before later : _) (done : Result (Unit {0}) Fault)
-        (start : Room) (past : History) →
-        ServesRoom ⟦<Host<'static, S> as Machine<FileConnection<S>>>⟧.does
+/// What a run does to the files whose contents `S` stands for, by its words. `serve`: where they held a room whose rows
+/// stand for a history, they stand then for that history followed by events that messages of users of the roster ask,
+/// and so do those in the files once the store is closed. `report` writes the report of the room of that history.
+/// `init` makes a room only where there was none, and where there was no file, the files hold the fresh room then. All
+/// of it while the disk returns what was written.
+pub fn what_a_run_does_to_files<S: Start>()
+    ensures { (before later : _) (words : List Text) (old new : Streams) (status : ℕ) →
+        Runs (means ⟦<Host<'static, S> as Machine<FileConnection<S>>>⟧.does
         ⟦<Host<'static, S> as Listener>⟧.accepts ⟦<Host<'static, S> as Listener>⟧.fails
-        (λ opened shelf. Adopted ⟦<FileStore<FileFrom<S>> as Store>⟧ opened shelf) (λ shelf. shelf.0.conn)
-        ⟦<CachedShelf<SqlShelf<FileStore<FileFrom<S>>>> as Shelf>⟧.view db roster port count before later done →
-        HoldsRoom (image_at S.Start) start past →
-        ServesFound ⟦<Host<'static, S> as Machine<FileConnection<S>>>⟧.does
         (λ opened shelf. Adopted ⟦<FileStore<FileFrom<S>> as Store>⟧ opened shelf)
-        db roster start past before later done }
+        (λ shelf. shelf.0.conn) (Made ⟦<FileStore<FileFrom<S>> as Store>⟧)
+        (Unmade ⟦<FileStore<FileFrom<S>> as Store>⟧)
+        ⟦<CachedShelf<SqlShelf<FileStore<FileFrom<S>>>> as Shelf>⟧.view)
+        before later words old new status →
+        RunFound (means ⟦<Host<'static, S> as Machine<FileConnection<S>>>⟧.does
+        ⟦<Host<'static, S> as Listener>⟧.accepts ⟦<Host<'static, S> as Listener>⟧.fails
+        (λ opened shelf. Adopted ⟦<FileStore<FileFrom<S>> as Store>⟧ opened shelf)
+        (λ shelf. shelf.0.conn) (Made ⟦<FileStore<FileFrom<S>> as Store>⟧)
+        (Unmade ⟦<FileStore<FileFrom<S>> as Store>⟧)
+        ⟦<CachedShelf<SqlShelf<FileStore<FileFrom<S>>>> as Shelf>⟧.view)
+        (λ host. host.left) (image_at S.Start) before later words old new status }
 {}
 
-/// And where `report` is done, it wrote the report of the room of that history, while the disk returned what was written.
-pub fn a_room_in_the_files_is_reported<S: Start>()
-    ensures { (db roster : List ℕ) (kind : ReportKind) (before later : _) (old new : Option (List ℕ))
-        (done : Result (Unit {0}) Fault) (start : Room) (past : History) →
-        Reports ⟦<Host<'static, S> as Machine<FileConnection<S>>>⟧.does
-        (λ opened shelf. Adopted ⟦<FileStore<FileFrom<S>> as Store>⟧ opened shelf) (λ shelf. shelf.0.conn)
-        ⟦<CachedShelf<SqlShelf<FileStore<FileFrom<S>>>> as Shelf>⟧.view db roster kind before later old new done →
-        HoldsRoom (image_at S.Start) start past →
-        ReportsFound ⟦<Host<'static, S> as Machine<FileConnection<S>>>⟧.does
-        (λ opened shelf. Adopted ⟦<FileStore<FileFrom<S>> as Store>⟧ opened shelf)
-        db roster kind start past before later old new done }
+/// Restart as often as you like: however many runs follow one another, each over the files that the one before it
+/// left, the room and its history are in them, and the history only went on (`again`). Where a fault shut the store in
+/// some of them, the event that was under way then may have joined it (`in_doubt`). A run of the one kind is one of the
+/// other too (`either`).
+pub fn a_room_outlives_its_runs()
+    ensures again { (more : ℕ) (found left : Image) (start : Room) (past : History) → Steps KeepsRoom more found left
+        → HoldsRoom found start past
+        → (next : History) × Steps (GoesOnBySome start) more past next × HoldsRoom left start next }
+    ensures in_doubt { (more : ℕ) (found left : Image) (start : Room) (past : History) →
+        Steps KeepsRoomOrMore more found left → HoldsRoom found start past
+        → ∥ ((next : History) × Steps (GoesOnOrMore start) more past next × HoldsRoom left start next) ∥₁ }
+    ensures either { (found left : Image) → KeepsRoom found left → KeepsRoomOrMore found left }
 {}
 
-/// A run over files of `S` stops, and the next run opens what was left, which is what `T` stands for. Where the store
-/// was there, it finds the database that the first run saw last, and nothing else (`same`). Where a fault had shut it, it
-/// finds records that the crash may leave (`found`). Where these stand for a history, or for it with the event that was
-/// under way, and the room is taken and the event is sent again first, it acts once, or is answered DELAY (`again`).
-pub fn a_stop_is_found_and_the_event_acts_once<S: Start, T: Start>(
-    was: &SqlShelf<FileStore<FileFrom<S>>>,
+/// A `serve` that took its room, closed it and met no fault that shuts the store is a run that keeps the room.
+pub fn a_serve_that_ends_keeps_the_room<S: Start>()
+    ensures { (db : List ℕ) (users : List SubjectModel) (port count : ℕ) (read taken over later : _)
+        (shelf last : _) (done : Result (Unit {0}) Fault) (left : Image) →
+        TakesRoom ⟦<Host<'static, S> as Machine<FileConnection<S>>>⟧.does
+        (λ opened shelf. Adopted ⟦<FileStore<FileFrom<S>> as Store>⟧ opened shelf) db read taken (Ok shelf) →
+        Listens ⟦<Host<'static, S> as Machine<FileConnection<S>>>⟧.does
+        ⟦<Host<'static, S> as Listener>⟧.accepts ⟦<Host<'static, S> as Listener>⟧.fails
+        ⟦<CachedShelf<SqlShelf<FileStore<FileFrom<S>>>> as Shelf>⟧.view users port count taken over shelf last done →
+        ⟦<Host<'static, S> as Machine<FileConnection<S>>>⟧.does over (closes last.0.conn) later →
+        HasCleanDisk (file_state last.0.conn) → IsTrue (file_state last.0.conn).is_open →
+        IsLeftBy last.0.conn later.left left → KeepsRoom (image_at S.Start) left }
+{}
+
+/// And so is one that stops between two requests, with the shelf `last`, while its store is there: a crash may leave
+/// the image `left` of its files (`there`). Once a fault has shut the store, it is one that keeps the room, or the room
+/// with one event more (`shut`).
+pub fn a_serve_that_stops_keeps_the_room<S: Start>(
+    last: CachedShelf<SqlShelf<FileStore<FileFrom<S>>>>,
+)
+    ensures there { (opened : _) (taken : _) (users : List SubjectModel) (left : Image) →
+        IsOpenedOver (image_at S.Start) opened → Adopted ⟦<FileStore<FileFrom<S>> as Store>⟧ opened taken →
+        ServesSome ⟦<CachedShelf<SqlShelf<FileStore<FileFrom<S>>>> as Shelf>⟧.view users taken last →
+        HasCleanDisk (file_state last.0.conn) → IsTrue (file_state last.0.conn).is_open →
+        MayBeLeft last.0.conn.store left → KeepsRoom (image_at S.Start) left }
+    ensures shut { (opened : _) (taken : _) (users : List SubjectModel) (left : Image) →
+        IsOpenedOver (image_at S.Start) opened → Adopted ⟦<FileStore<FileFrom<S>> as Store>⟧ opened taken →
+        AnswersOrMore ⟦<CachedShelf<SqlShelf<FileStore<FileFrom<S>>>> as Shelf>⟧.view users taken last →
+        HasCleanDisk (file_state last.0.conn) → MayBeLeftShut last.0.conn.store left → LeavesRooms last.0.conn →
+        KeepsRoomOrMore (image_at S.Start) left }
+{
+    let connection = last.into_inner().into_connection();
+    let _live = connection.schema();
+}
+
+/// The next run opens what this one left, which is what `T` stands for, and finds the database that this one saw last,
+/// and nothing else: after a stop while the store was there (`stop`), and after a close (`closed`). Once a fault had
+/// shut the store, it finds records that the crash may leave (`shut`).
+pub fn the_next_run_finds_what_this_one_saw<S: Start, T: Start>(
+    was: SqlShelf<FileStore<FileFrom<S>>>,
     opened: &FileConnection<T>,
 )
-    ensures same { IsLeftAtRest was.now.conn (image_at T.Start) → IsOpenedOver (image_at T.Start) opened.now
-        → HasCleanDisk (file_state opened.now) → (file_state opened.now).now ≡ (file_state was.now.conn).now }
-    ensures found { HasCleanDisk (file_state was.now.conn) → MayBeLeft was.now.conn.store (image_at T.Start)
-        → IsOpenedOver (image_at T.Start) opened.now → HasCleanDisk (file_state opened.now) →
-        ∥ (⟦<SqlShelf<FileStore<FileFrom<S>>> as Shelf>⟧.view was.now).crash_may_leave
+    ensures stop { IsTrue (file_state was.conn).is_open → MayBeLeft was.conn.store (image_at T.Start) →
+        IsOpenedOver (image_at T.Start) opened.now → HasCleanDisk (file_state opened.now) →
+        (file_state opened.now).now ≡ (file_state was.conn).now }
+    ensures closed { (over later : _) →
+        ⟦<Host<'static, S> as Machine<FileConnection<S>>>⟧.does over (closes was.conn) later →
+        IsTrue (file_state was.conn).is_open → IsLeftBy was.conn later.left (image_at T.Start) →
+        IsOpenedOver (image_at T.Start) opened.now → HasCleanDisk (file_state opened.now) →
+        (file_state opened.now).now ≡ (file_state was.conn).now }
+    ensures shut { HasCleanDisk (file_state was.conn) → MayBeLeftShut was.conn.store (image_at T.Start) →
+        IsOpenedOver (image_at T.Start) opened.now → HasCleanDisk (file_state opened.now) →
+        ∥ (⟦<SqlShelf<FileStore<FileFrom<S>>> as Shelf>⟧.view was).crash_may_leave
         (records_of (file_state opened.now).now.trees) ∥₁ }
-    ensures again { (taken after : _) (event : EventModel) (answered : AnswerModel) (start : Room) (past : History) →
-        HasCleanDisk (file_state was.now.conn) → MayBeLeft was.now.conn.store (image_at T.Start)
-        → IsOpenedOver (image_at T.Start) opened.now → HasCleanDisk (file_state opened.now)
-        → IsRoomOfVersion2 (file_state opened.now).now
-        → LeavesNew (⟦<SqlShelf<FileStore<FileFrom<S>>> as Shelf>⟧.view was.now) (StandsOrWith start past event)
-        → Adopted ⟦<FileStore<FileFrom<T>> as Store>⟧ opened.now taken
-        → EventAnswered ⟦<CachedShelf<SqlShelf<FileStore<FileFrom<T>>>> as Shelf>⟧.view taken event answered after
-        → (⟦<CachedShelf<SqlShelf<FileStore<FileFrom<T>>>> as Shelf>⟧.view after).is_intact
-        → leaves_no_reply past event ≡ false
-        → ∥ ActsOnce start past event answered
-        (⟦<CachedShelf<SqlShelf<FileStore<FileFrom<T>>>> as Shelf>⟧.view after) ∥₁ }
 {
-    let _was = was;
     let _opened = opened;
+    let connection = was.into_connection();
+    let _live = connection.schema();
 }
+
+/// An event got no answer, as its run stopped, and is sent again first to the next run, which took the room in files of
+/// `S`. They hold it with the history without the event, or with it. It is answered as it would have been, and the
+/// history has it once; or it is answered DELAY. (A request whose reply is not kept may also be answered
+/// RETRY_UNCACHED, by `a_request_sent_again_after_a_stop_acts_once` of `room_desk`.)
+pub fn an_event_sent_again_to_the_next_run_acts_once<S: Start>()
+    ensures { (opened : _) (taken after : _) (event : EventModel) (answered : AnswerModel) (start : Room)
+        (past : History) →
+        HoldsRoom (image_at S.Start) start past ⊎ HoldsRoom (image_at S.Start) start (event ∷ past) →
+        IsOpenedOver (image_at S.Start) opened → Adopted ⟦<FileStore<FileFrom<S>> as Store>⟧ opened taken →
+        EventAnswered ⟦<CachedShelf<SqlShelf<FileStore<FileFrom<S>>>> as Shelf>⟧.view taken event answered after →
+        (⟦<CachedShelf<SqlShelf<FileStore<FileFrom<S>>>> as Shelf>⟧.view after).is_intact →
+        leaves_no_reply past event ≡ false →
+        ActsOnce start past event answered
+        (⟦<CachedShelf<SqlShelf<FileStore<FileFrom<S>>>> as Shelf>⟧.view after) }
+{}

@@ -1,7 +1,7 @@
 //! Making a room in a file.
 ghost use Rattle.std.specs.Prelude.{◌≡◌, false};
 ghost use Rattle.room_program.specs.Ends.{InitEnds};
-ghost use Rattle.room_program.specs.Files.{HasATable, Made, Makes, MakesAt};
+ghost use Rattle.room_program.specs.Files.{Made, Makes, MakesAt, Unmade};
 
 use crate::fault::Fault;
 use crate::machine::Machine;
@@ -12,7 +12,7 @@ use room_sql::{OpenFault, SqlShelf};
 use sqlite::{Alter, Connection};
 use std::alloc::Global;
 
-/// Makes a fresh room of this owner and group, and closes it.
+/// Makes a fresh room of this owner and group, and closes it. A store in which none is made is let go as it is.
 fn make_room<S: Alter + Drop, M: Machine<Connection<S>>>(
     alloc: Global,
     machine: &mut M,
@@ -21,16 +21,29 @@ fn make_room<S: Alter + Drop, M: Machine<Connection<S>>>(
 ) -> Result<(), Fault>
     requires { connection.in_transaction ≡ false }
     ensures { Makes M.does (Made S.Store standing.now.owner standing.now.group)
-        HasATable connection machine.old machine.new result }
+        (Unmade S.Store standing.now.owner standing.now.group) connection machine.old machine.new result }
 {
     match SqlShelf::init(alloc, connection, &standing.owner, &standing.group) {
         Ok(shelf) => {
             machine.close(shelf.into_connection());
             Ok(())
         }
-        Err((OpenFault::RoomExists, _)) => Err(Fault::RoomExists),
-        Err((OpenFault::Memory, _)) => Err(Fault::Memory),
-        Err(_) => Err(Fault::StoreFailed),
+        Err((OpenFault::RoomExists, connection)) => {
+            machine.leave(connection);
+            Err(Fault::RoomExists)
+        }
+        Err((OpenFault::Memory, connection)) => {
+            machine.leave(connection);
+            Err(Fault::Memory)
+        }
+        Err((OpenFault::Store, connection)) => {
+            machine.leave(connection);
+            Err(Fault::StoreFailed)
+        }
+        Err((OpenFault::NotARoom, connection)) => {
+            machine.leave(connection);
+            Err(Fault::StoreFailed)
+        }
     }
 }
 
@@ -42,7 +55,7 @@ fn make_at<S: Alter + Drop, M: Machine<Connection<S>>>(
     standing: &Standing,
 ) -> Result<(), Fault>
     ensures { MakesAt M.does (Made S.Store standing.now.owner standing.now.group)
-        HasATable db.now machine.old machine.new result }
+        (Unmade S.Store standing.now.owner standing.now.group) db.now machine.old machine.new result }
 {
     let connection = open(machine, db)?;
     make_room(alloc, machine, connection, standing)
@@ -56,8 +69,8 @@ pub(crate) fn init<S: Alter + Drop, M: Machine<Connection<S>>>(
     owner: &str,
     group: &str,
 ) -> Result<(), Fault>
-    ensures { InitEnds M.does (Made S.Store owner.now group.now) HasATable
-        db.now owner.now group.now machine.old machine.new result }
+    ensures { InitEnds M.does (Made S.Store owner.now group.now)
+        (Unmade S.Store owner.now group.now) db.now owner.now group.now machine.old machine.new result }
 {
     let standing = standing(alloc, owner, group)?;
     make_at(alloc, machine, db, &standing)

@@ -1,7 +1,7 @@
 //! A run of the program, from its words to its exit status.
 ghost use Rattle.room_words.specs.CommandLine.{texts_of};
 ghost use Rattle.room_program.specs.Ends.{InitEnds};
-ghost use Rattle.room_program.specs.Files.{Adopted, HasATable, Made};
+ghost use Rattle.room_program.specs.Files.{Adopted, Made, Unmade};
 ghost use Rattle.room_program.specs.Replays.{Replays};
 ghost use Rattle.room_program.specs.Rooms.{Reports, ServesRoom};
 ghost use Rattle.room_program.specs.Runs.{Checks, Ends, EndsWith, RefusesWords, Runs, RunsJob, WritesText};
@@ -102,7 +102,7 @@ fn run_init<S: Alter + Drop, M: Machine<Connection<S>>, E: Write>(
     errors: &mut E,
 ) -> u8
     ensures { Ends (InitEnds M.does (Made S.Store owner.now group.now)
-        HasATable db.now owner.now group.now machine.old machine.new)
+        (Unmade S.Store owner.now group.now) db.now owner.now group.now machine.old machine.new)
         (E.contents errors.old) (E.contents errors.new) result }
 {
     let done = init(alloc, machine, db, owner, group);
@@ -176,7 +176,7 @@ fn run_job<S: Alter + Drop, M: Machine<Connection<S>> + Listener, R: Read, W: Wr
     errors: &mut E,
 ) -> u8
     ensures { RunsJob (means M.does M.accepts M.fails (λ opened shelf. Adopted S.Store opened shelf)
-        (λ shelf. shelf.0.conn) (Made S.Store) HasATable ⟦<CachedShelf<SqlShelf<S>> as Shelf>⟧.view)
+        (λ shelf. shelf.0.conn) (Made S.Store) (Unmade S.Store) ⟦<CachedShelf<SqlShelf<S>> as Shelf>⟧.view)
         machine.old machine.new job.now
         (streams (R.remaining input.old) (W.contents output.old) (E.contents errors.old))
         (streams (R.remaining input.new) (W.contents output.new) (E.contents errors.new)) result }
@@ -271,7 +271,7 @@ pub fn run_machine<
     errors: &mut E,
 ) -> u8
     ensures { Runs (means M.does M.accepts M.fails (λ opened shelf. Adopted S.Store opened shelf)
-        (λ shelf. shelf.0.conn) (Made S.Store) HasATable ⟦<CachedShelf<SqlShelf<S>> as Shelf>⟧.view)
+        (λ shelf. shelf.0.conn) (Made S.Store) (Unmade S.Store) ⟦<CachedShelf<SqlShelf<S>> as Shelf>⟧.view)
         machine.old machine.new (texts_of words.now)
         (streams (R.remaining input.old) (W.contents output.old) (E.contents errors.old))
         (streams (R.remaining input.new) (W.contents output.new) (E.contents errors.new)) result }
@@ -298,7 +298,8 @@ pub fn run_program<S: Start, R: Read, W: Write, E: Write>(
         ⟦<Host<'static, S> as Listener>⟧.accepts ⟦<Host<'static, S> as Listener>⟧.fails
         (λ opened shelf. Adopted ⟦<FileStore<FileFrom<S>> as Store>⟧ opened shelf)
         (λ shelf. shelf.0.conn) (Made ⟦<FileStore<FileFrom<S>> as Store>⟧)
-        HasATable ⟦<CachedShelf<SqlShelf<FileStore<FileFrom<S>>>> as Shelf>⟧.view)
+        (Unmade ⟦<FileStore<FileFrom<S>> as Store>⟧)
+        ⟦<CachedShelf<SqlShelf<FileStore<FileFrom<S>>>> as Shelf>⟧.view)
         before later (texts_of words.now)
         (streams (R.remaining input.old) (W.contents output.old) (E.contents errors.old))
         (streams (R.remaining input.new) (W.contents output.new) (E.contents errors.new)) result }

@@ -1,7 +1,30 @@
+use Rattle.std.proofs.Common.{◌≡◌, false}
+use Rattle.std.proofs.lemmas.Bool.{false_from_ne_true}
+use Rattle.room_tables.specs.Tables.{has_a_table}
 use Rattle.room_program.proofs.making.make_room.Goals as goal
 
 pub returns-in-Ok : goal.returns-in-Ok
 returns-in-Ok g c =
     let e = c.in-Ok.ensures in
     let closed = rw c.into_connection.ensures.same at c.close.ensures.closed in
-    (c.in-Ok.shelf.conn, (e.absent, e.fresh, e.made), closed)
+    (c.in-Ok.shelf.conn, (e.absent, c.in-Ok.shelf.rests, e.fresh, e.made), closed)
+
+pub returns-in-Err-RoomExists-default : goal.returns-in-Err-RoomExists-default
+returns-in-Err-RoomExists-default g c =
+    let e = c.in-Err-RoomExists-default in
+    let some = e.ensures.exists e.field-0-0-is in
+    (e.connection, (some, (e.ensures.taken some).1), c.leave.ensures.left)
+
+pub returns-in-Err-Memory-default : goal.returns-in-Err-Memory-default
+returns-in-Err-Memory-default g c =
+    let e = c.in-Err-Memory-default in
+    let none : has_a_table c.args.connection.schema ≡ false = false_from_ne_true _ (λ some.
+    let one = e.field-0-0-is in let other = (e.ensures.taken some).0 in cc) in
+    (e.connection, (none, e.ensures.unchanged, e.ensures.refused), c.leave-in-Err-Memory-default.ensures.left)
+
+pub returns-in-Err-Store-default : goal.returns-in-Err-Store-default
+returns-in-Err-Store-default g c =
+    let e = c.in-Err-Store-default in
+    let none : has_a_table c.args.connection.schema ≡ false = false_from_ne_true _ (λ some.
+    let one = e.field-0-0-is in let other = (e.ensures.taken some).0 in cc) in
+    (e.connection, (none, e.ensures.unchanged, e.ensures.refused), c.leave-in-Err-Store-default.ensures.left)

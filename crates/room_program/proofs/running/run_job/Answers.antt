@@ -3,7 +3,7 @@ use Rattle.room_sql.specs.declared.sql_shelf.SqlShelf.{SqlShelf}
 use Rattle.room_sql.specs.SqlView.{sql_view}
 use Rattle.room_cache.specs.declared.known.Known.{Known}
 use Rattle.room_cache.specs.Cached.{cached_view}
-use Rattle.room_program.specs.Files.{Adopted, HasATable, Made}
+use Rattle.room_program.specs.Files.{Adopted, Made, Unmade}
 use Rattle.room_program.specs.Runs.{means}
 use Rattle.room_program.proofs.Jobs.{ran_init, ran_report, ran_replay, ran_serve}
 use Rattle.room_program.proofs.running.run_job.Goals as goal
@@ -13,7 +13,7 @@ returns-in-Init g c =
     let m = means g.M.Machine.does g.M.Listener.accepts g.M.Listener.fails
     (λ (opened : Held g.row.S.Denot) (shelf : SqlShelf g.row.S.Denot g.S.Store × Known). Adopted g.S.Store opened shelf)
     (λ (shelf : SqlShelf g.row.S.Denot g.S.Store × Known). shelf.0.conn)
-    (Made g.S.Store) (HasATable {S = g.row.S.Denot}) (cached_view (sql_view g.S.Store)) in
+    (Made g.S.Store) (Unmade g.S.Store) (cached_view (sql_view g.S.Store)) in
     ran_init m c.args.machine.now c.run_init.new.machine c.args.job.now
     c.in-Init.db c.in-Init.owner c.in-Init.group _ _ _
     (g.R.Read.remaining c.args.input.now) (g.W.Write.contents c.args.output.now)
@@ -25,7 +25,7 @@ returns-in-Report g c =
     let m = means g.M.Machine.does g.M.Listener.accepts g.M.Listener.fails
     (λ (opened : Held g.row.S.Denot) (shelf : SqlShelf g.row.S.Denot g.S.Store × Known). Adopted g.S.Store opened shelf)
     (λ (shelf : SqlShelf g.row.S.Denot g.S.Store × Known). shelf.0.conn)
-    (Made g.S.Store) (HasATable {S = g.row.S.Denot}) (cached_view (sql_view g.S.Store)) in
+    (Made g.S.Store) (Unmade g.S.Store) (cached_view (sql_view g.S.Store)) in
     ran_report m c.args.machine.now c.run_report.new.machine c.args.job.now
     c.in-Report.db c.in-Report.roster c.in-Report.kind _ _ (g.R.Read.remaining c.args.input.now)
     (g.W.Write.contents c.args.output.now) (g.W.Write.contents c.run_report.new.output)
@@ -37,7 +37,7 @@ returns-in-Replay g c =
     let m = means g.M.Machine.does g.M.Listener.accepts g.M.Listener.fails
     (λ (opened : Held g.row.S.Denot) (shelf : SqlShelf g.row.S.Denot g.S.Store × Known). Adopted g.S.Store opened shelf)
     (λ (shelf : SqlShelf g.row.S.Denot g.S.Store × Known). shelf.0.conn)
-    (Made g.S.Store) (HasATable {S = g.row.S.Denot}) (cached_view (sql_view g.S.Store)) in
+    (Made g.S.Store) (Unmade g.S.Store) (cached_view (sql_view g.S.Store)) in
     ran_replay m c.args.machine.now c.run_replay.new.machine c.args.job.now
     c.in-Replay.roster c.in-Replay.owner c.in-Replay.group _ _ _
     (g.R.Read.remaining c.args.input.now) (g.R.Read.remaining c.run_replay.new.input)
@@ -51,7 +51,7 @@ returns-in-Serve g c =
     let m = means g.M.Machine.does g.M.Listener.accepts g.M.Listener.fails
     (λ (opened : Held g.row.S.Denot) (shelf : SqlShelf g.row.S.Denot g.S.Store × Known). Adopted g.S.Store opened shelf)
     (λ (shelf : SqlShelf g.row.S.Denot g.S.Store × Known). shelf.0.conn)
-    (Made g.S.Store) (HasATable {S = g.row.S.Denot}) (cached_view (sql_view g.S.Store)) in
+    (Made g.S.Store) (Unmade g.S.Store) (cached_view (sql_view g.S.Store)) in
     ran_serve m c.args.machine.now c.run_serve.new.machine c.args.job.now
     c.in-Serve.db c.in-Serve.roster c.in-Serve.port c.in-Serve.count _ _
     (g.R.Read.remaining c.args.input.now) (g.W.Write.contents c.args.output.now)

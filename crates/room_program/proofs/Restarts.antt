@@ -1,0 +1,170 @@
+-- From one run to the next, over the files that the one before it left.
+use Rattle.std.proofs.Common.{◌≡◌, ℕ, zero, suc, List, IsTrue, refl, sym, subst}
+use Rattle.std.proofs.Common.{inl, inr, false, ◌∷◌, ◌⊎◌}
+use Rattle.std.proofs.Common.{Option, Some, Result, Ok}
+use Rattle.std.proofs.Math.Logic.{∥∥₁_map, ∥∥₁_elim}
+use Rattle.sqlite_disk.specs.declared.Disk.{Ghosts}
+use Rattle.sqlite_disk.specs.declared.Files.{Files}
+use Rattle.sqlite.specs.FileStore.{recovers}
+use Rattle.sqlite.proofs.Theorems.{next_run, opens_again}
+use Rattle.sqlite.specs.Effect.{Database}
+use Rattle.sqlite.specs.Recovery.{Image}
+use Rattle.sqlite.specs.declared.FileStore.{FileStore}
+use Rattle.sqlite.specs.State.{HasCleanDisk}
+use Rattle.sqlite.specs.Held.{Held}
+use Rattle.sqlite.specs.Files.{file_state, over_files}
+use Rattle.room_acl.specs.SubjectModel.{SubjectModel}
+use Rattle.room_records.specs.Room.{Room}
+use Rattle.room_cache.specs.declared.known.Known.{Known}
+use Rattle.room_cache.specs.Cached.{cached_view}
+use Rattle.room_tables.specs.Rows.{records_of}
+use Rattle.room_sql.specs.declared.sql_shelf.SqlShelf.{SqlShelf}
+use Rattle.room_sql.specs.SqlView.{sql_view}
+use Rattle.room_wire.specs.Asks.EventModel.{EventModel}
+use Rattle.room_desk.specs.AnswerModel.{AnswerModel}
+use Rattle.room_desk.specs.History.{History, leaves_no_reply}
+use Rattle.room_desk.specs.Representation.{RepresentsHistory, StandsFor}
+use Rattle.room_desk.specs.Serving.{EventAnswered}
+use Rattle.room_desk.proofs.Stops.{sent_again}
+use Rattle.room_program.specs.declared.fault.Fault.{Fault}
+use Rattle.room_program.specs.Machines.{Call}
+use Rattle.room_program.specs.Machines.Call.{opens, closes}
+use Rattle.room_program.specs.Rooms.{Listens}
+use Rattle.room_program.specs.Files.{Adopted, TakesRoom}
+use Rattle.room_program.specs.Streams.{ServesSome}
+use Rattle.room_program.specs.Found.{IsOpenedOver, Holds, HoldsRoom, IsLeftBy, Leaves}
+use Rattle.room_program.specs.Restarts.{MayBeLeftShut, ActsOnce, Steps, KeepsRoom, KeepsRoomOrMore}
+use Rattle.room_program.specs.Restarts.{GoesOnBySome, GoesOnOrMore, LeavesRooms, AnswersOrMore}
+use Rattle.room_program.proofs.Found.{stands, closed_holds, unopened, served}
+
+module _ {D : Type 0} (g : Ghosts D) where
+  -- what a crash left of a store is found by the next run
+  pub found_left : (it : FileStore D g) {E : Type 0} {h : Ghosts E} (left : Image) (opened : Held (FileStore E h))
+      → MayBeLeftShut it left → IsOpenedOver left opened → HasCleanDisk (file_state opened)
+      → ∥ recovers it (file_state opened).now.trees ∥₁
+  found_left it left opened may is clean =
+      let (shown, finds) = is clean in
+      ∥∥₁_map (next_run it may.left.numbered may.sound left may.left.may (file_state opened) finds)
+      (λ found. subst (λ (d : Database). recovers it d.trees) (sym shown.0.clean) found)
+
+-- ---- so many steps
+
+pub keeps_or_more : (found left : Image) → KeepsRoom found left → KeepsRoomOrMore found left
+keeps_or_more found left keeps start past held =
+    let (next, goes, there) = keeps start past held in
+    ∣ (next, (next, goes, inl refl), there) ∣₁
+
+pub room_after : (more : ℕ) (found left : Image) (start : Room) (past : History) → Steps KeepsRoom more found left
+    → HoldsRoom found start past
+    → (next : History) × Steps (GoesOnBySome start) more past next × HoldsRoom left start next
+room_after zero found left start past keeps held = keeps start past held
+room_after (suc more) found left start past (mid, keeps, later) held =
+    let (then, goes, there) = keeps start past held in
+    let (next, on, last) = room_after more mid left start then later there in
+    (next, (then, goes, on), last)
+
+pub room_after_or_more : (more : ℕ) (found left : Image) (start : Room) (past : History)
+    → Steps KeepsRoomOrMore more found left → HoldsRoom found start past
+    → ∥ ((next : History) × Steps (GoesOnOrMore start) more past next × HoldsRoom left start next) ∥₁
+room_after_or_more zero found left start past keeps held = keeps start past held
+room_after_or_more (suc more) found left start past (mid, keeps, later) held =
+    ∥∥₁_elim (keeps start past held) squash₁ (λ one.
+    let (then, goes, there) = one in
+    ∥∥₁_map (room_after_or_more more mid left start then later there) (λ all. (all.0, (then, goes, all.1), all.2)))
+
+-- ---- one run over files that held a room
+
+module _ {D : Type 0} (g : Ghosts D) (found left : Image) (opened : Held (FileStore D g))
+    (taken last : SqlShelf (FileStore D g) over_files × Known) (users : List SubjectModel)
+    (is : IsOpenedOver found opened) (adopted : Adopted over_files opened taken)
+    (clean : HasCleanDisk (file_state last.0.conn)) where
+  -- the files hold then what the store showed last
+  pub keeps_room : ServesSome (cached_view (sql_view over_files)) users taken last
+      → IsTrue (file_state last.0.conn).is_open → Holds left (file_state last.0.conn).now → KeepsRoom found left
+  keeps_room some is_open holds start past held =
+      let (next, goes, stand) = some.run clean start past (stands g found start past held opened taken is adopted) in
+      let (laid_out, rows) = stand (clean, is_open) in (
+        next,
+        (users, goes),
+        record { db = (file_state last.0.conn).now; held = holds; room = inl laid_out.0.0; rows = rows },
+      )
+
+  -- or, once a fault has shut it, that with one event more
+  pub keeps_room_or_more : AnswersOrMore (cached_view (sql_view over_files)) users taken last
+      → MayBeLeftShut last.0.conn.store left → LeavesRooms last.0.conn → KeepsRoomOrMore found left
+  keeps_room_or_more answers shut rooms start past held =
+      let (next, goes, leaves) = answers start past (stands g found start past held opened taken is adopted) in
+      ∥∥₁_map (opens_again last.0.conn.store shut.left.numbered shut.sound left shut.left.may) (λ one.
+      let (trees, may, holds) = one in
+      let (schema, sound) = shut.sound trees may in
+      let db : Database = record { schema = schema; trees = trees } in
+      let room : (past : History) → RepresentsHistory start (records_of trees) past → HoldsRoom left start past
+      = λ past rows. record {
+        db = db;
+        held = record { trees = ∣ holds ∣₁; sound = sound };
+        room = inl (rooms db sound may);
+        rows = rows;
+      } in elim (leaves (records_of trees) (clean, (trees, may, refl))) [
+        | inl rows ↦ (next, (next, (users, goes), inl refl), room next rows)
+        | inr (event, (changes, rows)) ↦ (
+          event ∷ next,
+          (next, (users, goes), inr (event, changes, refl)),
+          room (event ∷ next) rows,
+        )
+      ])
+
+-- a `serve` that took its room and closed it
+module _ {D M : Type 0} (g : Ghosts D) (image : Image) (does : M → Call (Held (FileStore D g)) → M → Type 0)
+    (left : M → Option (Files D)) (stays : (file : D) → g.may_leave file (g.seen file))
+    (finds : (old new : M) (path : List ℕ) (c : Held (FileStore D g)) → does old (opens path (Some c)) new
+    → IsOpenedOver image c)
+    (shut : (old new : M) (c : Held (FileStore D g)) → does old (closes c) new → Leaves (closes c) (left new)) where
+  abbrev Taken : Type 0
+  Taken = SqlShelf (FileStore D g) over_files × Known
+
+  took : (db : List ℕ) (old new : M) (shelf : Taken)
+      → TakesRoom does (λ opened shelf. Adopted over_files opened shelf) db old new (Ok shelf)
+      → (opened : Held (FileStore D g)) × IsOpenedOver image opened × Adopted over_files opened shelf
+  took db old new shelf (inl (begun, looked, none)) = absurd (unopened begun shelf none)
+  took db old new shelf (inr (seen, looked, inl (fault, bad, opened))) = absurd (let e = bad in cc)
+  took db old new shelf (inr (seen, looked, inr (opened, is, adopted))) =
+      (opened, finds seen new db opened is, adopted)
+
+  pub served_run : (accepts fails : M → M → Type 0) (db : List ℕ) (users : List SubjectModel) (port count : ℕ)
+      (read taken over later : M) (shelf last : Taken) (done : Result (Unit {0}) Fault) (one : Image)
+      → TakesRoom does (λ opened shelf. Adopted over_files opened shelf) db read taken (Ok shelf)
+      → Listens does accepts fails (cached_view (sql_view over_files)) users port count taken over shelf last done
+      → does over (closes last.0.conn) later → HasCleanDisk (file_state last.0.conn)
+      → IsTrue (file_state last.0.conn).is_open → IsLeftBy last.0.conn (left later) one
+      → KeepsRoom image one
+  served_run accepts fails db users port count read taken over later shelf last done one room listens closed clean
+      is_open at =
+      let (opened, is, adopted) = took db read taken shelf room in
+      keeps_room g image one opened shelf last users is adopted clean
+      (served does _ accepts fails users port count taken over shelf last done listens) is_open
+      (closed_holds g stays last.0.conn (left later) one (shut over later last.0.conn closed)
+      is_open (last.0.rests is_open) at)
+
+-- the next run finds records that the crash may leave of a store that a fault had shut
+pub found_records : {D E : Type 0} (g : Ghosts D) (h : Ghosts E) (was : SqlShelf (FileStore D g) over_files)
+    (left : Image) (opened : Held (FileStore E h)) → HasCleanDisk (file_state was.conn)
+    → MayBeLeftShut was.conn.store left → IsOpenedOver left opened → HasCleanDisk (file_state opened)
+    → ∥ (sql_view over_files was).crash_may_leave (records_of (file_state opened).now.trees) ∥₁
+found_records g h was left opened clean shut is there =
+    ∥∥₁_map (found_left g was.conn.store left opened shut is there) (λ found. (clean, (_, found, refl)))
+
+-- and an event that is sent again acts once
+pub again : {D : Type 0} (g : Ghosts D) (image : Image) (opened : Held (FileStore D g))
+    (taken after : SqlShelf (FileStore D g) over_files × Known) (event : EventModel) (answered : AnswerModel)
+    (start : Room) (past : History) → HoldsRoom image start past ⊎ HoldsRoom image start (event ∷ past)
+    → IsOpenedOver image opened → Adopted over_files opened taken
+    → EventAnswered (cached_view (sql_view over_files)) taken event answered after
+    → (cached_view (sql_view over_files) after).is_intact → leaves_no_reply past event ≡ false
+    → ActsOnce start past event answered (cached_view (sql_view over_files) after)
+again g image opened taken after event answered start past held is adopted call intact none =
+    let either : StandsFor start past (cached_view (sql_view over_files) taken)
+    ⊎ StandsFor start (event ∷ past) (cached_view (sql_view over_files) taken) = elim held [
+      | inl without ↦ inl (stands g image start past without opened taken is adopted)
+      | inr with_it ↦ inr (stands g image start (event ∷ past) with_it opened taken is adopted)
+    ] in
+    sent_again (cached_view (sql_view over_files)) taken after event answered start past call intact none either

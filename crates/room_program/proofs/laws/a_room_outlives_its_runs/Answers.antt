@@ -1,0 +1,12 @@
+use Rattle.room_program.proofs.Restarts.{room_after, room_after_or_more, keeps_or_more}
+use Rattle.room_program.proofs.laws.a_room_outlives_its_runs.Goals as goal
+
+pub returns-clause-again : goal.returns-clause-again
+returns-clause-again c more found left start past steps held = room_after more found left start past steps held
+
+pub returns-clause-in_doubt : goal.returns-clause-in_doubt
+returns-clause-in_doubt c more found left start past steps held =
+    room_after_or_more more found left start past steps held
+
+pub returns-clause-either : goal.returns-clause-either
+returns-clause-either c found left keeps = keeps_or_more found left keeps

@@ -1,0 +1,18 @@
+use Rattle.std.proofs.Common.{inl, refl, ap, subst, ◌∙◌}
+use Rattle.sqlite.specs.State.{IsLive}
+use Rattle.sqlite.specs.Files.{file_state}
+use Rattle.sqlite.specs.WalFiles.{image_at}
+use Rattle.room_program.proofs.Found.{stopped_holds}
+use Rattle.room_program.proofs.Restarts.{keeps_room, keeps_room_or_more}
+use Rattle.room_program.proofs.laws.a_serve_that_stops_keeps_the_room.Goals as goal
+
+pub returns-clause-there : goal.returns-clause-there
+returns-clause-there g c opened taken users left is adopted some clean is_open may =
+    let same = c.into_connection-connection.ensures.same ∙ ap (λ shelf. shelf.conn) c.into_inner.ensures in
+    let live = subst (λ k. IsLive (file_state k)) same c.schema-live.ensures.live in
+    keeps_room _ (image_at g.S.Start) left opened taken c.args.last users is adopted clean some is_open
+    (stopped_holds _ (λ file. inl refl) c.args.last.0 left live is_open may)
+
+pub returns-clause-shut : goal.returns-clause-shut
+returns-clause-shut g c opened taken users left is adopted answers clean shut rooms =
+    keeps_room_or_more _ (image_at g.S.Start) left opened taken c.args.last users is adopted clean answers shut rooms
