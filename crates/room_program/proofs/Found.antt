@@ -52,15 +52,16 @@ use Rattle.room_program.specs.declared.fault.Fault.{Fault}
 use Rattle.room_program.specs.declared.fault.Fault.TheVariants as fault
 use Rattle.room_program.specs.Machines.{Call}
 use Rattle.room_program.specs.Machines.Call.{opens, closes}
+use Rattle.room_program.specs.Calls.{Exchange}
 use Rattle.room_program.specs.Files.{Adopted, Made, Unmade, TakesRoom, IsUnopened}
 use Rattle.room_program.specs.Faults.{done_of_report}
 use Rattle.room_program.specs.Ends.{InitEnds}
 use Rattle.room_program.specs.Rooms.{ServesRoom, Listens, Reports, report_text}
-use Rattle.room_program.specs.Streams.{ServesSome}
 use Rattle.room_program.specs.Found.{IsOpenedOver, Holds, HoldsRoom, HoldsNothing, MayBeLeft, IsLeftBy, Leaves}
 use Rattle.room_program.specs.Found.{ServesFound, ReportsFound, MakesFound, JobFound, RunFound}
 use Rattle.room_program.specs.Runs.{Means, Streams, Ends, Runs, RunsJob, RunsRead, means}
-use Rattle.room_program.proofs.Streams.{serves_none}
+use Rattle.room_program.specs.Streams.{ServesSome}
+use Rattle.room_program.proofs.Streams.{serves_none, serves_all}
 
 -- a room of version 2 is not taken for one of version 1
 not_first : (db : Database) → IsRoomOfVersion2 db → has_room db.schema ≡ false → ⊥
@@ -117,13 +118,14 @@ unopened None taken is = is
 
 -- connections were served, or none where the port could not be listened on
 pub served : {M C Shelf : Type 0} (does : M → Call C → M → Type 0) (view : Shelf → View)
-    (accepts fails : M → M → Type 0) (users : List SubjectModel) (port count : ℕ) (taken over : M)
-    (before after : Shelf) (done : Result (Unit {0}) Fault)
+    (accepts : M → Exchange → M → Type 0) (fails : M → M → Type 0) (users : List SubjectModel)
+    (port count : ℕ) (taken over : M) (before after : Shelf) (done : Result (Unit {0}) Fault)
     → Listens does accepts fails view users port count taken over before after done
     → ServesSome view users before after
 served does view accepts fails users port count taken over before after done (inl (is, same, bound)) =
     subst (ServesSome view users before) (sym same) (serves_none view users before)
-served does view accepts fails users port count taken over before after done (inr (bound, did, all)) = all.served
+served does view accepts fails users port count taken over before after done (inr (bound, did, all)) =
+    serves_all view users accepts fails bound over before count after done all
 
 end_so : {P Q : Result (Unit {0}) Fault → Type 0} → ((done : Result (Unit {0}) Fault) → P done → Q done)
     → (old new : Option (List ℕ)) (status : ℕ) → Ends P old new status → Ends Q old new status
@@ -258,8 +260,8 @@ module _ {D M : Type 0} (g : Ghosts D) (image : Image) (does : M → Call (Held 
     taken_stands path old new taken (inr (seen, looked, inr (opened, is, adopted))) =
         stands g image start past held opened taken (finds seen new path opened is) adopted
 
-    pub serves_found : (accepts fails : M → M → Type 0) (db roster : List ℕ) (port count : ℕ) (before later : M)
-        (done : Result (Unit {0}) Fault)
+    pub serves_found : (accepts : M → Exchange → M → Type 0) (fails : M → M → Type 0) (db roster : List ℕ)
+        (port count : ℕ) (before later : M) (done : Result (Unit {0}) Fault)
         → ServesRoom does accepts fails adopts (λ taken. taken.0.conn) shown db roster port count before later done
         → ServesFound does left adopts db roster start past before later done
     serves_found accepts fails db roster port count before later done (inl fails_roster) = inl fails_roster
@@ -397,7 +399,8 @@ module _ {D M : Type 0} (g : Ghosts D) (image : Image) (does : M → Call (Held 
       )
 
   -- what a run of the program's words does, said of the files
-  module _ (accepts fails : M → M → Type 0) (before later : M) (old new : Streams) (status : ℕ) where
+  module _ (accepts : M → Exchange → M → Type 0) (fails : M → M → Type 0) (before later : M) (old new : Streams)
+      (status : ℕ) where
     abbrev program : Means M File Taken
     program =
         means does accepts fails adopts (λ taken. taken.0.conn) (Made over_files) (Unmade over_files) shown

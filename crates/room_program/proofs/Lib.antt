@@ -1,4 +1,3 @@
-mod Calls
 mod Found
 mod Stopped
 mod Restarts

@@ -28,6 +28,7 @@ use Rattle.room_desk.specs.Serving.{EventAnswered}
 use Rattle.room_desk.proofs.Stops.{sent_again}
 use Rattle.room_program.specs.declared.fault.Fault.{Fault}
 use Rattle.room_program.specs.Machines.{Call}
+use Rattle.room_program.specs.Calls.{Exchange}
 use Rattle.room_program.specs.Machines.Call.{opens, closes}
 use Rattle.room_program.specs.Rooms.{Listens}
 use Rattle.room_program.specs.Files.{Adopted, TakesRoom}
@@ -130,8 +131,9 @@ module _ {D M : Type 0} (g : Ghosts D) (image : Image) (does : M → Call (Held 
   took db old new shelf (inr (seen, looked, inr (opened, is, adopted))) =
       (opened, finds seen new db opened is, adopted)
 
-  pub served_run : (accepts fails : M → M → Type 0) (db : List ℕ) (users : List SubjectModel) (port count : ℕ)
-      (read taken over later : M) (shelf last : Taken) (done : Result (Unit {0}) Fault) (one : Image)
+  pub served_run : (accepts : M → Exchange → M → Type 0) (fails : M → M → Type 0) (db : List ℕ)
+      (users : List SubjectModel) (port count : ℕ) (read taken over later : M) (shelf last : Taken)
+      (done : Result (Unit {0}) Fault) (one : Image)
       → TakesRoom does (λ opened shelf. Adopted over_files opened shelf) db read taken (Ok shelf)
       → Listens does accepts fails (cached_view (sql_view over_files)) users port count taken over shelf last done
       → does over (closes last.0.conn) later → HasCleanDisk (file_state last.0.conn)

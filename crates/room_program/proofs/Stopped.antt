@@ -33,8 +33,9 @@ use Rattle.room_desk.specs.Representation.{RepresentsHistory, StandsFor}
 use Rattle.room_desk.specs.Serving.{EventAnswered}
 use Rattle.room_desk.proofs.Stops.{sent_again}
 use Rattle.room_program.specs.Files.{Adopted}
-use Rattle.room_program.specs.Found.{IsOpenedOver, StandsOrWith, ActsOnce}
-use Rattle.room_program.specs.Halts.{HoldsOldOrNew}
+use Rattle.room_program.specs.Found.{IsOpenedOver}
+use Rattle.room_program.specs.Halts.{StandsOrWith, HoldsOldOrNew}
+use Rattle.room_program.specs.Restarts.{ActsOnce}
 use Rattle.room_program.proofs.Found.{on_shelf}
 
 -- A shelf's store is taken out of its connection and closed, and its files have returned what was written
@@ -106,7 +107,7 @@ module _ {D : Type 0} (g : Ghosts D) (image : Image) (opened : Held (FileStore D
   acts_once held taken after answered adopted call intact none = ∥∥₁_map held (λ found.
       let stand : (other : History) → RepresentsHistory start (records_of (file_state opened).now.trees) other
       → StandsFor start other (cached_view (sql_view over_files) taken)
-      = λ other rows. on_shelf g opened taken start other adopted (λ _. (room, rows)) in
+      = λ other rows. on_shelf g opened taken start other adopted (λ _. (inl room, rows)) in
       let either : StandsFor start past (cached_view (sql_view over_files) taken)
       ⊎ StandsFor start (event ∷ past) (cached_view (sql_view over_files) taken)
       = elim (found_rows (StandsOrWith start past event) found.0 found.1 found.2) [

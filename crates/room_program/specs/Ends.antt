@@ -1,12 +1,12 @@
 -- How jobs end.
-use Rattle.std.specs.Prelude.{◌≡◌, ◌⊎◌, ℕ, List, true, Result, Ok, Err}
+use Rattle.std.specs.Prelude.{◌≡◌, ◌⊎◌, ℕ, List, true, Some, Result, Ok, Err}
 use Rattle.room_acl.specs.Principals.{IsPrincipal}
 use Rattle.room_program.specs.declared.fault.Fault.{Fault}
 use Rattle.room_program.specs.declared.fault.Fault.TheVariants.{BadName, Memory, NetworkFailed, SelftestFailed}
 use Rattle.room_program.specs.Machines.{Call}
-use Rattle.room_program.specs.Machines.Call.{connects}
+use Rattle.room_program.specs.Machines.Call.{asks, hears}
 use Rattle.room_program.specs.Files.{MakesAt}
-use Rattle.room_program.specs.Calls.{Accepted}
+use Rattle.room_program.specs.Calls.{Exchange, Accepted}
 
 -- a name that is no principal, or want of memory
 abbrev pub IsNameFault : List ℕ → Fault → Type 0
@@ -43,16 +43,23 @@ IsSelftestFault Memory = Unit {0}
 IsSelftestFault SelftestFailed = Unit {0}
 IsSelftestFault other = ⊥
 
--- the first client of `selftest` is done only where a connection was made
-abbrev pub AskedAndClosed : {M C : Type 0} → (does : M → Call C → M → Type 0)
-    → (old new : M) → Result (Unit {0}) Fault → Type 0
-AskedAndClosed does old new (Ok done) = does old (connects true) new
-AskedAndClosed does old new (Err fault) = IsSelftestFault fault
+-- two connections are accepted, or it is a fault
+abbrev pub AcceptsTwo : {M : Type 0} → (accepts : M → Exchange → M → Type 0) → (old new : M)
+    → Result (Unit {0}) Fault → Type 0
+AcceptsTwo accepts old new (Ok done) = Accepted accepts 2 old new
+AcceptsTwo accepts old new (Err fault) = IsSelftestFault fault
 
--- `selftest`: it is done only after two connections to itself were made, and two accepted
+-- what a connection is answered could be read, or it is a fault
+abbrev pub IsAnswered : {M C : Type 0} → (does : M → Call C → M → Type 0) → (old new : M)
+    → Result (Unit {0}) Fault → Type 0
+IsAnswered does old new (Ok done) = (answers : List ℕ) × does old (hears (Some answers)) new
+IsAnswered does old new (Err fault) = IsSelftestFault fault
+
+-- `selftest`: it is done only after two connections to itself were made and sent bytes, two were accepted, and the later
+-- one could be read
 abbrev pub SelftestEnds : {M C : Type 0} → (does : M → Call C → M → Type 0)
-    → (accepts : M → M → Type 0) → (old new : M) → Result (Unit {0}) Fault → Type 0
+    → (accepts : M → Exchange → M → Type 0) → (old new : M) → Result (Unit {0}) Fault → Type 0
 SelftestEnds {M} does accepts old new (Ok done) =
-    (first second : M) × does old (connects true) first × does first (connects true) second
-    × Accepted accepts 2 second new
+    (first second served : M) × (one two answers : List ℕ) × does old (asks one true) first
+    × does first (asks two true) second × Accepted accepts 2 second served × does served (hears (Some answers)) new
 SelftestEnds does accepts old new (Err fault) = IsSelftestFault fault

@@ -15,8 +15,10 @@ pub data Call (C : Type 0) : Type 0 where
   leaves : (left : C) → Call C
   -- whether connections to a port of 127.0.0.1 are listened for
   listens : (port : ℕ) → (done : Bool) → Call C
-  -- whether they are listened for, on a free port where they were not yet, with one more made
-  connects : (done : Bool) → Call C
+  -- whether they are listened for, on a free port where they were not yet, and one more was made and sent these bytes
+  asks : (sent : List ℕ) → (done : Bool) → Call C
+  -- all that the connection made last was answered, where it can be read
+  hears : (answers : Option (List ℕ)) → Call C
 
 -- what a call was answered, where it did not fail
 abbrev pub answer : {A E : Type 0} → Result A E → Option A

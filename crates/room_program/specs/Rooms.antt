@@ -11,13 +11,13 @@ use Rattle.room_words.specs.declared.job.ReportKind.{ReportKind}
 use Rattle.room_words.specs.declared.job.ReportKind.TheVariants.{Access, Lists}
 use Rattle.room_program.specs.declared.fault.Fault.{Fault}
 use Rattle.room_program.specs.declared.fault.Fault.TheVariants.{NetworkFailed}
-use Rattle.room_program.specs.Calls.{Accepted, AcceptsFewer}
+use Rattle.room_program.specs.Calls.{Exchange, ServesEach, ServesFewer}
 use Rattle.room_program.specs.Ends.{ServeEnds}
 use Rattle.room_program.specs.Faults.{done_of_report}
 use Rattle.room_program.specs.Files.{TakesRoster, TakesRoom}
 use Rattle.room_program.specs.Machines.{Call}
 use Rattle.room_program.specs.Machines.Call.{listens, closes, leaves}
-use Rattle.room_program.specs.Streams.{ServesSome}
+use Rattle.room_program.specs.Streams.{Served}
 
 -- the report of a kind
 abbrev pub report_text : ReportKind → Room → List SubjectModel → List ℕ
@@ -57,18 +57,17 @@ Reports {M} {C} {Shelf} does adopts store view db roster kind before later old n
     ⊎ ((taken left : Shelf) × (seen : M) × TakesRoom does adopts db read seen (Ok taken)
     × WritesReport view kind users taken left old new done × does seen (leaves (store left)) later)))
 
--- connections are served over a shelf: done means that so many were; each message is answered, and the history goes on
-pub record ServesAll {M Shelf : Type 0} (accepts fails : M → M → Type 0)
+-- connections are served over a shelf, one after another: done means that so many were, else fewer
+pub record ServesAll {M Shelf : Type 0} (accepts : M → Exchange → M → Type 0) (fails : M → M → Type 0)
     (view : Shelf → View) (users : List SubjectModel) (count : ℕ)
     (bound later : M) (before after : Shelf) (done : Result (Unit {0}) Fault) : Type 0 where
-  pub accepted : OnOk done (Accepted accepts count bound later)
-  pub fewer : OnErr done (AcceptsFewer accepts fails count bound later)
-  pub served : ServesSome view users before after
+  pub served : OnOk done (ServesEach accepts (Served view users) count bound later before after)
+  pub fewer : OnErr done (ServesFewer accepts fails (Served view users) count bound later before after)
   pub ends : ServeEnds done
 
 -- the port can't be listened on, or connections to it are served
 abbrev pub Listens : {M C Shelf : Type 0} → (does : M → Call C → M → Type 0)
-    → (accepts fails : M → M → Type 0) → (view : Shelf → View)
+    → (accepts : M → Exchange → M → Type 0) → (fails : M → M → Type 0) → (view : Shelf → View)
     → List SubjectModel → (port count : ℕ) → (taken later : M)
     → (before after : Shelf) → Result (Unit {0}) Fault → Type 0
 Listens {M} does accepts fails view users port count taken later before after done =
@@ -79,7 +78,7 @@ Listens {M} does accepts fails view users port count taken later before after do
 -- `serve`: the roster is taken, then the room, and then connections are served. The store that is closed is the one
 -- that they left
 abbrev pub ServesRoom : {M C Shelf : Type 0} → (does : M → Call C → M → Type 0)
-    → (accepts fails : M → M → Type 0) → (adopts : C → Shelf → Type 0)
+    → (accepts : M → Exchange → M → Type 0) → (fails : M → M → Type 0) → (adopts : C → Shelf → Type 0)
     → (store : Shelf → C) → (view : Shelf → View) → (db roster : List ℕ) → (port count : ℕ)
     → (before later : M) → Result (Unit {0}) Fault → Type 0
 ServesRoom {M} {C} {Shelf} does accepts fails adopts store view db roster port count before later done =

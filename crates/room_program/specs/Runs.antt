@@ -14,6 +14,7 @@ use Rattle.room_words.specs.declared.fault.WordsFault.TheVariants.{Usage, Help, 
 use Rattle.room_words.specs.CommandLine.{ReadsJob}
 use Rattle.room_records.specs.Shelf.{View}
 use Rattle.room_program.specs.Machines.{Call}
+use Rattle.room_program.specs.Calls.{Exchange}
 use Rattle.room_program.specs.Ends.{InitEnds, SelftestEnds}
 use Rattle.room_program.specs.Rooms.{Reports, ServesRoom}
 use Rattle.room_program.specs.Replays.{Replays}
@@ -54,7 +55,7 @@ WritesText text old new status =
 -- what a machine does, and what its stores are: `does` are its calls, `accepts` and `fails` those of its listener
 pub record Means (M C Shelf : Type 0) : Type 1 where
   pub does : M → Call C → M → Type 0
-  pub accepts : M → M → Type 0
+  pub accepts : M → Exchange → M → Type 0
   pub fails : M → M → Type 0
   -- a shelf is the store that was opened, as it is adopted
   pub adopts : C → Shelf → Type 0
@@ -67,7 +68,7 @@ pub record Means (M C Shelf : Type 0) : Type 1 where
   pub view : Shelf → View
 
 abbrev pub means : {M C Shelf : Type 0} → (does : M → Call C → M → Type 0)
-    → (accepts fails : M → M → Type 0) → (adopts : C → Shelf → Type 0)
+    → (accepts : M → Exchange → M → Type 0) → (fails : M → M → Type 0) → (adopts : C → Shelf → Type 0)
     → (store : Shelf → C) → (made : (owner group : List ℕ) → C → C → Type 0)
     → (unmade : (owner group : List ℕ) → C → C → Fault → Type 0) → (view : Shelf → View) → Means M C Shelf
 means d a f p s m u v =
@@ -75,7 +76,7 @@ means d a f p s m u v =
 
 -- the line `selftest ok` goes to the output after two connections were served, or a fault is told
 abbrev pub Tries : {M C : Type 0} → (does : M → Call C → M → Type 0)
-    → (accepts : M → M → Type 0) → (before later : M) → Streams → Streams → ℕ → Type 0
+    → (accepts : M → Exchange → M → Type 0) → (before later : M) → Streams → Streams → ℕ → Type 0
 Tries does accepts before later old new status =
     (SelftestEnds does accepts before later (Ok tt) × WritesText (codes "selftest ok\n") old new status)
     ⊎ ((new.output ≡ old.output) × (fault : Fault) × SelftestEnds does accepts before later (Err fault)

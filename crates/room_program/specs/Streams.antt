@@ -5,10 +5,12 @@ use Rattle.room_records.specs.Room.{Room}
 use Rattle.room_records.specs.Shelf.{View}
 use Rattle.room_wire.specs.Asks.EventModel.{EventModel}
 use Rattle.room_wire.specs.Messages.MessageModel.{MessageModel}
-use Rattle.room_wire.specs.Serving.Outputs.{Outputs}
+use Rattle.room_wire.specs.Serving.Ends.{Serves}
+use Rattle.room_wire.specs.Answers.AnswerModel.{AnswerModel}
 use Rattle.room_desk.specs.History.{History}
 use Rattle.room_desk.specs.Representation.{StandsFor}
-use Rattle.room_desk.specs.Serving.{DeskCall, IsRun, MayAnswer}
+use Rattle.room_desk.specs.Serving.{AnswersMessage, DeskCall, IsRun, MayAnswer}
+use Rattle.room_program.specs.Calls.{Exchange}
 
 -- these users' messages are a run from the history to the next, which has their events more
 pub record GoesOn (users : List SubjectModel) (start : Room) (past next : History) : Type 0 where
@@ -18,14 +20,22 @@ pub record GoesOn (users : List SubjectModel) (start : Room) (past next : Histor
   pub events : List EventModel
   pub on : next ≡ events ++ past
 
--- some messages were answered in turn over a shelf
-abbrev pub AnswersSome : {S : Type 0} (view : S → View) → List SubjectModel → S → S → Type 0
-AnswersSome view users before after =
-    (messages : List MessageModel) × (output : List ℕ) × Outputs (MayAnswer view users) before messages output after
+-- the bytes that went over a connection are messages and their answers, by a service that may change with each
+abbrev pub Carries : {S : Type 0} → (may_answer : S → MessageModel → AnswerModel → S → Type 0) → S → Exchange → S → Type 0
+Carries may_answer before e after =
+    Serves may_answer before after e.input e.left e.output e.written e.end.why e.end.count
 
--- and the history has gone on while the store is there
+-- a connection was served over a shelf, as by `Desk::serve`: what went over it are messages of these users and their
+-- answers, and the history has gone on by these messages while the store is there
+pub record Served {S : Type 0} (view : S → View) (users : List SubjectModel)
+    (before : S) (e : Exchange) (after : S) : Type 0 where
+  pub frame : DeskCall (view before) (view after)
+  pub messages : Carries (MayAnswer view users) before e after
+  pub run : (view after).is_intact → (start : Room) (past : History) → StandsFor start past (view before) →
+      (next : History) × Carries (AnswersMessage users start) past e next × StandsFor start next (view after)
+
+-- and over some connections, while the store is there: the history has gone on
 pub record ServesSome {S : Type 0} (view : S → View) (users : List SubjectModel) (before after : S) : Type 0 where
   pub frame : DeskCall (view before) (view after)
-  pub messages : AnswersSome view users before after
   pub run : (view after).is_intact → (start : Room) (past : History) → StandsFor start past (view before) →
       (next : History) × GoesOn users start past next × StandsFor start next (view after)

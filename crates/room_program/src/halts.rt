@@ -17,8 +17,9 @@ ghost use Rattle.room_desk.specs.History.{History, leaves_no_reply};
 ghost use Rattle.room_desk.specs.Representation.{StandsFor};
 ghost use Rattle.room_desk.specs.Serving.{EventAnswered};
 ghost use Rattle.room_program.specs.Files.{Adopted};
-ghost use Rattle.room_program.specs.Found.{IsOpenedOver, StandsOrWith, ActsOnce};
-ghost use Rattle.room_program.specs.Halts.{WereClean, MayBeLeftThen, HoldsOldOrNew};
+ghost use Rattle.room_program.specs.Found.{IsOpenedOver};
+ghost use Rattle.room_program.specs.Halts.{WereClean, MayBeLeftThen, StandsOrWith, HoldsOldOrNew};
+ghost use Rattle.room_program.specs.Restarts.{ActsOnce};
 
 use crate::host::FileConnection;
 use room_cache::CachedShelf;

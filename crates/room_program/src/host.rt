@@ -2,12 +2,13 @@
 ghost use Rattle.room_program.specs.Machines.Call.{closes};
 ghost use Rattle.room_program.specs.Found.{Leaves};
 
-use crate::listening::Listener;
+use crate::listening::{Listener, Server};
 use crate::machine::Machine;
+use room_records::Roster;
 use sqlite::{Connection, Error, ErrorCode, FileFrom, FileStore, Files, Start};
 use std::fs;
-use std::io::{self, ErrorKind};
-use std::net::{Ipv4Addr, TcpListener, TcpStream};
+use std::io::{self, ErrorKind, Read, Write};
+use std::net::{Ipv4Addr, Shutdown, TcpListener, TcpStream};
 
 /// A connection to a file and its log, where `S` stands for what the two held as they were opened.
 pub type FileConnection<S> = Connection<FileStore<FileFrom<S>>>;
@@ -20,6 +21,8 @@ pub struct Host<'a, S: Start> {
     /// It stands for the files of one path, so it is used up as they are opened.
     start: Option<S>,
     listener: Option<TcpListener>,
+    /// The connection that it made last, to itself.
+    client: Option<TcpStream>,
     /// The files of the store that was closed last, where its log was copied.
     left: Option<Files<FileFrom<S>>>,
 }
@@ -32,6 +35,7 @@ impl<'a, S: Start> Host<'a, S> {
             rt,
             start: Some(start),
             listener: None,
+            client: None,
             left: None,
         }
     }
@@ -93,27 +97,42 @@ impl<'a, S: Start> Machine<FileConnection<S>> for Host<'a, S> {
         Ok(())
     }
 
-    fn connect(&mut self) -> io::Result<TcpStream> {
+    fn ask(&mut self, requests: &str) -> io::Result<()> {
+        self.client = None;
         if self.listener.is_none() {
             self.listen(0)?;
         }
-        match &self.listener {
-            Some(listener) => TcpStream::connect(self.rt, listener.local_addr()?),
-            None => Err(io::Error::from(ErrorKind::NotConnected)),
-        }
+        let Some(listener) = &self.listener else {
+            return Err(io::Error::from(ErrorKind::NotConnected));
+        };
+        let mut client = TcpStream::connect(self.rt, listener.local_addr()?)?;
+        client.write_all(requests.as_bytes())?;
+        client.shutdown(Shutdown::Write)?;
+        self.client = Some(client);
+        Ok(())
+    }
+
+    fn hear(&mut self) -> io::Result<Vec<u8>> {
+        let Some(client) = &mut self.client else {
+            return Err(io::Error::from(ErrorKind::NotConnected));
+        };
+        let mut answers = Vec::new(self.rt.alloc());
+        client.read_to_end(&mut answers)?;
+        Ok(answers)
     }
 }
 
 impl<'a, S: Start> Listener for Host<'a, S> {
     ghost use Rattle.std.specs.Prelude.{⊤};
+    ghost use Rattle.room_program.specs.Calls.{IsUnknown};
 
-    ghost accepts = { λ _ _. ⊤ };
+    ghost accepts = { λ _ e _. IsUnknown e };
 
     ghost fails = { λ _ _. ⊤ };
 
-    fn next_stream(&mut self) -> io::Result<TcpStream> {
+    fn serve_next<V: Server>(&mut self, server: &mut V, roster: &Roster) -> io::Result<()> {
         match &mut self.listener {
-            Some(listener) => listener.next_stream(),
+            Some(listener) => listener.serve_next(server, roster),
             None => Err(io::Error::from(ErrorKind::NotConnected)),
         }
     }

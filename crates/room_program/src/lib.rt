@@ -29,7 +29,7 @@ pub use laws::{
     an_event_sent_again_to_the_next_run_acts_once, the_next_run_finds_what_this_one_saw,
     what_a_run_does_to_files,
 };
-pub use listening::Listener;
+pub use listening::{Listener, Server};
 pub use machine::Machine;
 pub use network::serve_listener;
 pub use room_words::{Job, ReportKind, WordsFault, read_words};

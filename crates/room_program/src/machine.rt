@@ -1,11 +1,10 @@
 //! What a run asks of the machine that it runs on, beside its three streams.
-ghost use Rattle.std.specs.Prelude.{string_bytes};
+ghost use Rattle.std.specs.Prelude.{string_bytes, vec_items};
 ghost use Rattle.room_program.specs.Machines.{Call, answer, is_done, text_answer};
-ghost use Rattle.room_program.specs.Machines.Call.{reads, looks, opens, closes, leaves, listens, connects};
+ghost use Rattle.room_program.specs.Machines.Call.{reads, looks, opens, closes, leaves, listens, asks, hears};
 
 use sqlite::Error;
 use std::io;
-use std::net::TcpStream;
 
 /// The machine's files and sockets, as a run sees them; `C` are connections to stores. A run takes
 /// it as a value, so that its contract says which calls it made, in their order, and what they were
@@ -39,7 +38,12 @@ pub trait Machine<C> {
     fn listen(&mut self, port: u16) -> io::Result<()>
         ensures bound { does self.old (listens port (is_done result)) self.new };
 
-    /// Listens on a free port of 127.0.0.1, where it listens for nothing yet, and makes a connection to it.
-    fn connect(&mut self) -> io::Result<TcpStream>
-        ensures joined { does self.old (connects (is_done result)) self.new };
+    /// Listens on a free port of 127.0.0.1, where it listens for nothing yet, makes a connection to it, and sends it
+    /// these bytes and no more. The connection that was made before is closed.
+    fn ask(&mut self, requests: &str) -> io::Result<()>
+        ensures asked { does self.old (asks requests.now (is_done result)) self.new };
+
+    /// All that the connection made last is answered, up to its end.
+    fn hear(&mut self) -> io::Result<Vec<u8>>
+        ensures heard { does self.old (hears (text_answer vec_items result)) self.new };
 }

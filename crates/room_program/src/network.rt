@@ -1,14 +1,14 @@
 //! Serving a room over connections.
 ghost use Rattle.std.specs.Prelude.{OnOk, OnErr};
-ghost use Rattle.room_program.specs.Calls.{Accepted, AcceptsFewer};
-ghost use Rattle.room_program.specs.Streams.{ServesSome};
+ghost use Rattle.room_program.specs.Calls.{ServesEach, ServesFewer};
+ghost use Rattle.room_program.specs.Streams.{Served};
 
-use crate::listening::Listener;
+use crate::listening::{Listener, Server};
 use room_desk::Desk;
 use room_records::{Roster, Shelf};
 use room_wire::Why;
-use std::io::{self, Read};
-use std::net::{Shutdown, TcpStream};
+use std::io::{self, ErrorKind, Read};
+use std::net::{Shutdown, TcpListener, TcpStream};
 use std::time::Duration;
 
 /// How many pieces of what a peer still sends are read before its connection is closed.
@@ -24,6 +24,19 @@ const LONGEST_WAIT: u64 = 60;
 fn limit_waits(stream: &TcpStream) -> bool {
     let most = Some(Duration::from_secs(LONGEST_WAIT));
     stream.set_read_timeout(most).is_ok() && stream.set_write_timeout(most).is_ok()
+}
+
+/// Waits for a connection whose waits have a bound: one for which the system refuses that is closed, and not counted.
+fn accept(listener: &TcpListener) -> io::Result<TcpStream> {
+    for stream in listener.incoming() {
+        let stream = stream?;
+        if limit_waits(&stream) {
+            // An answer goes out at once, not with the next one.
+            let _ = stream.set_nodelay(true);
+            return Ok(stream);
+        }
+    }
+    Err(io::Error::from(ErrorKind::NotConnected))
 }
 
 /// Ends the writing, and takes what the peer still sends, up to a bound. A connection that is closed
@@ -45,40 +58,43 @@ fn finish(stream: &TcpStream) {
     }
 }
 
-/// Serves one connection, and none whose waits have no bound. However it ends, the room's history has gone on while
-/// the store is there. Where the peer neither sends nor takes anything for a minute, it ends as after a failed read or
-/// write: what was read of the next message so far changes nothing.
-fn serve_stream<S: Shelf>(stream: &TcpStream, desk: &mut Desk<S>, roster: &Roster)
-    ensures { ServesSome S.view roster.now desk.old desk.new }
-{
-    if !limit_waits(stream) {
-        return;
-    }
-    // An answer goes out at once, not with the next one.
-    let _ = stream.set_nodelay(true);
-    let end = desk.serve(roster, &mut &*stream, &mut &*stream);
-    if end.why == Why::Closed || end.why == Why::BadMessage {
-        finish(stream);
+/// Of a connection of the system no byte is known; that it was served, once, is. Where the peer neither sends nor takes
+/// anything for a minute, it ends as after a failed read or write: what was read of the next message so far changes
+/// nothing.
+impl Listener for TcpListener {
+    ghost use Rattle.std.specs.Prelude.{⊤};
+    ghost use Rattle.room_program.specs.Calls.{IsUnknown};
+
+    ghost accepts = { λ _ e _. IsUnknown e };
+
+    ghost fails = { λ _ _. ⊤ };
+
+    fn serve_next<V: Server>(&mut self, server: &mut V, roster: &Roster) -> io::Result<()> {
+        let stream = accept(self)?;
+        let end = server.serve_connection(roster, &mut &stream, &mut &stream);
+        if end.why == Why::Closed || end.why == Why::BadMessage {
+            finish(&stream);
+        }
+        Ok(())
     }
 }
 
 /// Serves `count` connections, one after another. One that ends badly does not end it: an error
 /// comes only where a connection can't be accepted, and Ok only after that many were. However it
-/// ends, each message was answered as `Desk::serve` answers it, and the room's history has gone on
-/// while the store is there.
+/// ends, what went over each connection are messages and their answers, as `Desk::serve` has it.
 pub fn serve_listener<S: Shelf, L: Listener>(
     listener: &mut L,
     desk: &mut Desk<S>,
     roster: &Roster,
     count: u32,
 ) -> io::Result<()>
-    ensures accepted { OnOk result (Accepted L.accepts count listener.old listener.new) }
-    ensures fewer { OnErr result (AcceptsFewer L.accepts L.fails count listener.old listener.new) }
-    ensures served { ServesSome S.view roster.now desk.old desk.new }
+    ensures served { OnOk result (ServesEach L.accepts (Served S.view roster.now) count
+        listener.old listener.new desk.old desk.new) }
+    ensures fewer { OnErr result (ServesFewer L.accepts L.fails (Served S.view roster.now) count
+        listener.old listener.new desk.old desk.new) }
 {
     for served in 0..count {
-        let stream = listener.next_stream()?;
-        serve_stream(&stream, desk, roster);
+        listener.serve_next(desk, roster)?;
     }
     Ok(())
 }

@@ -1,6 +1,6 @@
 //! Trying a room in memory over sockets to itself.
 ghost use Rattle.std.specs.Prelude.{IfErr};
-ghost use Rattle.room_program.specs.Ends.{AskedAndClosed, IsSelftestFault, SelftestEnds};
+ghost use Rattle.room_program.specs.Ends.{AcceptsTwo, IsAnswered, IsSelftestFault, SelftestEnds};
 
 use crate::fault::Fault;
 use crate::listening::Listener;
@@ -12,8 +12,6 @@ use room_desk::Desk;
 use room_records::{MemShelf, Roster};
 use room_roster::{RosterFault, read_roster};
 use std::alloc::Global;
-use std::io::{Read, Write};
-use std::net::{Shutdown, TcpStream};
 
 const ROSTER: &str = "[users]\nann = [\"eng\"]\nbob = [\"eng\", \"staff\"]\neng = []\n";
 
@@ -55,61 +53,47 @@ fn desk(alloc: Global) -> Result<Desk<MemShelf>, Fault>
     }
 }
 
-/// A client's end: what it writes before it is served. It writes no more then.
-fn ask(client: &TcpStream, requests: &str) -> Result<(), Fault>
-    ensures { IfErr result IsSelftestFault }
+/// Whether the connection made last was answered so, and no more.
+fn is_answered<C, M: Machine<C> + Listener>(machine: &mut M) -> Result<(), Fault>
+    ensures { IsAnswered M.does machine.old machine.new result }
 {
-    let mut writer = client;
-    if writer.write_all(requests.as_bytes()).is_err() || client.shutdown(Shutdown::Write).is_err() {
-        return Err(Fault::SelftestFailed);
+    match machine.hear() {
+        Ok(answers) if answers.as_slice() == ANSWERS.as_bytes() => Ok(()),
+        _ => Err(Fault::SelftestFailed),
     }
-    Ok(())
 }
 
-/// Whether a client's end has the answers, and nothing behind them.
-fn is_answered(alloc: Global, client: &TcpStream) -> Result<(), Fault>
-    ensures { IfErr result IsSelftestFault }
+/// Serves two connections over the desk.
+fn serve_two<L: Listener>(
+    listener: &mut L,
+    desk: &mut Desk<MemShelf>,
+    roster: &Roster,
+) -> Result<(), Fault>
+    ensures { AcceptsTwo L.accepts listener.old listener.new result }
 {
-    let mut answers = Vec::new(alloc);
-    let mut reader = client;
-    if reader.read_to_end(&mut answers).is_err() || answers.as_slice() != ANSWERS.as_bytes() {
-        return Err(Fault::SelftestFailed);
+    match serve_listener(listener, desk, roster, 2) {
+        Ok(()) => Ok(()),
+        Err(_) => Err(Fault::SelftestFailed),
     }
-    Ok(())
 }
 
-/// A client that asks and is gone before it is served, so that it takes no answer.
-fn ask_and_close<C, M: Machine<C> + Listener>(machine: &mut M) -> Result<(), Fault>
-    ensures { AskedAndClosed M.does machine.old machine.new result }
-{
-    let Ok(client) = machine.connect() else {
-        return Err(Fault::SelftestFailed);
-    };
-    ask(&client, FIRST)
-}
-
-/// Two clients, and then the server's end of both. The first one's answers are lost; what it asked was done once.
+/// Two clients, and then the server's end of both. The first is gone before it is served, so that it takes no answer;
+/// what it asked was done once.
 fn talk<C, M: Machine<C> + Listener>(
-    alloc: Global,
     machine: &mut M,
     desk: &mut Desk<MemShelf>,
     roster: &Roster,
 ) -> Result<(), Fault>
     ensures { SelftestEnds M.does M.accepts machine.old machine.new result }
 {
-    if ask_and_close(machine).is_err() {
+    if machine.ask(FIRST).is_err() {
         return Err(Fault::SelftestFailed);
     }
-    let Ok(client) = machine.connect() else {
-        return Err(Fault::SelftestFailed);
-    };
-    if ask(&client, SECOND).is_err() {
+    if machine.ask(SECOND).is_err() {
         return Err(Fault::SelftestFailed);
     }
-    match serve_listener(machine, desk, roster, 2) {
-        Ok(()) => is_answered(alloc, &client),
-        Err(_) => Err(Fault::SelftestFailed),
-    }
+    serve_two(machine, desk, roster)?;
+    is_answered(machine)
 }
 
 /// Asks a fresh room in memory over sockets to itself, one end after the other.
@@ -121,7 +105,7 @@ pub(crate) fn selftest<C, M: Machine<C> + Listener>(
 {
     let roster = users(alloc)?;
     let mut desk = desk(alloc)?;
-    let tried = talk(alloc, machine, &mut desk, &roster);
+    let tried = talk(machine, &mut desk, &roster);
     let _ = desk.into_shelf();
     tried
 }
