@@ -1,4 +1,7 @@
 //! The machine that the program runs on.
+ghost use Rattle.std.specs.Prelude.{◌≡◌, [], ◌∷◌};
+ghost use Rattle.std.specs.Net.Addr.{ipv4_octets};
+ghost use Rattle.std.specs.Net.Socket.{v4_ip, v4_port};
 ghost use Rattle.room_program.specs.Machines.Call.{closes};
 ghost use Rattle.room_program.specs.Found.{Leaves};
 
@@ -8,13 +11,18 @@ use room_records::Roster;
 use sqlite::{Connection, Error, ErrorCode, FileFrom, FileStore, Files, Start};
 use std::fs;
 use std::io::{self, ErrorKind, Read, Write};
-use std::net::{Ipv4Addr, Shutdown, TcpListener, TcpStream};
+use std::net::{Ipv4Addr, Shutdown, SocketAddrV4, TcpListener, TcpStream};
 
 /// A connection to a file and its log, where `S` stands for what the two held as they were opened.
 pub type FileConnection<S> = Connection<FileStore<FileFrom<S>>>;
 
 /// The files and sockets of the system. A store that is opened finds what `S` says that its files held, while the disk
-/// returns what was written; no other contract says what a file or a socket gives.
+/// returns what was written, and a close leaves its last commit in them; no other contract says what a file or a socket
+/// gives.
+///
+/// No contract can say which file a call of the system reaches, nor who else does. So these methods are to be read for
+/// it: that `open` hands on its path, as the other two hand on theirs; that nothing here writes a file but the store,
+/// nor removes one; and that `listen` listens at `local` alone, and `next_stream` answers what comes there.
 #[derive(Drop)]
 pub struct Host<'a, S: Start> {
     rt: &'a HostRuntime,
@@ -39,6 +47,14 @@ impl<'a, S: Start> Host<'a, S> {
             left: None,
         }
     }
+}
+
+/// This port of 127.0.0.1.
+fn local(port: u16) -> SocketAddrV4
+    ensures ip { ipv4_octets (v4_ip result) ≡ 127 ∷ 0 ∷ 0 ∷ 1 ∷ [] }
+    ensures port { v4_port result ≡ port }
+{
+    SocketAddrV4::new(Ipv4Addr::LOCALHOST, port)
 }
 
 /// Closes a store. Its files are answered, where its log was copied.
@@ -93,7 +109,7 @@ impl<'a, S: Start> Machine<FileConnection<S>> for Host<'a, S> {
     }
 
     fn listen(&mut self, port: u16) -> io::Result<()> {
-        self.listener = Some(TcpListener::bind(self.rt, (Ipv4Addr::LOCALHOST, port))?);
+        self.listener = Some(TcpListener::bind(self.rt, local(port))?);
         Ok(())
     }
 
