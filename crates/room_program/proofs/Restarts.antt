@@ -1,7 +1,7 @@
 -- From one run to the next, over the files that the one before it left.
 use Rattle.std.proofs.Common.{◌≡◌, ℕ, zero, suc, List, IsTrue, refl, sym, subst}
 use Rattle.std.proofs.Common.{inl, inr, false, ◌∷◌, ◌⊎◌}
-use Rattle.std.proofs.Common.{Option, Some, Result, Ok}
+use Rattle.std.proofs.Common.{Option, Some, Result, Ok, []}
 use Rattle.std.proofs.Math.Logic.{∥∥₁_map, ∥∥₁_elim}
 use Rattle.sqlite_disk.specs.declared.Disk.{Ghosts}
 use Rattle.sqlite_disk.specs.declared.Files.{Files}
@@ -15,6 +15,7 @@ use Rattle.sqlite.specs.Held.{Held}
 use Rattle.sqlite.specs.Files.{file_state, over_files}
 use Rattle.room_acl.specs.SubjectModel.{SubjectModel}
 use Rattle.room_records.specs.Room.{Room}
+use Rattle.room_records.specs.Shelf.{View}
 use Rattle.room_cache.specs.declared.known.Known.{Known}
 use Rattle.room_cache.specs.Cached.{cached_view}
 use Rattle.room_tables.specs.Rows.{records_of}
@@ -30,7 +31,8 @@ use Rattle.room_program.specs.declared.fault.Fault.{Fault}
 use Rattle.room_program.specs.Machines.{Call}
 use Rattle.room_program.specs.Calls.{Exchange}
 use Rattle.room_program.specs.Machines.Call.{opens, closes}
-use Rattle.room_program.specs.Rooms.{Listens}
+use Rattle.room_program.specs.Rooms.{Listens, WritesReport}
+use Rattle.room_words.specs.declared.job.ReportKind.{ReportKind}
 use Rattle.room_program.specs.Files.{Adopted, TakesRoom}
 use Rattle.room_program.specs.Streams.{ServesSome}
 use Rattle.room_program.specs.Found.{IsOpenedOver, Holds, HoldsRoom, IsLeftBy, Leaves}
@@ -75,18 +77,43 @@ room_after_or_more (suc more) found left start past (mid, keeps, later) held =
 
 -- ---- one run over files that held a room
 
+-- its shelf went from one history to the next
+abbrev RunsOn : {S : Type 0} (view : S → View) → S → S → Type 0
+RunsOn view taken last = (start : Room) (past : History) → StandsFor start past (view taken)
+    → (next : History) × GoesOnBySome start past next × StandsFor start next (view last)
+
+module _ {S : Type 0} (view : S → View) where
+  pub by_messages : (users : List SubjectModel) (taken last : S) → ServesSome view users taken last
+      → (view last).is_intact → RunsOn view taken last
+  by_messages users taken last some intact start past stand =
+      let (next, goes, there) = some.run intact start past stand in
+      (next, (users, goes), there)
+
+  -- by a report to itself
+  pub by_report : (kind : ReportKind) (users : List SubjectModel) (taken last : S) (old new : Option (List ℕ))
+      (done : Result (Unit {0}) Fault) → WritesReport view kind users taken last old new done → RunsOn view taken last
+  by_report kind users taken last old new done writes start past stand = (
+    past,
+    ([], record { messages = []; output = []; run = (refl, refl); events = []; on = refl }),
+    λ there.
+        let (laid_out, rows) = stand (writes.read.call.was_available there) in (
+          writes.read.call.laid_out there laid_out,
+          subst (λ r. RepresentsHistory start r past) (sym (writes.read.same there laid_out)) rows,
+        ),
+  )
+
 module _ {D : Type 0} (g : Ghosts D) (found left : Image) (opened : Held (FileStore D g))
     (taken last : SqlShelf (FileStore D g) over_files × Known) (users : List SubjectModel)
     (is : IsOpenedOver found opened) (adopted : Adopted over_files opened taken)
     (clean : HasCleanDisk (file_state last.0.conn)) where
   -- the files hold then what the store showed last
-  pub keeps_room : ServesSome (cached_view (sql_view over_files)) users taken last
-      → IsTrue (file_state last.0.conn).is_open → Holds left (file_state last.0.conn).now → KeepsRoom found left
-  keeps_room some is_open holds start past held =
-      let (next, goes, stand) = some.run clean start past (stands g found start past held opened taken is adopted) in
+  pub keeps_room : RunsOn (cached_view (sql_view over_files)) taken last → IsTrue (file_state last.0.conn).is_open
+      → Holds left (file_state last.0.conn).now → KeepsRoom found left
+  keeps_room on is_open holds start past held =
+      let (next, goes, stand) = on start past (stands g found start past held opened taken is adopted) in
       let (laid_out, rows) = stand (clean, is_open) in (
         next,
-        (users, goes),
+        goes,
         record { db = (file_state last.0.conn).now; held = holds; room = inl laid_out.0.0; rows = rows },
       )
 
@@ -142,9 +169,9 @@ module _ {D M : Type 0} (g : Ghosts D) (image : Image) (does : M → Call (Held 
   served_run accepts fails db users port count read taken over later shelf last done one room listens closed clean
       is_open at =
       let (opened, is, adopted) = took db read taken shelf room in
-      keeps_room g image one opened shelf last users is adopted clean
-      (served does _ accepts fails users port count taken over shelf last done listens) is_open
-      (closed_holds g stays last.0.conn (left later) one (shut over later last.0.conn closed)
+      let some = served does _ accepts fails users port count taken over shelf last done listens in
+      keeps_room g image one opened shelf last users is adopted clean (by_messages _ users shelf last some clean)
+      is_open (closed_holds g stays last.0.conn (left later) one (shut over later last.0.conn closed)
       is_open (last.0.rests is_open) at)
 
 -- the next run finds records that the crash may leave of a store that a fault had shut

@@ -1,5 +1,5 @@
 //! Laws of runs over files. Each function here does nothing: its contract follows from that of `run_program`.
-ghost use Rattle.std.specs.Prelude.{◌≡◌, ◌⊎◌, ℕ, List, ◌∷◌, Result, false, Ok, IsTrue};
+ghost use Rattle.std.specs.Prelude.{◌≡◌, ◌⊎◌, ℕ, List, ◌∷◌, Option, Result, false, Ok, IsTrue};
 ghost use Rattle.clap.specs.Words.{Text};
 ghost use Rattle.sqlite.specs.WalFiles.{image_at};
 ghost use Rattle.sqlite.specs.Recovery.{Image};
@@ -15,7 +15,8 @@ ghost use Rattle.room_desk.specs.Serving.{EventAnswered};
 ghost use Rattle.room_program.specs.declared.fault.Fault.{Fault};
 ghost use Rattle.room_program.specs.Files.{Adopted, Made, Unmade, TakesRoom};
 ghost use Rattle.room_program.specs.Machines.Call.{closes};
-ghost use Rattle.room_program.specs.Rooms.{Listens};
+ghost use Rattle.room_program.specs.Rooms.{Listens, WritesReport};
+ghost use Rattle.room_words.specs.declared.job.ReportKind.{ReportKind};
 ghost use Rattle.room_program.specs.Runs.{Runs, Streams, means};
 ghost use Rattle.room_program.specs.Streams.{ServesSome};
 ghost use Rattle.room_program.specs.Found.{HoldsRoom, IsOpenedOver, IsLeftBy, MayBeLeft, RunFound};
@@ -83,14 +84,21 @@ pub fn a_serve_that_ends_keeps_the_room<S: Start>()
 {}
 
 /// And so is one that stops between two requests, with the shelf `last`, while its store is there: a crash may leave
-/// the image `left` of its files (`there`). Once a fault has shut the store, it is one that keeps the room, or the room
-/// with one event more (`shut`).
-pub fn a_serve_that_stops_keeps_the_room<S: Start>(
+/// the image `left` of its files (`there`); and a `report`, which lets its store go (`report`). Once a fault has shut
+/// the store, it is one that keeps the room, or the room with one event more (`shut`).
+pub fn a_run_that_stops_keeps_the_room<S: Start>(
     last: CachedShelf<SqlShelf<FileStore<FileFrom<S>>>>,
 )
     ensures there { (opened : _) (taken : _) (users : List SubjectModel) (left : Image) →
         IsOpenedOver (image_at S.Start) opened → Adopted ⟦<FileStore<FileFrom<S>> as Store>⟧ opened taken →
         ServesSome ⟦<CachedShelf<SqlShelf<FileStore<FileFrom<S>>>> as Shelf>⟧.view users taken last →
+        HasCleanDisk (file_state last.0.conn) → IsTrue (file_state last.0.conn).is_open →
+        MayBeLeft last.0.conn.store left → KeepsRoom (image_at S.Start) left }
+    ensures report { (opened : _) (taken : _) (kind : ReportKind) (users : List SubjectModel)
+        (old new : Option (List ℕ)) (done : Result (Unit {0}) Fault) (left : Image) →
+        IsOpenedOver (image_at S.Start) opened → Adopted ⟦<FileStore<FileFrom<S>> as Store>⟧ opened taken →
+        WritesReport ⟦<CachedShelf<SqlShelf<FileStore<FileFrom<S>>>> as Shelf>⟧.view
+        kind users taken last old new done →
         HasCleanDisk (file_state last.0.conn) → IsTrue (file_state last.0.conn).is_open →
         MayBeLeft last.0.conn.store left → KeepsRoom (image_at S.Start) left }
     ensures shut { (opened : _) (taken : _) (users : List SubjectModel) (left : Image) →

@@ -25,7 +25,7 @@ pub use fault::Fault;
 pub use halts::{an_event_cut_off_acts_once, an_event_cut_off_leaves_old_or_new};
 pub use host::{FileConnection, Host};
 pub use laws::{
-    a_room_outlives_its_runs, a_serve_that_ends_keeps_the_room, a_serve_that_stops_keeps_the_room,
+    a_room_outlives_its_runs, a_run_that_stops_keeps_the_room, a_serve_that_ends_keeps_the_room,
     an_event_sent_again_to_the_next_run_acts_once, the_next_run_finds_what_this_one_saw,
     what_a_run_does_to_files,
 };
