@@ -1,7 +1,7 @@
 //! The program `fileroom`: `main` alone. What it does stands in the crate `room_program`.
 #![tactic(auto)]
 
-use room_program::{Fault, Unknown, run_program};
+use room_program::{Fault, Wary, run_program};
 use std::env;
 use std::io::{self, ErrorKind, Write};
 use std::process::ExitCode;
@@ -30,7 +30,7 @@ fn main(rt: HostRuntime) -> ExitCode {
             &mut rt.stdin(),
             &mut rt.stdout(),
             &mut rt.stderr(),
-            Unknown,
+            Wary,
         ),
         Err(error) => refuse(&rt, &error),
     };

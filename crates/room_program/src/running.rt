@@ -285,7 +285,7 @@ pub fn run_machine<
 /// Runs the program on the words behind its name, and answers its exit status: 0 where the job was
 /// done or help was shown, 1 after a fault, whose line goes to `errors`, 2 where the words are no
 /// row of the command table. Memory is taken from `rt`. It holds for any `S`, which stands for what the files of the
-/// store held as they were opened; `main` passes `Unknown`.
+/// store held as they were opened; `main` passes `Wary`, which supposes nothing of a write that a crash cuts.
 pub fn run_program<S: Start, R: Read, W: Write, E: Write>(
     rt: &HostRuntime,
     words: &[String],
