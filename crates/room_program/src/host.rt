@@ -22,7 +22,7 @@ pub type FileConnection<S> = Connection<FileStore<FileFrom<S>>>;
 ///
 /// No contract can say which file a call of the system reaches, nor who else does. So these methods are to be read for
 /// it: that `open` hands on its path, as the other two hand on theirs; that nothing here writes a file but the store,
-/// nor removes one; and that `listen` listens at `local` alone, and `next_stream` answers what comes there.
+/// nor removes one; and that `listen` listens at `local` alone, and `serve_next` has served what comes there.
 #[derive(Drop)]
 pub struct Host<'a, S: Start> {
     rt: &'a HostRuntime,
