@@ -12,6 +12,10 @@ mod delays;
 #[cfg(test)]
 mod failures;
 #[cfg(test)]
+mod machine;
+#[cfg(test)]
+mod played;
+#[cfg(test)]
 mod program;
 #[cfg(test)]
 mod reports;
