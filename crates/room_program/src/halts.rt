@@ -83,9 +83,8 @@ pub fn an_event_cut_off_leaves_old_or_new<D: Disk + Drop>(
 }
 
 /// The next run opens such files, which `T` stands for, takes the room that it finds, and the event is sent again
-/// first: it acts once, or is answered DELAY. What is found has to be a room of version 2, as `adopt` tells it of
-/// version and columns: that an event leaves it one is proved where the store is there as the event ends, and not of
-/// one that a fault has shut.
+/// first: it acts once, or is answered DELAY. That what is found is a room of version 2 is a premise: it is proved of
+/// what an event leaves where the store is there as the event ends, and not where a fault has shut it.
 pub fn an_event_cut_off_acts_once<T: Start>(opened: &FileConnection<T>)
     ensures { (taken after : _) (event : EventModel) (answered : AnswerModel) (start : Room) (past : History) →
         HoldsOldOrNew (image_at T.Start) start past event
