@@ -61,7 +61,7 @@ module _ {event : EventModel} {a b c : View} {r : Result Answer ShelfFault} (rea
         idle = λ h idle. (now (call.was_available h)).1.idle h idle ∙ (now (call.was_available h)).0;
         crash = λ k left may.
             leaves_either ((now (there (call.was_intact k))).1.crash k left may) (read.crash left)
-                (λ made. (read.call.was_available made.0, made.1));
+            (λ made. (read.call.was_available made.0, made.1));
       }
 
   pub tried_after_read : (c.is_available → b.is_laid_out →

@@ -19,9 +19,9 @@ use room_records::Shelf;
 /// While the store is there, a stop leaves rows that stand for the history, and no others (`there`). After events that
 /// were answered in turn from a store that was there, it leaves those, or, where the last answers were DELAY, rows that
 /// stand for the history with one of these events more, which is in doubt (`run`). `stream` says the same of the
-/// messages of a stream. Only the event in which a fault shut the store is in doubt: where the store was there before it
-/// and is not after it, it and all events after it are answered DELAY, and a stop leaves rows that stand for the history
-/// or for it with that event (`shut`; `stream_shut` of messages).
+/// messages of a stream. Only the event in which a fault shut the store is in doubt: where the store was there before
+/// it and is not after it, it and all events after it are answered DELAY, and a stop leaves rows that stand for the
+/// history or for it with that event (`shut`; `stream_shut` of messages).
 pub fn a_stop_leaves_what_was_answered<S: Shelf>()
     ensures there { (s : S) (start : Room) (past : History) → (S.view s).is_available →
         StandsFor start past (S.view s) → LeavesNew (S.view s) (λ left. RepresentsHistory start left past) }

@@ -55,8 +55,8 @@ abbrev pub IsAnswered : {M C : Type 0} → (does : M → Call C → M → Type 0
 IsAnswered does old new (Ok done) = (answers : List ℕ) × does old (hears (Some answers)) new
 IsAnswered does old new (Err fault) = IsSelftestFault fault
 
--- `selftest`: it is done only after two connections to itself were made and sent bytes, two were accepted, and the later
--- one could be read
+-- `selftest`: it is done only after two connections to itself were made and sent bytes, two were accepted, and the
+-- later one could be read
 abbrev pub SelftestEnds : {M C : Type 0} → (does : M → Call C → M → Type 0)
     → (accepts : M → Exchange → M → Type 0) → (old new : M) → Result (Unit {0}) Fault → Type 0
 SelftestEnds {M} does accepts old new (Ok done) =

@@ -21,7 +21,8 @@ pub record GoesOn (users : List SubjectModel) (start : Room) (past next : Histor
   pub on : next ≡ events ++ past
 
 -- the bytes that went over a connection are messages and their answers, by a service that may change with each
-abbrev pub Carries : {S : Type 0} → (may_answer : S → MessageModel → AnswerModel → S → Type 0) → S → Exchange → S → Type 0
+abbrev pub Carries : {S : Type 0} → (may_answer : S → MessageModel → AnswerModel → S → Type 0)
+    → S → Exchange → S → Type 0
 Carries may_answer before e after =
     Serves may_answer before after e.input e.left e.output e.written e.end.why e.end.count
 

@@ -59,10 +59,10 @@ fn files_of<D: Disk + Drop>(shelf: FileShelf<D>) -> Files<D>
 /// What a stop in the middle of an event leaves.
 ///
 /// Each of the two files passes on as many calls to its disk as its fuse has left as the event comes, whatever these
-/// two numbers are, and then acts no more: each call fails and changes nothing (`frozen` of `Disk`). Where the store was
-/// there and its rows stood for a history, each content that a crash may leave of the two disks then holds a database
-/// whose rows stand for that history, or for it with the event, while the disks returned what was written. Nobody sees
-/// the answer.
+/// two numbers are, and then acts no more: each call fails and changes nothing (`frozen` of `Disk`). Where the store
+/// was there and its rows stood for a history, each content that a crash may leave of the two disks then holds a
+/// database whose rows stand for that history, or for it with the event, while the disks returned what was written.
+/// Nobody sees the answer.
 ///
 /// One step is for the reader to believe: a machine that stops in the middle of an event has made the calls that are
 /// passed on here, with the same answers, and so leaves of its disks what a crash may leave of these. A stop inside a
