@@ -1,5 +1,4 @@
-//! Laws of a stop in the middle of an event. Their functions make the calls of a desk that they speak of: the program
-//! makes these by itself, and calls none of the functions here.
+//! Laws of a stop in the middle of an event. The program calls none of the functions here.
 ghost use Rattle.std.specs.Prelude.{◌≡◌, ℕ, false};
 ghost use Rattle.sqlite_trees.specs.Tree.{Trees};
 ghost use Rattle.sqlite.specs.WalFiles.{image_at, outcomes};
@@ -11,7 +10,7 @@ ghost use Rattle.room_records.specs.Room.{Room};
 ghost use Rattle.room_records.specs.Shelf.{LeavesNew};
 ghost use Rattle.room_tables.specs.Layout.{IsRoomOfVersion2};
 ghost use Rattle.room_tables.specs.Rows.{records_of};
-ghost use Rattle.room_wire.specs.Asks.EventModel.{EventModel, event_model};
+ghost use Rattle.room_wire.specs.Asks.EventModel.{EventModel};
 ghost use Rattle.room_desk.specs.AnswerModel.{AnswerModel};
 ghost use Rattle.room_desk.specs.History.{History, leaves_no_reply};
 ghost use Rattle.room_desk.specs.Representation.{StandsFor};
@@ -26,7 +25,6 @@ use room_cache::CachedShelf;
 use room_desk::Desk;
 use room_records::Shelf;
 use room_sql::SqlShelf;
-use room_wire::{Answer, Event};
 use sqlite::{FileFrom, FileStore, Files, Start};
 use sqlite_disk::{Disk, Fuse};
 use sqlite_trees::store::Store;
@@ -34,15 +32,14 @@ use sqlite_trees::store::Store;
 /// The shelf of the program over two files.
 type FileShelf<D> = CachedShelf<SqlShelf<FileStore<D>>>;
 
-/// Where the store was there, and its rows stood for a history, a crash as the event's answer is known leaves rows that
+/// Where the store was there, and its rows stood for a history, a crash after an event was answered leaves rows that
 /// stand for that history, or for it with the event, and no others: also where a fault shut the store on the way.
-fn answered<S: Shelf>(desk: &mut Desk<S>, event: &Event) -> Answer
-    ensures { (start : Room) (past : History) → StandsFor start past (S.view desk.old)
-        → (S.view desk.old).is_available → (S.view desk.new).is_intact →
-        LeavesNew (S.view desk.new) (StandsOrWith start past (event_model event.now)) }
-{
-    desk.handle(event)
-}
+fn answered<S: Shelf>()
+    ensures { (before after : S) (event : EventModel) (answered : AnswerModel) (start : Room) (past : History) →
+        StandsFor start past (S.view before) → (S.view before).is_available →
+        EventAnswered S.view before event answered after → (S.view after).is_intact →
+        LeavesNew (S.view after) (StandsOrWith start past event) }
+{}
 
 /// The files of a shelf, to which nothing more is written. Where they have returned what was written, each content that
 /// a crash may leave of them holds a database, whose records are among those that a crash may leave of the shelf.
@@ -56,30 +53,29 @@ fn files_of<D: Disk + Drop>(shelf: FileShelf<D>) -> Files<D>
     store.close()
 }
 
-/// What a stop in the middle of an event leaves.
+/// What a stop in the middle of an event leaves: the files of the desk `after` it.
 ///
 /// Each of the two files passes on as many calls to its disk as its fuse has left as the event comes, whatever these
 /// two numbers are, and then acts no more: each call fails and changes nothing (`frozen` of `Disk`). Where the store
-/// was there and its rows stood for a history, each content that a crash may leave of the two disks then holds a
-/// database whose rows stand for that history, or for it with the event, while the disks returned what was written.
-/// Nobody sees the answer.
+/// was there and its rows stood for a history, and the event was answered as `Desk::handle` answers each, every content
+/// that a crash may leave of the two disks then holds a database whose rows stand for that history, or for it with the
+/// event, while the disks returned what was written. Nobody sees the answer.
 ///
 /// One step is for the reader to believe: a machine that stops in the middle of an event has made the calls that are
 /// passed on here, with the same answers, and so leaves of its disks what a crash may leave of these. A stop inside a
 /// write or a change of length is one behind it, since a crash may leave any part of it, and one inside a sync is one
 /// before it.
 pub fn an_event_cut_off_leaves_old_or_new<D: Disk + Drop>(
-    desk: Desk<FileShelf<Fuse<D>>>,
-    event: &Event,
+    after: Desk<FileShelf<Fuse<D>>>,
 ) -> Files<Fuse<D>>
-    ensures { (start : Room) (past : History) → StandsFor start past (⟦<FileShelf<Fuse<D>> as Shelf>⟧.view desk)
-        → (⟦<FileShelf<Fuse<D>> as Shelf>⟧.view desk).is_available → WereClean D.Disk result
-        → (image : Image) → MayBeLeftThen D.Disk result image
-        → HoldsOldOrNew image start past (event_model event.now) }
+    ensures { (before : _) (event : EventModel) (answered : AnswerModel) (start : Room) (past : History) →
+        StandsFor start past (⟦<FileShelf<Fuse<D>> as Shelf>⟧.view before)
+        → (⟦<FileShelf<Fuse<D>> as Shelf>⟧.view before).is_available
+        → EventAnswered ⟦<FileShelf<Fuse<D>> as Shelf>⟧.view before event answered after → WereClean D.Disk result
+        → (image : Image) → MayBeLeftThen D.Disk result image → HoldsOldOrNew image start past event }
 {
-    let mut desk = desk;
-    let _answer = answered(&mut desk, event);
-    files_of(desk.into_shelf())
+    answered::<FileShelf<Fuse<D>>>();
+    files_of(after.into_shelf())
 }
 
 /// The next run opens such files, which `T` stands for, takes the room that it finds, and the event is sent again
