@@ -152,8 +152,8 @@ MakesFound {M} {D} {g} does left image db owner group before later (Err fault) =
     ⊎ ((opened : Held (FileStore D g)) × (begun : M) × OpensStore does db before begun (Ok opened)
     × SparesFound does image begun later))
 
--- what a job does over files that held this image as it began: `init`, `serve` and `report` ask for files, and the
--- other three for none
+-- what a job does over files that held this image as it began: of `init`, `serve` and `report`; of the other three
+-- nothing is said here
 abbrev pub JobFound : {M D Shelf : Type 0} {g : Ghosts D} → Means M (Held (FileStore D g)) Shelf
     → (left : M → Option (Files D)) → Image → (before later : M) → Job → Streams → Streams → ℕ → Type 0
 JobFound m left image before later (Init db owner group) old new status =

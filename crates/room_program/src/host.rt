@@ -17,12 +17,13 @@ use std::net::{Ipv4Addr, Shutdown, SocketAddrV4, TcpListener, TcpStream};
 pub type FileConnection<S> = Connection<FileStore<FileFrom<S>>>;
 
 /// The files and sockets of the system. A store that is opened finds what `S` says that its files held, while the disk
-/// returns what was written, and a close leaves its last commit in them; no other contract says what a file or a socket
-/// gives.
+/// returns what was written, and a close leaves its last commit in them, where the log was copied; no other contract
+/// says what a file or a socket gives.
 ///
 /// No contract can say which file a call of the system reaches, nor who else does. So these methods are to be read for
 /// it: that `open` hands on its path, as the other two hand on theirs; that nothing here writes a file but the store,
-/// nor removes one; and that `listen` listens at `local` alone, and `serve_next` has served what comes there.
+/// nor removes one, and `leave` only lets go; and that `listen` listens at `local` alone, and `serve_next` has served
+/// what comes there.
 #[derive(Drop)]
 pub struct Host<'a, S: Start> {
     rt: &'a HostRuntime,
