@@ -16,6 +16,9 @@ MOST = 1 << 20  # bytes of an answer; a room's have at most some 90,000
 OTHER_NAME = (62, 64)  # of OpenSSL's codes: the certificate is for another name, or another address
 NO_TLS = ("HTTP_REQUEST", "WRONG_VERSION_NUMBER")
 TRY_AGAIN = (408, 429, 500, 502, 503, 504)
+# Seconds, and tries: so that an address at which nobody is any more does not take all of the patience.
+LONGEST_CONNECT = 5.0
+ASK_WHETHER_ALIVE = {"TCP_KEEPIDLE": 5, "TCP_KEEPINTVL": 5, "TCP_KEEPCNT": 2}
 
 
 class NotSent(Exception):
@@ -98,10 +101,13 @@ class Line:
             self.fields["authorization"] = f"Basic {pair.decode()}"
 
     def open(self, seconds: float) -> None:
+        """`seconds` are for the answer."""
+        if not self.connection.sock:
+            self._connect(min(seconds, LONGEST_CONNECT))
+        self.connection.sock.settimeout(seconds)
+
+    def _connect(self, seconds: float) -> None:
         self.connection.timeout = seconds
-        if self.connection.sock:
-            self.connection.sock.settimeout(seconds)
-            return
         try:
             self.connection.connect()
         except OSError as fault:
@@ -110,6 +116,10 @@ class Line:
             if told:
                 raise NoAnswer(f"{self.url}: {told}") from None
             raise NotSent(fault.strerror or str(fault)) from None
+        sock = self.connection.sock
+        sock.setsockopt(socket.SOL_SOCKET, socket.SO_KEEPALIVE, 1)
+        for name in ASK_WHETHER_ALIVE.keys() & vars(socket):
+            sock.setsockopt(socket.IPPROTO_TCP, getattr(socket, name), ASK_WHETHER_ALIVE[name])
 
     def ask(self, method: str, target: str, body: bytes) -> Answer:
         """What is answered to one request over the open connection."""
