@@ -44,7 +44,7 @@ wrong:
 # of the examples.
 growth: build
 	RT='$(RT)' tests/growth/run
-	RT='$(RT)' EVERY=1 tests/growth/examples
+	RT='$(RT)' tests/growth/examples --every 1
 
 # Fails reads and writes in turn, over every example. `make test` tries a sample in long streams.
 failing: build
