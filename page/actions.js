@@ -30,12 +30,26 @@ export async function makeDocument(app, folder) {
   if (isDone) await app.done(`Document ${shown(clean(name.value))} is made.`);
 }
 
+/** The text with line ends as the document has them, one more in front where it does not end its last line. */
+function asLines(text, before) {
+  const end = before.includes("\r\n") ? "\r\n" : "\n";
+  return `${before === "" || before.endsWith("\n") ? "" : end}${text.replaceAll("\n", end)}${end}`;
+}
+
+/** What is there is read before anything is typed, so that what is typed is kept by the request that adds it. Of what
+ * the user may not read, or what is no text, nobody can tell. */
 export async function append(app, path) {
+  let before = "";
+  const isRead = await app.attempt(async () => {
+    const data = (await app.room.asideIfAllowed("READ", path, { keep: false }))?.data ?? "";
+    before = toText(fromBase64(data)) ?? "";
+  });
+  if (!isRead) return;
   const text = area();
   const isDone = await ask({ title: `Append to ${shown(lastName(path))}`, does: "Append",
-    words: make("p", {}, "The text is added at the end, with a line end behind it."),
+    words: make("p", {}, "The text is added at the end, on a line of its own."),
     fields: { text: { label: "Text", field: text } }, faultOf: () => tooLong(fromText(text.value)),
-    task: () => app.room.run("APPEND", path, { data: toBase64(fromText(`${text.value}\n`)) }) });
+    task: () => app.room.run("APPEND", path, { data: toBase64(fromText(asLines(text.value, before))) }) });
   if (isDone) await app.done("Appended.");
 }
 

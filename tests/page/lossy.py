@@ -8,7 +8,7 @@ from browser import ANSWER
 
 class Lossy(http.server.ThreadingHTTPServer):
     """`lose(word, count)`: the next so many requests whose body has that word are passed on, and their answers lost;
-    without `passes` the requests are lost.
+    without `passes` the requests are lost. `lose("")` ends it.
     `hold(words)`: requests whose body has all these words wait until `go_on()`; `held` tells whether one does."""
     daemon_threads = True
 
@@ -23,7 +23,7 @@ class Lossy(http.server.ThreadingHTTPServer):
         return self.server_address[1]
 
     def lose(self, word, count=1, passes=True):
-        self.word, self.left, self.passes = word.encode(), count, passes
+        self.word, self.left, self.passes = word.encode(), count if word else 0, passes
 
     def loses(self, body):
         """Whether this one's answer is lost."""

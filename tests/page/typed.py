@@ -38,6 +38,7 @@ def leaving(club, differs):
     club.go("#open/club")
     club.go("#open/club/plans/june.txt")
     browser.press("Append", "//main")
+    browser.until("a dialog", lambda: browser.find("//dialog[@open]"))
     browser.keys("escape")
     browser.until("an empty dialog closes", lambda: not browser.script("return document.querySelector('dialog[open]')"))
     browser.press("Append", "//main")
@@ -69,6 +70,19 @@ def leaving(club, differs):
 
 
 def conflicts(club, differs):
+def lines(club, differs):
+    """What is appended stands on lines of its own, whose ends are those of the document."""
+    path = "/plans/lines.txt"
+    for before, after in ("", "c\nd\n"), ("a", "a\nc\nd\n"), ("a\n", "a\nc\nd\n"), ("a\r\nb", "a\r\nb\r\nc\r\nd\r\n"):
+        club.holds({"cmd": "CREATE", "path": path, "data": club.base64(before.encode())})
+        club.go(f"#open/club{path}")
+        append(club.browser, "c\nd")
+        club.browser.sees("Appended.")
+        differs(f"behind {before!r}", club.text(path), after)
+        club.holds({"cmd": "REMOVE", "path": path})
+        club.go("#open/club")
+
+
     """Somebody else was there first: both texts, or both lists, are shown."""
     browser = club.browser
     for words, mine, left in ("Keep mine as a copy", "mine", "theirs"), ("Take theirs", "mine too", "theirs"):
@@ -153,4 +167,4 @@ def log_out(club, differs):
     club.log_in("ann")
 
 
-SCENES = [names, leaving, conflicts, stays, one_vocabulary, log_out]
+SCENES = [names, leaving, lines, conflicts, stays, one_vocabulary, log_out]
