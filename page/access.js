@@ -1,4 +1,5 @@
 /** The view of an access list: what it says in words, and changing it. */
+import { NOBODY_KNOWS } from "./actions.js";
 import { Refusal } from "./codes.js";
 import { ask } from "./dialogs.js";
 import { button, checkbox, link, make } from "./dom.js";
@@ -127,8 +128,9 @@ class ListView {
   async settle(now) {
     const parts = [["Theirs", ownOf(now)], ["Yours", this.own]].flatMap(([title, entries]) =>
       [make("h3", {}, title), sentences(entries, this.standing, { className: "entries" })]);
-    const chosen = await ask({ title: "Somebody changed this list meanwhile", words: parts, task: () => this.set(),
-      does: "Set yours in its place", others: [{ words: "Take theirs", value: "theirs" }] });
+    const chosen = await ask({ title: "Somebody changed this list meanwhile", task: () => this.set(),
+      words: [make("p", {}, NOBODY_KNOWS), ...parts], does: "Set yours in its place",
+      others: [{ words: "Take theirs", value: "theirs" }] });
     if (chosen === "theirs") await this.app.show(standing());
     return chosen === true;
   }

@@ -7,6 +7,7 @@ import { clean, shown } from "./names.js";
 import { folderOf, inFolder, lastName, nameFault, pathFault, withMark } from "./places.js";
 
 const EXIST = 4;
+export const NOBODY_KNOWS = "The room keeps no record of who it was.";
 
 function tooLong(bytes) {
   return bytes.length > MOST_BYTES ? `These are ${bytes.length} bytes, and 65,536 are the most of a text.` : "";
@@ -96,7 +97,7 @@ class Editing {
       this.words = "Theirs stands as it is.";
     };
     return ask({ title: "Somebody changed this document meanwhile", does: "Keep mine as a copy", task: keep,
-      words: [...text("Theirs, as it is now", theirs), ...text("Yours", this.field.value)],
+      words: [make("p", {}, NOBODY_KNOWS), ...text("Theirs, as it is now", theirs), ...text("Yours", this.field.value)],
       others: [{ words: "Take theirs", value: "theirs", task: take }] });
   }
 }

@@ -6,13 +6,15 @@ import { button, link, make } from "./dom.js";
 import { manifestAt, readFile } from "./files.js";
 import { head } from "./heads.js";
 import { isPart } from "./manifest.js";
+import { emptyTrash } from "./moving.js";
 import { shown } from "./names.js";
-import { ADD_FILE, ADD_FOLDER, READ, offersFor, rightsAt, textOffers } from "./offers.js";
-import { addressOf, inFolder, lastName } from "./places.js";
+import { offersFor, rightsAt, textOffers } from "./offers.js";
+import { ROOT, addressOf, inFolder, lastName } from "./places.js";
 import { canShow, nothing, preview } from "./preview.js";
-import { FILE, FOLDER } from "./rights.js";
+import { ADD_FILE, ADD_FOLDER, FILE, FOLDER, READ } from "./rights.js";
 import { things } from "./things.js";
 import { sizeWords } from "./transfers.js";
+import { pathOfTrash, trashOf } from "./trash.js";
 import { kindBy } from "./trees.js";
 import { dropped, filesButton, upload } from "./uploads.js";
 
@@ -72,12 +74,24 @@ function leftWords(names) {
   return count ? [make("p", { className: "fault" }, words)] : [];
 }
 
-function folder(app, place, stat, rights, found) {
+/** At the top the way to the user's trash, where there is one; in it, its end. */
+async function trashTools(app, { path, room }) {
+  const trash = [ROOT, pathOfTrash(app)].includes(path) && await trashOf(app);
+  if (!trash) return [];
+  return [path === ROOT ? link(addressOf({ room, path: trash }), "Your trash")
+    : button("Empty the trash", () => emptyTrash(app, path))];
+}
+
+const IN_TRASH = "What you removed lies here, until you remove it here too. The button ⋯ puts it back.";
+
+async function folder(app, place, stat, rights, found) {
   const search = link(addressOf({ ...place, view: "find" }), "Search");
-  const bar = tools(...makers(app, place.path, rights.own), ...offersFor(app, place.path, FOLDER, rights), search);
+  const bar = tools(...makers(app, place.path, rights.own), ...offersFor(app, place.path, FOLDER, rights), search,
+    ...await trashTools(app, place));
   if (found instanceof Refusal) return [bar, about(stat, "folder"), make("p", { className: "fault" }, found.message)];
   const names = found.names.filter(([name]) => !isPart(name));
-  const hint = rights.own & ADD_FILE ? [make("p", { className: "about" }, "Files can be dropped here.")] : [];
+  const words = place.path === pathOfTrash(app) ? IN_TRASH : rights.own & ADD_FILE ? "Files can be dropped here." : "";
+  const hint = words ? [make("p", { className: "about" }, words)] : [];
   const area = make("div", {}, ...leftWords(found.names), things(app, place, names, rights), ...hint);
   if (rights.own & ADD_FILE) takeDrops(app, place.path, area);
   return [bar, about(stat, `${names.length} in it`), area];
@@ -125,5 +139,5 @@ export async function showContents(app, place) {
   const kind = found.names ? kindBy(found.names) : FOLDER;
   if (kind === "unfinished") return [...head(place), ...unfinished(app, place, stat, rights)];
   const shownLarge = kind === "file" && await large(app, place, stat, rights);
-  return [...head(place), ...shownLarge || folder(app, place, stat, rights, found)];
+  return [...head(place), ...shownLarge || await folder(app, place, stat, rights, found)];
 }

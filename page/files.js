@@ -181,7 +181,9 @@ class Upload {
   async needFirst() {
     const now = this.isMade ? null : await manifestBytes(this.room, this.path);
     if (isSame(now, this.before)) return null;
-    const chosen = await this.transfer.overtaken(this.path);
+    const its = now && form.readManifest(now);
+    const stat = its && await this.room.asideIfAllowed("STAT", inFolder(this.path, its.folder));
+    const chosen = await this.transfer.overtaken(this.path, stat?.owner);
     if (chosen === true) {
       this.before = now;
       return null;

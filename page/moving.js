@@ -8,7 +8,7 @@ import { clean, forDisk, shown } from "./names.js";
 import { ROOT, folderOf, inFolder, lastName, nameFault, namesOf } from "./places.js";
 import { FOLDER } from "./rights.js";
 import { sizeWords, transferring } from "./transfers.js";
-import { TRASH, placeBefore, toTrash, trashOf } from "./trash.js";
+import { TRASH, makeTrash, mayMakeTrash, placeBefore, toTrash, trashOf } from "./trash.js";
 import { below, copy, kindBy } from "./trees.js";
 import { Zip } from "./zip.js";
 
@@ -88,24 +88,50 @@ async function contentsWords(app, path) {
   return [make("p", { className: "fault" }, words)];
 }
 
+/** What becomes of what is removed, in words, and a way to have a trash where there is none. */
+async function trashWords(app, path) {
+  if (isIn(path, TRASH)) return { words: "It cannot be brought back." };
+  const trash = await trashOf(app);
+  if (trash) return { trash, words: `It goes to the trash, ${trash}, and can be put back from there.` };
+  const mayMake = await mayMakeTrash(app);
+  const how = mayMake ? "" : ": ask whoever may make folders at the top of this room for one";
+  return { mayMake, words: `It cannot be brought back. There is no trash of yours${how}.` };
+}
+
+const WITH_TRASH = "With a trash, what somebody removes lies in a folder that is theirs alone, and can be put back " +
+  "until they remove it there. It is made for each user of this room.";
+
 export async function remove(app, path) {
-  const trash = isIn(path, TRASH) ? null : await trashOf(app);
-  let isForGood = !trash;
+  let [its, what] = [{}, []];
+  const isAsked = await app.attempt(async () => {
+    [its, what] = await Promise.all([trashWords(app, path), contentsWords(app, path)]);
+  });
+  if (!isAsked) return;
+  let isForGood = !its.trash;
   const box = checkbox("for good, and not to the trash", false, (it) => {
     isForGood = it;
   });
-  const words = trash ? [make("p", {}, `It goes to the trash, ${trash}.`), box]
-    : [make("p", {}, "It cannot be brought back.")];
-  let what = [];
-  const isAsked = await app.attempt(async () => {
-    what = await contentsWords(app, path);
-  });
-  if (!isAsked) return;
-  const task = () => (isForGood ? removeAll(app.room, path) : toTrash(app.room, path, trash));
-  const title = `Remove ${shown(lastName(path))}`;
-  const isDone = await ask({ title, does: "Remove", words: [...words, ...what], task });
-  const end = isForGood ? "removed" : "in the trash";
-  if (isDone) await app.done(`${shown(path)} is ${end}.`, { from: path, to: folderOf(path) });
+  const task = () => (isForGood ? removeAll(app.room, path) : toTrash(app.room, path, its.trash));
+  const first = async () => toTrash(app.room, path, await makeTrash(app));
+  const done = await ask({ title: `Remove ${shown(lastName(path))}`, does: "Remove", task,
+    words: [make("p", {}, its.words), ...(its.trash ? [box] : []), ...what,
+      ...(its.mayMake ? [make("p", {}, WITH_TRASH)] : [])],
+    others: its.mayMake ? [{ words: "Make a trash, and move it there", value: "trash", task: first }] : [] });
+  const end = done === true && isForGood ? "removed" : "in the trash";
+  if (done) await app.done(`${shown(path)} is ${end}.`, { from: path, to: folderOf(path) });
+}
+
+/** All that is in the user's trash. */
+export async function emptyTrash(app, path) {
+  const what = [];
+  const isAsked = await app.attempt(async () => what.push(...await contentsWords(app, path)));
+  const task = async () => {
+    for (const [name] of (await app.room.aside("LIST", path)).names) await removeAll(app.room, inFolder(path, name));
+  };
+  const words = [make("p", {}, "It cannot be brought back."), ...what];
+  if (isAsked && await ask({ title: "Empty the trash", does: "Remove all of it", words, task })) {
+    await app.done("The trash is empty.");
+  }
 }
 
 /** Out of the trash, to where it was. */

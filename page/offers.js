@@ -4,16 +4,12 @@ import * as actions from "./actions.js";
 import { button } from "./dom.js";
 import * as moving from "./moving.js";
 import { ROOT, folderOf } from "./places.js";
-import { ALL, FILE, FOLDER } from "./rights.js";
+import { ADD_FILE, ADD_FOLDER, ALL, FILE, FOLDER, PASS_THROUGH as PASS, READ } from "./rights.js";
 import { placeBefore } from "./trash.js";
 import { filesButton, newVersion } from "./uploads.js";
 
-export const READ = 0x1;
-export const ADD_FILE = 0x2;
-export const ADD_FOLDER = 0x4;
 const WRITE = 0x2;
 const APPEND = 0x4;
-const PASS = 0x20;
 const DELETE_CHILD = 0x40;
 const DELETE = 0x10000;
 
@@ -35,12 +31,13 @@ export function offersFor(app, path, kind, { own, above, size }) {
   const [isFile, isLarge, isTop] = [kind === FILE, kind === "large", path === ROOT];
   const isOver = (isLarge || kind === "unfinished") && has(own, ADD_FILE, ADD_FOLDER, PASS);
   const isMovable = !isTop && (has(own, DELETE) || has(above, DELETE_CHILD));
+  const replaces = kind === "unfinished" ? null : { mayKeep: has(own, READ) && has(above, ADD_FILE, ADD_FOLDER) };
   const does = [
     [isFile && has(own, READ) || isLarge && has(own, READ, PASS),
       () => button("Download", () => moving.download(app, path, size))],
     [kind === FOLDER && has(own, READ, PASS), () => button("Download as zip", () => moving.downloadFolder(app, path))],
     [isFile && has(own, WRITE) || isOver,
-      () => filesButton("Upload a new version", { isOne: true }, (it) => newVersion(app, path, it))],
+      () => filesButton("Upload a new version", { isOne: true }, (it) => newVersion(app, path, it, replaces))],
     [isMovable && has(above, isFile ? ADD_FILE : ADD_FOLDER), () => button("Rename", () => actions.rename(app, path))],
     [isMovable && placeBefore(path), () => button("Put back", () => moving.putBack(app, path))],
     [isMovable, () => button("Move", () => moving.move(app, path))],

@@ -31,14 +31,19 @@ export const RIGHTS = [
 ];
 
 export const ALL = RIGHTS.reduce((mask, it) => mask | it.bit, 0);
+export const READ = 0x1;
+export const ADD_FILE = 0x2;
+export const ADD_FOLDER = 0x4;
 export const PASS_THROUGH = 0x20;
 
-/** Sets of rights, by the names that they have everywhere. The first is what a new room gives to its group. */
+export const VIEW = 0x1200a9; // what a new room gives to its group
+
+/** Sets of rights, by the names that they have everywhere. */
 export const SETS = [
-  { mask: 0x1200a9, name: "view", does: "view", tells: "see it, and what is in it" },
+  { mask: VIEW, name: "view", does: "view", tells: "see it, and what is in it" },
   { mask: 0x1200af, name: "edit", does: "edit", tells: "view, and replace, append, and make things in it" },
   { mask: 0x1301ef, name: "change", does: "change", tells: "edit, and remove or rename it and what is in it" },
-  { mask: ALL, name: "all", does: "do all", tells: "everything, its list and its owner too" },
+  { mask: ALL, name: "all", does: "do all", tells: "change, and its list and its owner too" },
 ];
 
 /** For the legend of the matrix: the sets, and what they alone do not tell. */

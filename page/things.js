@@ -5,14 +5,16 @@ import { shown } from "./names.js";
 import { offersFor, rightsOn } from "./offers.js";
 import { addressOf, inFolder } from "./places.js";
 import { FILE, FOLDER } from "./rights.js";
+import { SmallPictures } from "./small.js";
 import { sizeWords } from "./transfers.js";
+import { placeBefore } from "./trash.js";
 import { kindBy } from "./trees.js";
 
 /** What a row's object is, and how large: `{kind, words, size}`. */
 async function lookAt(room, path, kind) {
   if (kind !== FOLDER) {
     const stat = await room.asideIfAllowed("STAT", path);
-    return { kind: FILE, words: stat ? sizeWords(stat.size) : "document" };
+    return { kind: FILE, words: stat ? sizeWords(stat.size) : "document", size: stat?.size };
   }
   const names = (await room.asideIfAllowed("LIST", path))?.names;
   if (!names) return { kind: FOLDER, words: "folder" };
@@ -24,14 +26,15 @@ async function lookAt(room, path, kind) {
 }
 
 class Row {
-  constructor(app, place, [name, kind], rights) {
-    Object.assign(this, { app, name, kind, rights, room: app.room, path: inFolder(place.path, name) });
+  constructor(app, place, [name, kind], rights, pictures) {
+    Object.assign(this, { app, name, kind, rights, pictures, room: app.room, path: inFolder(place.path, name) });
+    this.picture = pictures.placeOf(name);
     this.word = make("td", {}, kind === FOLDER ? "folder" : "document");
     this.menu = make("span", { className: "tools", hidden: true });
     this.more = button("⋯", () => this.toggle(), { "aria-label": `More for ${shown(name)}`, "aria-expanded": "false" });
-    this.element = make("tr", {},
-      make("th", { scope: "row" }, link(addressOf({ room: place.room, path: this.path }), nameText(name))),
-      this.word, make("td", { className: "own" }, this.more, this.menu));
+    const its = link(addressOf({ room: place.room, path: this.path }), nameText(name));
+    this.element = make("tr", {}, make("th", { scope: "row" }, ...this.picture, its), this.word,
+      make("td", { className: "own" }, this.more, this.menu));
     this.element.row = this;
   }
 
@@ -42,8 +45,10 @@ class Row {
 
   async #look() {
     const its = await lookAt(this.room, this.path, this.kind);
-    this.word.textContent = its.words;
+    const from = placeBefore(this.path);
+    this.word.textContent = from ? `${its.words}, was ${shown(from)}` : its.words;
     if (its.kind === "large") this.moveToDocuments();
+    for (const it of this.picture) this.pictures.show(it, this.path, its.size);
     return its;
   }
 
@@ -79,7 +84,8 @@ export function things(app, place, names, rights) {
       target.row.look().catch((fault) => app.say(fault.message, false));
     }
   });
-  const rows = names.map((it) => new Row(app, place, it, rights));
+  const pictures = new SmallPictures(app.room);
+  const rows = names.map((it) => new Row(app, place, it, rights, pictures));
   const body = (isFolder) => make("tbody", {}, ...rows.filter((it) => (it.kind === FOLDER) === isFolder)
     .map((it) => it.element));
   for (const it of rows) seen.observe(it.element);

@@ -48,10 +48,12 @@ class Transfer {
     this.notes.push(words);
   }
 
-  /** Somebody else wrote a version meanwhile: true to put this one in its place, the path of a copy, or null. */
-  async overtaken(path) {
+  /** Somebody else wrote a version meanwhile, and its pieces have that owner, where that may be seen: true to put this
+   * one in its place, the path of a copy, or null. */
+  async overtaken(path, owner) {
+    const whose = owner ? ` What is in it belongs to ${owner}.` : "";
     const chosen = await ask({ title: `Somebody else wrote ${shown(lastName(path))} meanwhile`, does: "Put mine there",
-      words: make("p", {}, "A new version came while yours was under way."),
+      words: make("p", {}, `A new version came while yours was under way.${whose}`),
       others: [{ words: "Keep mine as a copy", value: "copy" }] });
     return chosen === "copy" ? inFolder(folderOf(path), withMark(lastName(path), `copy of ${this.app.user}`)) : chosen;
   }

@@ -1,7 +1,7 @@
 /** Files and folders of the user's disk go into the room. */
 import { ask } from "./dialogs.js";
 import { button, make } from "./dom.js";
-import { EXIST, forEach, orElse, writeFile } from "./files.js";
+import { EXIST, NOBODY, forEach, orElse, readFile, writeFile } from "./files.js";
 import { MOST } from "./manifest.js";
 import { clean, shown } from "./names.js";
 import { folderOf, inFolder, lastName, nameFault, namesOf, withMark } from "./places.js";
@@ -51,12 +51,12 @@ function faultOf({ names, file }) {
   return file?.size > MOST ? `${shown(names.join("/"))} has ${sizeWords(file.size)}; 16 MiB is the most.` : "";
 }
 
-/** Asks what to do with names that are there already: true to write new versions, "both", "skip", or null. */
+/** Asks what to do with names that are there already: true to replace them, "both", "skip", or null. */
 function askAbout(clashes) {
   const names = clashes.slice(0, 10).map((it) => make("li", {}, shown(it)));
   const more = clashes.length > 10 ? [make("p", {}, `and ${clashes.length - 10} more.`)] : [];
   return ask({ title: clashes.length === 1 ? "This is there already" : "These are there already",
-    words: [make("ul", {}, ...names), ...more], does: "Upload as new versions",
+    words: [make("ul", {}, ...names), ...more], does: "Replace what is there",
     others: [{ words: "Keep both", value: "both" }, { words: "Leave these out", value: "skip" }] });
 }
 
@@ -142,10 +142,27 @@ export async function upload(app, folder, chosen) {
   if (wanted.length) await start(app, wanted, folder);
 }
 
-/** A new version of one file. */
-export async function newVersion(app, path, [it]) {
+/** Makes a copy of a file beside it, before it is replaced. */
+async function keepOld(room, path) {
+  const day = new Date().toISOString().slice(0, 10);
+  const beside = inFolder(folderOf(path), withMark(lastName(path), `before ${day}`));
+  await writeFile(room, await new Folders(room).free(beside), await readFile(room, path), NOBODY, true);
+}
+
+/** Asks whether a file shall take the place of what is there. Whether it may. */
+function askToReplace(app, path, file, mayKeep) {
+  const words = `${shown(file.name)} (${sizeWords(file.size)}) takes the place of what is there, which is gone then.`;
+  const kept = { words: "Keep the old one too", value: true, task: () => keepOld(app.room, path) };
+  return ask({ title: `Replace ${shown(lastName(path))}?`, does: "Replace it", words: make("p", {}, words),
+    others: mayKeep ? [kept] : [] });
+}
+
+/** A new version of one file. `replaces` is null where nothing whole is there yet; `mayKeep` of it tells whether a copy
+ * may lie beside it. */
+export async function newVersion(app, path, [it], replaces) {
   const fault = faultOf({ ...it, names: [lastName(path)] });
   if (fault) return app.say(fault, false);
+  if (replaces && !await askToReplace(app, path, it.file, replaces.mayKeep)) return;
   await start(app, [{ path, file: it.file, isNew: false }], folderOf(path));
 }
 

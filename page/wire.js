@@ -32,7 +32,8 @@ function readReply(text) {
 function whyNoReply(status) {
   if (status === 401) return "The login is not accepted any more. Log in again in another tab, or reload this page.";
   if (status === 404) return "The front knows this room no more.";
-  if (status >= 500 || status === 429) return "The room is busy, or is being started again.";
+  if (status === 429) return "That is more than the front lets through at once.";
+  if (status >= 500) return "The room is busy, or is being started again.";
   return `The front answers with status ${status}.`;
 }
 

@@ -126,23 +126,32 @@ def told_pace(browser):
     return 16 / float(re.search(r"in ([0-9.]+) seconds", text)[1])
 
 
+def replace(browser, path, words="Replace it"):
+    choose(browser, "Upload a new version", path)
+    browser.sees("takes the place of what is there, which is gone then.", "dialog")
+    browser.press(words, "//dialog[@open]")
+
+
 def versions(club, differs):
     """New versions: of a large file, of a small one that becomes large, and small again; two writers at once."""
     browser = club.browser
-    path = "/big/of 65537"
-    for name, size in ("v2", 4 * PIECE + 5), ("v3", 10):
+    path, old = "/big/of 65537", b""
+    for name, size, words in ("v2", 4 * PIECE + 5, "Replace it"), ("v3", 10, "Keep the old one too"):
         data = dice.randbytes(size)
         club.go(f"#open/club{path.replace(' ', '%20')}")
-        choose(browser, "Upload a new version", on_disk(club, name, data))
+        replace(browser, on_disk(club, name, data), words)
         browser.sees("1 file uploaded", "#notices")
         differs(f"{name} is there", held(club, path) == data, True)
         differs(f"{name} alone", len(names_at(club, path)), 2)
+        kept = [it for it in names_at(club, "/big") if it.startswith("of 65537 (before ")]
+        differs("the old one", [held(club, f"/big/{it}") == old for it in kept], [] if name == "v2" else [True])
+        old = data
     club.holds({"cmd": "CREATE", "path": "/big/grows", "data": "aGk="})
     club.holds({"cmd": "SETLIST", "path": "/big/grows", "aclflag": 1, "entries": [
         {"type": 0, "flag": 0, "mask": 1, "who": "bob"}]})
     data = dice.randbytes(2 * PIECE)
     put(club, "/big", on_disk(club, "grows", data))
-    browser.press("Upload as new versions")
+    browser.press("Replace what is there")
     browser.sees("1 file uploaded", "#notices")
     differs("it has grown", held(club, "/big/grows") == data, True)
     list_ = club.holds({"cmd": "GETLIST", "path": "/big/grows"})["entries"][0]
@@ -163,12 +172,13 @@ def overtaken(club, differs):
         club.go(f"#open/club{path.replace(' ', '%20')}")
         browser.sees("Upload a new version")
         lossy.hold(".room-pieces-", '"RENAME"')
-        choose(browser, "Upload a new version", on_disk(club, "mine", data))
+        replace(browser, on_disk(club, "mine", data))
         browser.until("it waits", lambda: lossy.held)
         theirs = json.dumps({**json.loads(bytes_at(club, f"{path}/{NAME}")), "sha256": "0" * 64}, separators=(",", ":"))
         club.holds({"cmd": "WRITE", "path": f"{path}/{NAME}", "data": club.base64(theirs.encode())})
         lossy.go_on()
         browser.sees("Somebody else wrote of 196608 meanwhile", "dialog")
+        differs("whose", browser.sees("What is in it belongs to ann.", "dialog"), True)
         browser.press(words)
         browser.sees("1 file uploaded", "#notices")
         differs(f"{words}: the file", bytes_at(club, f"{path}/{NAME}") == theirs.encode(), not is_mine)
@@ -225,7 +235,7 @@ def late(club, differs):
     club.go("#open/club/big/stopped")
     browser.sees("Upload a new version")
     lossy.lose('"cmd":"WRITE"', 10_000, passes=False)
-    choose(browser, "Upload a new version", on_disk(club, "late", dice.randbytes(PIECE + 1)))
+    replace(browser, on_disk(club, "late", dice.randbytes(PIECE + 1)))
     browser.sees("sent again until", "#busy")
     browser.go("about:blank")
     lossy.lose("")

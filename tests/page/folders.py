@@ -5,12 +5,19 @@ import zipfile
 import zlib
 
 from carried import PIECE, dice, held, names_at, on_disk, put, row, saved
+from club import USERS
 
 ALL = 0x1F07FF
 # a picture of one red dot, and an SVG that would run
 PNG = (b"\x89PNG\r\n\x1a\n\x00\x00\x00\rIHDR\x00\x00\x00\x01\x00\x00\x00\x01\x08\x02\x00\x00\x00\x90wS\xde"
        b"\x00\x00\x00\x0cIDATx\x9cc\xf8\xcf\xc0\x00\x00\x03\x01\x01\x00\xc9\xfe\x92\xef\x00\x00\x00\x00IEND\xaeB`\x82")
 SVG = b"<svg xmlns='http://www.w3.org/2000/svg'><script>window.ran=1</script><rect width='9' height='9'/></svg>"
+PDF = b"""%PDF-1.4
+1 0 obj <</Type /Catalog /Pages 2 0 R>> endobj
+2 0 obj <</Type /Pages /Kids [3 0 R] /Count 1>> endobj
+3 0 obj <</Type /Page /Parent 2 0 R /MediaBox [0 0 90 90]>> endobj
+trailer <</Root 1 0 R>>
+<script>window.ran=1</script>"""
 TREE = {"/t/a.txt": b"a", "/t/..\\x:y": b"slip", "/t/sub/b.txt": b"b", "/t/sub/deep/\u00fc.txt": "\u00fc".encode(),
         "/t/empty/": None}
 
@@ -127,7 +134,7 @@ def removed(club, differs):
     club.go("#open/club/other")
     browser.press("More for t")
     browser.press("Remove t")
-    browser.sees("It goes to the trash, /trash/ann.", "dialog")
+    browser.sees("It goes to the trash, /trash/ann, and can be put back from there.", "dialog")
     browser.press("Remove", "//dialog[@open]")
     browser.sees("/other/t is in the trash.", "#notices")
     names = list(names_at(club, "/trash/ann"))
@@ -149,11 +156,70 @@ def removed(club, differs):
     club.holds({"cmd": "REMOVE", "path": "/trash/ann"})
 
 
+def trashed(club, differs):
+    """Where there is no trash, who may make one is offered it, for each user alone; another is told so."""
+    browser, path = club.browser, "/other/thrown.txt"
+    club.holds({"cmd": "REMOVE", "path": "/trash"})
+    club.holds({"cmd": "CREATE", "path": path, "data": ""})
+    change = {"type": 0, "flag": 3, "mask": 0x1301EF, "who": "eve"}
+    club.holds({"cmd": "SETLIST", "path": "/other", "aclflag": 1, "entries": [change]})
+    club.log_in("eve")
+    club.go(f"#open/club{path}")
+    browser.press("Remove", "//main")
+    differs("who may not", browser.sees("no trash of yours: ask whoever may make folders at the top", "dialog"), True)
+    differs("is not offered one", "Make a trash" in browser.shown(), False)
+    club.log_in("ann")
+    to_new_trash(club, path)
+    differs("each alone", [(it["aclflag"], [(entry["who"], entry["mask"], entry["flag"]) for entry in it["entries"]])
+                           for it in (club.holds({"cmd": "GETLIST", "path": f"/trash/{who}"}) for who in USERS)],
+            [(2, [(who, ALL, 3)]) for who in USERS])
+    looks = [[club.holds({"cmd": "LIST", "path": f"/trash/{whose}"}, who)["code"] for whose in USERS] for who in USERS]
+    differs("who looks into whose", looks, [[5 * (who != whose) for whose in USERS] for who in USERS])
+    club.holds({"cmd": "SETLIST", "path": "/trash/ann", "aclflag": 2, "entries": []})
+    club.holds({"cmd": "CREATE", "path": path, "data": ""})
+    to_new_trash(club, path)
+    club.go("#open/club")
+    browser.follow("Your trash")
+    browser.until("where they were", lambda: browser.shown().count(f"was {path}") == 2)
+    browser.press("Empty the trash")
+    differs("how much", browser.sees("With it go 2 documents and 0 folders", "dialog"), True)
+    browser.press("Remove all of it")
+    browser.sees("The trash is empty.", "#notices")
+    differs("it is empty", names_at(club, "/trash/ann"), {})
+
+
+def to_new_trash(club, path):
+    club.go("#open/club")
+    club.go(f"#open/club{path}")
+    club.browser.press("Remove", "//main")
+    club.browser.sees("It is made for each user of this room.", "dialog")
+    club.browser.press("Make a trash, and move it there")
+    club.browser.sees(f"{path} is in the trash.", "#notices")
+
+
+def small_pictures(club, differs):
+    """Pictures in a folder are shown small, also of large files, by what their bytes are, and up to a size."""
+    browser = club.browser
+    for name, data in ("dot.png", PNG), ("not.png", SVG):
+        club.holds({"cmd": "CREATE", "path": f"/other/{name}", "data": club.base64(data)})
+    put(club, "/other", on_disk(club, "large.png", PNG + bytes(PIECE)), on_disk(club, "huge.png", PNG + bytes(1 << 20)))
+    browser.sees("2 files uploaded", "#notices")
+    club.go("#open/club")
+    sent = len(club.lossy.bodies)
+    club.go("#open/club/other")
+    shown = ("return [...document.querySelectorAll('.things tr')].filter((it) => it.querySelector('.small-picture'))"
+             ".map((it) => [it.querySelector('bdi').textContent, it.querySelector('img')?.naturalWidth ?? null])")
+    wanted = [["dot.png", 1], ["large.png", 1]]
+    browser.until("small pictures", lambda: sorted(browser.script(shown)) == wanted)
+    asked = [it for it in club.lossy.bodies[sent:] if b"huge.png/.room-pieces" in it]
+    differs("nothing is read of what is too large", asked, [])
+
+
 def previews(club, differs):
     """Pictures are shown by how they begin; an SVG never is, and runs nothing."""
     browser = club.browser
     shown = "const it = document.querySelector('img.picture'); return it && [it.complete, it.naturalWidth]"
-    for name, data in ("dot.txt", PNG), ("picture.svg", SVG), ("not.png", SVG):
+    for name, data in ("dot.txt", PNG), ("picture.svg", SVG), ("never.png", SVG):
         club.holds({"cmd": "CREATE", "path": f"/other/{name}", "data": club.base64(data)})
         club.go(f"#open/club/other/{name}")
         if data is PNG:
@@ -161,6 +227,26 @@ def previews(club, differs):
         else:
             differs(f"{name} is text", browser.sees("window.ran=1", "pre"), True)
             differs(f"{name} runs nothing", browser.script("return window.ran ?? null"), None)
+
+
+def pdfs(club, differs):
+    """A PDF is shown by the browser, in a tab of its own, and never as a page."""
+    browser = club.browser
+    club.holds({"cmd": "CREATE", "path": "/other/minutes.pdf", "data": club.base64(PDF)})
+    put(club, "/other", on_disk(club, "scan.pdf", PDF + bytes(PIECE)))
+    browser.sees("1 file uploaded", "#notices")
+    before, shown = browser.ask("GET", "/window"), "return [document.contentType, window.ran ?? null, window.opener]"
+    for name in "minutes.pdf", "scan.pdf":
+        club.go("#open/club/other")
+        browser.follow(name)
+        browser.follow("Open this PDF in a tab of its own")
+        new = browser.until("a tab", lambda: [it for it in browser.ask("GET", "/window/handles") if it != before])
+        browser.turn_to(new[0])
+        kind = browser.until("its kind", lambda: browser.script("return location.href !== 'about:blank'") and
+                             browser.script(shown))
+        differs(name, kind, ["application/pdf", None, None])
+        browser.close_tab()
+        browser.turn_to(before)
 
 
 def offered(club, differs):
@@ -184,4 +270,4 @@ def offered(club, differs):
             ["Append", "Edit", "Download", "Upload a new version", "Rename", "Move", "Copy", "Remove"])
 
 
-SCENES = [wholes, previews, offered]
+SCENES = [wholes, trashed, previews, small_pictures, pdfs, offered]

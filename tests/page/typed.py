@@ -4,6 +4,7 @@ from room_client.words import RIGHTS, SETS
 
 WORDS = "import('/rights.js').then((it) => arguments[0]([it.RIGHTS.map(({bit, words}) => [bit, words]), " \
         "it.SETS.map(({name, mask}) => [name, mask])]))"
+SENTENCE = "import('/lists.js').then((it) => arguments[1](it.sentence(arguments[0], 'folder', {})))"
 ASKED = "const it = new Event('beforeunload', {cancelable: true}); dispatchEvent(it); return it.defaultPrevented"
 FOCUS = "return document.activeElement.getAttribute('aria-label') ?? document.activeElement.textContent"
 
@@ -69,7 +70,6 @@ def leaving(club, differs):
     browser.sees("plans", ".things")
 
 
-def conflicts(club, differs):
 def lines(club, differs):
     """What is appended stands on lines of its own, whose ends are those of the document."""
     path = "/plans/lines.txt"
@@ -83,6 +83,7 @@ def lines(club, differs):
         club.go("#open/club")
 
 
+def conflicts(club, differs):
     """Somebody else was there first: both texts, or both lists, are shown."""
     browser = club.browser
     for words, mine, left in ("Keep mine as a copy", "mine", "theirs"), ("Take theirs", "mine too", "theirs"):
@@ -95,6 +96,7 @@ def lines(club, differs):
         club.holds({"cmd": "WRITE", "path": "/plans/june.txt", "data": "dGhlaXJz"})
         browser.press("Replace")
         differs("theirs is shown", browser.sees("theirs", "dialog pre"), True)
+        differs("of nobody", browser.sees("The room keeps no record of who it was.", "dialog"), True)
         differs("mine is shown", browser.sees(mine, "dialog pre"), True)
         browser.press(words)
         browser.sees("theirs", "main pre")
@@ -151,6 +153,11 @@ def one_vocabulary(club, differs):
     ours = sorted([bit, list(dict.fromkeys(words[:2]))] for bit, *words in RIGHTS)
     differs("words of rights", sorted(told[0]), ours)
     differs("sets", sorted(map(tuple, told[1])), sorted(it for it in SETS.items() if it[0] != "none"))
+    help_ = " ".join(club.browser.script("return document.getElementById('help-page').textContent").split())
+    for entry in ({"type": 1, "flag": 0x43, "mask": SETS["all"], "who": "guests"},
+                  {"type": 0, "flag": 3, "mask": SETS["view"], "who": "EVERYONE@"}):
+        asked = {"script": SENTENCE, "args": [entry]}
+        differs(f"Help says it of {entry['who']}", club.browser.ask("POST", "/execute/async", asked) in help_, True)
 
 
 def log_out(club, differs):
