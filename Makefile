@@ -106,16 +106,14 @@ firstday: build
 page: build
 	tests/page/run
 
-# Times `check`, a room in memory, a served room, its tables, SETLIST over many followers, `replay` and the reports;
-# then the program beside a server in C over libsqlite3, and counts the instructions of both, and as a room grows; then
-# the upgrade of large rooms of version 1, and many rooms behind a front.
+# Times `check`, a room in memory, a served room's tables and the reports; then the program beside a server in C over
+# libsqlite3, and counts the instructions of both, and as a room grows; then the upgrade of large rooms of version 1,
+# and many rooms behind a front.
 # Needs sqlite3, strace, valgrind, gcc, libsqlite3-dev and nginx.
 bench: build
 	bench/check
 	bench/room
-	bench/serve
 	bench/tables
-	bench/setlist
 	bench/report
 	bench/side
 	bench/instructions
