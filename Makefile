@@ -3,6 +3,7 @@
 RT ?= rt
 
 .PHONY: try demo quick build test wrong growth failing full wire tables upgrade crash hostile front soak client page
+.PHONY: decisions power
 .PHONY: bench dist install uninstall service firstday standby
 
 # Serves a room with sample folders, the front and the page, until Ctrl-C: with build/fileroom where `make build` made
@@ -69,6 +70,16 @@ upgrade: build
 # Kills the server in the middle of writes, 240 times (`make test` 100 times): each request acts once.
 crash: build
 	tests/crash/run
+
+# A million random questions about lists, to the program and to Samba's own check of access (`make test` asks 100,000).
+# Needs python3-samba.
+decisions: build
+	tests/decisions/run --count 1000000
+
+# Loses the machine's power after each system call of a served room, of `init` and of the upgrade: 4,000 states of each
+# (`make test` tries 150). Needs strace.
+power: build
+	tests/power/run --states 4000
 
 # Random streams against a plain model, forty clients and kills, and peers that neither send nor read. `make test` plays
 # 2,000 streams; here 50,000.
