@@ -1,6 +1,6 @@
 -- The frames of calls of the shelf.
 use Rattle.std.proofs.Common.{◌≡◌, ◌≢◌, ◌≤◌, ℕ, List, None, Some, Result, Ok}
-use Rattle.std.proofs.Common.{Err, OnOk, OnErr, inl, inr, refl, sym, ap, subst, arith}
+use Rattle.std.proofs.Common.{Err, IfOk, OnOk, OnErr, inl, inr, refl, sym, ap, subst, arith}
 use Rattle.std.proofs.Common.{◌==◌, true, [], length, map, IsTrue, IsPermutation}
 use Rattle.std.proofs.lemmas.Bool.Decides.{nat_tests}
 use Rattle.std.proofs.lemmas.List.{length-map, nil_from_length}
@@ -117,3 +117,9 @@ pub none_found : (rows read : List Row) (n : ℕ) → IsPermutation (map shown_n
 none_found rows read n same len none =
     let zero : n ≡ 0 = grind (arith, nat_tests) in
     nil_from_length rows (omega (arith, length-map rows shown_node, length_permutation (map shown_node rows) read same))
+
+-- what was read is handed on
+pub read : {T : Type 0} {Q : T → Type 0} {answer : Result T Error} (result : Result T ShelfFault)
+    → IfOk result (λ value. answer ≡ Ok value) → ((value : T) → answer ≡ Ok value → Q value) → IfOk result Q
+read (Ok value) same each = each value same
+read (Err told) same each = tt

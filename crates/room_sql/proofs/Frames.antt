@@ -1,5 +1,5 @@
 -- The frames of calls.
-use Rattle.std.proofs.Common.{◌≡◌, ◌∙◌, Bool, true, false, Vec, Result, Ok, Err, IfOk, IfErr, IsErr, OnOk}
+use Rattle.std.proofs.Common.{◌≡◌, ◌∙◌, true, false, Vec, Result, Ok, Err, IfOk, IfErr, IsErr, OnOk}
 use Rattle.std.proofs.Common.{refl, ap, arith}
 use Rattle.std.specs.declared.alloc.Global.{Global}
 use Rattle.std.specs.Prelude.{List, ℕ}
@@ -19,39 +19,47 @@ use Rattle.sqlite.proofs.StateLemmas.{survives_then}
 use Rattle.sqlite.proofs.InsideLemmas.{keeps_then}
 use Rattle.room_tables.proofs.Changes.{keeps_all, was_inside}
 use Rattle.room_tables.proofs.Queries.{is_query_text, query_keeps, query_left, query_answered, query_open}
-use Rattle.room_sql.specs.Frames.{QueryFrame, QueryAnswered, InsideFrame, CommitFrame}
+use Rattle.room_sql.specs.Frames.{QueryFrame, InsideFrame, CommitFrame}
+
+-- what holds after an Ok
+pub ok_then : {X E P Q : Type 0} (r : Result X E) → OnOk r P → (P → Q) → OnOk r Q
+ok_then (Ok x) h f = f h
+ok_then (Err e) h f = h
+
+pub both : {X E : Type 0} (r : Result X E) (P Q : Type 0) → OnOk r P → OnOk r Q → OnOk r (P × Q)
+both (Ok x) P Q p q = (p, q)
+both (Err e) P Q p q = tt
 
 -- a disk that has returned what was written had done so before
 pub was_clean : {a b : State} {P : Trees → Type 0} → Survives a b P → HasCleanDisk b → HasCleanDisk a
 was_clean survives clean = omega (arith, survives.clean)
 
--- what a text that only asks leaves, what it shows, and the cause of an error
-pub asked : {text : List ℕ} {args : Row} {old new : State} {r : Result (Vec Answer Global) Error}
+-- what a text that only asks leaves
+pub asked : (text : List ℕ) (args : Row) {old new : State} {r : Result (Vec Answer Global) Error}
     → is_query_text (first text) ≡ true
     → (HasCleanDisk new → IfOk r (λ rows. Shown text args old new rows.items))
     → (HasCleanDisk new → IfErr r (FailsToQuery text args old new))
     → (old.in_transaction ≡ false → new.in_transaction ≡ false)
-    → Survives old new (CommitsShowing text args old) → QueryAnswered text args old new r
-asked {text = text} {args = args} {old = old} {new = new} {r = r} selects ok err mode survives =
+    → Survives old new (CommitsShowing text args old) → QueryFrame old new r
+asked text args {old = old} {new = new} {r = r} selects ok err mode survives =
     let items = λ (v : Vec Answer Global). v.items in
     record {
-      frame = record {
-        clean = was_clean survives;
-        was_open = λ clean is. query_open items text args old new r (ok clean) (err clean) is;
-        mode = mode;
-        answered = λ clean. query_answered items text args old new r selects (ok clean);
-        same = λ clean is settled. query_left items text args old new r selects (ok clean) (err clean) is settled;
-        crash = query_keeps text args old new selects survives;
-      };
-      shown = ok;
-      failed = err;
+      clean = was_clean survives;
+      was_open = λ clean is. query_open items text args old new r (ok clean) (err clean) is;
+      mode = mode;
+      answered = λ clean. query_answered items text args old new r selects (ok clean);
+      same = λ clean is settled. query_left items text args old new r selects (ok clean) (err clean) is settled;
+      crash = query_keeps text args old new selects survives;
     }
 
 -- a statement that answered Ok ran inside a transaction
-pub statement_inside : (inside : Bool) (r : Result ℕ Error) (e : Error) (Y : Type 0)
-    → (inside ≡ false → (r ≡ Err e) × Y) → OnOk r (inside ≡ true)
-statement_inside inside (Ok count) e Y ended = was_inside inside (Ok count) count Y e ended refl
-statement_inside inside (Err f) e Y ended = tt
+pub statement_done : (text : List ℕ) (args : Row) (a b : State) (r : Result ℕ Error) (e : Error) (Y : Type 0)
+    → (a.in_transaction ≡ false → (r ≡ Err e) × Y)
+    → (a.in_transaction ≡ true → ExecutesInside 0 text args a b r)
+    → IfOk r (λ count. ExecutesInside 0 text args a b (Ok count))
+statement_done text args a b (Ok count) e Y ended runs =
+    runs (was_inside a.in_transaction (Ok count) count Y e ended refl)
+statement_done text args a b (Err f) e Y ended runs = tt
 
 goes_on : (text : List ℕ) (args : Row) (a b : State) (r : Result ℕ Error) (e : Error) (Y : Type 0)
     → (a.in_transaction ≡ false → (r ≡ Err e) × Y)

@@ -1,10 +1,8 @@
 pub mod Bound
 pub mod Frames
 pub mod Decisions
-pub mod Turns
-pub mod OrWrites
 pub mod NodeRows
+pub mod Made
 pub mod NewObjects
 pub mod Calls
 pub mod Taken
-pub mod Unread

@@ -1,14 +1,12 @@
 -- What calls of the connection leave, whatever they do: the frames of functions that are not public.
-use Rattle.std.specs.Prelude.{◌≡◌, ℕ, true, false, List, Vec, Result, IfOk, IfErr, OnOk, IsTrue}
-use Rattle.std.specs.declared.alloc.Global.{Global}
+use Rattle.std.specs.Prelude.{◌≡◌, ◌⊎◌, ℕ, suc, true, false, List, Result, Ok, OnOk, IsTrue}
 use Rattle.sqlite_value.specs.Order.{Row}
 use Rattle.sqlite_trees.specs.declared.store.Store.{Ghosts}
 use Rattle.sqlite_trees.specs.Tree.{Trees}
-use Rattle.sqlite.specs.State.{State, HasCleanDisk, KeepsCommit, Survives, Shown, FailsToQuery}
+use Rattle.sqlite.specs.State.{State, HasCleanDisk, KeepsCommit, Survives, ExecutesInside}
 use Rattle.sqlite.specs.Effect.{Database}
 use Rattle.sqlite.specs.Held.{Held, state}
 use Rattle.sqlite.specs.declared.error.Error.{Error}
-use Rattle.sqlite.specs.declared.rows.Row.{Row as Answer}
 use Rattle.sqlite.specs.declared.transaction.Transaction.{Transaction}
 
 -- the frame of a query outside a transaction
@@ -26,16 +24,14 @@ pub record QueryFrame {T : Type 0} (old new : State) (result : Result T Error) :
   -- nothing is committed, and a crash leaves no more than before
   pub crash : Survives old new (λ _. ⊥)
 
--- what a query outside a transaction says, by its text and its parameters: the frame, and
-pub record QueryAnswered (text : List ℕ) (args : Row) (old new : State)
-    (result : Result (Vec Answer Global) Error) : Type 0 where
-  pub frame : QueryFrame old new result
-  -- the rows of an Ok are those that the text asks for
-  pub shown : HasCleanDisk new → IfOk result (λ rows. Shown text args old new rows.items)
-  -- the cause of an error
-  pub failed : HasCleanDisk new → IfErr result (FailsToQuery text args old new)
-
 module _ {S : Type 0} (store : Ghosts S) where
+  -- the first text changed rows, or it changed none, and the other ran behind it with the same parameters
+  abbrev pub RunsOr : List ℕ → List ℕ → Row → Held S → Held S → Type 0
+  RunsOr text other args old new =
+      ((count : ℕ) × ExecutesInside 0 text args (state store old) (state store new) (Ok (suc count)))
+      ⊎ ((mid : Held S) × (count : ℕ) × ExecutesInside 0 text args (state store old) (state store mid) (Ok 0)
+      × ExecutesInside 0 other args (state store mid) (state store new) (Ok count))
+
   -- the frame of a call inside a transaction
   pub record InsideFrame {T : Type 0} (old new : Transaction S) (result : Result T Error) : Type 0 where
     -- it is the transaction of the same connection

@@ -2,9 +2,12 @@
 use Rattle.std.specs.Prelude.{◌≡◌, ◌+◌, ℕ, Bool, false, ◌==◌, List, [], ◌∷◌, length, filter, Option, None, Some}
 use Rattle.std.specs.Prelude.{if◌then◌else◌}
 use Rattle.sqlite_value.specs.Order.{Row}
+use Rattle.sqlite.specs.State.{State}
 use Rattle.room_records.specs.declared.change.Change.{Change}
 use Rattle.room_records.specs.declared.change.Change.TheVariants.{PutNode, DropNode}
+use Rattle.room_records.specs.Changes.{apply_change}
 use Rattle.room_tables.specs.Rows.{has}
+use Rattle.room_tables.specs.Steps.{Steps}
 
 -- how many rows are in a folder
 abbrev pub in_folder : ℕ → List Row → ℕ
@@ -30,7 +33,12 @@ After (PutNode node) old new = HasNone node.id old → HasOneMore node.parent ol
 After (DropNode id) old new = Unit {0}
 After _ old new = new ≡ old
 
--- the same of changes in their order
+-- what a change makes of a database, inside a transaction: of its records, and of its rows of nodes
+pub record MakesChange (change : Change) (old new : State) : Type 0 where
+  pub steps : Steps old new (apply_change change)
+  pub nodes : After change (old.now.trees 1) (new.now.trees 1)
+
+-- what changes do in their order
 abbrev pub AfterAll : List Change → List Row → List Row → Type 0
 AfterAll [] old new = new ≡ old
 AfterAll (change ∷ changes) old new = (mid : List Row) × After change old mid × AfterAll changes mid new

@@ -1,14 +1,12 @@
 //! A decision over an object's entries, which are read one row at a time.
 
-ghost use Rattle.std.specs.Prelude.{◌≡◌, map, IfOk, IfErr};
+ghost use Rattle.std.specs.Prelude.{◌≡◌, map, IfOk};
 ghost use Rattle.sqlite.specs.State.{HasCleanDisk};
 ghost use Rattle.sqlite.specs.Held.{state};
 ghost use Rattle.room_acl.specs.Access.{decision};
 ghost use Rattle.room_tables.specs.Layout.{IsRoomDatabase};
 ghost use Rattle.room_tables.specs.Rows.{entry_of, entry_rows};
-ghost use Rattle.room_sql.specs.Columns.{IsFault};
 ghost use Rattle.room_sql.specs.Frames.{QueryFrame};
-ghost use Rattle.room_sql.specs.Decisions.{CannotDecide};
 
 use crate::rows::entry_of;
 use room_acl::{Decision, Mask, Pending, Standing, Subject};
@@ -29,8 +27,6 @@ pub(crate) fn decide_entries<S: Alter>(
     ensures value { HasCleanDisk (state S.Store conn.new) → IsRoomDatabase (state S.Store conn.old).now
         → IfOk result (λ found. found ≡ decision (map entry_of (entry_rows (state S.Store conn.old).now.trees id))
         subject.now standing.now wanted) }
-    ensures cause { HasCleanDisk (state S.Store conn.new) → IfErr result (λ e. IsFault e →
-        CannotDecide id subject.now standing.now wanted (state S.Store conn.old) (state S.Store conn.new) e) }
 {
     let _live = conn.schema();
     let mut pending = Pending::new(wanted, subject, standing);

@@ -4,7 +4,7 @@ ghost use Rattle.std.specs.Prelude.{◌≡◌, ◌≢◌, ◌⊎◌, ◌↔◌, 
 ghost use Rattle.std.specs.Prelude.{IsTrue, IsPermutation, List, codes};
 ghost use Rattle.sqlite.specs.Table.{Table};
 ghost use Rattle.sqlite_schema.specs.declared.schema.Index.{Index};
-ghost use Rattle.sqlite.specs.State.{HasCleanDisk, Survives};
+ghost use Rattle.sqlite.specs.State.{HasCleanDisk, Survives, Shown};
 ghost use Rattle.sqlite.specs.Held.{state};
 ghost use Rattle.room_tables.specs.Tables.{schema_0, with_last, has_table, has_a_table, has_column};
 ghost use Rattle.room_tables.specs.Tables.{has_columns, has_five, has_slots, has_room, has_first_room};
@@ -12,9 +12,8 @@ ghost use Rattle.room_tables.specs.Rows.{version_rows, IsVersion};
 ghost use Rattle.room_tables.specs.Texts.{find_version_text};
 ghost use Rattle.room_tables.specs.Versions.{TellsVersion};
 ghost use Rattle.room_sql.specs.Taken.{IsTaken, MayBeTaken, IsAsBefore, HasItsVersion, HasAnotherVersion};
-ghost use Rattle.room_sql.specs.Causes.{CannotTake};
 ghost use Rattle.room_tables.specs.Fresh.{IsFreshRoom, MayBeMade};
-ghost use Rattle.room_sql.specs.Frames.{QueryFrame, QueryAnswered};
+ghost use Rattle.room_sql.specs.Frames.{QueryFrame};
 ghost use Rattle.room_sql.specs.NodeFacts.{KnowsNothing};
 
 use crate::sql_shelf::SqlShelf;
@@ -132,7 +131,9 @@ fn has_first_room<S: Alter>(conn: &Connection<S>) -> bool
 }
 
 fn version_rows<S: Alter>(conn: &mut Connection<S>) -> Result<Vec<Row>, Error>
-    ensures answered { QueryAnswered find_version_text [] (state S.Store conn.old) (state S.Store conn.new) result }
+    ensures frame { QueryFrame (state S.Store conn.old) (state S.Store conn.new) result }
+    ensures shown { HasCleanDisk (state S.Store conn.new) → IfOk result
+        (λ rows. Shown find_version_text [] (state S.Store conn.old) (state S.Store conn.new) rows.items) }
     ensures asked { HasCleanDisk (state S.Store conn.new) → (more : List Table) (others : List Index)
         → conn.old.schema ≡ with_last more others
         → IfOk result (λ rows. IsPermutation (version_rows (state S.Store conn.old).now.trees) rows.items) }
@@ -240,10 +241,8 @@ impl<S: Alter> SqlShelf<S> {
             (λ shelf. HasCleanDisk (state S.Store shelf.conn) → HasItsVersion (state S.Store connection)) }
         ensures no_version { IfErr result (λ e. e.0 ≡ OpenFault.NotARoom → HasCleanDisk (state S.Store e.1)
             → HasAnotherVersion (state S.Store connection)) }
-        ensures failed { IfErr result (λ e. e.0 ≢ OpenFault.NotARoom → HasCleanDisk (state S.Store e.1)
-            → (error : Error) × CannotTake S.Store connection e.1 error
-            × (((e.0 ≡ OpenFault.Memory) × (error ≡ Error.SqliteFailure ErrorCode.OutOfMemory))
-            ⊎ ((e.0 ≡ OpenFault.Store) × (error ≢ Error.SqliteFailure ErrorCode.OutOfMemory)))) }
+        ensures failed { IfErr result
+            (λ e. (e.0 ≡ OpenFault.NotARoom) ⊎ (e.0 ≡ OpenFault.Memory) ⊎ (e.0 ≡ OpenFault.Store)) }
         ensures again { IsTrue (has_room connection.schema)
             → IfOk result (λ shelf. IsAsBefore (state S.Store connection) (state S.Store shelf.conn)) }
         ensures left { IfErr result (λ e. IsTrue (has_room connection.schema) ⊎ (e.0 ≡ OpenFault.NotARoom)

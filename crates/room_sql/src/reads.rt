@@ -1,9 +1,8 @@
 //! The queries, outside a transaction.
 
-ghost use Rattle.std.specs.Prelude.{◌≡◌, List, [], ◌∷◌, length, pos, IfOk, IsPermutation};
+ghost use Rattle.std.specs.Prelude.{◌≡◌, List, [], ◌∷◌, length, IfOk, IsPermutation};
 ghost use Rattle.std.specs.List.{AllByRecursion};
 ghost use Rattle.sqlite_trees.specs.Tree.{IsAscending};
-ghost use Rattle.sqlite_value.specs.declared.value.Value.TheVariants.{Int, Text};
 ghost use Rattle.sqlite.specs.State.{HasCleanDisk};
 ghost use Rattle.sqlite.specs.Held.{state};
 ghost use Rattle.sqlite.specs.Table.{Table};
@@ -13,17 +12,13 @@ ghost use Rattle.room_tables.specs.Layout.{IsRoomDatabase};
 ghost use Rattle.room_tables.specs.Rows.{node_rows, named_rows, child_rows, entry_rows, doc_rows, session_rows};
 ghost use Rattle.room_tables.specs.Rows.{slot_rows, seq_rows, size_rows, next_rows, HasEntryColumns};
 ghost use Rattle.room_tables.specs.Names.{ByName, AreNameRows, counted_row};
-ghost use Rattle.room_tables.specs.Texts.{find_node_text, find_child_text, list_children_text, count_children_text};
-ghost use Rattle.room_tables.specs.Texts.{list_entries_text, find_doc_text, find_session_text, find_slot_text};
-ghost use Rattle.room_tables.specs.Texts.{find_next_text, list_names_text, find_seq_text, find_size_text};
-ghost use Rattle.room_sql.specs.Frames.{QueryAnswered};
+ghost use Rattle.room_sql.specs.Frames.{QueryFrame};
 
 use sqlite::{Alter, Connection, Error, Row, params};
 
 /// The rows of the node with the number: none, or one.
 pub(crate) fn node_rows<S: Alter>(conn: &mut Connection<S>, id: u32) -> Result<Vec<Row>, Error>
-    ensures answered { QueryAnswered find_node_text (Int (pos id) ∷ [])
-        (state S.Store conn.old) (state S.Store conn.new) result }
+    ensures frame { QueryFrame (state S.Store conn.old) (state S.Store conn.new) result }
     ensures rows { HasCleanDisk (state S.Store conn.new) → IsRoomDatabase (state S.Store conn.old).now
         → IfOk result (λ rows. IsPermutation (node_rows (state S.Store conn.old).now.trees id) rows.items) }
 {
@@ -39,8 +34,7 @@ pub(crate) fn named_rows<S: Alter>(
     parent: u32,
     name: &str,
 ) -> Result<Vec<Row>, Error>
-    ensures answered { QueryAnswered find_child_text (Int (pos parent) ∷ Text name.now ∷ [])
-        (state S.Store conn.old) (state S.Store conn.new) result }
+    ensures frame { QueryFrame (state S.Store conn.old) (state S.Store conn.new) result }
     ensures rows { HasCleanDisk (state S.Store conn.new) → IsRoomDatabase (state S.Store conn.old).now →
         IfOk result (λ rows. IsPermutation (named_rows (state S.Store conn.old).now.trees parent name.now) rows.items) }
 {
@@ -52,8 +46,7 @@ pub(crate) fn named_rows<S: Alter>(
 
 /// The rows of a folder, in order of their names.
 pub(crate) fn child_rows<S: Alter>(conn: &mut Connection<S>, parent: u32) -> Result<Vec<Row>, Error>
-    ensures answered { QueryAnswered list_children_text (Int (pos parent) ∷ [])
-        (state S.Store conn.old) (state S.Store conn.new) result }
+    ensures frame { QueryFrame (state S.Store conn.old) (state S.Store conn.new) result }
     ensures rows { HasCleanDisk (state S.Store conn.new) → IsRoomDatabase (state S.Store conn.old).now
         → IfOk result (λ rows. IsPermutation (child_rows (state S.Store conn.old).now.trees parent) rows.items
         × IsAscending ByName rows.items) }
@@ -66,8 +59,7 @@ pub(crate) fn child_rows<S: Alter>(conn: &mut Connection<S>, parent: u32) -> Res
 
 /// The names and kinds of a folder's rows, in order of the names. No other column is read.
 pub(crate) fn name_rows<S: Alter>(conn: &mut Connection<S>, parent: u32) -> Result<Vec<Row>, Error>
-    ensures answered { QueryAnswered list_names_text (Int (pos parent) ∷ [])
-        (state S.Store conn.old) (state S.Store conn.new) result }
+    ensures frame { QueryFrame (state S.Store conn.old) (state S.Store conn.new) result }
     ensures rows { HasCleanDisk (state S.Store conn.new) → IsRoomDatabase (state S.Store conn.old).now
         → IfOk result (λ rows. AreNameRows (state S.Store conn.old).now.trees parent rows.items) }
 {
@@ -79,8 +71,7 @@ pub(crate) fn name_rows<S: Alter>(conn: &mut Connection<S>, parent: u32) -> Resu
 
 /// How many rows a folder has, as one row.
 pub(crate) fn count_rows<S: Alter>(conn: &mut Connection<S>, parent: u32) -> Result<Vec<Row>, Error>
-    ensures answered { QueryAnswered count_children_text (Int (pos parent) ∷ [])
-        (state S.Store conn.old) (state S.Store conn.new) result }
+    ensures frame { QueryFrame (state S.Store conn.old) (state S.Store conn.new) result }
     ensures rows { HasCleanDisk (state S.Store conn.new) → IsRoomDatabase (state S.Store conn.old).now → IfOk result
         (λ rows. rows.items ≡ counted_row (length (child_rows (state S.Store conn.old).now.trees parent)) ∷ []) }
 {
@@ -92,8 +83,7 @@ pub(crate) fn count_rows<S: Alter>(conn: &mut Connection<S>, parent: u32) -> Res
 
 /// The rows of an object's entries, in their order.
 pub(crate) fn entry_rows<S: Alter>(conn: &mut Connection<S>, id: u32) -> Result<Vec<Row>, Error>
-    ensures answered { QueryAnswered list_entries_text (Int (pos id) ∷ [])
-        (state S.Store conn.old) (state S.Store conn.new) result }
+    ensures frame { QueryFrame (state S.Store conn.old) (state S.Store conn.new) result }
     ensures rows { HasCleanDisk (state S.Store conn.new) → IsRoomDatabase (state S.Store conn.old).now
         → IfOk result (λ rows.
         AllByRecursion HasEntryColumns rows.items → rows.items ≡ entry_rows (state S.Store conn.old).now.trees id) }
@@ -106,8 +96,7 @@ pub(crate) fn entry_rows<S: Alter>(conn: &mut Connection<S>, id: u32) -> Result<
 
 /// The rows of a document: none, or one.
 pub(crate) fn doc_rows<S: Alter>(conn: &mut Connection<S>, id: u32) -> Result<Vec<Row>, Error>
-    ensures answered { QueryAnswered find_doc_text (Int (pos id) ∷ [])
-        (state S.Store conn.old) (state S.Store conn.new) result }
+    ensures frame { QueryFrame (state S.Store conn.old) (state S.Store conn.new) result }
     ensures rows { HasCleanDisk (state S.Store conn.new) → IsRoomDatabase (state S.Store conn.old).now
         → IfOk result (λ rows. IsPermutation (doc_rows (state S.Store conn.old).now.trees id) rows.items) }
 {
@@ -116,8 +105,7 @@ pub(crate) fn doc_rows<S: Alter>(conn: &mut Connection<S>, id: u32) -> Result<Ve
 
 /// How long a document is, in rows: none, or one. The bytes are not read.
 pub(crate) fn size_rows<S: Alter>(conn: &mut Connection<S>, id: u32) -> Result<Vec<Row>, Error>
-    ensures answered { QueryAnswered find_size_text (Int (pos id) ∷ [])
-        (state S.Store conn.old) (state S.Store conn.new) result }
+    ensures frame { QueryFrame (state S.Store conn.old) (state S.Store conn.new) result }
     ensures rows { HasCleanDisk (state S.Store conn.new) → IsRoomDatabase (state S.Store conn.old).now
         → IfOk result (λ rows. IsPermutation (size_rows (state S.Store conn.old).now.trees id) rows.items) }
 {
@@ -126,8 +114,7 @@ pub(crate) fn size_rows<S: Alter>(conn: &mut Connection<S>, id: u32) -> Result<V
 
 /// The rows of a session name: none, or one.
 pub(crate) fn session_rows<S: Alter>(conn: &mut Connection<S>, sid: &str) -> Result<Vec<Row>, Error>
-    ensures answered { QueryAnswered find_session_text (Text sid.now ∷ [])
-        (state S.Store conn.old) (state S.Store conn.new) result }
+    ensures frame { QueryFrame (state S.Store conn.old) (state S.Store conn.new) result }
     ensures rows { HasCleanDisk (state S.Store conn.new) → IsRoomDatabase (state S.Store conn.old).now
         → IfOk result (λ rows. IsPermutation (session_rows (state S.Store conn.old).now.trees sid.now) rows.items) }
 {
@@ -143,8 +130,7 @@ pub(crate) fn slot_rows<S: Alter>(
     sid: &str,
     slot: u32,
 ) -> Result<Vec<Row>, Error>
-    ensures answered { QueryAnswered find_slot_text (Text sid.now ∷ Int (pos slot) ∷ [])
-        (state S.Store conn.old) (state S.Store conn.new) result }
+    ensures frame { QueryFrame (state S.Store conn.old) (state S.Store conn.new) result }
     ensures rows { HasCleanDisk (state S.Store conn.new) → IsRoomDatabase (state S.Store conn.old).now
         → IfOk result (λ rows. IsPermutation (slot_rows (state S.Store conn.old).now.trees sid.now slot) rows.items) }
 {
@@ -160,8 +146,7 @@ pub(crate) fn seq_rows<S: Alter>(
     sid: &str,
     slot: u32,
 ) -> Result<Vec<Row>, Error>
-    ensures answered { QueryAnswered find_seq_text (Text sid.now ∷ Int (pos slot) ∷ [])
-        (state S.Store conn.old) (state S.Store conn.new) result }
+    ensures frame { QueryFrame (state S.Store conn.old) (state S.Store conn.new) result }
     ensures rows { HasCleanDisk (state S.Store conn.new) → IsRoomDatabase (state S.Store conn.old).now
         → IfOk result (λ rows. IsPermutation (seq_rows (state S.Store conn.old).now.trees sid.now slot) rows.items) }
 {
@@ -173,7 +158,7 @@ pub(crate) fn seq_rows<S: Alter>(
 
 /// The row with the next number.
 pub(crate) fn next_rows<S: Alter>(conn: &mut Connection<S>) -> Result<Vec<Row>, Error>
-    ensures answered { QueryAnswered find_next_text [] (state S.Store conn.old) (state S.Store conn.new) result }
+    ensures frame { QueryFrame (state S.Store conn.old) (state S.Store conn.new) result }
     ensures rows { HasCleanDisk (state S.Store conn.new) → (more : List Table) (others : List Index)
         → conn.old.schema ≡ with_last more others → IfOk result
         (λ rows. IsPermutation (next_rows (state S.Store conn.old).now.trees) rows.items) }

@@ -1,7 +1,7 @@
 //! Rows of the tables, read as values of a room. A row that is no value of its type is an error.
 
-ghost use Rattle.std.specs.Prelude.{◌≡◌, ◌==◌, ℕ, pos, List, [], ◌∷◌, Some, None, map, slice_get, unwrap_or};
-ghost use Rattle.std.specs.Prelude.{option_map, IfOk, IfErr, IsTrue, string_bytes};
+ghost use Rattle.std.specs.Prelude.{◌≡◌, ◌==◌, ℕ, pos, [], ◌∷◌, Some, None, map, slice_get, unwrap_or};
+ghost use Rattle.std.specs.Prelude.{option_map, IfOk, string_bytes};
 ghost use Rattle.std.specs.List.{AllByRecursion, filter_map};
 ghost use Rattle.sqlite_value.specs.Order.{column};
 ghost use Rattle.sqlite_value.specs.declared.value.Value.TheVariants.{Int, Text};
@@ -11,11 +11,6 @@ ghost use Rattle.room_tables.specs.Rows.{kind_of, who_of, only, node_of, entry_o
 ghost use Rattle.room_tables.specs.Rows.{listed_of, seq_of, size_in, HasEntryColumns};
 ghost use Rattle.room_tables.specs.Names.{counted_row};
 ghost use Rattle.room_tables.specs.Steps.{flag_of};
-ghost use Rattle.room_sql.specs.Columns.{IsFault, HasNumber, HasText, HasBytes, HasReply, HasParent, HasFlag};
-ghost use Rattle.room_sql.specs.Columns.{HasListFlags, HasCount, IsNameRow};
-ghost use Rattle.room_sql.specs.Columns.{HasSlots, HasPrincipal, IsNameText, HasName, HasFlags, HasMask, IsNodeRow};
-ghost use Rattle.room_sql.specs.Columns.{IsLawfulEntryRow, IsSessionRow, IsKeptRow, IsOneNumber, IsOneCount};
-ghost use Rattle.room_records.specs.Names.{is_sid};
 
 use room_acl::{Entry, Flags, Kind, ListFlags, Mask, Principal, Who};
 use room_records::{FileName, Node, SessionRow, Sid, SlotCount};
@@ -30,21 +25,18 @@ pub(crate) fn bad_value() -> Error {
 
 fn number_at(row: &Row, at: usize) -> Result<u32, Error>
     ensures value { IfOk result (λ n. column row.now at ≡ Int (pos n)) }
-    ensures refused { IfErr result (λ e. IsFault e → ¬ HasNumber at row.now) }
 {
     row.get(at)
 }
 
 fn text_at(row: &Row, at: usize) -> Result<String, Error>
     ensures value { IfOk result (λ s. column row.now at ≡ Text (string_bytes s)) }
-    ensures refused { IfErr result (λ e. IsFault e → ¬ HasText at row.now) }
 {
     row.get(at)
 }
 
 fn principal_at(alloc: Global, row: &Row, at: usize) -> Result<Principal, Error>
     ensures value { IfOk result (λ name. name ≡ text_in (column row.now at)) }
-    ensures refused { IfErr result (λ e. IsFault e → ¬ HasPrincipal at row.now) }
 {
     let text = text_at(row, at)?;
     Principal::new(alloc, text.as_str())?.ok_or(bad_value())
@@ -52,7 +44,6 @@ fn principal_at(alloc: Global, row: &Row, at: usize) -> Result<Principal, Error>
 
 fn parent_at(row: &Row, at: usize) -> Result<Option<u32>, Error>
     ensures value { IfOk result (λ parent. parent ≡ parent_in (column row.now at)) }
-    ensures refused { IfErr result (λ e. IsFault e → ¬ HasParent at row.now) }
 {
     row.get(at)
 }
@@ -60,7 +51,6 @@ fn parent_at(row: &Row, at: usize) -> Result<Option<u32>, Error>
 /// The name of a node: the empty text is none.
 fn name_from(alloc: Global, text: &str) -> Result<Option<FileName>, Error>
     ensures value { IfOk result (λ name. name ≡ name_of_text text.now) }
-    ensures refused { IfErr result (λ e. IsFault e → ¬ IsNameText text.now) }
 {
     if text.is_empty() {
         return Ok(None);
@@ -73,7 +63,6 @@ fn name_from(alloc: Global, text: &str) -> Result<Option<FileName>, Error>
 
 fn name_at(alloc: Global, row: &Row, at: usize) -> Result<Option<FileName>, Error>
     ensures value { IfOk result (λ name. name ≡ name_in (column row.now at)) }
-    ensures refused { IfErr result (λ e. IsFault e → ¬ HasName at row.now) }
 {
     let text = text_at(row, at)?;
     name_from(alloc, text.as_str())
@@ -83,7 +72,6 @@ fn name_at(alloc: Global, row: &Row, at: usize) -> Result<Option<FileName>, Erro
 fn flag_at(row: &Row, at: usize) -> Result<bool, Error>
     ensures value { IfOk result (λ flag. flag ≡ (number_in (column row.now at) == 1)) }
     ensures typed { IfOk result (λ flag. column row.now at ≡ Int (pos (flag_of flag))) }
-    ensures refused { IfErr result (λ e. IsFault e → ¬ HasFlag at row.now) }
 {
     match number_at(row, at)? {
         0 => Ok(false),
@@ -94,7 +82,6 @@ fn flag_at(row: &Row, at: usize) -> Result<bool, Error>
 
 fn kind_at(row: &Row, at: usize) -> Result<Kind, Error>
     ensures value { IfOk result (λ kind. kind ≡ kind_of (number_in (column row.now at))) }
-    ensures refused { IfErr result (λ e. IsFault e → ¬ HasFlag at row.now) }
 {
     Ok(if flag_at(row, at)? {
         Kind::Folder
@@ -105,7 +92,6 @@ fn kind_at(row: &Row, at: usize) -> Result<Kind, Error>
 
 fn list_flags_at(row: &Row, at: usize) -> Result<ListFlags, Error>
     ensures value { IfOk result (λ flags. flags ≡ number_in (column row.now at)) }
-    ensures refused { IfErr result (λ e. IsFault e → ¬ HasListFlags at row.now) }
 {
     let number = number_at(row, at)?;
     let Ok(bits) = u8::try_from(number) else {
@@ -117,7 +103,6 @@ fn list_flags_at(row: &Row, at: usize) -> Result<ListFlags, Error>
 /// The node of a row that shows number, parent, name, kind, owner, group and list flags.
 pub(crate) fn node_of(alloc: Global, row: &Row) -> Result<Node, Error>
     ensures value { IfOk result (λ node. node ≡ node_of row.now) }
-    ensures refused { IfErr result (λ e. IsFault e → ¬ IsNodeRow row.now) }
 {
     let id = number_at(row, 0)?;
     let parent = parent_at(row, 1)?;
@@ -141,14 +126,12 @@ pub(crate) fn node_of(alloc: Global, row: &Row) -> Result<Node, Error>
 fn allow_at(row: &Row, at: usize) -> Result<bool, Error>
     ensures value { IfOk result (λ allow. allow ≡ (number_in (column row.now at) == 0)) }
     ensures typed { IfOk result (λ _. column row.now at ≡ Int (pos (number_in (column row.now at)))) }
-    ensures refused { IfErr result (λ e. IsFault e → ¬ HasFlag at row.now) }
 {
     Ok(!flag_at(row, at)?)
 }
 
 fn flags_at(row: &Row, at: usize) -> Result<Flags, Error>
     ensures value { IfOk result (λ flags. column row.now at ≡ Int (pos flags)) }
-    ensures refused { IfErr result (λ e. IsFault e → ¬ HasFlags at row.now) }
 {
     let number = number_at(row, at)?;
     let Ok(bits) = u8::try_from(number) else {
@@ -159,7 +142,6 @@ fn flags_at(row: &Row, at: usize) -> Result<Flags, Error>
 
 fn mask_at(row: &Row, at: usize) -> Result<Mask, Error>
     ensures value { IfOk result (λ mask. column row.now at ≡ Int (pos mask)) }
-    ensures refused { IfErr result (λ e. IsFault e → ¬ HasMask at row.now) }
 {
     let number = number_at(row, at)?;
     Mask::new(number).ok_or(bad_value())
@@ -168,7 +150,6 @@ fn mask_at(row: &Row, at: usize) -> Result<Mask, Error>
 fn who_from(alloc: Global, flags: Flags, text: &str) -> Result<Who, Error>
     ensures value { IfOk result (λ who. who ≡ who_of flags text.now) }
     ensures found { IfOk result (λ who. who_from flags text.now ≡ Some who) }
-    ensures refused { IfErr result (λ e. IsFault e → who_from flags text.now ≡ None) }
 {
     Who::read(alloc, flags, text)?.ok_or(bad_value())
 }
@@ -177,7 +158,6 @@ fn who_from(alloc: Global, flags: Flags, text: &str) -> Result<Who, Error>
 pub(crate) fn entry_of(alloc: Global, row: &Row) -> Result<Entry, Error>
     ensures value { IfOk result (λ entry. entry ≡ entry_of row.now) }
     ensures typed { IfOk result (λ _. HasEntryColumns row.now) }
-    ensures refused { IfErr result (λ e. IsFault e → ¬ IsLawfulEntryRow row.now) }
 {
     let _place = number_at(row, 0)?;
     let allow = allow_at(row, 1)?;
@@ -191,7 +171,6 @@ pub(crate) fn entry_of(alloc: Global, row: &Row) -> Result<Entry, Error>
 pub(crate) fn all_entries(alloc: Global, rows: &[Row]) -> Result<Vec<Entry>, Error>
     ensures value { IfOk result (λ entries. entries.items ≡ map entry_of rows.now) }
     ensures typed { IfOk result (λ _. AllByRecursion HasEntryColumns rows.now) }
-    ensures refused { IfErr result (λ e. IsFault e → ¬ AllByRecursion IsLawfulEntryRow rows.now) }
 {
     let mut entries = Vec::new(alloc);
     for row in rows {
@@ -202,7 +181,6 @@ pub(crate) fn all_entries(alloc: Global, rows: &[Row]) -> Result<Vec<Entry>, Err
 
 pub(crate) fn all_nodes(alloc: Global, rows: &[Row]) -> Result<Vec<Node>, Error>
     ensures value { IfOk result (λ nodes. nodes.items ≡ map node_of rows.now) }
-    ensures refused { IfErr result (λ e. IsFault e → ¬ AllByRecursion IsNodeRow rows.now) }
 {
     let mut nodes = Vec::new(alloc);
     for row in rows {
@@ -214,7 +192,6 @@ pub(crate) fn all_nodes(alloc: Global, rows: &[Row]) -> Result<Vec<Node>, Error>
 /// What a row that shows name and kind lists: none where it has no name.
 fn listed_of(alloc: Global, row: &Row) -> Result<Option<(FileName, Kind)>, Error>
     ensures value { IfOk result (λ listed. listed ≡ listed_of row.now) }
-    ensures refused { IfErr result (λ e. IsFault e → ¬ IsNameRow row.now) }
 {
     let name = name_at(alloc, row, 0)?;
     let kind = kind_at(row, 1)?;
@@ -226,7 +203,6 @@ fn listed_of(alloc: Global, row: &Row) -> Result<Option<(FileName, Kind)>, Error
 
 pub(crate) fn all_names(alloc: Global, rows: &[Row]) -> Result<Vec<(FileName, Kind)>, Error>
     ensures value { IfOk result (λ names. names.items ≡ filter_map listed_of rows.now) }
-    ensures refused { IfErr result (λ e. IsFault e → ¬ AllByRecursion IsNameRow rows.now) }
 {
     let mut names = Vec::new(alloc);
     for row in rows {
@@ -240,7 +216,6 @@ pub(crate) fn all_names(alloc: Global, rows: &[Row]) -> Result<Vec<(FileName, Ki
 /// The one row, as a node.
 pub(crate) fn one_node(alloc: Global, rows: &[Row]) -> Result<Option<Node>, Error>
     ensures value { IfOk result (λ node. node ≡ option_map node_of (only rows.now)) }
-    ensures refused { IfErr result (λ e. IsFault e → ¬ AllByRecursion IsNodeRow rows.now) }
 {
     match rows {
         [row] => Ok(Some(node_of(alloc, row)?)),
@@ -251,7 +226,6 @@ pub(crate) fn one_node(alloc: Global, rows: &[Row]) -> Result<Option<Node>, Erro
 /// The first row, as a node.
 pub(crate) fn first_node(alloc: Global, rows: &[Row]) -> Result<Option<Node>, Error>
     ensures value { IfOk result (λ node. node ≡ option_map node_of (slice_get rows.now 0)) }
-    ensures refused { IfErr result (λ e. IsFault e → ¬ AllByRecursion IsNodeRow rows.now) }
 {
     match rows {
         [row, ..] => Ok(Some(node_of(alloc, row)?)),
@@ -262,7 +236,6 @@ pub(crate) fn first_node(alloc: Global, rows: &[Row]) -> Result<Option<Node>, Er
 /// How many rows the one row says there are. A count of 2^63 - 1 or more is not told exactly.
 pub(crate) fn one_count(rows: &[Row]) -> Result<u64, Error>
     ensures value { IfOk result (λ count. (n : ℕ) → rows.now ≡ counted_row n ∷ [] → count ≡ n) }
-    ensures refused { IfErr result (λ e. IsFault e → ¬ IsOneCount rows.now) }
 {
     match rows {
         [row] => {
@@ -280,7 +253,6 @@ pub(crate) fn one_count(rows: &[Row]) -> Result<u64, Error>
 /// The bytes of the one row, none where there is no row.
 pub(crate) fn one_doc(alloc: Global, rows: &[Row]) -> Result<Vec<u8>, Error>
     ensures value { IfOk result (λ bytes. bytes.items ≡ unwrap_or (option_map doc_of (only rows.now)) []) }
-    ensures refused { IfErr result (λ e. IsFault e → ¬ AllByRecursion (HasBytes 0) rows.now) }
 {
     match rows {
         [row] => row.get(0),
@@ -290,7 +262,6 @@ pub(crate) fn one_doc(alloc: Global, rows: &[Row]) -> Result<Vec<u8>, Error>
 
 fn slot_count_at(row: &Row, at: usize) -> Result<SlotCount, Error>
     ensures value { IfOk result (λ slots. slots ≡ number_in (column row.now at)) }
-    ensures refused { IfErr result (λ e. IsFault e → ¬ HasSlots at row.now) }
 {
     let number = number_at(row, at)?;
     SlotCount::new(number).ok_or(bad_value())
@@ -298,7 +269,6 @@ fn slot_count_at(row: &Row, at: usize) -> Result<SlotCount, Error>
 
 fn sid_copy(alloc: Global, sid: &Sid) -> Result<Sid, Error>
     ensures value { IfOk result (λ copy. copy ≡ sid.now) }
-    ensures refused { IfErr result (λ e. IsFault e → ¬ IsTrue (is_sid sid.now)) }
 {
     Sid::new(alloc, sid.text())?.ok_or(bad_value())
 }
@@ -306,7 +276,6 @@ fn sid_copy(alloc: Global, sid: &Sid) -> Result<Sid, Error>
 /// The session of a row that shows owner, slots and whether it is open.
 fn session_of(alloc: Global, sid: &Sid, row: &Row) -> Result<SessionRow, Error>
     ensures value { IfOk result (λ session. session ≡ session_of sid.now row.now) }
-    ensures refused { IfErr result (λ e. IsFault e → ¬ IsSessionRow sid.now row.now) }
 {
     let owner = principal_at(alloc, row, 0)?;
     let slots = slot_count_at(row, 1)?;
@@ -323,7 +292,6 @@ fn session_of(alloc: Global, sid: &Sid, row: &Row) -> Result<SessionRow, Error>
 /// How long a document is, and 0 where there is none.
 pub(crate) fn one_size(rows: &[Row]) -> Result<u64, Error>
     ensures value { IfOk result (λ size. size ≡ size_in rows.now) }
-    ensures refused { IfErr result (λ e. IsFault e → ¬ AllByRecursion (HasCount 0) rows.now) }
 {
     match rows {
         [row] => row.get(0),
@@ -338,7 +306,6 @@ pub(crate) fn one_session(
     rows: &[Row],
 ) -> Result<Option<SessionRow>, Error>
     ensures value { IfOk result (λ session. session ≡ option_map (session_of sid.now) (only rows.now)) }
-    ensures refused { IfErr result (λ e. IsFault e → ¬ AllByRecursion (IsSessionRow sid.now) rows.now) }
 {
     match rows {
         [row] => Ok(Some(session_of(alloc, sid, row)?)),
@@ -348,7 +315,6 @@ pub(crate) fn one_session(
 
 fn bytes_at(row: &Row, at: usize) -> Result<Vec<u8>, Error>
     ensures value { IfOk result (λ bytes. bytes.items ≡ bytes_in (column row.now at)) }
-    ensures refused { IfErr result (λ e. IsFault e → ¬ HasBytes at row.now) }
 {
     row.get(at)
 }
@@ -356,7 +322,6 @@ fn bytes_at(row: &Row, at: usize) -> Result<Vec<u8>, Error>
 /// A reply, none where it is not kept.
 fn reply_at(row: &Row, at: usize) -> Result<Option<Vec<u8>>, Error>
     ensures value { IfOk result (λ reply. option_map (λ r. r.items) reply ≡ reply_in (column row.now at)) }
-    ensures refused { IfErr result (λ e. IsFault e → ¬ HasReply at row.now) }
 {
     row.get(at)
 }
@@ -364,7 +329,6 @@ fn reply_at(row: &Row, at: usize) -> Result<Option<Vec<u8>>, Error>
 /// What a slot keeps, of a row that shows number, request and reply.
 fn kept_of(row: &Row) -> Result<Kept, Error>
     ensures value { IfOk result (λ kept. kept ≡ kept_of row.now) }
-    ensures refused { IfErr result (λ e. IsFault e → ¬ IsKeptRow row.now) }
 {
     let seq = number_at(row, 0)?;
     let request = bytes_at(row, 1)?;
@@ -379,7 +343,6 @@ fn kept_of(row: &Row) -> Result<Kept, Error>
 /// The one row, as what a slot keeps.
 pub(crate) fn one_kept(rows: &[Row]) -> Result<Option<Kept>, Error>
     ensures value { IfOk result (λ kept. kept ≡ option_map kept_of (only rows.now)) }
-    ensures refused { IfErr result (λ e. IsFault e → ¬ AllByRecursion IsKeptRow rows.now) }
 {
     match rows {
         [row] => Ok(Some(kept_of(row)?)),
@@ -390,7 +353,6 @@ pub(crate) fn one_kept(rows: &[Row]) -> Result<Option<Kept>, Error>
 /// The number of the one row, none where there is no row.
 pub(crate) fn one_seq(rows: &[Row]) -> Result<Option<u32>, Error>
     ensures value { IfOk result (λ seq. seq ≡ option_map seq_of (only rows.now)) }
-    ensures refused { IfErr result (λ e. IsFault e → ¬ AllByRecursion (HasNumber 0) rows.now) }
 {
     match rows {
         [row] => Ok(Some(number_at(row, 0)?)),
@@ -402,7 +364,6 @@ pub(crate) fn one_seq(rows: &[Row]) -> Result<Option<u32>, Error>
 pub(crate) fn one_number(rows: &[Row]) -> Result<u32, Error>
     ensures value { IfOk result
         (λ number. number ≡ unwrap_or (option_map (λ row. number_in (column row 0)) (only rows.now)) 0) }
-    ensures refused { IfErr result (λ e. IsFault e → ¬ IsOneNumber rows.now) }
 {
     match rows {
         [row] => number_at(row, 0),

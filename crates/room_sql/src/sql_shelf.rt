@@ -5,7 +5,7 @@ ghost use Rattle.sqlite.specs.State.{HasCleanDisk};
 ghost use Rattle.sqlite.specs.Held.{state};
 ghost use Rattle.room_records.specs.Shelf.{FailureCounted};
 ghost use Rattle.room_records.specs.declared.shelf.ShelfFault.TheVariants.{Store};
-ghost use Rattle.room_sql.specs.Causes.{IsFaultOf};
+ghost use Rattle.room_sql.specs.Faults.{IsFaultOf};
 ghost use Rattle.room_sql.specs.NodeFacts.{KnowsNothing};
 ghost use Rattle.room_sql.specs.Resting.{rests_prop};
 
@@ -110,23 +110,16 @@ fn or_fault<T>(
 }
 
 impl<S: Alter> Shelf for SqlShelf<S> {
-    ghost use Rattle.std.specs.Prelude.{◌≡◌, [], ◌∷◌, length, pos, unwrap_or, OnOk};
-    ghost use Rattle.std.specs.List.{AllByRecursion};
-    ghost use Rattle.sqlite_value.specs.declared.value.Value.TheVariants.{Int, Text};
+    ghost use Rattle.std.specs.Prelude.{◌≡◌, [], length, unwrap_or, OnOk};
     ghost use Rattle.room_acl.specs.Access.{decision};
     ghost use Rattle.room_records.specs.Rules.{NodeRules};
     ghost use Rattle.room_records.specs.Changes.{apply_changes, RulesHoldAfterEach, Untouched};
     ghost use Rattle.room_records.specs.Shelf.{ShelfCall, ShelfRead, Tells, fault_in, AreChildren};
     ghost use Rattle.room_records.specs.Shelf.{AreNames, IsChildCount, IsChildNamed, LeavesOldOrNew};
     ghost use Rattle.room_slots.specs.Slots.{kept_seq};
-    ghost use Rattle.room_tables.specs.Texts.{find_node_text, find_child_text, list_children_text, count_children_text};
-    ghost use Rattle.room_tables.specs.Texts.{list_entries_text, find_doc_text, find_session_text, find_slot_text};
-    ghost use Rattle.room_tables.specs.Texts.{find_next_text, list_names_text, find_seq_text, find_size_text};
-    ghost use Rattle.room_sql.specs.Columns.{HasBytes, IsNodeRow, IsLawfulEntryRow, IsSessionRow, IsKeptRow};
-    ghost use Rattle.room_sql.specs.Columns.{HasNumber, HasCount, IsNameRow, IsOneNumber, IsOneCount};
     ghost use Rattle.sqlite.specs.State.{Survives};
     ghost use Rattle.room_tables.specs.Steps.{StaysRoom};
-    ghost use Rattle.room_sql.specs.SqlView.{sql_view, ReadCause, DecisionCause, CommitCause};
+    ghost use Rattle.room_sql.specs.SqlView.{sql_view};
     ghost use Rattle.room_sql.specs.Resting.{leaves_rest, leaves_these};
 
     ghost view = { sql_view S.Store };
@@ -143,8 +136,6 @@ impl<S: Alter> Shelf for SqlShelf<S> {
             result (λ records found. found ≡ records.objects.node id) }
         ensures there { (sql_view S.Store self.new).is_intact → OnOk result (sql_view S.Store self.new).is_available }
         ensures frame { ShelfRead (sql_view S.Store self.old) (sql_view S.Store self.new) (fault_in result) }
-        ensures cause { ReadCause S.Store self.old self.new result
-            find_node_text (Int (pos id) ∷ []) (AllByRecursion IsNodeRow) }
     {
         let _outside = self.conn.is_autocommit();
         let rows = reads::node_rows(&mut self.conn, id);
@@ -160,8 +151,6 @@ impl<S: Alter> Shelf for SqlShelf<S> {
             result (λ records. IsChildNamed records.objects parent name.now) }
         ensures there { (sql_view S.Store self.new).is_intact → OnOk result (sql_view S.Store self.new).is_available }
         ensures frame { ShelfRead (sql_view S.Store self.old) (sql_view S.Store self.new) (fault_in result) }
-        ensures cause { ReadCause S.Store self.old self.new result find_child_text
-            (Int (pos parent) ∷ Text name.now ∷ []) (AllByRecursion IsNodeRow) }
     {
         let _outside = self.conn.is_autocommit();
         let rows = reads::named_rows(&mut self.conn, parent, name.text());
@@ -176,8 +165,6 @@ impl<S: Alter> Shelf for SqlShelf<S> {
             NodeRules records.objects.node → AreChildren records.objects parent found.items) }
         ensures there { (sql_view S.Store self.new).is_intact → OnOk result (sql_view S.Store self.new).is_available }
         ensures frame { ShelfRead (sql_view S.Store self.old) (sql_view S.Store self.new) (fault_in result) }
-        ensures cause { ReadCause S.Store self.old self.new result
-            list_children_text (Int (pos parent) ∷ []) (AllByRecursion IsNodeRow) }
     {
         let _outside = self.conn.is_autocommit();
         let rows = reads::child_rows(&mut self.conn, parent);
@@ -193,8 +180,6 @@ impl<S: Alter> Shelf for SqlShelf<S> {
             NodeRules records.objects.node → AreNames records.objects parent found.items) }
         ensures there { (sql_view S.Store self.new).is_intact → OnOk result (sql_view S.Store self.new).is_available }
         ensures frame { ShelfRead (sql_view S.Store self.old) (sql_view S.Store self.new) (fault_in result) }
-        ensures cause { ReadCause S.Store self.old self.new result
-            list_names_text (Int (pos parent) ∷ []) (AllByRecursion IsNameRow) }
     {
         let _outside = self.conn.is_autocommit();
         let rows = reads::name_rows(&mut self.conn, parent);
@@ -209,8 +194,6 @@ impl<S: Alter> Shelf for SqlShelf<S> {
             NodeRules records.objects.node → IsChildCount records.objects parent count) }
         ensures there { (sql_view S.Store self.new).is_intact → OnOk result (sql_view S.Store self.new).is_available }
         ensures frame { ShelfRead (sql_view S.Store self.old) (sql_view S.Store self.new) (fault_in result) }
-        ensures cause { ReadCause S.Store self.old self.new result
-            count_children_text (Int (pos parent) ∷ []) IsOneCount }
     {
         if let Some(count) = self.known.count_in(parent) {
             return Ok(count);
@@ -230,8 +213,6 @@ impl<S: Alter> Shelf for SqlShelf<S> {
             result (λ records found. found.items ≡ records.objects.entries id) }
         ensures there { (sql_view S.Store self.new).is_intact → OnOk result (sql_view S.Store self.new).is_available }
         ensures frame { ShelfRead (sql_view S.Store self.old) (sql_view S.Store self.new) (fault_in result) }
-        ensures cause { ReadCause S.Store self.old self.new result list_entries_text
-            (Int (pos id) ∷ []) (AllByRecursion IsLawfulEntryRow) }
     {
         let _outside = self.conn.is_autocommit();
         let rows = reads::entry_rows(&mut self.conn, id);
@@ -252,7 +233,6 @@ impl<S: Alter> Shelf for SqlShelf<S> {
             found ≡ decision (records.objects.entries id) subject.now standing.now wanted) }
         ensures there { (sql_view S.Store self.new).is_intact → OnOk result (sql_view S.Store self.new).is_available }
         ensures frame { ShelfRead (sql_view S.Store self.old) (sql_view S.Store self.new) (fault_in result) }
-        ensures cause { DecisionCause S.Store self.old self.new result id subject.now standing.now wanted }
     {
         let _outside = self.conn.is_autocommit();
         let conn = &mut self.conn;
@@ -266,8 +246,6 @@ impl<S: Alter> Shelf for SqlShelf<S> {
             found.items ≡ unwrap_or (records.objects.document id) []) }
         ensures there { (sql_view S.Store self.new).is_intact → OnOk result (sql_view S.Store self.new).is_available }
         ensures frame { ShelfRead (sql_view S.Store self.old) (sql_view S.Store self.new) (fault_in result) }
-        ensures cause { ReadCause S.Store self.old self.new result
-            find_doc_text (Int (pos id) ∷ []) (AllByRecursion (HasBytes 0)) }
     {
         let _outside = self.conn.is_autocommit();
         let rows = reads::doc_rows(&mut self.conn, id);
@@ -282,8 +260,6 @@ impl<S: Alter> Shelf for SqlShelf<S> {
             found ≡ length (unwrap_or (records.objects.document id) [])) }
         ensures there { (sql_view S.Store self.new).is_intact → OnOk result (sql_view S.Store self.new).is_available }
         ensures frame { ShelfRead (sql_view S.Store self.old) (sql_view S.Store self.new) (fault_in result) }
-        ensures cause { ReadCause S.Store self.old self.new result
-            find_size_text (Int (pos id) ∷ []) (AllByRecursion (HasCount 0)) }
     {
         let _outside = self.conn.is_autocommit();
         // The database is sound, so the column holds bytes.
@@ -300,8 +276,6 @@ impl<S: Alter> Shelf for SqlShelf<S> {
             result (λ records found. found ≡ records.session sid.now) }
         ensures there { (sql_view S.Store self.new).is_intact → OnOk result (sql_view S.Store self.new).is_available }
         ensures frame { ShelfRead (sql_view S.Store self.old) (sql_view S.Store self.new) (fault_in result) }
-        ensures cause { ReadCause S.Store self.old self.new result find_session_text
-            (Text sid.now ∷ []) (AllByRecursion (IsSessionRow sid.now)) }
     {
         let _outside = self.conn.is_autocommit();
         let rows = reads::session_rows(&mut self.conn, sid.text());
@@ -316,8 +290,6 @@ impl<S: Alter> Shelf for SqlShelf<S> {
             result (λ records found. found ≡ records.slot sid.now slot) }
         ensures there { (sql_view S.Store self.new).is_intact → OnOk result (sql_view S.Store self.new).is_available }
         ensures frame { ShelfRead (sql_view S.Store self.old) (sql_view S.Store self.new) (fault_in result) }
-        ensures cause { ReadCause S.Store self.old self.new result find_slot_text
-            (Text sid.now ∷ Int (pos slot) ∷ []) (AllByRecursion IsKeptRow) }
     {
         let _outside = self.conn.is_autocommit();
         let rows = reads::slot_rows(&mut self.conn, sid.text(), slot);
@@ -332,8 +304,6 @@ impl<S: Alter> Shelf for SqlShelf<S> {
             result (λ records found. found ≡ kept_seq (records.slot sid.now slot)) }
         ensures there { (sql_view S.Store self.new).is_intact → OnOk result (sql_view S.Store self.new).is_available }
         ensures frame { ShelfRead (sql_view S.Store self.old) (sql_view S.Store self.new) (fault_in result) }
-        ensures cause { ReadCause S.Store self.old self.new result find_seq_text
-            (Text sid.now ∷ Int (pos slot) ∷ []) (AllByRecursion (HasNumber 0)) }
     {
         let _outside = self.conn.is_autocommit();
         let rows = reads::seq_rows(&mut self.conn, sid.text(), slot);
@@ -348,7 +318,6 @@ impl<S: Alter> Shelf for SqlShelf<S> {
             result (λ records next. next ≡ records.objects.next) }
         ensures there { (sql_view S.Store self.new).is_intact → OnOk result (sql_view S.Store self.new).is_available }
         ensures frame { ShelfRead (sql_view S.Store self.old) (sql_view S.Store self.new) (fault_in result) }
-        ensures cause { ReadCause S.Store self.old self.new result find_next_text [] IsOneNumber }
     {
         let _outside = self.conn.is_autocommit();
         let rows = reads::next_rows(&mut self.conn);
@@ -376,7 +345,6 @@ impl<S: Alter> Shelf for SqlShelf<S> {
             (StaysRoom (state S.Store self.old.conn).now) }
         ensures tables { (sql_view S.Store self.new).is_intact → (sql_view S.Store self.old).is_laid_out → OnOk result
             ((state S.Store self.new.conn).now.schema ≡ (state S.Store self.old.conn).now.schema) }
-        ensures cause { CommitCause S.Store self.old self.new result changes.now }
     {
         let _outside = self.conn.is_autocommit();
         let done = writes::commit(&mut self.conn, self.known.free(), changes);

@@ -1,20 +1,18 @@
 //! The tables, and a fresh room in them.
 
-ghost use Rattle.std.specs.Prelude.{◌≡◌, [], ◌∷◌, OnOk, OnErr, true, false, IsTrue};
+ghost use Rattle.std.specs.Prelude.{◌≡◌, OnOk, OnErr, false, IsTrue};
 ghost use Rattle.sqlite.specs.Effect.{IsDatabase};
 ghost use Rattle.sqlite.specs.State.{HasCleanDisk};
 ghost use Rattle.sqlite.specs.Held.{state};
 ghost use Rattle.room_records.specs.Changes.{apply_change};
 ghost use Rattle.room_records.specs.declared.change.Change.TheVariants.{PutNode, PutEntries, PutNext};
 ghost use Rattle.room_tables.specs.Tables.{schema_0, schema_1, schema_2, schema_3, schema_4, schema_5};
-ghost use Rattle.room_tables.specs.Tables.{kept_text};
 ghost use Rattle.room_tables.specs.Tables.{Fresh, room_schema, first_schema};
 ghost use Rattle.room_tables.specs.Upgrade.{IsWidened};
 ghost use Rattle.room_tables.specs.Rows.{version_rows, IsVersion};
 ghost use Rattle.room_tables.specs.Layout.{IsRoomDatabase};
 ghost use Rattle.room_tables.specs.Steps.{Steps};
 ghost use Rattle.room_tables.specs.Fresh.{IsMade, IsFilled, IsFreshRoom, MayBeFilled, MayBeMade};
-ghost use Rattle.room_sql.specs.Causes.{statement, RunInTurn};
 ghost use Rattle.room_sql.specs.Frames.{InsideFrame, CommitFrame};
 
 use crate::writes::{put_entries, put_next, put_node, run};
@@ -98,8 +96,6 @@ pub(crate) fn make_kept<S: Alter>(tx: &mut Transaction<'_, S>) -> Result<(), Err
     ensures beside { HasCleanDisk (state S.Store tx.new.conn.now) → OnOk result
         (IsTrue (state S.Store tx.old.conn.now).is_open × (tx.old.conn.now.schema ≡ first_schema →
         IsWidened (state S.Store tx.old.conn.now).now (state S.Store tx.new.conn.now).now)) }
-    ensures ran { HasCleanDisk (state S.Store tx.new.conn.now) → tx.old.conn.now.in_transaction ≡ true
-        → RunInTurn S.Store (statement kept_text [] ∷ []) tx.old.conn.now tx.new.conn.now result }
 {
     run(
         tx,

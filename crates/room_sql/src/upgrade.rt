@@ -1,7 +1,6 @@
 //! A room of version 1 becomes one of version 2.
 
-ghost use Rattle.std.specs.Prelude.{◌≡◌, [], ◌∷◌, OnOk, OnErr, IfOk, IfErr, true, false, IsTrue, MatchBool};
-ghost use Rattle.sqlite_value.specs.declared.value.Value.TheVariants.{Int};
+ghost use Rattle.std.specs.Prelude.{◌≡◌, OnOk, OnErr, IfOk, true, false, IsTrue, MatchBool};
 ghost use Rattle.sqlite.specs.Effect.{Database, IsDatabase};
 ghost use Rattle.sqlite.specs.State.{HasCleanDisk};
 ghost use Rattle.sqlite.specs.Held.{state};
@@ -9,9 +8,6 @@ ghost use Rattle.room_tables.specs.Rows.{records_of};
 ghost use Rattle.room_tables.specs.Layout.{IsRoomOfVersion1};
 ghost use Rattle.room_tables.specs.Upgrade.{others_than, IsShared, IsMoving, IsMovedOut, CopiesRow, IsMoved};
 ghost use Rattle.room_tables.specs.Upgrade.{IsUpgraded, MayBeUpgraded, MayBeMovedWith};
-ghost use Rattle.room_tables.specs.Texts.{copy_row_text, take_row_text};
-ghost use Rattle.room_sql.specs.Causes.{statement, next_write, RunInTurn, make_writes, MovesRow, MovesInTurn};
-ghost use Rattle.room_sql.specs.Causes.{UpgradeFails, CannotUpgrade};
 ghost use Rattle.room_sql.specs.Frames.{InsideFrame, CommitFrame};
 
 use crate::reads::next_rows;
@@ -26,8 +22,6 @@ fn copy_row<S: Alter>(tx: &mut Transaction<'_, S>) -> Result<(), Error>
     ensures ok { HasCleanDisk (state S.Store tx.new.conn.now)
         → OnOk result ((before : Database) → IsMoving before (state S.Store tx.old.conn.now).now →
         CopiesRow before (state S.Store tx.new.conn.now)) }
-    ensures ran { HasCleanDisk (state S.Store tx.new.conn.now) → tx.old.conn.now.in_transaction ≡ true
-        → RunInTurn S.Store (statement copy_row_text [] ∷ []) tx.old.conn.now tx.new.conn.now result }
 {
     run(
         tx,
@@ -44,8 +38,6 @@ fn take_row<S: Alter>(tx: &mut Transaction<'_, S>, id: i64) -> Result<(), Error>
         → OnOk result ((before : Database) → IsShared before (state S.Store tx.old.conn.now).now
         (others_than id ((state S.Store tx.old.conn.now).now.trees 8)) →
         IsMoving before (state S.Store tx.new.conn.now).now) }
-    ensures ran { HasCleanDisk (state S.Store tx.new.conn.now) → tx.old.conn.now.in_transaction ≡ true
-        → RunInTurn S.Store (statement take_row_text (Int id ∷ []) ∷ []) tx.old.conn.now tx.new.conn.now result }
 {
     run(tx, "DELETE FROM slot WHERE rowid = ?1", params![id])
 }
@@ -58,8 +50,6 @@ fn move_row<S: Alter>(tx: &mut Transaction<'_, S>) -> Result<bool, Error>
         → IfOk result (λ more. (before : Database) → IsMoving before (state S.Store tx.old.conn.now).now →
         MatchBool more (IsMoving before (state S.Store tx.new.conn.now).now)
         (IsMovedOut before (state S.Store tx.new.conn.now).now)) }
-    ensures ran { HasCleanDisk (state S.Store tx.new.conn.now) → tx.old.conn.now.in_transaction ≡ true
-        → MovesRow S.Store tx.old.conn.now tx.new.conn.now result }
 {
     copy_row(tx)?;
     if tx.changes() == 0 {
@@ -81,8 +71,6 @@ fn move_rows<S: Alter>(tx: &mut Transaction<'_, S>) -> Result<(), Error>
     ensures ok { HasCleanDisk (state S.Store tx.new.conn.now)
         → OnOk result ((before : Database) → IsMoving before (state S.Store tx.old.conn.now).now →
         IsMovedOut before (state S.Store tx.new.conn.now).now) }
-    ensures ran { HasCleanDisk (state S.Store tx.new.conn.now) → tx.old.conn.now.in_transaction ≡ true
-        → MovesInTurn S.Store [] [] tx.old.conn.now tx.new.conn.now result }
 {
     'rows: for _ in 0..u64::MAX {
         if !move_row(tx)? {
@@ -99,8 +87,6 @@ fn move_slots<S: Alter>(tx: &mut Transaction<'_, S>) -> Result<(), Error>
         → OnOk result (IsTrue (state S.Store tx.old.conn.now).is_open
         × (IsRoomOfVersion1 (state S.Store tx.old.conn.now).now → IsDatabase (state S.Store tx.old.conn.now).now →
         IsMoved (state S.Store tx.old.conn.now).now (state S.Store tx.new.conn.now).now)) }
-    ensures ran { HasCleanDisk (state S.Store tx.new.conn.now) → tx.old.conn.now.in_transaction ≡ true
-        → MovesInTurn S.Store make_writes [] tx.old.conn.now tx.new.conn.now result }
 {
     make_kept(tx)?;
     move_rows(tx)
@@ -114,8 +100,6 @@ fn move_room<S: Alter>(tx: &mut Transaction<'_, S>, next: u32) -> Result<(), Err
         × (IsRoomOfVersion1 (state S.Store tx.old.conn.now).now → IsDatabase (state S.Store tx.old.conn.now).now →
         (records_of (state S.Store tx.old.conn.now).now.trees).objects.next ≡ next →
         IsUpgraded (state S.Store tx.old.conn.now).now (state S.Store tx.new.conn.now).now)) }
-    ensures ran { HasCleanDisk (state S.Store tx.new.conn.now) → tx.old.conn.now.in_transaction ≡ true →
-        MovesInTurn S.Store make_writes (next_write next ∷ []) tx.old.conn.now tx.new.conn.now result }
 {
     move_slots(tx)?;
     put_next(tx, next)
@@ -131,8 +115,6 @@ fn commit_move<S: Alter>(conn: &mut Connection<S>, next: u32) -> Result<(), Erro
         IsUpgraded (state S.Store conn.old).now (state S.Store conn.new).now)) }
     ensures err { HasCleanDisk (state S.Store conn.new) → IsTrue (state S.Store conn.new).is_open
         → OnErr result ((state S.Store conn.new).now ≡ (state S.Store conn.old).committed) }
-    ensures failed { HasCleanDisk (state S.Store conn.new)
-        → IfErr result (UpgradeFails S.Store next conn.old conn.new) }
 {
     // The database is sound.
     let _live = conn.schema();
@@ -151,8 +133,6 @@ pub(crate) fn upgrade<S: Alter>(conn: &mut Connection<S>) -> Result<(), Error>
     ensures err { HasCleanDisk (state S.Store conn.new) → IsTrue (state S.Store conn.new).is_open
         → (state S.Store conn.old).now ≡ (state S.Store conn.old).committed
         → OnErr result ((state S.Store conn.new).now ≡ (state S.Store conn.old).now) }
-    ensures failed { HasCleanDisk (state S.Store conn.new)
-        → IfErr result (CannotUpgrade S.Store conn.old conn.new) }
 {
     let rows = next_rows(conn)?;
     let next = one_number(rows.as_slice())?;

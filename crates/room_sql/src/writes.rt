@@ -1,13 +1,12 @@
 //! The changes, each inside a transaction.
 
-ghost use Rattle.std.specs.Prelude.{◌≡◌, ◌+◌, ◌^◌, ◌<◌, ◌≤◌, ℕ, [], ◌∷◌, ◌++◌, length, Ok, IfErr, OnOk};
+ghost use Rattle.std.specs.Prelude.{◌≡◌, ◌+◌, ◌^◌, ◌<◌, ◌≤◌, ℕ, [], ◌∷◌, ◌++◌, length, Ok, IfOk, OnOk};
 ghost use Rattle.std.specs.Prelude.{OnErr, true, false, IsTrue};
-ghost use Rattle.std.specs.List.{AllByRecursion};
 ghost use Rattle.sqlite.specs.State.{HasCleanDisk, ExecutesInside, Survives};
 ghost use Rattle.sqlite.specs.Held.{state};
 ghost use Rattle.sqlite.specs.Values.{bound};
 ghost use Rattle.sqlite.specs.Effect.{Database, IsDatabase};
-ghost use Rattle.room_records.specs.Changes.{apply_change, apply_changes};
+ghost use Rattle.room_records.specs.Changes.{apply_changes};
 ghost use Rattle.room_records.specs.declared.change.Change.TheVariants.{PutNode, DropNode, PutEntries, PutDoc};
 ghost use Rattle.room_records.specs.declared.change.Change.TheVariants.{PutSession, PutSlot, DropSlots, PutNext};
 ghost use Rattle.room_tables.specs.Tables.{Upgraded, room_schema};
@@ -15,13 +14,9 @@ ghost use Rattle.room_tables.specs.Rows.{version_rows, IsVersion};
 ghost use Rattle.room_tables.specs.Layout.{IsRoomDatabase};
 ghost use Rattle.room_tables.specs.Rows.{records_of};
 ghost use Rattle.room_tables.specs.Steps.{Steps, SeesSound, Lists, MayBecome, StaysRoom};
-ghost use Rattle.room_sql.specs.Causes.{statement, statement_or, RanText, RunInTurn, writes_of, writes_of_all};
-ghost use Rattle.room_sql.specs.Causes.{node_write, node_add, node_drop, entry_writes, entries_drop};
-ghost use Rattle.room_sql.specs.Causes.{doc_write, doc_add};
-ghost use Rattle.room_sql.specs.Causes.{session_write, slot_write, slots_drop, next_write, IsShort, CommitFails};
 ghost use Rattle.room_sql.specs.NewObject.{after_change, NoEntriesIfKnown};
-ghost use Rattle.room_sql.specs.Frames.{InsideFrame, CommitFrame};
-ghost use Rattle.room_sql.specs.NodeRows.{AfterAll};
+ghost use Rattle.room_sql.specs.Frames.{RunsOr, InsideFrame, CommitFrame};
+ghost use Rattle.room_sql.specs.NodeRows.{MakesChange, AfterAll};
 
 use crate::new_object::NewObject;
 use crate::values::{
@@ -42,8 +37,6 @@ pub(crate) fn run<S: Alter>(
     ensures frame { InsideFrame S.Store tx.old tx.new result }
     ensures done { HasCleanDisk (state S.Store tx.new.conn.now) → OnOk result ((count : ℕ) × ExecutesInside 0
         text.now (bound args.now) (state S.Store tx.old.conn.now) (state S.Store tx.new.conn.now) (Ok count)) }
-    ensures ran { HasCleanDisk (state S.Store tx.new.conn.now) → tx.old.conn.now.in_transaction ≡ true →
-        RunInTurn S.Store (statement text.now (bound args.now) ∷ []) tx.old.conn.now tx.new.conn.now result }
 {
     match tx.execute(text, args) {
         Ok(_) => Ok(()),
@@ -58,10 +51,8 @@ fn changed<S: Alter>(
     args: &[ValueRef<'_>],
 ) -> Result<usize, Error>
     ensures frame { InsideFrame S.Store tx.old tx.new result }
-    ensures inside { HasCleanDisk (state S.Store tx.new.conn.now)
-        → OnOk result (tx.old.conn.now.in_transaction ≡ true) }
-    ensures ran { HasCleanDisk (state S.Store tx.new.conn.now) → tx.old.conn.now.in_transaction ≡ true
-        → RanText S.Store text.now (bound args.now) tx.old.conn.now tx.new.conn.now result }
+    ensures done { HasCleanDisk (state S.Store tx.new.conn.now) → IfOk result (λ count. ExecutesInside 0
+        text.now (bound args.now) (state S.Store tx.old.conn.now) (state S.Store tx.new.conn.now) (Ok count)) }
 {
     tx.execute(text, args)
 }
@@ -74,10 +65,8 @@ fn run_or<S: Alter>(
     args: &[ValueRef<'_>],
 ) -> Result<(), Error>
     ensures frame { InsideFrame S.Store tx.old tx.new result }
-    ensures done { HasCleanDisk (state S.Store tx.new.conn.now) → OnOk result (RunInTurn S.Store
-        (statement_or text.now other.now (bound args.now) ∷ []) tx.old.conn.now tx.new.conn.now (Ok tt)) }
-    ensures ran { HasCleanDisk (state S.Store tx.new.conn.now) → tx.old.conn.now.in_transaction ≡ true → RunInTurn
-        S.Store (statement_or text.now other.now (bound args.now) ∷ []) tx.old.conn.now tx.new.conn.now result }
+    ensures done { HasCleanDisk (state S.Store tx.new.conn.now) → OnOk result (RunsOr S.Store
+        text.now other.now (bound args.now) tx.old.conn.now tx.new.conn.now) }
 {
     if changed(tx, text, args)? == 0 {
         run(tx, other, args)
@@ -91,9 +80,7 @@ pub(crate) fn put_node<S: Alter>(tx: &mut Transaction<'_, S>, node: &Node) -> Re
     ensures frame { InsideFrame S.Store tx.old tx.new result }
     ensures ok { HasCleanDisk (state S.Store tx.new.conn.now)
         → OnOk result (IsRoomDatabase (state S.Store tx.old.conn.now).now →
-        Steps (state S.Store tx.old.conn.now) (state S.Store tx.new.conn.now) (apply_change (PutNode node.now))) }
-    ensures ran { HasCleanDisk (state S.Store tx.new.conn.now) → tx.old.conn.now.in_transaction ≡ true
-        → RunInTurn S.Store (node_write node.now ∷ []) tx.old.conn.now tx.new.conn.now result }
+        MakesChange (PutNode node.now) (state S.Store tx.old.conn.now) (state S.Store tx.new.conn.now)) }
 {
     let name = name_text(node);
     let id = node_number(node);
@@ -115,12 +102,10 @@ fn put_new_node<S: Alter>(tx: &mut Transaction<'_, S>, node: &Node) -> Result<()
     ensures frame { InsideFrame S.Store tx.old tx.new result }
     ensures ok { HasCleanDisk (state S.Store tx.new.conn.now)
         → OnOk result (IsRoomDatabase (state S.Store tx.old.conn.now).now →
-        Steps (state S.Store tx.old.conn.now) (state S.Store tx.new.conn.now) (apply_change (PutNode node.now))) }
+        MakesChange (PutNode node.now) (state S.Store tx.old.conn.now) (state S.Store tx.new.conn.now)) }
     ensures no_entries { HasCleanDisk (state S.Store tx.new.conn.now)
         → OnOk result (IsRoomDatabase (state S.Store tx.old.conn.now).now → SeesSound (state S.Store tx.old.conn.now) →
         (records_of (state S.Store tx.new.conn.now).now.trees).objects.entries node.now.id ≡ []) }
-    ensures ran { HasCleanDisk (state S.Store tx.new.conn.now) → tx.old.conn.now.in_transaction ≡ true
-        → RunInTurn S.Store (node_add node.now ∷ []) tx.old.conn.now tx.new.conn.now result }
 {
     let name = name_text(node);
     let id = node_number(node);
@@ -141,9 +126,7 @@ fn drop_node<S: Alter>(tx: &mut Transaction<'_, S>, id: u32) -> Result<(), Error
     ensures frame { InsideFrame S.Store tx.old tx.new result }
     ensures ok { HasCleanDisk (state S.Store tx.new.conn.now)
         → OnOk result (IsRoomDatabase (state S.Store tx.old.conn.now).now →
-        Steps (state S.Store tx.old.conn.now) (state S.Store tx.new.conn.now) (apply_change (DropNode id))) }
-    ensures ran { HasCleanDisk (state S.Store tx.new.conn.now) → tx.old.conn.now.in_transaction ≡ true
-        → RunInTurn S.Store (node_drop id ∷ []) tx.old.conn.now tx.new.conn.now result }
+        MakesChange (DropNode id) (state S.Store tx.old.conn.now) (state S.Store tx.new.conn.now)) }
 {
     run(tx, "DELETE FROM node WHERE id = ?1", params![id])
 }
@@ -154,8 +137,6 @@ fn clear_entries<S: Alter>(tx: &mut Transaction<'_, S>, id: u32) -> Result<(), E
     ensures ok { HasCleanDisk (state S.Store tx.new.conn.now)
         → OnOk result (IsRoomDatabase (state S.Store tx.old.conn.now).now →
         Lists (state S.Store tx.old.conn.now).now id [] (state S.Store tx.new.conn.now).now) }
-    ensures ran { HasCleanDisk (state S.Store tx.new.conn.now) → tx.old.conn.now.in_transaction ≡ true
-        → RunInTurn S.Store (entries_drop id ∷ []) tx.old.conn.now tx.new.conn.now result }
 {
     run(tx, "DELETE FROM entry WHERE node = ?1", params![id])
 }
@@ -172,8 +153,6 @@ fn add_one<S: Alter>(
         → OnOk result ((was : Database) (before : _) → length before ≡ place →
         Lists was id before (state S.Store tx.old.conn.now).now
         → Lists was id (before ++ a.now ∷ []) (state S.Store tx.new.conn.now).now) }
-    ensures ran { HasCleanDisk (state S.Store tx.new.conn.now) → tx.old.conn.now.in_transaction ≡ true
-        → RunInTurn S.Store (entry_writes id place (a.now ∷ [])) tx.old.conn.now tx.new.conn.now result }
 {
     let a = entry_row(place, a);
     run(
@@ -197,8 +176,6 @@ fn add_two<S: Alter>(
         → OnOk result ((was : Database) (before : _) → length before ≡ place →
         Lists was id before (state S.Store tx.old.conn.now).now
         → Lists was id (before ++ a.now ∷ b.now ∷ []) (state S.Store tx.new.conn.now).now) }
-    ensures ran { HasCleanDisk (state S.Store tx.new.conn.now) → tx.old.conn.now.in_transaction ≡ true
-        → RunInTurn S.Store (entry_writes id place (a.now ∷ b.now ∷ [])) tx.old.conn.now tx.new.conn.now result }
 {
     let a = entry_row(place, a);
     let b = entry_row(place + 1, b);
@@ -237,8 +214,6 @@ fn add_three<S: Alter>(
         → OnOk result ((was : Database) (before : _) → length before ≡ place →
         Lists was id before (state S.Store tx.old.conn.now).now
         → Lists was id (before ++ a.now ∷ b.now ∷ c.now ∷ []) (state S.Store tx.new.conn.now).now) }
-    ensures ran { HasCleanDisk (state S.Store tx.new.conn.now) → tx.old.conn.now.in_transaction ≡ true →
-        RunInTurn S.Store (entry_writes id place (a.now ∷ b.now ∷ c.now ∷ [])) tx.old.conn.now tx.new.conn.now result }
 {
     let a = entry_row(place, a);
     let b = entry_row(place + 1, b);
@@ -284,8 +259,6 @@ fn add_four<S: Alter>(
         → OnOk result ((was : Database) (before : _) → length before ≡ place →
         Lists was id before (state S.Store tx.old.conn.now).now
         → Lists was id (before ++ a.now ∷ b.now ∷ c.now ∷ d.now ∷ []) (state S.Store tx.new.conn.now).now) }
-    ensures ran { HasCleanDisk (state S.Store tx.new.conn.now) → tx.old.conn.now.in_transaction ≡ true → RunInTurn
-        S.Store (entry_writes id place (a.now ∷ b.now ∷ c.now ∷ d.now ∷ [])) tx.old.conn.now tx.new.conn.now result }
 {
     let a = entry_row(place, a);
     let b = entry_row(place + 1, b);
@@ -340,8 +313,6 @@ fn add_batch<S: Alter>(
         → OnOk result ((was : Database) (before : _) → length before ≡ place →
         Lists was id before (state S.Store tx.old.conn.now).now
         → Lists was id (before ++ batch.now) (state S.Store tx.new.conn.now).now) }
-    ensures ran { HasCleanDisk (state S.Store tx.new.conn.now) → tx.old.conn.now.in_transaction ≡ true
-        → RunInTurn S.Store (entry_writes id place batch.now) tx.old.conn.now tx.new.conn.now result }
 {
     match batch {
         [] => Ok(()),
@@ -364,10 +335,6 @@ fn add_entries<S: Alter>(
     ensures ok { HasCleanDisk (state S.Store tx.new.conn.now)
         → OnOk result ((was : Database) → Lists was id [] (state S.Store tx.old.conn.now).now →
         Lists was id entries.now (state S.Store tx.new.conn.now).now) }
-    ensures ran { HasCleanDisk (state S.Store tx.new.conn.now)
-        → tx.old.conn.now.in_transaction ≡ true → length entries.now < 2 ^ 32
-        → RunInTurn S.Store (entry_writes id 0 entries.now) tx.old.conn.now tx.new.conn.now result }
-    ensures short { OnOk result (length entries.now < 2 ^ 32) }
 {
     if u32::try_from(entries.len()).is_err() {
         return Err(Error::SqliteFailure(ErrorCode::TooBig));
@@ -389,13 +356,7 @@ pub(crate) fn put_entries<S: Alter>(
     ensures frame { InsideFrame S.Store tx.old tx.new result }
     ensures ok { HasCleanDisk (state S.Store tx.new.conn.now)
         → OnOk result (IsRoomDatabase (state S.Store tx.old.conn.now).now →
-        Steps (state S.Store tx.old.conn.now) (state S.Store tx.new.conn.now)
-        (apply_change (PutEntries id entries.now))) }
-    ensures ran { HasCleanDisk (state S.Store tx.new.conn.now)
-        → tx.old.conn.now.in_transaction ≡ true → length entries.now.items < 2 ^ 32
-        → RunInTurn S.Store (entries_drop id ∷ entry_writes id 0 entries.now.items)
-        tx.old.conn.now tx.new.conn.now result }
-    ensures short { OnOk result (length entries.now.items < 2 ^ 32) }
+        MakesChange (PutEntries id entries.now) (state S.Store tx.old.conn.now) (state S.Store tx.new.conn.now)) }
 {
     clear_entries(tx, id)?;
     add_entries(tx, id, entries.as_slice())
@@ -412,12 +373,7 @@ fn put_new_entries<S: Alter>(
     ensures ok { HasCleanDisk (state S.Store tx.new.conn.now)
         → OnOk result (IsRoomDatabase (state S.Store tx.old.conn.now).now →
         (records_of (state S.Store tx.old.conn.now).now.trees).objects.entries id ≡ [] →
-        Steps (state S.Store tx.old.conn.now) (state S.Store tx.new.conn.now)
-        (apply_change (PutEntries id entries.now))) }
-    ensures ran { HasCleanDisk (state S.Store tx.new.conn.now)
-        → tx.old.conn.now.in_transaction ≡ true → length entries.now.items < 2 ^ 32
-        → RunInTurn S.Store (entry_writes id 0 entries.now.items) tx.old.conn.now tx.new.conn.now result }
-    ensures short { OnOk result (length entries.now.items < 2 ^ 32) }
+        MakesChange (PutEntries id entries.now) (state S.Store tx.old.conn.now) (state S.Store tx.new.conn.now)) }
 {
     add_entries(tx, id, entries.as_slice())
 }
@@ -428,9 +384,7 @@ fn put_doc<S: Alter>(tx: &mut Transaction<'_, S>, id: u32, bytes: &Vec<u8>) -> R
     ensures frame { InsideFrame S.Store tx.old tx.new result }
     ensures ok { HasCleanDisk (state S.Store tx.new.conn.now)
         → OnOk result (IsRoomDatabase (state S.Store tx.old.conn.now).now →
-        Steps (state S.Store tx.old.conn.now) (state S.Store tx.new.conn.now) (apply_change (PutDoc id bytes.now))) }
-    ensures ran { HasCleanDisk (state S.Store tx.new.conn.now) → tx.old.conn.now.in_transaction ≡ true
-        → RunInTurn S.Store (doc_write id bytes.now.items ∷ []) tx.old.conn.now tx.new.conn.now result }
+        MakesChange (PutDoc id bytes.now) (state S.Store tx.old.conn.now) (state S.Store tx.new.conn.now)) }
 {
     run_or(
         tx,
@@ -445,9 +399,7 @@ fn put_new_doc<S: Alter>(tx: &mut Transaction<'_, S>, id: u32, bytes: &Vec<u8>) 
     ensures frame { InsideFrame S.Store tx.old tx.new result }
     ensures ok { HasCleanDisk (state S.Store tx.new.conn.now)
         → OnOk result (IsRoomDatabase (state S.Store tx.old.conn.now).now →
-        Steps (state S.Store tx.old.conn.now) (state S.Store tx.new.conn.now) (apply_change (PutDoc id bytes.now))) }
-    ensures ran { HasCleanDisk (state S.Store tx.new.conn.now) → tx.old.conn.now.in_transaction ≡ true
-        → RunInTurn S.Store (doc_add id bytes.now.items ∷ []) tx.old.conn.now tx.new.conn.now result }
+        MakesChange (PutDoc id bytes.now) (state S.Store tx.old.conn.now) (state S.Store tx.new.conn.now)) }
 {
     run(
         tx,
@@ -461,9 +413,7 @@ fn put_session<S: Alter>(tx: &mut Transaction<'_, S>, row: &SessionRow) -> Resul
     ensures frame { InsideFrame S.Store tx.old tx.new result }
     ensures ok { HasCleanDisk (state S.Store tx.new.conn.now)
         → OnOk result (IsRoomDatabase (state S.Store tx.old.conn.now).now →
-        Steps (state S.Store tx.old.conn.now) (state S.Store tx.new.conn.now) (apply_change (PutSession row.now))) }
-    ensures ran { HasCleanDisk (state S.Store tx.new.conn.now) → tx.old.conn.now.in_transaction ≡ true
-        → RunInTurn S.Store (session_write row.now ∷ []) tx.old.conn.now tx.new.conn.now result }
+        MakesChange (PutSession row.now) (state S.Store tx.old.conn.now) (state S.Store tx.new.conn.now)) }
 {
     let sid = row.sid.text();
     let owner = row.owner.text();
@@ -482,9 +432,7 @@ fn put_slot<S: Alter>(tx: &mut Transaction<'_, S>, row: &SlotRow) -> Result<(), 
     ensures frame { InsideFrame S.Store tx.old tx.new result }
     ensures ok { HasCleanDisk (state S.Store tx.new.conn.now)
         → OnOk result (IsRoomDatabase (state S.Store tx.old.conn.now).now →
-        Steps (state S.Store tx.old.conn.now) (state S.Store tx.new.conn.now) (apply_change (PutSlot row.now))) }
-    ensures ran { HasCleanDisk (state S.Store tx.new.conn.now) → tx.old.conn.now.in_transaction ≡ true
-        → RunInTurn S.Store (slot_write row.now ∷ []) tx.old.conn.now tx.new.conn.now result }
+        MakesChange (PutSlot row.now) (state S.Store tx.old.conn.now) (state S.Store tx.new.conn.now)) }
 {
     let sid = row.sid.text();
     let slot = row.slot;
@@ -504,9 +452,7 @@ fn drop_slots<S: Alter>(tx: &mut Transaction<'_, S>, sid: &Sid) -> Result<(), Er
     ensures frame { InsideFrame S.Store tx.old tx.new result }
     ensures ok { HasCleanDisk (state S.Store tx.new.conn.now)
         → OnOk result (IsRoomDatabase (state S.Store tx.old.conn.now).now →
-        Steps (state S.Store tx.old.conn.now) (state S.Store tx.new.conn.now) (apply_change (DropSlots sid.now))) }
-    ensures ran { HasCleanDisk (state S.Store tx.new.conn.now) → tx.old.conn.now.in_transaction ≡ true
-        → RunInTurn S.Store (slots_drop sid.now ∷ []) tx.old.conn.now tx.new.conn.now result }
+        MakesChange (DropSlots sid.now) (state S.Store tx.old.conn.now) (state S.Store tx.new.conn.now)) }
 {
     let sid = sid.text();
     run(tx, "DELETE FROM kept WHERE sid = ?1", params![sid])
@@ -518,15 +464,13 @@ pub(crate) fn put_next<S: Alter>(tx: &mut Transaction<'_, S>, next: u32) -> Resu
     ensures frame { InsideFrame S.Store tx.old tx.new result }
     ensures ok { HasCleanDisk (state S.Store tx.new.conn.now)
         → OnOk result (IsRoomDatabase (state S.Store tx.old.conn.now).now →
-        Steps (state S.Store tx.old.conn.now) (state S.Store tx.new.conn.now) (apply_change (PutNext next))
+        MakesChange (PutNext next) (state S.Store tx.old.conn.now) (state S.Store tx.new.conn.now)
         × IsVersion 2 (version_rows (state S.Store tx.new.conn.now).now.trees)) }
     ensures beside { HasCleanDisk (state S.Store tx.new.conn.now)
         → OnOk result (IsRoomDatabase (state S.Store tx.old.conn.now).now →
         IsDatabase (state S.Store tx.new.conn.now).now
         × ((state S.Store tx.old.conn.now).now.schema ≡ room_schema Upgraded →
         (state S.Store tx.new.conn.now).now.trees 8 ≡ (state S.Store tx.old.conn.now).now.trees 8)) }
-    ensures ran { HasCleanDisk (state S.Store tx.new.conn.now) → tx.old.conn.now.in_transaction ≡ true
-        → RunInTurn S.Store (next_write next ∷ []) tx.old.conn.now tx.new.conn.now result }
 {
     run_or(
         tx,
@@ -547,11 +491,8 @@ fn apply<S: Alter>(
     ensures ok { HasCleanDisk (state S.Store tx.new.conn.now)
         → OnOk result (IsRoomDatabase (state S.Store tx.old.conn.now).now → SeesSound (state S.Store tx.old.conn.now) →
         NoEntriesIfKnown object (state S.Store tx.old.conn.now).now.trees →
-        Steps (state S.Store tx.old.conn.now) (state S.Store tx.new.conn.now) (apply_change change.now)
+        MakesChange change.now (state S.Store tx.old.conn.now) (state S.Store tx.new.conn.now)
         × NoEntriesIfKnown (after_change object change.now) (state S.Store tx.new.conn.now).now.trees) }
-    ensures ran { HasCleanDisk (state S.Store tx.new.conn.now) → tx.old.conn.now.in_transaction ≡ true
-        → IsShort change.now → RunInTurn S.Store (writes_of object change.now) tx.old.conn.now tx.new.conn.now result }
-    ensures short { OnOk result (IsShort change.now) }
 {
     match change {
         Change::PutNode(node) if object.is_free(node.id) => put_new_node(tx, node),
@@ -582,8 +523,6 @@ fn apply_all<S: Alter>(
     ensures ok { HasCleanDisk (state S.Store tx.new.conn.now)
         → OnOk result (IsRoomDatabase (state S.Store tx.old.conn.now).now →
         Steps (state S.Store tx.old.conn.now) (state S.Store tx.new.conn.now) (apply_changes changes.now)) }
-    ensures ran { HasCleanDisk (state S.Store tx.new.conn.now) → AllByRecursion IsShort changes.now
-        → RunInTurn S.Store (writes_of_all object changes.now) tx.old.conn.now tx.new.conn.now result }
     ensures nodes { HasCleanDisk (state S.Store tx.new.conn.now)
         → OnOk result (IsRoomDatabase (state S.Store tx.old.conn.now).now → AfterAll changes.now
         ((state S.Store tx.old.conn.now).now.trees 1) ((state S.Store tx.new.conn.now).now.trees 1)) }
@@ -617,8 +556,6 @@ pub(crate) fn commit<S: Alter>(
         → (state S.Store conn.new).now.schema ≡ (state S.Store conn.old).now.schema) }
     ensures stays { Survives (state S.Store conn.old) (state S.Store conn.new)
         (StaysRoom (state S.Store conn.old).now) }
-    ensures failed { HasCleanDisk (state S.Store conn.new) → AllByRecursion IsShort changes.now
-        → IfErr result (CommitFails S.Store free changes.now conn.old conn.new) }
     ensures err { HasCleanDisk (state S.Store conn.new) → IsTrue (state S.Store conn.new).is_open
         → OnErr result ((state S.Store conn.new).now ≡ (state S.Store conn.old).committed) }
 {

@@ -148,7 +148,7 @@ lists_none old new id count room h =
       mine = rw (eq-eqb id id refl) at (rows id);
       back = tt;
       others = λ q apart. ap (map entry_of) (rw (ne_eqb q id apart) at (rows q));
-      nodes = λ q. ap (λ l. nodes_in l q) (o.node (omega arith));
+      nodes = o.node (omega arith);
       documents = λ q. ap (λ l. documents_in l q) (o.doc (omega arith));
       next = ap next_in (o.room (omega arith));
       sessions = λ q. ap (λ l. sessions_in l q) (o.session (omega arith));
@@ -226,7 +226,7 @@ lists_more text old new id at count es batch before adds place back was h =
       mine = more.mine;
       back = all-append IsReadBack es batch was.back back;
       others = λ q apart. ap (λ l. map entry_of (in_order l)) (more.others q apart) ∙ was.others q apart;
-      nodes = λ q. ap (λ l. nodes_in l q) (o.node (omega arith)) ∙ was.nodes q;
+      nodes = o.node (omega arith) ∙ was.nodes;
       documents = λ q. ap (λ l. documents_in l q) (o.doc (omega arith)) ∙ was.documents q;
       next = ap next_in (o.room (omega arith)) ∙ was.next;
       sessions = λ q. ap (λ l. sessions_in l q) (o.session (omega arith)) ∙ was.sessions q;
@@ -244,7 +244,7 @@ pub lists_records : (before : Database) (id : ℕ) (es : List EntryModel) (db : 
             cond (q == id) es ((records_of before.trees).objects.entries q);
       };
     }
-lists_records before id es db it = same_records _ _ it.nodes (λ q. elim (cases_eq q id) [
+lists_records before id es db it = same_records _ _ (λ q. ap (λ l. nodes_in l q) it.nodes) (λ q. elim (cases_eq q id) [
   | inl same ↦ rw (eq-eqb q id same, same) (ap (map entry_of) it.mine ∙ read_back 0 es it.back)
   | inr apart ↦ rw (ne_eqb q id apart) (it.others q apart)
 ]) it.documents it.next it.sessions it.slots

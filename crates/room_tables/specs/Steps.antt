@@ -70,7 +70,7 @@ pub record Lists (before : Database) (id : ℕ) (entries : List EntryModel) (db 
   pub mine : entry_rows db.trees id ≡ placed 0 entries
   pub back : AllByRecursion IsReadBack entries
   pub others : (q : ℕ) → q ≢ id → (records_of db.trees).objects.entries q ≡ (records_of before.trees).objects.entries q
-  pub nodes : (q : ℕ) → (records_of db.trees).objects.node q ≡ (records_of before.trees).objects.node q
+  pub nodes : db.trees 1 ≡ before.trees 1
   pub documents : (q : ℕ) → (records_of db.trees).objects.document q ≡ (records_of before.trees).objects.document q
   pub next : (records_of db.trees).objects.next ≡ (records_of before.trees).objects.next
   pub sessions : (sid : List ℕ) → (records_of db.trees).session sid ≡ (records_of before.trees).session sid

@@ -1,4 +1,4 @@
-use Rattle.std.proofs.Common.{◌≡◌, rules, arith, refl, sym, ap, ◌∙◌, pos, [], ◌∷◌, ◌++◌, ◌+◌, inl, inr, length-append}
+use Rattle.std.proofs.Common.{◌≡◌, rules, refl, sym, ◌∙◌, pos, [], ◌∷◌, ◌++◌}
 use Rattle.sqlite_value.specs.declared.value.Value.TheVariants.{Int}
 use Rattle.sqlite.specs.State.{HasCleanDisk, IsUnchanged}
 use Rattle.sqlite.specs.Given.{HasGiven}
@@ -7,10 +7,9 @@ use Rattle.sqlite.proofs.Callers.{unchanged_then, given_begin}
 use Rattle.room_tables.specs.Texts.{read_entries_text}
 use Rattle.room_tables.proofs.Queries.{query_keeps, fails_leaves}
 use Rattle.room_tables.proofs.Selects.{read_entries_selects}
-use Rattle.room_tables.proofs.Onward.{query_begins, fails_on, begins_from}
-use Rattle.room_sql.proofs.Decisions.{frame_same, frame_failed, survives_on, at_start, taken, stopped, ended, at_row}
+use Rattle.room_tables.proofs.Onward.{query_begins, fails_on}
+use Rattle.room_sql.proofs.Decisions.{frame_same, frame_failed, survives_on, taken, stopped, ended}
 use Rattle.room_sql.proofs.Frames.{was_clean}
-use Rattle.room_sql.proofs.Turns.{passed}
 use Rattle.room_sql.proofs.deciding.decide_entries.Goals as goal
 
 -- ---- the query was refused
@@ -20,12 +19,6 @@ returns-in_err-rows-clause-frame g c =
     let refused = rw c.in_err-rows.was at c.query.follows.holds-at-none in
     frame_failed c.from_residual.ensures.0 (query_keeps read_entries_text _ _ _ read_entries_selects refused.survives)
     refused.mode (λ clean. fails_leaves read_entries_text _ _ _ _ (refused.err clean))
-
-pub returns-in_err-rows-clause-cause : goal.returns-in_err-rows-clause-cause
-returns-in_err-rows-clause-cause g c clean =
-    let refused = rw c.in_err-rows.was at c.query.follows.holds-at-none in
-    rw (passed c.from_residual.result c.from_residual.ensures.1)
-    (λ _. inl (rw c.params-to_sql.ensures at (refused.err clean)))
 
 -- ---- the rows
 
@@ -42,7 +35,7 @@ rows-init g c =
       query_keeps read_entries_text _ _ _ read_entries_selects made.survives,
       λ clean. (begun clean).1,
       made.mode,
-      λ clean. ([], (begun clean).0, at_start c.new-pending.ensures.answers c.new-pending.ensures.left, refl),
+      λ clean. ([], (begun clean).0, record { answers = c.new-pending.ensures.answers }),
     )
 
 pub rows-preserved : goal.rows-preserved
@@ -59,8 +52,7 @@ rows-preserved g c =
             was.0 ++ row ∷ [],
             (rw (c.in_ok-row.was, c.in-Some.is) at (moved.ok late)) read_entries_text (Int (pos c.args.id) ∷ [])
                 was.0 was.1,
-            taken was.0 row was.2 c.in_ok-entry.ensures.value c.take.ensures.answers c.take.ensures.left,
-            length-append was.0 (row ∷ []) ∙ ap (λ n. n + 1) was.3,
+            taken was.0 row was.2 c.in_ok-entry.ensures.value c.take.ensures.answers,
           ),
     )
 
@@ -96,17 +88,6 @@ returns-in_err-row-clause-frame g c =
     (fails_on read_entries_text _ _ _ _ _ _ read_entries_selects (c.rows.invariant.2 early) c.rows.invariant.1
     ((rw c.in_err-row.was at (moved.err late)) read_entries_text (Int (pos c.args.id) ∷ []) was.0 was.1))))
 
-pub returns-in_err-row-clause-cause : goal.returns-in_err-row-clause-cause
-returns-in_err-row-clause-cause g c clean =
-    let moved = c.next.follows.holds-at-none in
-    let end : c.next.follows.lender-at-none.conn.now ≡ c.conn-in_err-row-1.given.0 = search rules in
-    let late = rw (← end) at clean in
-    let early = was_clean moved.survives late in
-    let was = c.rows.invariant.4 early in
-    rw (← end, passed c.from_residual-in_err-row.result c.from_residual-in_err-row.ensures.1) (λ _. inl
-    (fails_on read_entries_text _ _ _ _ _ _ read_entries_selects (c.rows.invariant.2 early) c.rows.invariant.1
-    ((rw c.in_err-row.was at (moved.err late)) read_entries_text (Int (pos c.args.id) ∷ []) was.0 was.1)))
-
 -- ---- no row is left
 
 pub returns-in_default-clause-frame : goal.returns-in_default-clause-frame
@@ -139,46 +120,9 @@ returns-in_err-entry-clause-frame g c =
     (λ late. unchanged_then _ _ _ (c.rows.invariant.2 (was_clean moved.survives late))
     (rw c.in_ok-row.was at (moved.same late))))
 
-pub returns-in_err-entry-clause-cause : goal.returns-in_err-entry-clause-cause
-returns-in_err-entry-clause-cause g c clean =
-    let moved = c.next.follows.holds-at-none in
-    let args = Int (pos c.args.id) ∷ [] in
-    let row = c.in-Some.row.now in
-    let now = c.next.follows.lender-at-none.conn.now in
-    let end : now ≡ c.conn-in_err-entry-1.given.0 = search rules in
-    let late = rw (← end) at clean in
-    let early = was_clean moved.survives late in
-    let was = c.rows.invariant.4 early in
-    let same = unchanged_then _ _ _ (c.rows.invariant.2 early) (rw c.in_ok-row.was at (moved.same late)) in
-    let given = (rw (c.in_ok-row.was, c.in-Some.is) at (moved.ok late)) read_entries_text args was.0 was.1 in
-    let some = λ (zero : c.rows.pending.left ≡ 0).
-    c.if-bits-eq0.false (c.bits.ensures.value ∙ c.left.ensures.left ∙ zero) in
-    rw (← end, passed c.from_residual-in_err-entry.result c.from_residual-in_err-entry.ensures.1) (λ fault. inr (
-      same,
-      inl (at_row was.0 row same (given_begin g.S.Store read_entries_text args now (was.0 ++ row ∷ []) given)
-          was.2 some (c.in_err-entry.ensures.refused fault)),
-    ))
-
 -- ---- so many rows
 
 pub returns-clause-frame : goal.returns-clause-frame
 returns-clause-frame g c =
     let end : c.rows.rows.conn.now ≡ c.conn-2-1.given.0 = search rules in
     rw (← end) (frame_same c.rows.invariant.1 c.rows.invariant.3 c.rows.invariant.2)
-
-pub returns-clause-cause : goal.returns-clause-cause
-returns-clause-cause g c clean fault =
-    let args = Int (pos c.args.id) ∷ [] in
-    let end : c.rows.rows.conn.now ≡ c.conn-2-1.given.0 = search rules in
-    let late = rw (← end) at clean in
-    let was = c.rows.invariant.4 late in
-    let same = c.rows.invariant.2 late in
-    rw (← end) (inr (
-      same,
-      inr (
-        was.0,
-        begins_from read_entries_text args _ _ was.0 same
-            (given_begin g.S.Store read_entries_text args c.rows.rows.conn.now was.0 was.1),
-        omega (arith, was.3, c.rows-test.false),
-      ),
-    ))

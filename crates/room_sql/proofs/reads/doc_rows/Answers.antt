@@ -4,12 +4,12 @@ use Rattle.room_tables.proofs.Asks.{asks_doc}
 use Rattle.room_sql.proofs.Frames.{asked}
 use Rattle.room_sql.proofs.reads.doc_rows.Goals as goal
 
-pub returns-clause-answered : goal.returns-clause-answered
-returns-clause-answered g c =
-    rw c.params-to_sql.ensures at (asked find_doc_selects c.query_all.ensures.ok c.query_all.ensures.err
-    c.query_all.ensures.mode c.query_all.ensures.survives)
+pub returns-clause-frame : goal.returns-clause-frame
+returns-clause-frame g c =
+    asked _ _ find_doc_selects c.query_all.ensures.ok c.query_all.ensures.err
+    c.query_all.ensures.mode c.query_all.ensures.survives
 
 pub returns-clause-rows : goal.returns-clause-rows
 returns-clause-rows g c clean room =
     IfOk-weaker c.query_all.result _ _ (λ rows h. asks_doc _ _ c.args.id rows.items room h)
-    ((returns-clause-answered g c).shown clean)
+    (rw c.params-to_sql.ensures at (c.query_all.ensures.ok clean))

@@ -4,20 +4,11 @@ use Rattle.std.specs.List.{filter_map, cons_option}
 use Rattle.std.proofs.lemmas.List.{take_more}
 use Rattle.std.proofs.lemmas.List.Elements.{filter_map-append}
 use Rattle.sqlite_value.specs.Order.{Row}
-use Rattle.sqlite_trees.proofs.ListLemmas.{all-get_or}
 use Rattle.room_acl.specs.declared.subject.Kind.{Kind}
 use Rattle.room_records.specs.Names.{Name}
 use Rattle.room_tables.specs.Rows.{listed_of}
-use Rattle.room_sql.specs.Columns.{IsNameRow}
-use Rattle.room_sql.proofs.Turns.{passed}
 use Rattle.room_sql.proofs.rows.all_names.Goals as goal
 use Rattle.room_sql.proofs.rows.all_names.Goals.{in-Some+in_ok-push, in_default}
-
-pub returns-in_err-listed-clause-refused : goal.returns-in_err-listed-clause-refused
-returns-in_err-listed-clause-refused c =
-    rw (passed c.from_residual.result c.from_residual.ensures.1)
-    (λ fault each. c.in_err-listed.ensures.refused fault (rw c.row-item.is
-    (all-get_or IsNameRow c.args.rows.now c.loop-row.row-index c.row-item.result each (omega arith))))
 
 -- one row more
 more_listed : (before after : List (Name × Kind)) (rows : List Row) (i : ℕ) (row : Row) (o : Option (Name × Kind))

@@ -1,8 +1,7 @@
 use Rattle.std.proofs.Common.{◌∙◌, ap}
 use Rattle.room_records.specs.declared.change.Change.TheVariants.{PutEntries, PutNext}
 use Rattle.room_records.specs.Changes.{apply_change}
-use Rattle.room_sql.proofs.Frames.{was_clean}
-use Rattle.room_sql.proofs.Turns.{ok_then, both}
+use Rattle.room_sql.proofs.Frames.{was_clean, ok_then, both}
 use Rattle.room_sql.proofs.tables.fill.Goals as goal
 
 pub returns-clause-ok : goal.returns-clause-ok
@@ -11,16 +10,17 @@ returns-clause-ok g c clean =
     let early = was_clean c.put_entries.ensures.frame.crash late in
     let put = both c.put_next.result _ _ (c.put_next.ensures.ok clean) (c.put_next.ensures.beside clean) in
     ok_then c.put_next.result put (λ all room.
-    let one = c.in_ok-put_node.ensures.ok early room in
-    let two = c.in_ok-put_entries.ensures.ok late one.room in
-    let three = all.0 two.room in (
+    let one = (c.in_ok-put_node.ensures.ok early room).steps in
+    let two = (c.in_ok-put_entries.ensures.ok late one.room).steps in
+    let three = all.0 two.room in
+    let last = three.0.steps in (
       record {
-        room = three.0.room;
-        schema = three.0.schema ∙ two.schema ∙ one.schema;
-        records = three.0.records ∙ ap (apply_change (PutNext 2)) two.records
+        room = last.room;
+        schema = last.schema ∙ two.schema ∙ one.schema;
+        records = last.records ∙ ap (apply_change (PutNext 2)) two.records
             ∙ ap (λ r. apply_change (PutNext 2) (apply_change (PutEntries 1 c.args.entries.now) r)) one.records;
         version = λ _. three.1;
-        sound = λ s. three.0.sound (two.sound (one.sound s));
+        sound = λ s. last.sound (two.sound (one.sound s));
       },
       three.1,
       (all.1 two.room).0,

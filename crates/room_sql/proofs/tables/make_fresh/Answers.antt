@@ -1,7 +1,6 @@
 use Rattle.std.proofs.Common.{refl}
 use Rattle.room_tables.proofs.Creates.{made_room, filled_six}
-use Rattle.room_sql.proofs.Frames.{was_clean}
-use Rattle.room_sql.proofs.Turns.{ok_then}
+use Rattle.room_sql.proofs.Frames.{was_clean, ok_then}
 use Rattle.room_sql.proofs.tables.make_fresh.Goals as goal
 
 pub returns-clause-ok : goal.returns-clause-ok

@@ -1,7 +1,7 @@
 use Rattle.room_tables.proofs.Changes.{executes_inside}
 use Rattle.room_tables.proofs.Creates.{kept_step}
 use Rattle.room_tables.proofs.Moves.{widens}
-use Rattle.room_sql.proofs.Turns.{ok_then}
+use Rattle.room_sql.proofs.Frames.{ok_then}
 use Rattle.room_sql.proofs.tables.make_kept.Goals as goal
 
 pub returns-clause-ok : goal.returns-clause-ok

@@ -1,5 +1,4 @@
-use Rattle.std.proofs.Common.{◌≡◌, refl, rules}
-use Rattle.std.proofs.lemmas.Result.{IfErr-weaker}
+use Rattle.std.proofs.Common.{◌≡◌, rules}
 use Rattle.sqlite.specs.State.{HasCleanDisk}
 use Rattle.sqlite.specs.Held.{state}
 use Rattle.sqlite.proofs.StateLemmas.{survives_then}
@@ -8,7 +7,6 @@ use Rattle.room_tables.specs.Tables.{Upgraded, room_schema}
 use Rattle.room_tables.specs.Upgrade.{IsUpgraded, MayBeMovedWith}
 use Rattle.room_tables.proofs.Moves.{by_trees}
 use Rattle.room_sql.proofs.Frames.{was_clean}
-use Rattle.room_sql.proofs.Turns.{passed, write_failed, end_failed}
 use Rattle.room_sql.proofs.upgrade.commit_move.Goals as goal
 
 pub returns-clause-frame : goal.returns-clause-frame
@@ -32,23 +30,3 @@ returns-clause-frame g c =
           (survives_begin g.S.Store old (state g.S.Store last) _ (rw begun at c.move_room.ensures.frame.crash))
           c.commit.ensures.survives);
     }
-
-pub returns-in_err-move_room-clause-failed : goal.returns-in_err-move_room-clause-failed
-returns-in_err-move_room-clause-failed g c clean =
-    let same : c.drop-tx.new.self.0 ≡ c.conn-1.given.0 = search rules in
-    let late = rw (← same) at clean in
-    let begun = c.transaction-tx.ensures.begun in
-    rw (← same, passed c.from_residual.result c.from_residual.ensures.1)
-    (write_failed begun _
-    (c.in_err-move_room.ensures.ran (was_clean c.drop-tx.ensures.survives late) (rw begun refl))
-    (c.drop-tx.ensures.undone late) c.drop-tx.ensures.survives)
-
-pub returns-clause-failed : goal.returns-clause-failed
-returns-clause-failed g c clean =
-    let same : c.commit.new.self.0 ≡ c.conn-2-1.given.0 = search rules in
-    let late = rw (← same) at clean in
-    let begun = c.transaction-tx.ensures.begun in
-    rw (← same) (IfErr-weaker c.commit.result _ _ (λ e failed.
-    end_failed begun _
-    (c.in_ok-move_room.ensures.ran (was_clean c.commit.ensures.survives late) (rw begun refl)) failed
-    c.commit.ensures.survives.counts) (c.commit.ensures.err late))

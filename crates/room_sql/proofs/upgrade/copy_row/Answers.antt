@@ -1,5 +1,5 @@
 use Rattle.room_tables.proofs.Moves.{copied}
-use Rattle.room_sql.proofs.Turns.{ok_then}
+use Rattle.room_sql.proofs.Frames.{ok_then}
 use Rattle.room_sql.proofs.upgrade.copy_row.Goals as goal
 
 pub returns-clause-ok : goal.returns-clause-ok

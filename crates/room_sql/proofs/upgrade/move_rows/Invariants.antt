@@ -1,13 +1,11 @@
-use Rattle.std.proofs.Common.{◌≡◌, ℤ, List, length, true, Ok}
+use Rattle.std.proofs.Common.{Ok}
 use Rattle.sqlite.specs.State.{HasCleanDisk}
 use Rattle.sqlite.specs.Held.{state}
 use Rattle.sqlite.specs.Effect.{Database}
 use Rattle.room_tables.specs.Upgrade.{IsMoving}
-use Rattle.room_sql.specs.Causes.{RunInTurn, row_moves}
 use Rattle.room_sql.specs.Frames.{InsideFrame}
 use Rattle.room_sql.proofs.upgrade.move_rows.Given as goal
 
--- a row was moved for each pass
 abbrev pub invariant-rows : goal.invariant-rows
 invariant-rows g l =
     let old = state g.S.Store l.fn.tx.conn.now in
@@ -15,6 +13,4 @@ invariant-rows g l =
     record {
       frame : InsideFrame g.S.Store {T = Unit {0}} l.fn.tx l.tx (Ok tt);
       moving : HasCleanDisk now → (before : Database) → IsMoving before old.now → IsMoving before now.now;
-      ran : HasCleanDisk now → l.fn.tx.conn.now.in_transaction ≡ true → (ids : List ℤ) × (length ids ≡ l.counter)
-          × RunInTurn g.S.Store (row_moves ids) l.fn.tx.conn.now l.tx.conn.now (Ok tt);
     }

@@ -1,7 +1,4 @@
-use Rattle.std.proofs.Common.{◌≡◌, length, arith}
-use Rattle.std.proofs.lemmas.List.{nil_from_length}
 use Rattle.room_sql.proofs.Bound.{one_is, two_is, three_is, four_is}
-use Rattle.room_sql.proofs.Turns.{turn_none}
 use Rattle.room_sql.proofs.writes.add_batch.Goals as goal
 
 pub returns-in-len1-clause-ok : goal.returns-in-len1-clause-ok
@@ -22,27 +19,3 @@ pub returns-in-len4-clause-ok : goal.returns-in-len4-clause-ok
 returns-in-len4-clause-ok g c clean =
     rw (four_is c.in-len4.len_at_least c.in-len4.len_below c.a-item-then-batch-lt5.is c.b-item-then-batch-lt5.is
     c.c-item-then-batch-lt5.is c.d-item.is) (c.add_four.ensures.ok clean)
-
-pub returns-in-len1-clause-ran : goal.returns-in-len1-clause-ran
-returns-in-len1-clause-ran g c clean inside =
-    rw (one_is c.in-len1.len_at_least c.in-len1.len_below c.a-item.is) (c.add_one.ensures.ran clean inside)
-
-pub returns-in-len2-clause-ran : goal.returns-in-len2-clause-ran
-returns-in-len2-clause-ran g c clean inside =
-    rw (two_is c.in-len2.len_at_least c.in-len2.len_below c.a-item-then-batch-lt3.is c.b-item.is)
-    (c.add_two.ensures.ran clean inside)
-
-pub returns-in-len3-clause-ran : goal.returns-in-len3-clause-ran
-returns-in-len3-clause-ran g c clean inside =
-    rw (three_is c.in-len3.len_at_least c.in-len3.len_below c.a-item-then-batch-lt4.is c.b-item-then-batch-lt4.is
-    c.c-item.is) (c.add_three.ensures.ran clean inside)
-
-pub returns-in-len4-clause-ran : goal.returns-in-len4-clause-ran
-returns-in-len4-clause-ran g c clean inside =
-    rw (four_is c.in-len4.len_at_least c.in-len4.len_below c.a-item-then-batch-lt5.is c.b-item-then-batch-lt5.is
-    c.c-item-then-batch-lt5.is c.d-item.is) (c.add_four.ensures.ran clean inside)
-
-pub returns-in-empty-clause-ran : goal.returns-in-empty-clause-ran
-returns-in-empty-clause-ran g c clean inside =
-    let none : length c.args.batch.now ≡ 0 = omega (arith, c.in-empty.len_below) in
-    rw (nil_from_length c.args.batch.now none) (turn_none g.S.Store c.args.tx.now.conn.now)

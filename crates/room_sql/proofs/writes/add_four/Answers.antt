@@ -5,7 +5,7 @@ use Rattle.room_tables.specs.Texts.{add_four_text}
 use Rattle.room_tables.proofs.Takes.{bound_entries, adds_four}
 use Rattle.room_tables.proofs.Placed.{lists_more}
 use Rattle.room_sql.proofs.Bound.{columns, entry_then}
-use Rattle.room_sql.proofs.Turns.{ok_then}
+use Rattle.room_sql.proofs.Frames.{ok_then}
 use Rattle.room_sql.proofs.writes.add_four.Given.{Over}
 use Rattle.room_sql.proofs.writes.add_four.Goals as goal
 
@@ -34,6 +34,3 @@ returns-clause-ok g c clean = ok_then c.run.result (c.run.ensures.done clean) (Î
         ),
       ),
     ) was (rw (params g c) at done.1))
-
-pub returns-clause-ran : goal.returns-clause-ran
-returns-clause-ran g c clean inside = rw (params g c) at (c.run.ensures.ran clean inside)

@@ -5,7 +5,7 @@ use Rattle.room_tables.specs.Texts.{add_entry_text}
 use Rattle.room_tables.proofs.Takes.{bound_entries, adds_one}
 use Rattle.room_tables.proofs.Placed.{lists_more}
 use Rattle.room_sql.proofs.Bound.{columns, entry_then}
-use Rattle.room_sql.proofs.Turns.{ok_then}
+use Rattle.room_sql.proofs.Frames.{ok_then}
 use Rattle.room_sql.proofs.writes.add_one.Given.{Over}
 use Rattle.room_sql.proofs.writes.add_one.Goals as goal
 
@@ -19,6 +19,3 @@ returns-clause-ok g c clean = ok_then c.run.result (c.run.ensures.done clean) (�
     lists_more add_entry_text _ _ c.args.id c.args.place done.0 before (c.args.a.now ∷ []) records
     (λ l. adds_one l c.args.id c.args.place c.args.a.now) (sym len)
     (c.entry_row-a.ensures.back, tt) was (rw (params g c) at done.1))
-
-pub returns-clause-ran : goal.returns-clause-ran
-returns-clause-ran g c clean inside = rw (params g c) at (c.run.ensures.ran clean inside)

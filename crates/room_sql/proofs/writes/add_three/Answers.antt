@@ -5,7 +5,7 @@ use Rattle.room_tables.specs.Texts.{add_three_text}
 use Rattle.room_tables.proofs.Takes.{bound_entries, adds_three}
 use Rattle.room_tables.proofs.Placed.{lists_more}
 use Rattle.room_sql.proofs.Bound.{columns, entry_then}
-use Rattle.room_sql.proofs.Turns.{ok_then}
+use Rattle.room_sql.proofs.Frames.{ok_then}
 use Rattle.room_sql.proofs.writes.add_three.Given.{Over}
 use Rattle.room_sql.proofs.writes.add_three.Goals as goal
 
@@ -25,6 +25,3 @@ returns-clause-ok g c clean = ok_then c.run.result (c.run.ensures.done clean) (Î
     (Î» l. adds_three l c.args.id c.args.place c.args.a.now c.args.b.now c.args.c.now) (sym len)
     (c.entry_row-a.ensures.back, (c.entry_row-b.ensures.back, (c.entry_row-c.ensures.back, tt))) was
     (rw (params g c) at done.1))
-
-pub returns-clause-ran : goal.returns-clause-ran
-returns-clause-ran g c clean inside = rw (params g c) at (c.run.ensures.ran clean inside)

@@ -1,12 +1,9 @@
-use Rattle.std.proofs.Common.{take, drop, Result, Ok}
-use Rattle.std.specs.List.{AllByRecursion}
+use Rattle.std.proofs.Common.{take, Ok}
 use Rattle.sqlite.specs.State.{HasCleanDisk}
-use Rattle.sqlite.specs.Held.{Held, state}
-use Rattle.sqlite.specs.declared.error.Error.{Error}
+use Rattle.sqlite.specs.Held.{state}
 use Rattle.room_records.specs.Changes.{apply_changes}
 use Rattle.room_tables.specs.Layout.{IsRoomDatabase}
 use Rattle.room_tables.specs.Steps.{Steps}
-use Rattle.room_sql.specs.Causes.{RunInTurn, writes_of_all, IsShort}
 use Rattle.room_sql.specs.NewObject.{NoEntriesIfKnown}
 use Rattle.room_sql.specs.Frames.{InsideFrame}
 use Rattle.room_sql.specs.NodeRows.{AfterAll}
@@ -22,8 +19,4 @@ invariant-loop-change g l =
           → Steps old now (apply_changes (take l.change-index l.changes)) × NoEntriesIfKnown l.known now.now.trees;
       nodes : HasCleanDisk now → IsRoomDatabase old.now
           → AfterAll (take l.change-index l.changes) (old.now.trees 1) (now.now.trees 1);
-      -- what the statements of the rest make of it, those of all make of the start
-      ran : HasCleanDisk now → AllByRecursion IsShort l.changes → (end : Held _) (out : Result (Unit {0}) Error)
-          → RunInTurn g.S.Store (writes_of_all l.known (drop l.change-index l.changes)) l.tx.conn.now end out
-          → RunInTurn g.S.Store (writes_of_all l.fn.object l.changes) l.fn.tx.conn.now end out;
     }

@@ -1,5 +1,5 @@
 use Rattle.room_tables.proofs.Placed.{lists_none}
-use Rattle.room_sql.proofs.Turns.{ok_then}
+use Rattle.room_sql.proofs.Frames.{ok_then}
 use Rattle.room_sql.proofs.writes.clear_entries.Goals as goal
 
 pub returns-clause-ok : goal.returns-clause-ok
@@ -7,6 +7,3 @@ returns-clause-ok g c clean =
     ok_then c.run.result (c.run.ensures.done clean) (λ ran room.
     lists_none _ _ c.args.id ran.0 room
     (rw (c.params-to_sql.ensures) at ran.1))
-
-pub returns-clause-ran : goal.returns-clause-ran
-returns-clause-ran g c clean inside = rw (c.params-to_sql.ensures) at (c.run.ensures.ran clean inside)

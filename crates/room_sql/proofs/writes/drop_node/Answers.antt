@@ -1,12 +1,8 @@
 use Rattle.room_tables.proofs.Drops.{steps_drop}
-use Rattle.room_sql.proofs.Turns.{ok_then}
+use Rattle.room_sql.proofs.Frames.{ok_then}
 use Rattle.room_sql.proofs.writes.drop_node.Goals as goal
 
 pub returns-clause-ok : goal.returns-clause-ok
 returns-clause-ok g c clean =
     ok_then c.run.result (c.run.ensures.done clean) (λ ran room.
-    steps_drop _ _ c.args.id ran.0 room
-    (rw (c.params-to_sql.ensures) at ran.1))
-
-pub returns-clause-ran : goal.returns-clause-ran
-returns-clause-ran g c clean inside = rw (c.params-to_sql.ensures) at (c.run.ensures.ran clean inside)
+    record { steps = steps_drop _ _ c.args.id ran.0 room (rw c.params-to_sql.ensures at ran.1); nodes = tt })

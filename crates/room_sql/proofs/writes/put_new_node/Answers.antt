@@ -1,8 +1,9 @@
 use Rattle.std.proofs.Common.{◌≡◌, [], ◌∷◌, refl}
 use Rattle.sqlite.specs.Values.{bound}
-use Rattle.room_tables.proofs.Effects.{params_of_node, bound_parent, steps_add_node_at}
+use Rattle.room_tables.proofs.Effects.{params_of_node, bound_parent}
 use Rattle.room_tables.proofs.FirstEntries.{added_bare}
-use Rattle.room_sql.proofs.Turns.{ok_then, name_is}
+use Rattle.room_sql.proofs.Frames.{ok_then}
+use Rattle.room_sql.proofs.Made.{new_node_made}
 use Rattle.room_sql.proofs.writes.put_new_node.Given.{Over}
 use Rattle.room_sql.proofs.writes.put_new_node.Goals as goal
 
@@ -28,12 +29,8 @@ params g c = rw (
 
 pub returns-clause-ok : goal.returns-clause-ok
 returns-clause-ok g c clean = ok_then c.run.result (c.run.ensures.done clean) (λ ran room.
-    steps_add_node_at _ _ c.args.node.now _ _ ran.0 room c.name_text-name.ensures (params g c) ran.1)
+    new_node_made c.args.node.now _ _ _ ran.0 c.name_text-name.ensures room (rw (params g c) at ran.1))
 
 pub returns-clause-no_entries : goal.returns-clause-no_entries
 returns-clause-no_entries g c clean = ok_then c.run.result (c.run.ensures.done clean) (λ ran room.
     added_bare _ _ c.args.node.now c.name_text-name.result.now _ ran.0 room (params g c) ran.1)
-
-pub returns-clause-ran : goal.returns-clause-ran
-returns-clause-ran g c clean inside =
-    rw (params g c, name_is c.name_text-name.ensures) at (c.run.ensures.ran clean inside)

@@ -1,8 +1,8 @@
 use Rattle.std.proofs.Common.{◌≡◌, [], ◌∷◌, refl}
 use Rattle.sqlite.specs.Values.{bound}
 use Rattle.room_tables.proofs.Effects.{params_of_node, bound_parent}
-use Rattle.room_sql.proofs.OrWrites.{node_steps}
-use Rattle.room_sql.proofs.Turns.{ok_then, name_is}
+use Rattle.room_sql.proofs.Made.{node_made}
+use Rattle.room_sql.proofs.Frames.{ok_then}
 use Rattle.room_sql.proofs.writes.put_node.Given.{Over}
 use Rattle.room_sql.proofs.writes.put_node.Goals as goal
 
@@ -27,9 +27,6 @@ params g c = rw (
 ) refl
 
 pub returns-clause-ok : goal.returns-clause-ok
-returns-clause-ok g c clean = ok_then c.run_or.result (c.run_or.ensures.done clean) (λ ran.
-    node_steps g.S.Store c.args.node.now _ _ _ c.name_text-name.ensures (rw (params g c) at ran))
-
-pub returns-clause-ran : goal.returns-clause-ran
-returns-clause-ran g c clean inside =
-    rw (params g c, name_is c.name_text-name.ensures) at (c.run_or.ensures.ran clean inside)
+returns-clause-ok g c clean = ok_then c.run_or.result (c.run_or.ensures.done clean) (λ ran room.
+    node_made g.S.Store c.args.node.now _ c.args.tx.now.conn.now c.run_or.new.tx.conn.now c.name_text-name.ensures room
+    (rw (params g c) at ran))

@@ -1,13 +1,12 @@
 use Rattle.std.proofs.Common.{◌≡◌, [], ◌∷◌, refl}
 use Rattle.sqlite.specs.Values.{bound}
-use Rattle.room_tables.proofs.Sessions.{steps_session}
-use Rattle.room_sql.specs.Causes.{session_write}
-use Rattle.room_sql.proofs.Turns.{ok_then}
+use Rattle.room_sql.proofs.Made.{session_values, session_made}
+use Rattle.room_sql.proofs.Frames.{ok_then}
 use Rattle.room_sql.proofs.writes.put_session.Given.{Over}
 use Rattle.room_sql.proofs.writes.put_session.Goals as goal
 
 params : (g : Over) (c : goal.After-run g) → bound (c.params-to_sql.result ∷ c.params-to_sql-2.result
-    ∷ c.params-to_sql-3.result ∷ c.params-to_sql-4.result ∷ []) ≡ (session_write c.args.row.now).args
+    ∷ c.params-to_sql-3.result ∷ c.params-to_sql-4.result ∷ []) ≡ session_values c.args.row.now
 params g c = rw (
   c.params-to_sql.ensures,
   c.params-to_sql-2.ensures,
@@ -21,7 +20,4 @@ params g c = rw (
 
 pub returns-clause-ok : goal.returns-clause-ok
 returns-clause-ok g c clean = ok_then c.run.result (c.run.ensures.done clean)
-    (λ ran room. steps_session _ _ c.args.row.now ran.0 room (rw (params g c) at ran.1))
-
-pub returns-clause-ran : goal.returns-clause-ran
-returns-clause-ran g c clean inside = rw (params g c) at (c.run.ensures.ran clean inside)
+    (λ ran room. session_made c.args.row.now _ _ ran.0 room (rw (params g c) at ran.1))

@@ -2,8 +2,8 @@ use Rattle.std.proofs.Common.{◌≡◌, [], ◌∷◌, refl}
 use Rattle.sqlite.specs.Values.{bound}
 use Rattle.room_tables.proofs.Effects.{bound_reply}
 use Rattle.room_tables.proofs.Slots.{row_values}
-use Rattle.room_sql.proofs.OrWrites.{slot_steps}
-use Rattle.room_sql.proofs.Turns.{ok_then}
+use Rattle.room_sql.proofs.Made.{slot_made}
+use Rattle.room_sql.proofs.Frames.{ok_then}
 use Rattle.room_sql.proofs.writes.put_slot.Given.{Over}
 use Rattle.room_sql.proofs.writes.put_slot.Goals as goal
 
@@ -25,7 +25,5 @@ params g c = rw (
 pub returns-clause-ok : goal.returns-clause-ok
 returns-clause-ok g c clean =
     ok_then c.run_or.result (c.run_or.ensures.done clean)
-    (λ ran room. slot_steps g.S.Store c.args.row.now _ _ (rw (params g c) at ran) room)
-
-pub returns-clause-ran : goal.returns-clause-ran
-returns-clause-ran g c clean inside = rw (params g c) at (c.run_or.ensures.ran clean inside)
+    (λ ran room. slot_made g.S.Store c.args.row.now c.args.tx.now.conn.now c.run_or.new.tx.conn.now room
+    (rw (params g c) at ran))

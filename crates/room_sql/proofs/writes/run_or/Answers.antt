@@ -1,32 +1,26 @@
-use Rattle.std.proofs.Common.{[], ◌∷◌}
-use Rattle.sqlite.specs.Values.{bound}
-use Rattle.room_sql.specs.Causes.{statement_or, RunInTurn}
-use Rattle.room_sql.proofs.Frames.{was_clean}
-use Rattle.room_sql.proofs.Turns.{of_ok, passed, turn_changed, turn_unchanged, turn_or}
+use Rattle.std.proofs.Common.{◌≡◌, ℕ, zero, suc, List, Ok, inl, inr, refl}
+use Rattle.sqlite_value.specs.Order.{Row}
+use Rattle.sqlite_trees.specs.declared.store.Store.{Ghosts}
+use Rattle.sqlite.specs.State.{ExecutesInside}
+use Rattle.sqlite.specs.Held.{Held, state}
+use Rattle.room_sql.specs.Frames.{RunsOr}
+use Rattle.room_sql.proofs.Frames.{was_clean, ok_then}
 use Rattle.room_sql.proofs.writes.run_or.Goals as goal
 
-pub returns-then-branch-eq0-clause-ran : goal.returns-then-branch-eq0-clause-ran
-returns-then-branch-eq0-clause-ran g c clean inside =
-    let early = was_clean c.run.ensures.frame.crash clean in
-    turn_or g.S.Store _ _ _ _ _ _ _ (rw c.if-branch-eq0.true at (c.in_ok-changed.ensures.ran early inside))
-    (c.run.ensures.ran clean (c.in_ok-changed.ensures.frame.inside early))
+-- it changed rows, so that the other does not run
+some_changed : {S : Type 0} (store : Ghosts S) (text other : List ℕ) (args : Row) (a b : Held S) (count : ℕ)
+    → ¬ (count ≡ 0) → ExecutesInside 0 text args (state store a) (state store b) (Ok count)
+    → RunsOr store text other args a b
+some_changed store text other args a b zero some ran = absurd (some refl)
+some_changed store text other args a b (suc count) some ran = inl (count, ran)
 
 pub returns-then-branch-eq0-clause-done : goal.returns-then-branch-eq0-clause-done
 returns-then-branch-eq0-clause-done g c clean =
-    of_ok c.run.result (RunInTurn g.S.Store
-    (statement_or c.args.text.now c.args.other.now (bound c.args.args.now) ∷ []) c.args.tx.now.conn.now
-    c.run.new.tx.conn.now) (returns-then-branch-eq0-clause-ran g c clean
-    (c.in_ok-changed.ensures.inside (was_clean c.run.ensures.frame.crash clean)))
-
-pub returns-else-branch-eq0-clause-ran : goal.returns-else-branch-eq0-clause-ran
-returns-else-branch-eq0-clause-ran g c clean inside =
-    turn_changed g.S.Store _ _ _ _ _ _ c.if-branch-eq0.false (c.in_ok-changed.ensures.ran clean inside)
+    let early = was_clean c.run.ensures.frame.crash clean in
+    ok_then c.run.result (c.run.ensures.done clean) (λ ran.
+    inr (c.changed.new.tx.conn.now, ran.0, rw c.if-branch-eq0.true at (c.in_ok-changed.ensures.done early), ran.1))
 
 pub returns-else-branch-eq0-clause-done : goal.returns-else-branch-eq0-clause-done
 returns-else-branch-eq0-clause-done g c clean =
-    returns-else-branch-eq0-clause-ran g c clean (c.in_ok-changed.ensures.inside clean)
-
-pub returns-in_err-changed-clause-ran : goal.returns-in_err-changed-clause-ran
-returns-in_err-changed-clause-ran g c clean inside =
-    rw (passed c.from_residual.result c.from_residual.ensures.1)
-    (turn_unchanged g.S.Store _ _ _ _ _ _ (c.in_err-changed.ensures.ran clean inside))
+    some_changed g.S.Store _ _ _ c.args.tx.now.conn.now c.changed.new.tx.conn.now _ c.if-branch-eq0.false
+    (c.in_ok-changed.ensures.done clean)

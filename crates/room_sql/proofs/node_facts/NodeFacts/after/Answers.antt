@@ -1,6 +1,6 @@
 use Rattle.std.proofs.Common.{◌≡◌, ◌<◌, length, drop, arith}
 use Rattle.std.proofs.lemmas.List.{length-drop, nil_from_length}
-use Rattle.room_sql.proofs.Turns.{next_change}
+use Rattle.room_sql.proofs.NodeRows.{next_change}
 use Rattle.room_sql.proofs.node_facts.NodeFacts.after.Goals as goal
 
 pub loop-change-preserved : goal.loop-change-preserved

@@ -1,7 +1,7 @@
 use Rattle.std.proofs.Common.{◌∙◌, ap, option_map, slice_get}
 use Rattle.room_tables.specs.Rows.{node_of}
 use Rattle.room_tables.proofs.Children.{named_found}
-use Rattle.room_sql.proofs.Unread.{read, unread}
+use Rattle.room_sql.proofs.Calls.{read}
 use Rattle.room_sql.proofs.sql_shelf.SqlShelfShelf.child.Goals as goal
 
 pub returns-clause-value : goal.returns-clause-value
@@ -12,8 +12,3 @@ returns-clause-value g c available laid_out =
     read _ c.or_fault-2.ensures.ok (λ found is.
     named_found _ c.args.parent c.args.name.now _ _ laid_out.0.room name.some rows
     (rw is at c.first_node-found.ensures.value ∙ ap (λ l. option_map node_of (slice_get l 0)) c.as_slice.ensures.value))
-
-pub returns-clause-cause : goal.returns-clause-cause
-returns-clause-cause g c clean is =
-    unread _ _ _ _ (rw c.text.ensures.value at c.named_rows-rows.ensures.answered) clean c.in_ok-rows.ensures.ok
-    c.as_slice.ensures.value c.first_node-found.ensures.refused c.or_fault-2.ensures.err is

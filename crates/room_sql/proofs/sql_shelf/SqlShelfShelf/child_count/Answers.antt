@@ -4,7 +4,6 @@ use Rattle.room_records.specs.Shelf.{IsChildCount}
 use Rattle.room_tables.specs.Rows.{shown_node}
 use Rattle.room_tables.proofs.Children.{count_children}
 use Rattle.room_sql.proofs.Calls.{read_ok, read_err, read_told}
-use Rattle.room_sql.proofs.Unread.{unread}
 use Rattle.room_sql.proofs.sql_shelf.SqlShelfShelf.child_count.Goals as goal
 
 -- the count that is remembered is that of the rows
@@ -16,24 +15,18 @@ returns-in-Some-clause-value g c available laid_out rules =
 pub returns-in_err-rows-clause-frame : goal.returns-in_err-rows-clause-frame
 returns-in_err-rows-clause-frame g c =
     let same : c.from_residual.result ≡ Err c.in_err-rows.field-0.0 = search rules in
-    rw same (read_err g.S.Store c.args.self.now.conn c.count_rows-rows.new.conn c.count_rows-rows.ensures.answered.frame
+    rw same (read_err g.S.Store c.args.self.now.conn c.count_rows-rows.new.conn c.count_rows-rows.ensures.frame
     (c.is_autocommit-outside.ensures.settled (c.is_autocommit-outside.ensures.value ∙ ap not c.args.self.now.outside))
     c.in_err-rows.ensures.forgotten c.or_fault.ensures.never_falls
     (λ other. c.in_err-rows.ensures.quiet (λ is. other (let e = is in cc)))
     (λ is. c.in_err-rows.ensures.counted (ap Err is)))
-
-pub returns-in_err-count-clause-cause : goal.returns-in_err-count-clause-cause
-returns-in_err-count-clause-cause g c clean is =
-    let same : c.from_residual-in_err-count.result ≡ Err c.in_err-count.field-0.0 = search rules in
-    unread _ _ _ _ c.count_rows-rows.ensures.answered clean c.in_ok-rows.ensures.ok c.as_slice.ensures.value
-    c.one_count-found.ensures.refused c.or_fault-2.ensures.err (c.in_err-count.was ∙ (let e = same in let f = is in cc))
 
 pub returns-in_err-count-clause-frame : goal.returns-in_err-count-clause-frame
 returns-in_err-count-clause-frame g c =
     let fell = c.in_ok-rows.ensures.quiet (λ is. absurd (let bad = is in cc)) in
     let same : c.from_residual-in_err-count.result ≡ Err c.in_err-count.field-0.0 = search rules in
     rw (same ∙ sym c.in_err-count.was) (read_told g.S.Store _ c.args.self.now.conn c.count_rows-rows.new.conn
-    c.in_ok-rows.ensures.ok c.count_rows-rows.ensures.answered.frame
+    c.in_ok-rows.ensures.ok c.count_rows-rows.ensures.frame
     (c.is_autocommit-outside.ensures.settled (c.is_autocommit-outside.ensures.value ∙ ap not c.args.self.now.outside))
     (λ clean room true_of. rw c.in_ok-rows.ensures.kept true_of) c.or_fault-2.ensures.kept
     c.or_fault-2.ensures.forgotten (rw fell at c.or_fault-2.ensures.never_falls) (rw fell at c.or_fault-2.ensures.quiet)
@@ -51,7 +44,7 @@ returns-clause-frame g c =
     let fell = c.in_ok-rows.ensures.quiet (λ is. absurd (let bad = is in cc)) in
     let stays = c.in_ok-count.ensures.quiet (λ is. absurd (let bad = is in cc)) in
     rw (stays, fell) (read_ok g.S.Store c.args.self.now.conn c.count_rows-rows.new.conn
-    (rw c.in_ok-rows.ensures.ok at c.count_rows-rows.ensures.answered.frame)
+    (rw c.in_ok-rows.ensures.ok at c.count_rows-rows.ensures.frame)
     (λ clean room true_of.
     let rows = rw c.in_ok-rows.ensures.ok at (c.count_rows-rows.ensures.rows clean room.room) in
     c.with_count-self.ensures _ (rw (c.in_ok-count.ensures.kept, c.in_ok-rows.ensures.kept) true_of)

@@ -1,6 +1,3 @@
-use Rattle.std.proofs.Common.{◌∙◌, ap}
-use Rattle.sqlite.specs.Effect.{Database}
-use Rattle.room_tables.specs.Rows.{records_of}
 use Rattle.room_records.proofs.Untouched.{untouched_by}
 use Rattle.room_sql.proofs.sql_shelf.SqlShelfShelf.commit.Goals as goal
 

@@ -1,5 +1,5 @@
 use Rattle.std.proofs.Common.{refl, ◌∙◌}
-use Rattle.room_sql.proofs.Unread.{read, unread}
+use Rattle.room_sql.proofs.Calls.{read}
 use Rattle.room_sql.proofs.sql_shelf.SqlShelfShelf.entries.Goals as goal
 
 pub returns-clause-value : goal.returns-clause-value
@@ -8,8 +8,3 @@ returns-clause-value g c available laid_out =
     read _ c.or_fault-2.ensures.ok (λ found is.
     let typed = rw c.as_slice.ensures.value at (rw is at c.all_entries-found.ensures.typed) in
     rw is at c.all_entries-found.ensures.value ∙ rw (c.as_slice.ensures.value, rows typed) refl)
-
-pub returns-clause-cause : goal.returns-clause-cause
-returns-clause-cause g c clean is =
-    unread _ _ _ _ c.entry_rows-rows.ensures.answered clean c.in_ok-rows.ensures.ok c.as_slice.ensures.value
-    c.all_entries-found.ensures.refused c.or_fault-2.ensures.err is

@@ -1,5 +1,5 @@
 use Rattle.room_tables.proofs.Names.{are_names}
-use Rattle.room_sql.proofs.Unread.{read, unread}
+use Rattle.room_sql.proofs.Calls.{read}
 use Rattle.room_sql.proofs.sql_shelf.SqlShelfShelf.names.Goals as goal
 
 pub returns-clause-value : goal.returns-clause-value
@@ -8,8 +8,3 @@ returns-clause-value g c available laid_out =
     read _ c.or_fault-2.ensures.ok (λ found is rules.
     rw (rw is at c.all_names-found.ensures.value, c.as_slice.ensures.value)
     (are_names _ c.args.parent _ laid_out.0.room rules rows))
-
-pub returns-clause-cause : goal.returns-clause-cause
-returns-clause-cause g c clean is =
-    unread _ _ _ _ c.name_rows-rows.ensures.answered clean c.in_ok-rows.ensures.ok c.as_slice.ensures.value
-    c.all_names-found.ensures.refused c.or_fault-2.ensures.err is

@@ -1,7 +1,6 @@
 use Rattle.std.proofs.Common.{refl, ◌∙◌, sym, ap, not, length}
 use Rattle.room_tables.proofs.Queries.{only_permuted}
-use Rattle.room_sql.proofs.Calls.{read_told, none_found}
-use Rattle.room_sql.proofs.Unread.{read, unread}
+use Rattle.room_sql.proofs.Calls.{read, read_told, none_found}
 use Rattle.room_sql.proofs.sql_shelf.SqlShelfShelf.node.Goals as goal
 
 pub returns-clause-value : goal.returns-clause-value
@@ -15,7 +14,7 @@ pub returns-clause-frame : goal.returns-clause-frame
 returns-clause-frame g c =
     let same = c.in_ok-rows.ensures.quiet (λ is. absurd (let bad = is in cc)) in
     read_told g.S.Store _ c.args.self.now.conn c.node_rows-rows.new.conn c.in_ok-rows.ensures.ok
-    c.node_rows-rows.ensures.answered.frame
+    c.node_rows-rows.ensures.frame
     (c.is_autocommit-outside.ensures.settled (c.is_autocommit-outside.ensures.value ∙ ap not c.args.self.now.outside))
     (λ clean room true_of.
     let rows = rw c.in_ok-rows.ensures.ok at (c.node_rows-rows.ensures.rows clean room.room) in
@@ -24,8 +23,3 @@ returns-clause-frame g c =
     (sym (ap length c.as_slice.ensures.value) ∙ c.as_slice.ensures.len) (sym c.is_empty.ensures ∙ none)))
     c.or_fault-2.ensures.kept c.or_fault-2.ensures.forgotten (rw same at c.or_fault-2.ensures.never_falls)
     (rw same at c.or_fault-2.ensures.quiet) (rw same at c.or_fault-2.ensures.counted)
-
-pub returns-clause-cause : goal.returns-clause-cause
-returns-clause-cause g c clean is =
-    unread _ _ _ _ c.node_rows-rows.ensures.answered clean c.in_ok-rows.ensures.ok c.as_slice.ensures.value
-    c.one_node-found.ensures.refused c.or_fault-2.ensures.err is

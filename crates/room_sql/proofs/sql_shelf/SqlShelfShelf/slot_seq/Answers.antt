@@ -1,7 +1,7 @@
 use Rattle.std.proofs.Common.{◌∙◌}
 use Rattle.room_tables.proofs.Names.{same_seq}
 use Rattle.room_tables.proofs.Queries.{only_permuted}
-use Rattle.room_sql.proofs.Unread.{read, unread}
+use Rattle.room_sql.proofs.Calls.{read}
 use Rattle.room_sql.proofs.sql_shelf.SqlShelfShelf.slot_seq.Goals as goal
 
 pub returns-clause-value : goal.returns-clause-value
@@ -10,8 +10,3 @@ returns-clause-value g c available laid_out =
     at (c.seq_rows-rows.ensures.rows available.0 laid_out.0.room) in
     read _ c.or_fault-2.ensures.ok (λ found is.
     rw is at c.one_seq-found.ensures.value ∙ rw (c.as_slice.ensures.value, only_permuted _ _ rows) (same_seq _))
-
-pub returns-clause-cause : goal.returns-clause-cause
-returns-clause-cause g c clean is =
-    unread _ _ _ _ (rw c.text.ensures.value at c.seq_rows-rows.ensures.answered) clean c.in_ok-rows.ensures.ok
-    c.as_slice.ensures.value c.one_seq-found.ensures.refused c.or_fault-2.ensures.err is

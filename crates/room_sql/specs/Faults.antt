@@ -1,0 +1,14 @@
+-- What an error of the connection is to the shelf.
+use Rattle.std.specs.Prelude.{◌≡◌, ◌≢◌, ◌⊎◌, ◌+◌, ◌-◌, ◌^◌, ℕ, min}
+use Rattle.sqlite.specs.declared.error.Error.{Error}
+use Rattle.sqlite.specs.declared.error.Error.TheVariants.{SqliteFailure}
+use Rattle.sqlite.specs.declared.error.ErrorCode.TheVariants.{OutOfMemory}
+use Rattle.room_records.specs.declared.shelf.ShelfFault.{ShelfFault}
+use Rattle.room_records.specs.declared.shelf.ShelfFault.TheVariants.{Memory, Store}
+
+-- What is told, and how many failures are counted before and after it: a want of memory is told, and any other error is
+-- counted as a failure of the store. The count stays at 2^64 - 1
+abbrev pub IsFaultOf : Error → ShelfFault → ℕ → ℕ → Type 0
+IsFaultOf error told old new =
+    ((error ≡ SqliteFailure OutOfMemory) × (told ≡ Memory) × (new ≡ old))
+    ⊎ ((error ≢ SqliteFailure OutOfMemory) × (told ≡ Store) × (new ≡ min (old + 1) (2 ^ 64 - 1)))
