@@ -110,13 +110,9 @@ fn or_fault<T>(
 }
 
 impl<S: Alter> Shelf for SqlShelf<S> {
-    ghost use Rattle.std.specs.Prelude.{◌≡◌, [], length, unwrap_or, OnOk};
-    ghost use Rattle.room_acl.specs.Access.{decision};
-    ghost use Rattle.room_records.specs.Rules.{NodeRules};
+    ghost use Rattle.std.specs.Prelude.{◌≡◌, OnOk};
     ghost use Rattle.room_records.specs.Changes.{apply_changes, RulesHoldAfterEach, Untouched};
-    ghost use Rattle.room_records.specs.Shelf.{ShelfCall, ShelfRead, Tells, fault_in, AreChildren};
-    ghost use Rattle.room_records.specs.Shelf.{AreNames, IsChildCount, IsChildNamed, LeavesOldOrNew};
-    ghost use Rattle.room_slots.specs.Slots.{kept_seq};
+    ghost use Rattle.room_records.specs.Shelf.{ShelfCall, LeavesOldOrNew, fault_in};
     ghost use Rattle.sqlite.specs.State.{Survives};
     ghost use Rattle.room_tables.specs.Steps.{StaysRoom};
     ghost use Rattle.room_sql.specs.SqlView.{sql_view};
@@ -131,12 +127,7 @@ impl<S: Alter> Shelf for SqlShelf<S> {
 
     ghost stays = { λ s h. (h.0, leaves_these (s.rests h.1) (S.Store.stays s.conn.store h.1)) };
 
-    fn node(&mut self, id: u32) -> Result<Option<Node>, ShelfFault>
-        ensures value { Tells (sql_view S.Store self.old) (sql_view S.Store self.new)
-            result (λ records found. found ≡ records.objects.node id) }
-        ensures there { (sql_view S.Store self.new).is_intact → OnOk result (sql_view S.Store self.new).is_available }
-        ensures frame { ShelfRead (sql_view S.Store self.old) (sql_view S.Store self.new) (fault_in result) }
-    {
+    fn node(&mut self, id: u32) -> Result<Option<Node>, ShelfFault> {
         let _outside = self.conn.is_autocommit();
         let rows = reads::node_rows(&mut self.conn, id);
         let _rests = self.conn.is_autocommit();
@@ -146,12 +137,7 @@ impl<S: Alter> Shelf for SqlShelf<S> {
         or_fault(&mut self.failures, &mut self.known, found)
     }
 
-    fn child(&mut self, parent: u32, name: &FileName) -> Result<Option<Node>, ShelfFault>
-        ensures value { Tells (sql_view S.Store self.old) (sql_view S.Store self.new)
-            result (λ records. IsChildNamed records.objects parent name.now) }
-        ensures there { (sql_view S.Store self.new).is_intact → OnOk result (sql_view S.Store self.new).is_available }
-        ensures frame { ShelfRead (sql_view S.Store self.old) (sql_view S.Store self.new) (fault_in result) }
-    {
+    fn child(&mut self, parent: u32, name: &FileName) -> Result<Option<Node>, ShelfFault> {
         let _outside = self.conn.is_autocommit();
         let rows = reads::named_rows(&mut self.conn, parent, name.text());
         let _rests = self.conn.is_autocommit();
@@ -160,12 +146,7 @@ impl<S: Alter> Shelf for SqlShelf<S> {
         or_fault(&mut self.failures, &mut self.known, found)
     }
 
-    fn children(&mut self, parent: u32) -> Result<Vec<Node>, ShelfFault>
-        ensures value { Tells (sql_view S.Store self.old) (sql_view S.Store self.new) result (λ records found.
-            NodeRules records.objects.node → AreChildren records.objects parent found.items) }
-        ensures there { (sql_view S.Store self.new).is_intact → OnOk result (sql_view S.Store self.new).is_available }
-        ensures frame { ShelfRead (sql_view S.Store self.old) (sql_view S.Store self.new) (fault_in result) }
-    {
+    fn children(&mut self, parent: u32) -> Result<Vec<Node>, ShelfFault> {
         let _outside = self.conn.is_autocommit();
         let rows = reads::child_rows(&mut self.conn, parent);
         let _rests = self.conn.is_autocommit();
@@ -175,12 +156,7 @@ impl<S: Alter> Shelf for SqlShelf<S> {
     }
 
     /// The name and the kind of a row are all that it reads: another column of no value of its type is no fault here.
-    fn names(&mut self, parent: u32) -> Result<Vec<(FileName, Kind)>, ShelfFault>
-        ensures value { Tells (sql_view S.Store self.old) (sql_view S.Store self.new) result (λ records found.
-            NodeRules records.objects.node → AreNames records.objects parent found.items) }
-        ensures there { (sql_view S.Store self.new).is_intact → OnOk result (sql_view S.Store self.new).is_available }
-        ensures frame { ShelfRead (sql_view S.Store self.old) (sql_view S.Store self.new) (fault_in result) }
-    {
+    fn names(&mut self, parent: u32) -> Result<Vec<(FileName, Kind)>, ShelfFault> {
         let _outside = self.conn.is_autocommit();
         let rows = reads::name_rows(&mut self.conn, parent);
         let _rests = self.conn.is_autocommit();
@@ -189,12 +165,7 @@ impl<S: Alter> Shelf for SqlShelf<S> {
         or_fault(&mut self.failures, &mut self.known, found)
     }
 
-    fn child_count(&mut self, parent: u32) -> Result<u64, ShelfFault>
-        ensures value { Tells (sql_view S.Store self.old) (sql_view S.Store self.new) result (λ records count.
-            NodeRules records.objects.node → IsChildCount records.objects parent count) }
-        ensures there { (sql_view S.Store self.new).is_intact → OnOk result (sql_view S.Store self.new).is_available }
-        ensures frame { ShelfRead (sql_view S.Store self.old) (sql_view S.Store self.new) (fault_in result) }
-    {
+    fn child_count(&mut self, parent: u32) -> Result<u64, ShelfFault> {
         if let Some(count) = self.known.count_in(parent) {
             return Ok(count);
         }
@@ -208,12 +179,7 @@ impl<S: Alter> Shelf for SqlShelf<S> {
         Ok(count)
     }
 
-    fn entries(&mut self, id: u32) -> Result<Vec<Entry>, ShelfFault>
-        ensures value { Tells (sql_view S.Store self.old) (sql_view S.Store self.new)
-            result (λ records found. found.items ≡ records.objects.entries id) }
-        ensures there { (sql_view S.Store self.new).is_intact → OnOk result (sql_view S.Store self.new).is_available }
-        ensures frame { ShelfRead (sql_view S.Store self.old) (sql_view S.Store self.new) (fault_in result) }
-    {
+    fn entries(&mut self, id: u32) -> Result<Vec<Entry>, ShelfFault> {
         let _outside = self.conn.is_autocommit();
         let rows = reads::entry_rows(&mut self.conn, id);
         let _rests = self.conn.is_autocommit();
@@ -228,12 +194,7 @@ impl<S: Alter> Shelf for SqlShelf<S> {
         subject: &Subject,
         standing: &Standing,
         wanted: Mask,
-    ) -> Result<Decision, ShelfFault>
-        ensures value { Tells (sql_view S.Store self.old) (sql_view S.Store self.new) result (λ records found.
-            found ≡ decision (records.objects.entries id) subject.now standing.now wanted) }
-        ensures there { (sql_view S.Store self.new).is_intact → OnOk result (sql_view S.Store self.new).is_available }
-        ensures frame { ShelfRead (sql_view S.Store self.old) (sql_view S.Store self.new) (fault_in result) }
-    {
+    ) -> Result<Decision, ShelfFault> {
         let _outside = self.conn.is_autocommit();
         let conn = &mut self.conn;
         let found = deciding::decide_entries(self.alloc, conn, id, subject, standing, wanted);
@@ -241,12 +202,7 @@ impl<S: Alter> Shelf for SqlShelf<S> {
         or_fault(&mut self.failures, &mut self.known, found)
     }
 
-    fn doc(&mut self, id: u32) -> Result<Vec<u8>, ShelfFault>
-        ensures value { Tells (sql_view S.Store self.old) (sql_view S.Store self.new) result (λ records found.
-            found.items ≡ unwrap_or (records.objects.document id) []) }
-        ensures there { (sql_view S.Store self.new).is_intact → OnOk result (sql_view S.Store self.new).is_available }
-        ensures frame { ShelfRead (sql_view S.Store self.old) (sql_view S.Store self.new) (fault_in result) }
-    {
+    fn doc(&mut self, id: u32) -> Result<Vec<u8>, ShelfFault> {
         let _outside = self.conn.is_autocommit();
         let rows = reads::doc_rows(&mut self.conn, id);
         let _rests = self.conn.is_autocommit();
@@ -255,12 +211,7 @@ impl<S: Alter> Shelf for SqlShelf<S> {
         or_fault(&mut self.failures, &mut self.known, found)
     }
 
-    fn doc_size(&mut self, id: u32) -> Result<u64, ShelfFault>
-        ensures value { Tells (sql_view S.Store self.old) (sql_view S.Store self.new) result (λ records found.
-            found ≡ length (unwrap_or (records.objects.document id) [])) }
-        ensures there { (sql_view S.Store self.new).is_intact → OnOk result (sql_view S.Store self.new).is_available }
-        ensures frame { ShelfRead (sql_view S.Store self.old) (sql_view S.Store self.new) (fault_in result) }
-    {
+    fn doc_size(&mut self, id: u32) -> Result<u64, ShelfFault> {
         let _outside = self.conn.is_autocommit();
         // The database is sound, so the column holds bytes.
         let _live = self.conn.schema();
@@ -271,12 +222,7 @@ impl<S: Alter> Shelf for SqlShelf<S> {
         or_fault(&mut self.failures, &mut self.known, found)
     }
 
-    fn session(&mut self, sid: &Sid) -> Result<Option<SessionRow>, ShelfFault>
-        ensures value { Tells (sql_view S.Store self.old) (sql_view S.Store self.new)
-            result (λ records found. found ≡ records.session sid.now) }
-        ensures there { (sql_view S.Store self.new).is_intact → OnOk result (sql_view S.Store self.new).is_available }
-        ensures frame { ShelfRead (sql_view S.Store self.old) (sql_view S.Store self.new) (fault_in result) }
-    {
+    fn session(&mut self, sid: &Sid) -> Result<Option<SessionRow>, ShelfFault> {
         let _outside = self.conn.is_autocommit();
         let rows = reads::session_rows(&mut self.conn, sid.text());
         let _rests = self.conn.is_autocommit();
@@ -285,12 +231,7 @@ impl<S: Alter> Shelf for SqlShelf<S> {
         or_fault(&mut self.failures, &mut self.known, found)
     }
 
-    fn slot(&mut self, sid: &Sid, slot: u32) -> Result<Option<Kept>, ShelfFault>
-        ensures value { Tells (sql_view S.Store self.old) (sql_view S.Store self.new)
-            result (λ records found. found ≡ records.slot sid.now slot) }
-        ensures there { (sql_view S.Store self.new).is_intact → OnOk result (sql_view S.Store self.new).is_available }
-        ensures frame { ShelfRead (sql_view S.Store self.old) (sql_view S.Store self.new) (fault_in result) }
-    {
+    fn slot(&mut self, sid: &Sid, slot: u32) -> Result<Option<Kept>, ShelfFault> {
         let _outside = self.conn.is_autocommit();
         let rows = reads::slot_rows(&mut self.conn, sid.text(), slot);
         let _rests = self.conn.is_autocommit();
@@ -299,12 +240,7 @@ impl<S: Alter> Shelf for SqlShelf<S> {
         or_fault(&mut self.failures, &mut self.known, found)
     }
 
-    fn slot_seq(&mut self, sid: &Sid, slot: u32) -> Result<Option<u32>, ShelfFault>
-        ensures value { Tells (sql_view S.Store self.old) (sql_view S.Store self.new)
-            result (λ records found. found ≡ kept_seq (records.slot sid.now slot)) }
-        ensures there { (sql_view S.Store self.new).is_intact → OnOk result (sql_view S.Store self.new).is_available }
-        ensures frame { ShelfRead (sql_view S.Store self.old) (sql_view S.Store self.new) (fault_in result) }
-    {
+    fn slot_seq(&mut self, sid: &Sid, slot: u32) -> Result<Option<u32>, ShelfFault> {
         let _outside = self.conn.is_autocommit();
         let rows = reads::seq_rows(&mut self.conn, sid.text(), slot);
         let _rests = self.conn.is_autocommit();
@@ -313,12 +249,7 @@ impl<S: Alter> Shelf for SqlShelf<S> {
         or_fault(&mut self.failures, &mut self.known, found)
     }
 
-    fn next_id(&mut self) -> Result<u32, ShelfFault>
-        ensures value { Tells (sql_view S.Store self.old) (sql_view S.Store self.new)
-            result (λ records next. next ≡ records.objects.next) }
-        ensures there { (sql_view S.Store self.new).is_intact → OnOk result (sql_view S.Store self.new).is_available }
-        ensures frame { ShelfRead (sql_view S.Store self.old) (sql_view S.Store self.new) (fault_in result) }
-    {
+    fn next_id(&mut self) -> Result<u32, ShelfFault> {
         let _outside = self.conn.is_autocommit();
         let rows = reads::next_rows(&mut self.conn);
         let _rests = self.conn.is_autocommit();
