@@ -84,7 +84,7 @@ power: build
 # Random streams against a plain model, forty clients and kills, and peers that neither send nor read. `make test` plays
 # 2,000 streams; here 50,000.
 hostile: build
-	STREAMS=50000 JOBS=2 KILLS=60 PIECES=40 tests/hostile/run
+	tests/hostile/run --streams 50000 --jobs 2 --kills 60 --pieces 40
 
 # The client of client/ against a served room: commands, refusals, lost answers, and kills of both.
 client: build

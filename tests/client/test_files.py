@@ -20,7 +20,7 @@ from room_client.state import SLOTS
 from served import end_with_parent
 from test_once import STOPPED, steps_to
 
-SEED = int(os.environ.get("SEED", "1"))
+SEED = 1
 STEPS = [(Line, "ask", True)]  # (before it the request is on record, and behind it the next one is not yet)
 
 

@@ -14,8 +14,7 @@ from room_client.line import Line
 from room_client.state import State
 from served import end_with_parent
 
-SEED = int(os.environ.get("SEED", "1"))
-KILLS = int(os.environ.get("KILLS", "60"))
+SEED, KILLS = 1, 60
 LONGEST = 20  # seconds of kills at random, however slow the machine is
 STOPPED, FAILED = 9, 1
 STEPS = [(State, "save", True), (State, "_flush_folder", True), (Line, "ask", True)]
