@@ -7,7 +7,7 @@ import { isPart } from "./manifest.js";
 import { clean, forDisk, shown } from "./names.js";
 import { ROOT, folderOf, inFolder, lastName, nameFault, namesOf } from "./places.js";
 import { FOLDER } from "./rights.js";
-import { sizeWords, transferring } from "./transfers.js";
+import { plural, sizeWords, transferring } from "./transfers.js";
 import { TRASH, makeTrash, mayMakeTrash, placeBefore, toTrash, trashOf } from "./trash.js";
 import { below, copy, kindBy } from "./trees.js";
 import { Zip } from "./zip.js";
@@ -22,8 +22,11 @@ class Chooser {
     this.draw();
   }
 
+  /** Where it is gone elsewhere before it is there, it stays elsewhere. */
   async go(to) {
+    this.goal = to;
     const found = await this.app.room.aside("LIST", to).catch((fault) => fault);
+    if (this.goal !== to) return;
     if (found instanceof Error || kindBy(found.names) !== FOLDER) {
       this.told.textContent = found.message ?? "This is a document.";
       return;
@@ -31,15 +34,20 @@ class Chooser {
     const isNone = ([name, kind]) => kind !== FOLDER || isPart(name) || inFolder(to, name) === this.path;
     const isFile = await Promise.all(found.names.map((it) => isNone(it) ||
       LIKE_FILE.test(it[0]) && manifestAt(this.app.room, inFolder(to, it[0]))));
+    if (this.goal !== to) return;
     this.value = to;
     this.draw(found.names.filter((_, at) => !isFile[at]));
+  }
+
+  get name() {
+    return this.value === ROOT ? this.app.room.name : this.value;
   }
 
   draw(names = null) {
     const folders = names ?? [];
     const up = this.value === ROOT ? [] : [button("One up", () => this.go(folderOf(this.value)))];
     this.told = make("p", { role: "status" }, names && folders.length === 0 ? "No folder is in it." : "");
-    this.element.replaceChildren(make("legend", {}, "To the folder ", make("b", {}, nameText(this.value))), ...up,
+    this.element.replaceChildren(make("legend", {}, "To the folder ", make("b", {}, nameText(this.name))), ...up,
       ...folders.map(([name]) => button(nameText(name), () => this.go(inFolder(this.value, name)))), this.told);
     if (!names) this.go(this.value);
   }
@@ -84,7 +92,7 @@ async function contentsWords(app, path) {
   const [folders, shut] = [found.length - files, found.filter((it) => it.isShut).length];
   if (found.length === 0) return [];
   const hidden = shut ? ` You may not look into ${shut} of them.` : "";
-  const words = `With it go ${files} documents and ${folders} folders that are in it.${hidden}`;
+  const words = `With it go ${plural(files, "document")} and ${plural(folders, "folder")} that are in it.${hidden}`;
   return [make("p", { className: "fault" }, words)];
 }
 

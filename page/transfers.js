@@ -14,6 +14,8 @@ export function sizeWords(bytes) {
   return `${count < 10 ? count.toFixed(1) : Math.round(count)} ${unit}`;
 }
 
+export const plural = (count, one) => `${count} ${one}${count === 1 ? "" : "s"}`;
+
 class Transfer {
   notes = [];
   done = 0;

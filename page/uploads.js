@@ -5,7 +5,7 @@ import { EXIST, NOBODY, forEach, orElse, readFile, writeFile } from "./files.js"
 import { MOST } from "./manifest.js";
 import { clean, shown } from "./names.js";
 import { folderOf, inFolder, lastName, nameFault, namesOf, withMark } from "./places.js";
-import { sizeWords, transferring } from "./transfers.js";
+import { plural, sizeWords, transferring } from "./transfers.js";
 
 const AT_ONCE = 3; // files; the pieces of each go beside each other too
 
@@ -41,8 +41,6 @@ export async function dropped(data) {
     : within(it))));
   return found.flat();
 }
-
-const plural = (count, one) => `${count} ${one}${count === 1 ? "" : "s"}`;
 
 /** Why one of them cannot be sent, before anything is. */
 function faultOf({ names, file }) {
