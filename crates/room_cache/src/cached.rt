@@ -73,6 +73,8 @@ impl<S: Shelf> Shelf for CachedShelf<S> {
 
     ghost stays = { λ s h. S.stays s.0 h };
 
+    ghost leaves_laid_out = { λ s h d. S.leaves_laid_out s.0 h d.0 };
+
     fn node(&mut self, id: u32) -> Result<Option<Node>, ShelfFault> {
         if let Some(node) = self.known.node(id) {
             return Ok(Some(node.clone()?));

@@ -21,6 +21,7 @@ memory_after a b (Err e) err is read = rw is (record {
   was_intact = read.call.was_intact;
   was_available = read.call.was_available;
   laid_out = read.call.laid_out;
+  left_laid_out = λ k h d. read.stays_laid_out k;
   alive = λ k h. tt;
   never_falls = read.call.never_falls;
   quiet = λ other. read.call.quiet (none_not_store Store);

@@ -35,6 +35,7 @@ stays ask s answered delays says = record {
   refused = λ h d away. refl;
   idle = λ h d start past stands idle. refl;
   crash = λ k start past stands left may. inl may;
+  stays_laid_out = λ k start past stands l. l;
 }
 
 pub question_stays : (q : QuestionModel) (s : View) (answered : AnswerModel)

@@ -41,6 +41,7 @@ delayed_by_read ask a b fault read = record {
   refused = λ h d away. read.same h d;
   idle = λ h d start past stand idle. read.same h d;
   crash = λ k start past stands left may. inl (read.crash left may);
+  stays_laid_out = λ k start past stands. read.stays_laid_out k;
 }
 
 -- what is asked, by the command of the body
@@ -82,4 +83,5 @@ answered_by_kept sent wanted kept a b answered read there keeps says = record {
   refused = λ h d away. read.same h d;
   idle = λ h d start past stand idle. read.same h d;
   crash = λ k start past stands left may. inl (read.crash left may);
+  stays_laid_out = λ k start past stands. read.stays_laid_out k;
 }

@@ -51,6 +51,31 @@ module _ {before after : View} {event : EventModel} {answered : AnswerModel}
     ],
   )
 
+-- a store that is intact was so before events in turn
+intact_before : {S : Type 0} (view : S → View) (before after : S) (events : List EventModel)
+    (answers : List AnswerModel) → InTurn (EventAnswered view) before events answers after
+    → (view after).is_intact → (view before).is_intact
+intact_before view before after [] [] is intact = rw is at intact
+intact_before view before after [] (a ∷ answers) none intact = absurd none
+intact_before view before after (e ∷ events) [] none intact = absurd none
+intact_before view before after (e ∷ events) (a ∷ answers) (mid, call, run) intact =
+    call.frame.was_intact (intact_before view mid after events answers run intact)
+
+-- what a crash leaves stays laid out over events in turn
+pub laid_out_in_turn : {S : Type 0} (view : S → View) (before after : S) (events : List EventModel)
+    (answers : List AnswerModel) (start : Room) (past : History)
+    → InTurn (EventAnswered view) before events answers after → (view after).is_intact
+    → StandsFor start past (view before) → (view before).leaves_laid_out → (view after).leaves_laid_out
+laid_out_in_turn view before after [] [] start past is intact stands laid = rw is laid
+laid_out_in_turn view before after [] (a ∷ answers) start past none intact stands laid = absurd none
+laid_out_in_turn view before after (e ∷ events) [] start past none intact stands laid = absurd none
+laid_out_in_turn view before after (event ∷ events) (answered ∷ answers) start past (mid, call, run) intact stands
+    laid =
+    let was = intact_before view mid after events answers run intact in
+    let (next, step, stand) = call.step was start past stands in
+    laid_out_in_turn view mid after events answers start next run intact stand
+    (call.stays_laid_out was start past stands laid)
+
 module _ {S : Type 0} (view : S → View)
     (settled : (s : S) (left : Records) → (view s).is_available → (view s).crash_may_leave left
     → left ≡ (view s).records) where
@@ -87,14 +112,6 @@ module _ {S : Type 0} (view : S → View)
       | inr (is, stand) ↦ (past, inr (is, refl), stand, rw (ap is_delay is) one_more)
     ]
 
-  intact_before : (before after : S) (events : List EventModel) (answers : List AnswerModel)
-      → InTurn (EventAnswered view) before events answers after → (view after).is_intact → (view before).is_intact
-  intact_before before after [] [] is intact = rw is at intact
-  intact_before before after [] (a ∷ answers) none intact = absurd none
-  intact_before before after (e ∷ events) [] none intact = absurd none
-  intact_before before after (e ∷ events) (a ∷ answers) (mid, call, run) intact =
-      call.frame.was_intact (intact_before mid after events answers run intact)
-
   -- events in turn, from rows in doubt
   left_in_doubt : (before after : S) (events : List EventModel) (answers : List AnswerModel)
       (start : Room) (past : History) (doubted : List EventModel)
@@ -107,7 +124,7 @@ module _ {S : Type 0} (view : S → View)
   left_in_doubt before after (e ∷ events) [] start past doubted none intact stands leaves = absurd none
   left_in_doubt before after (event ∷ events) (answered ∷ answers) start past doubted (mid, call, run)
       intact stands leaves =
-      let (next, step, stand, left) = after_event call (intact_before mid after events answers run intact)
+      let (next, step, stand, left) = after_event call (intact_before view mid after events answers run intact)
       start past stands doubted leaves in
       let later = left_in_doubt mid after events answers start next _ run intact stand left in
       (later.0, (next, step, later.1), later.2, later.3)
@@ -133,7 +150,7 @@ module _ {S : Type 0} (view : S → View)
   after_shut before after [] (a ∷ answers) start past gone none intact stands = absurd none
   after_shut before after (e ∷ events) [] start past gone none intact stands = absurd none
   after_shut before after (event ∷ events) (answered ∷ answers) start past gone (mid, call, run) intact stands =
-      let (is, stand, left) = stays_shut call (intact_before mid after events answers run intact)
+      let (is, stand, left) = stays_shut call (intact_before view mid after events answers run intact)
       start past stands gone in
       let later = after_shut mid after events answers start past
       (λ there. gone (call.frame.was_available there)) run intact stand in
@@ -148,7 +165,7 @@ module _ {S : Type 0} (view : S → View)
       → AreDelayed (answered ∷ answers) × StandsFor start past (view after)
       × LeavesNew (view after) (StandsInDoubt start past (event ∷ []))
   left_by_shutting before mid after event answered events answers start past there stands call gone run intact =
-      let was = intact_before mid after events answers run intact in
+      let was = intact_before view mid after events answers run intact in
       let left = one_more call was start past stands []
       (λ r may. inl (at_rest before start past there stands r may)) in
       let later = after_shut mid after events answers start past gone run intact (λ h. absurd (gone h)) in

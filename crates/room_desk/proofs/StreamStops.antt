@@ -1,5 +1,8 @@
 -- What a stop may leave after several messages.
-use Rattle.std.proofs.Common.{◌≡◌, ℕ, refl, ◌⊎◌, inl, inr, Result, Ok, Err, List, [], ◌∷◌}
+use Rattle.std.proofs.Common.{◌≡◌, ℕ, zero, suc, refl, sym, ap, subst, arith, ◌⊎◌, inl, inr, Result, Ok, Err, List, []}
+use Rattle.std.proofs.Common.{◌∷◌}
+use Rattle.std.specs.List.{Contains}
+use Rattle.std.proofs.lemmas.Bool.{cases_Bool}
 use Rattle.room_acl.specs.SubjectModel.{SubjectModel}
 use Rattle.room_records.specs.Records.{Records}
 use Rattle.room_records.specs.Room.{Room}
@@ -13,16 +16,27 @@ use Rattle.room_wire.specs.Serving.Outputs.{Outputs}
 use Rattle.room_desk.specs.AnswerModel.{AnswerModel, Refused}
 use Rattle.room_desk.specs.History.{History}
 use Rattle.room_desk.specs.Representation.{StandsFor}
-use Rattle.room_desk.specs.Serving.{Answered, MayAnswer, AnswersOrDelays}
-use Rattle.room_desk.specs.Stops.{doubt_after, StandsInDoubt, Doubt, no_doubt, AnswersInDoubt}
+use Rattle.room_desk.specs.Serving.{Answered, MayAnswer, AnswersOrDelays, AnswersMessage}
+use Rattle.room_desk.specs.Stops.{is_delay, doubt_after, StandsInDoubt, Doubt, no_doubt, AnswersInDoubt}
 use Rattle.room_desk.proofs.Stops.{after_event, at_rest, one_more, is_delayed}
 
 module _ {S : Type 0} (view : S → View) (users : List SubjectModel) where
-  intact_before : (before after : S) (ms : List MessageModel) (out : List ℕ)
+  pub intact_before : (before after : S) (ms : List MessageModel) (out : List ℕ)
       → Outputs (MayAnswer view users) before ms out after → (view after).is_intact → (view before).is_intact
   intact_before before after [] out run intact = rw run.1 at intact
   intact_before before after (m ∷ ms) out run intact =
       run.3.frame.was_intact (intact_before run.1 after ms run.2 run.4 intact)
+
+  -- what a crash leaves stays laid out over messages
+  pub laid_out_in_stream : (before after : S) (ms : List MessageModel) (out : List ℕ) (start : Room) (past : History)
+      → Outputs (MayAnswer view users) before ms out after → (view after).is_intact
+      → StandsFor start past (view before) → (view before).leaves_laid_out → (view after).leaves_laid_out
+  laid_out_in_stream before after [] out start past run intact stands laid = rw run.1 laid
+  laid_out_in_stream before after (m ∷ ms) out start past run intact stands laid =
+      let was = intact_before run.1 after ms run.2 run.4 intact in
+      let (next, step, stand) = run.3.step was start past stands in
+      laid_out_in_stream run.1 after ms run.2 start next run.4 intact stand
+      (run.3.stays_laid_out was start past stands laid)
 
   -- messages over a store that is gone leave it so
   after_shut : (before after : S) (ms : List MessageModel) (out : List ℕ) (start : Room) (past : History)
@@ -70,7 +84,7 @@ module _ {S : Type 0} (view : S → View)
 
   module _ (users : List SubjectModel) where
     -- messages in turn, from rows in doubt
-    stream_in_doubt : (before after : S) (ms : List MessageModel) (out : List ℕ) (start : Room) (known : Doubt)
+    pub stream_in_doubt : (before after : S) (ms : List MessageModel) (out : List ℕ) (start : Room) (known : Doubt)
         → Outputs (MayAnswer view users) before ms out after → (view after).is_intact
         → StandsFor start known.past (view before)
         → LeavesNew (view before) (StandsInDoubt start known.past known.doubted)
@@ -111,3 +125,44 @@ module _ {S : Type 0} (view : S → View)
         (λ r may. inl (at_rest view settled before start past there stands r may)) in
         let later = after_shut view users mid after ms out start past gone run intact in
         (is_delayed one was start past stands gone, λ h. absurd (later.0 h), λ r may. left r (later.1 r may))
+
+-- what a stream leaves in doubt goes by its answers
+pub by_answers : (users : List SubjectModel) (start : Room) (known : Doubt) (ms : List MessageModel) (out : List ℕ)
+    (next : Doubt) → Outputs (AnswersInDoubt users start) known ms out next
+    → Outputs (AnswersMessage users start) known.past ms out next.past
+by_answers users start known [] out next run = (run.0, ap (λ (d : Doubt). d.past) run.1)
+by_answers users start known (m ∷ ms) out next run =
+    (run.0, run.1.past, run.2, run.3.0, by_answers users start run.1 ms run.2 next run.4, run.5)
+
+-- these events were asked by messages of these users
+abbrev pub AreAsked : List SubjectModel → List EventModel → Type 0
+AreAsked users events = (event : EventModel) → Contains events event
+    → (m : MessageModel) × (ask_of users m ≡ Ok (Event event))
+
+one_more_asked : (users : List SubjectModel) (event : EventModel) (events : List EventModel) (m : MessageModel)
+    → ask_of users m ≡ Ok (Event event) → AreAsked users events → AreAsked users (event ∷ events)
+one_more_asked users event events m asks asked other (zero, below, is) =
+    (m, subst (λ e. ask_of users m ≡ Ok (Event e)) is asks)
+one_more_asked users event events m asks asked other (suc k, below, is) = asked other (k, omega (arith, below), is)
+
+pub none_asked : (users : List SubjectModel) → AreAsked users []
+none_asked users event at = absurd (omega (arith, at.1))
+
+asked_then : (users : List SubjectModel) (m : MessageModel) (ask : Result AskModel WireFault)
+    (doubted : List EventModel) (answered : AnswerModel) → ask_of users m ≡ ask → AreAsked users doubted
+    → AreAsked users (doubt_after doubted ask answered)
+asked_then users m (Ok (Check question)) doubted answered is asked = asked
+asked_then users m (Err fault) doubted answered is asked = asked
+asked_then users m (Ok (Event event)) doubted answered is asked = elim (cases_Bool (is_delay answered)) [
+  | inl delayed ↦ rw delayed (one_more_asked users event doubted m is asked)
+  | inr other ↦ rw other (none_asked users)
+]
+
+-- so are those that a stream leaves in doubt
+pub asked_in_stream : (users : List SubjectModel) (start : Room) (known : Doubt) (ms : List MessageModel) (out : List ℕ)
+    (next : Doubt) → Outputs (AnswersInDoubt users start) known ms out next → AreAsked users known.doubted
+    → AreAsked users next.doubted
+asked_in_stream users start known [] out next run asked =
+    subst (λ (d : Doubt). AreAsked users d.doubted) (sym run.1) asked
+asked_in_stream users start known (m ∷ ms) out next run asked = asked_in_stream users start run.1 ms run.2 next run.4
+    (subst (AreAsked users) (sym run.3.1) (asked_then users m (ask_of users m) known.doubted run.0 refl asked))

@@ -33,6 +33,7 @@ joins_by_reads {start} {past} {event} {a} {b} {r} read stands says = record {
       (λ answer told. (told.0, rw (read.same h d) (stand_after_idle start a.records past event told.1 stand)));
   idle = λ h idle. read.same h (stands (read.call.was_available h)).0;
   crash = λ k left may. inl (read.crash left may);
+  stays_laid_out = read.stays_laid_out;
 }
 
 -- a commit that leaves rows like these, which stand for the history with the event
@@ -40,11 +41,13 @@ pub joins_by_commit : {start : Room} {past : History} {event : EventModel} {a b 
     {Made : Records → Type 0} → a.is_available → changes_rows past event ≡ true
     → ((left : Records) → Made left → RepresentsHistory start left (event ∷ past))
     → (b.is_available → IfOk r (λ answer. (answer_model answer ≡ answer_to start past event) × Made b.records))
-    → (b.is_intact → LeavesOldOrNew a b Made) → JoinsHistory start past event a b r
-joins_by_commit {start} {past} {event} {a} {b} {r} there changes stands ok crash = record {
+    → (b.is_intact → LeavesOldOrNew a b Made) → (b.is_intact → a.leaves_laid_out → b.leaves_laid_out)
+    → JoinsHistory start past event a b r
+joins_by_commit {start} {past} {event} {a} {b} {r} there changes stands ok crash stays = record {
   step = λ h. if_ok_then r (ok h) (λ answer done. (done.0, stands b.records done.1));
   idle = λ h idle. absurd (both_ways _ idle changes);
   crash = λ k left may. leaves_either (crash k left may) (λ old. old) (λ made. (there, (changes, stands left made)));
+  stays_laid_out = stays;
 }
 
 -- a call after a read, which found the store there
@@ -62,6 +65,8 @@ module _ {event : EventModel} {a b c : View} {r : Result Answer ShelfFault} (rea
         crash = λ k left may.
             leaves_either ((now (there (call.was_intact k))).1.crash k left may) (read.crash left)
             (λ made. (read.call.was_available made.0, made.1));
+        stays_laid_out = λ k l.
+            let mid = call.was_intact k in (now (there mid)).1.stays_laid_out k (read.stays_laid_out mid l);
       }
 
   pub tried_after_read : (c.is_available → b.is_laid_out →

@@ -61,7 +61,7 @@ pub record DeskCall (old new : View) : Type 0 where
 -- available, they are the same rows after a refusal, and where what was asked changes nothing. Save where the answer is
 -- DELAY, the count of failures is the same, and an intact store is available where an event was asked. A crash leaves
 -- what it could leave before, or, of an event that changes what is kept and found the store there, the rows that stand
--- for the history with it
+-- for the history with it; and that stays laid out
 pub record Answered (ask : Result AskModel WireFault) (before : View)
     (answered : AnswerModel) (after : View) : Type 0 where
   pub frame : DeskCall before after
@@ -76,6 +76,8 @@ pub record Answered (ask : Result AskModel WireFault) (before : View)
       ask_changes_rows past ask ≡ false → after.records ≡ before.records
   pub crash : after.is_intact → (start : Room) (past : History) → StandsFor start past before →
       LeavesOldOrNew before after (λ left. before.is_available × StandsWithAsked start past ask left)
+  pub stays_laid_out : after.is_intact → (start : Room) (past : History) → StandsFor start past before →
+      before.leaves_laid_out → after.leaves_laid_out
 
 -- what a shelf is after an event was answered
 abbrev pub EventAnswered : {S : Type 0} (view : S → View) → S → EventModel → AnswerModel → S → Type 0

@@ -53,6 +53,19 @@ pub fn a_stop_leaves_what_was_answered<S: Shelf>()
         × LeavesNew (S.view after) (StandsInDoubt start past (event ∷ [])) }
 {}
 
+/// What a stop leaves is laid out, after events that were answered in turn from a store that was there, and after the
+/// messages of a stream (`stream`): also once a fault has shut the store.
+pub fn what_a_stop_leaves_is_laid_out<S: Shelf>()
+    ensures run { (before after : S) (events : List EventModel) (answers : List AnswerModel)
+        (start : Room) (past : History) → (S.view before).is_available → StandsFor start past (S.view before) →
+        InTurn (EventAnswered S.view) before events answers after → (S.view after).is_intact →
+        (S.view after).leaves_laid_out }
+    ensures stream { (users : List SubjectModel) (before after : S) (ms : List MessageModel) (out : List ℕ)
+        (start : Room) (past : History) → (S.view before).is_available → StandsFor start past (S.view before) →
+        Outputs (MayAnswer S.view users) before ms out after → (S.view after).is_intact →
+        (S.view after).leaves_laid_out }
+{}
+
 /// The answers to events tell to which history they went: an answer by a history is never DELAY.
 pub fn a_run_goes_to_one_history()
     ensures { (start : Room) (past a b : History) (events : List EventModel) (answers : List AnswerModel) →

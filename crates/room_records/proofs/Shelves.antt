@@ -22,6 +22,9 @@ call_then a b c fault second first = record {
   was_intact = λ k. first.call.was_intact (second.was_intact k);
   was_available = λ h. first.call.was_available (second.was_available h);
   laid_out = λ h d. second.laid_out h (first.call.laid_out (second.was_available h) d);
+  left_laid_out = λ k h d l.
+      let mid = first.call.alive (second.was_intact k) h in
+      second.left_laid_out k mid (first.call.laid_out mid d) (first.stays_laid_out (second.was_intact k) l);
   alive = λ k h. second.alive k (first.call.alive (second.was_intact k) h);
   never_falls = omega (arith, first.call.never_falls, second.never_falls);
   quiet = λ is. second.quiet is ∙ first.call.quiet (none_not_store Store);
@@ -38,4 +41,5 @@ read_then a b c fault second first = record {
   same = λ h d. second.same h (first.call.laid_out (second.call.was_available h) d)
       ∙ first.same (second.call.was_available h) d;
   crash = λ left may. first.crash left (second.crash left may);
+  stays_laid_out = λ k l. second.stays_laid_out k (first.stays_laid_out (second.call.was_intact k) l);
 }

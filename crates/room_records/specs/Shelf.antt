@@ -29,19 +29,22 @@ pub record View : Type 1 where
   pub is_laid_out : Type 0
   -- the records that a crash now may leave
   pub crash_may_leave : Records → Type 0
+  -- whatever a crash now may leave is laid out for the records
+  pub leaves_laid_out : Type 0
 
 -- the fault that a call answered
 abbrev pub fault_in : {T : Type 0} → Result T ShelfFault → Option ShelfFault
 fault_in (Ok value) = None
 fault_in (Err fault) = Some fault
 
--- the frame of a call, by the fault that it answered, if any: the store is no better than it was, what it is laid out
--- for stays, an answer other than a fault comes while the store is there, the count of failures rises exactly where the
--- call answers Store, unless it is no longer kept, and a fault changes no record
+-- the frame of a call, by the fault that it answered, if any: the store is no better than it was, what it and what a
+-- crash leaves of it are laid out for stays, an answer other than a fault comes while the store is there, the count of
+-- failures rises exactly where the call answers Store, unless it is no longer kept, and a fault changes no record
 pub record ShelfCall (old new : View) (fault : Option ShelfFault) : Type 0 where
   pub was_intact : new.is_intact → old.is_intact
   pub was_available : new.is_available → old.is_available
   pub laid_out : new.is_available → old.is_laid_out → new.is_laid_out
+  pub left_laid_out : new.is_intact → old.is_available → old.is_laid_out → old.leaves_laid_out → new.leaves_laid_out
   pub alive : new.is_intact → old.is_available → MatchOption fault new.is_available (λ _. Unit {0})
   pub never_falls : old.failures ≤ new.failures
   pub quiet : fault ≢ Some Store → new.failures ≡ old.failures
@@ -53,6 +56,7 @@ pub record ShelfRead (old new : View) (fault : Option ShelfFault) : Type 0 where
   pub call : ShelfCall old new fault
   pub same : new.is_available → old.is_laid_out → new.records ≡ old.records
   pub crash : (left : Records) → new.crash_may_leave left → old.crash_may_leave left
+  pub stays_laid_out : new.is_intact → old.leaves_laid_out → new.leaves_laid_out
 
 -- a crash leaves what it could leave before, or records like these
 abbrev pub LeavesOldOrNew : View → View → (Records → Type 0) → Type 0

@@ -41,6 +41,7 @@ impl Shelf for MemShelf {
       is_available = Unit {0};
       is_laid_out = Unit {0};
       crash_may_leave = λ left. left ≡ mem_records s;
+      leaves_laid_out = Unit {0};
     } };
 
     ghost available_is_intact = { λ s h. h };
@@ -48,6 +49,8 @@ impl Shelf for MemShelf {
     ghost settled = { λ s left h may. may };
 
     ghost stays = { λ s h. refl };
+
+    ghost leaves_laid_out = { λ s h d. d };
 
     fn node(&mut self, id: u32) -> Result<Option<Node>, ShelfFault> {
         Ok(self.nodes.node(id)?)

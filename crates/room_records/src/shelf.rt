@@ -43,7 +43,8 @@ impl From<AllocError> for ShelfFault {
 /// the store. It is *intact* while it has returned what was written, *available* while it is intact and no
 /// fault has shut it, and *laid out* where it has the form that the records need. What it is may get worse
 /// and never gets better. Every promise on records stands under two facts: the store was available as the
-/// call ended, and laid out as it began. An intact store that is not available answers no call Ok.
+/// call ended, and laid out as it began. An intact store that is not available answers no call Ok; what a
+/// crash may leave of it is laid out still.
 pub trait Shelf {
     /// The records are a function of what is kept, and of nothing else. A shelf should stay intact over each
     /// fault that its store tells of: what it says of answers stands under it.
@@ -170,4 +171,7 @@ pub trait Shelf {
 
     /// And these it may leave.
     ghost stays: { (s : Self) → (view s).is_available → (view s).crash_may_leave (view s).records };
+
+    /// Where the store is laid out then, so is what a crash leaves.
+    ghost leaves_laid_out: { (s : Self) → (view s).is_available → (view s).is_laid_out → (view s).leaves_laid_out };
 }

@@ -81,6 +81,8 @@ impl<S: Shelf> Shelf for TripShelf<S> {
 
     ghost stays = { λ s h. S.stays s.inner h };
 
+    ghost leaves_laid_out = { λ s h d. S.leaves_laid_out s.inner h d };
+
     fn node(&mut self, id: u32) -> Result<Option<Node>, ShelfFault> {
         if self.trips() {
             return Err(ShelfFault::Store);

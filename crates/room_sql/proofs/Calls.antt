@@ -9,17 +9,19 @@ use Rattle.sqlite_value.specs.Order.{Row}
 use Rattle.sqlite_trees.specs.declared.store.Store.{Ghosts}
 use Rattle.sqlite_trees.specs.Tree.{Trees}
 use Rattle.sqlite.specs.Effect.{Database}
-use Rattle.sqlite.specs.State.{HasCleanDisk}
+use Rattle.sqlite.specs.State.{HasCleanDisk, Survives}
 use Rattle.sqlite.specs.Held.{Held, state}
 use Rattle.sqlite.specs.declared.error.Error.{Error}
 use Rattle.room_records.specs.declared.shelf.ShelfFault.{ShelfFault}
 use Rattle.room_records.specs.declared.shelf.ShelfFault.TheVariants.{Store}
-use Rattle.room_records.specs.Shelf.{View, ShelfRead, FailureCounted, fault_in}
+use Rattle.room_records.specs.Shelf.{View, ShelfCall, ShelfRead, FailureCounted, fault_in}
 use Rattle.room_tables.specs.Rows.{records_of, shown_node}
-use Rattle.room_tables.specs.Layout.{IsRoomOfVersion2}
+use Rattle.room_tables.specs.Layout.{IsRoomOfVersion2, AreOfRoom}
+use Rattle.room_tables.specs.Steps.{StaysRoom}
 use Rattle.room_sql.specs.declared.node_facts.NodeFacts.{NodeFacts}
 use Rattle.room_sql.specs.NodeFacts.{IsTrueOf, KnowsNothing}
 use Rattle.room_sql.specs.Frames.{QueryFrame}
+use Rattle.room_sql.proofs.Frames.{was_clean}
 
 module _ {S : Type 0} (store : Ghosts S) where
   -- what contracts see of the shelf with this connection, count of failures and knowledge
@@ -32,7 +34,17 @@ module _ {S : Type 0} (store : Ghosts S) where
     is_laid_out = IsRoomOfVersion2 (state store conn).now × IsTrueOf known ((state store conn).now.trees 1);
     crash_may_leave = λ left. HasCleanDisk (state store conn)
         × ((trees : Trees) × (state store conn).may_leave trees × (left ≡ records_of trees));
+    leaves_laid_out = (trees : Trees) → (state store conn).may_leave trees → AreOfRoom trees;
   }
+
+  -- a crash leaves what it could leave before
+  left : (old new : Held S) → Survives (state store old) (state store new) (λ _. ⊥) → HasCleanDisk (state store new)
+      → ((trees : Trees) → (state store old).may_leave trees → AreOfRoom trees)
+      → (trees : Trees) → (state store new).may_leave trees → AreOfRoom trees
+  left old new survives clean laid trees may = elim (survives.crash clean trees may) [
+    | inl was ↦ laid trees was
+    | inr none ↦ absurd none
+  ]
 
   -- a query that answered, after which the shelf knows something that is true
   pub read_ok : {T : Type 0} {failures : ℕ} {known after : NodeFacts} {x : T} (old new : Held S)
@@ -49,6 +61,7 @@ module _ {S : Type 0} (store : Ghosts S) where
         subst (λ (d : Database). IsTrueOf after (d.trees 1)) (sym (frame.answered there.0).1)
             (true_of there.0 laid.0 laid.1),
       );
+      left_laid_out = λ clean there laid. left old new frame.crash clean;
       alive = λ clean was. (clean, (frame.answered clean).0);
       never_falls = omega arith;
       quiet = λ _. refl;
@@ -60,6 +73,7 @@ module _ {S : Type 0} (store : Ghosts S) where
       | inl was ↦ (frame.clean may.0, (may.1.0, was, may.1.2))
       | inr none ↦ absurd none
     ];
+    stays_laid_out = left old new frame.crash;
   }
 
   -- a query that failed, or whose rows cannot be read, after which the shelf knows nothing
@@ -77,6 +91,7 @@ module _ {S : Type 0} (store : Ghosts S) where
         rw (kept there) laid.0,
         nothing ((state store new).now.trees 1),
       );
+      left_laid_out = λ clean there laid. left old new frame.crash clean;
       alive = λ clean was. tt;
       never_falls = never;
       quiet = λ other. quiet (λ is. other (ap Some is));
@@ -88,11 +103,39 @@ module _ {S : Type 0} (store : Ghosts S) where
       | inl was ↦ (frame.clean may.0, (may.1.0, was, may.1.2))
       | inr none ↦ absurd none
     ];
+    stays_laid_out = left old new frame.crash;
   }
     where
       kept : HasCleanDisk (state store new) × IsTrue (state store new).is_open
           → (state store new).now ≡ (state store old).now
       kept there = frame.same there.0 there.1 (settled (frame.was_open there.0 there.1))
+
+  -- a commit that failed, after which the shelf knows nothing
+  pub commit_err : {failures more : ℕ} {known after : NodeFacts} {fault : ShelfFault} (old new : Held S)
+      → Survives (state store old) (state store new) (StaysRoom (state store old).now)
+      → (HasCleanDisk (state store new) → IsTrue (state store new).is_open → IsTrue (state store old).is_open)
+      → (HasCleanDisk (state store new) → IsTrue (state store new).is_open
+      → (state store new).now ≡ (state store old).now)
+      → KnowsNothing after → failures ≤ more → (fault ≢ Store → more ≡ failures)
+      → (fault ≡ Store → FailureCounted failures more)
+      → ShelfCall (view_of old failures known) (view_of new more after) (Some fault)
+  commit_err old new survives was_open kept nothing never quiet counted = record {
+    was_intact = was_clean survives;
+    was_available = λ there. (was_clean survives there.0, was_open there.0 there.1);
+    laid_out = λ there laid. (
+      rw (kept there.0 there.1) laid.0,
+      nothing ((state store new).now.trees 1),
+    );
+    left_laid_out = λ clean there laid leaves trees may. elim (survives.crash clean trees may) [
+      | inl was ↦ leaves trees was
+      | inr made ↦ ((state store old).now.schema, made laid.0)
+    ];
+    alive = λ clean was. tt;
+    never_falls = never;
+    quiet = λ other. quiet (λ is. other (ap Some is));
+    store = λ is. counted (let e = is in cc);
+    undone = λ there laid. ap (λ (d : Database). records_of d.trees) (kept there.0 there.1);
+  }
 
 -- a query that answered, and a result by whose fault the shelf forgets all that it knows
 module _ {S : Type 0} (store : Ghosts S) where

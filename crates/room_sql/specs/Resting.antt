@@ -1,9 +1,11 @@
 -- What a crash leaves while no transaction is open.
-use Rattle.std.proofs.Common.{◌≡◌, ◌∙◌, sym, ap}
+use Rattle.std.proofs.Common.{◌≡◌, ◌∙◌, sym, ap, subst}
 use Rattle.std.specs.Coded.{→_prop}
 use Rattle.sqlite_trees.specs.Tree.{Trees}
 use Rattle.sqlite_trees.specs.Props.{Trees-set}
+use Rattle.sqlite.specs.Schema.{Schema}
 use Rattle.room_records.specs.Records.{Records}
+use Rattle.room_tables.specs.Layout.{IsRoomOfVersion2, AreOfRoom}
 use Rattle.room_tables.specs.Rows.{records_of}
 
 pub rests_prop : (A : Type 0) (a b : Trees) → IsProp (A → a ≡ b)
@@ -17,3 +19,8 @@ module _ {MayLeave : Trees → Type 0} {now committed : Trees} (rests : now ≡ 
 
   pub leaves_these : MayLeave committed → (trees : Trees) × MayLeave trees × (records_of now ≡ records_of trees)
   leaves_these these = (committed, these, ap records_of rests)
+
+  -- where a room is seen, what is left is its trees
+  pub leaves_a_room : {schema : Schema} → IsRoomOfVersion2 (record { schema = schema; trees = now })
+      → ((trees : Trees) → MayLeave trees → trees ≡ committed) → (trees : Trees) → MayLeave trees → AreOfRoom trees
+  leaves_a_room {schema} room only trees may = subst AreOfRoom (rests ∙ sym (only trees may)) (schema, room)

@@ -5,13 +5,13 @@ use Rattle.sqlite_trees.specs.declared.store.Store.{Ghosts}
 use Rattle.sqlite.specs.State.{HasCleanDisk}
 use Rattle.sqlite.specs.Held.{state}
 use Rattle.room_records.specs.Shelf.{View}
-use Rattle.room_tables.specs.Layout.{IsRoomOfVersion2}
+use Rattle.room_tables.specs.Layout.{IsRoomOfVersion2, AreOfRoom}
 use Rattle.room_tables.specs.Rows.{records_of}
 use Rattle.room_sql.specs.declared.sql_shelf.SqlShelf.{SqlShelf}
 use Rattle.room_sql.specs.NodeFacts.{IsTrueOf}
 
 -- The records are the rows of the tables, and the store is intact while its disk has returned what was written.
--- That it is laid out says also that what the shelf remembers is true of its rows
+-- It is laid out as a room of version 2; that says also that what the shelf remembers is true of its rows
 abbrev pub sql_view : {S : Type 0} (store : Ghosts S) → SqlShelf S store → View
 sql_view store shelf = record {
   records = records_of (state store shelf.conn).now.trees;
@@ -22,4 +22,5 @@ sql_view store shelf = record {
       × IsTrueOf shelf.known ((state store shelf.conn).now.trees 1);
   crash_may_leave = λ left. HasCleanDisk (state store shelf.conn)
       × ((trees : Trees) × (state store shelf.conn).may_leave trees × (left ≡ records_of trees));
+  leaves_laid_out = (trees : Trees) → (state store shelf.conn).may_leave trees → AreOfRoom trees;
 }

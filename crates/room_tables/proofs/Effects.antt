@@ -88,6 +88,7 @@ steps_then {f = f} {g = g} p q = record {
   records = q.records ∙ ap g p.records;
   version = λ v. q.version (p.version v);
   sound = λ s. q.sound (p.sound s);
+  lists = λ s. q.lists (p.lists s);
 }
 
 -- one of the first tables has other rows now
@@ -121,6 +122,7 @@ steps_at tree old new room change low schema sound others keyed numbered version
       schema = schema ∙ sym room.schema;
       version = λ v. version_stays _ _ each.room (version v);
       sound = λ _ _. sound;
+      lists = λ _. sound;
       records = read_same (after tree old.now new.now) new.now.trees _ each
           (still_slots tree old.now new.now room schema sound low others) ∙ is;
     }
@@ -142,6 +144,7 @@ steps_left tree old new room it =
       schema = it.schema ∙ sym room.schema;
       version = version_stays _ _ same.room;
       sound = λ _ _. it.sound;
+      lists = λ _. it.sound;
       records = read_same old.now.trees new.now.trees _ same (listed ∙ same.slots ∙ sym room.listed);
     }
   where

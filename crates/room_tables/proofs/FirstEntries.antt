@@ -78,4 +78,5 @@ lists_steps old new id entries es is was_open it =
       }) is;
       version = subst (IsVersion 2) (sym it.version);
       sound = λ s is. it.sound (s (was_open is));
+      lists = it.sound;
     }

@@ -115,9 +115,8 @@ pub upgraded : (a d e : State) (next : ℕ) → IsMoved a.now d.now → (records
     → Steps d e (apply_change (PutNext next)) → IsVersion 2 (version_rows e.now.trees) → IsDatabase e.now
     → e.now.trees 8 ≡ d.now.trees 8 → IsUpgraded a.now e.now
 upgraded a d e next it is steps version sound slot = record {
-  room = record { room = steps.room; version = version };
+  room = record { room = steps.room; version = version; sound = sound };
   schema = steps.schema ∙ it.schema;
-  sound = sound;
   emptied = slot ∙ it.emptied;
   records = steps.records ∙ ap (apply_change (PutNext next)) it.records ∙ ap (λ n. record (records_of a.now.trees) {
     objects = record (records_of a.now.trees).objects { next = n };
@@ -137,4 +136,4 @@ pub stays : (old last : State) (change : Records → Records) (trees : Trees) �
     → IsRoomOfVersion2 (record { schema = old.now.schema; trees = trees })
 stays old last change trees steps is room =
     by_trees old.now.schema IsRoomOfVersion2 last.now trees steps.schema is
-    (record { room = steps.room; version = steps.version room.version })
+    (record { room = steps.room; version = steps.version room.version; sound = steps.lists room.sound })

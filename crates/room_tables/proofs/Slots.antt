@@ -84,6 +84,7 @@ steps_slots old new room change schema sound o keyed is =
       schema = schema ∙ sym room.schema;
       version = version_stays _ _ (o.room (apart l 0 (omega arith)));
       sound = λ _ _. sound;
+      lists = λ _. sound;
       records = same_records _ _
           (λ q. ap (λ rows. nodes_in rows q) node)
           (λ q. ap (λ rows. entries_in rows q) (o.entry (apart l 3 (omega arith))))

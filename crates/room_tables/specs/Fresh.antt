@@ -35,11 +35,10 @@ abbrev pub filled : Node → Vec EntryModel Global → Records
 filled root entries =
     apply_change (PutNext 2) (apply_change (PutEntries 1 entries) (apply_change (PutNode root) (no_records 0)))
 
--- a room of version 2 whose tables are the six, and whose trees list them
+-- a room of version 2 whose tables are the six
 pub record IsInSix (db : Database) : Type 0 where
   pub room : IsRoomOfVersion2 db
   pub schema : db.schema ≡ room_schema Fresh
-  pub sound : IsDatabase db
 
 -- these are its records
 abbrev pub IsFilled : Node → Vec EntryModel Global → Database → Type 0

@@ -8,7 +8,8 @@ use Rattle.sqlite_trees.specs.Tree.{Trees, rowid, IsTable}
 use Rattle.sqlite_trees.specs.View.{is_int}
 use Rattle.sqlite.specs.Table.{Table}
 use Rattle.sqlite.specs.Values.{or_null}
-use Rattle.sqlite.specs.Effect.{Database}
+use Rattle.sqlite.specs.Effect.{Database, IsDatabase}
+use Rattle.sqlite.specs.Schema.{Schema}
 use Rattle.room_tables.specs.Tables.{Layout, room_schema, first_schema, room_table, node_table, entry_table, doc_table}
 use Rattle.room_tables.specs.Tables.{session_table, slots_table, slots_tree}
 use Rattle.room_tables.specs.Rows.{version_rows, IsVersion, slots_of}
@@ -59,6 +60,12 @@ under l trees = record { schema = room_schema l; trees = trees }
 pub record IsRoomOfVersion2 (db : Database) : Type 0 where
   pub room : IsRoomDatabase db
   pub version : IsVersion 2 (version_rows db.trees)
+  -- the trees list the schema, and obey it
+  pub sound : IsDatabase db
+
+-- the trees of one, whatever lists them
+abbrev pub AreOfRoom : Trees → Type 0
+AreOfRoom trees = (schema : Schema) × IsRoomOfVersion2 (record { schema = schema; trees = trees })
 
 -- a room of version 1, whose tables are in their order, and nothing else
 pub record IsRoomOfVersion1 (db : Database) : Type 0 where

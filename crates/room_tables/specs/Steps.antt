@@ -54,6 +54,7 @@ pub record Steps (old new : State) (change : Records → Records) : Type 0 where
   pub records : records_of new.now.trees ≡ change (records_of old.now.trees)
   pub version : IsVersion 2 (version_rows old.now.trees) → IsVersion 2 (version_rows new.now.trees)
   pub sound : SeesSound old → SeesSound new
+  pub lists : IsDatabase old.now → IsDatabase new.now
 
 -- a commit of these changes leaves such trees, where there was a room before
 abbrev pub MayBecome : List Change → Database → Trees → Type 0

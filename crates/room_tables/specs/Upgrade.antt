@@ -66,8 +66,6 @@ pub record IsMoved (old new : Database) : Type 0 where
 pub record IsUpgraded (old new : Database) : Type 0 where
   pub room : IsRoomOfVersion2 new
   pub schema : new.schema ≡ room_schema Upgraded
-  -- the trees list that schema
-  pub sound : IsDatabase new
   pub records : records_of new.trees ≡ records_of old.trees
   pub emptied : new.trees 8 ≡ []
 

@@ -21,7 +21,8 @@ returns-then-is_next-clause-joins g c = λ d start past stand usable has.
     (λ h. if_ok_then c.run_new.result
     (c.run_new.ensures.ok h (first.call.laid_out read d) room now.room now.rules its)
     (λ answer ran. (new_answer stand q usable has new ran.says, rw ran.says at ran)))
-    (λ k. c.run_new.ensures.crash k read (first.call.laid_out read d) room now.room now.rules its))
+    (λ k. c.run_new.ensures.crash k read (first.call.laid_out read d) room now.room now.rules its)
+    (λ k. c.run_new.ensures.frame.left_laid_out k read (first.call.laid_out read d)))
 
 pub returns-else-is_next-clause-frame : goal.returns-else-is_next-clause-frame
 returns-else-is_next-clause-frame g c =

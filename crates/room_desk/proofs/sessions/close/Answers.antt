@@ -46,6 +46,7 @@ returns g c =
           (λ h. if_ok_both c.close_owned.result done.reply (done.ok is_open h laid_out puts all)
           (λ answer says after. (says ∙ answered, after)))
           (λ k left may. leaves_either (done.crash laid_out puts all left may) (λ old. old) (λ made. made.1))
+          (λ k. done.frame.left_laid_out k read laid_out)
       | inr closed ↦
           (let only_read : ShelfRead found (g.S.Shelf.view c.close_owned.new.shelf) (fault_in c.close_owned.result) =
           record {
@@ -55,6 +56,7 @@ returns g c =
               | inl old ↦ old
               | inr made ↦ absurd (both_ways _ closed made.0)
             ];
+            stays_laid_out = λ k. done.frame.left_laid_out k read laid_out;
           } in
           joins_by_reads only_read (λ _. (laid_out, stand))
           (λ h d again.

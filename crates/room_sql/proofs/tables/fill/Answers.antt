@@ -21,6 +21,7 @@ returns-clause-ok g c clean =
             ∙ ap (λ r. apply_change (PutNext 2) (apply_change (PutEntries 1 c.args.entries.now) r)) one.records;
         version = λ _. three.1;
         sound = λ s. last.sound (two.sound (one.sound s));
+        lists = λ s. last.lists (two.lists (one.lists s));
       },
       three.1,
       (all.1 two.room).0,

@@ -21,6 +21,7 @@ returns-in-Ok-clause-answered g c = record {
   refused = c.in-Ok.ensures.refused;
   idle = λ h d start past stand. (c.answer.ensures.joins start past (λ _. (d, stand))).idle h;
   crash = λ k start past stands. (c.answer.ensures.joins start past stands).crash k;
+  stays_laid_out = λ k start past stands. (c.answer.ensures.joins start past stands).stays_laid_out k;
 }
 
 pub returns-in-Err-clause-answered : goal.returns-in-Err-clause-answered
@@ -38,6 +39,7 @@ returns-in-Err-clause-answered g c = record {
   refused = λ h d away. c.in-Err.ensures.frame.undone h d;
   idle = λ h d start past stand. (c.answer.ensures.joins start past (λ _. (d, stand))).idle h;
   crash = λ k start past stands. (c.answer.ensures.joins start past stands).crash k;
+  stays_laid_out = λ k start past stands. (c.answer.ensures.joins start past stands).stays_laid_out k;
 }
 
 pub returns-in-Ok-clause-allowed : goal.returns-in-Ok-clause-allowed
