@@ -5,19 +5,21 @@ use Rattle.std.proofs.Common.{Option, Some, Result, Ok, []}
 use Rattle.std.proofs.Math.Logic.{∥∥₁_map, ∥∥₁_elim}
 use Rattle.sqlite_disk.specs.declared.Disk.{Ghosts}
 use Rattle.sqlite_disk.specs.declared.Files.{Files}
+use Rattle.sqlite_trees.specs.Tree.{Trees}
 use Rattle.sqlite.specs.FileStore.{recovers}
 use Rattle.sqlite.proofs.Theorems.{next_run, opens_again}
 use Rattle.sqlite.specs.Effect.{Database}
 use Rattle.sqlite.specs.Recovery.{Image}
 use Rattle.sqlite.specs.declared.FileStore.{FileStore}
 use Rattle.sqlite.specs.State.{HasCleanDisk}
-use Rattle.sqlite.specs.Held.{Held}
+use Rattle.sqlite.specs.Held.{Held, AreDatabases}
 use Rattle.sqlite.specs.Files.{file_state, over_files}
 use Rattle.room_acl.specs.SubjectModel.{SubjectModel}
 use Rattle.room_records.specs.Room.{Room}
 use Rattle.room_records.specs.Shelf.{View}
 use Rattle.room_cache.specs.declared.known.Known.{Known}
 use Rattle.room_cache.specs.Cached.{cached_view}
+use Rattle.room_tables.specs.Layout.{IsRoomOfVersion2, AreOfRoom}
 use Rattle.room_tables.specs.Rows.{records_of}
 use Rattle.room_sql.specs.declared.sql_shelf.SqlShelf.{SqlShelf}
 use Rattle.room_sql.specs.SqlView.{sql_view}
@@ -35,27 +37,32 @@ use Rattle.room_program.specs.Rooms.{Listens, WritesReport}
 use Rattle.room_words.specs.declared.job.ReportKind.{ReportKind}
 use Rattle.room_program.specs.Files.{Adopted, TakesRoom}
 use Rattle.room_program.specs.Streams.{ServesSome}
-use Rattle.room_program.specs.Found.{IsOpenedOver, Holds, HoldsRoom, IsLeftBy, Leaves}
-use Rattle.room_program.specs.Restarts.{MayBeLeftShut, ActsOnce, Steps, KeepsRoom, KeepsRoomOrMore}
-use Rattle.room_program.specs.Restarts.{GoesOnBySome, GoesOnOrMore, LeavesRooms, AnswersOrMore}
-use Rattle.room_program.proofs.Found.{stands, closed_holds, unopened, served}
+use Rattle.room_program.specs.Found.{IsOpenedOver, Holds, HoldsRoom, IsLeftBy, Leaves, MayBeLeft}
+use Rattle.room_program.specs.Restarts.{ActsOnce, Steps, KeepsRoom, KeepsRoomOrMore}
+use Rattle.room_program.specs.Restarts.{GoesOnBySome, GoesOnOrMore, AnswersOrMore}
+use Rattle.room_program.proofs.Found.{stands, closed_holds, unopened, served, one_database}
 
 module _ {D : Type 0} (g : Ghosts D) where
   -- what a crash left of a store is found by the next run
   pub found_left : (it : FileStore D g) {E : Type 0} {h : Ghosts E} (left : Image) (opened : Held (FileStore E h))
-      → MayBeLeftShut it left → IsOpenedOver left opened → HasCleanDisk (file_state opened)
+      → MayBeLeft it left → AreDatabases (recovers it) → IsOpenedOver left opened → HasCleanDisk (file_state opened)
       → ∥ recovers it (file_state opened).now.trees ∥₁
-  found_left it left opened may is clean =
+  found_left it left opened may sound is clean =
       let (shown, finds) = is clean in
-      ∥∥₁_map (next_run it may.left.numbered may.sound left may.left.may (file_state opened) finds)
+      ∥∥₁_map (next_run it may.numbered sound left may.may (file_state opened) finds)
       (λ found. subst (λ (d : Database). recovers it d.trees) (sym shown.0.clean) found)
+
+  -- trees of rooms are databases
+  databases : (it : FileStore D g) → ((trees : Trees) → recovers it trees → AreOfRoom trees)
+      → AreDatabases (recovers it)
+  databases it laid trees may = let (schema, room) = laid trees may in (schema, room.sound)
 
 -- ---- so many steps
 
 pub keeps_or_more : (found left : Image) → KeepsRoom found left → KeepsRoomOrMore found left
 keeps_or_more found left keeps start past held =
     let (next, goes, there) = keeps start past held in
-    ∣ (next, (next, goes, inl refl), there) ∣₁
+    ∣ (next, (goes.0, next, goes.1, inl refl), there) ∣₁
 
 pub room_after : (more : ℕ) (found left : Image) (start : Room) (past : History) → Steps KeepsRoom more found left
     → HoldsRoom found start past
@@ -119,24 +126,24 @@ module _ {D : Type 0} (g : Ghosts D) (found left : Image) (opened : Held (FileSt
 
   -- or, once a fault has shut it, that with one event more
   pub keeps_room_or_more : AnswersOrMore (cached_view (sql_view over_files)) users taken last
-      → MayBeLeftShut last.0.conn.store left → LeavesRooms last.0.conn → KeepsRoomOrMore found left
-  keeps_room_or_more answers shut rooms start past held =
-      let (next, goes, leaves) = answers start past (stands g found start past held opened taken is adopted) in
-      ∥∥₁_map (opens_again last.0.conn.store shut.left.numbered shut.sound left shut.left.may) (λ one.
+      → MayBeLeft last.0.conn.store left → KeepsRoomOrMore found left
+  keeps_room_or_more answers at start past held =
+      let (next, goes, leaves, laid) = answers start past (stands g found start past held opened taken is adopted) in
+      let it = last.0.conn.store in
+      ∥∥₁_map (opens_again it at.numbered (databases g it laid) left at.may) (λ one.
       let (trees, may, holds) = one in
-      let (schema, sound) = shut.sound trees may in
-      let db : Database = record { schema = schema; trees = trees } in
+      let (schema, of_room) = laid trees may in
       let room : (past : History) → RepresentsHistory start (records_of trees) past → HoldsRoom left start past
       = λ past rows. record {
-        db = db;
-        held = record { trees = ∣ holds ∣₁; sound = sound };
-        room = inl (rooms db sound may);
+        db = record { schema = schema; trees = trees };
+        held = record { trees = ∣ holds ∣₁; sound = of_room.sound };
+        room = inl of_room;
         rows = rows;
       } in elim (leaves (records_of trees) (clean, (trees, may, refl))) [
-        | inl rows ↦ (next, (next, (users, goes), inl refl), room next rows)
-        | inr (event, (changes, rows)) ↦ (
+        | inl rows ↦ (next, (users, next, goes, inl refl), room next rows)
+        | inr (m, event, asks, (changes, rows)) ↦ (
           event ∷ next,
-          (next, (users, goes), inr (event, changes, refl)),
+          (users, next, goes, inr (m, event, asks, changes, refl)),
           room (event ∷ next) rows,
         )
       ])
@@ -174,13 +181,19 @@ module _ {D M : Type 0} (g : Ghosts D) (image : Image) (does : M → Call (Held 
       is_open (closed_holds g stays last.0.conn (left later) one (shut over later last.0.conn closed)
       is_open (last.0.rests is_open) at)
 
--- the next run finds records that the crash may leave of a store that a fault had shut
+-- the next run finds a room with records that the crash may leave of a store that a fault had shut
 pub found_records : {D E : Type 0} (g : Ghosts D) (h : Ghosts E) (was : SqlShelf (FileStore D g) over_files)
     (left : Image) (opened : Held (FileStore E h)) → HasCleanDisk (file_state was.conn)
-    → MayBeLeftShut was.conn.store left → IsOpenedOver left opened → HasCleanDisk (file_state opened)
-    → ∥ (sql_view over_files was).crash_may_leave (records_of (file_state opened).now.trees) ∥₁
-found_records g h was left opened clean shut is there =
-    ∥∥₁_map (found_left g was.conn.store left opened shut is there) (λ found. (clean, (_, found, refl)))
+    → (sql_view over_files was).leaves_laid_out → MayBeLeft was.conn.store left → IsOpenedOver left opened
+    → HasCleanDisk (file_state opened) → ∥ (IsRoomOfVersion2 (file_state opened).now
+    × (sql_view over_files was).crash_may_leave (records_of (file_state opened).now.trees)) ∥₁
+found_records g h was left opened clean laid may is there =
+    let (shown, finds) = is there in
+    ∥∥₁_map (found_left g was.conn.store left opened may (databases g was.conn.store laid) is there) (λ found.
+    let (schema, room) = laid _ found in (
+      subst IsRoomOfVersion2 (one_database _ _ room.sound (shown.1 shown.0.is_open).0 refl) room,
+      (clean, (_, found, refl)),
+    ))
 
 -- and an event that is sent again acts once
 pub again : {D : Type 0} (g : Ghosts D) (image : Image) (opened : Held (FileStore D g))

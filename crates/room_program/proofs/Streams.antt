@@ -1,16 +1,25 @@
 -- One stream after another.
-use Rattle.std.proofs.Common.{ℕ, zero, suc, List, [], ◌++◌, Result, Ok, Err, refl, sym, ap, subst, ◌∙◌}
+use Rattle.std.proofs.Common.{◌≡◌, ◌⊎◌, inl, inr, ℕ, zero, suc, List, [], ◌++◌, Result, Ok, Err, refl, sym, ap, subst}
+use Rattle.std.proofs.Common.{◌∙◌}
 use Rattle.std.proofs.lemmas.List.{append_assoc}
 use Rattle.room_acl.specs.SubjectModel.{SubjectModel}
+use Rattle.room_records.specs.Records.{Records}
 use Rattle.room_records.specs.Room.{Room}
-use Rattle.room_records.specs.Shelf.{View}
+use Rattle.room_records.specs.Shelf.{View, LeavesNew}
+use Rattle.room_wire.specs.Asks.AskOf.{Event, ask_of}
+use Rattle.room_wire.specs.Asks.EventModel.{EventModel}
 use Rattle.room_wire.specs.Messages.MessageModel.{MessageModel}
+use Rattle.room_wire.specs.Serving.Outputs.{Outputs}
 use Rattle.room_wire.proofs.Lemmas.Serving.Rounds.{outputs_then}
 use Rattle.room_desk.specs.History.{History}
-use Rattle.room_desk.specs.Representation.{StandsFor}
-use Rattle.room_desk.specs.Serving.{AnswersMessage, DeskCall, IsRun}
+use Rattle.room_desk.specs.Representation.{RepresentsHistory, StandsFor, StandsWith}
+use Rattle.room_desk.specs.Serving.{AnswersMessage, IsRun, MayAnswer}
+use Rattle.room_desk.specs.Stops.{Doubt, no_doubt, StandsInDoubt}
 use Rattle.room_desk.proofs.Calls.{no_call, calls_then}
 use Rattle.room_desk.proofs.Messages.{goes_on}
+use Rattle.room_desk.proofs.Stops.{at_rest}
+use Rattle.room_desk.proofs.StreamStops.{stream_in_doubt, laid_out_in_stream, by_answers}
+use Rattle.room_desk.proofs.StreamStops.{AreAsked, none_asked, asked_in_stream}
 use Rattle.room_program.specs.declared.fault.Fault.{Fault}
 use Rattle.room_program.specs.Calls.{Exchange, ServesEach}
 use Rattle.room_program.specs.Rooms.{ServesAll}
@@ -71,3 +80,67 @@ module _ {S : Type 0} (view : S → View) (users : List SubjectModel) where
         → ServesAll accepts fails view users count old new before after done → ServesSome view users before after
     serves_all count after (Ok done) all = serves_each count new after all.served
     serves_all count after (Err fault) all = serves_each all.fewer.0 all.fewer.2 after all.fewer.3
+
+-- What a crash may leave after some connections, from a store that was there
+module _ {S : Type 0} (view : S → View) (settled : (s : S) (left : Records) → (view s).is_available
+    → (view s).crash_may_leave left → left ≡ (view s).records) (users : List SubjectModel) (start : Room) where
+  -- the rows stand for the history, and a crash leaves such rows, or with one of the events in doubt, and laid out
+  abbrev LeavesInDoubt : Doubt → S → Type 0
+  LeavesInDoubt known s = StandsFor start known.past (view s)
+      × LeavesNew (view s) (StandsInDoubt start known.past known.doubted) × (view s).leaves_laid_out
+      × AreAsked users known.doubted
+
+  some_in_doubt : (before after : S) (ms : List MessageModel) (out : List ℕ)
+      → Outputs (MayAnswer view users) before ms out after → (view after).is_intact → (known : Doubt)
+      → LeavesInDoubt known before
+      → (next : Doubt) × GoesOn users start known.past next.past × LeavesInDoubt next after
+  some_in_doubt before after ms out run intact known (stands, leaves, laid, asked) =
+      let (next, answers, stand, left) = stream_in_doubt view settled users before after ms out start known run
+      intact stands leaves in (
+        next,
+        ran users start known.past ms out next.past (by_answers users start known ms out next answers),
+        (
+          stand,
+          left,
+          laid_out_in_stream view users before after ms out start known.past run intact stands laid,
+          asked_in_stream users start known ms out next answers asked,
+        ),
+      )
+
+  module _ {L : Type 0} (accepts : L → Exchange → L → Type 0) (old : L) (before : S) where
+    each_in_doubt : (n : ℕ) (last : L) (after : S) → ServesEach accepts (Served view users) n old last before after
+        → (view after).is_intact → (known : Doubt) → LeavesInDoubt known before
+        → (next : Doubt) × GoesOn users start known.past next.past × LeavesInDoubt next after
+    each_in_doubt zero last after none intact known leaves =
+        (known, stays users start known.past, subst (LeavesInDoubt known) (sym none.1) leaves)
+    each_in_doubt (suc n) last after (late, between, each, one) intact known leaves =
+        let was = one.2.frame.was_intact intact in
+        let (mid, goes, left) = each_in_doubt n late between each was known leaves in
+        let all = one.2.messages in
+        let (next, on, there) = some_in_doubt between after all.2 all.3 all.5 intact mid left in
+        (next, goes_further users start known.past mid.past next.past goes on, there)
+
+    pub answers_or_more : (n : ℕ) (last : L) (between after : S) (ms : List MessageModel) (out : List ℕ)
+        (past : History) → ServesEach accepts (Served view users) n old last before between
+        → Outputs (MayAnswer view users) between ms out after → (view between).is_intact → (view after).is_intact
+        → (view before).is_available → StandsFor start past (view before) → (view before).leaves_laid_out
+        → (next : History) × GoesOn users start past next × LeavesNew (view after) (λ left.
+        RepresentsHistory start left next ⊎ ((m : MessageModel) × (event : EventModel)
+        × (ask_of users m ≡ Ok (Event event)) × StandsWith start next event left))
+        × (view after).leaves_laid_out
+    answers_or_more n last between after ms out past each run was intact there stands laid =
+        let (mid, goes, known) = each_in_doubt n last between each was (no_doubt past) (
+          stands,
+          (λ left may. inl (at_rest view settled before start past there stands left may)),
+          laid,
+          none_asked users,
+        ) in
+        let (next, on, (stand, leaves, kept, asked)) = some_in_doubt between after ms out run intact mid known in (
+          next.past,
+          goes_further users start past mid.past next.past goes on,
+          λ left may. elim (leaves left may) [
+            | inl rows ↦ inl rows
+            | inr (event, at, rows) ↦ (let (m, asks) = asked event at in inr (m, event, asks, rows))
+          ],
+          kept,
+        )

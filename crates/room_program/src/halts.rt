@@ -1,15 +1,10 @@
 //! Laws of a stop in the middle of an event. The program calls none of the functions here.
-ghost use Rattle.std.specs.Prelude.{◌≡◌, ℕ, false};
-ghost use Rattle.sqlite_trees.specs.Tree.{Trees};
+ghost use Rattle.std.specs.Prelude.{◌≡◌, false};
 ghost use Rattle.sqlite.specs.WalFiles.{image_at, outcomes};
 ghost use Rattle.sqlite.specs.WalReads.{AreClean};
 ghost use Rattle.sqlite.specs.Recovery.{Image};
-ghost use Rattle.sqlite.specs.State.{HasCleanDisk};
-ghost use Rattle.sqlite.specs.Files.{file_state, HoldsDatabase};
 ghost use Rattle.room_records.specs.Room.{Room};
 ghost use Rattle.room_records.specs.Shelf.{LeavesNew};
-ghost use Rattle.room_tables.specs.Layout.{IsRoomOfVersion2};
-ghost use Rattle.room_tables.specs.Rows.{records_of};
 ghost use Rattle.room_wire.specs.Asks.EventModel.{EventModel};
 ghost use Rattle.room_desk.specs.AnswerModel.{AnswerModel};
 ghost use Rattle.room_desk.specs.History.{History, leaves_no_reply};
@@ -17,10 +12,9 @@ ghost use Rattle.room_desk.specs.Representation.{StandsFor};
 ghost use Rattle.room_desk.specs.Serving.{EventAnswered};
 ghost use Rattle.room_program.specs.Files.{Adopted};
 ghost use Rattle.room_program.specs.Found.{IsOpenedOver};
-ghost use Rattle.room_program.specs.Halts.{WereClean, MayBeLeftThen, StandsOrWith, HoldsOldOrNew};
+ghost use Rattle.room_program.specs.Halts.{WereClean, MayBeLeftThen, StandsOrWith, HoldsOldOrNew, HoldsRoomWith};
 ghost use Rattle.room_program.specs.Restarts.{ActsOnce};
 
-use crate::host::FileConnection;
 use room_cache::CachedShelf;
 use room_desk::Desk;
 use room_records::Shelf;
@@ -33,21 +27,26 @@ use sqlite_trees::store::Store;
 type FileShelf<D> = CachedShelf<SqlShelf<FileStore<D>>>;
 
 /// Where the store was there, and its rows stood for a history, a crash after an event was answered leaves rows that
-/// stand for that history, or for it with the event, and no others: also where a fault shut the store on the way.
+/// stand for that history, or for it with the event, and no others, and that are laid out: also where a fault shut the
+/// store on the way.
 fn answered<S: Shelf>()
-    ensures { (before after : S) (event : EventModel) (answered : AnswerModel) (start : Room) (past : History) →
+    ensures rows { (before after : S) (event : EventModel) (answered : AnswerModel) (start : Room) (past : History) →
         StandsFor start past (S.view before) → (S.view before).is_available →
         EventAnswered S.view before event answered after → (S.view after).is_intact →
         LeavesNew (S.view after) (StandsOrWith start past event) }
+    ensures laid_out { (before after : S) (event : EventModel) (answered : AnswerModel) (start : Room)
+        (past : History) → StandsFor start past (S.view before) → (S.view before).is_available →
+        EventAnswered S.view before event answered after → (S.view after).is_intact → (S.view after).leaves_laid_out }
 {}
 
-/// The files of a shelf, to which nothing more is written. Where they have returned what was written, each content that
-/// a crash may leave of them holds a database, whose records are among those that a crash may leave of the shelf.
+/// The files of a shelf, to which nothing more is written. Where they have returned what was written, and what a crash
+/// may leave of the shelf is laid out, each content that a crash may leave of them holds a room, with records that a
+/// crash may leave of the shelf.
 fn files_of<D: Disk + Drop>(shelf: FileShelf<D>) -> Files<D>
     ensures intact { AreClean D.Disk result.log result.db → (⟦<FileShelf<D> as Shelf>⟧.view shelf).is_intact }
-    ensures left { AreClean D.Disk result.log result.db → (image : Image) → outcomes D.Disk result.log result.db image
-        → ∥ ((db : Trees) × HoldsDatabase image db
-        × (⟦<FileShelf<D> as Shelf>⟧.view shelf).crash_may_leave (records_of db)) ∥₁ }
+    ensures left { AreClean D.Disk result.log result.db → (⟦<FileShelf<D> as Shelf>⟧.view shelf).leaves_laid_out
+        → (image : Image) → outcomes D.Disk result.log result.db image
+        → HoldsRoomWith image (⟦<FileShelf<D> as Shelf>⟧.view shelf).crash_may_leave }
 {
     let store = shelf.into_inner().into_connection().into_store();
     store.close()
@@ -58,8 +57,8 @@ fn files_of<D: Disk + Drop>(shelf: FileShelf<D>) -> Files<D>
 /// Each of the two files passes on as many calls to its disk as its fuse has left as the event comes, whatever these
 /// two numbers are, and then acts no more: each call fails and changes nothing (`frozen` of `Disk`). Where the store
 /// was there and its rows stood for a history, and the event was answered as `Desk::handle` answers each, every content
-/// that a crash may leave of the two disks then holds a database whose rows stand for that history, or for it with the
-/// event, while the disks returned what was written. Nobody sees the answer.
+/// that a crash may leave of the two disks then holds a room with that history, or with it and the event, while the
+/// disks returned what was written. Nobody sees the answer.
 ///
 /// One step is for the reader to believe: a machine that stops in the middle of an event has made the calls that are
 /// passed on here, with the same answers, and so leaves of its disks what a crash may leave of these. A stop inside a
@@ -79,17 +78,14 @@ pub fn an_event_cut_off_leaves_old_or_new<D: Disk + Drop>(
 }
 
 /// The next run opens such files, which `T` stands for, takes the room that it finds, and the event is sent again
-/// first: it acts once, or is answered DELAY. That what is found is a room of version 2 is a premise: it is proved of
-/// what an event leaves where the store is there as the event ends, and not where a fault has shut it.
-pub fn an_event_cut_off_acts_once<T: Start>(opened: &FileConnection<T>)
-    ensures { (taken after : _) (event : EventModel) (answered : AnswerModel) (start : Room) (past : History) →
+/// first: it acts once, or is answered DELAY.
+pub fn an_event_cut_off_acts_once<T: Start>()
+    ensures { (opened : _) (taken after : _) (event : EventModel) (answered : AnswerModel) (start : Room)
+        (past : History) →
         HoldsOldOrNew (image_at T.Start) start past event
-        → IsOpenedOver (image_at T.Start) opened.now → HasCleanDisk (file_state opened.now)
-        → IsRoomOfVersion2 (file_state opened.now).now
-        → Adopted ⟦<FileStore<FileFrom<T>> as Store>⟧ opened.now taken
+        → IsOpenedOver (image_at T.Start) opened
+        → Adopted ⟦<FileStore<FileFrom<T>> as Store>⟧ opened taken
         → EventAnswered ⟦<FileShelf<FileFrom<T>> as Shelf>⟧.view taken event answered after
         → (⟦<FileShelf<FileFrom<T>> as Shelf>⟧.view after).is_intact → leaves_no_reply past event ≡ false
         → ∥ ActsOnce start past event answered (⟦<FileShelf<FileFrom<T>> as Shelf>⟧.view after) ∥₁ }
-{
-    let _opened = opened;
-}
+{}

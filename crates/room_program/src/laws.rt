@@ -7,20 +7,24 @@ ghost use Rattle.sqlite.specs.State.{HasCleanDisk};
 ghost use Rattle.sqlite.specs.Files.{file_state};
 ghost use Rattle.room_acl.specs.SubjectModel.{SubjectModel};
 ghost use Rattle.room_records.specs.Room.{Room};
+ghost use Rattle.room_tables.specs.Layout.{IsRoomOfVersion2};
 ghost use Rattle.room_tables.specs.Rows.{records_of};
 ghost use Rattle.room_wire.specs.Asks.EventModel.{EventModel};
+ghost use Rattle.room_wire.specs.Messages.MessageModel.{MessageModel};
+ghost use Rattle.room_wire.specs.Serving.Outputs.{Outputs};
 ghost use Rattle.room_desk.specs.AnswerModel.{AnswerModel};
 ghost use Rattle.room_desk.specs.History.{History, leaves_no_reply};
-ghost use Rattle.room_desk.specs.Serving.{EventAnswered};
+ghost use Rattle.room_desk.specs.Serving.{EventAnswered, MayAnswer};
 ghost use Rattle.room_program.specs.declared.fault.Fault.{Fault};
 ghost use Rattle.room_program.specs.Files.{Adopted, Made, Unmade, TakesRoom};
 ghost use Rattle.room_program.specs.Machines.Call.{closes};
 ghost use Rattle.room_program.specs.Rooms.{Listens, WritesReport};
 ghost use Rattle.room_words.specs.declared.job.ReportKind.{ReportKind};
 ghost use Rattle.room_program.specs.Runs.{Runs, Streams, means};
-ghost use Rattle.room_program.specs.Streams.{ServesSome};
+ghost use Rattle.room_program.specs.Calls.{ServesEach};
+ghost use Rattle.room_program.specs.Streams.{Served, ServesSome};
 ghost use Rattle.room_program.specs.Found.{HoldsRoom, IsOpenedOver, IsLeftBy, MayBeLeft, RunFound};
-ghost use Rattle.room_program.specs.Restarts.{MayBeLeftShut, LeavesRooms, ActsOnce, AnswersOrMore};
+ghost use Rattle.room_program.specs.Restarts.{ActsOnce, AnswersOrMore};
 ghost use Rattle.room_program.specs.Restarts.{Steps, KeepsRoom, KeepsRoomOrMore, GoesOnBySome, GoesOnOrMore};
 
 use crate::host::{FileConnection, Host};
@@ -104,16 +108,27 @@ pub fn a_run_that_stops_keeps_the_room<S: Start>(
     ensures shut { (opened : _) (taken : _) (users : List SubjectModel) (left : Image) →
         IsOpenedOver (image_at S.Start) opened → Adopted ⟦<FileStore<FileFrom<S>> as Store>⟧ opened taken →
         AnswersOrMore ⟦<CachedShelf<SqlShelf<FileStore<FileFrom<S>>>> as Shelf>⟧.view users taken last →
-        HasCleanDisk (file_state last.0.conn) → MayBeLeftShut last.0.conn.store left → LeavesRooms last.0.conn →
+        HasCleanDisk (file_state last.0.conn) → MayBeLeft last.0.conn.store left →
         KeepsRoomOrMore (image_at S.Start) left }
 {
     let connection = last.into_inner().into_connection();
     let _live = connection.schema();
 }
 
+/// However many connections were served over a shelf whose store was there, and some messages of one more, a crash then
+/// leaves records that stand for the history by their answers, or for it with one event more, and that are laid out:
+/// also where a fault shut the store on the way.
+pub fn connections_leave_what_was_answered<L: Listener, S: Shelf>()
+    ensures { (users : List SubjectModel) (n : ℕ) (old last : L) (before between after : S)
+        (ms : List MessageModel) (out : List ℕ) →
+        ServesEach L.accepts (Served S.view users) n old last before between →
+        Outputs (MayAnswer S.view users) between ms out after → (S.view before).is_available →
+        (S.view after).is_intact → AnswersOrMore S.view users before after }
+{}
+
 /// The next run opens what this one left, which is what `T` stands for, and finds the database that this one saw last,
 /// and nothing else: after a stop while the store was there (`stop`), and after a close (`closed`). Once a fault had
-/// shut the store, it finds records that the crash may leave (`shut`).
+/// shut the store, it finds a room with records that the crash may leave, where these are laid out (`shut`).
 pub fn the_next_run_finds_what_this_one_saw<S: Start, T: Start>(
     was: SqlShelf<FileStore<FileFrom<S>>>,
     opened: &FileConnection<T>,
@@ -126,10 +141,13 @@ pub fn the_next_run_finds_what_this_one_saw<S: Start, T: Start>(
         IsTrue (file_state was.conn).is_open → IsLeftBy was.conn later.left (image_at T.Start) →
         IsOpenedOver (image_at T.Start) opened.now → HasCleanDisk (file_state opened.now) →
         (file_state opened.now).now ≡ (file_state was.conn).now }
-    ensures shut { HasCleanDisk (file_state was.conn) → MayBeLeftShut was.conn.store (image_at T.Start) →
+    ensures shut { HasCleanDisk (file_state was.conn)
+        → (⟦<SqlShelf<FileStore<FileFrom<S>>> as Shelf>⟧.view was).leaves_laid_out
+        → MayBeLeft was.conn.store (image_at T.Start) →
         IsOpenedOver (image_at T.Start) opened.now → HasCleanDisk (file_state opened.now) →
-        ∥ (⟦<SqlShelf<FileStore<FileFrom<S>>> as Shelf>⟧.view was).crash_may_leave
-        (records_of (file_state opened.now).now.trees) ∥₁ }
+        ∥ (IsRoomOfVersion2 (file_state opened.now).now
+        × (⟦<SqlShelf<FileStore<FileFrom<S>>> as Shelf>⟧.view was).crash_may_leave
+        (records_of (file_state opened.now).now.trees)) ∥₁ }
 {
     let _opened = opened;
     let connection = was.into_connection();

@@ -1,8 +1,10 @@
+use Rattle.std.proofs.Common.{inl, inr}
+use Rattle.std.proofs.Math.Logic.{∥∥₁_map}
 use Rattle.sqlite.specs.WalFiles.{image_at}
-use Rattle.room_program.proofs.Stopped.{acts_once}
+use Rattle.room_program.proofs.Restarts.{again}
 use Rattle.room_program.proofs.halts.an_event_cut_off_acts_once.Goals as goal
 
 pub returns : goal.returns
-returns g c taken after event answered start past held is clean room adopted call intact none =
-    acts_once _ (image_at g.T.Start) c.args.opened.now is clean room start past event held taken after answered
-    adopted call intact none
+returns g c opened taken after event answered start past held is adopted call intact none = ∥∥₁_map held (λ either.
+    again _ (image_at g.T.Start) opened taken after event answered start past
+    (elim either [ inl without ↦ inl without | inr with_it ↦ inr with_it.1 ]) is adopted call intact none)

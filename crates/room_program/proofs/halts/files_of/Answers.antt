@@ -10,8 +10,8 @@ returns-clause-intact g c honest =
     c.close.result c.close.ensures honest
 
 pub returns-clause-left : goal.returns-clause-left
-returns-clause-left g c honest image may =
+returns-clause-left g c honest laid image may =
     left_in_files _ c.args.shelf.0 c.into_connection.result
     (c.into_connection.ensures.same ∙ ap (λ s. s.conn) c.into_inner.ensures) c.into_store-store.result
     c.into_store-store.ensures.quiet c.into_store-store.ensures.numbered c.into_store-store.ensures.sound
-    c.close.result c.close.ensures honest image may
+    c.close.result c.close.ensures honest laid image may

@@ -23,5 +23,5 @@ returns-clause-report g c opened taken kind users old new done left is adopted w
     (stopped_holds _ (λ file. inl refl) c.args.last.0 left live is_open may)
 
 pub returns-clause-shut : goal.returns-clause-shut
-returns-clause-shut g c opened taken users left is adopted answers clean shut rooms =
-    keeps_room_or_more _ (image_at g.S.Start) left opened taken c.args.last users is adopted clean answers shut rooms
+returns-clause-shut g c opened taken users left is adopted answers clean may =
+    keeps_room_or_more _ (image_at g.S.Start) left opened taken c.args.last users is adopted clean answers may

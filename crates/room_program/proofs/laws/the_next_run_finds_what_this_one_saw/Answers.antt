@@ -22,5 +22,5 @@ returns-clause-closed g c over later closed is_open at is there =
     c.args.opened.now is there
 
 pub returns-clause-shut : goal.returns-clause-shut
-returns-clause-shut g c clean shut is there =
-    found_records _ _ c.args.was (image_at g.T.Start) c.args.opened.now clean shut is there
+returns-clause-shut g c clean laid may is there =
+    found_records _ _ c.args.was (image_at g.T.Start) c.args.opened.now clean laid may is there
