@@ -3,7 +3,8 @@
 _room_words() {
     case $1 in
     acl) echo set add drop flags give --json ;;
-    append | chown | mkdir | stat) echo --json ;;
+    append) echo --line --json ;;
+    chown | mkdir | stat) echo --json ;;
     cp | get) echo -r $([ "$1" = cp ] && echo --json) ;;
     ls) echo -l --json ;;
     mv) echo --json ;;

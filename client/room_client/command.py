@@ -177,7 +177,8 @@ def add_contents(commands) -> None:
                 ("--new", {"action": "store_true", "help": "one file: refused where something is there"}), BELOW,
                 usage="[-h] [--new] [-r] [--json] FILE.. PATH")
     add_command(commands, "append", documents.append, "adds bytes at the end of a document of at most 65,536",
-                ("file", {"metavar": "FILE", "help": "a file here, or - for standard input"}), PATH)
+                ("file", {"metavar": "FILE", "help": "a file here, or - for standard input"}), PATH,
+                ("--line", {"action": "store_true", "help": "as lines of their own, with line ends where they lack"}))
     add_command(commands, "mkdir", documents.mkdir, "makes a folder", PATH)
     add_command(commands, "stat", documents.stat, "kind, size, owner and group", PATH)
     add_command(commands, "find", documents.find, "what has such a name, in a folder and below it", PATH,

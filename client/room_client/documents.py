@@ -1,9 +1,10 @@
 """The commands on files and folders: each is given a room and its words, and shows what came of it."""
+import base64
 import os
 
 from . import files, local, trash, trees, words
 from . import manifest as form
-from .faults import BadWords, Fault, LocalFault, Refused
+from .faults import ACCESS, BadWords, Fault, LocalFault, Refused
 from .local import Progress, fits_here
 from .room import Room
 from .showing import Faults, show, write_bytes
@@ -201,10 +202,31 @@ def put_one(room: Room, asked, name: str, path: str) -> None:
     show(asked, {"code": 0, "size": len(asked.data)}, f"{shown(path)}: {len(asked.data)} bytes")
 
 
+def lined(room: Room, path: str, data: bytes) -> bytes:
+    """The bytes as lines of their own, behind a text that may not end its last one. Of what the caller may not read,
+    nobody can tell."""
+    try:
+        before = room.read(path)
+    except Refused as fault:
+        if fault.reply["code"] != ACCESS:
+            raise
+        before = b""
+    end = b"\r\n" if b"\r\n" in before else b"\n"
+    return end * (before[-1:] not in (b"", b"\n")) + data + end * (data[-1:] != b"\n")
+
+
+def append_lines(room: Room, path: str, data: bytes) -> dict:
+    """Where these very lines were pending, they are not behind themselves."""
+    def is_it(its: dict) -> bool:
+        is_there = its["cmd"] == "APPEND" and its["path"] == path
+        return is_there and base64.b64decode(its["data"]).strip(b"\r\n") == data.strip(b"\r\n")
+    return room.stat(path) if room.was_done(is_it) else room.append(path, lined(room, path, data))
+
+
 def append(room: Room, asked) -> None:
     path = there(room, asked.path)
     try:
-        reply = room.append(path, asked.data)
+        reply = (append_lines if asked.line else Room.append)(room, path, asked.data)
     except Refused as fault:
         if files.refused_as(fault, "ISDIR") and files.large_at(room, path):
             why = "it is a large file, and nothing is added at its end: get it, and put it anew"

@@ -30,6 +30,18 @@ class Commands(Desk):
         self.prints("rm", "/notes.txt", want="/notes.txt: removed\n")
         self.prints("ls", "/plans", want="")
 
+    def test_lines_of_their_own(self):
+        for before, after in (b"", b"x\n"), (b"a", b"a\nx\n"), (b"a\n", b"a\nx\n"), (b"a\r\nb", b"a\r\nb\r\nx\r\n"):
+            self.does("put", "-", "/a", stdin=before)
+            self.prints("append", "--line", "-", "/a", stdin=b"x", want=f"/a: {len(after)} bytes\n")
+            self.prints("get", "/a", want=after.decode())
+        with self.room() as room:
+            change = [{"flag": 0, "mask": 0x84, "type": 0, "who": "eng"}, ALL_CHANGE]
+            room.set_list("/", 0, [{"flag": 3, "mask": 0x1F07FF, "type": 0, "who": "OWNER@"}, ALL_CHANGE])
+            room.put("/b", b"b")
+            room.set_list("/b", 2, change[:1])
+        self.prints("append", "--line", "-", "/b", stdin=b"x", user="eng", want="/b: 3 bytes\n")
+
     def test_odd_names(self):
         with self.room() as room:
             for name in ODD:

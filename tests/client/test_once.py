@@ -71,6 +71,22 @@ class Lost(Desk):
         self.assertEqual(said, ["finished what was pending: APPEND /log: done",
                                 "that was this very request, done once: give it again to do it a second time"])
 
+    def test_so_are_lines(self):
+        """They are another request the second time, since the document ends its line by then."""
+        with self.behind() as room:
+            room.create("/log", b"begin")
+        words = ["append", "--line", "-", "/log"]
+        flags = ["--url", self.front_url, "--login", "ann", "--state", self.path("ann.json"), "--password-file",
+                 self.file("word", PASSWORDS["ann"].encode()), "--patience"]
+        os.chmod(self.path("word"), 0o600)
+        how = {"own_settings": False, "stdin": b"piece"}
+        self.front.faults[:] = ["pass", "lose"]  # (READ, APPEND)
+        self.assertEqual(self.does(*words, flags=[*flags, "0"], **how)[0], 3)
+        self.assertEqual(self.does(*words, flags=[*flags, "20"], **how)[:2], (0, "/log: 12 bytes\n"))
+        self.assertEqual(self.does(*words, flags=[*flags, "20"], **how)[:2], (0, "/log: 18 bytes\n"))
+        with self.behind() as room:
+            self.assertEqual(room.read("/log"), b"begin\npiece\npiece\n")
+
     def test_a_refused_one_given_again_is_asked_again(self):
         with self.behind() as room:
             room.mkdir("/d")
