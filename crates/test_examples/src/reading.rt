@@ -5,7 +5,7 @@ use crate::fault::Fault;
 use crate::headings::read_heading;
 use crate::requests::{Request, message_of, read_request, read_times};
 use crate::scenes::{Example, Kind, Scene, Step};
-use crate::ways::{WAYS, Way};
+use crate::ways::WAYS;
 use std::alloc::Global;
 
 /// A line that can't be read.
@@ -253,14 +253,11 @@ impl<'a> Reader<'a> {
         Ok(())
     }
 
-    /// Sets the next object number. The plain bodies have none, so the scene is left out there.
+    /// Sets the next object number.
     fn add_next(&mut self, number: &str) -> Result<(), Fault> {
         let Ok(number) = number.parse::<u32>() else {
             return Err(Fault::Because("'next' without a number"));
         };
-        if let Some(scene) = self.scenes.last_mut() {
-            scene.left_out.push(Way::Plain)?;
-        }
         add_step(&mut self.scenes, Step::Next(number))
     }
 

@@ -1,7 +1,6 @@
 //! Fresh rooms of owner `ann` and group `eng`, and the users.
 use crate::fault::Fault;
 use room_acl::Principal;
-use room_model::PlainRoom;
 use room_records::{MemShelf, Roster};
 use room_roster::read_roster;
 use room_sql::SqlShelf;
@@ -26,10 +25,6 @@ fn named(alloc: Global, name: &str) -> Result<Principal, Fault> {
 
 pub fn in_memory(alloc: Global) -> Result<MemShelf, Fault> {
     Ok(MemShelf::fresh(alloc, named(alloc, "ann")?, named(alloc, "eng")?)?)
-}
-
-pub fn plain_room(alloc: Global) -> Result<PlainRoom, Fault> {
-    Ok(PlainRoom::fresh(alloc, named(alloc, "ann")?, named(alloc, "eng")?)?)
 }
 
 pub fn in_tables(alloc: Global) -> Result<SqlShelf<MemStore>, Fault> {

@@ -4,7 +4,6 @@ mod events;
 mod files;
 mod losses;
 mod messages;
-mod plain;
 mod serving;
 mod trips;
 
@@ -26,8 +25,6 @@ pub enum Way {
     Stream,
     /// The same over tables, a byte a read but for the middle of long messages.
     Bytes,
-    /// By the plain bodies, which have no shelf.
-    Plain,
     /// Over files, which are closed and opened again behind each request.
     Reopened,
     /// With each call of the shelf failing in turn, over memory.
@@ -39,13 +36,12 @@ pub enum Way {
 }
 
 /// The ways with their words.
-pub const WAYS: [(&str, Way); 10] = [
+pub const WAYS: [(&str, Way); 9] = [
     ("memory", Way::Memory),
     ("tables", Way::Tables),
     ("run", Way::Run),
     ("stream", Way::Stream),
     ("bytes", Way::Bytes),
-    ("plain", Way::Plain),
     ("reopened", Way::Reopened),
     ("tripped", Way::Tripped),
     ("tripped_tables", Way::TrippedTables),
@@ -74,7 +70,6 @@ impl Way {
             Way::Run => batches::play(play, differences),
             Way::Stream => messages::play(play, in_memory(play.alloc)?, false, differences),
             Way::Bytes => messages::play(play, in_tables(play.alloc)?, true, differences),
-            Way::Plain => plain::play(play, differences),
             Way::Reopened => files::play(play, differences),
             Way::Tripped => trips::play(play, in_memory(play.alloc)?, differences),
             Way::TrippedTables => trips::play(play, in_tables(play.alloc)?, differences),

@@ -1,9 +1,6 @@
-//! Commands that are planned and committed over the shelf in memory: plans of RENAME, which lists a command puts, and
-//! worked examples of the plain bodies.
+//! Commands that are planned and committed over the shelf in memory: plans of RENAME, and which lists a command puts.
 #![tactic(auto)]
 
-#[cfg(test)]
-mod model;
 #[cfg(test)]
 mod plans;
 #[cfg(test)]

@@ -1,2 +1,0 @@
-mod SessionRows
-mod Counting

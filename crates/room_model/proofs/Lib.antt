@@ -1,4 +1,0 @@
-pub mod Places
-pub mod Lists
-pub mod Fronts
-pub mod Marks

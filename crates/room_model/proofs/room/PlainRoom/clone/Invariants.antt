@@ -1,5 +1,0 @@
-use Rattle.std.proofs.Common.{◌≡◌, take}
-use Rattle.room_model.proofs.room.PlainRoom.clone.Given as goal
-
-abbrev pub invariant-loop-entry : goal.invariant-loop-entry
-invariant-loop-entry l = (l.entry-items ≡ l.self.objects) × (l.objects.items ≡ take l.entry-index l.entry-items)

@@ -1,9 +1,0 @@
-use Rattle.std.proofs.Common.{◌≡◌, ◌++◌, drop}
-use Rattle.std.specs.List.{filter_map}
-use Rattle.room_commands.specs.SetList.{kept_entry}
-use Rattle.room_model.proofs.setlist.own_entries_of_setlist.Given as goal
-
--- what was kept so far, and what the rest leaves, is what the whole list leaves
-abbrev pub invariant-loop-entry : goal.invariant-loop-entry
-invariant-loop-entry l = l.own.items ++ filter_map (kept_entry l.follows) (drop l.entry-index l.sent)
-    ≡ filter_map (kept_entry l.follows) l.sent
