@@ -16,7 +16,7 @@ use Rattle.room_acl.specs.Access.{decision}
 use Rattle.room_acl.specs.Pending.{PendingModel, decision_with}
 use Rattle.room_tables.specs.Layout.{IsRoomDatabase}
 use Rattle.room_tables.specs.Rows.{entry_of, entry_rows}
-use Rattle.room_tables.specs.Texts.{read_entries_text}
+use Rattle.room_tables.proofs.Texts.{read_entries_text}
 use Rattle.room_tables.proofs.Queries.{left_open, left_now}
 use Rattle.room_tables.proofs.Reading.{read_begins, read_ends}
 use Rattle.room_sql.specs.Frames.{QueryFrame}

@@ -12,8 +12,8 @@ use Rattle.room_records.specs.declared.session.SessionRow.{SessionRow}
 use Rattle.room_records.specs.declared.session.SlotRow.{SlotRow}
 use Rattle.room_records.specs.declared.change.Change.TheVariants.{PutNode, PutEntries, PutDoc, PutSession, PutSlot}
 use Rattle.room_records.specs.declared.change.Change.TheVariants.{DropSlots}
-use Rattle.room_tables.specs.Texts.{change_node_text, add_node_text, change_doc_text, add_doc_text, put_session_text}
-use Rattle.room_tables.specs.Texts.{change_slot_text, add_slot_text, drop_slots_text, change_next_text, add_next_text}
+use Rattle.room_tables.proofs.Texts.{change_node_text, add_node_text, change_doc_text, add_doc_text, put_session_text}
+use Rattle.room_tables.proofs.Texts.{change_slot_text, add_slot_text, drop_slots_text, change_next_text, add_next_text}
 use Rattle.room_tables.specs.Rows.{has, name_of_text}
 use Rattle.room_tables.specs.Layout.{IsRoomDatabase}
 use Rattle.room_tables.specs.Steps.{Lists, flag_of}

@@ -10,10 +10,9 @@ use Rattle.sqlite_schema.specs.declared.schema.Index.{Index}
 use Rattle.sqlite.specs.State.{State, Shown}
 use Rattle.room_tables.specs.Tables.{Layout, Fresh, Upgraded, with_last, room_schema, first_schema, last_tables}
 use Rattle.room_tables.specs.Tables.{last_indexes, slot_table, slot_index, has_room, has_first_room}
-use Rattle.room_tables.specs.Texts.{find_version_text}
 use Rattle.room_tables.specs.Rows.{only, number_in, next_rows, IsVersion, records_of}
 use Rattle.room_tables.specs.Layout.{IsRoomOfVersion1}
-use Rattle.room_tables.specs.Versions.{TellsVersion, SaysVersion}
+use Rattle.room_tables.specs.Versions.{find_version_text, TellsVersion, SaysVersion}
 use Rattle.room_tables.specs.Upgrade.{IsUpgraded, MayBeUpgraded, MayBeMovedWith}
 use Rattle.room_tables.proofs.Selects.{find_version_selects}
 use Rattle.room_tables.proofs.Asks.{told_version, told_another}

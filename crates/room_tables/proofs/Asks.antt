@@ -9,16 +9,18 @@ use Rattle.sqlite_value.specs.declared.value.Value.TheVariants.{Null, Int, Text}
 use Rattle.sqlite_value.specs.Order.{Row, column}
 use Rattle.sqlite_trees.specs.Tree.{Trees, IsAscending}
 use Rattle.sqlite_sql.specs.Ops.{unary}
-use Rattle.sqlite_sql.specs.Term.{Term, Env, eval_all, holds}
+use Rattle.sqlite_sql.specs.Term.{Env, eval_all, holds}
 use Rattle.sqlite_sql.specs.Query.{IsAnswer, Output, output}
 use Rattle.sqlite_sql.specs.Group.{value_over, IsSummary}
 use Rattle.sqlite_sql.specs.Program.{overlay}
 use Rattle.sqlite_keyed.proofs.ListLemmas.{filter_same, ascending-map}
 use Rattle.sqlite.specs.State.{State, Shown}
+use Rattle.sqlite_tied.specs.Compute.{everything}
+use Rattle.sqlite.specs.Listing.{understood}
 use Rattle.sqlite.proofs.Callers.{reads_as, one_permutation}
 use Rattle.sqlite.specs.Table.{Table}
 use Rattle.sqlite_schema.specs.declared.schema.Index.{Index}
-use Rattle.room_tables.specs.Texts as T
+use Rattle.room_tables.proofs.Texts as T
 use Rattle.room_tables.specs.Tables.{room_schema, with_last, slots_tree}
 use Rattle.room_tables.specs.Layout.{IsRoomDatabase}
 use Rattle.room_tables.proofs.Each.{slots_seen}
@@ -26,10 +28,9 @@ use Rattle.room_tables.specs.Rows.{has, has_text, is_child_named, is_slot, shown
 use Rattle.room_tables.specs.Rows.{child_rows, shown_entry, entry_rows, IsEntryRow, HasEntryColumns, shown_doc}
 use Rattle.room_tables.specs.Rows.{doc_rows, shown_session, session_rows, shown_slot, slot_rows, shown_next, next_rows}
 use Rattle.room_tables.specs.Rows.{shown_version, version_rows, IsVersion, shown_seq, seq_rows, shown_size, size_rows}
-use Rattle.room_tables.specs.Versions.{TellsVersion}
-use Rattle.room_tables.proofs.Meaning.{find_node_means, find_child_means, list_children_means, count_children_means}
-use Rattle.room_tables.proofs.Meaning.{list_entries_means, find_doc_means, find_size_means, find_session_means}
-use Rattle.room_tables.proofs.Meaning.{find_slot_means, find_seq_means, find_next_means, find_version_means}
+use Rattle.room_tables.specs.Versions.{find_version_text, TellsVersion}
+use Rattle.room_tables.proofs.Meaning.{list_children_means, count_children_means, list_entries_means, find_size_means}
+use Rattle.room_tables.proofs.Meaning.{find_slot_means, find_seq_means}
 use Rattle.room_tables.specs.Names.{ByName, counted_row}
 use Rattle.room_tables.proofs.Queries.{passing, and_true, picked, found, asked, arranged, listed, envs_are}
 use Rattle.room_tables.proofs.Queries.{only_permuted}
@@ -40,16 +41,18 @@ use Rattle.room_tables.proofs.Placed.{exact_entries}
 
 pub asks_node : (old new : State) (id : ℕ) (rows : List Row) → IsRoomDatabase old.now
     → Shown T.find_node_text (Int (pos id) ∷ []) old new rows → IsPermutation (node_rows old.now.trees id) rows
+unfolding understood everything
 asks_node old new id rows room h =
     asked (room_schema room.layout) old new T.find_node_text (Int (pos id) ∷ []) 1 _ _ _ rows (has 0 id) shown_node
-    room.schema (find_node_means room.layout) refl (λ r. and_true (has 0 id r)) (λ r. refl) h
+    room.schema ((refl, (refl, refl)), refl) refl (λ r. and_true (has 0 id r)) (λ r. refl) h
 
 pub asks_child : (old new : State) (parent : ℕ) (name : List ℕ) (rows : List Row)
     → IsRoomDatabase old.now → Shown T.find_child_text (Int (pos parent) ∷ Text name ∷ []) old new rows
     → IsPermutation (named_rows old.now.trees parent name) rows
+unfolding understood everything
 asks_child old new parent name rows room h =
     asked (room_schema room.layout) old new T.find_child_text (Int (pos parent) ∷ Text name ∷ []) 1 _ _ _ rows
-    (is_child_named parent name) shown_node room.schema (find_child_means room.layout) refl
+    (is_child_named parent name) shown_node room.schema ((refl, (refl, refl)), refl) refl
     (λ r. ap (λ b. has 2 parent r && b) (and_true (has_text 3 name r))) (λ r. refl) h
 
 pub asks_children : (old new : State) (parent : ℕ) (rows : List Row)
@@ -96,9 +99,10 @@ asks_entries old new id rows room typed h =
 
 pub asks_doc : (old new : State) (id : ℕ) (rows : List Row) → IsRoomDatabase old.now
     → Shown T.find_doc_text (Int (pos id) ∷ []) old new rows → IsPermutation (doc_rows old.now.trees id) rows
+unfolding understood everything
 asks_doc old new id rows room h =
     asked (room_schema room.layout) old new T.find_doc_text (Int (pos id) ∷ []) 5 _ _ _ rows (has 0 id) shown_doc
-    room.schema (find_doc_means room.layout) refl (λ r. and_true (has 0 id r)) (λ r. refl) h
+    room.schema ((refl, (refl, refl)), refl) refl (λ r. and_true (has 0 id r)) (λ r. refl) h
 
 size_is : (id : ℕ) (r : Row) → eval_all T.find_size_query.project ((Int (pos id) ∷ []) ∷ r ∷ []) ≡ shown_size r
 unfolding unary
@@ -112,10 +116,11 @@ asks_size old new id rows room h =
 
 pub asks_session : (old new : State) (sid : List ℕ) (rows : List Row) → IsRoomDatabase old.now
     → Shown T.find_session_text (Text sid ∷ []) old new rows → IsPermutation (session_rows old.now.trees sid) rows
+unfolding understood everything
 asks_session old new sid rows room h =
     asked (room_schema room.layout) old new T.find_session_text (Text sid ∷ []) 6 _ _ _ rows
     (has_text 1 sid) shown_session
-    room.schema (find_session_means room.layout) refl (λ r. and_true (has_text 1 sid r)) (λ r. refl) h
+    room.schema ((refl, (refl, refl)), refl) refl (λ r. and_true (has_text 1 sid r)) (λ r. refl) h
 
 pub asks_slot : (old new : State) (sid : List ℕ) (slot : ℕ) (rows : List Row)
     → IsRoomDatabase old.now → Shown T.find_slot_text (Text sid ∷ Int (pos slot) ∷ []) old new rows
@@ -140,16 +145,18 @@ asks_seq old new sid slot rows room h =
 pub asks_next : (more : List Table) (others : List Index) (old new : State) (rows : List Row)
     → old.now.schema ≡ with_last more others
     → Shown T.find_next_text [] old new rows → IsPermutation (next_rows old.now.trees) rows
+unfolding understood everything
 asks_next more others old new rows schema h =
     asked (with_last more others) old new T.find_next_text [] 0 _ _ _ rows (has 0 1) shown_next schema
-    (find_next_means more others) refl (λ r. and_true (has 0 1 r)) (λ r. refl) h
+    ((refl, (refl, refl)), refl) refl (λ r. and_true (has 0 1 r)) (λ r. refl) h
 
 pub asks_version : (more : List Table) (others : List Index) (old new : State) (rows : List Row)
     → old.now.schema ≡ with_last more others
-    → Shown T.find_version_text [] old new rows → IsPermutation (version_rows old.now.trees) rows
+    → Shown find_version_text [] old new rows → IsPermutation (version_rows old.now.trees) rows
+unfolding understood everything
 asks_version more others old new rows schema h =
-    asked (with_last more others) old new T.find_version_text [] 0 _ _ _ rows (has 0 1) shown_version schema
-    (find_version_means more others) refl (λ r. and_true (has 0 1 r)) (λ r. refl) h
+    asked (with_last more others) old new find_version_text [] 0 _ _ _ rows (has 0 1) shown_version schema
+    ((refl, (refl, refl)), refl) refl (λ r. and_true (has 0 1 r)) (λ r. refl) h
 
 -- a version that was told is that of the rows
 pub told_version : (more : List Table) (others : List Index) (old new : State) (n : ℕ)

@@ -36,7 +36,7 @@ use Rattle.sqlite.proofs.InsideLemmas.{inside_keeps}
 use Rattle.std.specs.List.{AllByRecursion, list_all}
 use Rattle.sqlite_sql.specs.Term.{Term, col, holds}
 use Rattle.room_tables.specs.Tables.{Layout, room_schema}
-use Rattle.room_tables.specs.Texts.{over_table}
+use Rattle.room_tables.proofs.Texts.{over_table}
 use Rattle.room_tables.proofs.Queries.{Picks, passing, answer_is, found}
 use Rattle.room_tables.specs.Layout.{IsKeyed, OfEachTable}
 use Rattle.room_tables.proofs.Each.{by_name}

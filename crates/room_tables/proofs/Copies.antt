@@ -16,6 +16,7 @@ use Rattle.sqlite_trees.specs.Tree.{rowid, put_row}
 use Rattle.sqlite_sql.specs.Program.{overlay}
 use Rattle.sqlite_sql.specs.Query.{Output}
 use Rattle.sqlite_tied.specs.Compute.{everything}
+use Rattle.sqlite.specs.Listing.{understood}
 use Rattle.sqlite_keyed.proofs.ListLemmas.{filter_all, IsPermutation-filter}
 use Rattle.sqlite_keyed.proofs.RuleLemmas.{first_of_both, second_of_both, each_true}
 use Rattle.sqlite_rules.specs.Action.{works}
@@ -36,12 +37,12 @@ use Rattle.sqlite.specs.State.{State, Executes}
 use Rattle.sqlite.specs.Table.{Table}
 use Rattle.sqlite.specs.Effect.{Database, IsDatabase}
 use Rattle.room_tables.specs.Tables.{Upgraded, room_schema, slot_table, kept_table}
-use Rattle.room_tables.specs.Texts.{copy_row_text, copy_row_query, take_row_text}
+use Rattle.room_tables.proofs.Texts.{copy_row_text, copy_row_query, take_row_text}
 use Rattle.room_tables.specs.Rows.{is_slot, shown_slot}
 use Rattle.room_tables.specs.Layout.{IsKeyed}
 use Rattle.room_tables.specs.Upgrade.{shows, has_id, others_than, IsShared, IsMoving, CopiesRow}
 use Rattle.room_tables.proofs.Each.{by_name, from_both}
-use Rattle.room_tables.proofs.Meaning.{copy_row_means, take_row_means}
+use Rattle.room_tables.proofs.Meaning.{copy_row_means}
 use Rattle.room_tables.proofs.Queries.{answer_of, found, and_true}
 use Rattle.room_tables.proofs.Removed.{one_row, has_permuted}
 use Rattle.room_tables.proofs.Values.{equal_is, equal_tied}
@@ -185,9 +186,10 @@ copies old new count has sound keyed h =
 pub takes : (id : ℤ) (old new : State) (count : ℕ) → old.now.schema ≡ room_schema Upgraded → IsKeyed (old.now.trees 8)
     → Executes take_row_text (Int id ∷ []) old new (Ok count)
     → Leaves Upgraded old.now new.now 8 (others_than id (old.now.trees 8))
+unfolding understood everything
 takes id old new count has keyed h =
     cleared Upgraded old new 5 slot_table take_row_text (Int id ∷ []) _ count (has_id id) refl has keyed
-    take_row_means refl slot_quiet (λ r. and_true (has_id id r)) h
+    (refl, (refl, refl)) refl slot_quiet (λ r. and_true (has_id id r)) h
 
 -- ---- the rows of both tables
 

@@ -39,7 +39,7 @@ use Rattle.room_records.specs.declared.change.Change.TheVariants.{DropNode}
 use Rattle.room_records.specs.Changes.{apply_change}
 use Rattle.room_tables.specs.Tables.{Layout, Fresh, Upgraded, room_schema, slots_tree, node_table, entry_table}
 use Rattle.room_tables.specs.Tables.{doc_table, refers}
-use Rattle.room_tables.specs.Texts.{drop_node_text, drop_node_query}
+use Rattle.room_tables.proofs.Texts.{drop_node_text, drop_node_query}
 use Rattle.room_tables.specs.Rows.{has, only, shown_node, node_of, entry_of, in_order, shown_doc, doc_of}
 use Rattle.room_tables.specs.Rows.{next_in, sessions_in, slots_in}
 use Rattle.room_tables.specs.Layout.{IsKeyed, HasNumbers, IsRoomDatabase}

@@ -22,7 +22,7 @@ use Rattle.room_records.proofs.Changes.{changes_then}
 use Rattle.sqlite.specs.Effect.{Database, IsDatabase}
 use Rattle.sqlite.specs.Table.{Table}
 use Rattle.room_tables.specs.Tables.{Layout, Upgraded, room_schema, node_table, doc_table}
-use Rattle.room_tables.specs.Texts as T
+use Rattle.room_tables.proofs.Texts as T
 use Rattle.room_tables.specs.Rows.{only, parent_in, name_of_text, kind_of, shown_node, node_of, nodes_in}
 use Rattle.room_tables.specs.Rows.{entries_in, shown_doc, doc_of, documents_in, number_in, shown_next, next_in}
 use Rattle.room_tables.specs.Rows.{shown_version, version_rows, versions_in, IsVersion, sessions_in, slots_in}

@@ -13,7 +13,7 @@ use Rattle.room_acl.specs.Entries.{EntryModel}
 use Rattle.room_records.specs.declared.node.Node.{Node}
 use Rattle.room_records.specs.declared.change.Change.TheVariants.{PutEntries}
 use Rattle.room_records.specs.Changes.{apply_change}
-use Rattle.room_tables.specs.Texts.{add_node_text}
+use Rattle.room_tables.proofs.Texts.{add_node_text}
 use Rattle.room_tables.specs.Rows.{has, entry_of, in_order, entries_in, records_of, IsVersion}
 use Rattle.room_tables.specs.Layout.{IsRoomDatabase}
 use Rattle.room_tables.specs.Steps.{Steps, SeesSound, Lists}

@@ -24,7 +24,7 @@ use Rattle.sqlite.specs.State.{State, Executes}
 use Rattle.room_records.specs.declared.session.SlotRow.{SlotRow}
 use Rattle.room_tables.specs.Tables.{Layout, Fresh, Upgraded, room_schema, slots_table, slots_tree, slots_place}
 use Rattle.room_tables.specs.Tables.{slots_index}
-use Rattle.room_tables.specs.Texts.{change_slot_text, change_slot_query, add_slot_text, add_slot_terms}
+use Rattle.room_tables.proofs.Texts.{change_slot_text, change_slot_query, add_slot_text, add_slot_terms}
 use Rattle.room_tables.specs.Rows.{has, has_text, is_slot}
 use Rattle.room_tables.specs.Layout.{IsKeyed, reply_value}
 use Rattle.room_tables.proofs.Each.{rows_pass, once_by, slots_placed, slots_seen}

@@ -1,3 +1,4 @@
+pub mod Texts
 pub mod Making
 pub mod Meaning
 pub mod Sorted

@@ -1,5 +1,6 @@
--- What the statements mean under the schema of a room, by running the resolver on their texts. What is said of
--- the first five tables needs no layout, but for the upsert, which counts the tables.
+-- What statements mean under the schema of a room, by running the resolver on their texts: those whose command a
+-- proof names, or that goes by the layout. Of the others `refl` finds it where they are used. What is said of the first
+-- five tables needs no layout, but for the upsert, which counts the tables.
 use Rattle.std.proofs.Common.{◌≡◌, List, ℕ, [], ◌∷◌, true, false, codes, refl}
 use Rattle.sqlite_tied.specs.Compute.{everything}
 use Rattle.sqlite_sql.specs.Query.{Query}
@@ -10,12 +11,10 @@ use Rattle.sqlite_schema.specs.declared.command.Conflict.TheVariants.{Abort}
 use Rattle.sqlite.specs.Listing.{understood, reads_listing}
 use Rattle.sqlite.proofs.Callers.{IsPlain, command_of}
 use Rattle.sqlite.specs.Schema.{Schema}
-use Rattle.sqlite.specs.Table.{Table}
-use Rattle.sqlite_schema.specs.declared.schema.Index.{Index}
 use Rattle.sqlite_schema.specs.Names.{same_name}
-use Rattle.room_tables.specs.Tables.{Layout, Fresh, Upgraded, room_schema, first_schema, with_last, slots_tree}
+use Rattle.room_tables.specs.Tables.{Layout, Fresh, Upgraded, room_schema, first_schema, slots_tree}
 use Rattle.room_tables.specs.Tables.{slots_place, has_room, has_first_room}
-use Rattle.room_tables.specs.Texts as T
+use Rattle.room_tables.proofs.Texts as T
 
 -- under the schema the text is this command, and nothing else
 abbrev pub Means : Schema → List ℕ → Command → Type 0
@@ -32,24 +31,6 @@ node_columns = codes "id" ∷ codes "parent" ∷ codes "name" ∷ codes "kind" �
 
 abbrev entry_columns : List (List ℕ)
 entry_columns = codes "place" ∷ codes "type" ∷ codes "flag" ∷ codes "mask" ∷ codes "who" ∷ []
-
-pub find_next_means : (more : List Table) (others : List Index)
-    → IsQuery (with_last more others) T.find_next_text T.find_next_query (codes "next" ∷ [])
-unfolding understood everything
-find_next_means more others = ((refl, (refl, refl)), refl)
-
-pub find_version_means : (more : List Table) (others : List Index)
-    → IsQuery (with_last more others) T.find_version_text T.find_version_query (codes "version" ∷ [])
-unfolding understood everything
-find_version_means more others = ((refl, (refl, refl)), refl)
-
-pub find_node_means : (l : Layout) → IsQuery (room_schema l) T.find_node_text T.find_node_query node_columns
-unfolding understood everything
-find_node_means l = ((refl, (refl, refl)), refl)
-
-pub find_child_means : (l : Layout) → IsQuery (room_schema l) T.find_child_text T.find_child_query node_columns
-unfolding understood everything
-find_child_means l = ((refl, (refl, refl)), refl)
 
 pub list_children_means : (l : Layout) → IsQuery (room_schema l) T.list_children_text T.list_children_query node_columns
 unfolding understood everything
@@ -68,20 +49,10 @@ pub read_entries_means : (l : Layout) → IsQuery (room_schema l) T.read_entries
 unfolding understood everything
 read_entries_means l = ((refl, (refl, refl)), refl)
 
-pub find_doc_means : (l : Layout) → IsQuery (room_schema l) T.find_doc_text T.find_doc_query (codes "bytes" ∷ [])
-unfolding understood everything
-find_doc_means l = ((refl, (refl, refl)), refl)
-
 pub find_size_means : (l : Layout)
     → IsQuery (room_schema l) T.find_size_text T.find_size_query (codes "length(bytes)" ∷ [])
 unfolding understood everything
 find_size_means l = ((refl, (refl, refl)), refl)
-
-pub find_session_means : (l : Layout)
-    → IsQuery (room_schema l) T.find_session_text T.find_session_query
-    (codes "owner" ∷ codes "slots" ∷ codes "open" ∷ [])
-unfolding understood everything
-find_session_means l = ((refl, (refl, refl)), refl)
 
 pub find_slot_means : (l : Layout)
     → IsQuery (room_schema l) T.find_slot_text (T.find_slot_query (slots_tree l))
@@ -101,11 +72,6 @@ pub drop_node_means : (l : Layout)
 unfolding understood everything
 drop_node_means l = (refl, (refl, refl))
 
-pub drop_entries_means : (l : Layout)
-    → Means (room_schema l) T.drop_entries_text (Delete 2 (record { lets = []; body = T.drop_entries_query }))
-unfolding understood everything
-drop_entries_means l = (refl, (refl, refl))
-
 pub drop_slots_means : (l : Layout)
     → Means (room_schema l) T.drop_slots_text (Delete (slots_place l) (record {
       lets = [];
@@ -116,48 +82,20 @@ unfolding understood everything
 drop_slots_means Fresh = (refl, (refl, refl))
 drop_slots_means Upgraded = (refl, (refl, refl))
 
-pub add_entry_means : (l : Layout) → Means (room_schema l) T.add_entry_text (Insert 2 (Values T.add_entry_terms 7))
-unfolding understood everything
-add_entry_means l = (refl, (refl, refl))
-
-pub add_two_means : (l : Layout) → Means (room_schema l) T.add_two_text (Insert 2 (Values T.add_two_terms 7))
-unfolding understood everything
-add_two_means l = (refl, (refl, refl))
-
-pub add_three_means : (l : Layout) → Means (room_schema l) T.add_three_text (Insert 2 (Values T.add_three_terms 7))
-unfolding understood everything
-add_three_means l = (refl, (refl, refl))
-
-pub add_four_means : (l : Layout) → Means (room_schema l) T.add_four_text (Insert 2 (Values T.add_four_terms 7))
-unfolding understood everything
-add_four_means l = (refl, (refl, refl))
-
 pub change_next_means : (l : Layout)
     → Means (room_schema l) T.change_next_text (Update 0 (record { lets = []; body = T.change_next_query }))
 unfolding understood everything
 change_next_means l = (refl, (refl, refl))
-
-pub add_next_means : (l : Layout) → Means (room_schema l) T.add_next_text (Insert 0 (Values T.add_next_terms 4))
-unfolding understood everything
-add_next_means l = (refl, (refl, refl))
 
 pub change_node_means : (l : Layout)
     → Means (room_schema l) T.change_node_text (Update 1 (record { lets = []; body = T.change_node_query }))
 unfolding understood everything
 change_node_means l = (refl, (refl, refl))
 
-pub add_node_means : (l : Layout) → Means (room_schema l) T.add_node_text (Insert 1 (Values T.add_node_terms 8))
-unfolding understood everything
-add_node_means l = (refl, (refl, refl))
-
 pub change_doc_means : (l : Layout)
     → Means (room_schema l) T.change_doc_text (Update 3 (record { lets = []; body = T.change_doc_query }))
 unfolding understood everything
 change_doc_means l = (refl, (refl, refl))
-
-pub add_doc_means : (l : Layout) → Means (room_schema l) T.add_doc_text (Insert 3 (Values T.add_doc_terms 3))
-unfolding understood everything
-add_doc_means l = (refl, (refl, refl))
 
 pub put_session_means : (l : Layout)
     → Means (room_schema l) T.put_session_text (InsertOr 4 Abort (Values T.put_session_terms 5)
@@ -188,11 +126,6 @@ pub copy_row_means : Means (room_schema Upgraded) T.copy_row_text (Insert 6 (Fro
     (record { lets = []; body = T.copy_row_query })))
 unfolding understood everything
 copy_row_means = (refl, (refl, refl))
-
-pub take_row_means : Means (room_schema Upgraded) T.take_row_text (Delete 5
-    (record { lets = []; body = T.take_row_query }))
-unfolding understood everything
-take_row_means = (refl, (refl, refl))
 
 pub room_has_room : (l : Layout) → has_room (room_schema l) ≡ true
 unfolding everything same_name

@@ -15,7 +15,7 @@ use Rattle.room_records.specs.declared.change.Change.TheVariants.{PutNext}
 use Rattle.room_records.specs.Changes.{apply_change}
 use Rattle.room_records.specs.Records.{Records}
 use Rattle.room_tables.specs.Tables.{Upgraded, room_schema, first_schema, kept_table, kept_text}
-use Rattle.room_tables.specs.Texts.{copy_row_text, take_row_text}
+use Rattle.room_tables.proofs.Texts.{copy_row_text, take_row_text}
 use Rattle.room_tables.specs.Rows.{only, kept_of, records_of, version_rows, IsVersion}
 use Rattle.room_tables.specs.Layout.{IsKeyed, HasNumbers, IsRoomOfVersion1, IsRoomOfVersion2}
 use Rattle.room_tables.specs.Steps.{Steps}

@@ -12,7 +12,7 @@ use Rattle.room_records.specs.Rules.{NodeRules}
 use Rattle.room_records.specs.Shelf.{AreNames, listed}
 use Rattle.room_tables.specs.Tables.{room_schema}
 use Rattle.room_tables.specs.Layout.{IsRoomDatabase}
-use Rattle.room_tables.specs.Texts.{list_names_text, list_names_query}
+use Rattle.room_tables.proofs.Texts.{list_names_text, list_names_query}
 use Rattle.room_tables.specs.Rows.{has, shown_node, name_and_kind, listed_of, node_of, records_of, only, seq_of}
 use Rattle.room_tables.specs.Rows.{kept_of, shown_seq, shown_slot}
 use Rattle.room_tables.specs.Names.{ByName, AreNameRows}

@@ -24,7 +24,7 @@ use Rattle.sqlite.specs.Effect.{Database}
 use Rattle.sqlite.specs.State.{State, ExecutesInside}
 use Rattle.room_acl.specs.Entries.{EntryModel, who_text}
 use Rattle.room_tables.specs.Tables.{Layout}
-use Rattle.room_tables.specs.Texts.{drop_entries_text}
+use Rattle.room_tables.proofs.Texts.{drop_entries_text}
 use Rattle.room_tables.specs.Rows.{has, shown_entry, entry_of, entry_keys, in_order, nodes_in, documents_in, next_in}
 use Rattle.room_tables.specs.Rows.{sessions_in, slots_in, records_of, versions_in, IsEntryRow}
 use Rattle.room_tables.specs.Layout.{IsKeyed, IsRoomDatabase}

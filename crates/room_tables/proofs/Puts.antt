@@ -10,6 +10,7 @@ use Rattle.std.specs.List.{list_all}
 use Rattle.sqlite_sql.specs.Term.{Term, eval_all, holds}
 use Rattle.sqlite_sql.specs.Program.{overlay}
 use Rattle.sqlite_tied.specs.Compute.{everything}
+use Rattle.sqlite.specs.Listing.{understood}
 use Rattle.sqlite.specs.Table.{Table}
 use Rattle.sqlite_rules.specs.Action.{works, pairs}
 use Rattle.sqlite_rules.specs.Edit.{next_rowid, numbered}
@@ -21,13 +22,12 @@ use Rattle.sqlite_schema.specs.declared.schema.Keys.TheVariants.{Enforced}
 use Rattle.sqlite.specs.Kind.TheVariants.{Integer}
 use Rattle.sqlite.specs.Effect.{Database}
 use Rattle.sqlite.specs.State.{State, Executes}
-use Rattle.room_tables.specs.Texts as T
+use Rattle.room_tables.proofs.Texts as T
 use Rattle.room_tables.specs.Tables.{Layout, Fresh, Upgraded, room_schema, room_table, node_table, doc_table}
 use Rattle.room_tables.specs.Tables.{session_table}
 use Rattle.room_tables.specs.Rows.{has, has_text}
 use Rattle.room_tables.specs.Layout.{IsKeyed, parent_value}
-use Rattle.room_tables.proofs.Meaning.{add_node_means, add_doc_means}
-use Rattle.room_tables.proofs.Meaning.{change_next_means, add_next_means, put_session_means}
+use Rattle.room_tables.proofs.Meaning.{change_next_means, put_session_means}
 use Rattle.room_tables.proofs.Queries.{and_true, tidy}
 use Rattle.room_tables.proofs.Takes.{set_off, quiet}
 use Rattle.room_tables.proofs.Writes.{IsUpdate, Changes, changes_row, adds_row}
@@ -117,9 +117,10 @@ module _ (l : Layout) (id : ℕ) (parent : Option ℕ) (name : List ℕ) (kind :
   pub adds_node : (old new : State) (count : ℕ) (Met : Row → Type 0) → old.now.schema ≡ room_schema l
       → Executes T.add_node_text (node_params id parent name kind owner group aclflag) old new (Ok count)
       → PutInto l old.now new.now 1 (λ r. r ≡ stored_node id parent name kind owner group aclflag) Met
+  unfolding understood everything
   adds_node old new count Met schema h =
-      adds_row l old new 1 node_table T.add_node_terms 8 count T.add_node_text params stored stored (pos id) _ Met refl
-      schema refl (add_node_means l) (nodes_quiet l) refl
+      adds_row l old new 1 node_table _ 8 count T.add_node_text params stored stored (pos id) _ Met refl
+      schema refl (refl, (refl, refl)) (nodes_quiet l) refl
       (ap (λ r. numbered Chosen (old.now.trees 1) (r ∷ [])) (cast_node (pos id)))
       refl refl h
 
@@ -152,9 +153,10 @@ ChangesDoc l id bytes = Changes l doc_table (has 0 id) T.change_doc_query.filter
 
 pub adds_doc : (l : Layout) (old new : State) (id : ℕ) (bytes : List ℕ) (count : ℕ) → old.now.schema ≡ room_schema l
     → Executes T.add_doc_text (doc_params id bytes) old new (Ok count) → PutsDoc l id bytes old.now new.now
+unfolding understood everything
 adds_doc l old new id bytes count schema h =
-    adds_row l old new 3 doc_table T.add_doc_terms 3 count T.add_doc_text (doc_params id bytes)
-    (stored_doc id bytes) (stored_doc id bytes) (pos id) _ _ refl schema refl (add_doc_means l)
+    adds_row l old new 3 doc_table _ 3 count T.add_doc_text (doc_params id bytes)
+    (stored_doc id bytes) (stored_doc id bytes) (pos id) _ _ refl schema refl (refl, (refl, refl))
     (λ news. (quiet l 0 [] news).doc) refl (ap (λ r. numbered Chosen (old.now.trees 5) (r ∷ [])) (cast_doc bytes
     (pos id))) refl refl h
 
@@ -193,9 +195,10 @@ changes_next l old new n count schema keyed h =
 
 pub adds_next : (l : Layout) (old new : State) (n count : ℕ) → old.now.schema ≡ room_schema l
     → Executes T.add_next_text (Int (pos n) ∷ []) old new (Ok count) → PutsNext l n old.now new.now
+unfolding understood everything
 adds_next l old new n count schema h =
-    adds_row l old new 0 room_table T.add_next_terms 4 count T.add_next_text (Int (pos n) ∷ [])
-    (stored_next n) (stored_next n) (pos 1) _ _ refl schema refl (add_next_means l)
+    adds_row l old new 0 room_table _ 4 count T.add_next_text (Int (pos n) ∷ [])
+    (stored_next n) (stored_next n) (pos 1) _ _ refl schema refl (refl, (refl, refl))
     (λ news. (quiet l 0 [] news).room) refl (ap (λ r. numbered Chosen (old.now.trees 0) (r ∷ [])) (cast_next n
     (pos 1))) refl refl h
 

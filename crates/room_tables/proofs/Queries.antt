@@ -43,7 +43,7 @@ use Rattle.sqlite_ast.specs.declared.Statement.{Statement}
 use Rattle.sqlite_ast.specs.declared.Statement.TheVariants as written
 use Rattle.sqlite.specs.Listing as listing
 use Rattle.sqlite_schema.specs.declared.schema.Schema.{Schema}
-use Rattle.room_tables.specs.Texts.{over_table}
+use Rattle.room_tables.proofs.Texts.{over_table}
 use Rattle.room_tables.specs.Rows.{only}
 use Rattle.room_tables.proofs.Meaning.{IsQuery}
 use Rattle.room_tables.proofs.Sorted.{AtMost, ascending_from_sorted, sorted_answer}

@@ -32,7 +32,7 @@ use Rattle.sqlite.proofs.Callers.{reads_as, begins_as}
 use Rattle.room_tables.specs.Tables.{Layout, room_schema, entry_table, entry_index}
 use Rattle.room_tables.specs.Rows.{has, shown_entry, entry_keys, entry_rows}
 use Rattle.room_tables.specs.Layout.{IsKeyed, IsRoomDatabase}
-use Rattle.room_tables.specs.Texts.{read_entries_text, read_entries_query}
+use Rattle.room_tables.proofs.Texts.{read_entries_text, read_entries_query}
 use Rattle.room_tables.proofs.Meaning.{read_entries_means}
 use Rattle.room_tables.proofs.Queries.{and_true, answer_is, arranged, first_tie}
 use Rattle.room_tables.proofs.Each.{rows_pass, once_by}

@@ -2,7 +2,8 @@
 use Rattle.std.proofs.Common.{◌≡◌, true, refl}
 use Rattle.sqlite_tied.specs.Compute.{everything}
 use Rattle.sqlite_resolve.specs.Compile.{first}
-use Rattle.room_tables.specs.Texts as T
+use Rattle.room_tables.specs.Versions.{find_version_text}
+use Rattle.room_tables.proofs.Texts as T
 use Rattle.room_tables.proofs.Queries.{is_query_text}
 
 pub find_node_selects : is_query_text (first T.find_node_text) ≡ true
@@ -57,6 +58,6 @@ pub find_next_selects : is_query_text (first T.find_next_text) ≡ true
 unfolding everything
 find_next_selects = refl
 
-pub find_version_selects : is_query_text (first T.find_version_text) ≡ true
+pub find_version_selects : is_query_text (first find_version_text) ≡ true
 unfolding everything
 find_version_selects = refl

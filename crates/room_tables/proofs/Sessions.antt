@@ -17,7 +17,7 @@ use Rattle.room_records.specs.declared.session.SessionRow.{SessionRow}
 use Rattle.room_records.specs.declared.change.Change.TheVariants.{PutSession}
 use Rattle.room_records.specs.Changes.{apply_change}
 use Rattle.room_tables.specs.Tables.{Layout, room_schema, session_table, session_index}
-use Rattle.room_tables.specs.Texts.{put_session_text}
+use Rattle.room_tables.proofs.Texts.{put_session_text}
 use Rattle.room_tables.specs.Rows.{has_text, only, shown_session, session_of, sessions_in}
 use Rattle.room_tables.specs.Layout.{IsKeyed, IsRoomDatabase}
 use Rattle.room_tables.specs.Steps.{Steps, flag_of}

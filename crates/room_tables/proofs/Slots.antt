@@ -17,7 +17,7 @@ use Rattle.room_records.specs.declared.change.Change.TheVariants.{PutSlot, DropS
 use Rattle.room_records.specs.Changes.{apply_change}
 use Rattle.room_records.specs.Records.{Records}
 use Rattle.room_tables.specs.Tables.{Layout, room_schema, slots_tree}
-use Rattle.room_tables.specs.Texts.{drop_slots_text, change_slot_text, add_slot_text}
+use Rattle.room_tables.proofs.Texts.{drop_slots_text, change_slot_text, add_slot_text}
 use Rattle.room_tables.specs.Rows.{has_text, is_slot, only, shown_slot, kept_of, slots_in, nodes_in, entries_in}
 use Rattle.room_tables.specs.Rows.{documents_in, next_in, sessions_in, slots_of, reply_in, records_of}
 use Rattle.room_tables.specs.Layout.{IsKeyed, HasNumbers, IsRoomDatabase, reply_value}

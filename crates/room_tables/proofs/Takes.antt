@@ -10,6 +10,7 @@ use Rattle.sqlite_schema.specs.Rules.{parent_key}
 use Rattle.sqlite_rules.specs.Cast.{cast_row}
 use Rattle.sqlite_schema.specs.declared.schema.Keys.TheVariants.{Enforced}
 use Rattle.sqlite_sql.specs.Term.{Term}
+use Rattle.sqlite.specs.Listing.{understood}
 use Rattle.sqlite.specs.Command.TheVariants.{Insert}
 use Rattle.sqlite.specs.Source.TheVariants.{Values}
 use Rattle.sqlite.specs.Rows.{stamped}
@@ -18,13 +19,12 @@ use Rattle.sqlite.specs.State.{State, Executes}
 use Rattle.room_tables.specs.Tables.{Layout, Fresh, Upgraded, room_schema, entry_table, slots_table, slots_tree}
 use Rattle.room_tables.specs.Tables.{slots_place}
 use Rattle.room_tables.proofs.Each.{slots_placed, slots_seen}
-use Rattle.room_tables.specs.Texts as T
+use Rattle.room_tables.proofs.Texts as T
 use Rattle.room_tables.specs.Rows.{has, has_text}
 use Rattle.room_acl.specs.Entries.{EntryModel}
 use Rattle.room_tables.specs.Steps.{type_of, shown_as}
 use Rattle.room_tables.specs.Layout.{IsKeyed}
-use Rattle.room_tables.proofs.Meaning.{Means, drop_entries_means, drop_slots_means, add_entry_means, add_two_means}
-use Rattle.room_tables.proofs.Meaning.{add_three_means, add_four_means}
+use Rattle.room_tables.proofs.Meaning.{Means, drop_slots_means}
 use Rattle.room_tables.proofs.Queries.{and_true}
 use Rattle.room_tables.proofs.Changes.{Added, Leaves, without, cleared, unnumbered, inserted_all, cast_null, cast_int}
 
@@ -55,9 +55,10 @@ quiet l depth olds news = none_set_off l depth (pairs olds news) (length news ==
 pub drops_entries : (l : Layout) (old new : State) (id count : ℕ) → old.now.schema ≡ room_schema l
     → IsKeyed (old.now.trees 3) → Executes T.drop_entries_text (Int (pos id) ∷ []) old new (Ok count)
     → Leaves l old.now new.now 3 (without (has 1 id) (old.now.trees 3))
+unfolding understood everything
 drops_entries l old new id count schema keyed h =
-    cleared l old new 2 entry_table T.drop_entries_text (Int (pos id) ∷ []) T.drop_entries_query.filter count (has 1 id)
-    refl schema keyed (drop_entries_means l) refl (λ olds. (quiet l 0 olds []).entry) (λ r. and_true (has 1 id r)) h
+    cleared l old new 2 entry_table T.drop_entries_text (Int (pos id) ∷ []) _ count (has 1 id)
+    refl schema keyed (refl, (refl, refl)) refl (λ olds. (quiet l 0 olds []).entry) (λ r. and_true (has 1 id r)) h
 
 pub drops_slots : (l : Layout) (old new : State) (sid : List ℕ) (count : ℕ) → old.now.schema ≡ room_schema l
     → IsKeyed (old.now.trees (slots_tree l)) → Executes T.drop_slots_text (Text sid ∷ []) old new (Ok count)
@@ -109,17 +110,21 @@ adds_entries l node at es text terms means given old new count schema h =
     (ap (map (λ row. cast_row entry_table (drop 0 row))) given ∙ cast_stored node at es) h
 
 pub adds_one : (l : Layout) (node at : ℕ) (a : EntryModel) → AddsEntries l T.add_entry_text node at (a ∷ [])
-adds_one l node at a = adds_entries l node at (a ∷ []) T.add_entry_text T.add_entry_terms (add_entry_means l) refl
+unfolding understood everything
+adds_one l node at a = adds_entries l node at (a ∷ []) T.add_entry_text _ (refl, (refl, refl)) refl
 
 pub adds_two : (l : Layout) (node at : ℕ) (a b : EntryModel) → AddsEntries l T.add_two_text node at (a ∷ b ∷ [])
-adds_two l node at a b = adds_entries l node at (a ∷ b ∷ []) T.add_two_text T.add_two_terms (add_two_means l) refl
+unfolding understood everything
+adds_two l node at a b = adds_entries l node at (a ∷ b ∷ []) T.add_two_text _ (refl, (refl, refl)) refl
 
 pub adds_three : (l : Layout) (node at : ℕ) (a b c : EntryModel)
     → AddsEntries l T.add_three_text node at (a ∷ b ∷ c ∷ [])
+unfolding understood everything
 adds_three l node at a b c =
-    adds_entries l node at (a ∷ b ∷ c ∷ []) T.add_three_text T.add_three_terms (add_three_means l) refl
+    adds_entries l node at (a ∷ b ∷ c ∷ []) T.add_three_text _ (refl, (refl, refl)) refl
 
 pub adds_four : (l : Layout) (node at : ℕ) (a b c d : EntryModel)
     → AddsEntries l T.add_four_text node at (a ∷ b ∷ c ∷ d ∷ [])
+unfolding understood everything
 adds_four l node at a b c d =
-    adds_entries l node at (a ∷ b ∷ c ∷ d ∷ []) T.add_four_text T.add_four_terms (add_four_means l) refl
+    adds_entries l node at (a ∷ b ∷ c ∷ d ∷ []) T.add_four_text _ (refl, (refl, refl)) refl

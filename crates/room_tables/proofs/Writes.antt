@@ -27,7 +27,7 @@ use Rattle.sqlite.specs.Effect.{Database, IsDatabase, value_rows}
 use Rattle.sqlite.specs.State.{State, Executes}
 use Rattle.sqlite.proofs.Callers.{runs_as, one_step, one_permutation}
 use Rattle.room_tables.specs.Tables.{Layout, room_schema}
-use Rattle.room_tables.specs.Texts.{over_table}
+use Rattle.room_tables.proofs.Texts.{over_table}
 use Rattle.room_tables.specs.Rows.{has}
 use Rattle.room_tables.specs.Layout.{IsKeyed}
 use Rattle.room_tables.proofs.Values.{has_tied, eq_is}

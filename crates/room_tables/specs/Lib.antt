@@ -1,5 +1,4 @@
 pub mod Tables
-pub mod Texts
 pub mod Rows
 pub mod Layout
 pub mod Steps

@@ -4,7 +4,7 @@ use Rattle.sqlite.specs.State.{HasCleanDisk, IsUnchanged}
 use Rattle.sqlite.specs.Given.{HasGiven}
 use Rattle.sqlite.specs.Held.{state}
 use Rattle.sqlite.proofs.Callers.{unchanged_then, given_begin}
-use Rattle.room_tables.specs.Texts.{read_entries_text}
+use Rattle.room_tables.proofs.Texts.{read_entries_text}
 use Rattle.room_tables.proofs.Queries.{query_keeps, fails_leaves}
 use Rattle.room_tables.proofs.Selects.{read_entries_selects}
 use Rattle.room_tables.proofs.Onward.{query_begins, fails_on}

@@ -4,7 +4,7 @@ use Rattle.sqlite_value.specs.Order.{Row}
 use Rattle.sqlite.specs.State.{HasCleanDisk, IsUnchanged, Survives}
 use Rattle.sqlite.specs.Held.{state}
 use Rattle.sqlite.specs.Given.{HasGiven}
-use Rattle.room_tables.specs.Texts.{read_entries_text}
+use Rattle.room_tables.proofs.Texts.{read_entries_text}
 use Rattle.room_sql.proofs.Decisions.{IsAfter}
 use Rattle.room_sql.proofs.deciding.decide_entries.Given as goal
 

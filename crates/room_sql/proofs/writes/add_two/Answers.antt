@@ -1,7 +1,7 @@
 use Rattle.std.proofs.Common.{◌≡◌, pos, [], ◌∷◌, refl, sym, ap₂, arith}
 use Rattle.sqlite_value.specs.declared.value.Value.TheVariants.{Int}
 use Rattle.sqlite.specs.Values.{bound, bound_value}
-use Rattle.room_tables.specs.Texts.{add_two_text}
+use Rattle.room_tables.proofs.Texts.{add_two_text}
 use Rattle.room_tables.proofs.Takes.{bound_entries, adds_two}
 use Rattle.room_tables.proofs.Placed.{lists_more}
 use Rattle.room_sql.proofs.Bound.{columns, entry_then}

@@ -1,5 +1,5 @@
--- The statements on the tables, and what they mean under a `room_schema`.
-use Rattle.std.specs.Prelude.{ℕ, ◌+◌, List, [], ◌∷◌, ◌++◌, false, pos, negsuc, codes, Some, None}
+-- The texts of the statements on the tables, and the queries of those that proofs name by their parts.
+use Rattle.std.specs.Prelude.{ℕ, List, [], ◌∷◌, false, pos, negsuc, codes, Some, None}
 use Rattle.sqlite_value.specs.declared.value.Value.TheVariants.{Null, Int}
 use Rattle.sqlite_value.specs.declared.keys.Collation.TheVariants.{Binary}
 use Rattle.sqlite_value.specs.declared.keys.Key.{Key}
@@ -32,28 +32,11 @@ by t = (t, ascending Binary)
 abbrev pub find_next_text : List ℕ
 find_next_text = codes "SELECT next FROM room WHERE one = 1"
 
-abbrev pub find_next_query : Query
-find_next_query = over_table 0 (equals (col 1 0) (lit (Int (pos 1))) ∷ []) (col 1 3 ∷ []) ([])
-
-abbrev pub find_version_text : List ℕ
-find_version_text = codes "SELECT version FROM room WHERE one = 1"
-
-abbrev pub find_version_query : Query
-find_version_query = over_table 0 (equals (col 1 0) (lit (Int (pos 1))) ∷ []) (col 1 2 ∷ []) ([])
-
 abbrev pub find_node_text : List ℕ
 find_node_text = codes "SELECT id, parent, name, kind, owner, grp, aclflag FROM node WHERE id = ?1"
 
-abbrev pub find_node_query : Query
-find_node_query = over_table 1 (equals (col 1 0) (col 0 0) ∷ [])
-    (col 1 0 ∷ col 1 2 ∷ col 1 3 ∷ col 1 4 ∷ col 1 5 ∷ col 1 6 ∷ col 1 7 ∷ []) ([])
-
 abbrev pub find_child_text : List ℕ
 find_child_text = codes "SELECT id, parent, name, kind, owner, grp, aclflag FROM node WHERE parent = ?1 AND name = ?2"
-
-abbrev pub find_child_query : Query
-find_child_query = over_table 1 (equals (col 1 2) (col 0 0) ∷ equals (col 1 3) (col 0 1) ∷ [])
-    (col 1 0 ∷ col 1 2 ∷ col 1 3 ∷ col 1 4 ∷ col 1 5 ∷ col 1 6 ∷ col 1 7 ∷ []) ([])
 
 abbrev pub list_children_text : List ℕ
 list_children_text =
@@ -88,9 +71,6 @@ read_entries_query = over_table 3 (equals (col 1 1) (col 0 0) ∷ [])
 abbrev pub find_doc_text : List ℕ
 find_doc_text = codes "SELECT bytes FROM doc WHERE node = ?1"
 
-abbrev pub find_doc_query : Query
-find_doc_query = over_table 5 (equals (col 1 0) (col 0 0) ∷ []) (col 1 2 ∷ []) ([])
-
 -- how long the bytes are, which are not read
 abbrev pub find_size_text : List ℕ
 find_size_text = codes "SELECT length(bytes) FROM doc WHERE node = ?1"
@@ -100,9 +80,6 @@ find_size_query = over_table 5 (equals (col 1 0) (col 0 0) ∷ []) (op1 Length (
 
 abbrev pub find_session_text : List ℕ
 find_session_text = codes "SELECT owner, slots, open FROM session WHERE sid = ?1"
-
-abbrev pub find_session_query : Query
-find_session_query = over_table 6 (equals (col 1 1) (col 0 0) ∷ []) (col 1 2 ∷ col 1 3 ∷ col 1 4 ∷ []) ([])
 
 abbrev pub find_slot_text : List ℕ
 find_slot_text = codes "SELECT seq, request, reply FROM kept WHERE sid = ?1 AND slot = ?2"
@@ -128,9 +105,6 @@ drop_node_query = over_table 1 (equals (col 1 0) (col 0 0) ∷ []) (col 1 0 ∷ 
 abbrev pub drop_entries_text : List ℕ
 drop_entries_text = codes "DELETE FROM entry WHERE node = ?1"
 
-abbrev pub drop_entries_query : Query
-drop_entries_query = over_table 3 (equals (col 1 1) (col 0 0) ∷ []) (col 1 0 ∷ []) []
-
 abbrev pub drop_slots_text : List ℕ
 drop_slots_text = codes "DELETE FROM kept WHERE sid = ?1"
 
@@ -140,34 +114,17 @@ drop_slots_query tree = over_table tree (equals (col 1 1) (col 0 0) ∷ []) (col
 abbrev pub add_entry_text : List ℕ
 add_entry_text = codes "INSERT INTO entry (node, place, type, flag, mask, who) VALUES (?1, ?2, ?3, ?4, ?5, ?6)"
 
--- one row of entries, whose parameters stand from a place on, and the node's number at place 0
-abbrev pub entry_terms : ℕ → List Term
-entry_terms from = lit Null ∷ col 0 0 ∷ col 0 from ∷ col 0 (from + 1)
-    ∷ col 0 (from + 2) ∷ col 0 (from + 3) ∷ col 0 (from + 4) ∷ []
-
-abbrev pub add_entry_terms : List Term
-add_entry_terms = entry_terms 1
-
 abbrev pub add_two_text : List ℕ
 add_two_text = codes
     "INSERT INTO entry (node, place, type, flag, mask, who) VALUES (?1, ?2, ?3, ?4, ?5, ?6), (?1, ?7, ?8, ?9, ?10, ?11)"
-
-abbrev pub add_two_terms : List Term
-add_two_terms = entry_terms 1 ++ entry_terms 6
 
 abbrev pub add_three_text : List ℕ
 add_three_text = codes
     "INSERT INTO entry (node, place, type, flag, mask, who) VALUES (?1, ?2, ?3, ?4, ?5, ?6), (?1, ?7, ?8, ?9, ?10, ?11), (?1, ?12, ?13, ?14, ?15, ?16)"
 
-abbrev pub add_three_terms : List Term
-add_three_terms = entry_terms 1 ++ entry_terms 6 ++ entry_terms 11
-
 abbrev pub add_four_text : List ℕ
 add_four_text = codes
     "INSERT INTO entry (node, place, type, flag, mask, who) VALUES (?1, ?2, ?3, ?4, ?5, ?6), (?1, ?7, ?8, ?9, ?10, ?11), (?1, ?12, ?13, ?14, ?15, ?16), (?1, ?17, ?18, ?19, ?20, ?21)"
-
-abbrev pub add_four_terms : List Term
-add_four_terms = entry_terms 1 ++ entry_terms 6 ++ entry_terms 11 ++ entry_terms 16
 
 -- The row of version 2 is written over the one that is there; it is added only where none was changed. An upsert would
 -- cost more than what it comes to
@@ -182,9 +139,6 @@ change_next_query = over_table 0 (equals (col 1 0) (lit (Int (pos 1))) ∷ [])
 abbrev pub add_next_text : List ℕ
 add_next_text = codes "INSERT INTO room (one, version, next) VALUES (1, 2, ?1)"
 
-abbrev pub add_next_terms : List Term
-add_next_terms = lit (Int (pos 1)) ∷ lit Null ∷ lit (Int (pos 2)) ∷ col 0 0 ∷ []
-
 -- the row of a node is written over the one that is there, and is added only where none was changed
 abbrev pub change_node_text : List ℕ
 change_node_text = codes
@@ -198,9 +152,6 @@ abbrev pub add_node_text : List ℕ
 add_node_text =
     codes "INSERT INTO node (id, parent, name, kind, owner, grp, aclflag) VALUES (?1, ?2, ?3, ?4, ?5, ?6, ?7)"
 
-abbrev pub add_node_terms : List Term
-add_node_terms = col 0 0 ∷ lit Null ∷ col 0 1 ∷ col 0 2 ∷ col 0 3 ∷ col 0 4 ∷ col 0 5 ∷ col 0 6 ∷ []
-
 -- a document is written over the one that is there, and is added only where none was changed
 abbrev pub change_doc_text : List ℕ
 change_doc_text = codes "UPDATE doc SET bytes = ?2 WHERE node = ?1"
@@ -210,9 +161,6 @@ change_doc_query = over_table 5 (equals (col 1 0) (col 0 0) ∷ []) (col 1 0 ∷
 
 abbrev pub add_doc_text : List ℕ
 add_doc_text = codes "INSERT INTO doc (node, bytes) VALUES (?1, ?2)"
-
-abbrev pub add_doc_terms : List Term
-add_doc_terms = col 0 0 ∷ lit Null ∷ col 0 1 ∷ []
 
 abbrev pub put_session_text : List ℕ
 put_session_text = codes
@@ -258,9 +206,6 @@ copy_row_query = record (over_table 8 [] (col 1 0 ∷ col 1 1 ∷ col 1 2 ∷ co
 
 abbrev pub take_row_text : List ℕ
 take_row_text = codes "DELETE FROM slot WHERE rowid = ?1"
-
-abbrev pub take_row_query : Query
-take_row_query = over_table 8 (equals (col 1 0) (col 0 0) ∷ []) (col 1 0 ∷ []) []
 
 -- ---- a count
 
