@@ -5,6 +5,7 @@ import { ADD_FOLDER, ALL, FOLDER, VIEW } from "./rights.js";
 
 export const TRASH = "/trash";
 const MOST_NAME = 64; // bytes
+const MOST_THINGS = 256; // in a folder
 const ACCESS = 5; // a code of the room's
 const PROTECTED = 2; // a list that takes over nothing
 const HANDED_DOWN = 3; // to documents and folders
@@ -43,7 +44,8 @@ export async function makeTrash({ room, user }) {
   const isMade = await orElse(room.aside("MKDIR", TRASH), null, EXIST);
   const here = (who, mask) => ({ type: 0, flag: 0, mask, who });
   if (isMade) await setAlone(room, TRASH, [here("OWNER@", ALL), here("EVERYONE@", VIEW)]);
-  await forEach([...new Set([user, ...Object.keys(await room.users() ?? {})])], (who) => makeFor(room, who));
+  const users = new Set([user, ...Object.keys(await room.users() ?? {})]);
+  await forEach([...users].slice(0, MOST_THINGS), (who) => makeFor(room, who));
   return pathOfTrash({ user });
 }
 
