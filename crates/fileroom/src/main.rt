@@ -1,7 +1,7 @@
 //! The program `fileroom`: `main` alone. What it does stands in the crate `room_program`.
 #![tactic(auto)]
 
-use room_program::{Fault, Wary, run_program};
+use room_program::{Fault, Host, Wary, run_program};
 use std::env;
 use std::io::{self, ErrorKind, Write};
 use std::process::ExitCode;
@@ -25,12 +25,12 @@ fn words(rt: &HostRuntime) -> io::Result<Vec<String>> {
 fn main(rt: HostRuntime) -> ExitCode {
     let status = match words(&rt) {
         Ok(words) => run_program(
-            &rt,
+            rt.alloc(),
+            &mut Host::new(&rt, Wary),
             words.as_slice(),
             &mut rt.stdin(),
             &mut rt.stdout(),
             &mut rt.stderr(),
-            Wary,
         ),
         Err(error) => refuse(&rt, &error),
     };

@@ -1,11 +1,10 @@
 -- A room that is served over the files that held it, and what the files hold then.
-use Rattle.std.proofs.Common.{◌≡◌, ◌∙◌, ℕ, List, [], Bool, true, false, Option, None, Some, Result, Ok, Err, IsTrue}
-use Rattle.std.proofs.Common.{OnOk, inl, inr, refl, sym, ap, subst, true≢false, ◌∷◌, ◌⊎◌, arith}
-use Rattle.std.specs.Prelude.{IfOk, string_bytes}
+use Rattle.std.proofs.Common.{◌≡◌, ◌∙◌, ℕ, zero, suc, List, [], ◌∷◌, Bool, true, false, Option, None, Some}
+use Rattle.std.proofs.Common.{Result, Ok, Err, IsTrue, OnOk, inl, inr, refl, sym, ap, subst, true≢false, ◌⊎◌, arith}
+use Rattle.std.specs.Prelude.{IfOk, IfErr, string_bytes}
 use Rattle.std.specs.List.{AllZip}
 use Rattle.std.proofs.Math.Logic.{∥∥₁_map, ∥∥₁_elim}
 use Rattle.sqlite_disk.specs.declared.Disk.{Ghosts}
-use Rattle.sqlite_disk.specs.declared.Files.{Files}
 use Rattle.sqlite_trees.specs.Tree.{Trees}
 use Rattle.sqlite_trees.specs.Objects.{catalog_tree}
 use Rattle.sqlite_trees.specs.Props.{Trees-set}
@@ -17,13 +16,14 @@ use Rattle.sqlite.specs.Effect.{Database, IsDatabase}
 use Rattle.sqlite.specs.Schema.{Schema}
 use Rattle.sqlite.specs.Recovery.{Image}
 use Rattle.sqlite.specs.Closing.{HoldsAlone}
-use Rattle.sqlite.specs.FileStore.{recovers}
+use Rattle.sqlite.specs.FileStore.{recovers, view}
 use Rattle.sqlite.proofs.Theorems.{opens_again}
 use Rattle.sqlite_store.specs.Laws.{settled_at}
 use Rattle.sqlite.specs.declared.FileStore.{FileStore}
-use Rattle.sqlite.specs.State.{HasCleanDisk, IsLive}
+use Rattle.sqlite.specs.State.{HasCleanDisk, IsLive, State, Survives}
 use Rattle.sqlite.specs.Held.{Held, AreDatabases}
-use Rattle.sqlite.specs.Files.{file_state, over_files, HoldsDatabase}
+use Rattle.sqlite.specs.Files.{file_state, over_files, HoldsDatabase, IsClosed}
+use Rattle.sqlite.specs.View.{IsClean}
 use Rattle.room_acl.specs.SubjectModel.{SubjectModel}
 use Rattle.room_records.specs.Room.{Room, fresh_room}
 use Rattle.room_records.specs.Shelf.{View}
@@ -31,11 +31,13 @@ use Rattle.room_cache.specs.declared.known.Known.{Known}
 use Rattle.room_cache.specs.Cached.{cached_view}
 use Rattle.room_tables.specs.Tables.{Layout, Fresh, Upgraded, has_room, has_a_table}
 use Rattle.room_tables.specs.Tables.{schema_0, room_schema, first_schema}
-use Rattle.room_tables.specs.Layout.{IsRoomOfVersion1, IsRoomOfVersion2}
+use Rattle.room_tables.specs.Layout.{IsRoomOfVersion1, IsRoomOfVersion2, under}
 use Rattle.room_tables.specs.Rows.{records_of}
 use Rattle.room_tables.proofs.Meaning.{room_has_room, first_has_no_kept}
+use Rattle.room_tables.specs.Upgrade.{IsUpgraded}
 use Rattle.room_sql.specs.declared.sql_shelf.SqlShelf.{SqlShelf}
 use Rattle.room_sql.specs.SqlView.{sql_view}
+use Rattle.room_sql.specs.Taken.{MayBeTaken}
 use Rattle.room_sql.proofs.Frames.{was_clean}
 use Rattle.room_desk.specs.History.{History, state_after}
 use Rattle.room_desk.specs.Representation.{RepresentsHistory, StandsFor}
@@ -50,15 +52,19 @@ use Rattle.room_words.specs.declared.job.Job.TheVariants.{Check, Init, Replay, S
 use Rattle.std.specs.Io.KnownBytes.{Appends}
 use Rattle.room_program.specs.declared.fault.Fault.{Fault}
 use Rattle.room_program.specs.declared.fault.Fault.TheVariants as fault
+use Rattle.room_program.specs.declared.left.Left.{Left}
+use Rattle.room_program.specs.declared.left.Left.TheVariants.{Nothing, Copied, Kept}
 use Rattle.room_program.specs.Machines.{Call}
-use Rattle.room_program.specs.Machines.Call.{opens, closes}
-use Rattle.room_program.specs.Calls.{Exchange}
-use Rattle.room_program.specs.Files.{Adopted, Made, Unmade, TakesRoom, IsUnopened}
+use Rattle.room_program.specs.Machines.Call.{opens, closes, leaves, reads, looks, asks, hears}
+use Rattle.room_program.specs.Calls.{Exchange, Accepted}
+use Rattle.room_program.specs.Files.{Adopted, Takes, Untaken, IsSpared, Made, Unmade}
+use Rattle.room_program.specs.Files.{TakesRoster, OpensStore, TakesRoom, IsUnopened}
 use Rattle.room_program.specs.Faults.{done_of_report}
-use Rattle.room_program.specs.Ends.{InitEnds}
-use Rattle.room_program.specs.Rooms.{ServesRoom, Listens, Reports, report_text}
+use Rattle.room_program.specs.Ends.{InitEnds, SelftestEnds}
+use Rattle.room_program.specs.Replays.{Replays}
+use Rattle.room_program.specs.Rooms.{ServesRoom, Listens, Reports, WritesReport, report_text, FailsRoom}
 use Rattle.room_program.specs.Found.{IsOpenedOver, Holds, HoldsRoom, HoldsNothing, MayBeLeft, IsLeftBy, Leaves}
-use Rattle.room_program.specs.Found.{ServesFound, ReportsFound, MakesFound, JobFound, RunFound}
+use Rattle.room_program.specs.Found.{IsSparedIn, SparesRoom, ServesFound, ReportsFound, MakesFound, JobFound, RunFound}
 use Rattle.room_program.specs.Runs.{Means, Streams, Ends, Runs, RunsJob, RunsRead, means}
 use Rattle.room_program.specs.Streams.{ServesSome}
 use Rattle.room_program.proofs.Streams.{serves_none, serves_all}
@@ -127,6 +133,26 @@ served does view accepts fails users port count taken over before after done (in
 served does view accepts fails users port count taken over before after done (inr (bound, did, all)) =
     serves_all view users accepts fails bound over before count after done all
 
+-- a report leaves the history that the rows stand for
+pub read_stands : {S : Type 0} (view : S → View) (kind : ReportKind) (users : List SubjectModel) (taken last : S)
+    (old new : Option (List ℕ)) (done : Result (Unit {0}) Fault) → WritesReport view kind users taken last old new done
+    → (start : Room) (past : History) → StandsFor start past (view taken) → StandsFor start past (view last)
+read_stands view kind users taken last old new done writes start past stand there =
+    let (laid_out, rows) = stand (writes.read.call.was_available there) in (
+      writes.read.call.laid_out there laid_out,
+      subst (λ r. RepresentsHistory start r past) (sym (writes.read.same there laid_out)) rows,
+    )
+
+no_change : (s : State) → Survives s s (λ _. ⊥)
+no_change s = record {
+  clean = omega arith;
+  shield = λ it. it;
+  counts = omega arith;
+  limit = refl;
+  closes = λ clean is_open. inl is_open;
+  crash = λ clean db may. inl may;
+}
+
 end_so : {P Q : Result (Unit {0}) Fault → Type 0} → ((done : Result (Unit {0}) Fault) → P done → Q done)
     → (old new : Option (List ℕ)) (status : ℕ) → Ends P old new status → Ends Q old new status
 end_so so old new status (done, p, ends) = (done, so done p, ends)
@@ -175,7 +201,7 @@ module _ {D : Type 0} (g : Ghosts D) where
   found_nothing image empty opened is clean =
       let (shown, finds) = is clean in
       let none : (file_state opened).committed.trees catalog_tree ≡ [] = elim finds.reads [
-        | inl (size, pages, wanted, adopts, ours, reads) ↦
+        | inl (size, pages, wanted, adopts, ours, trees) ↦
             absurd (let some = rw empty at adopts.found.present in omega (arith, some))
         | inr (nothing, none) ↦ none.1
       ] in
@@ -205,12 +231,21 @@ module _ {D : Type 0} (g : Ghosts D) where
       may_hold was.conn.store image (file_state was.conn).now left (live is_open).0
       (λ trees may. settled_at was.conn.store stays trees is_open may ∙ sym (was.rests is_open))
 
-  -- and a store that is closed what it showed
+  -- and a store that is given up, with its log as it is, what it showed
+  kept_holds : ((file : D) → g.may_leave file (g.seen file)) → (gone : Held (FileStore D g)) (it : FileStore D g)
+      (image : Image) → IsLive (file_state gone) → IsClosed gone it → IsTrue (file_state gone).is_open
+      → (file_state gone).now.trees ≡ (file_state gone).committed.trees → MayBeLeft it image
+      → Holds image (file_state gone).now
+  kept_holds stays gone it image live kept is_open rests left =
+      may_hold it image (file_state gone).now left (live is_open).0
+      (λ trees may. settled_at gone.store stays trees is_open (kept.quiet.outcomes trees may) ∙ sym rests)
+
+  -- also where it was closed
   pub closed_holds : ((file : D) → g.may_leave file (g.seen file)) → (closed : Held (FileStore D g))
-      (left : Option (Files D)) (image : Image) → Leaves (closes closed) left → IsTrue (file_state closed).is_open
-      → (file_state closed).now.trees ≡ (file_state closed).committed.trees → IsLeftBy closed left image
+      (old new : Left D g) (image : Image) → Leaves (closes closed) old new → IsTrue (file_state closed).is_open
+      → (file_state closed).now.trees ≡ (file_state closed).committed.trees → IsLeftBy new image
       → Holds image (file_state closed).now
-  closed_holds stays closed (Some files) image (live, copied) is_open rests (clean, at) =
+  closed_holds stays closed old (Copied files) image (live, copied) is_open rests (clean, at) =
       let alone : HoldsAlone image (file_state closed).committed.trees = elim at [
         | inl is ↦ subst (λ i. HoldsAlone i (file_state closed).committed.trees) (sym is) (copied clean).seen
         | inr out ↦ (copied clean).left image out
@@ -218,9 +253,27 @@ module _ {D : Type 0} (g : Ghosts D) where
         trees = subst (λ t. ∥ HoldsDatabase image t ∥₁) (sym rests) alone.both;
         sound = (live is_open).0;
       }
-  closed_holds stays closed None image (live, kept) is_open rests (it, same, clean, left) =
-      may_hold it image (file_state closed).now left (live is_open).0
-      (λ trees may. settled_at closed.store stays trees is_open (same.quiet.outcomes trees may) ∙ sym rests)
+  closed_holds stays closed old (Kept it) image (live, kept) is_open rests (clean, left) =
+      kept_holds stays closed it image live kept is_open rests left
+  closed_holds stays closed old Nothing image none is_open rests at = absurd none
+
+  -- and where it was let go
+  pub left_holds : ((file : D) → g.may_leave file (g.seen file)) → (gone : Held (FileStore D g))
+      (old new : Left D g) (image : Image) → Leaves (leaves gone) old new → IsTrue (file_state gone).is_open
+      → (file_state gone).now.trees ≡ (file_state gone).committed.trees → IsLeftBy new image
+      → Holds image (file_state gone).now
+  left_holds stays gone old (Copied files) image none is_open rests at = absurd none
+  left_holds stays gone old (Kept it) image (live, kept) is_open rests (clean, left) =
+      kept_holds stays gone it image live kept.closed is_open rests left
+  left_holds stays gone old Nothing image none is_open rests at = absurd none
+
+  -- what is kept of it
+  pub kept_in : (gone : Held (FileStore D g)) (old new : Left D g) (image : Image) → Leaves (leaves gone) old new
+      → IsLeftBy new image
+      → (it : FileStore D g) × (IsClosed gone it × IsClean (view it)) × MayBeLeft it image
+  kept_in gone old (Copied files) image none at = absurd none
+  kept_in gone old (Kept it) image (live, kept) (clean, left) = (it, (kept.closed, clean), left)
+  kept_in gone old Nothing image none at = absurd none
 
 -- a room that the files held
 module _ {D : Type 0} (g : Ghosts D) (image : Image) (start : Room) (past : History)
@@ -235,38 +288,144 @@ module _ {D : Type 0} (g : Ghosts D) (image : Image) (start : Room) (past : Hist
         subst (λ (d : Database). RepresentsHistory start (records_of d.trees) past) same held.rows,
       ))
 
+  -- and it is in what a crash leaves of a store in which it was only taken
+  pub may_room : ((file : D) → g.may_leave file (g.seen file)) → (opened : Held (FileStore D g))
+      → IsOpenedOver image opened → HasCleanDisk (file_state opened) → (it : FileStore D g)
+      → ((trees : Trees) → recovers it trees
+      → (file_state opened).may_leave trees ⊎ MayBeTaken (file_state opened) trees)
+      → AreDatabases (recovers it) → (after : Image) → MayBeLeft it after → ∥ HoldsRoom after start past ∥₁
+  may_room stays opened is clean it only sound after left =
+      let same = found_database g image held.db held.held opened is clean in
+      ∥∥₁_map (opens_again it left.numbered sound after left.may) (λ found. elim (only found.0 found.1) [
+        | inl old ↦
+            let there = settled_at opened.store stays found.0 (is clean).0.0.is_open old
+            ∙ sym (ap (λ (d : Database). d.trees) (is clean).0.0.clean)
+            ∙ ap (λ (d : Database). d.trees) same in
+            record {
+              db = held.db;
+              held = record { trees = ∣ subst (HoldsDatabase after) there found.2 ∣₁; sound = held.held.sound };
+              room = held.room;
+              rows = held.rows;
+            }
+        | inr (first, upgraded) ↦ elim held.room [
+          | inl two ↦ absurd (not_first held.db two (ap (λ (d : Database). has_room d.schema) (sym same)
+              ∙ first.no_second))
+          | inr one ↦
+              let made = subst (λ (d : Database). IsRoomOfVersion1 d → IsUpgraded d (under Upgraded found.0)) same
+              upgraded one in
+              record {
+                db = under Upgraded found.0;
+                held = record { trees = ∣ found.2 ∣₁; sound = made.room.sound };
+                room = inl made.room;
+                rows = subst (λ r. RepresentsHistory start r past) (sym made.records) held.rows;
+              }
+        ]
+      ])
+
 module _ {D M : Type 0} (g : Ghosts D) (image : Image) (does : M → Call (Held (FileStore D g)) → M → Type 0)
-    (left : M → Option (Files D)) (stays : (file : D) → g.may_leave file (g.seen file))
+    (left : M → Left D g) (stays : (file : D) → g.may_leave file (g.seen file))
     (finds : (old new : M) (path : List ℕ) (c : Held (FileStore D g)) → does old (opens path (Some c)) new
     → IsOpenedOver image c)
-    (shut : (old new : M) (c : Held (FileStore D g)) → does old (closes c) new → Leaves (closes c) (left new)) where
+    (tells : (old new : M) (call : Call (Held (FileStore D g))) → does old call new
+    → Leaves call (left old) (left new)) where
   abbrev File : Type 0
   File = Held (FileStore D g)
 
   abbrev Taken : Type 0
   Taken = SqlShelf (FileStore D g) over_files × Known
 
-  abbrev adopts : File → Taken → Type 0
-  adopts opened taken = Adopted over_files opened taken
+  abbrev takes : File → Result Taken (Fault × File) → Type 0
+  takes opened taken = Takes over_files opened taken
 
   abbrev shown : Taken → View
   shown = cached_view (sql_view over_files)
 
+  abbrev program : (accepts : M → Exchange → M → Type 0) (fails : M → M → Type 0) → Means M File Taken
+  program accepts fails =
+      means does accepts fails takes (λ taken. taken.0.conn) (Made over_files) (Unmade over_files) shown
+
+  -- a store that could not be opened is not given up
+  unopened_left : (path : List ℕ) (old new : M) (why : Fault) → OpensStore does path old new (Err why)
+      → left new ≡ left old
+  unopened_left path old new fault.StoreFailed (opened, did) = tells old new (opens path opened) did
+  unopened_left path old new fault.Memory (opened, did) = tells old new (opens path opened) did
+  unopened_left path old new fault.BadName none = absurd none
+  unopened_left path old new fault.CannotReadRoster none = absurd none
+  unopened_left path old new fault.BadRoster none = absurd none
+  unopened_left path old new fault.RoomExists none = absurd none
+  unopened_left path old new fault.NotARoom none = absurd none
+  unopened_left path old new fault.NetworkFailed none = absurd none
+  unopened_left path old new fault.BadMessage none = absurd none
+  unopened_left path old new fault.ReadFailed none = absurd none
+  unopened_left path old new fault.WriteFailed none = absurd none
+  unopened_left path old new fault.SelftestFailed none = absurd none
+
+  -- a store that was let go holds what the files held
+  spared : (opened let_go : File) (begun later : M) → IsOpenedOver image opened → does begun (leaves let_go) later
+      → (commits : Trees → Type 0) → IsSpared over_files opened let_go commits
+      → ((start : Room) (past : History) → HoldsRoom image start past → HasCleanDisk (file_state opened)
+      → (trees : Trees) → commits trees → MayBeTaken (file_state opened) trees)
+      → IsSparedIn image let_go (left later)
+  spared opened let_go begun later is gone commits (rests, same, survives) may_take = record {
+    shown = λ clean is_open db holds.
+        let shows = same clean is_open ∙ found_database g image db holds opened is (was_clean survives clean) in (
+          shows,
+          λ one at. subst (Holds one) shows (left_holds g stays let_go (left begun) (left later) one
+              (tells begun later (leaves let_go) gone) is_open (rests is_open) at),
+        );
+    room = λ start past held one at.
+        let (it, (closed, at_it), may) = kept_in g let_go (left begun) (left later) one
+        (tells begun later (leaves let_go) gone) at in
+        let clean : HasCleanDisk (file_state let_go) = omega (arith, closed.quiet.clean, at_it) in
+        let was = was_clean survives clean in
+        may_room g image start past held stays opened is was it (λ trees found.
+        elim (survives.crash clean trees (closed.quiet.outcomes trees found)) [
+          | inl old ↦ inl old
+          | inr made ↦ inr (may_take start past held was trees made)
+        ]) (closed.sound at_it) one may;
+  }
+
+  -- and where no room was taken of it
+  untaken : (opened let_go : File) (begun later : M) (why : Fault) → IsOpenedOver image opened
+      → does begun (leaves let_go) later → Untaken over_files opened let_go why → IsSparedIn image let_go (left later)
+  untaken opened let_go begun later why is gone none =
+      spared opened let_go begun later is gone _ none.spared (λ start past held was trees may. may)
+
+  -- a room that was not taken is spared
+  pub spares : (path : List ℕ) (old new : M) (why : Fault) → TakesRoom does takes path old new (Err why)
+      → SparesRoom does left image old new
+  spares path old new why (inl (begun, looked, none)) = inl (tells old new (looks path begun) looked)
+  spares path old new why (inr (seen, looked, inl (same, is, opened))) =
+      inl (unopened_left path seen new same opened ∙ tells old seen (looks path (Some true)) looked)
+  spares path old new why (inr (seen, looked, inr (opened, begun, is, (let_go, none, gone)))) =
+      inr (begun, (let_go, gone, untaken opened let_go begun new why (finds seen begun path opened is) gone none))
+
+  fails_room : (path : List ℕ) (old new : M) (done : Result (Unit {0}) Fault)
+      → FailsRoom does takes path old new done
+      → FailsRoom does takes path old new done × SparesRoom does left image old new
+  fails_room path old new done (why, is, took) = ((why, is, took), spares path old new why took)
+
+  -- a roster's file is only read
+  roster_left : (path : List ℕ) (old new : M) (taken : Result (List SubjectModel) Fault)
+      → TakesRoster does path old new taken → left new ≡ left old
+  roster_left path old new taken (text, read, gives) = tells old new (reads path text) read
+
   module _ (start : Room) (past : History) (held : HoldsRoom image start past) where
-    taken_stands : (path : List ℕ) (old new : M) (taken : Taken) → TakesRoom does adopts path old new (Ok taken)
+    taken_stands : (path : List ℕ) (old new : M) (taken : Taken) → TakesRoom does takes path old new (Ok taken)
         → StandsFor start past (shown taken)
     taken_stands path old new taken (inl (begun, looked, none)) = absurd (unopened begun taken none)
     taken_stands path old new taken (inr (seen, looked, inl (fault, bad, opened))) = absurd (let e = bad in cc)
-    taken_stands path old new taken (inr (seen, looked, inr (opened, is, adopted))) =
-        stands g image start past held opened taken (finds seen new path opened is) adopted
+    taken_stands path old new taken (inr (seen, looked, inr (opened, begun, is, (adopted, same)))) =
+        stands g image start past held opened taken (finds seen begun path opened is) adopted
 
     pub serves_found : (accepts : M → Exchange → M → Type 0) (fails : M → M → Type 0) (db roster : List ℕ)
         (port count : ℕ) (before later : M) (done : Result (Unit {0}) Fault)
-        → ServesRoom does accepts fails adopts (λ taken. taken.0.conn) shown db roster port count before later done
-        → ServesFound does left adopts db roster start past before later done
-    serves_found accepts fails db roster port count before later done (inl fails_roster) = inl fails_roster
-    serves_found accepts fails db roster port count before later done (inr (users, read, took, inl fails_room)) =
-        inr (users, read, took, inl fails_room)
+        → ServesRoom does accepts fails takes (λ taken. taken.0.conn) shown db roster port count before later done
+        → ServesFound (program accepts fails) left image db roster port count start past before later done
+    serves_found accepts fails db roster port count before later done (inl (why, is, none)) =
+        inl ((why, is, none), roster_left roster before later (Err why) none)
+    serves_found accepts fails db roster port count before later done (inr (users, read, took, inl none)) =
+        inr (users, read, took, inl (fails_room db read later done none))
     serves_found accepts fails db roster port count before later done
         (inr (users, read, took, inr (shelf, last, taken, over, room, listens, closed))) =
         let some = served does shown accepts fails users port count taken over shelf last done listens in
@@ -275,8 +434,12 @@ module _ {D M : Type 0} (g : Ghosts D) (image : Image) (does : M → Call (Held 
           read,
           took,
           inr (
+            shelf,
+            last,
+            taken,
             over,
-            last.0.conn,
+            room,
+            listens,
             closed,
             λ clean.
                 let gone = some.run clean start past (taken_stands db read taken shelf room) in (
@@ -287,8 +450,8 @@ module _ {D M : Type 0} (g : Ghosts D) (image : Image) (does : M → Call (Held 
                         rows,
                         λ one at. record {
                           db = (file_state last.0.conn).now;
-                          held = closed_holds g stays last.0.conn (left later) one (shut over later last.0.conn closed)
-                              is_open (last.0.rests is_open) at;
+                          held = closed_holds g stays last.0.conn (left over) (left later) one
+                              (tells over later (closes last.0.conn) closed) is_open (last.0.rests is_open) at;
                           room = inl laid_out.0.0;
                           rows = rows;
                         },
@@ -298,58 +461,85 @@ module _ {D M : Type 0} (g : Ghosts D) (image : Image) (does : M → Call (Held 
         )
 
     -- and its store is there, where its disk has returned what was written
-    taken_open : (path : List ℕ) (old new : M) (taken : Taken) → TakesRoom does adopts path old new (Ok taken)
+    taken_open : (path : List ℕ) (old new : M) (taken : Taken) → TakesRoom does takes path old new (Ok taken)
         → HasCleanDisk (file_state taken.0.conn) → IsTrue (file_state taken.0.conn).is_open
     taken_open path old new taken (inl (begun, looked, none)) clean = absurd (unopened begun taken none)
     taken_open path old new taken (inr (seen, looked, inl (fault, bad, opened))) clean = absurd (let e = bad in cc)
-    taken_open path old new taken (inr (seen, looked, inr (opened, is, adopted))) clean = (adopted.1 clean).0
+    taken_open path old new taken (inr (seen, looked, inr (opened, begun, is, (adopted, same)))) clean =
+        (adopted.1 clean).0
 
-    pub reports_found : (db roster : List ℕ) (kind : ReportKind) (before later : M) (old new : Option (List ℕ))
-        (done : Result (Unit {0}) Fault)
-        → Reports does adopts (λ taken. taken.0.conn) shown db roster kind before later old new done
-        → ReportsFound does adopts db roster kind start past before later old new done
-    reports_found db roster kind before later old new done (inl none) = inl none
-    reports_found db roster kind before later old new done (inr (users, read, took, inl none)) =
-        inr (users, read, took, inl none)
-    reports_found db roster kind before later old new done
+    pub reports_found : (accepts : M → Exchange → M → Type 0) (fails : M → M → Type 0) (db roster : List ℕ)
+        (kind : ReportKind) (before later : M) (old new : Option (List ℕ)) (done : Result (Unit {0}) Fault)
+        → Reports does takes (λ taken. taken.0.conn) shown db roster kind before later old new done
+        → ReportsFound (program accepts fails) left image db roster kind start past before later old new done
+    reports_found accepts fails db roster kind before later old new done (inl ((why, is, none), same)) =
+        inl ((why, is, none), roster_left roster before later (Err why) none, same)
+    reports_found accepts fails db roster kind before later old new done (inr (users, read, took, inl (none, same))) =
+        let (fails_so, spares_so) = fails_room db read later done none in
+        inr (users, read, took, inl (fails_so, spares_so, same))
+    reports_found accepts fails db roster kind before later old new done
         (inr (users, read, took, inr (taken, last, seen, room, writes, gone))) =
         inr (
           users,
           read,
           took,
           inr (
+            taken,
+            last,
             seen,
-            last.0.conn,
+            room,
+            writes,
             gone,
             λ clean.
                 let was = writes.read.call.was_intact clean in
-                let stand = taken_stands db read seen taken room (was, taken_open db read seen taken room was) in
-                subst (λ d. OnOk d (Appends old new (report_text kind (state_after start past) users)))
-                (sym writes.ends) (done_of_written writes.written _
-                (writes.reported.ok clean stand.0 (state_after start past) stand.1.room)),
+                let stood = taken_stands db read seen taken room in
+                let stand = stood (was, taken_open db read seen taken room was) in (
+                  subst (λ d. OnOk d (Appends old new (report_text kind (state_after start past) users)))
+                      (sym writes.ends) (done_of_written writes.written _
+                      (writes.reported.ok clean stand.0 (state_after start past) stand.1.room)),
+                  λ is_open one at.
+                      let (laid_out, rows) = read_stands shown kind users taken last old new done writes start past
+                      stood (clean, is_open) in
+                      record {
+                        db = (file_state last.0.conn).now;
+                        held = left_holds g stays last.0.conn (left seen) (left later) one
+                            (tells seen later (leaves last.0.conn) gone) is_open (last.0.rests is_open) at;
+                        room = inl laid_out.0.0;
+                        rows = rows;
+                      },
+                ),
           ),
         )
 
-  -- a store in which no room was made shows what it showed
-  unmade_same : (owner group : List ℕ) (opened let_go : File) (why : Fault)
-      → Unmade over_files owner group opened let_go why → HasCleanDisk (file_state let_go)
-      → IsTrue (file_state let_go).is_open
-      → ((file_state let_go).now ≡ (file_state opened).now) × HasCleanDisk (file_state opened)
-  unmade_same owner group opened let_go fault.RoomExists (some, same) clean is_open =
-      (ap (λ c. (file_state c).now) same, subst (λ c. HasCleanDisk (file_state c)) same clean)
-  unmade_same owner group opened let_go fault.StoreFailed (none, same, survives) clean is_open =
-      (same clean is_open, was_clean survives clean)
-  unmade_same owner group opened let_go fault.Memory (none, same, survives) clean is_open =
-      (same clean is_open, was_clean survives clean)
-  unmade_same owner group opened let_go fault.BadName none clean is_open = absurd none
-  unmade_same owner group opened let_go fault.CannotReadRoster none clean is_open = absurd none
-  unmade_same owner group opened let_go fault.BadRoster none clean is_open = absurd none
-  unmade_same owner group opened let_go fault.NotARoom none clean is_open = absurd none
-  unmade_same owner group opened let_go fault.NetworkFailed none clean is_open = absurd none
-  unmade_same owner group opened let_go fault.BadMessage none clean is_open = absurd none
-  unmade_same owner group opened let_go fault.ReadFailed none clean is_open = absurd none
-  unmade_same owner group opened let_go fault.WriteFailed none clean is_open = absurd none
-  unmade_same owner group opened let_go fault.SelftestFailed none clean is_open = absurd none
+  -- where there is no table, the files held no room
+  has_none : (opened : File) → IsOpenedOver image opened → has_a_table opened.schema ≡ false
+      → (start : Room) (past : History) → HoldsRoom image start past → HasCleanDisk (file_state opened) → ⊥
+  has_none opened over none start past held was =
+      let same = found_database g image held.db held.held opened over was in
+      true≢false (sym (has_tables held.db held.room) ∙ ap (λ (d : Database). has_a_table d.schema) (sym same) ∙ none)
+
+  -- and where no room was made in it
+  unmade : (owner group : List ℕ) (opened let_go : File) (begun later : M) (why : Fault) → IsOpenedOver image opened
+      → does begun (leaves let_go) later → Unmade over_files owner group opened let_go why
+      → IsSparedIn image let_go (left later)
+  unmade owner group opened let_go begun later fault.RoomExists is gone (some, same, rests) =
+      spared let_go let_go begun later (subst (IsOpenedOver image) (sym same) is) gone (λ _. ⊥)
+      (rests, λ clean is_open. refl, no_change (file_state let_go)) (λ start past held was trees none. absurd none)
+  unmade owner group opened let_go begun later fault.StoreFailed is gone (none, same) =
+      spared opened let_go begun later is gone _ same
+      (λ start past held was. absurd (has_none opened is none start past held was))
+  unmade owner group opened let_go begun later fault.Memory is gone (none, same) =
+      spared opened let_go begun later is gone _ same
+      (λ start past held was. absurd (has_none opened is none start past held was))
+  unmade owner group opened let_go begun later fault.BadName is gone none = absurd none
+  unmade owner group opened let_go begun later fault.CannotReadRoster is gone none = absurd none
+  unmade owner group opened let_go begun later fault.BadRoster is gone none = absurd none
+  unmade owner group opened let_go begun later fault.NotARoom is gone none = absurd none
+  unmade owner group opened let_go begun later fault.NetworkFailed is gone none = absurd none
+  unmade owner group opened let_go begun later fault.BadMessage is gone none = absurd none
+  unmade owner group opened let_go begun later fault.ReadFailed is gone none = absurd none
+  unmade owner group opened let_go begun later fault.WriteFailed is gone none = absurd none
+  unmade owner group opened let_go begun later fault.SelftestFailed is gone none = absurd none
 
   pub makes_found : (db owner group : List ℕ) (before later : M) (done : Result (Unit {0}) Fault)
       → InitEnds does (Made over_files owner group) (Unmade over_files owner group) db owner group before later done
@@ -357,20 +547,15 @@ module _ {D M : Type 0} (g : Ghosts D) (image : Image) (does : M → Call (Held 
   makes_found db owner group before later done (inl (why, is, names, same)) =
       subst (MakesFound does left image db owner group before later) (sym is) (inl (names, same))
   makes_found db owner group before later done (inr (principals, inl (why, is, none))) =
-      subst (MakesFound does left image db owner group before later) (sym is) (inr (inl none))
+      subst (MakesFound does left image db owner group before later) (sym is)
+      (inr (inl (none, unopened_left db before later why none)))
   makes_found db owner group before later (Err why)
-      (inr (principals, inr (opened, begun, is, (let_go, unmade, gone)))) =
+      (inr (principals, inr (opened, begun, is, (let_go, none, gone)))) =
       inr (inr (
         opened,
         begun,
         is,
-        (
-          let_go,
-          gone,
-          λ clean is_open held holds.
-              let same = unmade_same owner group opened let_go why unmade clean is_open in
-              same.0 ∙ found_database g image held holds opened (finds before begun db opened is) same.1,
-        ),
+        (let_go, gone, unmade owner group opened let_go begun later why (finds before begun db opened is) gone none),
       ))
   makes_found db owner group before later (Ok done)
       (inr (principals, inr (opened, begun, is, (closed, made, did)))) = (
@@ -380,18 +565,14 @@ module _ {D M : Type 0} (g : Ghosts D) (image : Image) (does : M → Call (Held 
         λ clean.
             let was = was_clean made.3 clean in
             let over = finds before begun db opened is in (
-              λ start past held.
-                  let same = found_database g image held.db held.held opened over was in
-                  true≢false (sym (has_tables held.db held.room)
-                  ∙ ap (λ (d : Database). has_a_table d.schema) (sym same)
-                  ∙ made.0),
+              λ start past held. has_none opened over made.0 start past held was,
               λ empty.
                   let (is_open, made_fresh) = made.2 clean in
                   let fresh = made_fresh (found_nothing g image empty opened over was) in
                   λ one at. record {
                     db = (file_state closed).now;
-                    held = closed_holds g stays closed (left later) one (shut begun later closed did)
-                        is_open (made.1 is_open) at;
+                    held = closed_holds g stays closed (left begun) (left later) one
+                        (tells begun later (closes closed) did) is_open (made.1 is_open) at;
                     room = inl fresh.0.room;
                     rows = stand_at_first (fresh_room owner group) _ fresh.1.room fresh.1.sessions fresh.1.slots;
                   },
@@ -399,14 +580,47 @@ module _ {D M : Type 0} (g : Ghosts D) (image : Image) (does : M → Call (Held 
       )
 
   -- what a run of the program's words does, said of the files
-  module _ (accepts : M → Exchange → M → Type 0) (fails : M → M → Type 0) (before later : M) (old new : Streams)
-      (status : ℕ) where
-    abbrev program : Means M File Taken
-    program =
-        means does accepts fails adopts (λ taken. taken.0.conn) (Made over_files) (Unmade over_files) shown
+  module _ (accepts : M → Exchange → M → Type 0) (fails : M → M → Type 0)
+      (accepts_so : (old new : M) (e : Exchange) → accepts old e new → left new ≡ left old)
+      (fails_so : (old new : M) → fails old new → left new ≡ left old)
+      (before later : M) (old new : Streams) (status : ℕ) where
+    accepted_left : (n : ℕ) (from to : M) → Accepted accepts n from to → left to ≡ left from
+    accepted_left zero from to (same, none) = ap left same
+    accepted_left (suc n) from to (last, between, each, (e, took, one)) =
+        accepts_so last to e took ∙ accepted_left n from last each
 
-    job_found : (job : Job) → RunsJob program before later job old new status
-        → JobFound program left image before later job old new status
+    replay_left : (roster owner group : List ℕ) (input rest output written : Option (List ℕ))
+        (done : Result (Unit {0}) Fault)
+        → Replays does roster owner group before later input rest output written done → left later ≡ left before
+    replay_left roster owner group input rest output written done
+        (inl (inl (why, is, names, same), unread, unwritten)) =
+        ap left same
+    replay_left roster owner group input rest output written done
+        (inl (inr (names, inl (why, is, none)), unread, unwritten)) = roster_left roster before later (Err why) none
+    replay_left roster owner group input rest output written done
+        (inl (inr (names, inr (is, users, took)), unread, unwritten)) = roster_left roster before later (Ok users) took
+    replay_left roster owner group input rest output written done
+        (inr (names, users, took, why, count, next, is, all)) = roster_left roster before later (Ok users) took
+
+    selftest_left : (done : Result (Unit {0}) Fault) → SelftestEnds does accepts fails before later done
+        → left later ≡ left before
+    selftest_left done (inl (why, is, fault, same)) = ap left same
+    selftest_left (Ok done) (inr (first, second, served, one, two, answers, asked, again, took, heard)) =
+        tells served later (hears (Some answers)) heard ∙ accepted_left 2 second served took
+        ∙ tells first second (asks two true) again ∙ tells before first (asks one true) asked
+    selftest_left (Err why) (inr (fault, one, two, inl asked)) = tells before later (asks one false) asked
+    selftest_left (Err why) (inr (fault, one, two, inr (first, asked, inl again))) =
+        tells first later (asks two false) again ∙ tells before first (asks one true) asked
+    selftest_left (Err why) (inr (fault, one, two, inr (first, asked, inr (second, again, inl fewer)))) =
+        fails_so fewer.2 later fewer.4 ∙ accepted_left fewer.0 second fewer.2 fewer.3
+        ∙ tells first second (asks two true) again ∙ tells before first (asks one true) asked
+    selftest_left (Err why)
+        (inr (fault, one, two, inr (first, asked, inr (second, again, inr (served, answers, took, heard))))) =
+        tells served later (hears answers) heard ∙ accepted_left 2 second served took
+        ∙ tells first second (asks two true) again ∙ tells before first (asks one true) asked
+
+    job_found : (job : Job) → RunsJob (program accepts fails) before later job old new status
+        → JobFound (program accepts fails) left image before later job old new status
     job_found (Init db owner group) (input, output, ends) =
         end_so (makes_found (string_bytes db) (string_bytes owner) (string_bytes group) before later)
         old.errors new.errors status ends
@@ -414,17 +628,20 @@ module _ {D M : Type 0} (g : Ghosts D) (image : Image) (does : M → Call (Held 
         end_so (serves_found start past held accepts fails (string_bytes db) (string_bytes roster) port count
         before later) old.errors new.errors status ends
     job_found (Report db roster kind) (input, ends) = λ start past held.
-        end_so (reports_found start past held (string_bytes db) (string_bytes roster) kind before later
+        end_so (reports_found start past held accepts fails (string_bytes db) (string_bytes roster) kind before later
         old.output new.output) old.errors new.errors status ends
-    job_found Check ran = tt
-    job_found (Replay roster owner group) ran = tt
-    job_found Selftest ran = tt
+    job_found Check (same, ran) = ap left same
+    job_found (Replay roster owner group) (done, ran, ends) =
+        replay_left (string_bytes roster) (string_bytes owner) (string_bytes group) _ _ _ _ done ran
+    job_found Selftest (input, inl (ends, told)) = selftest_left (Ok tt) ends
+    job_found Selftest (input, inr (output, why, ends, told)) = selftest_left (Err why) ends
 
-    read_found : (read : Result Job WordsFault) → RunsRead program before later read old new status
-        → IfOk read (λ job. JobFound program left image before later job old new status)
-    read_found (Ok job) ran = job_found job ran
-    read_found (Err why) ran = tt
+    read_found : (read : Result Job WordsFault) → RunsRead (program accepts fails) before later read old new status
+        → IfOk read (λ job. JobFound (program accepts fails) left image before later job old new status)
+        × IfErr read (λ why. left later ≡ left before)
+    read_found (Ok job) ran = (job_found job ran, tt)
+    read_found (Err why) (same, unread, told) = (tt, ap left same)
 
-    pub run_found : (words : List Text) → Runs program before later words old new status
-        → RunFound program left image before later words old new status
-    run_found words (read, reads, ran) = (read, reads, read_found read ran)
+    pub run_found : (words : List Text) → Runs (program accepts fails) before later words old new status
+        → RunFound (program accepts fails) left image before later words old new status
+    run_found words (read, is, ran) = let (job, refused) = read_found read ran in (read, is, job, refused)

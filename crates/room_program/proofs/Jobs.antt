@@ -1,11 +1,15 @@
 -- What the function of a job promises, said of the job and its texts.
-use Rattle.std.proofs.Common.{◌≡◌, ℕ, List, Option, String, refl, sym, subst}
+use Rattle.std.proofs.Common.{◌≡◌, ℕ, List, true, Option, String, Result, Ok, Err, refl, sym, subst, inr}
 use Rattle.std.specs.Prelude.{string_bytes}
 use Rattle.std.specs.declared.alloc.Global.{Global}
 use Rattle.room_words.specs.declared.job.Job.{Job}
 use Rattle.room_words.specs.declared.job.Job.TheVariants.{Init, Replay, Serve, Report}
 use Rattle.room_words.specs.declared.job.ReportKind.{ReportKind}
-use Rattle.room_program.specs.Ends.{InitEnds}
+use Rattle.room_program.specs.declared.fault.Fault.{Fault}
+use Rattle.room_program.specs.Machines.{Call}
+use Rattle.room_program.specs.Machines.Call.{asks}
+use Rattle.room_program.specs.Calls.{Exchange, Accepted}
+use Rattle.room_program.specs.Ends.{InitEnds, IsAnswered, Talks}
 use Rattle.room_program.specs.Replays.{Replays}
 use Rattle.room_program.specs.Rooms.{Reports, ServesRoom}
 use Rattle.room_program.specs.Runs.{Ends, Means, RunsJob, streams}
@@ -17,6 +21,16 @@ of_two P a b x y e f p = subst (P x) f (subst (λ t. P t b) e p)
 of_three : (P : List ℕ → List ℕ → List ℕ → Type 0) (a b c x y z : List ℕ)
     → a ≡ x → b ≡ y → c ≡ z → P a b c → P x y z
 of_three P a b c x y z e f h p = of_two (P x) b c y z f h (subst (λ t. P t b c) e p)
+
+-- two connections were asked and accepted, and the later one was heard
+pub talked : {M C : Type 0} (does : M → Call C → M → Type 0) (accepts : M → Exchange → M → Type 0)
+    (fails : M → M → Type 0) (old first second served new : M) (one two : List ℕ) → does old (asks one true) first
+    → does first (asks two true) second → Accepted accepts 2 second served → (done : Result (Unit {0}) Fault)
+    → IsAnswered does served new done → Talks does accepts fails old new done
+talked does accepts fails old first second served new one two asked again took (Ok done) (answers, heard) =
+    (first, second, served, one, two, answers, asked, again, took, heard)
+talked does accepts fails old first second served new one two asked again took (Err why) (fault, answers, heard) =
+    (fault, one, two, inr (first, asked, inr (second, again, inr (served, answers, took, heard))))
 
 module _ {M C Shelf : Type 0} (m : Means M C Shelf) (before later : M) where
   pub ran_init : (job : Job) (db owner group : String Global) (d o g : List ℕ)
@@ -34,11 +48,11 @@ module _ {M C Shelf : Type 0} (m : Means M C Shelf) (before later : M) where
   pub ran_report : (job : Job) (db roster : String Global) (kind : ReportKind) (d r : List ℕ)
       (input output written errors told : Option (List ℕ)) (status : ℕ) → job ≡ Report db roster kind
       → d ≡ string_bytes db → r ≡ string_bytes roster
-      → Ends (Reports m.does m.adopts m.store m.view d r kind before later output written) errors told status
+      → Ends (Reports m.does m.takes m.store m.view d r kind before later output written) errors told status
       → RunsJob m before later job (streams input output errors) (streams input written told) status
   ran_report job db roster kind d r input output written errors told status is is_db is_roster ends =
       let May : List ℕ → List ℕ → Type 0 = λ d r.
-      Ends (Reports m.does m.adopts m.store m.view d r kind before later output written) errors told status in
+      Ends (Reports m.does m.takes m.store m.view d r kind before later output written) errors told status in
       let Ran : Job → Type 0 = λ job.
       RunsJob m before later job (streams input output errors) (streams input written told) status in
       subst Ran (sym is) (refl, of_two May d r _ _ is_db is_roster ends)
@@ -59,12 +73,12 @@ module _ {M C Shelf : Type 0} (m : Means M C Shelf) (before later : M) where
   pub ran_serve : (job : Job) (db roster : String Global) (port count : ℕ) (d r : List ℕ)
       (input output errors told : Option (List ℕ)) (status : ℕ) → job ≡ Serve db roster port count
       → d ≡ string_bytes db → r ≡ string_bytes roster
-      → Ends (ServesRoom m.does m.accepts m.fails m.adopts m.store m.view d r port count before later)
+      → Ends (ServesRoom m.does m.accepts m.fails m.takes m.store m.view d r port count before later)
       errors told status
       → RunsJob m before later job (streams input output errors) (streams input output told) status
   ran_serve job db roster port count d r input output errors told status is is_db is_roster ends =
       let May : List ℕ → List ℕ → Type 0 = λ d r.
-      Ends (ServesRoom m.does m.accepts m.fails m.adopts m.store m.view d r port count before later)
+      Ends (ServesRoom m.does m.accepts m.fails m.takes m.store m.view d r port count before later)
       errors told status in
       let Ran : Job → Type 0 = λ job.
       RunsJob m before later job (streams input output errors) (streams input output told) status in

@@ -1,10 +1,9 @@
 -- From one run to the next, over the files that the one before it left.
 use Rattle.std.proofs.Common.{◌≡◌, ℕ, zero, suc, List, IsTrue, refl, sym, subst}
 use Rattle.std.proofs.Common.{inl, inr, false, ◌∷◌, ◌⊎◌}
-use Rattle.std.proofs.Common.{Option, Some, Result, Ok, []}
+use Rattle.std.proofs.Common.{Option, Some, Result, Ok, Err, [], ap, ◌∙◌}
 use Rattle.std.proofs.Math.Logic.{∥∥₁_map, ∥∥₁_elim}
 use Rattle.sqlite_disk.specs.declared.Disk.{Ghosts}
-use Rattle.sqlite_disk.specs.declared.Files.{Files}
 use Rattle.sqlite_trees.specs.Tree.{Trees}
 use Rattle.sqlite.specs.FileStore.{recovers}
 use Rattle.sqlite.proofs.Theorems.{next_run, opens_again}
@@ -30,17 +29,21 @@ use Rattle.room_desk.specs.Representation.{RepresentsHistory, StandsFor}
 use Rattle.room_desk.specs.Serving.{EventAnswered}
 use Rattle.room_desk.proofs.Stops.{sent_again}
 use Rattle.room_program.specs.declared.fault.Fault.{Fault}
+use Rattle.room_program.specs.declared.left.Left.{Left}
+use Rattle.room_program.specs.declared.left.Left.TheVariants.{Nothing}
 use Rattle.room_program.specs.Machines.{Call}
 use Rattle.room_program.specs.Calls.{Exchange}
-use Rattle.room_program.specs.Machines.Call.{opens, closes}
+use Rattle.room_program.specs.Machines.Call.{opens, closes, leaves}
 use Rattle.room_program.specs.Rooms.{Listens, WritesReport}
 use Rattle.room_words.specs.declared.job.ReportKind.{ReportKind}
-use Rattle.room_program.specs.Files.{Adopted, TakesRoom}
+use Rattle.room_program.specs.Ends.{InitEnds}
+use Rattle.room_program.specs.Files.{Adopted, Takes, TakesRoom, Made, Unmade}
 use Rattle.room_program.specs.Streams.{ServesSome}
 use Rattle.room_program.specs.Found.{IsOpenedOver, Holds, HoldsRoom, IsLeftBy, Leaves, MayBeLeft}
-use Rattle.room_program.specs.Restarts.{ActsOnce, Steps, KeepsRoom, KeepsRoomOrMore}
+use Rattle.room_program.specs.Restarts.{ActsOnce, Steps, KeepsRoom, KeepsRoomOrMore, HoldsStill}
 use Rattle.room_program.specs.Restarts.{GoesOnBySome, GoesOnOrMore, AnswersOrMore}
-use Rattle.room_program.proofs.Found.{stands, closed_holds, unopened, served, one_database}
+use Rattle.room_program.proofs.Found.{stands, closed_holds, left_holds, unopened, served, read_stands}
+use Rattle.room_program.proofs.Found.{spares, makes_found, one_database}
 
 module _ {D : Type 0} (g : Ghosts D) where
   -- what a crash left of a store is found by the next run
@@ -63,6 +66,16 @@ pub keeps_or_more : (found left : Image) → KeepsRoom found left → KeepsRoomO
 keeps_or_more found left keeps start past held =
     let (next, goes, there) = keeps start past held in
     ∣ (next, (goes.0, next, goes.1, inl refl), there) ∣₁
+
+-- no message was served
+nothing_served : (start : Room) (past : History) → GoesOnBySome start past past
+nothing_served start past =
+    ([], record { messages = []; output = []; run = (refl, refl); events = []; on = refl })
+
+pub still_keeps : (found left : Image) → HoldsStill found left → KeepsRoomOrMore found left
+still_keeps found left still start past held =
+    let (users, none) = nothing_served start past in
+    ∥∥₁_map (still start past held) (λ there. (past, (users, past, none, inl refl), there))
 
 pub room_after : (more : ℕ) (found left : Image) (start : Room) (past : History) → Steps KeepsRoom more found left
     → HoldsRoom found start past
@@ -101,12 +114,8 @@ module _ {S : Type 0} (view : S → View) where
       (done : Result (Unit {0}) Fault) → WritesReport view kind users taken last old new done → RunsOn view taken last
   by_report kind users taken last old new done writes start past stand = (
     past,
-    ([], record { messages = []; output = []; run = (refl, refl); events = []; on = refl }),
-    λ there.
-        let (laid_out, rows) = stand (writes.read.call.was_available there) in (
-          writes.read.call.laid_out there laid_out,
-          subst (λ r. RepresentsHistory start r past) (sym (writes.read.same there laid_out)) rows,
-        ),
+    nothing_served start past,
+    read_stands view kind users taken last old new done writes start past stand,
   )
 
 module _ {D : Type 0} (g : Ghosts D) (found left : Image) (opened : Held (FileStore D g))
@@ -128,7 +137,8 @@ module _ {D : Type 0} (g : Ghosts D) (found left : Image) (opened : Held (FileSt
   pub keeps_room_or_more : AnswersOrMore (cached_view (sql_view over_files)) users taken last
       → MayBeLeft last.0.conn.store left → KeepsRoomOrMore found left
   keeps_room_or_more answers at start past held =
-      let (next, goes, leaves, laid) = answers start past (stands g found start past held opened taken is adopted) in
+      let (next, goes, left_so, laid) =
+      answers start past (stands g found start past held opened taken is adopted) in
       let it = last.0.conn.store in
       ∥∥₁_map (opens_again it at.numbered (databases g it laid) left at.may) (λ one.
       let (trees, may, holds) = one in
@@ -139,7 +149,7 @@ module _ {D : Type 0} (g : Ghosts D) (found left : Image) (opened : Held (FileSt
         held = record { trees = ∣ holds ∣₁; sound = of_room.sound };
         room = inl of_room;
         rows = rows;
-      } in elim (leaves (records_of trees) (clean, (trees, may, refl))) [
+      } in elim (left_so (records_of trees) (clean, (trees, may, refl))) [
         | inl rows ↦ (next, (users, next, goes, inl refl), room next rows)
         | inr (m, event, asks, (changes, rows)) ↦ (
           event ∷ next,
@@ -150,36 +160,77 @@ module _ {D : Type 0} (g : Ghosts D) (found left : Image) (opened : Held (FileSt
 
 -- a `serve` that took its room and closed it
 module _ {D M : Type 0} (g : Ghosts D) (image : Image) (does : M → Call (Held (FileStore D g)) → M → Type 0)
-    (left : M → Option (Files D)) (stays : (file : D) → g.may_leave file (g.seen file))
+    (left : M → Left D g) (stays : (file : D) → g.may_leave file (g.seen file))
     (finds : (old new : M) (path : List ℕ) (c : Held (FileStore D g)) → does old (opens path (Some c)) new
     → IsOpenedOver image c)
-    (shut : (old new : M) (c : Held (FileStore D g)) → does old (closes c) new → Leaves (closes c) (left new)) where
+    (tells : (old new : M) (call : Call (Held (FileStore D g))) → does old call new
+    → Leaves call (left old) (left new)) where
   abbrev Taken : Type 0
   Taken = SqlShelf (FileStore D g) over_files × Known
 
   took : (db : List ℕ) (old new : M) (shelf : Taken)
-      → TakesRoom does (λ opened shelf. Adopted over_files opened shelf) db old new (Ok shelf)
+      → TakesRoom does (λ opened taken. Takes over_files opened taken) db old new (Ok shelf)
       → (opened : Held (FileStore D g)) × IsOpenedOver image opened × Adopted over_files opened shelf
   took db old new shelf (inl (begun, looked, none)) = absurd (unopened begun shelf none)
   took db old new shelf (inr (seen, looked, inl (fault, bad, opened))) = absurd (let e = bad in cc)
-  took db old new shelf (inr (seen, looked, inr (opened, is, adopted))) =
-      (opened, finds seen new db opened is, adopted)
+  took db old new shelf (inr (seen, looked, inr (opened, begun, is, (adopted, same)))) =
+      (opened, finds seen begun db opened is, adopted)
 
   pub served_run : (accepts : M → Exchange → M → Type 0) (fails : M → M → Type 0) (db : List ℕ)
       (users : List SubjectModel) (port count : ℕ) (read taken over later : M) (shelf last : Taken)
       (done : Result (Unit {0}) Fault) (one : Image)
-      → TakesRoom does (λ opened shelf. Adopted over_files opened shelf) db read taken (Ok shelf)
+      → TakesRoom does (λ opened taken. Takes over_files opened taken) db read taken (Ok shelf)
       → Listens does accepts fails (cached_view (sql_view over_files)) users port count taken over shelf last done
       → does over (closes last.0.conn) later → HasCleanDisk (file_state last.0.conn)
-      → IsTrue (file_state last.0.conn).is_open → IsLeftBy last.0.conn (left later) one
+      → IsTrue (file_state last.0.conn).is_open → IsLeftBy (left later) one
       → KeepsRoom image one
   served_run accepts fails db users port count read taken over later shelf last done one room listens closed clean
       is_open at =
       let (opened, is, adopted) = took db read taken shelf room in
       let some = served does _ accepts fails users port count taken over shelf last done listens in
       keeps_room g image one opened shelf last users is adopted clean (by_messages _ users shelf last some clean)
-      is_open (closed_holds g stays last.0.conn (left later) one (shut over later last.0.conn closed)
+      is_open (closed_holds g stays last.0.conn (left over) (left later) one
+      (tells over later (closes last.0.conn) closed) is_open (last.0.rests is_open) at)
+
+  -- a report over it, which lets it go
+  pub reported_run : (db : List ℕ) (kind : ReportKind) (users : List SubjectModel) (read seen later : M)
+      (taken last : Taken) (old new : Option (List ℕ)) (done : Result (Unit {0}) Fault) (one : Image)
+      → TakesRoom does (λ opened taken. Takes over_files opened taken) db read seen (Ok taken)
+      → WritesReport (cached_view (sql_view over_files)) kind users taken last old new done
+      → does seen (leaves last.0.conn) later → HasCleanDisk (file_state last.0.conn)
+      → IsTrue (file_state last.0.conn).is_open → IsLeftBy (left later) one → KeepsRoom image one
+  reported_run db kind users read seen later taken last old new done one room writes gone clean is_open at =
+      let (opened, is, adopted) = took db read seen taken room in
+      keeps_room g image one opened taken last users is adopted clean
+      (by_report _ kind users taken last old new done writes) is_open
+      (left_holds g stays last.0.conn (left seen) (left later) one (tells seen later (leaves last.0.conn) gone)
       is_open (last.0.rests is_open) at)
+
+  -- no store was given up, so nothing is known of the files
+  ungiven : (from to : M) (one : Image) → left from ≡ Nothing → left to ≡ left from → IsLeftBy (left to) one → ⊥
+  ungiven from to one none same at = subst (λ (l : Left D g). IsLeftBy l one) (same ∙ none) at
+
+  -- a room that was not taken
+  pub untaken_run : (db : List ℕ) (read later : M) (why : Fault) (one : Image)
+      → TakesRoom does (λ opened taken. Takes over_files opened taken) db read later (Err why)
+      → left read ≡ Nothing → IsLeftBy (left later) one → HoldsStill image one
+  untaken_run db read later why one untook none at =
+      elim (spares g image does left stays finds tells db read later why untook) [
+        | inl same ↦ absurd (ungiven read later one none same at)
+        | inr (begun, (let_go, gone, is)) ↦ λ start past held. is.room start past held one at
+      ]
+
+  -- a room that was there as one was to be made
+  pub unmade_run : (db owner group : List ℕ) (before later : M) (why : Fault) (one : Image)
+      → InitEnds does (Made over_files owner group) (Unmade over_files owner group) db owner group before later
+      (Err why)
+      → left before ≡ Nothing → IsLeftBy (left later) one → HoldsStill image one
+  unmade_run db owner group before later why one ends none at =
+      elim (makes_found g image does left stays finds tells db owner group before later (Err why) ends) [
+        | inl (names, same) ↦ absurd (ungiven before later one none (ap left same) at)
+        | inr (inl (unopened, same)) ↦ absurd (ungiven before later one none same at)
+        | inr (inr (opened, begun, is, (let_go, gone, spared))) ↦ λ start past held. spared.room start past held one at
+      ]
 
 -- the next run finds a room with records that the crash may leave of a store that a fault had shut
 pub found_records : {D E : Type 0} (g : Ghosts D) (h : Ghosts E) (was : SqlShelf (FileStore D g) over_files)

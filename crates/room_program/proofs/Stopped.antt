@@ -1,5 +1,6 @@
 -- What a stop in the middle of an event leaves.
 use Rattle.std.proofs.Common.{◌≡◌, ◌∙◌, refl, sym, subst, inl, inr, ◌∷◌, IsTrue, arith}
+use Rattle.std.proofs.Common.{Result, Ok, Err}
 use Rattle.std.proofs.Math.Logic.{∥∥₁_map}
 use Rattle.sqlite_disk.specs.declared.Disk.{Ghosts}
 use Rattle.sqlite_disk.specs.declared.Files.{Files}
@@ -12,7 +13,7 @@ use Rattle.sqlite.specs.FileStore.{state, view, faults, recovers, is_shielded, f
 use Rattle.sqlite.proofs.Theorems.{opens_again}
 use Rattle.sqlite.specs.Recovery.{Image}
 use Rattle.sqlite.specs.declared.FileStore.{FileStore}
-use Rattle.sqlite.specs.State.{HasCleanDisk}
+use Rattle.sqlite.specs.State.{HasCleanDisk, Survives}
 use Rattle.sqlite.specs.Held.{Held, AreDatabases}
 use Rattle.sqlite.specs.Files.{file_state, over_files}
 use Rattle.room_records.specs.Room.{Room}
@@ -22,11 +23,17 @@ use Rattle.room_cache.specs.Cached.{cached_view}
 use Rattle.room_tables.specs.Rows.{records_of}
 use Rattle.room_sql.specs.declared.sql_shelf.SqlShelf.{SqlShelf}
 use Rattle.room_sql.specs.SqlView.{sql_view}
+use Rattle.room_sql.specs.Taken.{MayBeTaken}
+use Rattle.room_sql.proofs.Frames.{was_clean}
 use Rattle.room_wire.specs.Asks.EventModel.{EventModel}
 use Rattle.room_desk.specs.History.{History}
 use Rattle.room_desk.specs.Representation.{RepresentsHistory}
-use Rattle.room_program.specs.Found.{HoldsRoom}
-use Rattle.room_program.specs.Halts.{StandsOrWith, HoldsOldOrNew, HoldsRoomWith}
+use Rattle.room_program.specs.declared.fault.Fault.{Fault}
+use Rattle.room_program.specs.Files.{Takes}
+use Rattle.room_program.specs.Found.{IsOpenedOver, HoldsRoom}
+use Rattle.room_program.specs.Halts.{StandsOrWith, HoldsOldOrNew, HoldsRoomWith, connection_of}
+use Rattle.room_program.specs.Restarts.{HoldsStill}
+use Rattle.room_program.proofs.Found.{may_room}
 
 -- A shelf's store is taken out of its connection and closed, and its files have returned what was written
 module _ {D : Type 0} (g : Ghosts D) (was : SqlShelf (FileStore D g) over_files) (conn : Held (FileStore D g))
@@ -84,3 +91,30 @@ module _ {D : Type 0} {g : Ghosts D} (shelf desk : SqlShelf (FileStore D g) over
         | inl without ↦ inl (here past without)
         | inr with_it ↦ inr (with_it.0, here (event ∷ past) with_it.1)
       ])
+
+-- A take that is cut off
+module _ {D : Type 0} (g : Ghosts D) (stays : (file : D) → g.may_leave file (g.seen file)) (found : Image)
+    (opened shut : Held (FileStore D g)) (is : IsOpenedOver found opened) where
+  abbrev Spares : Held (FileStore D g) → Type 0
+  Spares c = Survives (file_state opened) (file_state c) (MayBeTaken (file_state opened))
+
+  spared_by : (taken : Result (SqlShelf (FileStore D g) over_files × Known) (Fault × Held (FileStore D g)))
+      → Takes over_files opened taken → connection_of taken ≡ shut → Spares shut
+  spared_by (Ok taken) adopted same = subst Spares same adopted.2
+  spared_by (Err (why, let_go)) none same = subst Spares same none.spared.2
+
+  pub take_spared : (taken : Result (SqlShelf (FileStore D g) over_files × Known) (Fault × Held (FileStore D g)))
+      → Takes over_files opened taken → connection_of taken ≡ shut → (it : FileStore D g)
+      → IsQuiet view faults recovers is_shielded shut.store it → (IsClean (view it) → IsTrue (view it).is_numbered)
+      → (IsClean (view it) → AreDatabases (recovers it)) → (files : Files D) → (files.log, files.db) ≡ files_in it
+      → AreClean g files.log files.db → (image : Image) → outcomes g files.log files.db image → HoldsStill found image
+  take_spared taken takes same it quiet numbered sound files closed honest image may start past held =
+      let sure = subst (λ (p : D × D). AreClean g p.0 p.1) closed honest in
+      let none : IsClean (view it) = no_doubt _ (clean_is it.pool ∙ sure) in
+      let there : (state it).may_leave image
+      = may_leave_is it.pool image sure (subst (λ (p : D × D). outcomes g p.0 p.1 image) closed may) in
+      let clean : HasCleanDisk (file_state shut) = omega (arith, quiet.clean, none) in
+      let survives = spared_by taken takes same in
+      may_room g found start past held stays opened is (was_clean survives clean) it
+      (λ trees left. survives.crash clean trees (quiet.outcomes trees left)) (sound none) image
+      (record { may = there; numbered = numbered none })

@@ -21,7 +21,7 @@ use Rattle.room_desk.proofs.Stops.{at_rest}
 use Rattle.room_desk.proofs.StreamStops.{stream_in_doubt, laid_out_in_stream, by_answers}
 use Rattle.room_desk.proofs.StreamStops.{AreAsked, none_asked, asked_in_stream}
 use Rattle.room_program.specs.declared.fault.Fault.{Fault}
-use Rattle.room_program.specs.Calls.{Exchange, ServesEach}
+use Rattle.room_program.specs.Calls.{Exchange, ServesEach, Accepted}
 use Rattle.room_program.specs.Rooms.{ServesAll}
 use Rattle.room_program.specs.Streams.{GoesOn, Served, ServesSome}
 
@@ -43,6 +43,13 @@ goes_further users start past next last a b = record {
   events = b.events ++ a.events;
   on = b.on ∙ ap (λ t. b.events ++ t) a.on ∙ sym (append_assoc b.events a.events past);
 }
+
+-- so many connections were accepted, whatever served them
+pub accepted : {L S : Type 0} (accepts : L → Exchange → L → Type 0) (serves : S → Exchange → S → Type 0) (n : ℕ)
+    (old new : L) (before after : S) → ServesEach accepts serves n old new before after → Accepted accepts n old new
+accepted accepts serves zero old new before after (same, none) = (same, refl)
+accepted accepts serves (suc n) old new before after (last, between, each, (e, took, one)) =
+    (last, tt, accepted accepts serves n old last before between each, (e, took, tt))
 
 module _ {S : Type 0} (view : S → View) (users : List SubjectModel) where
   pub serves_none : (s : S) → ServesSome view users s s
@@ -70,7 +77,7 @@ module _ {S : Type 0} (view : S → View) (users : List SubjectModel) where
   }
 
   module _ {L : Type 0} (accepts : L → Exchange → L → Type 0) (fails : L → L → Type 0) (old new : L) (before : S) where
-    serves_each : (n : ℕ) (last : L) (after : S) → ServesEach accepts (Served view users) n old last before after
+    pub serves_each : (n : ℕ) (last : L) (after : S) → ServesEach accepts (Served view users) n old last before after
         → ServesSome view users before after
     serves_each zero last after none = subst (ServesSome view users before) (sym none.1) (serves_none before)
     serves_each (suc n) last after (late, between, each, one) =

@@ -43,3 +43,8 @@ abbrev pub ServesFewer : {L S : Type 0} → (accepts : L → Exchange → L → 
     → (serves : S → Exchange → S → Type 0) → ℕ → (old new : L) → (before after : S) → Type 0
 ServesFewer {L} accepts fails serves count old new before after =
     (n : ℕ) × (n < count) × (last : L) × ServesEach accepts serves n old last before after × fails last new
+
+abbrev pub AcceptsFewer : {L : Type 0} → (accepts : L → Exchange → L → Type 0) → (fails : L → L → Type 0) → ℕ → L → L
+    → Type 0
+AcceptsFewer accepts fails n old new =
+    ServesFewer {S = Unit {0}} accepts fails (λ before e after. Unit {0}) n old new tt tt

@@ -1,12 +1,12 @@
 -- How jobs end.
-use Rattle.std.specs.Prelude.{◌≡◌, ◌⊎◌, ℕ, List, true, Some, Result, Ok, Err}
+use Rattle.std.specs.Prelude.{◌≡◌, ◌⊎◌, ℕ, List, true, false, Option, Some, Result, Ok, Err}
 use Rattle.room_acl.specs.Principals.{IsPrincipal}
 use Rattle.room_program.specs.declared.fault.Fault.{Fault}
 use Rattle.room_program.specs.declared.fault.Fault.TheVariants.{BadName, Memory, NetworkFailed, SelftestFailed}
 use Rattle.room_program.specs.Machines.{Call}
 use Rattle.room_program.specs.Machines.Call.{asks, hears}
 use Rattle.room_program.specs.Files.{MakesAt}
-use Rattle.room_program.specs.Calls.{Exchange, Accepted}
+use Rattle.room_program.specs.Calls.{Exchange, Accepted, AcceptsFewer}
 
 -- a name that is no principal, or want of memory
 abbrev pub IsNameFault : List ℕ → Fault → Type 0
@@ -43,23 +43,36 @@ IsSelftestFault Memory = Unit {0}
 IsSelftestFault SelftestFailed = Unit {0}
 IsSelftestFault other = ⊥
 
--- two connections are accepted, or it is a fault
-abbrev pub AcceptsTwo : {M : Type 0} → (accepts : M → Exchange → M → Type 0) → (old new : M)
+-- two connections are accepted; or fewer, and it is a fault
+abbrev pub AcceptsTwo : {M : Type 0} → (accepts : M → Exchange → M → Type 0) → (fails : M → M → Type 0) → (old new : M)
     → Result (Unit {0}) Fault → Type 0
-AcceptsTwo accepts old new (Ok done) = Accepted accepts 2 old new
-AcceptsTwo accepts old new (Err fault) = IsSelftestFault fault
+AcceptsTwo accepts fails old new (Ok done) = Accepted accepts 2 old new
+AcceptsTwo accepts fails old new (Err fault) = IsSelftestFault fault × AcceptsFewer accepts fails 2 old new
 
--- what a connection is answered could be read, or it is a fault
+-- what a connection is answered could be read; or it could not, or is something else, and it is a fault
 abbrev pub IsAnswered : {M C : Type 0} → (does : M → Call C → M → Type 0) → (old new : M)
     → Result (Unit {0}) Fault → Type 0
 IsAnswered does old new (Ok done) = (answers : List ℕ) × does old (hears (Some answers)) new
-IsAnswered does old new (Err fault) = IsSelftestFault fault
+IsAnswered does old new (Err fault) =
+    IsSelftestFault fault × (answers : Option (List ℕ)) × does old (hears answers) new
 
--- `selftest`: it is done only after two connections to itself were made and sent bytes, two were accepted, and the
--- later one could be read
-abbrev pub SelftestEnds : {M C : Type 0} → (does : M → Call C → M → Type 0)
-    → (accepts : M → Exchange → M → Type 0) → (old new : M) → Result (Unit {0}) Fault → Type 0
-SelftestEnds {M} does accepts old new (Ok done) =
+-- what `selftest` does with its two connections, and how far it came where that is a fault: either could not be made,
+-- or fewer than two were accepted, or the later one is not answered so
+abbrev pub Talks : {M C : Type 0} → (does : M → Call C → M → Type 0) → (accepts : M → Exchange → M → Type 0)
+    → (fails : M → M → Type 0) → (old new : M) → Result (Unit {0}) Fault → Type 0
+Talks {M} does accepts fails old new (Ok done) =
     (first second served : M) × (one two answers : List ℕ) × does old (asks one true) first
     × does first (asks two true) second × Accepted accepts 2 second served × does served (hears (Some answers)) new
-SelftestEnds does accepts old new (Err fault) = IsSelftestFault fault
+Talks {M} does accepts fails old new (Err fault) = IsSelftestFault fault × (one two : List ℕ)
+    × (does old (asks one false) new
+    ⊎ ((first : M) × does old (asks one true) first × (does first (asks two false) new
+    ⊎ ((second : M) × does first (asks two true) second × (AcceptsFewer accepts fails 2 second new
+    ⊎ ((served : M) × (answers : Option (List ℕ)) × Accepted accepts 2 second served
+    × does served (hears answers) new))))))
+
+-- `selftest`: it is done only after two connections to itself were made and sent bytes, two were accepted, and the
+-- later one could be read; and memory may be wanting before anything is asked
+abbrev pub SelftestEnds : {M C : Type 0} → (does : M → Call C → M → Type 0) → (accepts : M → Exchange → M → Type 0)
+    → (fails : M → M → Type 0) → (old new : M) → Result (Unit {0}) Fault → Type 0
+SelftestEnds does accepts fails old new done =
+    ((fault : Fault) × (done ≡ Err fault) × IsSelftestFault fault × (new ≡ old)) ⊎ Talks does accepts fails old new done

@@ -1,6 +1,7 @@
 -- What is taken from files.
 use Rattle.std.specs.Prelude.{◌≡◌, ◌⊎◌, ℕ, List, Bool, true, false, Option, Some, None, Result, Ok, Err, IsTrue}
 use Rattle.sqlite_trees.specs.declared.store.Store.{Ghosts}
+use Rattle.sqlite_trees.specs.Tree.{Trees}
 use Rattle.sqlite.specs.State.{HasCleanDisk, Survives}
 use Rattle.sqlite.specs.Held.{Held, state}
 use Rattle.room_acl.specs.SubjectModel.{SubjectModel}
@@ -44,20 +45,20 @@ OpensStore {M} {C} does path old new (Err StoreFailed) = (opened : Option C) × 
 OpensStore {M} {C} does path old new (Err Memory) = (opened : Option C) × does old (opens path opened) new
 OpensStore does path old new (Err other) = ⊥
 
--- the shelf over a store that was opened
-abbrev pub Adopts : {C Shelf : Type 0} → (adopts : C → Shelf → Type 0) → C → Result Shelf Fault → Type 0
-Adopts adopts opened (Ok shelf) = adopts opened shelf
-Adopts adopts opened (Err NotARoom) = Unit {0}
-Adopts adopts opened (Err StoreFailed) = Unit {0}
-Adopts adopts opened (Err Memory) = Unit {0}
-Adopts adopts opened (Err other) = ⊥
+-- the shelf over a store that was opened; or why it is no room that can be taken, and it is let go
+abbrev pub Adopts : {M C Shelf : Type 0} → (does : M → Call C → M → Type 0)
+    → (takes : C → Result Shelf (Fault × C) → Type 0) → C → M → M → Result Shelf Fault → Type 0
+Adopts does takes opened old new (Ok shelf) = takes opened (Ok shelf) × (new ≡ old)
+Adopts {M} {C} does takes opened old new (Err fault) =
+    (let_go : C) × takes opened (Err (fault, let_go)) × does old (leaves let_go) new
 
 -- the shelf over the store at a path: the one that was opened and adopted
 abbrev pub OpensRoom : {M C Shelf : Type 0} → (does : M → Call C → M → Type 0)
-    → (adopts : C → Shelf → Type 0) → List ℕ → M → M → Result Shelf Fault → Type 0
-OpensRoom {M} {C} does adopts path old new taken =
+    → (takes : C → Result Shelf (Fault × C) → Type 0) → List ℕ → M → M → Result Shelf Fault → Type 0
+OpensRoom {M} {C} does takes path old new taken =
     ((fault : Fault) × (taken ≡ Err fault) × OpensStore does path old new (Err fault))
-    ⊎ ((opened : C) × OpensStore does path old new (Ok opened) × Adopts adopts opened taken)
+    ⊎ ((opened : C) × (begun : M) × OpensStore does path old begun (Ok opened)
+    × Adopts does takes opened begun new taken)
 
 -- nothing is opened where a file is not there or empty, which is no room, or where that can't be told
 abbrev pub IsUnopened : {Shelf : Type 0} → (begun : Option Bool) → Result Shelf Fault → Type 0
@@ -68,10 +69,10 @@ IsUnopened begun other = ⊥
 
 -- the shelf of the store at a path, where a file with bytes is there
 abbrev pub TakesRoom : {M C Shelf : Type 0} → (does : M → Call C → M → Type 0)
-    → (adopts : C → Shelf → Type 0) → List ℕ → M → M → Result Shelf Fault → Type 0
-TakesRoom {M} does adopts path old new taken =
+    → (takes : C → Result Shelf (Fault × C) → Type 0) → List ℕ → M → M → Result Shelf Fault → Type 0
+TakesRoom {M} does takes path old new taken =
     ((begun : Option Bool) × does old (looks path begun) new × IsUnopened begun taken)
-    ⊎ ((seen : M) × does old (looks path (Some true)) seen × OpensRoom does adopts path seen new taken)
+    ⊎ ((seen : M) × does old (looks path (Some true)) seen × OpensRoom does takes path seen new taken)
 
 -- a store that was opened has the tables and columns of a room of version 2 or 1, and is taken by a shelf that knows
 -- nothing, as `SqlShelf::adopt` has it: the one as it was, and the other as the room of version 2 that it became. What
@@ -83,6 +84,36 @@ Adopted g opened taken = (IsTrue (has_room opened.schema) ⊎ IsTrue (has_first_
     × Survives (state g opened) (state g taken.0.conn) (adoption.MayBeTaken (state g opened))
     × KnowsNothing taken.0.known × ((r : Records) → IsTrueOf taken.1 r)
 
+-- a store that is let go shows what it showed, and committed it, where no fault has shut it, and a crash leaves what it
+-- could leave before, or what a commit that was tried leaves
+abbrev pub IsSpared : {S : Type 0} → Ghosts S → (opened let_go : Held S) → (commits : Trees → Type 0) → Type 0
+IsSpared g opened let_go commits =
+    (IsTrue (state g let_go).is_open → (state g let_go).now.trees ≡ (state g let_go).committed.trees)
+    × (HasCleanDisk (state g let_go) → IsTrue (state g let_go).is_open
+    → (state g let_go).now ≡ (state g opened).now)
+    × Survives (state g opened) (state g let_go) commits
+
+-- the faults of taking a room
+abbrev pub IsTakeFault : Fault → Type 0
+IsTakeFault NotARoom = Unit {0}
+IsTakeFault StoreFailed = Unit {0}
+IsTakeFault Memory = Unit {0}
+IsTakeFault other = ⊥
+
+-- why no room is taken of a store that was opened, and what is let go: no more was tried than to make one of version 1
+-- one of version 2; and it is no room only where nothing was tried, and the version of one is not there
+pub record Untaken {S : Type 0} (g : Ghosts S) (opened let_go : Held S) (why : Fault) : Type 0 where
+  pub fault : IsTakeFault why
+  pub spared : IsSpared g opened let_go (adoption.MayBeTaken (state g opened))
+  pub no_room : why ≡ NotARoom → adoption.IsAsBefore (state g opened) (state g let_go)
+      × (HasCleanDisk (state g let_go) → adoption.HasAnotherVersion (state g opened))
+
+-- a store that was opened is taken, or let go
+abbrev pub Takes : {S : Type 0} (g : Ghosts S) → (opened : Held S)
+    → Result (SqlShelf S g × Known) (Fault × Held S) → Type 0
+Takes g opened (Ok taken) = Adopted g opened taken
+Takes g opened (Err (fault, let_go)) = Untaken g opened let_go fault
+
 -- a store that was opened had no table of a room, and a fresh room was made in it and committed, as `SqlShelf::init`
 -- has it
 abbrev pub Made : {S : Type 0} → Ghosts S → (owner group : List ℕ) → (opened made : Held S) → Type 0
@@ -92,20 +123,15 @@ Made g owner group opened made = (has_a_table opened.schema ≡ false)
     × (opened.schema ≡ schema_0 → IsFreshRoom owner group (state g made).now))
     × Survives (state g opened) (state g made) (MayBeMade owner group (state g opened).now)
 
--- a store in which no room was made shows what it showed, where no fault has shut it, and a crash leaves that or a
--- fresh room
-abbrev pub IsSpared : {S : Type 0} → Ghosts S → (owner group : List ℕ) → (opened let_go : Held S) → Type 0
-IsSpared g owner group opened let_go = (has_a_table opened.schema ≡ false)
-    × (HasCleanDisk (state g let_go) → IsTrue (state g let_go).is_open
-    → (state g let_go).now ≡ (state g opened).now)
-    × Survives (state g opened) (state g let_go) (MayBeMade owner group (state g opened).now)
-
--- why no room was made in a store that was opened, and what is let go: it had a table of a room and is as it was, or
--- it had none and is spared
+-- why no room was made in a store that was opened, and what is let go: it had a table of a room and is as it was, with
+-- what it shows committed; or it had none and is spared
 abbrev pub Unmade : {S : Type 0} → Ghosts S → (owner group : List ℕ) → (opened let_go : Held S) → Fault → Type 0
 Unmade g owner group opened let_go RoomExists = IsTrue (has_a_table opened.schema) × (let_go ≡ opened)
-Unmade g owner group opened let_go StoreFailed = IsSpared g owner group opened let_go
-Unmade g owner group opened let_go Memory = IsSpared g owner group opened let_go
+    × (IsTrue (state g let_go).is_open → (state g let_go).now.trees ≡ (state g let_go).committed.trees)
+Unmade g owner group opened let_go StoreFailed =
+    (has_a_table opened.schema ≡ false) × IsSpared g opened let_go (MayBeMade owner group (state g opened).now)
+Unmade g owner group opened let_go Memory =
+    (has_a_table opened.schema ≡ false) × IsSpared g opened let_go (MayBeMade owner group (state g opened).now)
 Unmade g owner group opened let_go other = ⊥
 
 -- a fresh room was made in a store, and so it is closed; or why not, and then it is let go

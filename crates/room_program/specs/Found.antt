@@ -1,9 +1,8 @@
 -- What a run finds in files that held something as they were opened, and what it leaves in them.
-use Rattle.std.specs.Prelude.{◌≡◌, ◌⊎◌, ℕ, List, [], Option, Some, None, Result, Ok, Err, OnOk, IfOk, IsTrue}
+use Rattle.std.specs.Prelude.{◌≡◌, ◌⊎◌, ℕ, List, [], Option, Some, Result, Ok, Err, OnOk, IfOk, IfErr, IsTrue}
 use Rattle.std.specs.Prelude.{string_bytes}
 use Rattle.std.specs.Io.KnownBytes.{Appends}
 use Rattle.sqlite_disk.specs.declared.Disk.{Ghosts}
-use Rattle.sqlite_disk.specs.declared.Files.{Files}
 use Rattle.sqlite.specs.WalFiles.{outcomes}
 use Rattle.sqlite.specs.FileStore as store
 use Rattle.sqlite.specs.View.{IsClean}
@@ -29,11 +28,13 @@ use Rattle.room_words.specs.declared.job.Job.{Job}
 use Rattle.room_words.specs.declared.job.Job.TheVariants.{Check, Init, Replay, Serve, Report, Selftest}
 use Rattle.room_words.specs.CommandLine.{ReadsJob}
 use Rattle.room_program.specs.declared.fault.Fault.{Fault}
+use Rattle.room_program.specs.declared.left.Left.{Left}
+use Rattle.room_program.specs.declared.left.Left.TheVariants.{Nothing, Copied, Kept}
 use Rattle.room_program.specs.Machines.{Call}
 use Rattle.room_program.specs.Machines.Call.{opens, closes, leaves}
-use Rattle.room_program.specs.Files.{TakesRoster, OpensStore}
+use Rattle.room_program.specs.Files.{TakesRoster, TakesRoom, OpensStore}
 use Rattle.room_program.specs.Ends.{IsNamesFault}
-use Rattle.room_program.specs.Rooms.{FailsRoster, FailsRoom, report_text}
+use Rattle.room_program.specs.Rooms.{FailsRoster, FailsRoom, Listens, WritesReport, report_text}
 use Rattle.room_program.specs.Runs.{Means, Streams, Ends}
 use Rattle.room_program.specs.Streams.{GoesOn}
 
@@ -48,13 +49,22 @@ abbrev pub Found : {D : Type 0} {g : Ghosts D} → Image → Call (Held (FileSto
 Found image (opens path (Some c)) = IsOpenedOver image c
 Found image other = Unit {0}
 
--- A store that is closed is a database. Its last commit is then in the database file alone, as it reads now and after a
--- crash; or its log could not be copied, and a crash leaves nothing that it could not leave before
-abbrev pub Leaves : {D : Type 0} {g : Ghosts D} → Call (Held (FileStore D g)) → Option (Files D) → Type 0
-Leaves {D} {g} (closes c) (Some files) =
+-- a store was taken out of its connection, and nothing more was committed; its trees are numbered
+pub record IsLetGo {D : Type 0} {g : Ghosts D} (c : Held (FileStore D g)) (it : FileStore D g) : Type 0 where
+  pub closed : IsClosed c it
+  pub numbered : IsClean (store.view it) → IsTrue (store.view it).is_numbered
+
+-- A store that is closed or let go is a database. Its last commit is then in the database file alone, as it reads now
+-- and after a crash; or its log was not copied, and a crash leaves nothing that it could not leave before. No other
+-- call gives a store up
+abbrev pub Leaves : {D : Type 0} {g : Ghosts D} → Call (Held (FileStore D g)) → (old new : Left D g) → Type 0
+Leaves {D} {g} (closes c) old (Copied files) =
     IsLive (file_state c) × (AreClean g files.log files.db → IsCopied c files)
-Leaves {D} {g} (closes c) None = IsLive (file_state c) × ((it : FileStore D g) × IsClosed c it)
-Leaves other left = Unit {0}
+Leaves (closes c) old (Kept it) = IsLive (file_state c) × IsClosed c it
+Leaves (closes c) old Nothing = ⊥
+Leaves (leaves c) old (Kept it) = IsLive (file_state c) × IsLetGo c it
+Leaves (leaves c) old other = ⊥
+Leaves other old new = new ≡ old
 
 -- ---- what files hold
 
@@ -80,100 +90,117 @@ pub record MayBeLeft {D : Type 0} {g : Ghosts D} (it : FileStore D g) (image : I
   pub may : (store.state it).may_leave image
   pub numbered : IsTrue (store.view it).is_numbered
 
--- what the files may hold once a store was closed, while the disk returned what was written: as they read now, and as a
--- crash leaves them; or, where its log could not be copied, as a crash leaves the store that was given up
-abbrev pub IsLeftBy : {D : Type 0} {g : Ghosts D} → Held (FileStore D g) → Option (Files D) → Image → Type 0
-IsLeftBy {D} {g} c (Some files) image =
+-- what the files may hold once a store was closed or let go, while the disk returned what was written: as they read
+-- now, and as a crash leaves them; or, where its log was not copied, as a crash leaves the store that was given up
+abbrev pub IsLeftBy : {D : Type 0} {g : Ghosts D} → Left D g → Image → Type 0
+IsLeftBy Nothing image = ⊥
+IsLeftBy {D} {g} (Copied files) image =
     AreClean g files.log files.db × ((image ≡ image_of g files) ⊎ outcomes g files.log files.db image)
-IsLeftBy {D} {g} c None image =
-    (it : FileStore D g) × IsClosed c it × IsClean (store.view it) × MayBeLeft it image
+IsLeftBy (Kept it) image = IsClean (store.view it) × MayBeLeft it image
 
 -- then they hold a room with this history
-abbrev pub LeavesRoom : {D : Type 0} {g : Ghosts D} → Held (FileStore D g) → Option (Files D)
-    → Room → History → Type 0
-LeavesRoom c left start past = (image : Image) → IsLeftBy c left image → HoldsRoom image start past
+abbrev pub LeavesRoom : {D : Type 0} {g : Ghosts D} → Left D g → Room → History → Type 0
+LeavesRoom left start past = (image : Image) → IsLeftBy left image → HoldsRoom image start past
 
 -- ---- what a job does over files
 
 -- the history went on by messages of these users, while the disk returns what was written, and the rows of the store
 -- stand for it, where no fault has shut it; once the store is closed, so do the files
 abbrev pub GoesOnIn : {D : Type 0} {g : Ghosts D} → List SubjectModel → Room → History
-    → Held (FileStore D g) → Option (Files D) → Type 0
+    → Held (FileStore D g) → Left D g → Type 0
 GoesOnIn users start past closed left =
     HasCleanDisk (file_state closed) → (next : History) × GoesOn users start past next
     × (IsTrue (file_state closed).is_open → RepresentsHistory start (records_of (file_state closed).now.trees) next
-    × LeavesRoom closed left start next)
+    × LeavesRoom left start next)
 
--- `serve` over files that held a room: the roster or the room could not be had, or the store that is closed, and its
--- files, hold the room and its history as they went on
-abbrev pub ServesFound : {M D Shelf : Type 0} {g : Ghosts D} → (does : M → Call (Held (FileStore D g)) → M → Type 0)
-    → (left : M → Option (Files D)) → (adopts : Held (FileStore D g) → Shelf → Type 0) → (db roster : List ℕ)
-    → Room → History → (before later : M) → Result (Unit {0}) Fault → Type 0
-ServesFound {M} {D} {Shelf} {g} does left adopts db roster start past before later done =
-    FailsRoster does roster before later done
-    ⊎ ((users : List SubjectModel) × (read : M) × TakesRoster does roster before read (Ok users)
-    × (FailsRoom does adopts db read later done
-    ⊎ ((over : M) × (closed : Held (FileStore D g)) × does over (closes closed) later
-    × GoesOnIn users start past closed (left later))))
+-- a store that was opened was let go: where no fault has shut it, it shows what the files held, and they hold it then;
+-- and a room that they held is in them with its history, of either version, also where a fault has shut the store
+pub record IsSparedIn {D : Type 0} {g : Ghosts D} (image : Image) (let_go : Held (FileStore D g)) (left : Left D g)
+    : Type 0 where
+  pub shown : HasCleanDisk (file_state let_go) → IsTrue (file_state let_go).is_open → (db : Database)
+      → Holds image db → ((file_state let_go).now ≡ db) × ((after : Image) → IsLeftBy left after → Holds after db)
+  pub room : (start : Room) (past : History) → HoldsRoom image start past → (after : Image) → IsLeftBy left after
+      → ∥ HoldsRoom after start past ∥₁
 
--- `report` over files that held a room: the roster or the room could not be had, and nothing is written; or where the
--- report is done, and the disk of the store that is let go has returned what was written, it is that of this room
-abbrev pub ReportsFound : {M D Shelf : Type 0} {g : Ghosts D} → (does : M → Call (Held (FileStore D g)) → M → Type 0)
-    → (adopts : Held (FileStore D g) → Shelf → Type 0) → (db roster : List ℕ) → ReportKind → Room → History
-    → (before later : M) → (old new : Option (List ℕ)) → Result (Unit {0}) Fault → Type 0
-ReportsFound {M} {D} {Shelf} {g} does adopts db roster kind start past before later old new done =
-    (FailsRoster does roster before later done × (new ≡ old))
-    ⊎ ((users : List SubjectModel) × (read : M) × TakesRoster does roster before read (Ok users)
-    × ((FailsRoom does adopts db read later done × (new ≡ old))
-    ⊎ ((over : M) × (let_go : Held (FileStore D g)) × does over (leaves let_go) later
-    × (HasCleanDisk (file_state let_go)
-    → OnOk done (Appends old new (report_text kind (state_after start past) users))))))
-
--- `init` did not make a room: a store that was opened and is let go shows what the files held, where no fault has shut
--- it
 abbrev pub SparesFound : {M D : Type 0} {g : Ghosts D} → (does : M → Call (Held (FileStore D g)) → M → Type 0)
-    → Image → (begun later : M) → Type 0
-SparesFound {M} {D} {g} does image begun later = (let_go : Held (FileStore D g)) × does begun (leaves let_go) later
-    × (HasCleanDisk (file_state let_go) → IsTrue (file_state let_go).is_open
-    → (db : Database) → Holds image db → (file_state let_go).now ≡ db)
+    → (left : M → Left D g) → Image → (begun later : M) → Type 0
+SparesFound {M} {D} {g} does left image begun later =
+    (let_go : Held (FileStore D g)) × does begun (leaves let_go) later × IsSparedIn image let_go (left later)
+
+-- no store was given up, or one was let go so
+abbrev pub SparesRoom : {M D : Type 0} {g : Ghosts D} → (does : M → Call (Held (FileStore D g)) → M → Type 0)
+    → (left : M → Left D g) → Image → (read later : M) → Type 0
+SparesRoom {M} does left image read later =
+    (left later ≡ left read) ⊎ ((begun : M) × SparesFound does left image begun later)
+
+-- `serve` over files that held a room, as it ends with `closed`: the roster or the room could not be had, and the room
+-- is spared; or the store that is closed is the one that the connections left, and with its files it holds the room and
+-- its history as they went on
+abbrev pub ServesFound : {M D Shelf : Type 0} {g : Ghosts D} → Means M (Held (FileStore D g)) Shelf
+    → (left : M → Left D g) → Image → (db roster : List ℕ) → (port count : ℕ) → Room → History
+    → (before later : M) → Result (Unit {0}) Fault → Type 0
+ServesFound {M} {D} {Shelf} {g} m left image db roster port count start past before later done =
+    (FailsRoster m.does roster before later done × (left later ≡ left before))
+    ⊎ ((users : List SubjectModel) × (read : M) × TakesRoster m.does roster before read (Ok users)
+    × ((FailsRoom m.does m.takes db read later done × SparesRoom m.does left image read later)
+    ⊎ ((shelf last : Shelf) × (taken over : M) × TakesRoom m.does m.takes db read taken (Ok shelf)
+    × Listens m.does m.accepts m.fails m.view users port count taken over shelf last done
+    × m.does over (closes (m.store last)) later × GoesOnIn users start past (m.store last) (left later))))
+
+-- `report` over files that held a room: the roster or the room could not be had, nothing is written, and the room is
+-- spared; or where the report is done, and the disk has returned what was written, it is that of this room, and where
+-- no fault has shut the store, which is the one that it was written of, the files hold the room with its history then
+abbrev pub ReportsFound : {M D Shelf : Type 0} {g : Ghosts D} → Means M (Held (FileStore D g)) Shelf
+    → (left : M → Left D g) → Image → (db roster : List ℕ) → ReportKind → Room → History
+    → (before later : M) → (old new : Option (List ℕ)) → Result (Unit {0}) Fault → Type 0
+ReportsFound {M} {D} {Shelf} {g} m left image db roster kind start past before later old new done =
+    (FailsRoster m.does roster before later done × (left later ≡ left before) × (new ≡ old))
+    ⊎ ((users : List SubjectModel) × (read : M) × TakesRoster m.does roster before read (Ok users)
+    × ((FailsRoom m.does m.takes db read later done × SparesRoom m.does left image read later × (new ≡ old))
+    ⊎ ((taken last : Shelf) × (seen : M) × TakesRoom m.does m.takes db read seen (Ok taken)
+    × WritesReport m.view kind users taken last old new done × m.does seen (leaves (m.store last)) later
+    × (HasCleanDisk (file_state (m.store last))
+    → OnOk done (Appends old new (report_text kind (state_after start past) users))
+    × (IsTrue (file_state (m.store last)).is_open → LeavesRoom (left later) start past)))))
 
 -- `init` over files: it made a room only where they held none, and where they held nothing, they hold the fresh one
 -- then. Else nothing was asked of them, or they could not be opened, or they were spared
 abbrev pub MakesFound : {M D : Type 0} {g : Ghosts D} → (does : M → Call (Held (FileStore D g)) → M → Type 0)
-    → (left : M → Option (Files D)) → Image → (db owner group : List ℕ)
+    → (left : M → Left D g) → Image → (db owner group : List ℕ)
     → (before later : M) → Result (Unit {0}) Fault → Type 0
 MakesFound {M} {D} {g} does left image db owner group before later (Ok done) =
     (over : M) × (closed : Held (FileStore D g)) × does over (closes closed) later
     × (HasCleanDisk (file_state closed) → ((start : Room) (past : History) → ¬ HoldsRoom image start past)
-    × (HoldsNothing image → LeavesRoom closed (left later) (fresh_room owner group) []))
+    × (HoldsNothing image → LeavesRoom (left later) (fresh_room owner group) []))
 MakesFound {M} {D} {g} does left image db owner group before later (Err fault) =
     (IsNamesFault owner group fault × (later ≡ before))
-    ⊎ (OpensStore does db before later (Err fault)
+    ⊎ ((OpensStore does db before later (Err fault) × (left later ≡ left before))
     ⊎ ((opened : Held (FileStore D g)) × (begun : M) × OpensStore does db before begun (Ok opened)
-    × SparesFound does image begun later))
+    × SparesFound does left image begun later))
 
--- what a job does over files that held this image as it began: of `init`, `serve` and `report`; of the other three
--- nothing is said here
+-- what a job does over files that held this image as it began; one that is none of `init`, `serve` and `report` gives
+-- no store up
 abbrev pub JobFound : {M D Shelf : Type 0} {g : Ghosts D} → Means M (Held (FileStore D g)) Shelf
-    → (left : M → Option (Files D)) → Image → (before later : M) → Job → Streams → Streams → ℕ → Type 0
+    → (left : M → Left D g) → Image → (before later : M) → Job → Streams → Streams → ℕ → Type 0
 JobFound m left image before later (Init db owner group) old new status =
     Ends (MakesFound m.does left image (string_bytes db) (string_bytes owner) (string_bytes group) before later)
     old.errors new.errors status
 JobFound m left image before later (Serve db roster port count) old new status =
     (start : Room) (past : History) → HoldsRoom image start past
-    → Ends (ServesFound m.does left m.adopts (string_bytes db) (string_bytes roster) start past before later)
+    → Ends (ServesFound m left image (string_bytes db) (string_bytes roster) port count start past before later)
     old.errors new.errors status
 JobFound m left image before later (Report db roster kind) old new status =
     (start : Room) (past : History) → HoldsRoom image start past
-    → Ends (ReportsFound m.does m.adopts (string_bytes db) (string_bytes roster) kind start past
+    → Ends (ReportsFound m left image (string_bytes db) (string_bytes roster) kind start past
     before later old.output new.output) old.errors new.errors status
-JobFound m left image before later Check old new status = Unit {0}
-JobFound m left image before later (Replay roster owner group) old new status = Unit {0}
-JobFound m left image before later Selftest old new status = Unit {0}
+JobFound m left image before later Check old new status = left later ≡ left before
+JobFound m left image before later (Replay roster owner group) old new status = left later ≡ left before
+JobFound m left image before later Selftest old new status = left later ≡ left before
 
--- and what the words ask
+-- and what the words ask, if anything
 abbrev pub RunFound : {M D Shelf : Type 0} {g : Ghosts D} → Means M (Held (FileStore D g)) Shelf
-    → (left : M → Option (Files D)) → Image → (before later : M) → List Text → Streams → Streams → ℕ → Type 0
+    → (left : M → Left D g) → Image → (before later : M) → List Text → Streams → Streams → ℕ → Type 0
 RunFound m left image before later words old new status =
     (read : Result Job WordsFault) × ReadsJob words read
     × IfOk read (λ job. JobFound m left image before later job old new status)
+    × IfErr read (λ fault. left later ≡ left before)

@@ -1,13 +1,15 @@
 -- What a stop in the middle of a call leaves of a store's files.
-use Rattle.std.specs.Prelude.{◌≡◌, ◌⊎◌, ◌∷◌, true}
+use Rattle.std.specs.Prelude.{◌≡◌, ◌⊎◌, ◌∷◌, true, Result, Ok, Err}
 use Rattle.sqlite_disk.specs.declared.Disk.{Ghosts}
 use Rattle.sqlite_disk.specs.declared.Files.{Files}
 use Rattle.sqlite_disk.specs.declared.fuse.Fuse.{Fuse}
 use Rattle.sqlite_disk.specs.Fuse.{inner_of}
+use Rattle.sqlite_trees.specs.declared.store.Store as trees
 use Rattle.sqlite.specs.WalFiles.{outcomes}
 use Rattle.sqlite.specs.WalReads.{AreClean}
 use Rattle.sqlite.specs.Recovery.{Image}
 use Rattle.sqlite.specs.Effect.{Database}
+use Rattle.sqlite.specs.Held.{Held}
 use Rattle.room_records.specs.Room.{Room}
 use Rattle.room_tables.specs.Layout.{IsRoomOfVersion2}
 use Rattle.room_tables.specs.Rows.{records_of}
@@ -15,6 +17,9 @@ use Rattle.room_wire.specs.Asks.EventModel.{EventModel}
 use Rattle.room_desk.specs.History.{History, changes_rows}
 use Rattle.room_records.specs.Records.{Records}
 use Rattle.room_desk.specs.Representation.{RepresentsHistory, StandsWith}
+use Rattle.room_cache.specs.declared.known.Known.{Known}
+use Rattle.room_sql.specs.declared.sql_shelf.SqlShelf.{SqlShelf}
+use Rattle.room_program.specs.declared.fault.Fault.{Fault}
 use Rattle.room_program.specs.Found.{Holds, HoldsRoom}
 
 -- the two disks that were stopped have returned what was written
@@ -38,3 +43,8 @@ HoldsOldOrNew image start past event = ∥ (HoldsRoom image start past
 abbrev pub HoldsRoomWith : Image → (Records → Type 0) → Type 0
 HoldsRoomWith image P =
     ∥ ((db : Database) × Holds image db × IsRoomOfVersion2 db × P (records_of db.trees)) ∥₁
+
+-- the connection of a store that was taken as a shelf, or let go
+abbrev pub connection_of : {S : Type 0} {g : trees.Ghosts S} → Result (SqlShelf S g × Known) (Fault × Held S) → Held S
+connection_of (Ok taken) = taken.0.conn
+connection_of (Err (why, let_go)) = let_go

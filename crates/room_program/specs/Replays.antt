@@ -7,23 +7,21 @@ use Rattle.room_wire.specs.Serving.Ends.{Serves}
 use Rattle.room_desk.specs.History.{History}
 use Rattle.room_desk.specs.Serving.{AnswersMessage}
 use Rattle.room_program.specs.declared.fault.Fault.{Fault}
-use Rattle.room_program.specs.declared.fault.Fault.TheVariants.{BadName, CannotReadRoster, BadRoster, Memory}
-use Rattle.room_program.specs.Ends.{ArePrincipals}
+use Rattle.room_program.specs.declared.fault.Fault.TheVariants.{Memory}
+use Rattle.room_program.specs.Ends.{ArePrincipals, IsNamesFault}
 use Rattle.room_program.specs.Faults.{done_of}
 use Rattle.room_program.specs.Files.{TakesRoster}
 use Rattle.room_program.specs.Machines.{Call}
+use Rattle.room_program.specs.Rooms.{FailsRoster}
 
--- a fault before anything is read: `bad name` only where a name is no
--- principal, and a fault of the roster only where both are principals
+-- a fault before anything is read: a name is no principal, and nothing is asked of the machine; or the roster's file
+-- gives no roster; or it does, and memory is wanting for the room
 abbrev pub IsStartFault : {M C : Type 0} → (does : M → Call C → M → Type 0)
     → (roster owner group : List ℕ) → (old new : M) → Result (Unit {0}) Fault → Type 0
-IsStartFault does roster owner group old new (Err BadName) = (¬ ArePrincipals owner group) × (new ≡ old)
-IsStartFault does roster owner group old new (Err CannotReadRoster) =
-    ArePrincipals owner group × TakesRoster does roster old new (Err CannotReadRoster)
-IsStartFault does roster owner group old new (Err BadRoster) =
-    ArePrincipals owner group × TakesRoster does roster old new (Err BadRoster)
-IsStartFault does roster owner group old new (Err Memory) = Unit {0}
-IsStartFault does roster owner group old new other = ⊥
+IsStartFault does roster owner group old new done =
+    ((fault : Fault) × (done ≡ Err fault) × IsNamesFault owner group fault × (new ≡ old))
+    ⊎ (ArePrincipals owner group × (FailsRoster does roster old new done
+    ⊎ ((done ≡ Err Memory) × (users : List SubjectModel) × TakesRoster does roster old new (Ok users))))
 
 -- nothing is read or written, or the messages of the users that the roster's file gives are served over the fresh room
 -- of this owner and group

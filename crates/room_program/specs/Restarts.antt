@@ -45,6 +45,11 @@ abbrev pub KeepsRoomOrMore : (found left : Image) → Type 0
 KeepsRoomOrMore found left = (start : Room) (past : History) → HoldsRoom found start past
     → ∥ ((next : History) × GoesOnOrMore start past next × HoldsRoom left start next) ∥₁
 
+-- a room that the files held is in those that were left, with the same history
+abbrev pub HoldsStill : (found left : Image) → Type 0
+HoldsStill found left =
+    (start : Room) (past : History) → HoldsRoom found start past → ∥ HoldsRoom left start past ∥₁
+
 -- one step, and so many more
 abbrev pub Steps : {A : Type 0} → (A → A → Type 0) → ℕ → A → A → Type 0
 Steps step zero from to = step from to

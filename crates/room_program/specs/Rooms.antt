@@ -40,21 +40,21 @@ FailsRoster does path old new done = (fault : Fault) × (done ≡ Err fault) × 
 
 -- the room's file gives no room
 abbrev pub FailsRoom : {M C Shelf : Type 0} → (does : M → Call C → M → Type 0)
-    → (adopts : C → Shelf → Type 0) → List ℕ → M → M → Result (Unit {0}) Fault → Type 0
-FailsRoom does adopts path old new done =
-    (fault : Fault) × (done ≡ Err fault) × TakesRoom does adopts path old new (Err fault)
+    → (takes : C → Result Shelf (Fault × C) → Type 0) → List ℕ → M → M → Result (Unit {0}) Fault → Type 0
+FailsRoom does takes path old new done =
+    (fault : Fault) × (done ≡ Err fault) × TakesRoom does takes path old new (Err fault)
 
 -- `report`: the roster is taken, then the room, and then its report is written; before that nothing is written. The
 -- store that is let go is the one over which it was written
 abbrev pub Reports : {M C Shelf : Type 0} → (does : M → Call C → M → Type 0)
-    → (adopts : C → Shelf → Type 0) → (store : Shelf → C) → (view : Shelf → View)
+    → (takes : C → Result Shelf (Fault × C) → Type 0) → (store : Shelf → C) → (view : Shelf → View)
     → (db roster : List ℕ) → ReportKind → (before later : M)
     → (old new : Option (List ℕ)) → Result (Unit {0}) Fault → Type 0
-Reports {M} {C} {Shelf} does adopts store view db roster kind before later old new done =
+Reports {M} {C} {Shelf} does takes store view db roster kind before later old new done =
     (FailsRoster does roster before later done × (new ≡ old))
     ⊎ ((users : List SubjectModel) × (read : M) × TakesRoster does roster before read (Ok users)
-    × ((FailsRoom does adopts db read later done × (new ≡ old))
-    ⊎ ((taken left : Shelf) × (seen : M) × TakesRoom does adopts db read seen (Ok taken)
+    × ((FailsRoom does takes db read later done × (new ≡ old))
+    ⊎ ((taken left : Shelf) × (seen : M) × TakesRoom does takes db read seen (Ok taken)
     × WritesReport view kind users taken left old new done × does seen (leaves (store left)) later)))
 
 -- connections are served over a shelf, one after another: done means that so many were, else fewer
@@ -78,13 +78,13 @@ Listens {M} does accepts fails view users port count taken later before after do
 -- `serve`: the roster is taken, then the room, and then connections are served. The store that is closed is the one
 -- that they left
 abbrev pub ServesRoom : {M C Shelf : Type 0} → (does : M → Call C → M → Type 0)
-    → (accepts : M → Exchange → M → Type 0) → (fails : M → M → Type 0) → (adopts : C → Shelf → Type 0)
+    → (accepts : M → Exchange → M → Type 0) → (fails : M → M → Type 0) → (takes : C → Result Shelf (Fault × C) → Type 0)
     → (store : Shelf → C) → (view : Shelf → View) → (db roster : List ℕ) → (port count : ℕ)
     → (before later : M) → Result (Unit {0}) Fault → Type 0
-ServesRoom {M} {C} {Shelf} does accepts fails adopts store view db roster port count before later done =
+ServesRoom {M} {C} {Shelf} does accepts fails takes store view db roster port count before later done =
     FailsRoster does roster before later done
     ⊎ ((users : List SubjectModel) × (read : M) × TakesRoster does roster before read (Ok users)
-    × (FailsRoom does adopts db read later done
-    ⊎ ((shelf left : Shelf) × (taken over : M) × TakesRoom does adopts db read taken (Ok shelf)
+    × (FailsRoom does takes db read later done
+    ⊎ ((shelf left : Shelf) × (taken over : M) × TakesRoom does takes db read taken (Ok shelf)
     × Listens does accepts fails view users port count taken over shelf left done
     × does over (closes (store left)) later)))

@@ -57,8 +57,8 @@ pub record Means (M C Shelf : Type 0) : Type 1 where
   pub does : M → Call C → M → Type 0
   pub accepts : M → Exchange → M → Type 0
   pub fails : M → M → Type 0
-  -- a shelf is the store that was opened, as it is adopted
-  pub adopts : C → Shelf → Type 0
+  -- a store that was opened is taken as a shelf, or why not, and the one that is let go
+  pub takes : C → Result Shelf (Fault × C) → Type 0
   -- the store that a shelf keeps its rows in
   pub store : Shelf → C
   -- a fresh room of an owner and a group was made in a store that was opened, which is another one then
@@ -68,18 +68,18 @@ pub record Means (M C Shelf : Type 0) : Type 1 where
   pub view : Shelf → View
 
 abbrev pub means : {M C Shelf : Type 0} → (does : M → Call C → M → Type 0)
-    → (accepts : M → Exchange → M → Type 0) → (fails : M → M → Type 0) → (adopts : C → Shelf → Type 0)
+    → (accepts : M → Exchange → M → Type 0) → (fails : M → M → Type 0) → (takes : C → Result Shelf (Fault × C) → Type 0)
     → (store : Shelf → C) → (made : (owner group : List ℕ) → C → C → Type 0)
     → (unmade : (owner group : List ℕ) → C → C → Fault → Type 0) → (view : Shelf → View) → Means M C Shelf
 means d a f p s m u v =
-    record { does = d; accepts = a; fails = f; adopts = p; store = s; made = m; unmade = u; view = v }
+    record { does = d; accepts = a; fails = f; takes = p; store = s; made = m; unmade = u; view = v }
 
 -- the line `selftest ok` goes to the output after two connections were served, or a fault is told
-abbrev pub Tries : {M C : Type 0} → (does : M → Call C → M → Type 0)
-    → (accepts : M → Exchange → M → Type 0) → (before later : M) → Streams → Streams → ℕ → Type 0
-Tries does accepts before later old new status =
-    (SelftestEnds does accepts before later (Ok tt) × WritesText (codes "selftest ok\n") old new status)
-    ⊎ ((new.output ≡ old.output) × (fault : Fault) × SelftestEnds does accepts before later (Err fault)
+abbrev pub Tries : {M C : Type 0} → (does : M → Call C → M → Type 0) → (accepts : M → Exchange → M → Type 0)
+    → (fails : M → M → Type 0) → (before later : M) → Streams → Streams → ℕ → Type 0
+Tries does accepts fails before later old new status =
+    (SelftestEnds does accepts fails before later (Ok tt) × WritesText (codes "selftest ok\n") old new status)
+    ⊎ ((new.output ≡ old.output) × (fault : Fault) × SelftestEnds does accepts fails before later (Err fault)
     × EndsWith (Err fault) old.errors new.errors status)
 
 abbrev pub RunsJob : {M C Shelf : Type 0} → Means M C Shelf → (before later : M) → Job → Streams → Streams → ℕ → Type 0
@@ -93,7 +93,7 @@ RunsJob m before later (Init db owner group) old new status =
     old.errors new.errors status
 -- nothing is read, and the output is the report's
 RunsJob m before later (Report db roster kind) old new status =
-    (new.input ≡ old.input) × Ends (Reports m.does m.adopts m.store m.view (string_bytes db)
+    (new.input ≡ old.input) × Ends (Reports m.does m.takes m.store m.view (string_bytes db)
     (string_bytes roster) kind before later old.output new.output) old.errors new.errors status
 -- messages from the input are answered to the output
 RunsJob m before later (Replay roster owner group) old new status =
@@ -102,10 +102,10 @@ RunsJob m before later (Replay roster owner group) old new status =
 -- neither stream is touched
 RunsJob m before later (Serve db roster port count) old new status =
     (new.input ≡ old.input) × (new.output ≡ old.output)
-    × Ends (ServesRoom m.does m.accepts m.fails m.adopts m.store m.view (string_bytes db)
+    × Ends (ServesRoom m.does m.accepts m.fails m.takes m.store m.view (string_bytes db)
     (string_bytes roster) port count before later) old.errors new.errors status
 RunsJob m before later Selftest old new status =
-    (new.input ≡ old.input) × Tries m.does m.accepts before later old new status
+    (new.input ≡ old.input) × Tries m.does m.accepts m.fails before later old new status
 
 -- why words name no job; nothing is read
 abbrev pub RefusesWords : WordsFault → Streams → Streams → ℕ → Type 0

@@ -10,16 +10,17 @@ ghost use Rattle.room_desk.specs.AnswerModel.{AnswerModel};
 ghost use Rattle.room_desk.specs.History.{History, leaves_no_reply};
 ghost use Rattle.room_desk.specs.Representation.{StandsFor};
 ghost use Rattle.room_desk.specs.Serving.{EventAnswered};
-ghost use Rattle.room_program.specs.Files.{Adopted};
+ghost use Rattle.room_program.specs.Files.{Adopted, Takes};
 ghost use Rattle.room_program.specs.Found.{IsOpenedOver};
 ghost use Rattle.room_program.specs.Halts.{WereClean, MayBeLeftThen, StandsOrWith, HoldsOldOrNew, HoldsRoomWith};
-ghost use Rattle.room_program.specs.Restarts.{ActsOnce};
+ghost use Rattle.room_program.specs.Halts.{connection_of};
+ghost use Rattle.room_program.specs.Restarts.{ActsOnce, HoldsStill};
 
 use room_cache::CachedShelf;
 use room_desk::Desk;
 use room_records::Shelf;
 use room_sql::SqlShelf;
-use sqlite::{FileFrom, FileStore, Files, Start};
+use sqlite::{Connection, FileFrom, FileStore, Files, Start};
 use sqlite_disk::{Disk, Fuse};
 use sqlite_trees::store::Store;
 
@@ -75,6 +76,21 @@ pub fn an_event_cut_off_leaves_old_or_new<D: Disk + Drop>(
 {
     answered::<FileShelf<Fuse<D>>>();
     files_of(after.into_shelf())
+}
+
+/// What a take of a room leaves that is cut off, also while a room of version 1 becomes one of version 2: the files of
+/// its connection `shut`, of which a shelf was made or which was let go. As of an event, each of them acts no more once
+/// its fuse has burnt down, wherever that is; and the room that they held as they were opened is in them with the same
+/// history, of the one version or the other.
+pub fn a_take_cut_off_leaves_the_room<D: Disk + Drop>(
+    shut: Connection<FileStore<Fuse<D>>>,
+) -> Files<Fuse<D>>
+    ensures { (opened : _) (taken : _) (found : Image) → IsOpenedOver found opened
+        → Takes ⟦<FileStore<Fuse<D>> as Store>⟧ opened taken → connection_of taken ≡ shut → WereClean D.Disk result
+        → (image : Image) → MayBeLeftThen D.Disk result image → HoldsStill found image }
+{
+    let store = shut.into_store();
+    store.close()
 }
 
 /// The next run opens such files, which `T` stands for, takes the room that it finds, and the event is sent again

@@ -2,13 +2,15 @@
 ghost use Rattle.std.specs.Prelude.{◌≡◌, [], ◌∷◌};
 ghost use Rattle.std.specs.Net.Addr.{ipv4_octets};
 ghost use Rattle.std.specs.Net.Socket.{v4_ip, v4_port};
-ghost use Rattle.room_program.specs.Machines.Call.{closes};
+ghost use Rattle.room_program.specs.Machines.Call.{closes, leaves};
 ghost use Rattle.room_program.specs.Found.{Leaves};
 
+use crate::left::Left;
 use crate::listening::{Listener, Server};
 use crate::machine::Machine;
 use room_records::Roster;
-use sqlite::{Connection, Error, ErrorCode, FileFrom, FileStore, Files, Start};
+use sqlite::{Connection, Error, ErrorCode, FileFrom, FileStore, Start};
+use sqlite_disk::Disk;
 use std::fs;
 use std::io::{self, ErrorKind, Read, Write};
 use std::net::{Ipv4Addr, Shutdown, SocketAddrV4, TcpListener, TcpStream};
@@ -17,35 +19,38 @@ use std::net::{Ipv4Addr, Shutdown, SocketAddrV4, TcpListener, TcpStream};
 pub type FileConnection<S> = Connection<FileStore<FileFrom<S>>>;
 
 /// The files and sockets of the system. A store that is opened finds what `S` says that its files held, while the disk
-/// returns what was written, and a close leaves its last commit in them, where the log was copied; no other contract
-/// says what a file or a socket gives.
+/// returns what was written; a close leaves its last commit in them, and where the log could not be copied, or the
+/// store is let go, nothing more is committed. No other contract says what a file or a socket gives.
 ///
 /// No contract can say which file a call of the system reaches, nor who else does. So these methods are to be read for
 /// it: that `open` hands on its path, as the other two hand on theirs; that nothing here writes a file but the store,
-/// nor removes one, and `leave` only lets go; and that `listen` listens at `local` alone, and `serve_next` has served
-/// what comes there.
+/// nor removes one; and that `listen` listens at `local` alone, and `serve_next` has served what comes there.
+pub type Host<'a, S> = HostOver<'a, S, FileFrom<S>>;
+
+/// The same, where `D` is the type of the store's two files.
 #[derive(Drop)]
-pub struct Host<'a, S: Start> {
+pub struct HostOver<'a, S: Start, D: Disk> {
     rt: &'a HostRuntime,
     /// It stands for the files of one path, so it is used up as they are opened.
     start: Option<S>,
     listener: Option<TcpListener>,
     /// The connection that it made last, to itself.
     client: Option<TcpStream>,
-    /// The files of the store that was closed last, where its log was copied.
-    left: Option<Files<FileFrom<S>>>,
+    left: Left<D>,
 }
 
-impl<'a, S: Start> Host<'a, S> {
+impl<'a, S: Start, D: Disk> HostOver<'a, S, D> {
     /// The system of this runtime. It opens one store, whose files hold what `start` stands for, and listens for
     /// nothing yet.
-    pub fn new(rt: &'a HostRuntime, start: S) -> Host<'a, S> {
-        Host {
+    pub fn new(rt: &'a HostRuntime, start: S) -> HostOver<'a, S, D>
+        ensures { result.left ≡ Left.Nothing }
+    {
+        HostOver {
             rt,
             start: Some(start),
             listener: None,
             client: None,
-            left: None,
+            left: Left::Nothing,
         }
     }
 }
@@ -58,26 +63,32 @@ fn local(port: u16) -> SocketAddrV4
     SocketAddrV4::new(Ipv4Addr::LOCALHOST, port)
 }
 
-/// Closes a store. Its files are answered, where its log was copied.
-fn close<S: Start>(connection: FileConnection<S>) -> Option<Files<FileFrom<S>>>
-    ensures { Leaves (closes connection) result }
+/// Closes a store.
+fn close<S: Start>(connection: FileConnection<S>) -> Left<FileFrom<S>>
+    ensures { Leaves (closes connection) Left.Nothing result }
 {
     // What it shows is a database.
     let _live = connection.schema();
     match connection.close_files() {
-        Ok(files) => Some(files),
-        Err((_, store)) => {
-            drop(store.close());
-            None
-        }
+        Ok(files) => Left::Copied(files),
+        Err((_, store)) => Left::Kept(store),
     }
+}
+
+/// Takes a store out of its connection, and copies nothing.
+fn keep<S: Start>(connection: FileConnection<S>) -> Left<FileFrom<S>>
+    ensures { Leaves (leaves connection) Left.Nothing result }
+{
+    // What it shows is a database.
+    let _live = connection.schema();
+    Left::Kept(connection.into_store())
 }
 
 impl<'a, S: Start> Machine<FileConnection<S>> for Host<'a, S> {
     ghost use Rattle.sqlite.specs.WalFiles.{image_at};
     ghost use Rattle.room_program.specs.Found.{Found, Leaves};
 
-    ghost does = { λ _ call new. Found (image_at S.Start) call × Leaves call new.left };
+    ghost does = { λ old call new. Found (image_at S.Start) call × Leaves call old.left new.left };
 
     fn read_text(&mut self, path: &str) -> io::Result<String> {
         fs::read_to_string(self.rt, path)
@@ -106,7 +117,7 @@ impl<'a, S: Start> Machine<FileConnection<S>> for Host<'a, S> {
     }
 
     fn leave(&mut self, connection: FileConnection<S>) {
-        let _gone = connection;
+        self.left = keep(connection);
     }
 
     fn listen(&mut self, port: u16) -> io::Result<()> {
@@ -140,12 +151,12 @@ impl<'a, S: Start> Machine<FileConnection<S>> for Host<'a, S> {
 }
 
 impl<'a, S: Start> Listener for Host<'a, S> {
-    ghost use Rattle.std.specs.Prelude.{⊤};
+    ghost use Rattle.std.specs.Prelude.{◌≡◌};
     ghost use Rattle.room_program.specs.Calls.{IsUnknown};
 
-    ghost accepts = { λ _ e _. IsUnknown e };
+    ghost accepts = { λ old e new. IsUnknown e × (new.left ≡ old.left) };
 
-    ghost fails = { λ _ _. ⊤ };
+    ghost fails = { λ old new. new.left ≡ old.left };
 
     fn serve_next<V: Server>(&mut self, server: &mut V, roster: &Roster) -> io::Result<()> {
         match &mut self.listener {

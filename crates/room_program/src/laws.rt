@@ -1,6 +1,5 @@
-//! Laws of runs over files. Each function here does nothing: its contract follows from that of `run_program`.
-ghost use Rattle.std.specs.Prelude.{◌≡◌, ◌⊎◌, ℕ, List, ◌∷◌, Option, Result, false, Ok, IsTrue};
-ghost use Rattle.clap.specs.Words.{Text};
+//! Laws from one run to the next, over the files that the one before it left. Each function here does nothing.
+ghost use Rattle.std.specs.Prelude.{◌≡◌, ◌⊎◌, ℕ, List, ◌∷◌, Option, Result, false, Ok, Err, IsTrue};
 ghost use Rattle.sqlite.specs.WalFiles.{image_at};
 ghost use Rattle.sqlite.specs.Recovery.{Image};
 ghost use Rattle.sqlite.specs.State.{HasCleanDisk};
@@ -16,18 +15,20 @@ ghost use Rattle.room_desk.specs.AnswerModel.{AnswerModel};
 ghost use Rattle.room_desk.specs.History.{History, leaves_no_reply};
 ghost use Rattle.room_desk.specs.Serving.{EventAnswered, MayAnswer};
 ghost use Rattle.room_program.specs.declared.fault.Fault.{Fault};
-ghost use Rattle.room_program.specs.Files.{Adopted, Made, Unmade, TakesRoom};
-ghost use Rattle.room_program.specs.Machines.Call.{closes};
+ghost use Rattle.room_program.specs.Calls.{ServesEach};
+ghost use Rattle.room_program.specs.Ends.{InitEnds};
+ghost use Rattle.room_program.specs.Files.{Adopted, Made, Takes, TakesRoom, Unmade};
+ghost use Rattle.room_program.specs.Machines.Call.{closes, leaves};
 ghost use Rattle.room_program.specs.Rooms.{Listens, WritesReport};
 ghost use Rattle.room_words.specs.declared.job.ReportKind.{ReportKind};
-ghost use Rattle.room_program.specs.Runs.{Runs, Streams, means};
-ghost use Rattle.room_program.specs.Calls.{ServesEach};
-ghost use Rattle.room_program.specs.Streams.{Served, ServesSome};
-ghost use Rattle.room_program.specs.Found.{HoldsRoom, IsOpenedOver, IsLeftBy, MayBeLeft, RunFound};
+ghost use Rattle.room_program.specs.Streams.{Served};
+ghost use Rattle.room_program.specs.Found.{HoldsRoom, IsOpenedOver, IsLeftBy, MayBeLeft};
 ghost use Rattle.room_program.specs.Restarts.{ActsOnce, AnswersOrMore};
-ghost use Rattle.room_program.specs.Restarts.{Steps, KeepsRoom, KeepsRoomOrMore, GoesOnBySome, GoesOnOrMore};
+ghost use Rattle.room_program.specs.Restarts.{Steps, KeepsRoom, KeepsRoomOrMore, HoldsStill};
+ghost use Rattle.room_program.specs.Restarts.{GoesOnBySome, GoesOnOrMore};
 
 use crate::host::{FileConnection, Host};
+use crate::left::Left;
 use crate::listening::Listener;
 use crate::machine::Machine;
 use room_cache::CachedShelf;
@@ -36,33 +37,10 @@ use room_sql::SqlShelf;
 use sqlite::{FileFrom, FileStore, Start};
 use sqlite_trees::store::Store;
 
-/// What a run does to the files whose contents `S` stands for, by its words. `serve`: where they held a room whose rows
-/// stand for a history, they stand then for that history followed by events that messages of users of the roster ask,
-/// and so do those in the files once the store is closed. `report` writes the report of the room of that history.
-/// `init` makes a room only where there was none, and where there was no file, the files hold the fresh room then. All
-/// of it while the disk returns what was written.
-pub fn what_a_run_does_to_files<S: Start>()
-    ensures { (before later : _) (words : List Text) (old new : Streams) (status : ℕ) →
-        Runs (means ⟦<Host<'static, S> as Machine<FileConnection<S>>>⟧.does
-        ⟦<Host<'static, S> as Listener>⟧.accepts ⟦<Host<'static, S> as Listener>⟧.fails
-        (λ opened shelf. Adopted ⟦<FileStore<FileFrom<S>> as Store>⟧ opened shelf)
-        (λ shelf. shelf.0.conn) (Made ⟦<FileStore<FileFrom<S>> as Store>⟧)
-        (Unmade ⟦<FileStore<FileFrom<S>> as Store>⟧)
-        ⟦<CachedShelf<SqlShelf<FileStore<FileFrom<S>>>> as Shelf>⟧.view)
-        before later words old new status →
-        RunFound (means ⟦<Host<'static, S> as Machine<FileConnection<S>>>⟧.does
-        ⟦<Host<'static, S> as Listener>⟧.accepts ⟦<Host<'static, S> as Listener>⟧.fails
-        (λ opened shelf. Adopted ⟦<FileStore<FileFrom<S>> as Store>⟧ opened shelf)
-        (λ shelf. shelf.0.conn) (Made ⟦<FileStore<FileFrom<S>> as Store>⟧)
-        (Unmade ⟦<FileStore<FileFrom<S>> as Store>⟧)
-        ⟦<CachedShelf<SqlShelf<FileStore<FileFrom<S>>>> as Shelf>⟧.view)
-        (λ host. host.left) (image_at S.Start) before later words old new status }
-{}
-
 /// Restart as often as you like: however many runs follow one another, each over the files that the one before it
 /// left, the room and its history are in them, and the history only went on (`again`). Where a fault shut the store in
 /// some of them, the event that was under way then may have joined it (`in_doubt`). A run of the one kind is one of the
-/// other too (`either`).
+/// other too (`either`), and so is one that leaves the room as it was (`still`).
 pub fn a_room_outlives_its_runs()
     ensures again { (more : ℕ) (found left : Image) (start : Room) (past : History) → Steps KeepsRoom more found left
         → HoldsRoom found start past
@@ -71,31 +49,54 @@ pub fn a_room_outlives_its_runs()
         Steps KeepsRoomOrMore more found left → HoldsRoom found start past
         → ∥ ((next : History) × Steps (GoesOnOrMore start) more past next × HoldsRoom left start next) ∥₁ }
     ensures either { (found left : Image) → KeepsRoom found left → KeepsRoomOrMore found left }
+    ensures still { (found left : Image) → HoldsStill found left → KeepsRoomOrMore found left }
 {}
 
-/// A `serve` that took its room, closed it and met no fault that shuts the store is a run that keeps the room.
-pub fn a_serve_that_ends_keeps_the_room<S: Start>()
-    ensures { (db : List ℕ) (users : List SubjectModel) (port count : ℕ) (read taken over later : _)
+/// A run that ends keeps the room: a `serve` that took it and closed it (`serve`), and a `report`, which lets it go
+/// (`report`), where no fault had shut the store. One that could not take it left it with the same history, whatever
+/// the fault, also one in the middle of an upgrade (`untaken`); and so did an `init` over it (`init`).
+pub fn a_run_that_ends_keeps_the_room<S: Start>()
+    ensures serve { (db : List ℕ) (users : List SubjectModel) (port count : ℕ) (read taken over later : _)
         (shelf last : _) (done : Result (Unit {0}) Fault) (left : Image) →
         TakesRoom ⟦<Host<'static, S> as Machine<FileConnection<S>>>⟧.does
-        (λ opened shelf. Adopted ⟦<FileStore<FileFrom<S>> as Store>⟧ opened shelf) db read taken (Ok shelf) →
+        (λ opened taken. Takes ⟦<FileStore<FileFrom<S>> as Store>⟧ opened taken) db read taken (Ok shelf) →
         Listens ⟦<Host<'static, S> as Machine<FileConnection<S>>>⟧.does
         ⟦<Host<'static, S> as Listener>⟧.accepts ⟦<Host<'static, S> as Listener>⟧.fails
         ⟦<CachedShelf<SqlShelf<FileStore<FileFrom<S>>>> as Shelf>⟧.view users port count taken over shelf last done →
         ⟦<Host<'static, S> as Machine<FileConnection<S>>>⟧.does over (closes last.0.conn) later →
         HasCleanDisk (file_state last.0.conn) → IsTrue (file_state last.0.conn).is_open →
-        IsLeftBy last.0.conn later.left left → KeepsRoom (image_at S.Start) left }
+        IsLeftBy later.left left → KeepsRoom (image_at S.Start) left }
+    ensures report { (db : List ℕ) (kind : ReportKind) (users : List SubjectModel) (read seen later : _)
+        (taken last : _) (old new : Option (List ℕ)) (done : Result (Unit {0}) Fault) (left : Image) →
+        TakesRoom ⟦<Host<'static, S> as Machine<FileConnection<S>>>⟧.does
+        (λ opened taken. Takes ⟦<FileStore<FileFrom<S>> as Store>⟧ opened taken) db read seen (Ok taken) →
+        WritesReport ⟦<CachedShelf<SqlShelf<FileStore<FileFrom<S>>>> as Shelf>⟧.view
+        kind users taken last old new done →
+        ⟦<Host<'static, S> as Machine<FileConnection<S>>>⟧.does seen (leaves last.0.conn) later →
+        HasCleanDisk (file_state last.0.conn) → IsTrue (file_state last.0.conn).is_open →
+        IsLeftBy later.left left → KeepsRoom (image_at S.Start) left }
+    ensures untaken { (db : List ℕ) (read later : _) (why : Fault) (left : Image) →
+        TakesRoom ⟦<Host<'static, S> as Machine<FileConnection<S>>>⟧.does
+        (λ opened taken. Takes ⟦<FileStore<FileFrom<S>> as Store>⟧ opened taken) db read later (Err why) →
+        read.left ≡ Left.Nothing → IsLeftBy later.left left → HoldsStill (image_at S.Start) left }
+    ensures init { (db owner group : List ℕ) (before later : _) (why : Fault) (left : Image) →
+        InitEnds ⟦<Host<'static, S> as Machine<FileConnection<S>>>⟧.does
+        (Made ⟦<FileStore<FileFrom<S>> as Store>⟧ owner group)
+        (Unmade ⟦<FileStore<FileFrom<S>> as Store>⟧ owner group) db owner group before later (Err why) →
+        before.left ≡ Left.Nothing → IsLeftBy later.left left → HoldsStill (image_at S.Start) left }
 {}
 
-/// And so is one that stops between two requests, with the shelf `last`, while its store is there: a crash may leave
-/// the image `left` of its files (`there`); and a `report`, which lets its store go (`report`). Once a fault has shut
-/// the store, it is one that keeps the room, or the room with one event more (`shut`).
+/// And so does one that stops between two connections, with the shelf `last`, while its store is there: a crash may
+/// leave the image `left` of its files. Each of the `count` connections before was served as `Desk::serve` promises
+/// (`there`: the invariant of `serve_listener`, whose own clause a run that stops never reaches). So does a `report`
+/// (`report`). Once a fault has shut the store, it keeps the room, or the room with one event more (`shut`).
 pub fn a_run_that_stops_keeps_the_room<S: Start>(
     last: CachedShelf<SqlShelf<FileStore<FileFrom<S>>>>,
 )
-    ensures there { (opened : _) (taken : _) (users : List SubjectModel) (left : Image) →
+    ensures there { (opened : _) (taken : _) (users : List SubjectModel) (count : ℕ) (bound over : _) (left : Image) →
         IsOpenedOver (image_at S.Start) opened → Adopted ⟦<FileStore<FileFrom<S>> as Store>⟧ opened taken →
-        ServesSome ⟦<CachedShelf<SqlShelf<FileStore<FileFrom<S>>>> as Shelf>⟧.view users taken last →
+        ServesEach ⟦<Host<'static, S> as Listener>⟧.accepts
+        (Served ⟦<CachedShelf<SqlShelf<FileStore<FileFrom<S>>>> as Shelf>⟧.view users) count bound over taken last →
         HasCleanDisk (file_state last.0.conn) → IsTrue (file_state last.0.conn).is_open →
         MayBeLeft last.0.conn.store left → KeepsRoom (image_at S.Start) left }
     ensures report { (opened : _) (taken : _) (kind : ReportKind) (users : List SubjectModel)
@@ -138,7 +139,7 @@ pub fn the_next_run_finds_what_this_one_saw<S: Start, T: Start>(
         (file_state opened.now).now ≡ (file_state was.conn).now }
     ensures closed { (over later : _) →
         ⟦<Host<'static, S> as Machine<FileConnection<S>>>⟧.does over (closes was.conn) later →
-        IsTrue (file_state was.conn).is_open → IsLeftBy was.conn later.left (image_at T.Start) →
+        IsTrue (file_state was.conn).is_open → IsLeftBy later.left (image_at T.Start) →
         IsOpenedOver (image_at T.Start) opened.now → HasCleanDisk (file_state opened.now) →
         (file_state opened.now).now ≡ (file_state was.conn).now }
     ensures shut { HasCleanDisk (file_state was.conn)

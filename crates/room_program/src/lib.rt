@@ -8,6 +8,7 @@ mod fault;
 mod halts;
 mod host;
 mod laws;
+mod left;
 mod listening;
 mod machine;
 mod making;
@@ -22,13 +23,15 @@ mod selftest;
 mod serving;
 
 pub use fault::Fault;
-pub use halts::{an_event_cut_off_acts_once, an_event_cut_off_leaves_old_or_new};
-pub use host::{FileConnection, Host};
-pub use laws::{
-    a_room_outlives_its_runs, a_run_that_stops_keeps_the_room, a_serve_that_ends_keeps_the_room,
-    an_event_sent_again_to_the_next_run_acts_once, the_next_run_finds_what_this_one_saw,
-    what_a_run_does_to_files,
+pub use halts::{
+    a_take_cut_off_leaves_the_room, an_event_cut_off_acts_once, an_event_cut_off_leaves_old_or_new,
 };
+pub use host::{FileConnection, Host, HostOver};
+pub use laws::{
+    a_room_outlives_its_runs, a_run_that_ends_keeps_the_room, a_run_that_stops_keeps_the_room,
+    an_event_sent_again_to_the_next_run_acts_once, the_next_run_finds_what_this_one_saw,
+};
+pub use left::Left;
 pub use listening::{Listener, Server};
 pub use machine::Machine;
 pub use network::serve_listener;

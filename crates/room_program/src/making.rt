@@ -6,7 +6,7 @@ ghost use Rattle.room_program.specs.Files.{Made, Makes, MakesAt, Unmade};
 use crate::fault::Fault;
 use crate::machine::Machine;
 use crate::names::standing;
-use crate::opening::open;
+use crate::opening::{let_go, open};
 use room_acl::Standing;
 use room_sql::{OpenFault, SqlShelf};
 use sqlite::{Alter, Connection};
@@ -29,19 +29,19 @@ fn make_room<S: Alter + Drop, M: Machine<Connection<S>>>(
             Ok(())
         }
         Err((OpenFault::RoomExists, connection)) => {
-            machine.leave(connection);
+            let_go(machine, connection);
             Err(Fault::RoomExists)
         }
         Err((OpenFault::Memory, connection)) => {
-            machine.leave(connection);
+            let_go(machine, connection);
             Err(Fault::Memory)
         }
         Err((OpenFault::Store, connection)) => {
-            machine.leave(connection);
+            let_go(machine, connection);
             Err(Fault::StoreFailed)
         }
         Err((OpenFault::NotARoom, connection)) => {
-            machine.leave(connection);
+            let_go(machine, connection);
             Err(Fault::StoreFailed)
         }
     }

@@ -1,6 +1,8 @@
 //! The room in a file.
-ghost use Rattle.std.specs.Prelude.{◌≡◌, false, IfOk};
-ghost use Rattle.room_program.specs.Files.{Adopted, Adopts, OpensRoom, OpensStore, TakesRoom};
+ghost use Rattle.std.specs.Prelude.{◌≡◌, false, IfOk, IsTrue};
+ghost use Rattle.sqlite.specs.Held.{state};
+ghost use Rattle.room_program.specs.Files.{Adopts, OpensRoom, OpensStore, Takes, TakesRoom};
+ghost use Rattle.room_program.specs.Machines.Call.{leaves};
 
 use crate::fault::Fault;
 use crate::machine::Machine;
@@ -27,19 +29,44 @@ pub(crate) fn open<S: Alter + Drop, M: Machine<Connection<S>>>(
     }
 }
 
-/// The shelf over a store that was opened, which remembers rows.
-fn adopt<S: Alter + Drop>(
+/// Lets a store go, outside a transaction: what it shows was committed.
+pub(crate) fn let_go<S: Alter + Drop, M: Machine<Connection<S>>>(
+    machine: &mut M,
+    connection: Connection<S>,
+)
+    requires { connection.in_transaction ≡ false }
+    ensures left { M.does machine.old (leaves connection) machine.new }
+    ensures rests { IsTrue (state S.Store connection).is_open
+        → (state S.Store connection).now.trees ≡ (state S.Store connection).committed.trees }
+{
+    let _outside = connection.is_autocommit();
+    machine.leave(connection);
+}
+
+/// The shelf over a store that was opened, which remembers rows. A store of which no room is taken is let go.
+fn adopt<S: Alter + Drop, M: Machine<Connection<S>>>(
     alloc: Global,
+    machine: &mut M,
     connection: Connection<S>,
 ) -> Result<CachedShelf<SqlShelf<S>>, Fault>
     requires { connection.in_transaction ≡ false }
-    ensures { Adopts (λ opened shelf. Adopted S.Store opened shelf) connection result }
+    ensures { Adopts M.does (λ opened taken. Takes S.Store opened taken)
+        connection machine.old machine.new result }
 {
     match SqlShelf::adopt(alloc, connection) {
         Ok(shelf) => Ok(CachedShelf::new(alloc, shelf)),
-        Err((OpenFault::NotARoom, _)) => Err(Fault::NotARoom),
-        Err((OpenFault::Memory, _)) => Err(Fault::Memory),
-        Err(_) => Err(Fault::StoreFailed),
+        Err((OpenFault::NotARoom, connection)) => {
+            let_go(machine, connection);
+            Err(Fault::NotARoom)
+        }
+        Err((OpenFault::Memory, connection)) => {
+            let_go(machine, connection);
+            Err(Fault::Memory)
+        }
+        Err((_, connection)) => {
+            let_go(machine, connection);
+            Err(Fault::StoreFailed)
+        }
     }
 }
 
@@ -49,11 +76,11 @@ fn open_room<S: Alter + Drop, M: Machine<Connection<S>>>(
     machine: &mut M,
     path: &str,
 ) -> Result<CachedShelf<SqlShelf<S>>, Fault>
-    ensures { OpensRoom M.does (λ opened shelf. Adopted S.Store opened shelf)
+    ensures { OpensRoom M.does (λ opened taken. Takes S.Store opened taken)
         path.now machine.old machine.new result }
 {
     let connection = open(machine, path)?;
-    adopt(alloc, connection)
+    adopt(alloc, machine, connection)
 }
 
 /// Takes the room in the file at this path. A file that is not there is no room and is not made, and
@@ -63,7 +90,7 @@ pub(crate) fn take_room<S: Alter + Drop, M: Machine<Connection<S>>>(
     machine: &mut M,
     path: &str,
 ) -> Result<CachedShelf<SqlShelf<S>>, Fault>
-    ensures { TakesRoom M.does (λ opened shelf. Adopted S.Store opened shelf)
+    ensures { TakesRoom M.does (λ opened taken. Takes S.Store opened taken)
         path.now machine.old machine.new result }
 {
     match machine.is_begun(path) {

@@ -1,5 +1,5 @@
 //! Reports of the room in a file.
-ghost use Rattle.room_program.specs.Files.{Adopted};
+ghost use Rattle.room_program.specs.Files.{Takes};
 ghost use Rattle.room_program.specs.Rooms.{Reports, WritesReport};
 
 use crate::fault::{Fault, done_of_report};
@@ -69,7 +69,7 @@ pub(crate) fn report<S: Alter + Drop, M: Machine<Connection<S>>, W: Write>(
     kind: ReportKind,
     writer: &mut W,
 ) -> Result<(), Fault>
-    ensures { Reports M.does (λ opened shelf. Adopted S.Store opened shelf) (λ shelf. shelf.0.conn)
+    ensures { Reports M.does (λ opened taken. Takes S.Store opened taken) (λ shelf. shelf.0.conn)
         ⟦<CachedShelf<SqlShelf<S>> as Shelf>⟧.view db.now roster.now kind
         machine.old machine.new (W.contents writer.old) (W.contents writer.new) result }
 {

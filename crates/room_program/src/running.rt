@@ -1,7 +1,9 @@
 //! A run of the program, from its words to its exit status.
+ghost use Rattle.sqlite.specs.WalFiles.{image_at};
 ghost use Rattle.room_words.specs.CommandLine.{texts_of};
 ghost use Rattle.room_program.specs.Ends.{InitEnds};
-ghost use Rattle.room_program.specs.Files.{Adopted, Made, Unmade};
+ghost use Rattle.room_program.specs.Files.{Made, Takes, Unmade};
+ghost use Rattle.room_program.specs.Found.{RunFound};
 ghost use Rattle.room_program.specs.Replays.{Replays};
 ghost use Rattle.room_program.specs.Rooms.{Reports, ServesRoom};
 ghost use Rattle.room_program.specs.Runs.{Checks, Ends, EndsWith, RefusesWords, Runs, RunsJob, WritesText};
@@ -82,7 +84,7 @@ fn run_selftest<C, M: Machine<C> + Listener, W: Write, E: Write>(
     output: &mut W,
     errors: &mut E,
 ) -> u8
-    ensures { Tries M.does M.accepts machine.old machine.new
+    ensures { Tries M.does M.accepts M.fails machine.old machine.new
         (streams None (W.contents output.old) (E.contents errors.old))
         (streams None (W.contents output.new) (E.contents errors.new)) result }
 {
@@ -119,7 +121,7 @@ fn run_report<S: Alter + Drop, M: Machine<Connection<S>>, W: Write, E: Write>(
     output: &mut W,
     errors: &mut E,
 ) -> u8
-    ensures { Ends (Reports M.does (λ opened shelf. Adopted S.Store opened shelf) (λ shelf. shelf.0.conn)
+    ensures { Ends (Reports M.does (λ opened taken. Takes S.Store opened taken) (λ shelf. shelf.0.conn)
         ⟦<CachedShelf<SqlShelf<S>> as Shelf>⟧.view db.now roster.now kind
         machine.old machine.new (W.contents output.old) (W.contents output.new))
         (E.contents errors.old) (E.contents errors.new) result }
@@ -158,7 +160,7 @@ fn run_serve<S: Alter + Drop, M: Machine<Connection<S>> + Listener, E: Write>(
     errors: &mut E,
 ) -> u8
     ensures { Ends (ServesRoom M.does M.accepts M.fails
-        (λ opened shelf. Adopted S.Store opened shelf) (λ shelf. shelf.0.conn)
+        (λ opened taken. Takes S.Store opened taken) (λ shelf. shelf.0.conn)
         ⟦<CachedShelf<SqlShelf<S>> as Shelf>⟧.view db.now roster.now port count machine.old machine.new)
         (E.contents errors.old) (E.contents errors.new) result }
 {
@@ -175,7 +177,7 @@ fn run_job<S: Alter + Drop, M: Machine<Connection<S>> + Listener, R: Read, W: Wr
     output: &mut W,
     errors: &mut E,
 ) -> u8
-    ensures { RunsJob (means M.does M.accepts M.fails (λ opened shelf. Adopted S.Store opened shelf)
+    ensures { RunsJob (means M.does M.accepts M.fails (λ opened taken. Takes S.Store opened taken)
         (λ shelf. shelf.0.conn) (Made S.Store) (Unmade S.Store) ⟦<CachedShelf<SqlShelf<S>> as Shelf>⟧.view)
         machine.old machine.new job.now
         (streams (R.remaining input.old) (W.contents output.old) (E.contents errors.old))
@@ -270,7 +272,7 @@ pub fn run_machine<
     output: &mut W,
     errors: &mut E,
 ) -> u8
-    ensures { Runs (means M.does M.accepts M.fails (λ opened shelf. Adopted S.Store opened shelf)
+    ensures { Runs (means M.does M.accepts M.fails (λ opened taken. Takes S.Store opened taken)
         (λ shelf. shelf.0.conn) (Made S.Store) (Unmade S.Store) ⟦<CachedShelf<SqlShelf<S>> as Shelf>⟧.view)
         machine.old machine.new (texts_of words.now)
         (streams (R.remaining input.old) (W.contents output.old) (E.contents errors.old))
@@ -284,26 +286,40 @@ pub fn run_machine<
 
 /// Runs the program on the words behind its name, and answers its exit status: 0 where the job was
 /// done or help was shown, 1 after a fault, whose line goes to `errors`, 2 where the words are no
-/// row of the command table. Memory is taken from `rt`. It holds for any `S`, which stands for what the files of the
-/// store held as they were opened; `main` passes `Wary`, which supposes nothing of a write that a crash cuts.
-pub fn run_program<S: Start, R: Read, W: Write, E: Write>(
-    rt: &HostRuntime,
+/// row of the command table. Memory is taken from `alloc`.
+///
+/// It holds for any `S`, which stands for what the files of the store held as they were opened; `main` passes `Wary`,
+/// which supposes nothing of a write that a crash cuts. What the run does to these files it says by the words
+/// (`files`). `serve`: where they held a room whose rows stand for a history, they stand then for that history followed
+/// by events that messages of users of the roster ask, and so do those in the files once the store is closed. `report`
+/// writes the report of the room of that history. `init` makes a room only where there was none, and where there was no
+/// file, the files hold the fresh room then. All of it while the disk returns what was written.
+pub fn run_program<'a, S: Start, R: Read, W: Write, E: Write>(
+    alloc: Global,
+    host: &mut Host<'a, S>,
     words: &[String],
     input: &mut R,
     output: &mut W,
     errors: &mut E,
-    start: S,
 ) -> u8
-    ensures { (before later : _) × Runs (means ⟦<Host<'static, S> as Machine<FileConnection<S>>>⟧.does
+    ensures runs { Runs (means ⟦<Host<'static, S> as Machine<FileConnection<S>>>⟧.does
         ⟦<Host<'static, S> as Listener>⟧.accepts ⟦<Host<'static, S> as Listener>⟧.fails
-        (λ opened shelf. Adopted ⟦<FileStore<FileFrom<S>> as Store>⟧ opened shelf)
+        (λ opened taken. Takes ⟦<FileStore<FileFrom<S>> as Store>⟧ opened taken)
         (λ shelf. shelf.0.conn) (Made ⟦<FileStore<FileFrom<S>> as Store>⟧)
         (Unmade ⟦<FileStore<FileFrom<S>> as Store>⟧)
         ⟦<CachedShelf<SqlShelf<FileStore<FileFrom<S>>>> as Shelf>⟧.view)
-        before later (texts_of words.now)
+        host.old host.new (texts_of words.now)
+        (streams (R.remaining input.old) (W.contents output.old) (E.contents errors.old))
+        (streams (R.remaining input.new) (W.contents output.new) (E.contents errors.new)) result }
+    ensures files { RunFound (means ⟦<Host<'static, S> as Machine<FileConnection<S>>>⟧.does
+        ⟦<Host<'static, S> as Listener>⟧.accepts ⟦<Host<'static, S> as Listener>⟧.fails
+        (λ opened taken. Takes ⟦<FileStore<FileFrom<S>> as Store>⟧ opened taken)
+        (λ shelf. shelf.0.conn) (Made ⟦<FileStore<FileFrom<S>> as Store>⟧)
+        (Unmade ⟦<FileStore<FileFrom<S>> as Store>⟧)
+        ⟦<CachedShelf<SqlShelf<FileStore<FileFrom<S>>>> as Shelf>⟧.view)
+        (λ host. host.left) (image_at S.Start) host.old host.new (texts_of words.now)
         (streams (R.remaining input.old) (W.contents output.old) (E.contents errors.old))
         (streams (R.remaining input.new) (W.contents output.new) (E.contents errors.new)) result }
 {
-    let mut host = Host::new(rt, start);
-    run_machine(rt.alloc(), &mut host, words, input, output, errors)
+    run_machine(alloc, host, words, input, output, errors)
 }

@@ -1,6 +1,6 @@
 //! Trying a room in memory over sockets to itself.
 ghost use Rattle.std.specs.Prelude.{IfErr};
-ghost use Rattle.room_program.specs.Ends.{AcceptsTwo, IsAnswered, IsSelftestFault, SelftestEnds};
+ghost use Rattle.room_program.specs.Ends.{AcceptsTwo, IsAnswered, IsSelftestFault, SelftestEnds, Talks};
 
 use crate::fault::Fault;
 use crate::listening::Listener;
@@ -69,7 +69,7 @@ fn serve_two<L: Listener>(
     desk: &mut Desk<MemShelf>,
     roster: &Roster,
 ) -> Result<(), Fault>
-    ensures { AcceptsTwo L.accepts listener.old listener.new result }
+    ensures { AcceptsTwo L.accepts L.fails listener.old listener.new result }
 {
     match serve_listener(listener, desk, roster, 2) {
         Ok(()) => Ok(()),
@@ -84,14 +84,14 @@ fn talk<C, M: Machine<C> + Listener>(
     desk: &mut Desk<MemShelf>,
     roster: &Roster,
 ) -> Result<(), Fault>
-    ensures { SelftestEnds M.does M.accepts machine.old machine.new result }
+    ensures { Talks M.does M.accepts M.fails machine.old machine.new result }
 {
-    if machine.ask(FIRST).is_err() {
+    let Ok(()) = machine.ask(FIRST) else {
         return Err(Fault::SelftestFailed);
-    }
-    if machine.ask(SECOND).is_err() {
+    };
+    let Ok(()) = machine.ask(SECOND) else {
         return Err(Fault::SelftestFailed);
-    }
+    };
     serve_two(machine, desk, roster)?;
     is_answered(machine)
 }
@@ -101,7 +101,7 @@ pub(crate) fn selftest<C, M: Machine<C> + Listener>(
     alloc: Global,
     machine: &mut M,
 ) -> Result<(), Fault>
-    ensures { SelftestEnds M.does M.accepts machine.old machine.new result }
+    ensures { SelftestEnds M.does M.accepts M.fails machine.old machine.new result }
 {
     let roster = users(alloc)?;
     let mut desk = desk(alloc)?;

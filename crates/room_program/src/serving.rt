@@ -1,5 +1,5 @@
 //! Serving the room in a file.
-ghost use Rattle.room_program.specs.Files.{Adopted};
+ghost use Rattle.room_program.specs.Files.{Takes};
 ghost use Rattle.room_program.specs.Rooms.{Listens, ServesAll, ServesRoom};
 
 use crate::fault::Fault;
@@ -57,7 +57,7 @@ pub(crate) fn serve<S: Alter + Drop, M: Machine<Connection<S>> + Listener>(
     count: u32,
 ) -> Result<(), Fault>
     ensures { ServesRoom M.does M.accepts M.fails
-        (λ opened shelf. Adopted S.Store opened shelf) (λ shelf. shelf.0.conn)
+        (λ opened taken. Takes S.Store opened taken) (λ shelf. shelf.0.conn)
         ⟦<CachedShelf<SqlShelf<S>> as Shelf>⟧.view db.now roster.now port count machine.old machine.new result }
 {
     let roster = roster_at(alloc, machine, roster)?;

@@ -1,7 +1,7 @@
 //! Runs of the program over streams in memory.
 use crate::answers::{ANSWER, BAD_HTTP, QUESTION};
 use crate::words::words_of;
-use room_program::{Wary, run_program};
+use room_program::{Host, Wary, run_program};
 use std::io::{Read, Write};
 use std::test::Fail;
 use test_support::{BoundedWriter, Full, Pieces};
@@ -15,7 +15,15 @@ fn ended<R: Read, W: Write, E: Write>(
     errors: &mut E,
 ) -> Result<u8, Fail> {
     let words = words_of(rt.alloc(), texts)?;
-    Ok(run_program(rt, words.as_slice(), input, output, errors, Wary))
+    let mut host = Host::new(rt, Wary);
+    Ok(run_program(
+        rt.alloc(),
+        &mut host,
+        words.as_slice(),
+        input,
+        output,
+        errors,
+    ))
 }
 
 /// What `check` writes on its output and tells on standard error, and its status.

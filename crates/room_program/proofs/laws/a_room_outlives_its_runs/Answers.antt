@@ -1,4 +1,4 @@
-use Rattle.room_program.proofs.Restarts.{room_after, room_after_or_more, keeps_or_more}
+use Rattle.room_program.proofs.Restarts.{room_after, room_after_or_more, keeps_or_more, still_keeps}
 use Rattle.room_program.proofs.laws.a_room_outlives_its_runs.Goals as goal
 
 pub returns-clause-again : goal.returns-clause-again
@@ -10,3 +10,6 @@ returns-clause-in_doubt c more found left start past steps held =
 
 pub returns-clause-either : goal.returns-clause-either
 returns-clause-either c found left keeps = keeps_or_more found left keeps
+
+pub returns-clause-still : goal.returns-clause-still
+returns-clause-still c found left still = still_keeps found left still

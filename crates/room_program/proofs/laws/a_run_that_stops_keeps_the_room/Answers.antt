@@ -1,17 +1,19 @@
-use Rattle.std.proofs.Common.{inl, refl, ap, subst, ◌∙◌}
+use Rattle.std.proofs.Common.{◌≡◌, inl, refl, ap, subst, ◌∙◌}
 use Rattle.sqlite.specs.State.{IsLive}
 use Rattle.sqlite.specs.Files.{file_state}
 use Rattle.sqlite.specs.WalFiles.{image_at}
 use Rattle.room_program.proofs.Found.{stopped_holds}
 use Rattle.room_program.proofs.Restarts.{keeps_room, keeps_room_or_more, by_messages, by_report}
+use Rattle.room_program.proofs.Streams.{serves_each}
 use Rattle.room_program.proofs.laws.a_run_that_stops_keeps_the_room.Goals as goal
 
 pub returns-clause-there : goal.returns-clause-there
-returns-clause-there g c opened taken users left is adopted some clean is_open may =
+returns-clause-there g c opened taken users count bound over left is adopted each clean is_open may =
     let same = c.into_connection-connection.ensures.same ∙ ap (λ shelf. shelf.conn) c.into_inner.ensures in
     let live = subst (λ k. IsLive (file_state k)) same c.schema-live.ensures.live in
     keeps_room _ (image_at g.S.Start) left opened taken c.args.last users is adopted clean
-    (by_messages _ users _ _ some clean) is_open
+    (by_messages _ users _ _ (serves_each _ users _ (λ old new. new.left ≡ old.left) bound over taken count over _ each)
+    clean) is_open
     (stopped_holds _ (λ file. inl refl) c.args.last.0 left live is_open may)
 
 pub returns-clause-report : goal.returns-clause-report

@@ -17,7 +17,7 @@ returns-clause-stop g c is_open may is there =
 pub returns-clause-closed : goal.returns-clause-closed
 returns-clause-closed g c over later closed is_open at is there =
     found_database _ (image_at g.T.Start) _
-    (closed_holds _ (λ file. inl refl) c.args.was.conn later.left (image_at g.T.Start) closed.1 is_open
+    (closed_holds _ (λ file. inl refl) c.args.was.conn over.left later.left (image_at g.T.Start) closed.1 is_open
     (c.args.was.rests is_open) at)
     c.args.opened.now is there
 

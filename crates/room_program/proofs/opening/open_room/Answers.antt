@@ -2,4 +2,5 @@ use Rattle.std.proofs.Common.{inr}
 use Rattle.room_program.proofs.opening.open_room.Goals as goal
 
 pub returns : goal.returns
-returns g c = inr (c.in_ok-connection.connection, c.in_ok-connection.ensures.opened, c.adopt.ensures)
+returns g c =
+    inr (c.in_ok-connection.connection, c.open.new.machine, c.in_ok-connection.ensures.opened, c.adopt.ensures)

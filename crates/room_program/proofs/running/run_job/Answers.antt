@@ -1,9 +1,11 @@
+use Rattle.std.proofs.Common.{Result}
 use Rattle.sqlite.specs.Held.{Held}
 use Rattle.room_sql.specs.declared.sql_shelf.SqlShelf.{SqlShelf}
 use Rattle.room_sql.specs.SqlView.{sql_view}
 use Rattle.room_cache.specs.declared.known.Known.{Known}
 use Rattle.room_cache.specs.Cached.{cached_view}
-use Rattle.room_program.specs.Files.{Adopted, Made, Unmade}
+use Rattle.room_program.specs.Files.{Takes, Made, Unmade}
+use Rattle.room_program.specs.declared.fault.Fault.{Fault}
 use Rattle.room_program.specs.Runs.{means}
 use Rattle.room_program.proofs.Jobs.{ran_init, ran_report, ran_replay, ran_serve}
 use Rattle.room_program.proofs.running.run_job.Goals as goal
@@ -11,7 +13,9 @@ use Rattle.room_program.proofs.running.run_job.Goals as goal
 pub returns-in-Init : goal.returns-in-Init
 returns-in-Init g c =
     let m = means g.M.Machine.does g.M.Listener.accepts g.M.Listener.fails
-    (λ (opened : Held g.row.S.Denot) (shelf : SqlShelf g.row.S.Denot g.S.Store × Known). Adopted g.S.Store opened shelf)
+    (λ (opened : Held g.row.S.Denot)
+    (taken : Result (SqlShelf g.row.S.Denot g.S.Store × Known) (Fault × Held g.row.S.Denot)).
+    Takes g.S.Store opened taken)
     (λ (shelf : SqlShelf g.row.S.Denot g.S.Store × Known). shelf.0.conn)
     (Made g.S.Store) (Unmade g.S.Store) (cached_view (sql_view g.S.Store)) in
     ran_init m c.args.machine.now c.run_init.new.machine c.args.job.now
@@ -23,7 +27,9 @@ returns-in-Init g c =
 pub returns-in-Report : goal.returns-in-Report
 returns-in-Report g c =
     let m = means g.M.Machine.does g.M.Listener.accepts g.M.Listener.fails
-    (λ (opened : Held g.row.S.Denot) (shelf : SqlShelf g.row.S.Denot g.S.Store × Known). Adopted g.S.Store opened shelf)
+    (λ (opened : Held g.row.S.Denot)
+    (taken : Result (SqlShelf g.row.S.Denot g.S.Store × Known) (Fault × Held g.row.S.Denot)).
+    Takes g.S.Store opened taken)
     (λ (shelf : SqlShelf g.row.S.Denot g.S.Store × Known). shelf.0.conn)
     (Made g.S.Store) (Unmade g.S.Store) (cached_view (sql_view g.S.Store)) in
     ran_report m c.args.machine.now c.run_report.new.machine c.args.job.now
@@ -35,7 +41,9 @@ returns-in-Report g c =
 pub returns-in-Replay : goal.returns-in-Replay
 returns-in-Replay g c =
     let m = means g.M.Machine.does g.M.Listener.accepts g.M.Listener.fails
-    (λ (opened : Held g.row.S.Denot) (shelf : SqlShelf g.row.S.Denot g.S.Store × Known). Adopted g.S.Store opened shelf)
+    (λ (opened : Held g.row.S.Denot)
+    (taken : Result (SqlShelf g.row.S.Denot g.S.Store × Known) (Fault × Held g.row.S.Denot)).
+    Takes g.S.Store opened taken)
     (λ (shelf : SqlShelf g.row.S.Denot g.S.Store × Known). shelf.0.conn)
     (Made g.S.Store) (Unmade g.S.Store) (cached_view (sql_view g.S.Store)) in
     ran_replay m c.args.machine.now c.run_replay.new.machine c.args.job.now
@@ -49,7 +57,9 @@ returns-in-Replay g c =
 pub returns-in-Serve : goal.returns-in-Serve
 returns-in-Serve g c =
     let m = means g.M.Machine.does g.M.Listener.accepts g.M.Listener.fails
-    (λ (opened : Held g.row.S.Denot) (shelf : SqlShelf g.row.S.Denot g.S.Store × Known). Adopted g.S.Store opened shelf)
+    (λ (opened : Held g.row.S.Denot)
+    (taken : Result (SqlShelf g.row.S.Denot g.S.Store × Known) (Fault × Held g.row.S.Denot)).
+    Takes g.S.Store opened taken)
     (λ (shelf : SqlShelf g.row.S.Denot g.S.Store × Known). shelf.0.conn)
     (Made g.S.Store) (Unmade g.S.Store) (cached_view (sql_view g.S.Store)) in
     ran_serve m c.args.machine.now c.run_serve.new.machine c.args.job.now

@@ -1,0 +1,41 @@
+use Rattle.std.proofs.Common.{inr}
+use Rattle.room_program.proofs.opening.adopt.Goals as goal
+
+pub returns-in-Err-NotARoom-default : goal.returns-in-Err-NotARoom-default
+returns-in-Err-NotARoom-default g c =
+    let e = c.in-Err-NotARoom-default in
+    let gone = c.let_go.ensures in (
+      e.connection,
+      record {
+        fault = tt;
+        spared = (gone.rests, e.ensures.unchanged, e.ensures.refused);
+        no_room = λ is. (e.ensures.left (inr e.field-0-0-is), e.ensures.no_version e.field-0-0-is);
+      },
+      gone.left,
+    )
+
+pub returns-in-Err-Memory-default : goal.returns-in-Err-Memory-default
+returns-in-Err-Memory-default g c =
+    let e = c.in-Err-Memory-default in
+    let gone = c.let_go-in-Err-Memory-default.ensures in (
+      e.connection,
+      record {
+        fault = tt;
+        spared = (gone.rests, e.ensures.unchanged, e.ensures.refused);
+        no_room = λ is. absurd cc;
+      },
+      gone.left,
+    )
+
+pub returns-in-Err : goal.returns-in-Err
+returns-in-Err g c =
+    let e = c.in-Err in
+    let gone = c.let_go-in-Err.ensures in (
+      e.connection,
+      record {
+        fault = tt;
+        spared = (gone.rests, e.ensures.unchanged, e.ensures.refused);
+        no_room = λ is. absurd cc;
+      },
+      gone.left,
+    )
