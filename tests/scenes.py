@@ -12,6 +12,7 @@ PHRASES = {200: "OK", 400: "Bad Request", 403: "Forbidden", 404: "Not Found", 40
            503: "Service Unavailable"}
 SCENE = re.compile(r"== ([a-z0-9_]+)(?: after ([a-z0-9_]+))?(?: not ([a-z_]+(?: [a-z_]+)*))?$")
 DUE = re.compile(r"  (?:(\d{3}) )?(close )?(\S.*)$")
+PUTS = re.compile(r"  puts (?:[0-9]+|(?:/|%\{)\S*(?: \* \S+)?(?: /\S*)*)$")
 TIMES = re.compile(r"([1-9][0-9]*) times (.*)$")
 
 
@@ -247,6 +248,7 @@ class Reader:
             message = self.question(text[6:], times)
         else:
             message = self.in_session(text, times)
+            self.puts()
         due, closes = self.due(times)
         return Request(at, count, message, due, closes)
 
@@ -300,6 +302,14 @@ class Reader:
             return self.posted("POST", f"{base}/slots/{slot}/{sent}", field, body(count))
 
         return message
+
+    def puts(self):
+        """Passes a line that tells whose entries a command puts, which the proved player compares."""
+        line = self.ahead()
+        if line is not None and line.startswith("  puts "):
+            self.take()
+            if not PUTS.match(line):
+                raise self.fault("no count or paths behind puts")
 
     def due(self, times):
         """The answer's bytes of a count, and whether the connection is over behind it."""

@@ -10,6 +10,7 @@ mod fault;
 mod headings;
 mod numbers;
 mod playing;
+mod puts;
 mod reading;
 mod requests;
 mod rooms;

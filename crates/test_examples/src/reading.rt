@@ -3,6 +3,7 @@ use crate::due::{Due, read_due};
 use crate::expanding::Names;
 use crate::fault::Fault;
 use crate::headings::read_heading;
+use crate::puts::{Puts, read_puts};
 use crate::requests::{Request, message_of, read_request, read_times};
 use crate::scenes::{Example, Kind, Scene, Step};
 use crate::ways::WAYS;
@@ -47,6 +48,8 @@ struct Reader<'a> {
     names: Names,
     scenes: Vec<Scene>,
     open: Open<'a>,
+    /// Whose entries the open request puts, as it stands in the file.
+    puts: Option<&'a str>,
 }
 
 /// The text of a line below `send` or `report`.
@@ -99,6 +102,7 @@ impl<'a> Reader<'a> {
             names: Names::new(alloc),
             scenes: Vec::new(alloc),
             open: Open::Nothing,
+            puts: None,
         }
     }
 
@@ -108,7 +112,7 @@ impl<'a> Reader<'a> {
             return at(line, self.take_block(text));
         }
         if let Some(text) = text.strip_prefix("  ") {
-            return at(line, self.take_due(text));
+            return at(line, self.take_below(text));
         }
         self.finish()?;
         at(line, self.begin(line, text))
@@ -153,6 +157,34 @@ impl<'a> Reader<'a> {
         }
     }
 
+    /// A line below a request: whose entries it puts, or the answer that is due.
+    fn take_below(&mut self, text: &'a str) -> Result<(), Fault> {
+        match text.strip_prefix("puts ") {
+            Some(text) => self.take_puts(text),
+            None => self.take_due(text),
+        }
+    }
+
+    fn take_puts(&mut self, text: &'a str) -> Result<(), Fault> {
+        let times = match &self.open {
+            Open::Request(_, times, _) if self.puts.is_none() => *times,
+            _ => return Err(Fault::Because("'puts' stands alone")),
+        };
+        // Here, so that what can't be read is told of its own line.
+        let _ = self.puts_of(Some(text), times.count(0))?;
+        self.puts = Some(text);
+        Ok(())
+    }
+
+    fn puts_of(&self, text: Option<&str>, count: Option<u32>) -> Result<Option<Puts>, Fault> {
+        let Some(text) = text else {
+            return Ok(None);
+        };
+        let text = self.names.expanded(text, count)?;
+        let text = String::from_utf8_lossy(self.alloc, text.as_slice())?;
+        Ok(Some(read_puts(self.alloc, text.as_str())?))
+    }
+
     /// The answer that is due to the request in the lines before.
     fn take_due(&mut self, text: &str) -> Result<(), Fault> {
         match std::mem::replace(&mut self.open, Open::Nothing) {
@@ -172,8 +204,20 @@ impl<'a> Reader<'a> {
         Due::new(self.alloc, head, self.names.expanded(body, count)?)
     }
 
-    fn add_example(&mut self, line: usize, sent: Vec<u8>, due: Due) -> Result<(), Fault> {
-        add_step(&mut self.scenes, Step::Ask(Example { line, sent, due }))
+    fn add_example(
+        &mut self,
+        line: usize,
+        sent: Vec<u8>,
+        due: Due,
+        puts: Option<Puts>,
+    ) -> Result<(), Fault> {
+        let example = Example {
+            line,
+            sent,
+            due,
+            puts,
+        };
+        add_step(&mut self.scenes, Step::Ask(example))
     }
 
     /// The message of a request, in the scene that is being read.
@@ -192,11 +236,13 @@ impl<'a> Reader<'a> {
         request: &Request<'_>,
         due: &str,
     ) -> Result<(), Fault> {
+        let puts = self.puts.take();
         for place in 0..times.number() {
             let count = times.count(place);
             let sent = self.message(request, count)?;
             let due = self.due(due, count)?;
-            self.add_example(line, sent, due)?;
+            let puts = self.puts_of(puts, count)?;
+            self.add_example(line, sent, due, puts)?;
         }
         Ok(())
     }
@@ -212,7 +258,7 @@ impl<'a> Reader<'a> {
             let count = times.count(place);
             let sent = block_bytes(self.alloc, &self.names, lines, count)?;
             let due = self.due(due, count)?;
-            self.add_example(line, sent, due)?;
+            self.add_example(line, sent, due, None)?;
         }
         Ok(())
     }

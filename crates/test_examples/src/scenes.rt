@@ -1,6 +1,7 @@
 //! Scenes, and what is done in them.
 use crate::due::Due;
 use crate::numbers::Numbers;
+use crate::puts::Puts;
 use crate::ways::Way;
 
 /// A message, and the answer that is due.
@@ -9,6 +10,8 @@ pub struct Example {
     pub line: usize,
     pub sent: Vec<u8>,
     pub due: Due,
+    /// Whose entries it puts, where that is told.
+    pub puts: Option<Puts>,
 }
 
 #[derive(Clone, Copy)]

@@ -4,6 +4,7 @@ mod events;
 mod files;
 mod losses;
 mod messages;
+mod plans;
 mod serving;
 mod trips;
 

@@ -1,9 +1,11 @@
-//! Each request as an event, one after another. After each, all stored lists are whole.
+//! Each request as an event, one after another. After each, all stored lists are whole. Where it is told whose entries
+//! a command puts, it is planned first.
 use crate::differences::Differences;
 use crate::fault::Fault;
 use crate::playing::Play;
-use crate::scenes::Step;
+use crate::scenes::{Example, Step};
 use crate::shelves::{answered, do_step, expect_whole_lists, prepared};
+use crate::ways::plans::{Planned, expect_planned, plan_command};
 use room_records::{Shelf, ShelfFault};
 
 /// In a room of more objects than this, lists are looked at once, behind the last step of its scene.
@@ -11,6 +13,18 @@ const MANY: u32 = 64;
 
 fn has_few<S: Shelf>(shelf: &mut S) -> Result<bool, ShelfFault> {
     Ok(shelf.next_id()? <= MANY)
+}
+
+/// What is planned for a request, where it is told whose entries it puts.
+fn plan_of<S: Shelf>(
+    play: &Play<'_>,
+    shelf: &mut S,
+    example: &Example,
+) -> Result<Option<Planned>, Fault> {
+    match &example.puts {
+        Some(_) => Ok(Some(plan_command(play, shelf, example.sent.as_slice())?)),
+        None => Ok(None),
+    }
 }
 
 fn take<S: Shelf + Drop>(
@@ -24,8 +38,12 @@ fn take<S: Shelf + Drop>(
         do_step(play, &mut shelf, step, differences)?;
         return Ok(shelf);
     };
+    let planned = plan_of(play, &mut shelf, example)?;
     let (answer, mut shelf) = answered(play, shelf, example.sent.as_slice());
     differences.expect(example.line, answer.body(), example.due.body.as_slice())?;
+    if let (Some(puts), Some(planned)) = (&example.puts, &planned) {
+        expect_planned(play, &mut shelf, example, puts, planned, differences)?;
+    }
     if matches!(has_few(&mut shelf), Ok(true)) {
         expect_whole_lists(play, &mut shelf, example.line, differences)?;
     }

@@ -1,0 +1,141 @@
+//! What is planned for a command: its reply, and whose entries it puts.
+use crate::asking::{Asked, ask_of};
+use crate::differences::Differences;
+use crate::fault::Fault;
+use crate::playing::Play;
+use crate::puts::Puts;
+use crate::scenes::Example;
+use room_acl::Subject;
+use room_records::{Change, Path, Shelf};
+use room_tree::{Command, Outcome, node_at, plan};
+use room_wire::{Event, reply_text};
+use std::alloc::Global;
+
+/// The most changes beside those of entries.
+const MOST_OTHERS: usize = 3;
+
+/// What is planned for a command.
+#[derive(Drop)]
+pub struct Planned {
+    reply: Vec<u8>,
+    /// The numbers of the objects whose entries are put.
+    put: Vec<u32>,
+    /// How many changes there are.
+    changes: usize,
+}
+
+fn numbers_put(alloc: Global, changes: &[Change]) -> Result<Vec<u32>, Fault> {
+    let mut put = Vec::new(alloc);
+    for change in changes {
+        if let Change::PutEntries(id, _) = change {
+            put.push(*id)?;
+        }
+    }
+    Ok(put)
+}
+
+fn told(alloc: Global, outcome: &Outcome) -> Result<Planned, Fault> {
+    let changes = outcome.changes.as_slice();
+    Ok(Planned {
+        reply: reply_text(alloc, &outcome.reply)?,
+        put: numbers_put(alloc, changes)?,
+        changes: changes.len(),
+    })
+}
+
+fn outcome_of<S: Shelf>(
+    alloc: Global,
+    shelf: &mut S,
+    subject: &Subject,
+    command: &Command,
+) -> Result<Outcome, Fault> {
+    match plan(alloc, shelf, subject, command) {
+        Ok(outcome) => Ok(outcome),
+        Err(_) => Err(Fault::Because("a command that was not planned")),
+    }
+}
+
+fn plan_event<S: Shelf>(alloc: Global, shelf: &mut S, event: &Event) -> Result<Planned, Fault> {
+    match event {
+        Event::Slot {
+            subject,
+            command,
+            ..
+        } => {
+            let outcome = outcome_of(alloc, shelf, subject, command)?;
+            told(alloc, &outcome)
+        }
+        Event::Open { .. } | Event::Close { .. } => {
+            Err(Fault::Because("'puts' below what is no command"))
+        }
+    }
+}
+
+/// What is planned for the command of a message.
+pub fn plan_command<S: Shelf>(
+    play: &Play<'_>,
+    shelf: &mut S,
+    sent: &[u8],
+) -> Result<Planned, Fault> {
+    match ask_of(play, sent) {
+        Asked::Event(event) => plan_event(play.alloc, shelf, &event),
+        Asked::Other(_) => Err(Fault::Because("'puts' below what is no command")),
+    }
+}
+
+/// The number of the object at a path, where one is there.
+fn number_at<S: Shelf>(play: &Play<'_>, shelf: &mut S, path: &str) -> Result<Option<u32>, Fault> {
+    let Some(path) = Path::read(play.alloc, path)? else {
+        return Ok(None);
+    };
+    match node_at(shelf, &path) {
+        Ok(Some(node)) => Ok(Some(node.id)),
+        Ok(None) => Ok(None),
+        Err(_) => Err(Fault::Because("a node that was not read")),
+    }
+}
+
+/// Tells where the entries of these objects were not put.
+fn expect_put<S: Shelf>(
+    play: &Play<'_>,
+    shelf: &mut S,
+    line: usize,
+    puts: &Puts,
+    put: &[u32],
+    differences: &mut Differences<'_>,
+) -> Result<(), Fault> {
+    if put.len() != puts.count {
+        let count = put.len();
+        let text = format!(in play.alloc; "entries of {count} objects are put")?;
+        differences.tell(line, text.as_str())?;
+    }
+    for path in &puts.paths {
+        let is_put = match number_at(play, shelf, path.as_str())? {
+            Some(id) => put.contains(&id),
+            None => false,
+        };
+        if !is_put {
+            let text = format!(in play.alloc; "no entries are put of {path}")?;
+            differences.tell(line, text.as_str())?;
+        }
+    }
+    Ok(())
+}
+
+/// Compares what was planned for a request, once it is done: its paths are those of then.
+pub fn expect_planned<S: Shelf>(
+    play: &Play<'_>,
+    shelf: &mut S,
+    example: &Example,
+    puts: &Puts,
+    planned: &Planned,
+    differences: &mut Differences<'_>,
+) -> Result<(), Fault> {
+    let put = planned.put.as_slice();
+    let due = example.due.body.as_slice();
+    differences.expect(example.line, planned.reply.as_slice(), due)?;
+    if planned.changes > put.len().saturating_add(MOST_OTHERS) {
+        differences.tell(example.line, "more than three other changes")?;
+    }
+    expect_put(play, shelf, example.line, puts, put, differences)
+}
