@@ -25,6 +25,14 @@ FRONT = {
 }
 
 
+def later(status: int) -> str:
+    return f"it answered {status}"
+
+
+BUSY = "the room is being started again, or is busy"
+WAITS = {later(429): "the front lets no more of yours through for now"}
+
+
 def compact(command: dict) -> str:
     return json.dumps(command, ensure_ascii=False, separators=(",", ":"), sort_keys=True)
 
@@ -153,7 +161,7 @@ class Slot:
                 raise NoAnswer(f"no answer from {self.settings.url} in {seconds} ({answer}; is the room served?)")
             self.line.close()
             if time.monotonic() - begin > WORD_AFTER and self.pace.is_first_word():
-                self.say(f"no answer yet ({answer}): the room is being started again, or is busy; it is sent again")
+                self.say(f"no answer yet ({answer}): {WAITS.get(answer, BUSY)}; it is sent again")
             time.sleep(pause * random.uniform(0.5, 1.0))
             pause = min(2 * pause, LONGEST_PAUSE)
 
@@ -167,7 +175,7 @@ class Slot:
         except (NotSent, Lost) as fault:
             return str(fault)
         if answer.is_later:
-            return f"it answered {answer.status}"
+            return later(answer.status)
         if answer.is_refused:
             self.may_be_sent = before
         return answer

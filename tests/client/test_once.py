@@ -7,6 +7,7 @@ import signal
 import threading
 import time
 from dataclasses import replace
+from unittest import mock
 
 from desk import Desk, PASSWORDS, serve_front
 from room_client import NoAnswer, Refused, SessionLost
@@ -70,6 +71,15 @@ class Lost(Desk):
             self.assertEqual(room.append("/log", b"piece")["size"], 10)
         self.assertEqual(said, ["finished what was pending: APPEND /log: done",
                                 "that was this very request, done once: give it again to do it a second time"])
+
+    def test_why_there_is_no_answer_yet(self):
+        for fault, why in (503, "the room is being started again"), (429, "the front lets no more of yours through"):
+            said = []
+            with self.behind(said.append) as room, mock.patch("room_client.slots.WORD_AFTER", 0):
+                self.front.faults[:] = [fault]
+                room.children("/")
+            self.assertEqual(len(said), 1)
+            self.assertIn(f"no answer yet (it answered {fault}): {why}", said[0])
 
     def test_so_are_lines(self):
         """They are another request the second time, since the document ends its line by then."""
