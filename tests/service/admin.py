@@ -28,6 +28,7 @@ STAND_INS = {
     "runuser": 'shift 3; exec "$@"',
     "nft": TOLD + 'echo "elements = { 8001, 8002, 8003 }"',
     "room": 'exec "$FILEROOM" --version',
+    "fileroom-standby": TOLD + "exit 1",
     # (the same files, with the root's folders in the place of the machine's, and ports that need no root)
     "nginx": """set -e
 at=$(mktemp -d); trap 'rm -r "$at"' EXIT
@@ -330,6 +331,24 @@ def looked_at(machine, tally):
     machine.mended()
 
 
+def a_standby(machine, tally):
+    """A room that other machines can take over has another unit; `check` asks about it, and about no file elsewhere."""
+    machine.write("etc/fileroom/plans.hosts", "10.77.0.1\n10.77.0.2\n10.77.0.3\n")
+    machine.told()
+    said = machine.does("user", "add", "plans", "sue", "eng")[1].splitlines()
+    tally.differs("what is to be copied", said[-1], "for the machines of plans: fileroom-standby copy plans | sh")
+    tally.differs("the standby's unit", machine.told(), ["systemctl try-restart fileroom-standby@plans"])
+    machine.does("front")
+    tally.differs("nginx is the manager's", machine.told(), ["systemctl try-reload-or-restart nginx"])
+    os.chmod(machine.at("var/lib/fileroom/plans"), 0o755)
+    said = machine.does("check")[1]
+    tally.differs("what it asks", "fileroom-standby check plans" in machine.told(), True)
+    found = [it for it in said.splitlines() if "plans" in it]
+    tally.differs("check of a standby", found, [
+        "fileroom@plans runs, and the room has a standby", "    systemctl disable --now fileroom@plans",
+        "plans: its standby is not as it must be", "    fileroom-standby check plans"])
+
+
 def tried(folder, tally):
     machine = Machine(folder)
     a_front(machine, tally)
@@ -340,6 +359,7 @@ def tried(folder, tally):
     steps = [stops(machine, it.split(), tally) for it in ("user add plans kim eng", "room add more ann eng")]
     written_since(machine, tally)
     looked_at(machine, tally)
+    a_standby(machine, tally)
     print(f"service: fileroom-admin, stopped at each of {sum(steps)} steps")
 
 

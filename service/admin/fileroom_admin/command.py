@@ -63,6 +63,8 @@ def play(given, commands):
         commands.tls(given.CERT, given.KEY)
     else:
         commands.front()
+    if what != "user list":
+        commands.say_copy()
 
 
 def main(words):

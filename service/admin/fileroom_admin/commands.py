@@ -51,7 +51,7 @@ class Commands:
         for it in service, timer:
             change.then("systemctl", "enable", "--now", it, undo=("systemctl", "disable", "--now", it))
         change.then("listens", str(port), undo=("true",))
-        change.then("systemctl", "reload-or-restart", "nginx")
+        change.then(*places.read_front())
         password = self.draw(change, owner)
         change.happen()
         self.say(f"the room {room} is served at port {port}, and backed up each night")
@@ -96,7 +96,7 @@ class Commands:
             change.put(self.places.front(f"rooms/{room}.conf"), room_conf(room, self.places.port(room)))
             change.put(self.places.front(f"rooms/{room}.users.json"), rosters.page_copy(read(self.places.roster(room))))
         change.put(self.places.front(ROOM_LISTS), json.dumps(self.places.rooms()) + "\n")
-        change.then("systemctl", "reload-or-restart", "nginx")
+        change.then(*self.places.read_front())
         change.happen()
         self.say(f"the front has the files of this program, and the rooms {', '.join(self.places.rooms()) or 'none'}")
 
@@ -112,8 +112,13 @@ class Commands:
         """The roster's change; the room reads it as it starts again."""
         change = Change(self.places)
         self.put_roster(change, room, read(self.places.roster(room)), user, groups)
-        change.then("systemctl", "try-restart", f"fileroom@{room}")
+        change.then("systemctl", "try-restart", self.places.unit(room))
         return change
+
+    def say_copy(self):
+        """A change of the files that all machines of a standby have is made on one, and copied by hand."""
+        for room in filter(self.places.has_standby, self.places.rooms()):
+            self.say(f"for the machines of {room}: fileroom-standby copy {room} | sh")
 
     def users(self, room):
         self.need_room(room)
@@ -198,7 +203,7 @@ class Commands:
         change.put(self.places.at(LISTEN), sample("tls.conf"))
         change.put(self.places.at(REDIRECT), sample("redirect.conf").replace("@NAMES@", " ".join(names)))
         change.look("nginx", "-tq")
-        change.then("systemctl", "reload-or-restart", "nginx")
+        change.then(*self.places.read_front())
         change.happen()
         self.say(f"the front listens by https, as {' '.join(names)}, until {end_of(cert)}; http is sent on to it")
 

@@ -95,12 +95,26 @@ class Findings:
         same = [it for it in places.rooms() if it != room and places.port(it) == places.port(room)]
         if same:
             self.add(f"{room} has the port of {same[0]}", f"another PORT in {places.env(room)}")
-        self.mode(places.state(room), OTHERS, "chmod 700")
-        self.owner(places.file(room))
-        for unit in f"fileroom@{room}", f"fileroom-backup@{room}.timer":
+        self.wall(room)
+        if places.has_standby(room):
+            self.standby(room)
+        if self.is_here(room):
+            self.mode(places.state(room), OTHERS, "chmod 700")
+            self.owner(places.file(room))
+        units = [] if places.has_standby(room) else [f"fileroom@{room}"]
+        for unit in *units, f"fileroom-backup@{room}.timer":
             if said("systemctl", "is-active", "-q", unit)[0]:
                 self.add(f"{unit} does not run", f"systemctl enable --now {unit}; journalctl -u {unit} says why not")
-        self.wall(room)
+
+    def is_here(self, room):
+        """(A room with a standby is where its volume is mounted.)"""
+        return not self.places.has_standby(room) or os.path.ismount(self.places.state(room))
+
+    def standby(self, room):
+        if said("systemctl", "is-active", "-q", f"fileroom@{room}")[0] == 0:
+            self.add(f"fileroom@{room} runs, and the room has a standby", f"systemctl disable --now fileroom@{room}")
+        if said("fileroom-standby", "check", room)[0]:
+            self.add(f"{room}: its standby is not as it must be", f"fileroom-standby check {room}")
 
     def owner(self, path):
         if not self.places.is_machine:
@@ -150,8 +164,10 @@ def check(places, hours, say):
         it.add("there is no room", "fileroom-admin room add NAME OWNER GROUP")
     for room in places.rooms():
         it.part(it.room, room)
-        it.part(it.backup, room, hours)
-    it.part(it.backup_of_front, hours)
+        if it.is_here(room):
+            it.part(it.backup, room, hours)
+    if not places.rooms() or any(map(it.is_here, places.rooms())):
+        it.part(it.backup_of_front, hours)
     for folder in places.at("var/lib/fileroom"), places.backups().rstrip("/"):
         it.part(it.disk, folder)
     for text, remedy in it.found:

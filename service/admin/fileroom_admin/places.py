@@ -54,6 +54,18 @@ class Places:
     def env(self, room):
         return self.at(f"etc/fileroom/{room}.env")
 
+    def has_standby(self, room):
+        """Whether other machines can take the room over, by the file that `fileroom-standby make` writes."""
+        return os.path.exists(self.at(f"etc/fileroom/{room}.hosts"))
+
+    def unit(self, room):
+        return f"fileroom-standby@{room}" if self.has_standby(room) else f"fileroom@{room}"
+
+    def read_front(self):
+        """The words that have nginx read its files. (Where a room has a standby, the cluster's manager starts it.)"""
+        is_managed = any(map(self.has_standby, self.rooms()))
+        return "systemctl", "try-reload-or-restart" if is_managed else "reload-or-restart", "nginx"
+
     def state(self, room):
         return self.at(f"var/lib/fileroom/{room}")
 
