@@ -21,17 +21,17 @@ from served import LIBC, WAIT, end_with_parent
 NET = 0x40000000  # CLONE_NEWNET of setns
 UNSHARE = ["unshare", "--net", "--mount", "--uts", "--pid", "--fork", "--kill-child", "--mount-proc"]
 NEEDED = ("unshare", "nsenter", "ip", "mkfs.ext4", "glusterd", "gluster", "glusterfs", "mount.glusterfs",
-          "sqlite3", "runuser", "systemd-sysusers")
+          "sqlite3", "runuser", "systemd-sysusers", "nft")
 PATH = os.pathsep.join([os.environ.get("PATH", ""), "/usr/sbin", "/sbin"])
 DISK = 6 << 30  # bytes of the file that all machines lie in; it is sparse
 BRIDGE = "10.77.0.254/24"
 FLOATING = "10.77.0.100"  # the address that moves to the machine that serves
+WALL = "/srv/bin/fileroom-ports"  # of a machine that has it: it is put up with its link
 # what the first process of a machine does: its own folders over those of the machine below, then it waits for its end
 FIRST = """
 set -e
 mount --make-rprivate /
 hostname "$1"
-ip link set lo up
 for it in /etc /var /usr/local; do
     mkdir -p "$2/upper$it" "$2/work$it"
     mount -t overlay layer -o "lowerdir=$it,upperdir=$2/upper$it,workdir=$2/work$it" "$it"
@@ -67,8 +67,23 @@ def inside(*words):
     try:
         return child.wait()
     finally:
-        child.kill()
-        child.wait()
+        end(child)
+
+
+def children_of(pid):
+    with contextlib.suppress(OSError), open(f"/proc/{pid}/task/{pid}/children", encoding="utf-8") as file:
+        return [int(it) for it in file.read().split()]
+    return []
+
+
+def end(child):
+    """Ends what it started in order, so that nothing of it is left, and else by a kill."""
+    for it in children_of(child.pid):
+        os.kill(it, signal.SIGTERM)
+    with contextlib.suppress(subprocess.TimeoutExpired):
+        child.wait(WAIT)
+    child.kill()
+    child.wait()
 
 
 def sh(*words, **how):
@@ -129,7 +144,7 @@ class Machine:
     def __init__(self, number, folder):
         self.number, self.name, self.folder = number, "abc"[number - 1], os.path.join(folder, "abc"[number - 1])
         self.address, self.generation, self.first, self.shell = f"10.77.0.{number}", 0, None, None
-        self.program = None
+        self.program, self.logs = None, os.path.join(self.folder, "log")
         os.mkdir(self.folder)
 
     def boot(self):
@@ -141,15 +156,24 @@ class Machine:
         words = [*UNSHARE, "sh", "-c", FIRST, "sh", f"room-{self.name}", self.folder]
         self.shell = subprocess.Popen(words, preexec_fn=end_with_parent, stdin=subprocess.DEVNULL)
         until(lambda: os.path.exists(up) or self.shell.poll() is not None, WAIT, f"{self.name} starts", 0.02)
-        with open(f"/proc/{self.shell.pid}/task/{self.shell.pid}/children") as file:
-            self.first = int(file.read().split()[0])
+        self.find_first()
+        self.link_up()
+        if os.path.exists(os.path.join(self.folder, WALL.lstrip("/"))):
+            self.run(WALL)
+        self.run("glusterd", "-p", "/run/glusterd.pid")
+        return self
+
+    def find_first(self):
+        self.first = next(iter(children_of(self.shell.pid)), None)
+        return self.first
+
+    def link_up(self):
         self.link = f"v{self.name}{self.generation}"
         sh("ip", "link", "add", self.link, "type", "veth", "peer", "name", "eth0", "netns", str(self.first))
         sh("ip", "link", "set", self.link, "master", "bridge", "up")
-        self.run("ip", "addr", "add", f"{self.address}/24", "dev", "eth0")
-        self.run("ip", "link", "set", "eth0", "up")
-        self.run("glusterd", "-p", "/run/glusterd.pid")
-        return self
+        for words in (["addr", "add", f"{self.address}/24", "dev", "eth0"], ["link", "set", "eth0", "up"],
+                      ["link", "set", "lo", "up"]):
+            self.run("ip", *words)
 
     def words(self, *words):
         return ["nsenter", "-t", str(self.first), "-n", "-m", "-u", "-p", "--wd=/", *words]
@@ -210,7 +234,10 @@ class Lab:
         sh("ip", "link", "add", "bridge", "type", "bridge")
         sh("ip", "link", "set", "bridge", "up")
         sh("ip", "addr", "add", BRIDGE, "dev", "bridge")
-        self.machines = [Machine(number, self.folder) for number in (1, 2, 3)]
+        self.machines = self.made()
+
+    def made(self):
+        return [Machine(number, self.folder) for number in (1, 2, 3)]
 
     def __enter__(self):
         for it in self.machines:

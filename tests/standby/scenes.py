@@ -5,7 +5,7 @@ import subprocess
 import threading
 import time
 
-from lab import until
+from lab import WALL, until
 from load import PORT, SESSIONS, Load
 from served import first_answer, message
 from standby import AS_USER, DB, FOLDER, NAME, ROSTER, SERVED, SYSTEMCTL, TOOL
@@ -81,6 +81,7 @@ def takeovers(standby, tally, dice, count, room_for=1.0):
             if whole:
                 raise
             print(f"standby: {name}: stuck until the machine is back: {fault}", flush=True)
+            standby.keep_words()
             found.stuck += 1
             unstuck(standby, load, tally, name)
         whole = come_back(standby, load, dice, found, tally, name)
@@ -465,6 +466,21 @@ def stale_with_defaults(standby, tally, dice):
 
 # One setting after another is taken away, and `check` tells it.
 
+def walls(machine, tally):
+    """A copy that others may read, and ports that are open, are told."""
+    machine.run("chmod", "755", "/srv/fileroom")
+    tally.differs("a copy that users may read", finding(machine, "users of this machine may read the copy"), (1, True))
+    machine.run("chmod", "700", "/srv/fileroom")
+    machine.run("nft", "delete", "table", "inet", "fileroom")
+    tally.differs("open ports", finding(machine, "Gluster's ports are open to everybody"), (1, True))
+    machine.run(WALL)
+    tally.differs("all is closed again", [finding(machine, it)[1] for it in ("open to everybody", "may read")],
+                  [False, False])
+
+
+WRONG = {"on": "off", "off": "on", "auto": "none", "server": "none", "10.77.0.1,10.77.0.2,10.77.0.3": "*"}
+
+
 def check(standby, tally, dice, count):
     """`check` tells a setting that is another, a mount without its words, a copy that is away, no fencing."""
     a, b, _ = standby.machines
@@ -476,12 +492,14 @@ def check(standby, tally, dice, count):
                   (1, ["Pacemaker"] if findings and findings[0].startswith("Pacemaker ") else ["there is "]))
     with open(os.path.join(os.path.dirname(TOOL), "volume"), encoding="utf-8") as file:
         settings = [line.split() for line in file if line.strip() and not line.startswith("#")]
+    settings.append(("auth.allow", "10.77.0.1,10.77.0.2,10.77.0.3"))
     for option, value in dice.sample(settings, min(count, len(settings))):
-        wrong = {"on": "off", "off": "on", "auto": "none", "server": "none"}.get(value) or str(int(value) + 1)
+        wrong = WRONG.get(value) or str(int(value) + 1)
         a.gluster("volume", "set", NAME, option, wrong)
         tally.differs(f"{option} {wrong} is told", finding(a, f"{option} is {wrong} and must be {value}"), (1, True))
         a.run(TOOL, "set", NAME)
     tally.differs("all is set again", finding(a, " must be ")[1], False)
+    walls(a, tally)
     standby.kill(b)
     time.sleep(1)
     tally.differs("a copy that is away is told", finding(a, "10.77.0.2:/srv/fileroom/plans is away"), (1, True))

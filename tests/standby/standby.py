@@ -5,10 +5,11 @@ import shutil
 import signal
 import subprocess
 import sys
+import tempfile
 import threading
 import time
 
-from lab import Lab, sh, until
+from lab import WALL, Lab, sh, until
 from load import PORT, USERS
 from served import PROGRAM, findings_of
 
@@ -20,13 +21,17 @@ NAME = "plans"
 FOLDER, BRICK = f"/var/lib/fileroom/{NAME}", f"/srv/fileroom/{NAME}"
 SERVED = "/srv/bin/fileroom"  # a copy of the program, which everybody may run
 AS_USER = ["setpriv", "--reuid", "fileroom", "--regid", "fileroom", "--clear-groups"]
-DB, ROSTER = f"{FOLDER}/room.db", f"/etc/fileroom/{NAME}.toml"
+DB, ROSTER, HOSTS = f"{FOLDER}/room.db", f"/etc/fileroom/{NAME}.toml", f"/etc/fileroom/{NAME}.hosts"
 MOUNT = "direct-io-mode=enable,attribute-timeout=0,entry-timeout=0"
 LISTENS, WHOLE = 60, 120  # seconds: far more than it takes, on a machine that others use
 AGAIN = 0.2  # seconds until a program that ended is started again: RestartSec of the unit
 SERVE = 'echo $$ >/run/room.pid; exec "$@"'
 # what `systemctl restart` does in the laboratory, where no systemd runs: the program ends, and is started again
 SYSTEMCTL = '#!/bin/sh\necho "$@" >>/run/systemctl.log\nkill "$(cat /run/room.pid)"\n'
+# what is kept of a machine beside Gluster's logs; a process of Gluster writes on SIGUSR1 what it holds
+SAYS = {"processes": ["ps", "-ef"], "connections": ["ss", "-tanpi"], "peers": ["gluster", "peer", "status"],
+        "volume": ["gluster", "volume", "status"], "heal": ["gluster", "volume", "heal", NAME, "info"]}
+DUMPS = "kill -USR1 $(pidof glusterd glusterfs glusterfsd); sleep 2; cp /run/gluster/*dump* /var/log/glusterfs"
 
 
 class Program:
@@ -61,6 +66,38 @@ class Program:
         self.thread.join(30)
 
 
+def kept_words(machines):
+    """A folder that stays, with Gluster's logs of each machine, and of one that is up its processes and connections,
+    and what its mount and its daemons hold at this moment."""
+    folder = tempfile.mkdtemp(prefix="fileroom-standby-", dir=os.environ.get("LOGS", "/var/tmp"))
+    for it in machines:
+        at = os.path.join(folder, it.name)
+        if it.is_up():
+            it.status("sh", "-c", DUMPS)
+        with contextlib.suppress(shutil.Error):  # (what is no file, and what goes meanwhile)
+            shutil.copytree(it.logs, at, dirs_exist_ok=True)
+        for name, words in SAYS.items():
+            with open(os.path.join(at, name), "w", encoding="utf-8") as file:
+                file.write("\n".join(it.status("timeout", "20", *words)[1:]) if it.is_up() else "it is off\n")
+    return folder
+
+
+def look_at_tables(machine, load, tally, name):
+    """SQLite finds nothing wrong in a copy, and the documents and numbers are those of the model."""
+    at = os.path.join(machine.folder, "srv", "look")
+    shutil.rmtree(at, ignore_errors=True)
+    os.mkdir(at)
+    machine.run("sh", "-c", f"cp {FOLDER}/room.db* /srv/look/")
+    copy = os.path.join(at, "room.db")
+    tally.differs(f"{name}: SQLite finds", findings_of(copy), [])
+    kept = sh("sqlite3", copy, "SELECT sid, slot, seq FROM kept ORDER BY sid, slot").split()
+    want = [f"{sid}|{slot}|{it[0]}" for (sid, slot), it in sorted(load.model.slots.items())]
+    tally.differs(f"{name}: the last number of each slot", kept, want)
+    held = sh("sqlite3", copy, "SELECT hex(bytes) FROM doc").split("\n")[:-1]
+    want = sorted(it.hex().upper() for it in load.documents())
+    tally.differs(f"{name}: the documents", sorted(held), want)
+
+
 class Standby:
     """The laboratory, its volume and its room. `on` is the machine that serves, where one does."""
 
@@ -79,8 +116,13 @@ class Standby:
         return self
 
     def make(self):
-        """The volume, by the shipped command."""
-        self.machines[0].run(TOOL, "make", NAME, *(it.address for it in self.machines))
+        """The volume, by the shipped command, and the wall before it."""
+        first, *others = self.machines
+        first.run(TOOL, "make", NAME, *(it.address for it in self.machines))
+        for it in others:
+            it.run("sh", "-c", 'cat >"$1"', "sh", HOSTS, input=first.run("cat", HOSTS))
+        for it in self.machines:
+            it.run(WALL)
 
     def fresh(self, **changed):
         """All machines are up and nothing is served; a fresh room lies on a whole volume with the shipped settings, but
@@ -114,8 +156,13 @@ class Standby:
     def prepare(self, machine):
         """What each machine has: the user, the folders, the roster."""
         machine.run("systemd-sysusers", os.path.join(SERVICE, "sysusers.conf"))
-        machine.run("mkdir", "-p", FOLDER, BRICK, "/etc/fileroom", "/srv/bin")
+        machine.run("mkdir", "-p", FOLDER, BRICK, "/etc/fileroom", "/srv/bin/standby")
+        machine.run("chmod", "700", os.path.dirname(BRICK))
         machine.run("install", "-m", "755", PROGRAM, SERVED)
+        for it, to in ("service/fileroom-ports", ""), ("front/fileroom.nft", ""), (
+                "service/standby/gluster.nft", "standby"):
+            machine.run("cp", os.path.join(TOP, it), f"/srv/bin/{to}")
+        machine.run("sh", "-c", 'echo PORT=8001 >"$1"', "sh", ROSTER.replace(".toml", ".env"))
         roster = "[users]\n" + "".join(f"{it} = [{', '.join(map(repr, USERS[it]))}]\n" for it in USERS)
         machine.run("sh", "-c", 'cat >"$1"', "sh", ROSTER, input=roster.replace("'", '"'))
 
@@ -127,16 +174,11 @@ class Standby:
     def mount(self, machine):
         """As Pacemaker's lines do, and again where glusterd is not ready yet."""
         words = ["mount", "-t", "glusterfs", "-o", MOUNT, f"localhost:/{NAME}", FOLDER]
-        try:
-            until(lambda: machine.status(*words)[0] == 0, LISTENS, f"a mount on {machine.name}", 0.5)
-        except RuntimeError as fault:
-            raise RuntimeError(f"{fault}\n{self.why(machine)}") from None
+        until(lambda: machine.status(*words)[0] == 0, LISTENS, f"a mount on {machine.name}", 0.5)
 
-    def why(self, machine):
-        """What Gluster says on that machine."""
-        told = [machine.status("timeout", "20", "gluster", *it)[1] for it in (["pool", "list"], ["volume", "status"])]
-        return "\n".join(told) + machine.status("sh", "-c", "tail -n 12 /var/log/glusterfs/*plans.log "
-                                                "/var/log/glusterfs/glusterd.log | cut -c1-200")[1]
+    def keep_words(self):
+        """Tells where the words of all machines are kept, for who looks into what went wrong."""
+        print(f"standby: what each machine says is kept in {kept_words(self.machines)}", flush=True)
 
     def local(self):
         """In the place of the volume a folder of the first machine's own disk, with a fresh room."""
@@ -213,24 +255,9 @@ class Standby:
         for kind, want in ("lists", load.list_report()), ("access", load.access_report()):
             told = until(lambda: self.report(machine, kind), 30, f"a report on {machine.name}")
             tally.differs(f"{name}: report {kind}", told, want)
-        self.look_at_tables(machine, load, tally, name)
+        look_at_tables(machine, load, tally, name)
         return self.serve(machine)
 
     def report(self, machine, kind):
         status, told, _ = machine.status(*AS_USER, SERVED, "report", DB, ROSTER, kind)
         return told if status == 0 else None
-
-    def look_at_tables(self, machine, load, tally, name):
-        """SQLite finds nothing wrong in a copy, and the documents and numbers are those of the model."""
-        at = os.path.join(machine.folder, "srv", "look")
-        shutil.rmtree(at, ignore_errors=True)
-        os.mkdir(at)
-        machine.run("sh", "-c", f"cp {FOLDER}/room.db* /srv/look/")
-        copy = os.path.join(at, "room.db")
-        tally.differs(f"{name}: SQLite finds", findings_of(copy), [])
-        kept = sh("sqlite3", copy, "SELECT sid, slot, seq FROM kept ORDER BY sid, slot").split()
-        want = [f"{sid}|{slot}|{it[0]}" for (sid, slot), it in sorted(load.model.slots.items())]
-        tally.differs(f"{name}: the last number of each slot", kept, want)
-        held = sh("sqlite3", copy, "SELECT hex(bytes) FROM doc").split("\n")[:-1]
-        want = sorted(it.hex().upper() for it in load.documents())
-        tally.differs(f"{name}: the documents", sorted(held), want)
