@@ -158,7 +158,7 @@ class Strip:
     """What fences: `off a`, `on a`, `reboot a`, `status a`, one connection each. `asked` is what it was asked."""
 
     def __init__(self, machines):
-        self.machines, self.asked = {it.name: it for it in machines}, []
+        self.machines, self.asked, self.works = {it.name: it for it in machines}, [], True
         self.listener = socket.create_server((BRIDGE.partition("/")[0], STRIP))
         threading.Thread(target=self.serve, daemon=True).start()
 
@@ -177,6 +177,8 @@ class Strip:
         """The status that the agent ends with."""
         if action == "monitor" or not machine:
             return 0 if action == "monitor" else 1
+        if not self.works:
+            return 1
         if action != "status":
             self.asked.append((action, machine.name))
         with machine.lock:

@@ -25,6 +25,7 @@ CERT = f"/etc/letsencrypt/live/{SITE}"
 ROOM, GROUP = f"fileroom-standby@{NAME}", f"{NAME}-room"
 WELL = f"{NAME}: all is as it must be; "
 TAKEN, BACK = 120, 300  # seconds: far more than it takes, on a machine that others use
+UNFENCED = 40  # seconds in which a machine that could be fenced would have been
 ATTEMPT = 5  # seconds that a client waits for one answer
 PLACED = re.compile(r"\*\*On (each|the first) machine")
 
@@ -387,6 +388,27 @@ def alone(cluster, load, tally):
     cluster.need_well("two died")
 
 
+def unfenced(cluster, load, tally):
+    """A machine dies, and so does what fences it: nothing begins elsewhere, until somebody says that it is off."""
+    dead = cluster.serving()
+    other = cluster.others(dead)[0]
+    cluster.lab.strip.works = False
+    dead.kill()
+    time.sleep(UNFENCED)
+    is_unclean = "UNCLEAN" in other.run("pcs", "status")
+    tally.differs("nothing begins elsewhere", (cluster.serving(), is_unclean), (None, True))
+    does(other, f"pcs stonith confirm {dead.name} --force", [f"Node: {dead.name} confirmed fenced"], tally)
+    until(cluster.serving, TAKEN, "another has the room once somebody said so", 0.5)
+    cluster.lab.strip.works = True
+    dead.boot()
+    load.start()
+    need_answers(load, 20, TAKEN, "the room is answered again")
+    load.stop()
+    tally.need(load.fault is None, f"unfenced: {load.fault!r}")
+    load.repeat_all()
+    cluster.need_well("switched off by hand")
+
+
 def back_to_one(cluster, load, tally):
     """The lines for one machine again: the room goes on there, with its sessions."""
     load.close_line()
@@ -439,6 +461,7 @@ def play(folder, tally, dice, kinds):
             found(cluster, tally)
             looked_at(cluster, load, tally, "cluster")
             alone(cluster, load, tally)
+            unfenced(cluster, load, tally)
             back_to_one(cluster, load, tally)
             say(f"{load.answered} answers, {load.again} after being sent again, {load.repeats} repeats")
         except Exception:
