@@ -2,12 +2,13 @@
 use Rattle.std.proofs.Common.{◌≡◌, ℕ, refl, ap, ◌∙◌, sym, subst, List, [], ◌∷◌, Option, None, Some}
 use Rattle.std.proofs.Common.{IfSome, IsSome, true, false}
 use Rattle.room_acl.specs.Entries.{EntryModel}
-use Rattle.room_slots.specs.Slots.{kept_seq}
+use Rattle.room_slots.specs.KeptModel.{KeptModel}
 use Rattle.room_records.specs.declared.change.Change.{Change}
 use Rattle.room_records.specs.Records.{ObjectRecords, Records}
 use Rattle.room_records.specs.Changes.{Leave, Untouched, apply_change}
 use Rattle.room_cache.specs.declared.known.Known.{Known}
-use Rattle.room_cache.specs.Known.{IsTrueOf, AreSeqs, IsDecidedBy, IsLeft}
+use Rattle.room_cache.specs.Known.{IsTrueOf, IsDecidedBy, IsLeft}
+use Rattle.room_cache.specs.Slots.{AreKept, IsKept}
 use Rattle.room_cache.specs.Rows.{row_at}
 use Rattle.room_cache.proofs.Folders.{listed_stay}
 use Rattle.std.specs.Ordering.{nat_cmp}
@@ -33,16 +34,16 @@ left_itself known = record {
   names = λ folder names held. (held, λ id. tt);
   lists = λ id list held. (held, tt);
   decisions = λ id made held. (held, tt);
-  seqs = λ r are. are;
+  slots = λ r are. are;
   next = for_some _ known.next (λ next held. (held, tt));
 }
 
 -- a change that leaves all but slots, and what is remembered of them
-pub others_left : (change : Change) (old new : Known) → new ≡ record old { seqs = new.seqs }
-    → ((r : Records) → AreSeqs r old.seqs → AreSeqs (apply_change change r) new.seqs)
+pub others_left : (change : Change) (old new : Known) → new ≡ record old { slots = new.slots }
+    → ((r : Records) → AreKept r old.slots → AreKept (apply_change change r) new.slots)
     → ((r : Records) → (apply_change change r).session ≡ r.session)
     → ((r : Records) → (apply_change change r).objects ≡ r.objects) → IsLeft (change ∷ []) old new
-others_left change old new same seqs sessions objects =
+others_left change old new same slots sessions objects =
     let same_node : (id : ℕ) (r : Records) → (apply_change change r).objects.node id ≡ r.objects.node id =
     λ id r. ap (λ (t : ObjectRecords). t.node id) (objects r) in
     let same_entries : (id : ℕ) (r : Records) → (apply_change change r).objects.entries id ≡ r.objects.entries id =
@@ -58,7 +59,7 @@ others_left change old new same seqs sessions objects =
       lists = λ id list held. (sym (ap (λ (k : Known). row_at nat_cmp k.lists id) same) ∙ held, (same_entries id, tt));
       decisions = λ id made held.
           (sym (ap (λ (k : Known). row_at nat_cmp k.decisions id) same) ∙ held, (same_entries id, tt));
-      seqs = seqs;
+      slots = slots;
       next = for_some _ new.next (λ next held.
           (sym (ap (λ (k : Known). k.next) same) ∙ held, ((λ r. ap (λ (t : ObjectRecords). t.next) (objects r)), tt)));
     }
@@ -67,14 +68,14 @@ others_left change old new same seqs sessions objects =
 pub nothing_true : (r : Records) (known : Known) → ((k : List ℕ) → row_at name_cmp known.sessions k ≡ None)
     → ((k : ℕ) → row_at nat_cmp known.nodes k ≡ None) → ((k : ℕ) → row_at nat_cmp known.names k ≡ None)
     → ((k : ℕ) → row_at nat_cmp known.lists k ≡ None) → ((k : ℕ) → row_at nat_cmp known.decisions k ≡ None)
-    → ((k : Name × ℕ) → row_at slot_cmp known.seqs k ≡ None) → known.next ≡ None → IsTrueOf known r
-nothing_true r known sessions nodes names lists decisions seqs next = record {
+    → ((k : Name × ℕ) → row_at slot_cmp known.slots k ≡ None) → known.next ≡ None → IsTrueOf known r
+nothing_true r known sessions nodes names lists decisions slots next = record {
   sessions = λ sid row held. absurd (none_some _ row (sessions sid) held);
   nodes = λ id node held. absurd (none_some _ node (nodes id) held);
   names = λ folder listed held. absurd (none_some _ listed (names folder) held);
   lists = λ id list held. absurd (none_some _ list (lists id) held);
   decisions = λ id made held d in_made. absurd (none_some _ made (decisions id) held);
-  seqs = λ sid slot seq held. absurd (none_some _ seq (seqs (sid, slot)) held);
+  slots = λ sid slot fact held. absurd (none_some _ fact (slots (sid, slot)) held);
   next = subst (λ (o : Option ℕ). IfSome o (λ n. r.objects.next ≡ n)) (sym next) tt;
 }
 
@@ -97,7 +98,7 @@ left_in_turn change changes old mid new first rest = record {
   decisions = λ id made held.
       let later = rest.decisions id made held in
       let sooner = first.decisions id made later.0 in (sooner.0, (sooner.1.0, later.1));
-  seqs = λ r are. rest.seqs (apply_change change r) (first.seqs r are);
+  slots = λ r are. rest.slots (apply_change change r) (first.slots r are);
   next = for_some _ new.next (λ next held.
       let later = at_some (λ (n : ℕ). (mid.next ≡ Some n) × Leave (λ r. r.objects.next) changes)
       new.next next held rest.next in
@@ -120,9 +121,10 @@ left_true changes known left old new is stay true_of = record {
       let was = is.decisions id made held in
       let P : List EntryModel → Type 0 = λ entries. IsDecidedBy entries d in
       subst P (sym (stay.entries id was.1)) (true_of.decisions id made was.0 d in_made);
-  seqs = λ sid slot seq held.
-      let is_now = is.seqs old true_of.seqs sid slot seq held in
-      (is_now.0, ap kept_seq (stay.kept sid slot is_now.0) ∙ is_now.1);
+  slots = λ sid slot fact held.
+      let is_now = is.slots old true_of.slots sid slot fact held in
+      let P : Option KeptModel → Type 0 = λ kept. IsKept fact kept in
+      (is_now.0, subst P (sym (stay.kept sid slot is_now.0)) is_now.1);
   next = for_some _ left.next (λ next held.
       let was = at_some (λ (n : ℕ). (known.next ≡ Some n) × Leave (λ r. r.objects.next) changes)
       left.next next held is.next in

@@ -2,4 +2,5 @@ pub mod Folders
 pub mod Keys
 pub mod Left
 pub mod Remembered
-pub mod Seqs
+pub mod SlotsKept
+pub mod Weights

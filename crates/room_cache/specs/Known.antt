@@ -1,22 +1,20 @@
 -- What is remembered of the rows.
-use Rattle.std.specs.Prelude.{◌≡◌, ℕ, ◌<◌, true, List, Some, IfSome}
+use Rattle.std.specs.Prelude.{◌≡◌, ℕ, true, List, Some, IfSome}
 use Rattle.std.specs.List.{Contains}
 use Rattle.std.specs.Ordering.{nat_cmp}
 use Rattle.room_acl.specs.declared.subject.Kind.{Kind}
 use Rattle.room_acl.specs.Access.{decision}
 use Rattle.room_acl.specs.Entries.{EntryModel}
-use Rattle.room_slots.specs.Slots.{kept_seq}
 use Rattle.room_records.specs.declared.change.Change.{Change}
 use Rattle.room_records.specs.declared.node.Node.{Node}
 use Rattle.room_records.specs.declared.session.SessionRow.{SessionRow}
-use Rattle.room_records.specs.Limits.{max_slots}
 use Rattle.room_records.specs.Names.{Name, name_cmp}
 use Rattle.room_records.specs.Records.{Records}
 use Rattle.room_records.specs.Rules.{NodeRules}
-use Rattle.room_records.specs.Sessions.{slot_cmp}
 use Rattle.room_records.specs.Changes.{Leave, apply_changes}
 use Rattle.room_records.specs.Shelf.{View, AreNames}
 use Rattle.room_cache.specs.Rows.{row_at}
+use Rattle.room_cache.specs.Slots.{AreKept}
 use Rattle.room_cache.specs.declared.decisions.Decided.{Decided}
 use Rattle.room_cache.specs.declared.known.Known.{Known}
 
@@ -27,11 +25,6 @@ IsDecidedBy entries d = d.decision ≡ decision entries d.subject d.standing d.w
 -- the names and kinds of what is in a folder, as a shelf tells them
 abbrev pub AreListed : Records → ℕ → List (Name × Kind) → Type 0
 AreListed r folder names = NodeRules r.objects.node → AreNames r.objects folder names
-
--- each is the number that its slot keeps, and none is of a slot after the first 16
-abbrev pub AreSeqs : Records → List ((Name × ℕ) × ℕ) → Type 0
-AreSeqs r seqs = (sid : Name) (slot seq : ℕ) → row_at slot_cmp seqs (sid, slot) ≡ Some seq
-    → (slot < max_slots) × (kept_seq (r.slot sid slot) ≡ Some seq)
 
 -- what is remembered is what the records are. A place is only a hint where to look
 pub record IsTrueOf (known : Known) (r : Records) : Type 0 where
@@ -44,10 +37,10 @@ pub record IsTrueOf (known : Known) (r : Records) : Type 0 where
       → r.objects.entries id ≡ list
   pub decisions : (id : ℕ) (made : List Decided) → row_at nat_cmp known.decisions id ≡ Some made
       → (d : Decided) → Contains made d → IsDecidedBy (r.objects.entries id) d
-  pub seqs : AreSeqs r known.seqs
+  pub slots : AreKept r known.slots
   pub next : IfSome known.next (λ next. r.objects.next ≡ next)
 
--- what is still remembered was before, and the changes leave it; the numbers are those that the slots keep after them
+-- what is still remembered was before, and the changes leave it; of slots it is what they keep after them
 pub record IsLeft (changes : List Change) (old new : Known) : Type 0 where
   pub sessions : (sid : List ℕ) (row : SessionRow) → row_at name_cmp new.sessions sid ≡ Some row
       → (row_at name_cmp old.sessions sid ≡ Some row) × Leave (λ r. r.session sid) changes
@@ -59,7 +52,7 @@ pub record IsLeft (changes : List Change) (old new : Known) : Type 0 where
       → (row_at nat_cmp old.lists id ≡ Some list) × Leave (λ r. r.objects.entries id) changes
   pub decisions : (id : ℕ) (made : List Decided) → row_at nat_cmp new.decisions id ≡ Some made
       → (row_at nat_cmp old.decisions id ≡ Some made) × Leave (λ r. r.objects.entries id) changes
-  pub seqs : (r : Records) → AreSeqs r old.seqs → AreSeqs (apply_changes changes r) new.seqs
+  pub slots : (r : Records) → AreKept r old.slots → AreKept (apply_changes changes r) new.slots
   pub next : IfSome new.next (λ next. (old.next ≡ Some next) × Leave (λ r. r.objects.next) changes)
 
 -- where something is remembered, no fault has shut an intact store

@@ -9,17 +9,20 @@ ghost use Rattle.room_records.specs.Records.{Records};
 ghost use Rattle.room_records.specs.Changes.{apply_change, Untouched};
 ghost use Rattle.room_records.specs.Shelf.{IsChildNamed};
 ghost use Rattle.room_cache.specs.Rows.{row_at};
-ghost use Rattle.room_cache.specs.Known.{IsTrueOf, AreListed, AreSeqs, IsDecidedBy, IsLeft};
+ghost use Rattle.room_cache.specs.Known.{IsTrueOf, AreListed, IsDecidedBy, IsLeft};
+ghost use Rattle.room_cache.specs.Slots.{AreKept, IsKept};
 ghost use Rattle.room_cache.specs.declared.decisions.Decided.{Decided};
 
 use crate::decisions::{Decided, Decisions};
 use crate::list::ShortList;
 use crate::names::NameList;
 use crate::rows::Rows;
+use crate::slots::{SlotFact, SlotRows};
 use room_acl::{Decision, Entry, Kind, Mask, Standing, Subject, copy_entries};
 use room_records::{
     Change, FileName, MAX_SLOTS, Node, SessionRow, ShelfFault, Sid, SlotRow, copy_names,
 };
+use room_slots::Kept;
 use std::alloc::Global;
 
 /// Rows that are remembered, at most 256 of each kind.
@@ -36,8 +39,8 @@ pub(crate) struct Known {
     pub(crate) lists: Rows<u32, ShortList>,
     /// What the lists of these objects decide.
     pub(crate) decisions: Rows<u32, Decisions>,
-    /// The numbers of the requests that slots keep.
-    pub(crate) seqs: Rows<(Sid, u32), u32>,
+    /// What slots keep, or the numbers of their requests.
+    pub(crate) slots: SlotRows,
     /// The number of the next object.
     pub(crate) next: Option<u32>,
 }
@@ -55,7 +58,7 @@ impl Known {
             names: Rows::new(alloc),
             lists: Rows::new(alloc),
             decisions: Rows::new(alloc),
-            seqs: Rows::new(alloc),
+            slots: SlotRows::new(alloc),
             next: None,
         }
     }
@@ -85,7 +88,7 @@ impl Known {
         self.names.clear();
         self.lists.clear();
         self.decisions.clear();
-        self.seqs.clear();
+        self.slots.clear();
         self.next = None;
     }
 
@@ -184,9 +187,27 @@ impl Known {
         let Ok(sid) = sid.clone() else {
             return None;
         };
-        match self.seqs.get(&(sid, slot)) {
-            Some(seq) => Some(*seq),
+        match self.slots.get(&(sid, slot)) {
+            Some(fact) => Some(fact.seq()),
             None => None,
+        }
+    }
+
+    /// What a slot keeps. That it keeps nothing is not remembered.
+    pub(crate) fn slot(&self, sid: &Sid, slot: u32) -> Option<&Kept>
+        ensures true_of { (r : Records) → IsTrueOf self.now r
+            → IfSome result (λ kept. r.slot sid.now slot ≡ Some kept.now) }
+        ensures answered { IsSome result → self.now.has_answered ≡ true }
+    {
+        if !self.has_answered {
+            return None;
+        }
+        let Ok(sid) = sid.clone() else {
+            return None;
+        };
+        match self.slots.get(&(sid, slot)) {
+            Some(SlotFact::Whole(kept)) => Some(kept),
+            _ => None,
         }
     }
 
@@ -265,18 +286,30 @@ impl Known {
         self.has_answered = true;
     }
 
-    /// The number of a slot after the first 16 is not remembered: no session has such a slot.
-    pub(crate) fn keep_seq(&mut self, sid: &Sid, slot: u32, seq: u32)
-        ensures { (r : Records) → kept_seq (r.slot sid.now slot) ≡ Some seq
-            → IsTrueOf self.old r → IsTrueOf self.new r }
+    /// Of a slot after the first 16 nothing is remembered: no session has such a slot.
+    fn keep_fact(&mut self, sid: &Sid, slot: u32, fact: SlotFact)
+        ensures { (r : Records) → IsKept fact (r.slot sid.now slot) → IsTrueOf self.old r → IsTrueOf self.new r }
     {
         if slot >= MAX_SLOTS {
             return;
         }
         if let Ok(sid) = sid.clone() {
-            self.seqs.keep((sid, slot), seq);
+            self.slots.keep((sid, slot), fact);
             self.has_answered = true;
         }
+    }
+
+    pub(crate) fn keep_seq(&mut self, sid: &Sid, slot: u32, seq: u32)
+        ensures { (r : Records) → kept_seq (r.slot sid.now slot) ≡ Some seq
+            → IsTrueOf self.old r → IsTrueOf self.new r }
+    {
+        self.keep_fact(sid, slot, SlotFact::Number(seq));
+    }
+
+    pub(crate) fn keep_slot(&mut self, sid: &Sid, slot: u32, kept: &Kept)
+        ensures { (r : Records) → r.slot sid.now slot ≡ Some kept.now → IsTrueOf self.old r → IsTrueOf self.new r }
+    {
+        self.keep_fact(sid, slot, SlotFact::of(kept));
     }
 
     pub(crate) fn keep_next(&mut self, next: u32)
@@ -315,24 +348,24 @@ impl Known {
         self.decisions.forget(id);
     }
 
-    /// Remembers the number of a slot row that is put, and no longer the one before it.
-    fn replace_seq(&mut self, row: &SlotRow)
-        ensures seqs { (r : Records) → AreSeqs r self.old.seqs
-            → AreSeqs (apply_change (Change.PutSlot row.now) r) self.new.seqs }
-        ensures others { self.new ≡ record self.old { seqs = self.new.seqs } }
+    /// Remembers a slot row that is put, and no longer the one before it.
+    fn replace_slot(&mut self, row: &SlotRow)
+        ensures slots { (r : Records) → AreKept r self.old.slots
+            → AreKept (apply_change (Change.PutSlot row.now) r) self.new.slots }
+        ensures others { self.new ≡ record self.old { slots = self.new.slots } }
     {
         let Ok(sid) = row.sid.clone() else {
-            self.seqs.clear();
+            self.slots.clear();
             return;
         };
         let key = (sid, row.slot);
-        self.seqs.forget(&key);
+        self.slots.forget(&key);
         if row.slot < MAX_SLOTS {
-            self.seqs.keep(key, row.kept.seq);
+            self.slots.keep(key, SlotFact::of(&row.kept));
         }
     }
 
-    /// Forgets what a change touches. The number of a slot row that it puts is remembered.
+    /// Forgets what a change touches. A slot row that it puts is remembered.
     fn forget(&mut self, change: &Change)
         ensures { IsLeft (change.now ∷ []) self.old self.new }
     {
@@ -344,14 +377,14 @@ impl Known {
             }
             Change::PutEntries(id, _) => self.forget_list(id),
             Change::PutSession(row) => self.sessions.forget(&row.sid),
-            Change::PutSlot(row) => self.replace_seq(row),
-            Change::DropSlots(_) => self.seqs.clear(),
+            Change::PutSlot(row) => self.replace_slot(row),
+            Change::DropSlots(_) => self.slots.clear(),
             Change::PutNext(_) => self.next = None,
             Change::PutDoc(_, _) => {}
         }
     }
 
-    /// Forgets what the changes touch. The numbers of slot rows that they put are remembered.
+    /// Forgets what the changes touch. The slot rows that they put are remembered.
     pub(crate) fn forget_touched(&mut self, changes: &[Change])
         ensures left { IsLeft changes.now self.old self.new }
         ensures true_of { (old new : Records) → Untouched changes.now old new

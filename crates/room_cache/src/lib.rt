@@ -1,4 +1,4 @@
-//! A shelf around a shelf, which remembers rows.
+//! A shelf around a shelf, which remembers rows; and rows that are remembered, for whoever remembers others.
 #![tactic(auto)]
 
 mod cached;
@@ -7,5 +7,7 @@ mod known;
 mod list;
 mod names;
 mod rows;
+mod slots;
 
 pub use cached::CachedShelf;
+pub use rows::Rows;

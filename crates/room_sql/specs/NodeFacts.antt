@@ -1,13 +1,14 @@
 -- What a shelf remembers is true of its rows of nodes.
 use Rattle.std.specs.Prelude.{◌≡◌, ℕ, List, Some}
+use Rattle.std.specs.Ordering.{nat_cmp}
 use Rattle.sqlite_value.specs.Order.{Row}
-use Rattle.room_sql.specs.declared.node_facts.Counted.{Counted}
+use Rattle.room_cache.specs.Rows.{row_at}
 use Rattle.room_sql.specs.declared.node_facts.NodeFacts.{NodeFacts}
 use Rattle.room_sql.specs.NodeRows.{in_folder, HasNone}
 
--- the count is that of the rows in its folder, exactly, and no row has the number that is free
+-- each count is that of the rows in its folder, exactly, and no row has the number that is free
 pub record IsTrueOf (known : NodeFacts) (rows : List Row) : Type 0 where
-  pub counted : (c : Counted) → known.counted ≡ Some c → c.count ≡ in_folder c.folder rows
+  pub counts : (folder count : ℕ) → row_at nat_cmp known.counts folder ≡ Some count → count ≡ in_folder folder rows
   pub free : (id : ℕ) → known.free ≡ Some id → HasNone id rows
 
 -- it is true of any rows

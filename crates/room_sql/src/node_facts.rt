@@ -1,104 +1,89 @@
 //! What a shelf remembers of its rows of nodes, so that it need not ask again.
 
-ghost use Rattle.std.specs.Prelude.{◌≡◌, ◌+◌, true, None, Some, IfSome, List, if◌then◌else◌};
+ghost use Rattle.std.specs.Prelude.{◌≡◌, ◌+◌, ℕ, true, false, Some, IfSome, IsSome, List, if◌then◌else◌};
+ghost use Rattle.std.specs.Ordering.{nat_cmp};
 ghost use Rattle.sqlite_value.specs.Order.{Row};
 ghost use Rattle.room_records.specs.declared.change.Change.TheVariants.{PutNode};
+ghost use Rattle.room_cache.specs.Rows.{row_at};
 ghost use Rattle.room_sql.specs.NodeRows.{in_folder, HasNone, is_parent, After, AfterAll};
 ghost use Rattle.room_sql.specs.NodeFacts.{IsTrueOf, KnowsNothing};
 
+use room_cache::Rows;
 use room_records::{Change, Node};
+use std::alloc::Global;
 
-/// A folder, and how many rows of nodes are in it.
-#[derive(Clone, Copy)]
-pub(crate) struct Counted {
-    folder: u32,
-    count: u64,
-}
-
-/// At most one folder's count and one number that no row has: all that a shelf remembers. A commit chooses its
+/// The counts of at most 256 folders and one number that no row has: all that a shelf remembers. A commit chooses its
 /// statements by `NewObject`; only where it succeeded are its changes followed here, and other changes may stand before
-/// the node that takes the free number: its count is raised still.
-#[derive(Clone, Copy)]
+/// the node that takes the free number: its folder's count is raised still.
+#[derive(Drop)]
 pub(crate) struct NodeFacts {
-    counted: Option<Counted>,
-    free: Option<u32>,
-}
-
-impl Counted {
-    /// With one row more in this folder, if there is one. A count that has no greater one is forgotten.
-    fn with_one_in(self, parent: Option<u32>) -> Option<Counted>
-        ensures { IfSome result (λ c. (c.folder ≡ self.folder)
-            × (c.count ≡ self.count + (if is_parent parent self.folder then 1 else 0))) }
-    {
-        match parent {
-            Some(parent) if parent == self.folder => match self.count.checked_add(1) {
-                Some(count) => Some(Counted {
-                    folder: self.folder,
-                    count,
-                }),
-                None => None,
-            },
-            _ => Some(self),
-        }
-    }
+    /// True only where no fault came since a count was read, so that the store is there if it is intact.
+    has_counted: bool,
+    /// How many rows of nodes are in these folders.
+    counts: Rows<u32, u64>,
+    /// A number that no row has, if one is known.
+    pub(crate) free: Option<u32>,
 }
 
 impl NodeFacts {
     /// True of any rows.
-    pub(crate) fn nothing() -> NodeFacts
+    pub(crate) fn nothing(alloc: Global) -> NodeFacts
         ensures true_of { KnowsNothing result }
-        ensures uncounted { result.counted ≡ None }
+        ensures uncounted { result.has_counted ≡ false }
     {
         NodeFacts {
-            counted: None,
+            has_counted: false,
+            counts: Rows::new(alloc),
             free: None,
         }
     }
 
-    /// The count of this folder, if it is the one that is remembered.
+    /// What is left is true of any rows.
+    pub(crate) fn forget(&mut self)
+        ensures true_of { KnowsNothing self.new }
+        ensures uncounted { self.new.has_counted ≡ false }
+    {
+        self.has_counted = false;
+        self.counts.clear();
+        self.free = None;
+    }
+
+    /// The count of this folder, if it is remembered.
     pub(crate) fn count_in(&self, folder: u32) -> Option<u64>
         ensures true_of { (rows : List Row) → IsTrueOf self.now rows → IfSome result (λ n. n ≡ in_folder folder rows) }
-        ensures counted { self.now.counted ≡ None → result ≡ None }
+        ensures counted { IsSome result → self.now.has_counted ≡ true }
     {
-        match self.counted {
-            Some(counted) if counted.folder == folder => Some(counted.count),
-            _ => None,
+        if !self.has_counted {
+            return None;
+        }
+        match self.counts.get(&folder) {
+            Some(count) => Some(*count),
+            None => None,
         }
     }
 
-    /// Remembers the count of this folder, in the place of another's.
-    pub(crate) fn with_count(self, folder: u32, count: u64) -> NodeFacts
-        ensures { (rows : List Row) → IsTrueOf self rows → count ≡ in_folder folder rows → IsTrueOf result rows }
+    /// Remembers the count of this folder.
+    pub(crate) fn keep_count(&mut self, folder: u32, count: u64)
+        ensures { (rows : List Row) → IsTrueOf self.old rows → count ≡ in_folder folder rows → IsTrueOf self.new rows }
     {
-        NodeFacts {
-            counted: Some(Counted { folder, count }),
-            free: self.free,
-        }
+        self.counts.keep(folder, count);
+        self.has_counted = true;
     }
 
     /// Remembers that no row has this number, if that was found, in the place of another.
-    pub(crate) fn with_free(self, id: u32, is_free: bool) -> NodeFacts
-        ensures true_of { (rows : List Row) → IsTrueOf self rows
-            → (is_free ≡ true → HasNone id rows) → IsTrueOf result rows }
-        ensures counted { result.counted ≡ self.counted }
+    pub(crate) fn keep_free(&mut self, id: u32, is_free: bool)
+        ensures true_of { (rows : List Row) → IsTrueOf self.old rows
+            → (is_free ≡ true → HasNone id rows) → IsTrueOf self.new rows }
+        ensures counted { self.new.has_counted ≡ self.old.has_counted }
     {
-        let free = if is_free { Some(id) } else { self.free };
-        NodeFacts {
-            counted: self.counted,
-            free,
+        if is_free {
+            self.free = Some(id);
         }
     }
 
-    /// The number that no row has, if one is known.
-    pub(crate) fn free(self) -> Option<u32>
-        ensures { result ≡ self.free }
-    {
-        self.free
-    }
-
     /// Whether the number is known to be free.
-    fn is_free(self, id: u32) -> bool
-        ensures { result ≡ true → self.free ≡ Some id }
+    fn is_free(&self, id: u32) -> bool
+        ensures { result ≡ true → self.now.free ≡ Some id }
     {
         match self.free {
             Some(free) => free == id,
@@ -106,39 +91,53 @@ impl NodeFacts {
         }
     }
 
-    /// After a node is put: where its number was free it is one row more in its folder, and its number is taken.
-    fn after_put(self, node: &Node) -> NodeFacts
-        ensures { (old new : List Row) → IsTrueOf self old → After (PutNode node.now) old new → IsTrueOf result new }
+    /// Raises the count of the folder that is the parent, if it is remembered. One that has no greater is forgotten.
+    fn raise_count(&mut self, parent: Option<u32>)
+        ensures counts { (folder count : ℕ) → row_at nat_cmp self.new.counts folder ≡ Some count
+            → (was : ℕ) × (row_at nat_cmp self.old.counts folder ≡ Some was)
+            × (count ≡ was + (if is_parent parent folder then 1 else 0)) }
+        ensures others { self.new ≡ record self.old { counts = self.new.counts } }
     {
-        if !self.is_free(node.id) {
-            return NodeFacts::nothing();
-        }
-        let counted = match self.counted {
-            Some(counted) => counted.with_one_in(node.parent),
-            None => None,
+        let Some(folder) = parent else {
+            return;
         };
-        let free = None;
-        NodeFacts { counted, free }
+        let Some(count) = self.counts.take(&folder) else {
+            return;
+        };
+        if let Some(more) = count.checked_add(1) {
+            self.counts.keep(folder, more);
+        }
     }
 
-    fn after_one(self, change: &Change) -> NodeFacts
-        ensures { (old new : List Row) → IsTrueOf self old → After change.now old new → IsTrueOf result new }
+    /// After a node is put: where its number was free it is one row more in its folder, and its number is taken.
+    fn follow_put(&mut self, node: &Node)
+        ensures { (old new : List Row) → IsTrueOf self.old old → After (PutNode node.now) old new
+            → IsTrueOf self.new new }
+    {
+        if !self.is_free(node.id) {
+            self.forget();
+            return;
+        }
+        self.raise_count(node.parent);
+        self.free = None;
+    }
+
+    fn follow_one(&mut self, change: &Change)
+        ensures { (old new : List Row) → IsTrueOf self.old old → After change.now old new → IsTrueOf self.new new }
     {
         match change {
-            Change::PutNode(node) => self.after_put(node),
-            Change::DropNode(_) => NodeFacts::nothing(),
-            _ => self,
+            Change::PutNode(node) => self.follow_put(node),
+            Change::DropNode(_) => self.forget(),
+            _ => {},
         }
     }
 
     /// What is still true after a commit of these changes.
-    pub(crate) fn after(self, changes: &[Change]) -> NodeFacts
-        ensures { (old new : List Row) → IsTrueOf self old → AfterAll changes.now old new → IsTrueOf result new }
+    pub(crate) fn follow(&mut self, changes: &[Change])
+        ensures { (old new : List Row) → IsTrueOf self.old old → AfterAll changes.now old new → IsTrueOf self.new new }
     {
-        let mut known = self;
         for change in changes {
-            known = known.after_one(change);
+            self.follow_one(change);
         }
-        known
     }
 }

@@ -1,6 +1,6 @@
 //! The shelf.
 
-ghost use Rattle.std.specs.Prelude.{◌≡◌, ◌≢◌, ◌≤◌, true, false, None, Ok, Err, IsTrue, IfOk, IfErr, OnOk, OnErr};
+ghost use Rattle.std.specs.Prelude.{◌≡◌, ◌≢◌, ◌≤◌, true, false, Ok, Err, IsTrue, IfOk, IfErr, OnOk, OnErr};
 ghost use Rattle.sqlite.specs.State.{HasCleanDisk};
 ghost use Rattle.sqlite.specs.Held.{state};
 ghost use Rattle.room_records.specs.Shelf.{FailureCounted};
@@ -22,8 +22,8 @@ use sqlite::{Alter, Connection, Error, ErrorCode};
 use std::alloc::Global;
 
 /// A shelf whose records are the rows of the six tables in its connection's database, and nothing beside them.
-/// The connection is outside a transaction between calls. It remembers one folder's count of children, while the
-/// connection is open, and one number that no row has; any fault makes it forget both.
+/// The connection is outside a transaction between calls. It remembers how many children up to 256 folders have, while
+/// the connection is open, and one number that no row has; any fault makes it forget all.
 #[derive(Drop)]
 pub struct SqlShelf<S: Alter> {
     alloc: Global,
@@ -31,7 +31,7 @@ pub struct SqlShelf<S: Alter> {
     failures: u64,
     known: NodeFacts,
     ghost outside: { conn.in_transaction ≡ false },
-    ghost there: { known.counted ≢ None → HasCleanDisk (state S.Store conn) → (state S.Store conn).is_open ≡ true },
+    ghost there: { known.has_counted ≡ true → HasCleanDisk (state S.Store conn) → (state S.Store conn).is_open ≡ true },
     ghost rests: { IsTrue (state S.Store conn).is_open
         → (state S.Store conn).now.trees ≡ (state S.Store conn).committed.trees } by { rests_prop _ _ _ },
 }
@@ -47,7 +47,7 @@ impl<S: Alter> SqlShelf<S> {
             alloc,
             conn,
             failures: 0,
-            known: NodeFacts::nothing(),
+            known: NodeFacts::nothing(alloc),
         }
     }
 
@@ -74,9 +74,9 @@ fn fault(failures: &mut u64, known: &mut NodeFacts, error: Error) -> ShelfFault
     ensures never_falls { failures.old ≤ failures.new }
     ensures quiet { result ≢ ShelfFault.Store → failures.new ≡ failures.old }
     ensures forgotten { KnowsNothing known.new }
-    ensures uncounted { known.new.counted ≡ None }
+    ensures uncounted { known.new.has_counted ≡ false }
 {
-    *known = NodeFacts::nothing();
+    known.forget();
     match error {
         Error::SqliteFailure(ErrorCode::OutOfMemory) => ShelfFault::Memory,
         _ => {
@@ -101,7 +101,7 @@ fn or_fault<T>(
     ensures never_falls { failures.old ≤ failures.new }
     ensures quiet { result ≢ Err Store → failures.new ≡ failures.old }
     ensures forgotten { OnErr result (KnowsNothing known.new) }
-    ensures uncounted { OnErr result (known.new.counted ≡ None) }
+    ensures uncounted { OnErr result (known.new.has_counted ≡ false) }
 {
     match answer {
         Ok(value) => Ok(value),
@@ -133,7 +133,7 @@ impl<S: Alter> Shelf for SqlShelf<S> {
         let rows = reads::node_rows(&mut self.conn, id);
         let _rests = self.conn.is_autocommit();
         let rows = or_fault(&mut self.failures, &mut self.known, rows)?;
-        self.known = self.known.with_free(id, rows.is_empty());
+        self.known.keep_free(id, rows.is_empty());
         let found = one_node(self.alloc, rows.as_slice());
         or_fault(&mut self.failures, &mut self.known, found)
     }
@@ -176,7 +176,7 @@ impl<S: Alter> Shelf for SqlShelf<S> {
         let rows = or_fault(&mut self.failures, &mut self.known, rows)?;
         let found = one_count(rows.as_slice());
         let count = or_fault(&mut self.failures, &mut self.known, found)?;
-        self.known = self.known.with_count(parent, count);
+        self.known.keep_count(parent, count);
         Ok(count)
     }
 
@@ -277,12 +277,12 @@ impl<S: Alter> Shelf for SqlShelf<S> {
             ((state S.Store self.new.conn).now.schema ≡ (state S.Store self.old.conn).now.schema) }
     {
         let _outside = self.conn.is_autocommit();
-        let done = writes::commit(&mut self.conn, self.known.free(), changes);
+        let done = writes::commit(&mut self.conn, self.known.free, changes);
         let _rests = self.conn.is_autocommit();
         // The database is sound.
         let _live = self.conn.schema();
         or_fault(&mut self.failures, &mut self.known, done)?;
-        self.known = self.known.after(changes);
+        self.known.follow(changes);
         Ok(())
     }
 }

@@ -6,7 +6,7 @@ use Rattle.room_records.proofs.SessionKeys.{name_test}
 use Rattle.room_cache.specs.Known.{IsLeft}
 use Rattle.room_cache.proofs.Keys.{other_name}
 use Rattle.room_cache.proofs.Left.{others_left}
-use Rattle.room_cache.proofs.Seqs.{no_seqs}
+use Rattle.room_cache.proofs.SlotsKept.{no_slots}
 use Rattle.room_cache.proofs.known.Known.forget.Goals as goal
 
 pub returns-in-PutSession : goal.returns-in-PutSession
@@ -16,7 +16,7 @@ returns-in-PutSession c =
     (record c.args.self.now { sessions = c.forget.new.self }) in
     subst P (sym c.in-PutSession.is) (record {
       sessions = λ sid held is.
-          let was = c.forget.ensures sid held is in (
+          let was = c.forget.ensures.rows sid held is in (
             was.0,
             (
               (λ r. elim (name_test sid row.sid) [
@@ -30,23 +30,23 @@ returns-in-PutSession c =
       names = λ folder names held. (held, λ id. ((λ r. refl), tt));
       lists = λ id list held. (held, ((λ r. refl), tt));
       decisions = λ id made held. (held, ((λ r. refl), tt));
-      seqs = λ r are. are;
+      slots = λ r are. are;
       next = search rules;
     })
 
 pub returns-in-PutSlot : goal.returns-in-PutSlot
 returns-in-PutSlot c =
     let row = c.in-PutSlot.row in
-    let P : Change → Type 0 = λ change. IsLeft (change ∷ []) c.args.self.now c.replace_seq.new.self in
-    subst P (sym c.in-PutSlot.is) (others_left (PutSlot row) c.args.self.now c.replace_seq.new.self
-    c.replace_seq.ensures.others c.replace_seq.ensures.seqs
+    let P : Change → Type 0 = λ change. IsLeft (change ∷ []) c.args.self.now c.replace_slot.new.self in
+    subst P (sym c.in-PutSlot.is) (others_left (PutSlot row) c.args.self.now c.replace_slot.new.self
+    c.replace_slot.ensures.others c.replace_slot.ensures.slots
     (λ r. refl) (λ r. refl))
 
 pub returns-in-DropSlots : goal.returns-in-DropSlots
 returns-in-DropSlots c =
     let P : Change → Type 0 = λ change. IsLeft (change ∷ []) c.args.self.now
-    (record c.args.self.now { seqs = c.clear.new.self }) in
+    (record c.args.self.now { slots = c.clear.new.self }) in
     subst P (sym c.in-DropSlots.is) (others_left (DropSlots c.in-DropSlots.field-0) c.args.self.now
-    (record c.args.self.now { seqs = c.clear.new.self }) refl
-    (λ r are. no_seqs (apply_change (DropSlots c.in-DropSlots.field-0) r) c.clear.new.self c.clear.ensures)
+    (record c.args.self.now { slots = c.clear.new.self }) refl
+    (λ r are. no_slots (apply_change (DropSlots c.in-DropSlots.field-0) r) c.clear.new.self c.clear.ensures)
     (λ r. refl) (λ r. refl))

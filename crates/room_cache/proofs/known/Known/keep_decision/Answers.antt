@@ -11,7 +11,7 @@ returns c = λ r is true_of. record {
   nodes = true_of.nodes;
   names = true_of.names;
   lists = true_of.lists;
-  decisions = λ id made held d in_made. elim (c.keep-2.ensures id made held) [
+  decisions = λ id made held d in_made. elim (c.keep-2.ensures.rows id made held) [
     | inl before ↦ true_of.decisions id made (c.take.ensures.rest id made before).0 d in_made
     | inr now ↦
         let here : (c.args.id ≡ id) = same_number c.args.id id now.0 in
@@ -28,6 +28,6 @@ returns c = λ r is true_of. record {
               subst R (sym same) is
         ])
   ];
-  seqs = true_of.seqs;
+  slots = true_of.slots;
   next = true_of.next;
 }

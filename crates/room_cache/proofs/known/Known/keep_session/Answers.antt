@@ -4,7 +4,7 @@ use Rattle.room_cache.proofs.known.Known.keep_session.Goals as goal
 
 pub returns-in-Ok-Ok : goal.returns-in-Ok-Ok
 returns-in-Ok-Ok c = λ r is true_of. record {
-  sessions = λ sid row held. elim (c.keep.ensures sid row held) [
+  sessions = λ sid row held. elim (c.keep.ensures.rows sid row held) [
     | inl before ↦ true_of.sessions sid row before
     | inr now ↦ ap r.session (sym (same_name c.in-Ok-Ok.sid sid now.0) ∙ c.in-Ok-Ok.ensures) ∙ is
         ∙ ap Some (sym (now.1 ∙ c.in-Ok-Ok.ensures'))
@@ -13,6 +13,6 @@ returns-in-Ok-Ok c = λ r is true_of. record {
   names = true_of.names;
   lists = true_of.lists;
   decisions = true_of.decisions;
-  seqs = true_of.seqs;
+  slots = true_of.slots;
   next = true_of.next;
 }

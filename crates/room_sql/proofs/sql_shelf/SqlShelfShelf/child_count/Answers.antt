@@ -47,6 +47,6 @@ returns-clause-frame g c =
     (rw c.in_ok-rows.ensures.ok at c.count_rows-rows.ensures.frame)
     (λ clean room true_of.
     let rows = rw c.in_ok-rows.ensures.ok at (c.count_rows-rows.ensures.rows clean room.room) in
-    c.with_count-self.ensures _ (rw (c.in_ok-count.ensures.kept, c.in_ok-rows.ensures.kept) true_of)
+    c.keep_count.ensures _ (rw (c.in_ok-count.ensures.kept, c.in_ok-rows.ensures.kept) true_of)
     ((rw c.in_ok-count.ensures.ok at c.one_count-found.ensures.value) _ (c.as_slice.ensures.value ∙ rows)
     ∙ length-map _ shown_node)))

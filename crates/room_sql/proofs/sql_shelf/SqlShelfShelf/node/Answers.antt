@@ -18,7 +18,7 @@ returns-clause-frame g c =
     (c.is_autocommit-outside.ensures.settled (c.is_autocommit-outside.ensures.value ∙ ap not c.args.self.now.outside))
     (λ clean room true_of.
     let rows = rw c.in_ok-rows.ensures.ok at (c.node_rows-rows.ensures.rows clean room.room) in
-    c.with_free-self.ensures.true_of _ (rw c.in_ok-rows.ensures.kept true_of)
+    c.keep_free.ensures.true_of _ (rw c.in_ok-rows.ensures.kept true_of)
     (λ none. none_found _ _ _ rows
     (sym (ap length c.as_slice.ensures.value) ∙ c.as_slice.ensures.len) (sym c.is_empty.ensures ∙ none)))
     c.or_fault-2.ensures.kept c.or_fault-2.ensures.forgotten (rw same at c.or_fault-2.ensures.never_falls)

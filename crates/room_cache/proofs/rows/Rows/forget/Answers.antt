@@ -1,0 +1,10 @@
+use Rattle.std.proofs.Common.{◌≤◌, sym, subst}
+use Rattle.room_cache.specs.Rows.{weight}
+use Rattle.room_cache.proofs.Weights.{removed}
+use Rattle.room_cache.proofs.rows.Rows.forget.Goals as goal
+
+pub returns-clause-weight : goal.returns-clause-weight
+returns-clause-weight g c = λ w.
+    subst (λ rows. weight w c.remove.new.self.entries ≤ weight w rows) c.self.view_is
+    (subst (λ rows. weight w rows ≤ weight w c.self.inside.rows.entries) (sym c.remove.ensures.entries)
+    (removed w _ c.self.inside.rows.entries))
