@@ -22,6 +22,7 @@ use Rattle.sqlite_store.specs.Laws.{settled_at}
 use Rattle.sqlite.specs.declared.FileStore.{FileStore}
 use Rattle.sqlite.specs.State.{HasCleanDisk, IsLive, State, Survives}
 use Rattle.sqlite.specs.Held.{Held, AreDatabases}
+use Rattle.sqlite.specs.declared.error.Error.{Error}
 use Rattle.sqlite.specs.Files.{file_state, over_files, HoldsDatabase, IsClosed}
 use Rattle.sqlite.specs.View.{IsClean}
 use Rattle.room_acl.specs.SubjectModel.{SubjectModel}
@@ -53,21 +54,23 @@ use Rattle.std.specs.Io.KnownBytes.{Appends}
 use Rattle.room_program.specs.declared.fault.Fault.{Fault}
 use Rattle.room_program.specs.declared.fault.Fault.TheVariants as fault
 use Rattle.room_program.specs.declared.left.Left.{Left}
-use Rattle.room_program.specs.declared.left.Left.TheVariants.{Nothing, Copied, Kept}
+use Rattle.room_program.specs.declared.left.Left.TheVariants.{Nothing, Unopened, Copied, Uncopied, Kept}
 use Rattle.room_program.specs.Machines.{Call}
 use Rattle.room_program.specs.Machines.Call.{opens, closes, leaves, reads, looks, asks, hears}
 use Rattle.room_program.specs.Calls.{Exchange, Accepted}
-use Rattle.room_program.specs.Files.{Adopted, Takes, Untaken, IsSpared, Made, Unmade}
+use Rattle.room_program.specs.Files.{Adopted, Takes, Untaken, Made, Unmade}
 use Rattle.room_program.specs.Files.{TakesRoster, OpensStore, TakesRoom, IsUnopened}
 use Rattle.room_program.specs.Faults.{done_of_report}
 use Rattle.room_program.specs.Ends.{InitEnds, SelftestEnds}
 use Rattle.room_program.specs.Replays.{Replays}
 use Rattle.room_program.specs.Rooms.{ServesRoom, Listens, Reports, WritesReport, report_text, FailsRoom}
-use Rattle.room_program.specs.Found.{IsOpenedOver, Holds, HoldsRoom, HoldsNothing, MayBeLeft, IsLeftBy, Leaves}
-use Rattle.room_program.specs.Found.{IsSparedIn, SparesRoom, ServesFound, ReportsFound, MakesFound, JobFound, RunFound}
+use Rattle.room_program.specs.Found.{IsOpenedOver, Holds, HoldsRoom, HoldsNothing, MayBeLeft, IsLeftBy}
+use Rattle.room_program.specs.Found.{Closes, LetsGo, ActsOn, StayUnopened, IsSparedIn, SparesFound, SparesRoom}
+use Rattle.room_program.specs.Found.{ServesFound, ReportsFound, MakesFound, JobFound, RunFound}
 use Rattle.room_program.specs.Runs.{Means, Streams, Ends, Runs, RunsJob, RunsRead, means}
 use Rattle.room_program.specs.Streams.{ServesSome}
 use Rattle.room_program.proofs.Streams.{serves_none, serves_all}
+use Rattle.room_program.proofs.Unopened.{may_hold, stay_unopened}
 
 -- a room of version 2 is not taken for one of version 1
 not_first : (db : Database) → IsRoomOfVersion2 db → has_room db.schema ≡ false → ⊥
@@ -210,42 +213,30 @@ module _ {D : Type 0} (g : Ghosts D) where
       empty_schema opened.schema
       (subst (λ objects. Lists objects opened.schema) unlisted (shown.1 shown.0.is_open).0.lists)
 
-  -- a crash leaves of a store what it may leave alone
-  pub may_hold : (it : FileStore D g) (image : Image) (db : Database) → MayBeLeft it image → IsDatabase db
-      → ((trees : Trees) → recovers it trees → trees ≡ db.trees) → Holds image db
-  may_hold it image db left sound only =
-      let all : AreDatabases (recovers it) = λ trees may. (
-        db.schema,
-        subst (λ t. IsDatabase (record { schema = db.schema; trees = t })) (sym (only trees may)) sound,
-      ) in record {
-        trees = ∥∥₁_map (opens_again it left.numbered all image left.may)
-            (λ found. subst (HoldsDatabase image) (only found.0 found.1) found.2);
-        sound = sound;
-      }
-
-  -- so while it is there, what it showed
+  -- a crash leaves of a store, while it is there, what it showed
   pub stopped_holds : ((file : D) → g.may_leave file (g.seen file)) → (was : SqlShelf (FileStore D g) over_files)
       (image : Image) → IsLive (file_state was.conn) → IsTrue (file_state was.conn).is_open
-      → MayBeLeft was.conn.store image → Holds image (file_state was.conn).now
-  stopped_holds stays was image live is_open left =
-      may_hold was.conn.store image (file_state was.conn).now left (live is_open).0
+      → IsTrue (view was.conn.store).is_numbered → MayBeLeft was.conn.store image
+      → Holds image (file_state was.conn).now
+  stopped_holds stays was image live is_open numbered left =
+      may_hold g was.conn.store image (file_state was.conn).now left numbered (live is_open).0
       (λ trees may. settled_at was.conn.store stays trees is_open may ∙ sym (was.rests is_open))
 
   -- and a store that is given up, with its log as it is, what it showed
   kept_holds : ((file : D) → g.may_leave file (g.seen file)) → (gone : Held (FileStore D g)) (it : FileStore D g)
       (image : Image) → IsLive (file_state gone) → IsClosed gone it → IsTrue (file_state gone).is_open
-      → (file_state gone).now.trees ≡ (file_state gone).committed.trees → MayBeLeft it image
-      → Holds image (file_state gone).now
-  kept_holds stays gone it image live kept is_open rests left =
-      may_hold it image (file_state gone).now left (live is_open).0
+      → (file_state gone).now.trees ≡ (file_state gone).committed.trees → IsTrue (view it).is_numbered
+      → MayBeLeft it image → Holds image (file_state gone).now
+  kept_holds stays gone it image live kept is_open rests numbered left =
+      may_hold g it image (file_state gone).now left numbered (live is_open).0
       (λ trees may. settled_at gone.store stays trees is_open (kept.quiet.outcomes trees may) ∙ sym rests)
 
   -- also where it was closed
   pub closed_holds : ((file : D) → g.may_leave file (g.seen file)) → (closed : Held (FileStore D g))
-      (old new : Left D g) (image : Image) → Leaves (closes closed) old new → IsTrue (file_state closed).is_open
+      (new : Left D g) (image : Image) → Closes closed new → IsTrue (file_state closed).is_open
       → (file_state closed).now.trees ≡ (file_state closed).committed.trees → IsLeftBy new image
       → Holds image (file_state closed).now
-  closed_holds stays closed old (Copied files) image (live, copied) is_open rests (clean, at) =
+  closed_holds stays closed (Copied files) image (live, copied) is_open rests (clean, at) =
       let alone : HoldsAlone image (file_state closed).committed.trees = elim at [
         | inl is ↦ subst (λ i. HoldsAlone i (file_state closed).committed.trees) (sym is) (copied clean).seen
         | inr out ↦ (copied clean).left image out
@@ -253,27 +244,54 @@ module _ {D : Type 0} (g : Ghosts D) where
         trees = subst (λ t. ∥ HoldsDatabase image t ∥₁) (sym rests) alone.both;
         sound = (live is_open).0;
       }
-  closed_holds stays closed old (Kept it) image (live, kept) is_open rests (clean, left) =
-      kept_holds stays closed it image live kept is_open rests left
-  closed_holds stays closed old Nothing image none is_open rests at = absurd none
+  closed_holds stays closed (Uncopied why it) image (live, kept, fails) is_open rests (clean, left) =
+      kept_holds stays closed it image live kept is_open rests left.numbered left.may
+  closed_holds stays closed (Unopened rest) image none is_open rests at = absurd none
+  closed_holds stays closed (Kept it) image none is_open rests at = absurd none
+  closed_holds stays closed Nothing image none is_open rests at = absurd none
+
+  -- what is kept of one that was given up
+  abbrev pub KeptIn : Held (FileStore D g) → Image → Type 0
+  KeptIn gone image = (it : FileStore D g) × (IsClosed gone it × IsClean (view it))
+      × IsTrue (view it).is_numbered × MayBeLeft it image
+
+  was_sure : (gone : Held (FileStore D g)) (image : Image) → KeptIn gone image → HasCleanDisk (file_state gone)
+  was_sure gone image (it, (closed, clean), numbered, may) = omega (arith, closed.quiet.clean, clean)
+
+  -- where its log was copied, it was there
+  pub closed_in : (closed : Held (FileStore D g)) (new : Left D g) (image : Image) → Closes closed new
+      → IsLeftBy new image
+      → HasCleanDisk (file_state closed) × (IsTrue (file_state closed).is_open ⊎ KeptIn closed image)
+  closed_in closed (Copied files) image (live, copied) (clean, at) =
+      ((copied clean).was_clean, inl (copied clean).was_open)
+  closed_in closed (Uncopied why it) image (live, kept, fails) (clean, left) =
+      let all : KeptIn closed image = (it, (kept, clean), left.numbered, left.may) in
+      (was_sure closed image all, inr all)
+  closed_in closed (Unopened rest) image none at = absurd none
+  closed_in closed (Kept it) image none at = absurd none
+  closed_in closed Nothing image none at = absurd none
 
   -- and where it was let go
   pub left_holds : ((file : D) → g.may_leave file (g.seen file)) → (gone : Held (FileStore D g))
-      (old new : Left D g) (image : Image) → Leaves (leaves gone) old new → IsTrue (file_state gone).is_open
+      (new : Left D g) (image : Image) → LetsGo gone new → IsTrue (file_state gone).is_open
       → (file_state gone).now.trees ≡ (file_state gone).committed.trees → IsLeftBy new image
       → Holds image (file_state gone).now
-  left_holds stays gone old (Copied files) image none is_open rests at = absurd none
-  left_holds stays gone old (Kept it) image (live, kept) is_open rests (clean, left) =
-      kept_holds stays gone it image live kept.closed is_open rests left
-  left_holds stays gone old Nothing image none is_open rests at = absurd none
+  left_holds stays gone (Kept it) image (live, kept) is_open rests (clean, left) =
+      kept_holds stays gone it image live kept.closed is_open rests (kept.numbered clean) left
+  left_holds stays gone (Unopened rest) image none is_open rests at = absurd none
+  left_holds stays gone (Copied files) image none is_open rests at = absurd none
+  left_holds stays gone (Uncopied why it) image none is_open rests at = absurd none
+  left_holds stays gone Nothing image none is_open rests at = absurd none
 
-  -- what is kept of it
-  pub kept_in : (gone : Held (FileStore D g)) (old new : Left D g) (image : Image) → Leaves (leaves gone) old new
-      → IsLeftBy new image
-      → (it : FileStore D g) × (IsClosed gone it × IsClean (view it)) × MayBeLeft it image
-  kept_in gone old (Copied files) image none at = absurd none
-  kept_in gone old (Kept it) image (live, kept) (clean, left) = (it, (kept.closed, clean), left)
-  kept_in gone old Nothing image none at = absurd none
+  pub kept_in : (gone : Held (FileStore D g)) (new : Left D g) (image : Image) → LetsGo gone new → IsLeftBy new image
+      → HasCleanDisk (file_state gone) × KeptIn gone image
+  kept_in gone (Kept it) image (live, kept) (clean, left) =
+      let all : KeptIn gone image = (it, (kept.closed, clean), kept.numbered clean, left) in
+      (was_sure gone image all, all)
+  kept_in gone (Unopened rest) image none at = absurd none
+  kept_in gone (Copied files) image none at = absurd none
+  kept_in gone (Uncopied why it) image none at = absurd none
+  kept_in gone Nothing image none at = absurd none
 
 -- a room that the files held
 module _ {D : Type 0} (g : Ghosts D) (image : Image) (start : Room) (past : History)
@@ -293,10 +311,11 @@ module _ {D : Type 0} (g : Ghosts D) (image : Image) (start : Room) (past : Hist
       → IsOpenedOver image opened → HasCleanDisk (file_state opened) → (it : FileStore D g)
       → ((trees : Trees) → recovers it trees
       → (file_state opened).may_leave trees ⊎ MayBeTaken (file_state opened) trees)
-      → AreDatabases (recovers it) → (after : Image) → MayBeLeft it after → ∥ HoldsRoom after start past ∥₁
-  may_room stays opened is clean it only sound after left =
+      → AreDatabases (recovers it) → IsTrue (view it).is_numbered → (after : Image) → MayBeLeft it after
+      → ∥ HoldsRoom after start past ∥₁
+  may_room stays opened is clean it only sound numbered after left =
       let same = found_database g image held.db held.held opened is clean in
-      ∥∥₁_map (opens_again it left.numbered sound after left.may) (λ found. elim (only found.0 found.1) [
+      ∥∥₁_map (opens_again it numbered sound after left) (λ found. elim (only found.0 found.1) [
         | inl old ↦
             let there = settled_at opened.store stays found.0 (is clean).0.0.is_open old
             ∙ sym (ap (λ (d : Database). d.trees) (is clean).0.0.clean)
@@ -324,10 +343,8 @@ module _ {D : Type 0} (g : Ghosts D) (image : Image) (start : Room) (past : Hist
 
 module _ {D M : Type 0} (g : Ghosts D) (image : Image) (does : M → Call (Held (FileStore D g)) → M → Type 0)
     (left : M → Left D g) (stays : (file : D) → g.may_leave file (g.seen file))
-    (finds : (old new : M) (path : List ℕ) (c : Held (FileStore D g)) → does old (opens path (Some c)) new
-    → IsOpenedOver image c)
     (tells : (old new : M) (call : Call (Held (FileStore D g))) → does old call new
-    → Leaves call (left old) (left new)) where
+    → ActsOn image call (left old) (left new)) where
   abbrev File : Type 0
   File = Held (FileStore D g)
 
@@ -344,11 +361,67 @@ module _ {D M : Type 0} (g : Ghosts D) (image : Image) (does : M → Call (Held 
   program accepts fails =
       means does accepts fails takes (λ taken. taken.0.conn) (Made over_files) (Unmade over_files) shown
 
-  -- a store that could not be opened is not given up
+  -- a store that was let go holds what the files held
+  spared : (opened let_go : File) (begun later : M) → IsOpenedOver image opened → does begun (leaves let_go) later
+      → (HasCleanDisk (file_state let_go) → IsTrue (file_state let_go).is_open
+      → (file_state let_go).now.trees ≡ (file_state let_go).committed.trees)
+      → (HasCleanDisk (file_state let_go) → IsTrue (file_state let_go).is_open
+      → (file_state let_go).now ≡ (file_state opened).now)
+      → (commits : Trees → Type 0) → Survives (file_state opened) (file_state let_go) commits
+      → ((start : Room) (past : History) → HoldsRoom image start past → HasCleanDisk (file_state opened)
+      → (trees : Trees) → commits trees → MayBeTaken (file_state opened) trees)
+      → IsSparedIn image let_go (left later)
+  spared opened let_go begun later is gone rests same commits survives may_take = record {
+    shown = λ clean is_open db holds.
+        let shows = same clean is_open ∙ found_database g image db holds opened is (was_clean survives clean) in (
+          shows,
+          λ one at. subst (Holds one) shows (left_holds g stays let_go (left later) one
+              (tells begun later (leaves let_go) gone) is_open (rests clean is_open) at),
+        );
+    room = λ start past held one at.
+        let (clean, (it, (closed, at_it), numbered, may)) =
+        kept_in g let_go (left later) one (tells begun later (leaves let_go) gone) at in
+        let was = was_clean survives clean in
+        may_room g image start past held stays opened is was it (λ trees found.
+        elim (survives.crash clean trees (closed.quiet.outcomes trees found)) [
+          | inl old ↦ inl old
+          | inr made ↦ inr (may_take start past held was trees made)
+        ]) (closed.sound at_it) numbered one may;
+  }
+
+  -- as it was opened
+  spared_at_once : (path : List ℕ) (old begun later : M) (opened : File) → does old (opens path (Ok opened)) begun
+      → does begun (leaves opened) later → SparesFound does left image begun later
+  spared_at_once path old begun later opened did gone =
+      let is = (tells old begun (opens path (Ok opened)) did).0 in (
+        opened,
+        gone,
+        spared opened opened begun later is gone
+            (λ clean is_open. ap (λ (d : Database). d.trees) (is clean).0.0.clean) (λ clean is_open. refl)
+            (λ _. ⊥) (no_change (file_state opened)) (λ start past held was trees none. absurd none),
+      )
+
+  -- and where no room was taken of it
+  untaken : (opened let_go : File) (begun later : M) (why : Fault) → IsOpenedOver image opened
+      → does begun (leaves let_go) later → Untaken over_files opened let_go why → IsSparedIn image let_go (left later)
+  untaken opened let_go begun later why is gone none =
+      let (rests, same, survives) = none.spared in
+      spared opened let_go begun later is gone (λ clean. rests) same _ survives (λ start past held was trees may. may)
+
+  -- a store that could not be opened is spared, if its files were
+  refused : (path : List ℕ) (old new : M) (why : Error) → does old (opens path (Err why)) new
+      → SparesRoom does left image old new
+  refused path old new why did = elim (tells old new (opens path (Err why)) did) [
+    | inl (is, same) ↦ inl same
+    | inr (rest, is, now) ↦ inr (inl (subst (StayUnopened image) (sym now) (stay_unopened g image why rest stays is)))
+  ]
+
   unopened_left : (path : List ℕ) (old new : M) (why : Fault) → OpensStore does path old new (Err why)
-      → left new ≡ left old
-  unopened_left path old new fault.StoreFailed (opened, did) = tells old new (opens path opened) did
-  unopened_left path old new fault.Memory (opened, did) = tells old new (opens path opened) did
+      → SparesRoom does left image old new
+  unopened_left path old new fault.StoreFailed (inl (why, did)) = refused path old new why did
+  unopened_left path old new fault.StoreFailed (inr (opened, begun, did, gone)) =
+      inr (inr (begun, spared_at_once path old begun new opened did gone))
+  unopened_left path old new fault.Memory did = refused path old new _ did
   unopened_left path old new fault.BadName none = absurd none
   unopened_left path old new fault.CannotReadRoster none = absurd none
   unopened_left path old new fault.BadRoster none = absurd none
@@ -360,45 +433,17 @@ module _ {D M : Type 0} (g : Ghosts D) (image : Image) (does : M → Call (Held 
   unopened_left path old new fault.WriteFailed none = absurd none
   unopened_left path old new fault.SelftestFailed none = absurd none
 
-  -- a store that was let go holds what the files held
-  spared : (opened let_go : File) (begun later : M) → IsOpenedOver image opened → does begun (leaves let_go) later
-      → (commits : Trees → Type 0) → IsSpared over_files opened let_go commits
-      → ((start : Room) (past : History) → HoldsRoom image start past → HasCleanDisk (file_state opened)
-      → (trees : Trees) → commits trees → MayBeTaken (file_state opened) trees)
-      → IsSparedIn image let_go (left later)
-  spared opened let_go begun later is gone commits (rests, same, survives) may_take = record {
-    shown = λ clean is_open db holds.
-        let shows = same clean is_open ∙ found_database g image db holds opened is (was_clean survives clean) in (
-          shows,
-          λ one at. subst (Holds one) shows (left_holds g stays let_go (left begun) (left later) one
-              (tells begun later (leaves let_go) gone) is_open (rests is_open) at),
-        );
-    room = λ start past held one at.
-        let (it, (closed, at_it), may) = kept_in g let_go (left begun) (left later) one
-        (tells begun later (leaves let_go) gone) at in
-        let clean : HasCleanDisk (file_state let_go) = omega (arith, closed.quiet.clean, at_it) in
-        let was = was_clean survives clean in
-        may_room g image start past held stays opened is was it (λ trees found.
-        elim (survives.crash clean trees (closed.quiet.outcomes trees found)) [
-          | inl old ↦ inl old
-          | inr made ↦ inr (may_take start past held was trees made)
-        ]) (closed.sound at_it) one may;
-  }
-
-  -- and where no room was taken of it
-  untaken : (opened let_go : File) (begun later : M) (why : Fault) → IsOpenedOver image opened
-      → does begun (leaves let_go) later → Untaken over_files opened let_go why → IsSparedIn image let_go (left later)
-  untaken opened let_go begun later why is gone none =
-      spared opened let_go begun later is gone _ none.spared (λ start past held was trees may. may)
-
   -- a room that was not taken is spared
   pub spares : (path : List ℕ) (old new : M) (why : Fault) → TakesRoom does takes path old new (Err why)
       → SparesRoom does left image old new
   spares path old new why (inl (begun, looked, none)) = inl (tells old new (looks path begun) looked)
   spares path old new why (inr (seen, looked, inl (same, is, opened))) =
-      inl (unopened_left path seen new same opened ∙ tells old seen (looks path (Some true)) looked)
+      subst (λ l. (left new ≡ l) ⊎ (StayUnopened image (left new)
+      ⊎ ((begun : M) × SparesFound does left image begun new)))
+      (tells old seen (looks path (Some true)) looked) (unopened_left path seen new same opened)
   spares path old new why (inr (seen, looked, inr (opened, begun, is, (let_go, none, gone)))) =
-      inr (begun, (let_go, gone, untaken opened let_go begun new why (finds seen begun path opened is) gone none))
+      let found = (tells seen begun (opens path (Ok opened)) is).0 in
+      inr (inr (begun, (let_go, gone, untaken opened let_go begun new why found gone none)))
 
   fails_room : (path : List ℕ) (old new : M) (done : Result (Unit {0}) Fault)
       → FailsRoom does takes path old new done
@@ -416,7 +461,7 @@ module _ {D M : Type 0} (g : Ghosts D) (image : Image) (does : M → Call (Held 
     taken_stands path old new taken (inl (begun, looked, none)) = absurd (unopened begun taken none)
     taken_stands path old new taken (inr (seen, looked, inl (fault, bad, opened))) = absurd (let e = bad in cc)
     taken_stands path old new taken (inr (seen, looked, inr (opened, begun, is, (adopted, same)))) =
-        stands g image start past held opened taken (finds seen begun path opened is) adopted
+        stands g image start past held opened taken (tells seen begun (opens path (Ok opened)) is).0 adopted
 
     pub serves_found : (accepts : M → Exchange → M → Type 0) (fails : M → M → Type 0) (db roster : List ℕ)
         (port count : ℕ) (before later : M) (done : Result (Unit {0}) Fault)
@@ -450,7 +495,7 @@ module _ {D M : Type 0} (g : Ghosts D) (image : Image) (does : M → Call (Held 
                         rows,
                         λ one at. record {
                           db = (file_state last.0.conn).now;
-                          held = closed_holds g stays last.0.conn (left over) (left later) one
+                          held = closed_holds g stays last.0.conn (left later) one
                               (tells over later (closes last.0.conn) closed) is_open (last.0.rests is_open) at;
                           room = inl laid_out.0.0;
                           rows = rows;
@@ -502,7 +547,7 @@ module _ {D M : Type 0} (g : Ghosts D) (image : Image) (does : M → Call (Held 
                       stood (clean, is_open) in
                       record {
                         db = (file_state last.0.conn).now;
-                        held = left_holds g stays last.0.conn (left seen) (left later) one
+                        held = left_holds g stays last.0.conn (left later) one
                             (tells seen later (leaves last.0.conn) gone) is_open (last.0.rests is_open) at;
                         room = inl laid_out.0.0;
                         rows = rows;
@@ -523,13 +568,13 @@ module _ {D M : Type 0} (g : Ghosts D) (image : Image) (does : M → Call (Held 
       → does begun (leaves let_go) later → Unmade over_files owner group opened let_go why
       → IsSparedIn image let_go (left later)
   unmade owner group opened let_go begun later fault.RoomExists is gone (some, same, rests) =
-      spared let_go let_go begun later (subst (IsOpenedOver image) (sym same) is) gone (λ _. ⊥)
-      (rests, λ clean is_open. refl, no_change (file_state let_go)) (λ start past held was trees none. absurd none)
-  unmade owner group opened let_go begun later fault.StoreFailed is gone (none, same) =
-      spared opened let_go begun later is gone _ same
+      spared let_go let_go begun later (subst (IsOpenedOver image) (sym same) is) gone (λ clean. rests)
+      (λ clean is_open. refl) (λ _. ⊥) (no_change (file_state let_go)) (λ start past held was trees none. absurd none)
+  unmade owner group opened let_go begun later fault.StoreFailed is gone (none, (rests, same, survives)) =
+      spared opened let_go begun later is gone (λ clean. rests) same _ survives
       (λ start past held was. absurd (has_none opened is none start past held was))
-  unmade owner group opened let_go begun later fault.Memory is gone (none, same) =
-      spared opened let_go begun later is gone _ same
+  unmade owner group opened let_go begun later fault.Memory is gone (none, (rests, same, survives)) =
+      spared opened let_go begun later is gone (λ clean. rests) same _ survives
       (λ start past held was. absurd (has_none opened is none start past held was))
   unmade owner group opened let_go begun later fault.BadName is gone none = absurd none
   unmade owner group opened let_go begun later fault.CannotReadRoster is gone none = absurd none
@@ -555,7 +600,11 @@ module _ {D M : Type 0} (g : Ghosts D) (image : Image) (does : M → Call (Held 
         opened,
         begun,
         is,
-        (let_go, gone, unmade owner group opened let_go begun later why (finds before begun db opened is) gone none),
+        (
+          let_go,
+          gone,
+          unmade owner group opened let_go begun later why (tells before begun (opens db (Ok opened)) is).0 gone none,
+        ),
       ))
   makes_found db owner group before later (Ok done)
       (inr (principals, inr (opened, begun, is, (closed, made, did)))) = (
@@ -564,14 +613,14 @@ module _ {D M : Type 0} (g : Ghosts D) (image : Image) (does : M → Call (Held 
         did,
         λ clean.
             let was = was_clean made.3 clean in
-            let over = finds before begun db opened is in (
+            let over = (tells before begun (opens db (Ok opened)) is).0 in (
               λ start past held. has_none opened over made.0 start past held was,
               λ empty.
                   let (is_open, made_fresh) = made.2 clean in
                   let fresh = made_fresh (found_nothing g image empty opened over was) in
                   λ one at. record {
                     db = (file_state closed).now;
-                    held = closed_holds g stays closed (left begun) (left later) one
+                    held = closed_holds g stays closed (left later) one
                         (tells begun later (closes closed) did) is_open (made.1 is_open) at;
                     room = inl fresh.0.room;
                     rows = stand_at_first (fresh_room owner group) _ fresh.1.room fresh.1.sessions fresh.1.slots;

@@ -1,15 +1,18 @@
 -- What the function of a job promises, said of the job and its texts.
-use Rattle.std.proofs.Common.{◌≡◌, ℕ, List, true, Option, String, Result, Ok, Err, refl, sym, subst, inr}
-use Rattle.std.specs.Prelude.{string_bytes}
+use Rattle.std.proofs.Common.{◌≡◌, ℕ, List, true, false, Option, String, Result, Ok, Err, refl, sym, subst, inr}
+use Rattle.std.specs.Prelude.{string_bytes, IfOk, IfErr}
 use Rattle.std.specs.declared.alloc.Global.{Global}
 use Rattle.room_words.specs.declared.job.Job.{Job}
 use Rattle.room_words.specs.declared.job.Job.TheVariants.{Init, Replay, Serve, Report}
 use Rattle.room_words.specs.declared.job.ReportKind.{ReportKind}
+use Rattle.sqlite.specs.Held.{Held}
 use Rattle.room_program.specs.declared.fault.Fault.{Fault}
+use Rattle.room_program.specs.declared.fault.Fault.TheVariants.{StoreFailed}
 use Rattle.room_program.specs.Machines.{Call}
-use Rattle.room_program.specs.Machines.Call.{asks}
+use Rattle.room_program.specs.Machines.Call.{asks, opens, leaves}
 use Rattle.room_program.specs.Calls.{Exchange, Accepted}
 use Rattle.room_program.specs.Ends.{InitEnds, IsAnswered, Talks}
+use Rattle.room_program.specs.Files.{OpensStore}
 use Rattle.room_program.specs.Replays.{Replays}
 use Rattle.room_program.specs.Rooms.{Reports, ServesRoom}
 use Rattle.room_program.specs.Runs.{Ends, Means, RunsJob, streams}
@@ -31,6 +34,17 @@ talked does accepts fails old first second served new one two asked again took (
     (first, second, served, one, two, answers, asked, again, took, heard)
 talked does accepts fails old first second served new one two asked again took (Err why) (fault, answers, heard) =
     (fault, one, two, inr (first, asked, inr (second, again, inr (served, answers, took, heard))))
+
+-- a store was opened, and is outside a transaction, or was let go
+pub opened_outside : {S M : Type 0} (does : M → Call (Held S) → M → Type 0) (path : List ℕ) (old begun new : M)
+    (opened : Held S) → does old (opens path (Ok opened)) begun → (result : Result (Held S) Fault)
+    → IfOk result (λ c. (c ≡ opened) × (new ≡ begun) × (c.in_transaction ≡ false))
+    → IfErr result (λ why. (why ≡ StoreFailed) × does begun (leaves opened) new) → OpensStore does path old new result
+opened_outside does path old begun new opened did (Ok c) (same, still, outside) left =
+    subst (λ n. does old (opens path (Ok c)) n) (sym still)
+    (subst (λ k. does old (opens path (Ok k)) begun) (sym same) did)
+opened_outside does path old begun new opened did (Err why) kept (is, gone) =
+    subst (λ f. OpensStore does path old new (Err f)) (sym is) (inr (opened, begun, did, gone))
 
 module _ {M C Shelf : Type 0} (m : Means M C Shelf) (before later : M) where
   pub ran_init : (job : Job) (db owner group : String Global) (d o g : List ℕ)

@@ -1,5 +1,8 @@
+mod Opened
+mod Unopened
 mod Found
 mod Stopped
+mod Again
 mod Restarts
 mod Jobs
 mod Streams

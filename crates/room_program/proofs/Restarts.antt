@@ -1,12 +1,14 @@
 -- From one run to the next, over the files that the one before it left.
 use Rattle.std.proofs.Common.{◌≡◌, ℕ, zero, suc, List, IsTrue, refl, sym, subst}
-use Rattle.std.proofs.Common.{inl, inr, false, ◌∷◌, ◌⊎◌}
-use Rattle.std.proofs.Common.{Option, Some, Result, Ok, Err, [], ap, ◌∙◌}
+use Rattle.std.proofs.Common.{inl, inr, false, ◌∷◌, ◌⊎◌, arith}
+use Rattle.std.proofs.Common.{Option, Result, Ok, Err, [], ap, ◌∙◌}
 use Rattle.std.proofs.Math.Logic.{∥∥₁_map, ∥∥₁_elim}
 use Rattle.sqlite_disk.specs.declared.Disk.{Ghosts}
 use Rattle.sqlite_trees.specs.Tree.{Trees}
-use Rattle.sqlite.specs.FileStore.{recovers}
+use Rattle.sqlite_trees.specs.View.{IsClean, IsQuiet, IsRolledBack}
+use Rattle.sqlite.specs.FileStore.{recovers, view, faults, is_shielded}
 use Rattle.sqlite.proofs.Theorems.{next_run, opens_again}
+use Rattle.sqlite_store.specs.Laws.{settled_at}
 use Rattle.sqlite.specs.Effect.{Database}
 use Rattle.sqlite.specs.Recovery.{Image}
 use Rattle.sqlite.specs.declared.FileStore.{FileStore}
@@ -19,41 +21,58 @@ use Rattle.room_records.specs.Shelf.{View}
 use Rattle.room_cache.specs.declared.known.Known.{Known}
 use Rattle.room_cache.specs.Cached.{cached_view}
 use Rattle.room_tables.specs.Layout.{IsRoomOfVersion2, AreOfRoom}
-use Rattle.room_tables.specs.Rows.{records_of}
+use Rattle.room_tables.specs.Rows.{records_of, version_rows, IsVersion}
 use Rattle.room_sql.specs.declared.sql_shelf.SqlShelf.{SqlShelf}
 use Rattle.room_sql.specs.SqlView.{sql_view}
+use Rattle.room_sql.proofs.Frames.{was_clean}
 use Rattle.room_wire.specs.Asks.EventModel.{EventModel}
 use Rattle.room_desk.specs.AnswerModel.{AnswerModel}
 use Rattle.room_desk.specs.History.{History, leaves_no_reply}
 use Rattle.room_desk.specs.Representation.{RepresentsHistory, StandsFor}
-use Rattle.room_desk.specs.Serving.{EventAnswered}
+use Rattle.room_wire.specs.Messages.MessageModel.{MessageModel}
+use Rattle.room_wire.specs.Serving.Outputs.{Outputs}
+use Rattle.room_desk.specs.Serving.{EventAnswered, MayAnswer}
 use Rattle.room_desk.proofs.Stops.{sent_again}
 use Rattle.room_program.specs.declared.fault.Fault.{Fault}
+use Rattle.room_program.specs.declared.fault.Fault.TheVariants as fault
 use Rattle.room_program.specs.declared.left.Left.{Left}
 use Rattle.room_program.specs.declared.left.Left.TheVariants.{Nothing}
 use Rattle.room_program.specs.Machines.{Call}
-use Rattle.room_program.specs.Calls.{Exchange}
+use Rattle.room_program.specs.Calls.{Exchange, ServesEach}
 use Rattle.room_program.specs.Machines.Call.{opens, closes, leaves}
 use Rattle.room_program.specs.Rooms.{Listens, WritesReport}
 use Rattle.room_words.specs.declared.job.ReportKind.{ReportKind}
 use Rattle.room_program.specs.Ends.{InitEnds}
-use Rattle.room_program.specs.Files.{Adopted, Takes, TakesRoom, Made, Unmade}
-use Rattle.room_program.specs.Streams.{ServesSome}
-use Rattle.room_program.specs.Found.{IsOpenedOver, Holds, HoldsRoom, IsLeftBy, Leaves, MayBeLeft}
+use Rattle.room_program.specs.Files.{Adopted, Takes, TakesRoom, Untaken, Made, Unmade}
+use Rattle.room_program.specs.Streams.{Served, ServesSome}
+use Rattle.room_program.specs.Found.{IsOpenedOver, Holds, HoldsRoom, IsLeftBy, ActsOn, MayBeLeft, SeesSums, SparesRoom}
 use Rattle.room_program.specs.Restarts.{ActsOnce, Steps, KeepsRoom, KeepsRoomOrMore, HoldsStill}
 use Rattle.room_program.specs.Restarts.{GoesOnBySome, GoesOnOrMore, AnswersOrMore}
-use Rattle.room_program.proofs.Found.{stands, closed_holds, left_holds, unopened, served, read_stands}
-use Rattle.room_program.proofs.Found.{spares, makes_found, one_database}
+use Rattle.room_program.proofs.Found.{stands, closed_holds, closed_in, kept_in, unopened, served, read_stands}
+use Rattle.room_program.proofs.Found.{spares, makes_found, one_database, found_database}
 
 module _ {D : Type 0} (g : Ghosts D) where
   -- what a crash left of a store is found by the next run
   pub found_left : (it : FileStore D g) {E : Type 0} {h : Ghosts E} (left : Image) (opened : Held (FileStore E h))
-      → MayBeLeft it left → AreDatabases (recovers it) → IsOpenedOver left opened → HasCleanDisk (file_state opened)
-      → ∥ recovers it (file_state opened).now.trees ∥₁
-  found_left it left opened may sound is clean =
+      → MayBeLeft it left → IsTrue (view it).is_numbered → AreDatabases (recovers it) → IsOpenedOver left opened
+      → HasCleanDisk (file_state opened) → ∥ recovers it (file_state opened).now.trees ∥₁
+  found_left it left opened may numbered sound is clean =
       let (shown, finds) = is clean in
-      ∥∥₁_map (next_run it may.numbered sound left may.may (file_state opened) finds)
+      ∥∥₁_map (next_run it numbered sound left may (file_state opened) finds)
       (λ found. subst (λ (d : Database). recovers it d.trees) (sym shown.0.clean) found)
+
+  -- a store that is taken out of its connection, and has returned what was written, had done so before; and its trees
+  -- were numbered
+  pub was_numbered : (conn was : Held (FileStore D g)) → conn ≡ was → (it : FileStore D g)
+      → IsQuiet view faults recovers is_shielded conn.store it → IsRolledBack (view conn.store) (view it)
+      → (IsClean (view it) → IsTrue (view it).is_numbered) → IsClean (view it)
+      → HasCleanDisk (file_state was) × IsTrue (view was.store).is_numbered
+  was_numbered conn was same it quiet undone numbered clean =
+      let early : HasCleanDisk (file_state conn) = omega (arith, quiet.clean, clean) in (
+        subst (λ (c : Held (FileStore D g)). HasCleanDisk (file_state c)) same early,
+        subst (λ (c : Held (FileStore D g)). IsTrue (view c.store).is_numbered) same
+            (sym undone.numbered ∙ numbered clean),
+      )
 
   -- trees of rooms are databases
   databases : (it : FileStore D g) → ((trees : Trees) → recovers it trees → AreOfRoom trees)
@@ -133,15 +152,18 @@ module _ {D : Type 0} (g : Ghosts D) (found left : Image) (opened : Held (FileSt
         record { db = (file_state last.0.conn).now; held = holds; room = inl laid_out.0.0; rows = rows },
       )
 
-  -- or, once a fault has shut it, that with one event more
+  -- or, once a fault has shut it, that with one event more: so it is in what a crash leaves of a store that leaves no
+  -- more than its own
   pub keeps_room_or_more : AnswersOrMore (cached_view (sql_view over_files)) users taken last
-      → MayBeLeft last.0.conn.store left → KeepsRoomOrMore found left
-  keeps_room_or_more answers at start past held =
+      → (it : FileStore D g) → ((trees : Trees) → recovers it trees → recovers last.0.conn.store trees)
+      → IsTrue (view it).is_numbered → MayBeLeft it left → KeepsRoomOrMore found left
+  keeps_room_or_more answers it only numbered at start past held =
       let (next, goes, left_so, laid) =
       answers start past (stands g found start past held opened taken is adopted) in
-      let it = last.0.conn.store in
-      ∥∥₁_map (opens_again it at.numbered (databases g it laid) left at.may) (λ one.
-      let (trees, may, holds) = one in
+      let sound : AreDatabases (recovers it) = λ trees may. databases g last.0.conn.store laid trees (only trees may) in
+      ∥∥₁_map (opens_again it numbered sound left at) (λ one.
+      let (trees, here, holds) = one in
+      let may = only trees here in
       let (schema, of_room) = laid trees may in
       let room : (past : History) → RepresentsHistory start (records_of trees) past → HoldsRoom left start past
       = λ past rows. record {
@@ -161,10 +183,8 @@ module _ {D : Type 0} (g : Ghosts D) (found left : Image) (opened : Held (FileSt
 -- a `serve` that took its room and closed it
 module _ {D M : Type 0} (g : Ghosts D) (image : Image) (does : M → Call (Held (FileStore D g)) → M → Type 0)
     (left : M → Left D g) (stays : (file : D) → g.may_leave file (g.seen file))
-    (finds : (old new : M) (path : List ℕ) (c : Held (FileStore D g)) → does old (opens path (Some c)) new
-    → IsOpenedOver image c)
     (tells : (old new : M) (call : Call (Held (FileStore D g))) → does old call new
-    → Leaves call (left old) (left new)) where
+    → ActsOn image call (left old) (left new)) where
   abbrev Taken : Type 0
   Taken = SqlShelf (FileStore D g) over_files × Known
 
@@ -174,77 +194,161 @@ module _ {D M : Type 0} (g : Ghosts D) (image : Image) (does : M → Call (Held 
   took db old new shelf (inl (begun, looked, none)) = absurd (unopened begun shelf none)
   took db old new shelf (inr (seen, looked, inl (fault, bad, opened))) = absurd (let e = bad in cc)
   took db old new shelf (inr (seen, looked, inr (opened, begun, is, (adopted, same)))) =
-      (opened, finds seen begun db opened is, adopted)
+      (opened, (tells seen begun (opens db (Ok opened)) is).0, adopted)
+
+  abbrev shown : Taken → View
+  shown = cached_view (sql_view over_files)
 
   pub served_run : (accepts : M → Exchange → M → Type 0) (fails : M → M → Type 0) (db : List ℕ)
       (users : List SubjectModel) (port count : ℕ) (read taken over later : M) (shelf last : Taken)
       (done : Result (Unit {0}) Fault) (one : Image)
       → TakesRoom does (λ opened taken. Takes over_files opened taken) db read taken (Ok shelf)
-      → Listens does accepts fails (cached_view (sql_view over_files)) users port count taken over shelf last done
-      → does over (closes last.0.conn) later → HasCleanDisk (file_state last.0.conn)
-      → IsTrue (file_state last.0.conn).is_open → IsLeftBy (left later) one
+      → Listens does accepts fails shown users port count taken over shelf last done
+      → does over (closes last.0.conn) later → IsTrue (file_state last.0.conn).is_open → IsLeftBy (left later) one
       → KeepsRoom image one
-  served_run accepts fails db users port count read taken over later shelf last done one room listens closed clean
-      is_open at =
+  served_run accepts fails db users port count read taken over later shelf last done one room listens closed is_open
+      at =
       let (opened, is, adopted) = took db read taken shelf room in
       let some = served does _ accepts fails users port count taken over shelf last done listens in
+      let told = tells over later (closes last.0.conn) closed in
+      let clean = (closed_in g last.0.conn (left later) one told at).0 in
       keeps_room g image one opened shelf last users is adopted clean (by_messages _ users shelf last some clean)
-      is_open (closed_holds g stays last.0.conn (left over) (left later) one
-      (tells over later (closes last.0.conn) closed) is_open (last.0.rests is_open) at)
+      is_open (closed_holds g stays last.0.conn (left later) one told is_open (last.0.rests is_open) at)
+
+  -- and where a fault had shut its store
+  module _ (accepts : M → Exchange → M → Type 0) (fails : M → M → Type 0)
+      (leave_answered : (users : List SubjectModel) (n : ℕ) (old last : M) (before between after : Taken)
+      (ms : List MessageModel) (out : List ℕ) → ServesEach accepts (Served shown users) n old last before between
+      → Outputs (MayAnswer shown users) between ms out after → (shown before).is_available → (shown after).is_intact
+      → AnswersOrMore shown users before after) where
+    answered : (users : List SubjectModel) (port count : ℕ) (taken over : M) (shelf last : Taken)
+        (done : Result (Unit {0}) Fault) → Listens does accepts fails shown users port count taken over shelf last done
+        → (shown shelf).is_available → (shown last).is_intact → AnswersOrMore shown users shelf last
+    answered users port count taken over shelf last done (inl (is, same, bound)) there intact =
+        leave_answered users 0 taken taken shelf last last [] [] (refl, same) (refl, refl) there intact
+    answered users port count taken over shelf last (Ok done) (inr (bound, did, all)) there intact =
+        leave_answered users count bound over shelf last last [] [] all.served (refl, refl) there intact
+    answered users port count taken over shelf last (Err fault) (inr (bound, did, all)) there intact =
+        let (n, fewer, late, each, failed) = all.fewer in
+        leave_answered users n bound late shelf last last [] [] each (refl, refl) there intact
+
+    pub served_shut : (db : List ℕ) (users : List SubjectModel) (port count : ℕ) (read taken over later : M)
+        (shelf last : Taken) (done : Result (Unit {0}) Fault) (one : Image)
+        → TakesRoom does (λ opened taken. Takes over_files opened taken) db read taken (Ok shelf)
+        → Listens does accepts fails shown users port count taken over shelf last done
+        → does over (closes last.0.conn) later → IsLeftBy (left later) one → KeepsRoomOrMore image one
+    served_shut db users port count read taken over later shelf last done one room listens closed at =
+        let (opened, is, adopted) = took db read taken shelf room in
+        let some = served does _ accepts fails users port count taken over shelf last done listens in
+        let (clean, either) = closed_in g last.0.conn (left later) one (tells over later (closes last.0.conn) closed)
+        at in
+        let was = some.frame.was_intact clean in
+        elim either [
+          | inl is_open ↦ keeps_or_more image one (served_run accepts fails db users port count read taken over later
+              shelf last done one room listens closed is_open at)
+          | inr (it, (kept, sure), numbered, may) ↦ keeps_room_or_more g image one opened shelf last users is adopted
+              clean (answered users port count taken over shelf last done listens (was, (adopted.1 was).0) clean)
+              it kept.quiet.outcomes numbered may
+        ]
 
   -- a report over it, which lets it go
   pub reported_run : (db : List ℕ) (kind : ReportKind) (users : List SubjectModel) (read seen later : M)
       (taken last : Taken) (old new : Option (List ℕ)) (done : Result (Unit {0}) Fault) (one : Image)
       → TakesRoom does (λ opened taken. Takes over_files opened taken) db read seen (Ok taken)
-      → WritesReport (cached_view (sql_view over_files)) kind users taken last old new done
-      → does seen (leaves last.0.conn) later → HasCleanDisk (file_state last.0.conn)
-      → IsTrue (file_state last.0.conn).is_open → IsLeftBy (left later) one → KeepsRoom image one
-  reported_run db kind users read seen later taken last old new done one room writes gone clean is_open at =
+      → WritesReport shown kind users taken last old new done
+      → does seen (leaves last.0.conn) later → IsLeftBy (left later) one → HoldsStill image one
+  reported_run db kind users read seen later taken last old new done one room writes gone at start past held =
       let (opened, is, adopted) = took db read seen taken room in
-      keeps_room g image one opened taken last users is adopted clean
-      (by_report _ kind users taken last old new done writes) is_open
-      (left_holds g stays last.0.conn (left seen) (left later) one (tells seen later (leaves last.0.conn) gone)
-      is_open (last.0.rests is_open) at)
+      let (clean, (it, (kept, sure), numbered, may)) =
+      kept_in g last.0.conn (left later) one (tells seen later (leaves last.0.conn) gone) at in
+      let was = writes.read.call.was_intact clean in
+      let there = (adopted.1 was).0 in
+      let (laid_out, rows) = stands g image start past held opened taken is adopted (was, there) in
+      let only : (trees : Trees) → recovers taken.0.conn.store trees → trees ≡ (file_state taken.0.conn).now.trees
+      = λ trees left. settled_at taken.0.conn.store stays trees there left ∙ sym (taken.0.rests there) in
+      let laid : (trees : Trees) → recovers last.0.conn.store trees → AreOfRoom trees =
+      writes.read.stays_laid_out clean (λ trees left. (
+        (file_state taken.0.conn).now.schema,
+        subst (λ t. IsRoomOfVersion2 (record { schema = (file_state taken.0.conn).now.schema; trees = t }))
+            (sym (only trees left)) laid_out.0.0,
+      )) in
+      ∥∥₁_map (opens_again it numbered (kept.sound sure) one may) (λ one_of.
+      let (trees, here, holds) = one_of in
+      let left = kept.quiet.outcomes trees here in
+      let (schema, of_room) = laid trees left in
+      let (intact, (before, was_left, as_before)) = writes.read.crash (records_of trees) (clean, (trees, left, refl)) in
+      record {
+        db = record { schema = schema; trees = trees };
+        held = record { trees = ∣ holds ∣₁; sound = of_room.sound };
+        room = inl of_room;
+        rows = subst (λ r. RepresentsHistory start r past)
+            (sym (as_before ∙ ap records_of (only before was_left))) rows;
+      })
 
-  -- no store was given up, so nothing is known of the files
+  -- no file was opened, so nothing is known of any
   ungiven : (from to : M) (one : Image) → left from ≡ Nothing → left to ≡ left from → IsLeftBy (left to) one → ⊥
   ungiven from to one none same at = subst (λ (l : Left D g). IsLeftBy l one) (same ∙ none) at
+
+  spared_run : (read later : M) (one : Image) → left read ≡ Nothing → SeesSums image (left later)
+      → IsLeftBy (left later) one → SparesRoom does left image read later → HoldsStill image one
+  spared_run read later one none sees at (inl same) = absurd (ungiven read later one none same at)
+  spared_run read later one none sees at (inr (inl stay)) = λ start past held. ∣ record {
+    db = held.db;
+    held = stay sees held.db held.held one at;
+    room = held.room;
+    rows = held.rows;
+  } ∣₁
+  spared_run read later one none sees at (inr (inr (begun, (let_go, gone, is)))) =
+      λ start past held. is.room start past held one at
 
   -- a room that was not taken
   pub untaken_run : (db : List ℕ) (read later : M) (why : Fault) (one : Image)
       → TakesRoom does (λ opened taken. Takes over_files opened taken) db read later (Err why)
-      → left read ≡ Nothing → IsLeftBy (left later) one → HoldsStill image one
-  untaken_run db read later why one untook none at =
-      elim (spares g image does left stays finds tells db read later why untook) [
-        | inl same ↦ absurd (ungiven read later one none same at)
-        | inr (begun, (let_go, gone, is)) ↦ λ start past held. is.room start past held one at
-      ]
+      → left read ≡ Nothing → SeesSums image (left later) → IsLeftBy (left later) one → HoldsStill image one
+  untaken_run db read later why one untook none sees at =
+      spared_run read later one none sees at (spares g image does left stays tells db read later why untook)
 
   -- a room that was there as one was to be made
   pub unmade_run : (db owner group : List ℕ) (before later : M) (why : Fault) (one : Image)
       → InitEnds does (Made over_files owner group) (Unmade over_files owner group) db owner group before later
       (Err why)
-      → left before ≡ Nothing → IsLeftBy (left later) one → HoldsStill image one
-  unmade_run db owner group before later why one ends none at =
-      elim (makes_found g image does left stays finds tells db owner group before later (Err why) ends) [
+      → left before ≡ Nothing → SeesSums image (left later) → IsLeftBy (left later) one → HoldsStill image one
+  unmade_run db owner group before later why one ends none sees at =
+      elim (makes_found g image does left stays tells db owner group before later (Err why) ends) [
         | inl (names, same) ↦ absurd (ungiven before later one none (ap left same) at)
-        | inr (inl (unopened, same)) ↦ absurd (ungiven before later one none same at)
-        | inr (inr (opened, begun, is, (let_go, gone, spared))) ↦ λ start past held. spared.room start past held one at
+        | inr (inl (unopened, so)) ↦ spared_run before later one none sees at so
+        | inr (inr (opened, begun, is, so)) ↦ spared_run before later one none sees at (inr (inr (begun, so)))
       ]
 
 -- the next run finds a room with records that the crash may leave of a store that a fault had shut
 pub found_records : {D E : Type 0} (g : Ghosts D) (h : Ghosts E) (was : SqlShelf (FileStore D g) over_files)
     (left : Image) (opened : Held (FileStore E h)) → HasCleanDisk (file_state was.conn)
-    → (sql_view over_files was).leaves_laid_out → MayBeLeft was.conn.store left → IsOpenedOver left opened
+    → (sql_view over_files was).leaves_laid_out → IsTrue (view was.conn.store).is_numbered
+    → MayBeLeft was.conn.store left → IsOpenedOver left opened
     → HasCleanDisk (file_state opened) → ∥ (IsRoomOfVersion2 (file_state opened).now
     × (sql_view over_files was).crash_may_leave (records_of (file_state opened).now.trees)) ∥₁
-found_records g h was left opened clean laid may is there =
+found_records g h was left opened clean laid numbered may is there =
     let (shown, finds) = is there in
-    ∥∥₁_map (found_left g was.conn.store left opened may (databases g was.conn.store laid) is there) (λ found.
+    ∥∥₁_map (found_left g was.conn.store left opened may numbered (databases g was.conn.store laid) is there) (λ found.
     let (schema, room) = laid _ found in (
       subst IsRoomOfVersion2 (one_database _ _ room.sound (shown.1 shown.0.is_open).0 refl) room,
       (clean, (_, found, refl)),
     ))
+
+-- what holds a room is not refused as none
+pub known : {D : Type 0} (g : Ghosts D) (image : Image) (start : Room) (past : History) → HoldsRoom image start past
+    → (opened let_go : Held (FileStore D g)) → IsOpenedOver image opened
+    → Untaken over_files opened let_go fault.NotARoom → HasCleanDisk (file_state let_go) → ⊥
+known g image start past held opened let_go is none clean =
+    let was = was_clean none.spared.2 clean in
+    let same = found_database g image held.db held.held opened is was in
+    let schema = ap (λ (d : Database). d.schema) same in
+    let rows = ap (λ (d : Database). version_rows d.trees) same in
+    let other = (none.no_room refl).1 clean in
+    elim held.room [
+      | inl two ↦ other.second two.room.layout (schema ∙ two.room.schema) (subst (IsVersion 2) (sym rows) two.version)
+      | inr one ↦ other.first (schema ∙ one.schema) (subst (IsVersion 1) (sym rows) one.version)
+    ]
 
 -- and an event that is sent again acts once
 pub again : {D : Type 0} (g : Ghosts D) (image : Image) (opened : Held (FileStore D g))

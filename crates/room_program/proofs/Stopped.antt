@@ -116,5 +116,4 @@ module _ {D : Type 0} (g : Ghosts D) (stays : (file : D) → g.may_leave file (g
       let clean : HasCleanDisk (file_state shut) = omega (arith, quiet.clean, none) in
       let survives = spared_by taken takes same in
       may_room g found start past held stays opened is (was_clean survives clean) it
-      (λ trees left. survives.crash clean trees (quiet.outcomes trees left)) (sound none) image
-      (record { may = there; numbered = numbered none })
+      (λ trees left. survives.crash clean trees (quiet.outcomes trees left)) (sound none) (numbered none) image there

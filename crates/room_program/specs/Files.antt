@@ -4,6 +4,9 @@ use Rattle.sqlite_trees.specs.declared.store.Store.{Ghosts}
 use Rattle.sqlite_trees.specs.Tree.{Trees}
 use Rattle.sqlite.specs.State.{HasCleanDisk, Survives}
 use Rattle.sqlite.specs.Held.{Held, state}
+use Rattle.sqlite.specs.declared.error.Error.{Error}
+use Rattle.sqlite.specs.declared.error.Error.TheVariants.{SqliteFailure}
+use Rattle.sqlite.specs.declared.error.ErrorCode.TheVariants.{OutOfMemory}
 use Rattle.room_acl.specs.SubjectModel.{SubjectModel}
 use Rattle.room_records.specs.Records.{Records}
 use Rattle.room_cache.specs.declared.known.Known.{Known}
@@ -38,11 +41,13 @@ abbrev pub TakesRoster : {M C : Type 0} → (does : M → Call C → M → Type 
     → List ℕ → M → M → Result (List SubjectModel) Fault → Type 0
 TakesRoster does path old new taken = (text : Option (List ℕ)) × does old (reads path text) new × ReadsRoster text taken
 
--- the store at a path, or why it can't be opened
+-- the store at a path; or it can't be opened, and memory is wanting only where that is why; or it is let go at once
 abbrev pub OpensStore : {M C : Type 0} → (does : M → Call C → M → Type 0) → List ℕ → M → M → Result C Fault → Type 0
-OpensStore does path old new (Ok opened) = does old (opens path (Some opened)) new
-OpensStore {M} {C} does path old new (Err StoreFailed) = (opened : Option C) × does old (opens path opened) new
-OpensStore {M} {C} does path old new (Err Memory) = (opened : Option C) × does old (opens path opened) new
+OpensStore does path old new (Ok opened) = does old (opens path (Ok opened)) new
+OpensStore {M} {C} does path old new (Err StoreFailed) =
+    ((why : Error) × does old (opens path (Err why)) new)
+    ⊎ ((opened : C) × (begun : M) × does old (opens path (Ok opened)) begun × does begun (leaves opened) new)
+OpensStore does path old new (Err Memory) = does old (opens path (Err (SqliteFailure OutOfMemory))) new
 OpensStore does path old new (Err other) = ⊥
 
 -- the shelf over a store that was opened; or why it is no room that can be taken, and it is let go

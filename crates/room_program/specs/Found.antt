@@ -1,8 +1,12 @@
 -- What a run finds in files that held something as they were opened, and what it leaves in them.
-use Rattle.std.specs.Prelude.{◌≡◌, ◌⊎◌, ℕ, List, [], Option, Some, Result, Ok, Err, OnOk, IfOk, IfErr, IsTrue}
+use Rattle.std.specs.Prelude.{◌≡◌, ◌⊎◌, ℕ, List, [], Option, Result, Ok, Err, OnOk, IfOk, IfErr, IsTrue}
 use Rattle.std.specs.Prelude.{string_bytes}
 use Rattle.std.specs.Io.KnownBytes.{Appends}
 use Rattle.sqlite_disk.specs.declared.Disk.{Ghosts}
+use Rattle.sqlite_disk.specs.declared.Files.{Files}
+use Rattle.sqlite_trees.specs.Tree.{Trees}
+use Rattle.sqlite_pool.specs.Stored.{is_summed}
+use Rattle.sqlite_store.specs.Unopened.{state_of}
 use Rattle.sqlite.specs.WalFiles.{outcomes}
 use Rattle.sqlite.specs.FileStore as store
 use Rattle.sqlite.specs.View.{IsClean}
@@ -14,6 +18,12 @@ use Rattle.sqlite.specs.declared.FileStore.{FileStore}
 use Rattle.sqlite.specs.State.{HasCleanDisk, IsLive}
 use Rattle.sqlite.specs.Held.{Held}
 use Rattle.sqlite.specs.Files.{file_state, IsOpened, IsClosed, HoldsDatabase, image_of}
+use Rattle.sqlite.specs.Files.{IsCleanLeft, FailsToOpenFiles, LeavesFiles, FailsToClose}
+use Rattle.sqlite.specs.declared.error.Error.{Error}
+use Rattle.sqlite.specs.declared.error.Error.TheVariants.{SqliteFailure}
+use Rattle.sqlite.specs.declared.error.ErrorCode.TheVariants.{CannotOpen, OutOfMemory, DatabaseBusy}
+use Rattle.sqlite.specs.declared.Leftover.{Leftover}
+use Rattle.sqlite.specs.declared.Leftover.TheVariants as leftover
 use Rattle.sqlite.specs.Start.{FindsIn}
 use Rattle.clap.specs.Words.{Text}
 use Rattle.room_acl.specs.SubjectModel.{SubjectModel}
@@ -29,7 +39,7 @@ use Rattle.room_words.specs.declared.job.Job.TheVariants.{Check, Init, Replay, S
 use Rattle.room_words.specs.CommandLine.{ReadsJob}
 use Rattle.room_program.specs.declared.fault.Fault.{Fault}
 use Rattle.room_program.specs.declared.left.Left.{Left}
-use Rattle.room_program.specs.declared.left.Left.TheVariants.{Nothing, Copied, Kept}
+use Rattle.room_program.specs.declared.left.Left.TheVariants.{Nothing, Unopened, Copied, Uncopied, Kept}
 use Rattle.room_program.specs.Machines.{Call}
 use Rattle.room_program.specs.Machines.Call.{opens, closes, leaves}
 use Rattle.room_program.specs.Files.{TakesRoster, TakesRoom, OpensStore}
@@ -44,27 +54,49 @@ use Rattle.room_program.specs.Streams.{GoesOn}
 abbrev pub IsOpenedOver : {D : Type 0} {g : Ghosts D} → Image → Held (FileStore D g) → Type 0
 IsOpenedOver image c = HasCleanDisk (file_state c) → IsOpened c × FindsIn image (file_state c)
 
--- a store that is opened is one over these files; no more is known of the calls of the system
-abbrev pub Found : {D : Type 0} {g : Ghosts D} → Image → Call (Held (FileStore D g)) → Type 0
-Found image (opens path (Some c)) = IsOpenedOver image c
-Found image other = Unit {0}
+-- two files that were just opened: they held this image, which is all that a crash may leave of them
+pub record AreJustOpened {D : Type 0} (g : Ghosts D) (image : Image) (files : Files D) : Type 0 where
+  pub shown : image_of g files ≡ image
+  pub alone : (left : Image) → outcomes g files.log files.db left → left ≡ image
+
+-- files that held this image were opened, and no store was to be had in them, for this reason: nothing is written over
+-- a database
+abbrev pub IsRefusedIn : {D : Type 0} {g : Ghosts D} → Image → Error → Leftover D g → Type 0
+IsRefusedIn {D} {g} image why rest = (files : Files D) × AreJustOpened g image files
+    × (IsCleanLeft rest → FailsToOpenFiles files rest why × LeavesFiles files rest)
+
+-- why files could not even be opened
+abbrev pub IsPathError : Error → Type 0
+IsPathError why = (why ≡ SqliteFailure CannotOpen)
+    ⊎ ((why ≡ SqliteFailure OutOfMemory) ⊎ (why ≡ SqliteFailure DatabaseBusy))
 
 -- a store was taken out of its connection, and nothing more was committed; its trees are numbered
 pub record IsLetGo {D : Type 0} {g : Ghosts D} (c : Held (FileStore D g)) (it : FileStore D g) : Type 0 where
   pub closed : IsClosed c it
   pub numbered : IsClean (store.view it) → IsTrue (store.view it).is_numbered
 
--- A store that is closed or let go is a database. Its last commit is then in the database file alone, as it reads now
--- and after a crash; or its log was not copied, and a crash leaves nothing that it could not leave before. No other
--- call gives a store up
-abbrev pub Leaves : {D : Type 0} {g : Ghosts D} → Call (Held (FileStore D g)) → (old new : Left D g) → Type 0
-Leaves {D} {g} (closes c) old (Copied files) =
-    IsLive (file_state c) × (AreClean g files.log files.db → IsCopied c files)
-Leaves (closes c) old (Kept it) = IsLive (file_state c) × IsClosed c it
-Leaves (closes c) old Nothing = ⊥
-Leaves (leaves c) old (Kept it) = IsLive (file_state c) × IsLetGo c it
-Leaves (leaves c) old other = ⊥
-Leaves other old new = new ≡ old
+-- A store that was closed is a database. Its last commit is then in the database file alone, as it reads now and after
+-- a crash; or its log could not be copied, and a crash leaves nothing that it could not leave before
+abbrev pub Closes : {D : Type 0} {g : Ghosts D} → Held (FileStore D g) → Left D g → Type 0
+Closes {D} {g} c (Copied files) = IsLive (file_state c) × (AreClean g files.log files.db → IsCopied c files)
+Closes c (Uncopied why it) =
+    IsLive (file_state c) × IsClosed c it × (IsClean (store.view it) → FailsToClose c it why)
+Closes c other = ⊥
+
+-- and so is one that was let go, of which nothing is copied
+abbrev pub LetsGo : {D : Type 0} {g : Ghosts D} → Held (FileStore D g) → Left D g → Type 0
+LetsGo c (Kept it) = IsLive (file_state c) × IsLetGo c it
+LetsGo c other = ⊥
+
+-- What a call of the system does, where the files held this image as they were opened, and what is left of the store. A
+-- store that is opened is one over these files. No other call gives a store up
+abbrev pub ActsOn : {D : Type 0} {g : Ghosts D} → Image → Call (Held (FileStore D g)) → (old new : Left D g) → Type 0
+ActsOn image (opens path (Ok c)) old new = IsOpenedOver image c × (new ≡ old)
+ActsOn {D} {g} image (opens path (Err why)) old new = (IsPathError why × (new ≡ old))
+    ⊎ ((rest : Leftover D g) × IsRefusedIn image why rest × (new ≡ Unopened rest))
+ActsOn image (closes c) old new = Closes c new
+ActsOn image (leaves c) old new = LetsGo c new
+ActsOn image other old new = new ≡ old
 
 -- ---- what files hold
 
@@ -84,19 +116,41 @@ pub record HoldsRoom (image : Image) (start : Room) (past : History) : Type 0 wh
 abbrev pub HoldsNothing : Image → Type 0
 HoldsNothing image = image.db ≡ []
 
--- A crash may leave this image of the files of a store, whose trees are numbered: a connection keeps that true of its
--- store, and the toolchain tells it only as the store is taken out of it
-pub record MayBeLeft {D : Type 0} {g : Ghosts D} (it : FileStore D g) (image : Image) : Type 0 where
-  pub may : (store.state it).may_leave image
+-- a crash may leave this image of the files of a store
+abbrev pub MayBeLeft : {D : Type 0} {g : Ghosts D} → FileStore D g → Image → Type 0
+MayBeLeft it image = (store.state it).may_leave image
+
+-- the same of a store whose trees are numbered. A connection keeps that true of its store, and the toolchain tells it
+-- only as the store is taken out of it, and not where a close or an open fails
+pub record MayBeLeftNumbered {D : Type 0} {g : Ghosts D} (it : FileStore D g) (image : Image) : Type 0 where
+  pub may : MayBeLeft it image
   pub numbered : IsTrue (store.view it).is_numbered
 
--- what the files may hold once a store was closed or let go, while the disk returned what was written: as they read
--- now, and as a crash leaves them; or, where its log was not copied, as a crash leaves the store that was given up
+-- what two files may hold: as they read now, and as a crash leaves them
+abbrev pub MayHold : {D : Type 0} → Ghosts D → Files D → Image → Type 0
+MayHold g files image = (image ≡ image_of g files) ⊎ outcomes g files.log files.db image
+
+-- and what is left of them where no store was to be had in them
+abbrev pub MayHoldStill : {D : Type 0} {g : Ghosts D} → Leftover D g → Image → Type 0
+MayHoldStill {D} {g} (leftover.Files files) image = MayHold g files image
+MayHoldStill (leftover.Unopened files) image = (state_of files).may_leave image
+MayHoldStill (leftover.Store it) image = MayBeLeftNumbered it image
+
+-- what the files may hold once a run has given them up, while the disk returned what was written: after a close as they
+-- read now, and as a crash leaves them; else as a crash leaves the store or the files that were given up
 abbrev pub IsLeftBy : {D : Type 0} {g : Ghosts D} → Left D g → Image → Type 0
 IsLeftBy Nothing image = ⊥
-IsLeftBy {D} {g} (Copied files) image =
-    AreClean g files.log files.db × ((image ≡ image_of g files) ⊎ outcomes g files.log files.db image)
+IsLeftBy (Unopened rest) image = IsCleanLeft rest × MayHoldStill rest image
+IsLeftBy {D} {g} (Copied files) image = AreClean g files.log files.db × MayHold g files image
+IsLeftBy (Uncopied why it) image = IsClean (store.view it) × MayBeLeftNumbered it image
 IsLeftBy (Kept it) image = IsClean (store.view it) × MayBeLeft it image
+
+-- Pages that end in sums, as the extension cksumvfs makes them and no room of ours, were taken for such by an open that
+-- failed: it reads that off the file, and the toolchain's clause tells the other way round alone
+abbrev pub SeesSums : {D : Type 0} {g : Ghosts D} → Image → Left D g → Type 0
+SeesSums found (Unopened (leftover.Unopened files)) = (trees : Trees) (held : HoldsDatabase found trees)
+    → IsTrue (is_summed held.0) → IsTrue (is_summed (state_of files).page_size)
+SeesSums found other = Unit {0}
 
 -- then they hold a room with this history
 abbrev pub LeavesRoom : {D : Type 0} {g : Ghosts D} → Left D g → Room → History → Type 0
@@ -113,6 +167,11 @@ GoesOnIn users start past closed left =
     × (IsTrue (file_state closed).is_open → RepresentsHistory start (records_of (file_state closed).now.trees) next
     × LeavesRoom left start next)
 
+-- no store was to be had in the files, and they hold what they held
+abbrev pub StayUnopened : {D : Type 0} {g : Ghosts D} → Image → Left D g → Type 0
+StayUnopened image left = SeesSums image left → (db : Database) → Holds image db
+    → (after : Image) → IsLeftBy left after → Holds after db
+
 -- a store that was opened was let go: where no fault has shut it, it shows what the files held, and they hold it then;
 -- and a room that they held is in them with its history, of either version, also where a fault has shut the store
 pub record IsSparedIn {D : Type 0} {g : Ghosts D} (image : Image) (let_go : Held (FileStore D g)) (left : Left D g)
@@ -127,11 +186,12 @@ abbrev pub SparesFound : {M D : Type 0} {g : Ghosts D} → (does : M → Call (H
 SparesFound {M} {D} {g} does left image begun later =
     (let_go : Held (FileStore D g)) × does begun (leaves let_go) later × IsSparedIn image let_go (left later)
 
--- no store was given up, or one was let go so
+-- no file was opened, or no store was to be had in them, or one was let go so
 abbrev pub SparesRoom : {M D : Type 0} {g : Ghosts D} → (does : M → Call (Held (FileStore D g)) → M → Type 0)
     → (left : M → Left D g) → Image → (read later : M) → Type 0
 SparesRoom {M} does left image read later =
-    (left later ≡ left read) ⊎ ((begun : M) × SparesFound does left image begun later)
+    (left later ≡ left read) ⊎ (StayUnopened image (left later)
+    ⊎ ((begun : M) × SparesFound does left image begun later))
 
 -- `serve` over files that held a room, as it ends with `closed`: the roster or the room could not be had, and the room
 -- is spared; or the store that is closed is the one that the connections left, and with its files it holds the room and
@@ -164,7 +224,7 @@ ReportsFound {M} {D} {Shelf} {g} m left image db roster kind start past before l
     × (IsTrue (file_state (m.store last)).is_open → LeavesRoom (left later) start past)))))
 
 -- `init` over files: it made a room only where they held none, and where they held nothing, they hold the fresh one
--- then. Else nothing was asked of them, or they could not be opened, or they were spared
+-- then. Else nothing was asked of them, or they were spared
 abbrev pub MakesFound : {M D : Type 0} {g : Ghosts D} → (does : M → Call (Held (FileStore D g)) → M → Type 0)
     → (left : M → Left D g) → Image → (db owner group : List ℕ)
     → (before later : M) → Result (Unit {0}) Fault → Type 0
@@ -174,7 +234,7 @@ MakesFound {M} {D} {g} does left image db owner group before later (Ok done) =
     × (HoldsNothing image → LeavesRoom (left later) (fresh_room owner group) []))
 MakesFound {M} {D} {g} does left image db owner group before later (Err fault) =
     (IsNamesFault owner group fault × (later ≡ before))
-    ⊎ ((OpensStore does db before later (Err fault) × (left later ≡ left before))
+    ⊎ ((OpensStore does db before later (Err fault) × SparesRoom does left image before later)
     ⊎ ((opened : Held (FileStore D g)) × (begun : M) × OpensStore does db before begun (Ok opened)
     × SparesFound does left image begun later))
 

@@ -1,5 +1,6 @@
 -- What a run asks of the machine that it runs on, beside its three streams.
 use Rattle.std.specs.Prelude.{ℕ, List, Bool, true, false, Option, Some, None, Result, Ok, Err}
+use Rattle.sqlite.specs.declared.error.Error.{Error}
 
 -- a call, with what it was answered; `C` are connections to stores
 pub data Call (C : Type 0) : Type 0 where
@@ -7,8 +8,8 @@ pub data Call (C : Type 0) : Type 0 where
   reads : (path : List ℕ) → (text : Option (List ℕ)) → Call C
   -- whether a file with bytes is at a path, where that can be told
   looks : (path : List ℕ) → (begun : Option Bool) → Call C
-  -- the store at a path, where it can be opened
-  opens : (path : List ℕ) → (opened : Option C) → Call C
+  -- the store at a path, or why it can't be opened
+  opens : (path : List ℕ) → (opened : Result C Error) → Call C
   -- a store is closed: as it is when it is handed in
   closes : (closed : C) → Call C
   -- a store is let go without a close

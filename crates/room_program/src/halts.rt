@@ -25,12 +25,12 @@ use sqlite_disk::{Disk, Fuse};
 use sqlite_trees::store::Store;
 
 /// The shelf of the program over two files.
-type FileShelf<D> = CachedShelf<SqlShelf<FileStore<D>>>;
+pub(crate) type FileShelf<D> = CachedShelf<SqlShelf<FileStore<D>>>;
 
 /// Where the store was there, and its rows stood for a history, a crash after an event was answered leaves rows that
 /// stand for that history, or for it with the event, and no others, and that are laid out: also where a fault shut the
 /// store on the way.
-fn answered<S: Shelf>()
+pub(crate) fn answered<S: Shelf>()
     ensures rows { (before after : S) (event : EventModel) (answered : AnswerModel) (start : Room) (past : History) →
         StandsFor start past (S.view before) → (S.view before).is_available →
         EventAnswered S.view before event answered after → (S.view after).is_intact →
@@ -43,7 +43,7 @@ fn answered<S: Shelf>()
 /// The files of a shelf, to which nothing more is written. Where they have returned what was written, and what a crash
 /// may leave of the shelf is laid out, each content that a crash may leave of them holds a room, with records that a
 /// crash may leave of the shelf.
-fn files_of<D: Disk + Drop>(shelf: FileShelf<D>) -> Files<D>
+pub(crate) fn files_of<D: Disk + Drop>(shelf: FileShelf<D>) -> Files<D>
     ensures intact { AreClean D.Disk result.log result.db → (⟦<FileShelf<D> as Shelf>⟧.view shelf).is_intact }
     ensures left { AreClean D.Disk result.log result.db → (⟦<FileShelf<D> as Shelf>⟧.view shelf).leaves_laid_out
         → (image : Image) → outcomes D.Disk result.log result.db image

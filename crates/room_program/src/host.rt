@@ -2,8 +2,9 @@
 ghost use Rattle.std.specs.Prelude.{◌≡◌, [], ◌∷◌};
 ghost use Rattle.std.specs.Net.Addr.{ipv4_octets};
 ghost use Rattle.std.specs.Net.Socket.{v4_ip, v4_port};
-ghost use Rattle.room_program.specs.Machines.Call.{closes, leaves};
-ghost use Rattle.room_program.specs.Found.{Leaves};
+ghost use Rattle.sqlite.specs.WalFiles.{image_at};
+ghost use Rattle.room_program.specs.Machines.Call.{closes, leaves, opens};
+ghost use Rattle.room_program.specs.Found.{ActsOn};
 
 use crate::left::Left;
 use crate::listening::{Listener, Server};
@@ -19,12 +20,14 @@ use std::net::{Ipv4Addr, Shutdown, SocketAddrV4, TcpListener, TcpStream};
 pub type FileConnection<S> = Connection<FileStore<FileFrom<S>>>;
 
 /// The files and sockets of the system. A store that is opened finds what `S` says that its files held, while the disk
-/// returns what was written; a close leaves its last commit in them, and where the log could not be copied, or the
-/// store is let go, nothing more is committed. No other contract says what a file or a socket gives.
+/// returns what was written, and where none is to be had in them, they hold that still; a close leaves its last commit
+/// in them, and where the log could not be copied, or the store is let go, nothing more is committed. No other contract
+/// says what a file or a socket gives.
 ///
 /// No contract can say which file a call of the system reaches, nor who else does. So these methods are to be read for
-/// it: that `open` hands on its path, as the other two hand on theirs; that nothing here writes a file but the store,
-/// nor removes one; and that `listen` listens at `local` alone, and `serve_next` has served what comes there.
+/// it: that `open` hands on its path, as the other two hand on theirs, and a store that was opened; that nothing here
+/// writes a file but the store, nor removes one; and that `listen` listens at `local` alone, and `serve_next` has
+/// served what comes there.
 pub type Host<'a, S> = HostOver<'a, S, FileFrom<S>>;
 
 /// The same, where `D` is the type of the store's two files.
@@ -63,21 +66,40 @@ fn local(port: u16) -> SocketAddrV4
     SocketAddrV4::new(Ipv4Addr::LOCALHOST, port)
 }
 
+/// Opens a store, or tells what is left of its files once they were opened, and else what was left before.
+fn open<S: Start>(
+    rt: &HostRuntime,
+    path: &str,
+    start: S,
+    left: &mut Left<FileFrom<S>>,
+) -> Result<FileConnection<S>, Error>
+    ensures { ActsOn (image_at S.Start) (opens path.now result) left.old left.new }
+{
+    match Connection::open_from(rt, path, false, start) {
+        Ok(connection) => Ok(connection),
+        Err((error, None)) => Err(error),
+        Err((error, Some(rest))) => {
+            *left = Left::Unopened(rest);
+            Err(error)
+        }
+    }
+}
+
 /// Closes a store.
 fn close<S: Start>(connection: FileConnection<S>) -> Left<FileFrom<S>>
-    ensures { Leaves (closes connection) Left.Nothing result }
+    ensures { ActsOn (image_at S.Start) (closes connection) Left.Nothing result }
 {
     // What it shows is a database.
     let _live = connection.schema();
     match connection.close_files() {
         Ok(files) => Left::Copied(files),
-        Err((_, store)) => Left::Kept(store),
+        Err((error, store)) => Left::Uncopied(error, store),
     }
 }
 
 /// Takes a store out of its connection, and copies nothing.
 fn keep<S: Start>(connection: FileConnection<S>) -> Left<FileFrom<S>>
-    ensures { Leaves (leaves connection) Left.Nothing result }
+    ensures { ActsOn (image_at S.Start) (leaves connection) Left.Nothing result }
 {
     // What it shows is a database.
     let _live = connection.schema();
@@ -86,9 +108,9 @@ fn keep<S: Start>(connection: FileConnection<S>) -> Left<FileFrom<S>>
 
 impl<'a, S: Start> Machine<FileConnection<S>> for Host<'a, S> {
     ghost use Rattle.sqlite.specs.WalFiles.{image_at};
-    ghost use Rattle.room_program.specs.Found.{Found, Leaves};
+    ghost use Rattle.room_program.specs.Found.{ActsOn};
 
-    ghost does = { λ old call new. Found (image_at S.Start) call × Leaves call old.left new.left };
+    ghost does = { λ old call new. ActsOn (image_at S.Start) call old.left new.left };
 
     fn read_text(&mut self, path: &str) -> io::Result<String> {
         fs::read_to_string(self.rt, path)
@@ -106,10 +128,7 @@ impl<'a, S: Start> Machine<FileConnection<S>> for Host<'a, S> {
         let Some(start) = self.start.take() else {
             return Err(Error::SqliteFailure(ErrorCode::CannotOpen));
         };
-        match Connection::open_from(self.rt, path, false, start) {
-            Ok(connection) => Ok(connection),
-            Err((error, _)) => Err(error),
-        }
+        open(self.rt, path, start, &mut self.left)
     }
 
     fn close(&mut self, connection: FileConnection<S>) {

@@ -2,6 +2,8 @@
 ghost use Rattle.std.specs.Prelude.{◌≡◌, ◌⊎◌, ℕ, List, ◌∷◌, Option, Result, false, Ok, Err, IsTrue};
 ghost use Rattle.sqlite.specs.WalFiles.{image_at};
 ghost use Rattle.sqlite.specs.Recovery.{Image};
+ghost use Rattle.sqlite.specs.FileStore.{view};
+ghost use Rattle.sqlite.specs.View.{IsClean};
 ghost use Rattle.sqlite.specs.State.{HasCleanDisk};
 ghost use Rattle.sqlite.specs.Files.{file_state};
 ghost use Rattle.room_acl.specs.SubjectModel.{SubjectModel};
@@ -17,12 +19,12 @@ ghost use Rattle.room_desk.specs.Serving.{EventAnswered, MayAnswer};
 ghost use Rattle.room_program.specs.declared.fault.Fault.{Fault};
 ghost use Rattle.room_program.specs.Calls.{ServesEach};
 ghost use Rattle.room_program.specs.Ends.{InitEnds};
-ghost use Rattle.room_program.specs.Files.{Adopted, Made, Takes, TakesRoom, Unmade};
+ghost use Rattle.room_program.specs.Files.{Adopted, Made, Takes, TakesRoom, Unmade, Untaken};
 ghost use Rattle.room_program.specs.Machines.Call.{closes, leaves};
 ghost use Rattle.room_program.specs.Rooms.{Listens, WritesReport};
 ghost use Rattle.room_words.specs.declared.job.ReportKind.{ReportKind};
 ghost use Rattle.room_program.specs.Streams.{Served};
-ghost use Rattle.room_program.specs.Found.{HoldsRoom, IsOpenedOver, IsLeftBy, MayBeLeft};
+ghost use Rattle.room_program.specs.Found.{HoldsRoom, IsOpenedOver, IsLeftBy, MayBeLeft, SeesSums};
 ghost use Rattle.room_program.specs.Restarts.{ActsOnce, AnswersOrMore};
 ghost use Rattle.room_program.specs.Restarts.{Steps, KeepsRoom, KeepsRoomOrMore, HoldsStill};
 ghost use Rattle.room_program.specs.Restarts.{GoesOnBySome, GoesOnOrMore};
@@ -52,9 +54,10 @@ pub fn a_room_outlives_its_runs()
     ensures still { (found left : Image) → HoldsStill found left → KeepsRoomOrMore found left }
 {}
 
-/// A run that ends keeps the room: a `serve` that took it and closed it (`serve`), and a `report`, which lets it go
-/// (`report`), where no fault had shut the store. One that could not take it left it with the same history, whatever
-/// the fault, also one in the middle of an upgrade (`untaken`); and so did an `init` over it (`init`).
+/// A run that ends keeps the room: a `serve` that took it and closed it (`serve`), and where a fault had shut its
+/// store, perhaps with one event more (`serve_shut`). A `report`, which lets it go, left it with the same history
+/// (`report`); so did a run that could not take it, whatever the fault, also one in the middle of an upgrade
+/// (`untaken`), and an `init` over it (`init`).
 pub fn a_run_that_ends_keeps_the_room<S: Start>()
     ensures serve { (db : List ℕ) (users : List SubjectModel) (port count : ℕ) (read taken over later : _)
         (shelf last : _) (done : Result (Unit {0}) Fault) (left : Image) →
@@ -64,8 +67,16 @@ pub fn a_run_that_ends_keeps_the_room<S: Start>()
         ⟦<Host<'static, S> as Listener>⟧.accepts ⟦<Host<'static, S> as Listener>⟧.fails
         ⟦<CachedShelf<SqlShelf<FileStore<FileFrom<S>>>> as Shelf>⟧.view users port count taken over shelf last done →
         ⟦<Host<'static, S> as Machine<FileConnection<S>>>⟧.does over (closes last.0.conn) later →
-        HasCleanDisk (file_state last.0.conn) → IsTrue (file_state last.0.conn).is_open →
-        IsLeftBy later.left left → KeepsRoom (image_at S.Start) left }
+        IsTrue (file_state last.0.conn).is_open → IsLeftBy later.left left → KeepsRoom (image_at S.Start) left }
+    ensures serve_shut { (db : List ℕ) (users : List SubjectModel) (port count : ℕ) (read taken over later : _)
+        (shelf last : _) (done : Result (Unit {0}) Fault) (left : Image) →
+        TakesRoom ⟦<Host<'static, S> as Machine<FileConnection<S>>>⟧.does
+        (λ opened taken. Takes ⟦<FileStore<FileFrom<S>> as Store>⟧ opened taken) db read taken (Ok shelf) →
+        Listens ⟦<Host<'static, S> as Machine<FileConnection<S>>>⟧.does
+        ⟦<Host<'static, S> as Listener>⟧.accepts ⟦<Host<'static, S> as Listener>⟧.fails
+        ⟦<CachedShelf<SqlShelf<FileStore<FileFrom<S>>>> as Shelf>⟧.view users port count taken over shelf last done →
+        ⟦<Host<'static, S> as Machine<FileConnection<S>>>⟧.does over (closes last.0.conn) later →
+        IsLeftBy later.left left → KeepsRoomOrMore (image_at S.Start) left }
     ensures report { (db : List ℕ) (kind : ReportKind) (users : List SubjectModel) (read seen later : _)
         (taken last : _) (old new : Option (List ℕ)) (done : Result (Unit {0}) Fault) (left : Image) →
         TakesRoom ⟦<Host<'static, S> as Machine<FileConnection<S>>>⟧.does
@@ -73,47 +84,54 @@ pub fn a_run_that_ends_keeps_the_room<S: Start>()
         WritesReport ⟦<CachedShelf<SqlShelf<FileStore<FileFrom<S>>>> as Shelf>⟧.view
         kind users taken last old new done →
         ⟦<Host<'static, S> as Machine<FileConnection<S>>>⟧.does seen (leaves last.0.conn) later →
-        HasCleanDisk (file_state last.0.conn) → IsTrue (file_state last.0.conn).is_open →
-        IsLeftBy later.left left → KeepsRoom (image_at S.Start) left }
+        IsLeftBy later.left left → HoldsStill (image_at S.Start) left }
     ensures untaken { (db : List ℕ) (read later : _) (why : Fault) (left : Image) →
         TakesRoom ⟦<Host<'static, S> as Machine<FileConnection<S>>>⟧.does
         (λ opened taken. Takes ⟦<FileStore<FileFrom<S>> as Store>⟧ opened taken) db read later (Err why) →
-        read.left ≡ Left.Nothing → IsLeftBy later.left left → HoldsStill (image_at S.Start) left }
+        read.left ≡ Left.Nothing → SeesSums (image_at S.Start) later.left → IsLeftBy later.left left
+        → HoldsStill (image_at S.Start) left }
     ensures init { (db owner group : List ℕ) (before later : _) (why : Fault) (left : Image) →
         InitEnds ⟦<Host<'static, S> as Machine<FileConnection<S>>>⟧.does
         (Made ⟦<FileStore<FileFrom<S>> as Store>⟧ owner group)
         (Unmade ⟦<FileStore<FileFrom<S>> as Store>⟧ owner group) db owner group before later (Err why) →
-        before.left ≡ Left.Nothing → IsLeftBy later.left left → HoldsStill (image_at S.Start) left }
-{}
+        before.left ≡ Left.Nothing → SeesSums (image_at S.Start) later.left → IsLeftBy later.left left
+        → HoldsStill (image_at S.Start) left }
+{
+    connections_leave_what_was_answered::<
+        Host<'static, S>,
+        CachedShelf<SqlShelf<FileStore<FileFrom<S>>>>,
+    >();
+}
 
 /// And so does one that stops between two connections, with the shelf `last`, while its store is there: a crash may
 /// leave the image `left` of its files. Each of the `count` connections before was served as `Desk::serve` promises
 /// (`there`: the invariant of `serve_listener`, whose own clause a run that stops never reaches). So does a `report`
-/// (`report`). Once a fault has shut the store, it keeps the room, or the room with one event more (`shut`).
+/// (`report`). Once a fault has shut the store, it keeps the room, or the room with one event more (`shut`). The store
+/// has returned what was written, also as it is taken out of its connection.
 pub fn a_run_that_stops_keeps_the_room<S: Start>(
     last: CachedShelf<SqlShelf<FileStore<FileFrom<S>>>>,
-)
+) -> FileStore<FileFrom<S>>
     ensures there { (opened : _) (taken : _) (users : List SubjectModel) (count : ℕ) (bound over : _) (left : Image) →
         IsOpenedOver (image_at S.Start) opened → Adopted ⟦<FileStore<FileFrom<S>> as Store>⟧ opened taken →
         ServesEach ⟦<Host<'static, S> as Listener>⟧.accepts
         (Served ⟦<CachedShelf<SqlShelf<FileStore<FileFrom<S>>>> as Shelf>⟧.view users) count bound over taken last →
-        HasCleanDisk (file_state last.0.conn) → IsTrue (file_state last.0.conn).is_open →
+        IsClean (view result) → IsTrue (file_state last.0.conn).is_open →
         MayBeLeft last.0.conn.store left → KeepsRoom (image_at S.Start) left }
     ensures report { (opened : _) (taken : _) (kind : ReportKind) (users : List SubjectModel)
         (old new : Option (List ℕ)) (done : Result (Unit {0}) Fault) (left : Image) →
         IsOpenedOver (image_at S.Start) opened → Adopted ⟦<FileStore<FileFrom<S>> as Store>⟧ opened taken →
         WritesReport ⟦<CachedShelf<SqlShelf<FileStore<FileFrom<S>>>> as Shelf>⟧.view
         kind users taken last old new done →
-        HasCleanDisk (file_state last.0.conn) → IsTrue (file_state last.0.conn).is_open →
+        IsClean (view result) → IsTrue (file_state last.0.conn).is_open →
         MayBeLeft last.0.conn.store left → KeepsRoom (image_at S.Start) left }
     ensures shut { (opened : _) (taken : _) (users : List SubjectModel) (left : Image) →
         IsOpenedOver (image_at S.Start) opened → Adopted ⟦<FileStore<FileFrom<S>> as Store>⟧ opened taken →
         AnswersOrMore ⟦<CachedShelf<SqlShelf<FileStore<FileFrom<S>>>> as Shelf>⟧.view users taken last →
-        HasCleanDisk (file_state last.0.conn) → MayBeLeft last.0.conn.store left →
-        KeepsRoomOrMore (image_at S.Start) left }
+        IsClean (view result) → MayBeLeft last.0.conn.store left → KeepsRoomOrMore (image_at S.Start) left }
 {
     let connection = last.into_inner().into_connection();
     let _live = connection.schema();
+    connection.into_store()
 }
 
 /// However many connections were served over a shelf whose store was there, and some messages of one more, a crash then
@@ -133,8 +151,9 @@ pub fn connections_leave_what_was_answered<L: Listener, S: Shelf>()
 pub fn the_next_run_finds_what_this_one_saw<S: Start, T: Start>(
     was: SqlShelf<FileStore<FileFrom<S>>>,
     opened: &FileConnection<T>,
-)
-    ensures stop { IsTrue (file_state was.conn).is_open → MayBeLeft was.conn.store (image_at T.Start) →
+) -> FileStore<FileFrom<S>>
+    ensures stop { IsTrue (file_state was.conn).is_open → IsClean (view result) →
+        MayBeLeft was.conn.store (image_at T.Start) →
         IsOpenedOver (image_at T.Start) opened.now → HasCleanDisk (file_state opened.now) →
         (file_state opened.now).now ≡ (file_state was.conn).now }
     ensures closed { (over later : _) →
@@ -142,7 +161,7 @@ pub fn the_next_run_finds_what_this_one_saw<S: Start, T: Start>(
         IsTrue (file_state was.conn).is_open → IsLeftBy later.left (image_at T.Start) →
         IsOpenedOver (image_at T.Start) opened.now → HasCleanDisk (file_state opened.now) →
         (file_state opened.now).now ≡ (file_state was.conn).now }
-    ensures shut { HasCleanDisk (file_state was.conn)
+    ensures shut { IsClean (view result)
         → (⟦<SqlShelf<FileStore<FileFrom<S>>> as Shelf>⟧.view was).leaves_laid_out
         → MayBeLeft was.conn.store (image_at T.Start) →
         IsOpenedOver (image_at T.Start) opened.now → HasCleanDisk (file_state opened.now) →
@@ -153,7 +172,17 @@ pub fn the_next_run_finds_what_this_one_saw<S: Start, T: Start>(
     let _opened = opened;
     let connection = was.into_connection();
     let _live = connection.schema();
+    connection.into_store()
 }
+
+/// What holds a room is not refused as none: `not a room` comes of no store that was opened over it, while the disk
+/// returned what was written.
+pub fn what_holds_a_room_is_a_room<S: Start>()
+    ensures { (opened let_go : _) (start : Room) (past : History) → HoldsRoom (image_at S.Start) start past →
+        IsOpenedOver (image_at S.Start) opened →
+        Untaken ⟦<FileStore<FileFrom<S>> as Store>⟧ opened let_go Fault.NotARoom →
+        HasCleanDisk (file_state let_go) → ⊥ }
+{}
 
 /// An event got no answer, as its run stopped, and is sent again first to the next run, which took the room in files of
 /// `S`. They hold it with the history without the event, or with it. It is answered as it would have been, and the

@@ -7,6 +7,7 @@
 mod fault;
 mod halts;
 mod host;
+mod instance;
 mod laws;
 mod left;
 mod listening;
@@ -27,9 +28,11 @@ pub use halts::{
     a_take_cut_off_leaves_the_room, an_event_cut_off_acts_once, an_event_cut_off_leaves_old_or_new,
 };
 pub use host::{FileConnection, Host, HostOver};
+pub use instance::{a_room_is_asked_again, a_room_is_made};
 pub use laws::{
     a_room_outlives_its_runs, a_run_that_ends_keeps_the_room, a_run_that_stops_keeps_the_room,
     an_event_sent_again_to_the_next_run_acts_once, the_next_run_finds_what_this_one_saw,
+    what_holds_a_room_is_a_room,
 };
 pub use left::Left;
 pub use listening::{Listener, Server};

@@ -23,7 +23,7 @@ pub trait Machine<C> {
 
     /// Opens the store at this path, or makes it.
     fn open(&mut self, path: &str) -> Result<C, Error>
-        ensures opened { does self.old (opens path.now (answer result)) self.new };
+        ensures opened { does self.old (opens path.now result) self.new };
 
     /// Closes a store, so that the log beside its file is copied into it. Where that fails, both files
     /// together hold what was written.

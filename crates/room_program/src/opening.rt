@@ -1,5 +1,5 @@
 //! The room in a file.
-ghost use Rattle.std.specs.Prelude.{◌≡◌, false, IfOk, IsTrue};
+ghost use Rattle.std.specs.Prelude.{◌≡◌, false, IfErr, IfOk, IsTrue};
 ghost use Rattle.sqlite.specs.Held.{state};
 ghost use Rattle.room_program.specs.Files.{Adopts, OpensRoom, OpensStore, Takes, TakesRoom};
 ghost use Rattle.room_program.specs.Machines.Call.{leaves};
@@ -12,6 +12,22 @@ use sqlite::{Alter, Connection, Error, ErrorCode};
 use std::alloc::Global;
 use std::io::ErrorKind;
 
+/// A store that was just opened is outside a transaction; one that is not is let go.
+fn outside<S: Alter + Drop, M: Machine<Connection<S>>>(
+    machine: &mut M,
+    connection: Connection<S>,
+) -> Result<Connection<S>, Fault>
+    ensures kept { IfOk result (λ c. (c ≡ connection) × (machine.new ≡ machine.old) × (c.in_transaction ≡ false)) }
+    ensures left { IfErr result
+        (λ why. (why ≡ Fault.StoreFailed) × M.does machine.old (leaves connection) machine.new) }
+{
+    if connection.is_autocommit() {
+        return Ok(connection);
+    }
+    machine.leave(connection);
+    Err(Fault::StoreFailed)
+}
+
 /// Opens the store at this path, or makes it.
 pub(crate) fn open<S: Alter + Drop, M: Machine<Connection<S>>>(
     machine: &mut M,
@@ -21,9 +37,7 @@ pub(crate) fn open<S: Alter + Drop, M: Machine<Connection<S>>>(
     ensures outside { IfOk result (λ c. c.in_transaction ≡ false) }
 {
     match machine.open(path) {
-        // A store that was just opened is outside a transaction.
-        Ok(connection) if connection.is_autocommit() => Ok(connection),
-        Ok(_) => Err(Fault::StoreFailed),
+        Ok(connection) => outside(machine, connection),
         Err(Error::SqliteFailure(ErrorCode::OutOfMemory)) => Err(Fault::Memory),
         Err(_) => Err(Fault::StoreFailed),
     }

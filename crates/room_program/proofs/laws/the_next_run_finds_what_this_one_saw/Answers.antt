@@ -2,25 +2,30 @@ use Rattle.std.proofs.Common.{inl, refl, subst}
 use Rattle.sqlite.specs.State.{IsLive}
 use Rattle.sqlite.specs.Files.{file_state}
 use Rattle.sqlite.specs.WalFiles.{image_at}
-use Rattle.room_program.proofs.Restarts.{found_records}
+use Rattle.room_program.proofs.Restarts.{found_records, was_numbered}
 use Rattle.room_program.proofs.Found.{found_database, stopped_holds, closed_holds}
 use Rattle.room_program.proofs.laws.the_next_run_finds_what_this_one_saw.Goals as goal
 
 pub returns-clause-stop : goal.returns-clause-stop
-returns-clause-stop g c is_open may is there =
+returns-clause-stop g c is_open sure may is there =
     let same = c.into_connection-connection.ensures.same in
     let live = subst (λ k. IsLive (file_state k)) same c.schema-live.ensures.live in
+    let store = c.into_store.ensures in
+    let (clean, numbered) = was_numbered _ _ _ same _ store.quiet store.undone store.numbered sure in
     found_database _ (image_at g.T.Start) _
-    (stopped_holds _ (λ file. inl refl) c.args.was (image_at g.T.Start) live is_open may)
+    (stopped_holds _ (λ file. inl refl) c.args.was (image_at g.T.Start) live is_open numbered may)
     c.args.opened.now is there
 
 pub returns-clause-closed : goal.returns-clause-closed
 returns-clause-closed g c over later closed is_open at is there =
     found_database _ (image_at g.T.Start) _
-    (closed_holds _ (λ file. inl refl) c.args.was.conn over.left later.left (image_at g.T.Start) closed.1 is_open
+    (closed_holds _ (λ file. inl refl) c.args.was.conn later.left (image_at g.T.Start) closed is_open
     (c.args.was.rests is_open) at)
     c.args.opened.now is there
 
 pub returns-clause-shut : goal.returns-clause-shut
-returns-clause-shut g c clean laid may is there =
-    found_records _ _ c.args.was (image_at g.T.Start) c.args.opened.now clean laid may is there
+returns-clause-shut g c sure laid may is there =
+    let same = c.into_connection-connection.ensures.same in
+    let store = c.into_store.ensures in
+    let (clean, numbered) = was_numbered _ _ _ same _ store.quiet store.undone store.numbered sure in
+    found_records _ _ c.args.was (image_at g.T.Start) c.args.opened.now clean laid numbered may is there
