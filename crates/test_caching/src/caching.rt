@@ -52,8 +52,9 @@ impl Row {
     }
 }
 
-/// Each row is asked for once, but for documents, lists of nodes and what a slot keeps, which tells its number too.
-static ONCE: [Row; 29] = [
+/// Each row is asked for once, but for documents and lists of nodes. What a slot keeps tells its number too; its number
+/// does not tell what it keeps.
+static ONCE: [Row; 31] = [
     Asks(Node),
     Asks(Child("a")),
     Asks(Names),
@@ -65,7 +66,7 @@ static ONCE: [Row; 29] = [
     Asks(Seq(0, 1)),
     Asks(Slot(0, 2)),
     Knows(Seq(0, 2)),
-    Asks(Slot(0, 2)),
+    Knows(Slot(0, 2)),
     Knows(Node),
     Knows(Child("a")),
     Knows(Names),
@@ -75,6 +76,8 @@ static ONCE: [Row; 29] = [
     Knows(Session),
     Knows(Seq(0, 0)),
     Knows(Seq(0, 1)),
+    Asks(Slot(0, 1)),
+    Knows(Slot(0, 1)),
     Asks(Children),
     Asks(Children),
     Asks(ChildCount),
@@ -106,8 +109,8 @@ static DECISIONS: [Row; 17] = [
     Knows(Decide("ann", "ann", 1)),
 ];
 
-/// Commits leave what they don't touch, and the numbers that they put in slots are remembered.
-static OVER_COMMITS: [Row; 12] = [
+/// Commits leave what they don't touch, and what they put in slots is remembered.
+static OVER_COMMITS: [Row; 14] = [
     Asks(Names),
     Asks(Session),
     Asks(Child("a")),
@@ -120,6 +123,8 @@ static OVER_COMMITS: [Row; 12] = [
     Knows(Child("b")),
     Knows(Seq(0, 0)),
     Knows(Seq(0, 1)),
+    Knows(Slot(0, 0)),
+    Knows(Slot(0, 1)),
 ];
 
 /// Whether the list of the root decides for this user, where this one is the owner, of these rights.

@@ -1,9 +1,6 @@
 //! Files in memory, and what they hold.
 ghost use Rattle.std.specs.Prelude.{◌≡◌, false, IfOk};
 
-use crate::flaky::Flaky;
-use crate::halting::Halting;
-use crate::narrow::Narrow;
 use sqlite::{Connection, FileStore, Options};
 use sqlite_disk::{Crash, Disk, Files, Fuse, Memory, Rot};
 use std::alloc::Global;
@@ -28,24 +25,6 @@ impl Kept for Fuse<Memory> {
     }
 }
 
-impl Kept for Flaky<Memory> {
-    fn file_bytes(&self) -> &[u8] {
-        self.inner().bytes()
-    }
-}
-
-impl Kept for Narrow<Memory> {
-    fn file_bytes(&self) -> &[u8] {
-        self.inner().bytes()
-    }
-}
-
-impl Kept for Halting<Memory> {
-    fn file_bytes(&self) -> &[u8] {
-        self.inner().bytes()
-    }
-}
-
 impl Kept for Rot<Memory> {
     fn file_bytes(&self) -> &[u8] {
         self.inner().bytes()
@@ -64,18 +43,16 @@ impl Failing for Fuse<Memory> {
     }
 }
 
-/// The call of this number fails.
-impl Failing for Flaky<Memory> {
-    fn over(file: Memory, place: u64) -> Flaky<Memory> {
-        Flaky::new(file, place, 1)
-    }
-}
-
 /// The byte at this place is damaged.
 impl Failing for Rot<Memory> {
     fn over(file: Memory, place: u64) -> Rot<Memory> {
         Rot::new(file, place as usize)
     }
+}
+
+/// Whether a disk stopped: it fails the next call too, or may be used no more.
+pub fn has_stopped<D: Disk>(disk: &mut D) -> bool {
+    !disk.may_be_used() || disk.len().is_err()
 }
 
 pub fn held_by<D: Kept>(alloc: Global, files: &Files<D>) -> Result<Held, Fail> {
@@ -120,6 +97,11 @@ pub fn opened_again(alloc: Global, held: &Held) -> Result<Connection<FileStore<M
         Ok(conn) => Ok(conn),
         Err(_) => Err(Fail::new("not opened again")),
     }
+}
+
+/// The files of a connection, with no IO.
+pub fn files_of<D: Disk + Drop>(conn: Connection<FileStore<D>>) -> Files<D> {
+    conn.into_store().close()
 }
 
 /// Options under which a large change goes to the log before it is committed, and the log is often copied into the

@@ -29,17 +29,20 @@ pub static CHANGES_ALL: [Step; 4] = [
     ),
 ];
 
+/// The command that makes one of them, and its answer.
+fn maker(alloc: Global, number: u32) -> Result<(String, &'static str), Fail> {
+    let folder = number / 10;
+    if number % 10 == 0 {
+        let text = format!(in alloc; r#"{{"cmd":"MKDIR","path":"/d/{folder}"}}"#)?;
+        return Ok((text, r#"{"code":0}"#));
+    }
+    let text = format!(in alloc; r#"{{"cmd":"CREATE","data":"","path":"/d/{folder}/{number}"}}"#)?;
+    Ok((text, r#"{"code":0,"size":0}"#))
+}
+
 /// Makes one of them, by a request of the second slot.
 fn make_one<P: Shelf>(alloc: Global, desk: &mut Desk<P>, number: u32) -> Result<(), Fail> {
-    let folder = number / 10;
-    let (command, wanted) = if number % 10 == 0 {
-        let text = format!(in alloc; r#"{{"cmd":"MKDIR","path":"/d/{folder}"}}"#)?;
-        (text, r#"{"code":0}"#)
-    } else {
-        let path = format!(in alloc; "/d/{folder}/{number}")?;
-        let text = format!(in alloc; r#"{{"cmd":"CREATE","data":"","path":"{path}"}}"#)?;
-        (text, r#"{"code":0,"size":0}"#)
-    };
+    let (command, wanted) = maker(alloc, number)?;
     let request = request(alloc, 1, number.saturating_add(1), command.as_str())?;
     if !is_wanted(&desk.handle(&request), wanted)? {
         return Err(Fail::new("DELAY where nothing fails"));

@@ -1,14 +1,13 @@
-//! Rooms in tables, and all that is in them after each step of the story.
-use crate::disks::{held_by, opened_again};
-use crate::runs::files_of;
-use crate::story::{STEPS, STORY, Step, has_answer, is_answered, play_to_end};
+//! Rooms in tables, and all that is in them after each step of a story.
+use crate::disks::{files_of, held_by, opened_again};
+use crate::story::{Step, has_answer};
 use room_desk::Desk;
-use room_records::Shelf;
+use room_sql::{OpenFault, SqlShelf};
 use sqlite::{Alter, Connection, FileStore};
 use sqlite_disk::Memory;
 use std::alloc::Global;
 use std::test::Fail;
-use test_stores::{Held, in_tables, made, shown, taken};
+use test_stores::{Held, adopt, init, made, make_version_1, shown, taken};
 
 /// What shows a room of version 2 whole.
 const ALL: [&str; 7] = [
@@ -39,6 +38,13 @@ fn with_room<S: Alter + Drop>(alloc: Global, conn: Connection<S>) -> Result<Conn
     Ok(made(alloc, conn)?.into_connection())
 }
 
+/// A room of version 1 that is made in a database.
+fn with_version_1<S: Alter + Drop>(conn: Connection<S>) -> Result<Connection<S>, Fail> {
+    let mut conn = conn;
+    make_version_1(&mut conn)?;
+    Ok(conn)
+}
+
 /// A database in new files.
 pub fn new_files(alloc: Global) -> Result<Connection<FileStore<Memory>>, Fail> {
     let nothing = Held {
@@ -64,6 +70,29 @@ pub fn left_in(
 /// What the files of a fresh room hold.
 pub fn fresh_room(alloc: Global, in_log: bool) -> Result<Held, Fail> {
     left_in(alloc, with_room(alloc, new_files(alloc)?)?, in_log)
+}
+
+/// What the files of a room of version 1 hold.
+pub fn room_of_version_1(alloc: Global, in_log: bool) -> Result<Held, Fail> {
+    left_in(alloc, with_version_1(new_files(alloc)?)?, in_log)
+}
+
+/// A room that is made in a database, or is there; or the database where the store failed.
+pub fn begun<S: Alter + Drop>(
+    alloc: Global,
+    conn: Connection<S>,
+    is_new: bool,
+) -> Result<Result<SqlShelf<S>, Connection<S>>, Fail> {
+    let begun = if is_new {
+        init(alloc, conn)?
+    } else {
+        adopt(alloc, conn)?
+    };
+    match begun {
+        Ok(shelf) => Ok(Ok(shelf)),
+        Err((OpenFault::Store, conn)) => Ok(Err(conn)),
+        Err((fault, _)) => Err(Fail::new(format_args!("another fault: {fault:?}"))),
+    }
 }
 
 /// A step over a room whose files do not fail is answered.
@@ -97,77 +126,10 @@ pub fn stages_of<S: Alter + Drop>(
     Ok((stages, conn))
 }
 
-/// What a fresh room is after no step of the story, after one, and so on.
-pub fn stages(alloc: Global) -> Result<Vec<String>, Fail> {
-    let (stages, _) = stages_of(alloc, in_tables(alloc)?.into_connection(), &STORY)?;
-    Ok(stages)
-}
-
 /// Whether the room is as after so many steps.
 pub fn is_at(stages: &[String], at: usize, found: &str) -> bool {
     match stages.get(at) {
         Some(stage) => stage.as_str() == found,
         None => false,
     }
-}
-
-/// The last reply is given again, where no request followed it, and the rest of the story follows.
-fn play_on<S: Shelf>(
-    alloc: Global,
-    desk: &mut Desk<S>,
-    answered: usize,
-    is_last: bool,
-) -> Result<(), Fail> {
-    if is_last && 0 < answered && !is_answered(alloc, desk, answered - 1)? {
-        return Err(Fail::new("a kept reply is not given"));
-    }
-    play_to_end(alloc, desk, answered)
-}
-
-/// The room is as after so many steps, or as after one more; whether it is as after so many.
-fn has_last(stages: &[String], answered: usize, found: &str) -> Result<bool, Fail> {
-    if is_at(stages, answered, found) {
-        return Ok(true);
-    }
-    if is_at(stages, answered.saturating_add(1), found) {
-        return Ok(false);
-    }
-    Err(Fail::new(format_args!("after {answered} steps: {found}")))
-}
-
-/// The rest of the story over a room.
-fn play_rest<S: Alter + Drop>(
-    alloc: Global,
-    conn: Connection<S>,
-    answered: usize,
-    is_last: bool,
-) -> Result<Connection<S>, Fail> {
-    let mut desk = Desk::new(alloc, taken(alloc, conn)?);
-    let end = play_on(alloc, &mut desk, answered, is_last);
-    let conn = desk.into_shelf().into_connection();
-    end?;
-    Ok(conn)
-}
-
-fn goes_on_in<S: Alter + Drop>(
-    alloc: Global,
-    conn: Connection<S>,
-    stages: &[String],
-    answered: usize,
-) -> Result<(), Fail> {
-    let mut conn = conn;
-    let found = contents(alloc, &mut conn)?;
-    let is_last = has_last(stages, answered, found.as_str())?;
-    let mut conn = play_rest(alloc, conn, answered, is_last)?;
-    if !is_at(stages, STEPS, contents(alloc, &mut conn)?.as_str()) {
-        return Err(Fail::new(format_args!("another room than the story's, from {answered}")));
-    }
-    Ok(())
-}
-
-/// The files hold the room as after the steps that were answered, or after the one that followed as well. Opened
-/// again, the one that was answered DELAY is sent and acts once, the rest of the story follows, and the room is as
-/// after the whole story.
-pub fn goes_on(alloc: Global, held: &Held, stages: &[String], answered: usize) -> Result<(), Fail> {
-    goes_on_in(alloc, opened_again(alloc, held)?, stages, answered)
 }

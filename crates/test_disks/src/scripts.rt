@@ -1,11 +1,9 @@
-//! A script of requests while the log, or the database file, stops at each of its calls.
+//! A script of requests while the log, or the database file, stops at each of its calls or has a damaged byte.
 use crate::disks::{small, spilling};
 use crate::followers::{CHANGES_ALL, FOLLOWERS, room_of_followers};
-use crate::halting::Part;
-use crate::rooms::fresh_room;
-use crate::scenes::is_within;
-use crate::story::TWO_PIECES;
-use crate::trials::{Met, Start, Stop, Trial};
+use crate::rooms::{fresh_room, room_of_version_1};
+use crate::story::{AFTER_VERSION_1, STORY, TWO_PIECES};
+use crate::trials::{Start, Trial};
 use sqlite::Options;
 use std::alloc::Global;
 use std::test::Fail;
@@ -21,13 +19,30 @@ fn of_a_new_room(alloc: Global, options: Options) -> Result<Trial, Fail> {
     Trial::new(alloc, start, options, &TWO_PIECES)
 }
 
-/// A fresh room is taken, and the requests follow.
+/// A fresh room is taken, which is in the database file or in the log, and the story follows.
 fn of_a_fresh_room(alloc: Global, in_log: bool, options: Options) -> Result<Trial, Fail> {
     let start = Start {
         held: fresh_room(alloc, in_log)?,
         is_new: false,
     };
-    Trial::new(alloc, start, options, &TWO_PIECES)
+    Trial::new(alloc, start, options, &STORY)
+}
+
+/// A room of version 1 is taken over, and the slot goes on.
+fn of_version_1(alloc: Global, in_log: bool, options: Options) -> Result<Trial, Fail> {
+    let start = Start {
+        held: room_of_version_1(alloc, in_log)?,
+        is_new: false,
+    };
+    Trial::new(alloc, start, options, &AFTER_VERSION_1)
+}
+
+/// A number is between two others, or one of them.
+fn is_within(number: u64, least: u64, most: u64, what: &str) -> Result<(), Fail> {
+    if least <= number && number <= most {
+        return Ok(());
+    }
+    Err(Fail::new(format_args!("{number} {what}, and not {least} to {most}")))
 }
 
 /// A room is taken in which a hundred objects follow one folder, whose list is then changed.
@@ -46,102 +61,94 @@ fn of_followers(alloc: Global, options: Options) -> Result<Trial, Fail> {
     Ok(trial)
 }
 
-/// A file stops so many times at least. Where a part of a write is to be done, so it is at a quarter of the stops at
-/// least: the others are at writes of one byte.
-fn stops(trial: &Trial, in_log: bool, part: Part, least: u64) -> Result<(), Fail> {
-    let met = trial.stops(Stop { in_log, part })?;
-    is_within(met.stops, least, 2000, "stops")?;
-    let (from, to) = if part.is_nothing() {
-        (0, 0)
-    } else {
-        (met.stops / 4, met.stops)
-    };
-    is_within(met.torn, from, to, "torn writes")
+/// A file stops so many times at least.
+fn stops(trial: &Trial, in_log: bool, least: u64) -> Result<(), Fail> {
+    is_within(trial.stops(in_log)?, least, 2000, "stops")
 }
 
 /// The log stops, and the database file, each so many times at least.
-fn both_stop(trial: &Trial, part: Part, in_log: u64, in_db: u64) -> Result<(), Fail> {
-    stops(trial, true, part, in_log)?;
-    stops(trial, false, part, in_db)
+fn both_stop(trial: &Trial, in_log: u64, in_db: u64) -> Result<(), Fail> {
+    stops(trial, true, in_log)?;
+    stops(trial, false, in_db)
 }
 
 #[test]
 fn a_new_room(rt: HostRuntime) -> Result<(), Fail> {
-    let trial = of_a_new_room(rt.alloc(), Options::new(1))?;
-    both_stop(&trial, Part::Nothing, 40, 10)
+    both_stop(&of_a_new_room(rt.alloc(), Options::new(1))?, 40, 10)
 }
 
 #[test]
 fn a_new_room_with_a_busy_log(rt: HostRuntime) -> Result<(), Fail> {
-    let trial = of_a_new_room(rt.alloc(), small())?;
-    stops(&trial, true, Part::Nothing, 60)
+    stops(&of_a_new_room(rt.alloc(), small())?, true, 60)
 }
 
 #[test]
 fn a_new_room_with_a_busy_database_file(rt: HostRuntime) -> Result<(), Fail> {
-    let trial = of_a_new_room(rt.alloc(), small())?;
-    stops(&trial, false, Part::Nothing, 20)
+    stops(&of_a_new_room(rt.alloc(), small())?, false, 20)
 }
 
-/// The room is in the database file, or in the log.
 #[test]
 fn a_fresh_room(rt: HostRuntime) -> Result<(), Fail> {
-    for in_log in [false, true] {
-        let trial = of_a_fresh_room(rt.alloc(), in_log, Options::new(1))?;
-        both_stop(&trial, Part::Nothing, 25, 4)?;
-    }
-    Ok(())
+    both_stop(
+        &of_a_fresh_room(rt.alloc(), false, Options::new(1))?,
+        50,
+        20,
+    )
+}
+
+#[test]
+fn a_fresh_room_in_the_log(rt: HostRuntime) -> Result<(), Fail> {
+    both_stop(&of_a_fresh_room(rt.alloc(), true, Options::new(1))?, 50, 4)
 }
 
 #[test]
 fn a_fresh_room_with_a_busy_log(rt: HostRuntime) -> Result<(), Fail> {
-    let trial = of_a_fresh_room(rt.alloc(), true, small())?;
-    stops(&trial, true, Part::Nothing, 40)
+    stops(&of_a_fresh_room(rt.alloc(), true, small())?, true, 100)
 }
 
 #[test]
 fn a_fresh_room_with_a_busy_database_file(rt: HostRuntime) -> Result<(), Fail> {
-    let trial = of_a_fresh_room(rt.alloc(), true, small())?;
-    stops(&trial, false, Part::Nothing, 20)
+    stops(&of_a_fresh_room(rt.alloc(), true, small())?, false, 20)
 }
 
 #[test]
 fn a_list_over_a_hundred(rt: HostRuntime) -> Result<(), Fail> {
-    let trial = of_followers(rt.alloc(), Options::new(1))?;
-    both_stop(&trial, Part::Nothing, 30, 10)
+    both_stop(&of_followers(rt.alloc(), Options::new(1))?, 30, 10)
 }
 
 /// Parts of the list are in the log before it is committed.
 #[test]
 fn a_list_over_a_hundred_that_spills(rt: HostRuntime) -> Result<(), Fail> {
-    let trial = of_followers(rt.alloc(), spilling())?;
-    both_stop(&trial, Part::Nothing, 40, 20)
+    both_stop(&of_followers(rt.alloc(), spilling())?, 40, 20)
 }
 
-/// Each file stops in the middle of each of its writes.
-fn is_torn(trial: &Trial, in_log: u64, in_db: u64) -> Result<(), Fail> {
-    for part in [Part::OneByte, Part::Half, Part::AllButOne] {
-        both_stop(trial, part, in_log, in_db)?;
+#[test]
+fn a_room_of_version_1(rt: HostRuntime) -> Result<(), Fail> {
+    for in_log in [false, true] {
+        both_stop(&of_version_1(rt.alloc(), in_log, Options::new(1))?, 20, 4)?;
     }
     Ok(())
 }
 
+/// Little stays in memory, and parts of the upgrade are in the log before it is committed.
 #[test]
-fn a_new_room_and_torn_writes(rt: HostRuntime) -> Result<(), Fail> {
-    is_torn(&of_a_new_room(rt.alloc(), Options::new(1))?, 10, 0)
-}
-
-#[test]
-fn a_busy_new_room_and_torn_writes(rt: HostRuntime) -> Result<(), Fail> {
-    is_torn(&of_a_new_room(rt.alloc(), spilling())?, 40, 20)
-}
-
-/// The log alone: the database file is not written here.
-#[test]
-fn a_list_and_torn_writes(rt: HostRuntime) -> Result<(), Fail> {
-    let trial = of_followers(rt.alloc(), spilling())?;
-    for part in [Part::OneByte, Part::Half, Part::AllButOne] {
-        stops(&trial, true, part, 10)?;
+fn a_busy_room_of_version_1(rt: HostRuntime) -> Result<(), Fail> {
+    for in_log in [false, true] {
+        both_stop(&of_version_1(rt.alloc(), in_log, small())?, 20, 4)?;
     }
     Ok(())
+}
+
+/// Over none of these places is each request answered.
+#[test]
+fn a_damaged_byte_in_the_database_file(rt: HostRuntime) -> Result<(), Fail> {
+    let trial = of_a_fresh_room(rt.alloc(), false, small())?;
+    is_within(trial.damages(false, 1024)?, 0, 0, "whole stories")
+}
+
+/// Some of the bytes are read again after the open, and some are not.
+#[test]
+fn a_damaged_byte_in_the_log(rt: HostRuntime) -> Result<(), Fail> {
+    let trial = of_a_fresh_room(rt.alloc(), true, small())?;
+    is_within(trial.damages(true, 1030)?, 1, 43, "whole stories")
 }

@@ -58,8 +58,25 @@ pub static STORY: [Step; 7] = [
     ),
 ];
 
-/// How many steps there are.
-pub const STEPS: usize = 7;
+/// The room of version 1 keeps request 4 of the slot, by which the file had three bytes.
+pub static AFTER_VERSION_1: [Step; 4] = [
+    Step(
+        Ask::Run(4, r#"{"cmd":"READ","path":"/plans/a"}"#),
+        r#"{"code":0,"data":"aGkh"}"#,
+    ),
+    Step(
+        Ask::Run(3, r#"{"cmd":"APPEND","data":"IQ==","path":"/plans/a"}"#),
+        r#"{"code":22,"error":"SEQ_MISORDERED"}"#,
+    ),
+    Step(
+        Ask::Run(5, r#"{"cmd":"APPEND","data":"IQ==","path":"/plans/a"}"#),
+        r#"{"code":0,"size":4}"#,
+    ),
+    Step(
+        Ask::Run(6, r#"{"cmd":"READ","path":"/plans/a"}"#),
+        r#"{"code":0,"data":"aGkhIQ=="}"#,
+    ),
+];
 
 /// A request of `ann` in the session.
 pub fn request(alloc: Global, slot: u32, seq: u32, command: &str) -> Result<Event, Fail> {
@@ -109,11 +126,6 @@ pub fn has_answer<P: Shelf>(alloc: Global, desk: &mut Desk<P>, step: &Step) -> R
     is_wanted(&answer(alloc, desk, ask)?, wanted)
 }
 
-/// Whether a step is answered as in the story; else it is answered DELAY.
-pub fn is_answered<P: Shelf>(alloc: Global, desk: &mut Desk<P>, at: usize) -> Result<bool, Fail> {
-    has_answer(alloc, desk, STORY.get(at).ok_or("no step")?)
-}
-
 /// Plays steps from a place on, up to the first that is answered DELAY: its place.
 pub fn play_steps<P: Shelf>(
     alloc: Global,
@@ -127,64 +139,4 @@ pub fn play_steps<P: Shelf>(
         }
     }
     Ok(steps.len())
-}
-
-/// Plays the story from a place on, up to the first step that is answered DELAY: its place.
-pub fn play_from<P: Shelf>(alloc: Global, desk: &mut Desk<P>, from: usize) -> Result<usize, Fail> {
-    play_steps(alloc, desk, &STORY, from)
-}
-
-/// Whether a step that comes too early is refused as that, or answered DELAY.
-fn is_too_early<P: Shelf>(alloc: Global, desk: &mut Desk<P>, at: usize) -> Result<bool, Fail> {
-    let Step(ask, _) = *STORY.get(at).ok_or("no step")?;
-    let answer = answer(alloc, desk, ask)?;
-    Ok(matches!(
-        &answer,
-        Answer::Refused(Code::Delay | Code::SeqMisordered | Code::BadSession)
-    ))
-}
-
-/// The answers where the step at a place was answered DELAY and the disk does not mend: to an earlier step, and to a
-/// later one, they are right or DELAY.
-fn answers_others<P: Shelf>(alloc: Global, desk: &mut Desk<P>, at: usize) -> Result<(), Fail> {
-    if 0 < at {
-        let _ = is_answered(alloc, desk, at - 1)?;
-    }
-    if at < STEPS - 1 && !is_too_early(alloc, desk, at + 1)? {
-        return Err(Fail::new(format_args!("step {at} was passed over")));
-    }
-    Ok(())
-}
-
-/// How far the story came: the first step that was answered DELAY, and how many were answered in the end.
-#[derive(Clone, Copy)]
-pub struct Played {
-    pub first: usize,
-    pub answered: usize,
-}
-
-/// Plays the story over a disk that fails. The first step that is answered DELAY is sent again, then others are, and
-/// then it once more.
-pub fn play_over_failing<P: Shelf>(alloc: Global, desk: &mut Desk<P>) -> Result<Played, Fail> {
-    let first = play_from(alloc, desk, 0)?;
-    let at = play_from(alloc, desk, first)?;
-    if at < STEPS {
-        answers_others(alloc, desk, at)?;
-    }
-    Ok(Played {
-        first,
-        answered: play_from(alloc, desk, at)?,
-    })
-}
-
-/// A step that was answered DELAY is sent twice and acts once, and the rest of the story follows.
-pub fn play_to_end<P: Shelf>(alloc: Global, desk: &mut Desk<P>, from: usize) -> Result<(), Fail> {
-    if from < STEPS && !is_answered(alloc, desk, from)? {
-        return Err(Fail::new(format_args!("step {from} is answered DELAY again")));
-    }
-    let at = play_from(alloc, desk, from)?;
-    if at < STEPS {
-        return Err(Fail::new(format_args!("step {at} is answered DELAY")));
-    }
-    Ok(())
 }

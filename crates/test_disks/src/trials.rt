@@ -1,27 +1,18 @@
-//! Requests over files of which one stops at one of its calls, and what follows when they are opened again.
-use crate::disks::{flushed, held_by, opened, opened_again};
-use crate::halting::{Halting, Part};
-use crate::rooms::{contents, is_at, stages_of};
-use crate::runs::{files_of, make, take};
+//! Requests over files of which one fails, and what follows when they are opened again.
+use crate::disks::{Failing, files_of, flushed, has_stopped, held_by, opened, opened_again};
+use crate::rooms::{begun, contents, is_at, stages_of};
 use crate::story::{Step, play_steps};
 use room_desk::Desk;
 use room_report::list_report;
 use room_sql::{OpenFault, SqlShelf};
 use sqlite::{Alter, Connection, Options};
-use sqlite_disk::{Disk, Files, Memory};
+use sqlite_disk::{Disk, Files, Fuse, Memory, Rot};
 use std::alloc::Global;
 use std::test::Fail;
 use test_stores::{Held, adopt, file_of, made, taken};
 
-/// More calls than are made.
+/// A place behind all calls and bytes.
 const NEVER: u64 = 1_000_000_000;
-
-/// Which of the two files stops, and how much is written of a write at which it does.
-#[derive(Clone, Copy)]
-pub struct Stop {
-    pub in_log: bool,
-    pub part: Part,
-}
 
 /// Where a trial begins.
 #[derive(Drop)]
@@ -93,21 +84,20 @@ fn play_in<S: Alter + Drop>(
 /// How many requests were answered, where a room was made or taken.
 type Answered = Option<usize>;
 
-/// What a stop left.
+/// What a stop at a call left, and whether the file stopped.
 #[derive(Drop)]
 struct Left {
     written: Held,
     flushed: Held,
     answered: Answered,
     has_stopped: bool,
-    is_torn: bool,
 }
 
 /// What files hold after a stop, and how many requests were answered before it.
 type After = (Held, Answered);
 
 /// Whether files hold the same bytes.
-pub fn is_same(one: &Held, other: &Held) -> bool {
+fn is_same(one: &Held, other: &Held) -> bool {
     one.log.as_slice() == other.log.as_slice() && one.db.as_slice() == other.db.as_slice()
 }
 
@@ -120,15 +110,8 @@ fn is_known(known: &[After], held: &Held, answered: Answered) -> bool {
     false
 }
 
-/// How many stops a trial met, and how many of them in the middle of a write.
-#[derive(Clone, Copy)]
-pub struct Met {
-    pub stops: u64,
-    pub torn: u64,
-}
-
-/// Requests over the files of a room. All but the last are sent while a file stops at one of its calls; when the files
-/// are opened again, the others follow.
+/// Requests over the files of a room. All but the last are sent while a file fails; when the files are opened again,
+/// the others follow.
 #[derive(Drop)]
 pub struct Trial {
     alloc: Global,
@@ -172,9 +155,9 @@ impl Trial {
         &self.steps[..self.steps.len().saturating_sub(1)]
     }
 
-    /// The files at the start, of which one stops at a call.
-    fn files(&self, stop: Stop, place: u64) -> Result<Files<Halting<Memory>>, Fail> {
-        let (in_log, in_db) = if stop.in_log {
+    /// The files at the start, of which one fails at a place.
+    fn files<D: Failing>(&self, in_log: bool, place: u64) -> Result<Files<D>, Fail> {
+        let (in_log, in_db) = if in_log {
             (place, NEVER)
         } else {
             (NEVER, place)
@@ -182,8 +165,8 @@ impl Trial {
         let log = file_of(self.alloc, self.start.held.log.as_slice())?;
         let db = file_of(self.alloc, self.start.held.db.as_slice())?;
         Ok(Files {
-            log: Halting::new(log, in_log, stop.part),
-            db: Halting::new(db, in_db, stop.part),
+            log: D::over(log, in_log),
+            db: D::over(db, in_db),
         })
     }
 
@@ -192,12 +175,7 @@ impl Trial {
         &self,
         conn: Connection<S>,
     ) -> Result<(Answered, Connection<S>), Fail> {
-        let begun = if self.start.is_new {
-            make(self.alloc, conn)?
-        } else {
-            take(self.alloc, conn)?
-        };
-        match begun {
+        match begun(self.alloc, conn, self.start.is_new)? {
             Ok(room) => {
                 let (at, conn) = play_in(self.alloc, room, self.sent(), 0)?;
                 Ok((Some(at), conn))
@@ -218,19 +196,19 @@ impl Trial {
     }
 
     /// What a stop at a call leaves.
-    fn left(&self, stop: Stop, place: u64) -> Result<Left, Fail> {
-        let (answered, files) = self.play_over(self.files(stop, place)?)?;
-        let (has_stopped, is_torn) = if stop.in_log {
-            (files.log.has_stopped(), files.log.is_torn())
+    fn left(&self, in_log: bool, place: u64) -> Result<Left, Fail> {
+        let (answered, files) = self.play_over(self.files::<Fuse<Memory>>(in_log, place)?)?;
+        let mut files = files;
+        let has_stopped = if in_log {
+            has_stopped(&mut files.log)
         } else {
-            (files.db.has_stopped(), files.db.is_torn())
+            has_stopped(&mut files.db)
         };
         Ok(Left {
             written: held_by(self.alloc, &files)?,
             flushed: flushed(self.alloc, files)?,
             answered,
             has_stopped,
-            is_torn,
         })
     }
 
@@ -313,21 +291,47 @@ impl Trial {
         Ok(())
     }
 
-    /// A file stops at each of its calls in turn, until a run ends without a stop.
-    pub fn stops(&self, stop: Stop) -> Result<Met, Fail> {
+    /// A file stops at each of its calls in turn, until a run ends without a stop: how many calls that takes.
+    pub fn stops(&self, in_log: bool) -> Result<u64, Fail> {
         let mut known = Vec::new(self.alloc);
-        let mut torn = 0u64;
         for place in 0..2000u64 {
-            let left = self.left(stop, place)?;
+            let left = self.left(in_log, place)?;
             self.follows(&mut known, left.written, left.answered)?;
             self.follows(&mut known, left.flushed, left.answered)?;
-            if left.is_torn {
-                torn = torn.saturating_add(1);
-            }
             if !left.has_stopped {
-                return Ok(Met { stops: place, torn });
+                return self.ended(left.answered, place);
             }
         }
         Err(Fail::new("each run stops"))
+    }
+
+    /// The number of calls, where each request was answered.
+    fn ended(&self, answered: Answered, calls: u64) -> Result<u64, Fail> {
+        if answered == Some(self.sent().len()) {
+            Ok(calls)
+        } else {
+            Err(Fail::new("DELAY where no file stops"))
+        }
+    }
+
+    /// How many requests are answered where this byte of a file is damaged. Read without the damage, the files hold
+    /// what was answered.
+    fn damaged(&self, in_log: bool, place: u64, known: &mut Vec<After>) -> Result<Answered, Fail> {
+        let (answered, files) = self.play_over(self.files::<Rot<Memory>>(in_log, place)?)?;
+        self.follows(known, held_by(self.alloc, &files)?, answered)?;
+        Ok(answered)
+    }
+
+    /// A damaged byte at 44 places in turn, so far apart: at how many of them each request is answered.
+    pub fn damages(&self, in_log: bool, apart: u64) -> Result<u64, Fail> {
+        let mut known = Vec::new(self.alloc);
+        let mut whole = 0u64;
+        for at in 0..44u64 {
+            let answered = self.damaged(in_log, 40 + at * apart.min(10_000), &mut known)?;
+            if answered == Some(self.sent().len()) {
+                whole = whole.saturating_add(1);
+            }
+        }
+        Ok(whole)
     }
 }

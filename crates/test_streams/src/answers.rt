@@ -2,7 +2,7 @@
 use room_desk::Desk;
 use room_wire::{ServeEnd, Why, serve_checks};
 use std::alloc::Global;
-use std::io::{Read, Write};
+use std::io::Read;
 use std::test::Fail;
 use test_support::{in_memory, roster};
 
@@ -18,18 +18,6 @@ content-length: 30\r\n\r\n{\"allowed\":0,\"bit\":1,\"code\":0}";
 pub const BAD_HTTP: &str = "HTTP/1.1 400 Bad Request\r\ncontent-type: application/json\r\n\
 content-length: 30\r\nconnection: close\r\n\r\n{\"code\":40,\"error\":\"BAD_HTTP\"}";
 
-/// The answer to another route.
-pub const BAD_ROUTE: &str = "HTTP/1.1 404 Not Found\r\ncontent-type: application/json\r\n\
-content-length: 31\r\n\r\n{\"code\":41,\"error\":\"BAD_ROUTE\"}";
-
-/// The answer to a body that is no question.
-pub const BAD_REQUEST: &str = "HTTP/1.1 400 Bad Request\r\ncontent-type: application/json\r\n\
-content-length: 33\r\n\r\n{\"code\":43,\"error\":\"BAD_REQUEST\"}";
-
-/// The answer to a request in a session that is not open.
-pub const BAD_SESSION: &str = "HTTP/1.1 409 Conflict\r\ncontent-type: application/json\r\n\
-content-length: 32\r\n\r\n{\"code\":20,\"error\":\"BADSESSION\"}";
-
 /// What serves a stream. Both answer questions alike.
 #[derive(Clone, Copy, Debug)]
 pub enum Server {
@@ -40,21 +28,24 @@ pub enum Server {
 
 pub const SERVERS: [Server; 2] = [Server::Questions, Server::Room];
 
-/// How a stream ends.
-pub fn served<R: Read, W: Write>(
+/// What is written of a stream, and how it ends.
+fn served<R: Read>(
     alloc: Global,
     server: Server,
     reader: &mut R,
-    writer: &mut W,
-) -> Result<ServeEnd, Fail> {
+) -> Result<(Vec<u8>, ServeEnd), Fail> {
+    let mut output = Vec::new(alloc);
     match server {
-        Server::Questions => Ok(serve_checks(alloc, reader, writer)),
+        Server::Questions => {
+            let end = serve_checks(alloc, reader, &mut output);
+            Ok((output, end))
+        },
         Server::Room => {
             let roster = roster(alloc)?;
             let mut desk = Desk::new(alloc, in_memory(alloc)?);
-            let end = desk.serve(&roster, reader, writer);
+            let end = desk.serve(&roster, reader, &mut output);
             let _ = desk.into_shelf();
-            Ok(end)
+            Ok((output, end))
         },
     }
 }
@@ -63,14 +54,17 @@ pub fn served<R: Read, W: Write>(
 #[derive(Clone, Copy)]
 pub struct Due<'a>(pub &'a str, pub Why, pub u64);
 
-/// These bytes were written, and a stream ended as due.
-pub fn is_as(end: &ServeEnd, written: &[u8], due: Due<'_>, what: &str) -> Result<(), Fail> {
+/// What a reader gives is served as due.
+pub fn is_served<R: Read>(
+    alloc: Global,
+    server: Server,
+    reader: &mut R,
+    due: Due<'_>,
+) -> Result<(), Fail> {
     let Due(wanted, why, count) = due;
-    if written != wanted.as_bytes() {
-        return Err(Fail::new(format_args!("other bytes after {what}")));
-    }
-    if end.why != why || end.count != count {
-        return Err(Fail::new(format_args!("another end after {what}: {:?}", end.why)));
+    let (written, end) = served(alloc, server, reader)?;
+    if written.as_slice() != wanted.as_bytes() || end.why != why || end.count != count {
+        return Err(Fail::new(format_args!("{server:?}: {:?} after {}", end.why, end.count)));
     }
     Ok(())
 }

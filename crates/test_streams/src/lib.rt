@@ -1,6 +1,5 @@
-//! What no text of messages and answers can say: readers and writers that fail in mid-stream, how often a reader is
-//! asked, runs of the program, the calls behind an answer, requests that were delayed, reports over shelves that fail,
-//! rosters and command lines.
+//! What no text of messages and answers can say: how often a reader is asked, readers that fail in mid-stream, runs of
+//! the program, and the calls behind an answer.
 #![tactic(auto)]
 
 #[cfg(test)]
@@ -8,18 +7,14 @@ mod answers;
 #[cfg(test)]
 mod calls;
 #[cfg(test)]
-mod delays;
-#[cfg(test)]
 mod failures;
+#[cfg(test)]
+mod instance;
 #[cfg(test)]
 mod machine;
 #[cfg(test)]
 mod played;
 #[cfg(test)]
 mod program;
-#[cfg(test)]
-mod reports;
-#[cfg(test)]
-mod rosters;
 #[cfg(test)]
 mod words;

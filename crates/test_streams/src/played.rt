@@ -173,6 +173,16 @@ fn a_room_from_run_to_run(rt: HostRuntime) -> Result<(), Fail> {
     runs(alloc, &mut machine, &["selftest"], Ok("selftest ok\n"))
 }
 
+/// Where another connection waits before its own, what `selftest` hears is another answer.
+#[test]
+fn a_selftest_that_hears_another_answer(rt: HostRuntime) -> Result<(), Fail> {
+    let alloc = rt.alloc();
+    let mut machine = MemoryMachine::new(alloc, USERS);
+    machine.wait(String::new(alloc))?;
+    let failed = Err("fileroom: selftest failed\n");
+    runs(alloc, &mut machine, &["selftest"], failed)
+}
+
 /// The machine stops after a request was answered, and the answer is lost; over what the stop left the request is sent
 /// again, and has acted once.
 #[test]

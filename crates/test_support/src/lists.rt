@@ -1,4 +1,4 @@
-//! Whether lists of entries are the same, and whether those of a room are whole.
+//! Whether the lists of a room are whole.
 use room_acl::Entry;
 use room_records::{MAX_NAMES, Shelf, ShelfFault};
 use room_tree::list_upwards;
@@ -13,7 +13,7 @@ fn is_same_entry(a: &Entry, b: &Entry) -> bool {
 }
 
 /// Whether two lists have the same entries in the same order.
-pub fn are_same_entries(a: &[Entry], b: &[Entry]) -> bool {
+fn are_same_entries(a: &[Entry], b: &[Entry]) -> bool {
     if a.len() != b.len() {
         return false;
     }

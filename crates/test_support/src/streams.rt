@@ -1,29 +1,6 @@
-//! Readers and writers that fail, or that move few bytes at a time.
+//! A reader that gives its pieces and fails, and a writer that is full.
 use std::alloc::Global;
 use std::io::{Error, ErrorKind, Read, Result, Write};
-
-/// Gives one byte a call, whatever the buffer takes.
-#[derive(Drop)]
-pub struct ByteReader<'a> {
-    rest: &'a [u8],
-}
-
-impl<'a> ByteReader<'a> {
-    pub fn new(bytes: &'a [u8]) -> ByteReader<'a> {
-        ByteReader { rest: bytes }
-    }
-}
-
-impl Read for ByteReader<'_> {
-    fn read(&mut self, buf: &mut [u8]) -> Result<usize> {
-        let (Some((byte, rest)), Some(place)) = (self.rest.split_first(), buf.first_mut()) else {
-            return Ok(0);
-        };
-        *place = *byte;
-        self.rest = rest;
-        Ok(1)
-    }
-}
 
 /// Gives its pieces one a call, each as far as the buffer takes it, and counts the calls. The call
 /// of number `fails_at`, counted from 1, fails in place of giving.

@@ -3,8 +3,7 @@ use room_sql::OpenFault;
 use sqlite::{Alter, Connection, MemStore};
 use std::alloc::Global;
 use std::test::Fail;
-pub use test_stores::contents;
-use test_stores::{adopt, init};
+use test_stores::{adopt, contents, init};
 
 /// A database in memory that these statements make.
 pub fn database(alloc: Global, statements: &str) -> Result<Connection<MemStore>, Fail> {
@@ -26,7 +25,7 @@ pub enum Opening {
 }
 
 /// What is answered, and the database.
-pub fn answered<S: Alter + Drop>(
+fn answered<S: Alter + Drop>(
     alloc: Global,
     conn: Connection<S>,
     by: Opening,
@@ -41,42 +40,20 @@ pub fn answered<S: Alter + Drop>(
     }
 }
 
-/// A database is as it was; `what` tells which in a failure.
-pub fn stays<S: Alter>(
-    alloc: Global,
-    conn: &mut Connection<S>,
-    before: &str,
-    what: &str,
-) -> Result<(), Fail> {
-    if contents(alloc, conn)?.as_str() == before {
-        return Ok(());
-    }
-    Err(Fail::new(format_args!("something changed: {what}")))
-}
-
-fn is_answer(
-    answer: Result<(), OpenFault>,
-    wanted: Result<(), OpenFault>,
-    of: &str,
-) -> Result<(), Fail> {
-    if answer == wanted {
-        return Ok(());
-    }
-    Err(Fail::new(format_args!("{answer:?} and not {wanted:?} of {of}")))
-}
-
-/// A database is answered this, and is left as it was.
-pub fn is_answered<S: Alter + Drop>(
+/// A database is refused for this reason, and is left as it was.
+pub fn is_refused<S: Alter + Drop>(
     alloc: Global,
     conn: Connection<S>,
     by: Opening,
-    wanted: Result<(), OpenFault>,
+    fault: OpenFault,
 ) -> Result<Connection<S>, Fail> {
     let mut conn = conn;
     let before = contents(alloc, &mut conn)?;
     let (answer, conn) = answered(alloc, conn, by)?;
-    is_answer(answer, wanted, before.as_str())?;
     let mut conn = conn;
-    stays(alloc, &mut conn, before.as_str(), before.as_str())?;
+    let after = contents(alloc, &mut conn)?;
+    if answer != Err(fault) || after.as_str() != before.as_str() {
+        return Err(Fail::new(format_args!("{by:?}: {answer:?}, and {after} of {before}")));
+    }
     Ok(conn)
 }

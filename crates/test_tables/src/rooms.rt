@@ -1,5 +1,5 @@
 //! Rooms that are made, taken and refused, and commits of which nothing stays or all.
-use crate::databases::{Opening, database, is_answered, number};
+use crate::databases::{Opening, database, is_refused, number};
 use room_records::{Change, Node, Shelf};
 use room_sql::{OpenFault, SqlShelf};
 use sqlite::{Connection, MemStore};
@@ -78,16 +78,16 @@ fn with_version_3(conn: Connection<MemStore>) -> Result<Connection<MemStore>, Fa
 fn a_fresh_room(rt: HostRuntime) -> Result<(), Fail> {
     let alloc = rt.alloc();
     let conn = database(alloc, "")?;
-    let conn = is_answered(alloc, conn, Opening::Adopt, Err(OpenFault::NotARoom))?;
+    let conn = is_refused(alloc, conn, Opening::Adopt, OpenFault::NotARoom)?;
     let mut shelf = made(alloc, conn)?;
     shows(&mut shelf, FRESH, "made")?;
     commit(&mut shelf, vec![in alloc; Change::PutNext(7)]?)?;
     let conn = shelf.into_connection();
-    let conn = is_answered(alloc, conn, Opening::Init, Err(OpenFault::RoomExists))?;
+    let conn = is_refused(alloc, conn, Opening::Init, OpenFault::RoomExists)?;
     let mut shelf = taken(alloc, conn)?;
     shows(&mut shelf, Shown { next: 7, ..FRESH }, "taken")?;
     let conn = with_version_3(shelf.into_connection())?;
-    let _ = is_answered(alloc, conn, Opening::Adopt, Err(OpenFault::NotARoom))?;
+    let _ = is_refused(alloc, conn, Opening::Adopt, OpenFault::NotARoom)?;
     Ok(())
 }
 
