@@ -46,7 +46,7 @@ export async function append(app, path) {
     before = toText(fromBase64(data)) ?? "";
   });
   if (!isRead) return;
-  const text = area();
+  const text = area("", 6);
   const isDone = await ask({ title: `Append to ${shown(lastName(path))}`, does: "Append",
     words: make("p", {}, "The text is added at the end, on a line of its own."),
     fields: { text: { label: "Text", field: text } }, faultOf: () => tooLong(fromText(text.value)),
@@ -82,11 +82,14 @@ class Editing {
   async replace() {
     const now = (await this.app.room.run("READ", this.path)).data;
     const data = toBase64(this.bytes);
-    if (now === this.shown) await this.app.room.run("WRITE", this.path, { data });
-    else if (!await this.settle(now, data)) throw new Error("Nothing was replaced.");
+    if (now === this.shown) return void await this.app.room.run("WRITE", this.path, { data });
+    const chosen = await this.settle(now, data);
+    if (chosen === "on") this.shown = now; // (whoever saw theirs may put both together)
+    if (chosen === "on") throw new Error("Nothing was replaced yet. Replace puts this in the place of what you saw.");
+    if (!chosen) throw new Error("Nothing was replaced.");
   }
 
-  /** True where the user chose what becomes of both texts, and that is done. */
+  /** What the user chose: "on" to go on with the own text, or what becomes of both, which is done; null for neither. */
   settle(now, data) {
     const text = (words, it) => [make("h3", {}, words), make("pre", { tabIndex: 0 }, it)];
     const theirs = toText(fromBase64(now)) ?? "These are bytes that are no text.";
@@ -98,7 +101,7 @@ class Editing {
     };
     return ask({ title: "Somebody changed this document meanwhile", does: "Keep mine as a copy", task: keep,
       words: [make("p", {}, NOBODY_KNOWS), ...text("Theirs, as it is now", theirs), ...text("Yours", this.field.value)],
-      others: [{ words: "Take theirs", value: "theirs", task: take }] });
+      others: [{ words: "Take theirs", value: "theirs", task: take }, { words: "Go on with mine", value: "on" }] });
   }
 }
 

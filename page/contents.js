@@ -7,14 +7,14 @@ import { manifestAt, readFile } from "./files.js";
 import { head } from "./heads.js";
 import { isPart } from "./manifest.js";
 import { emptyTrash } from "./moving.js";
-import { shown } from "./names.js";
+import { byName, shown } from "./names.js";
 import { offersFor, rightsAt, textOffers } from "./offers.js";
 import { ROOT, addressOf, inFolder, lastName } from "./places.js";
 import { canShow, nothing, preview } from "./preview.js";
 import { ADD_FILE, ADD_FOLDER, FILE, FOLDER, READ } from "./rights.js";
 import { things } from "./things.js";
 import { sizeWords } from "./transfers.js";
-import { pathOfTrash, trashOf } from "./trash.js";
+import { beforeWords, pathOfTrash, trashOf } from "./trash.js";
 import { kindBy } from "./trees.js";
 import { dropped, filesButton, upload } from "./uploads.js";
 
@@ -34,8 +34,9 @@ async function orRefused(task, path) {
 const sizeOf = ({ length }) => (length === 1 ? "1 byte" : `${length} bytes`);
 const tools = (...buttons) => make("p", { className: "tools" }, ...buttons);
 
-function about(stat, size) {
-  return make("p", { className: "about" }, stat.owner ? `${size}, owner ${stat.owner}, group ${stat.group}` : size);
+function about(place, stat, size) {
+  const whose = stat.owner ? `owner ${stat.owner}, group ${stat.group}` : "";
+  return make("p", { className: "about" }, [size, whose, beforeWords(place.path)].filter((it) => it !== "").join(", "));
 }
 
 /** Takes what is dropped on the element. */
@@ -86,15 +87,17 @@ const IN_TRASH = "What you removed lies here, until you remove it here too. The 
 
 async function folder(app, place, stat, rights, found) {
   const search = link(addressOf({ ...place, view: "find" }), "Search");
-  const bar = tools(...makers(app, place.path, rights.own), ...offersFor(app, place.path, FOLDER, rights), search,
-    ...await trashTools(app, place));
-  if (found instanceof Refusal) return [bar, about(stat, "folder"), make("p", { className: "fault" }, found.message)];
-  const names = found.names.filter(([name]) => !isPart(name));
-  const words = place.path === pathOfTrash(app) ? IN_TRASH : rights.own & ADD_FILE ? "Files can be dropped here." : "";
+  const isTrash = place.path === pathOfTrash(app);
+  const offers = isTrash ? [] : [...makers(app, place.path, rights.own), ...offersFor(app, place.path, FOLDER, rights)];
+  const bar = tools(...offers, search, ...await trashTools(app, place));
+  if (found instanceof Refusal) return [bar, about(place, stat, "folder"),
+    make("p", { className: "fault" }, found.message)];
+  const names = found.names.filter(([name]) => !isPart(name)).sort(byName);
+  const words = isTrash ? IN_TRASH : rights.own & ADD_FILE ? "Files can be dropped here." : "";
   const hint = words ? [make("p", { className: "about" }, words)] : [];
   const area = make("div", {}, ...leftWords(found.names), things(app, place, names, rights), ...hint);
-  if (rights.own & ADD_FILE) takeDrops(app, place.path, area);
-  return [bar, about(stat, `${names.length} in it`), area];
+  if (rights.own & ADD_FILE && !isTrash) takeDrops(app, place.path, area);
+  return [bar, about(place, stat, `${names.length} in it`), area];
 }
 
 async function document_(app, place, stat, rights) {
@@ -107,7 +110,7 @@ async function document_(app, place, stat, rights) {
   const shownPart = isRefused ? make("p", { className: "fault" }, found.message) : preview(bytes, lastName(path));
   const size = isRefused ? "document" : sizeOf(bytes);
   const offers = offersFor(app, path, FILE, { ...rights, size: bytes?.length });
-  return [tools(...buttons, ...offers), about(stat, size), shownPart];
+  return [tools(...buttons, ...offers), about(place, stat, size), shownPart];
 }
 
 async function large(app, place, stat, rights) {
@@ -121,13 +124,13 @@ async function large(app, place, stat, rights) {
   else if (rights.own & READ && its.size <= PREVIEWED) await show().catch((fault) => area.append(fault.message));
   else area.append(button("Show it", () => app.attempt(show)));
   const offers = offersFor(app, path, "large", { ...rights, size: its.size });
-  return [tools(...offers), about(stat, sizeWords(its.size)), area];
+  return [tools(...offers), about(place, stat, sizeWords(its.size)), area];
 }
 
 function unfinished(app, place, stat, rights) {
   const words = `An upload of ${shown(lastName(place.path))} was stopped, or is under way. What is there is no whole ` +
     "file. Upload it again, or remove it.";
-  return [tools(...offersFor(app, place.path, "unfinished", rights)), about(stat, "unfinished upload"),
+  return [tools(...offersFor(app, place.path, "unfinished", rights)), about(place, stat, "unfinished upload"),
     make("p", { className: "fault" }, words)];
 }
 

@@ -3,6 +3,7 @@ import { standIn } from "./busy.js";
 import { button, labelled, make } from "./dom.js";
 import { watch } from "./unsaved.js";
 
+const SLOW = 500; // milliseconds after which it is said that something is under way
 const open = new Set();
 
 /** Closes all of them: the page goes elsewhere. */
@@ -21,13 +22,14 @@ function valueOf(field) {
 
 class Dialog {
   /** See `ask`. */
-  constructor({ title, words = [], fields = {}, does, faultOf = () => "", task = () => {}, others = [] }) {
-    Object.assign(this, { faultOf, task, fields: Object.values(fields).map((it) => it.field), isAtWork: false });
+  constructor({ title, words = [], fields = {}, does, faultOf = () => "", task = () => {}, others = [], first }) {
+    Object.assign(this, { faultOf, task, first, fields: Object.values(fields).map((it) => it.field), isAtWork: false });
     this.fault = make("p", { className: "fault", role: "alert" });
     this.leaving = make("p", { className: "fault", role: "alert", hidden: true }, "What you typed is not saved. ",
-      button("Discard it", () => this.end(null)), " ", button("Go on typing", () => this.stay()));
+      button("Go on typing", () => this.stay()), " ", button("Discard it", () => this.end(null)));
+    this.atWork = make("p", { role: "status" });
     this.form = make("form", { method: "dialog" }, make("h2", {}, title), ...[words].flat(),
-      ...Object.values(fields).map(({ label, field }) => labelled(label, field)), this.fault, this.leaving,
+      ...Object.values(fields).map(({ label, field }) => labelled(label, field)), this.fault, this.leaving, this.atWork,
       make("p", { className: "actions" }, make("button", { className: "main" }, does),
         ...others.map((it) => button(it.words, () => this.run(it.task ?? (() => {}), it.value))),
         button("Cancel", () => this.leave())));
@@ -55,34 +57,42 @@ class Dialog {
     if (!this.fault.textContent) this.run(this.task, true);
   }
 
-  /** Does it while the dialog stands; a refusal is told in it. */
+  /** Does it while the dialog stands; a refusal is told in it. What takes a while shows that it is at work. */
   async run(task, value) {
     if (this.isAtWork) return;
     this.isAtWork = true;
     this.form.inert = true;
+    this.fault.textContent = "";
     const back = standIn(this.element);
+    const slow = setTimeout(() => {
+      this.atWork.textContent = "Under way …";
+    }, SLOW);
     try {
       await task();
       this.end(value);
     } catch (fault) {
       this.fault.textContent = fault.message;
     } finally {
+      clearTimeout(slow);
+      this.atWork.textContent = "";
       back();
       this.form.inert = false;
       this.isAtWork = false;
     }
   }
 
+  /** Whoever types on without looking presses what loses nothing, and is back where they typed. */
   leave() {
     if (this.isAtWork) return;
     if (this.now === this.start) return this.end(null);
+    if (this.leaving.hidden) this.typedIn = this.fields.find((it) => it === document.activeElement) ?? this.fields[0];
     this.leaving.hidden = false;
     this.leaving.querySelector("button").focus();
   }
 
   stay() {
     this.leaving.hidden = true;
-    (this.fields[0] ?? this.form.querySelector("button")).focus();
+    this.typedIn.focus();
   }
 
   end(value) {
@@ -98,6 +108,7 @@ class Dialog {
     this.unwatch = watch(() => this.now !== this.start);
     document.body.append(this.element);
     this.element.showModal();
+    if (this.first) [...this.form.querySelectorAll("button")].find((it) => it.textContent === this.first).focus();
     this.closed = new Promise((tell) => {
       this.tell = tell;
     });
@@ -106,10 +117,11 @@ class Dialog {
 }
 
 /** Asks for `fields`, elements by name with their labels; `faultOf` tells why what was put in will not do, or nothing;
- * `task` does it, and the dialog stays until it is done. `others` are further buttons, `{words, value, task}`. What it
- * gives is true, the value of another button once its task is done, or null where it was closed. */
+ * `task` does it, and the dialog stays until it is done. `others` are further buttons, `{words, value, task}`; `first`
+ * names the button that has the focus at first, where that is not the first field. What it gives is true, the value of
+ * another button once its task is done, or null where it was closed. */
 export const ask = (how) => new Dialog(how).show();
 
 export const input = (value = "", how = {}) =>
   make("input", { value, autocomplete: "off", spellcheck: false, ...how });
-export const area = (value = "") => make("textarea", { value, rows: 8 });
+export const area = (value = "", rows = 16) => make("textarea", { value, rows });

@@ -8,7 +8,7 @@ import { folderOf, inFolder, lastName, namesOf } from "./places.js";
 import { FILE, FOLDER } from "./rights.js";
 
 export const NOENT = 1;
-const NOTDIR = 2;
+export const NOTDIR = 2;
 const ISDIR = 3;
 export const EXIST = 4;
 const ACCESS = 5;
@@ -128,11 +128,25 @@ class Upload {
       if (this.isMade) await orElse(this.room.step("REMOVE", this.path), null, NOENT, NOTEMPTY);
       throw fault;
     }
+    if (!this.isMade) await this.share(piecesAt(this.path, this.its));
     return await this.needFirst() ?? this.finish();
+  }
+
+  /** What this user made belongs to whom the file belongs, who may have no rights on what is somebody else's. */
+  async share(levels) {
+    const { owner, group } = this.stat;
+    const ours = await this.room.asideIfAllowed("STAT", levels.at(-1)[0]);
+    if (!ours || ours.owner === owner && ours.group === group) return;
+    await give(this.room, levels, { owner, group }).catch((fault) => {
+      if (!(fault instanceof Refusal)) throw fault;
+      this.transfer.note(`What was uploaded of ${shown(lastName(this.path))} stays yours, and ${owner} may lack ` +
+        `rights on it: ${fault.message}`);
+    });
   }
 
   async finish() {
     await this.putManifest(this.path, this.before === null);
+    if (this.before === null && !this.isMade) await this.share([[inFolder(this.path, form.NAME)]]);
     await this.lookAfter();
     if (this.isMade) await clearBeside(this.room, this.path, this.transfer);
     return this.path;
@@ -142,8 +156,8 @@ class Upload {
   async begin(isNew) {
     this.isMade = Boolean(await orElse(this.room.step("MKDIR", this.path), null, ...(isNew ? [] : [EXIST])));
     if (this.isMade) return null;
-    const stat = await this.room.aside("STAT", this.path);
-    if (stat.kind === FILE) return stat;
+    this.stat = await this.room.aside("STAT", this.path);
+    if (this.stat.kind === FILE) return this.stat;
     this.names = (await this.room.aside("LIST", this.path)).names;
     this.before = await manifestBytes(this.room, this.path);
     const isLeft = form.isUnfinished(this.names);
@@ -269,7 +283,9 @@ class Replacement {
   async takeOwner(its) {
     const { owner, group } = this.its;
     const now = await this.room.aside("STAT", its);
-    if (now.owner !== owner || now.group !== group) await this.room.step("CHOWN", its, { owner, group });
+    if (now.owner === owner && now.group === group) return;
+    const levels = [...piecesAt(its, this.upload.its), [inFolder(its, form.NAME)], [its]];
+    await give(this.room, levels, { owner, group });
   }
 
   /** Between the two, nothing has the name. */
@@ -281,6 +297,15 @@ class Replacement {
       throw fault;
     }
   }
+}
+
+/** The pieces of a version, and then their folder. */
+const piecesAt = (at, { folder, pieces }) => [pieces.map((it) => inFolder(at, folder, it)), [inFolder(at, folder)]];
+
+/** Gives what is at these paths to somebody, one level after another: whoever gave a folder may not pass through it any
+ * more. */
+async function give(room, levels, whose) {
+  for (const paths of levels) await forEach(paths, (it) => room.step("CHOWN", it, whose));
 }
 
 /** Takes a folder out of a file in one request, and then removes it. What is in the way is told, and left. */

@@ -2,7 +2,7 @@
 import { NOBODY } from "./files.js";
 import { button, labelled, link, make, nameText } from "./dom.js";
 import { head } from "./heads.js";
-import { shown } from "./names.js";
+import { inOrder, shown } from "./names.js";
 import { addressOf, lastName } from "./places.js";
 import { FOLDER } from "./rights.js";
 import { matches, walk } from "./trees.js";
@@ -41,7 +41,7 @@ class Search {
     try {
       await walk(this.app.room, this.place.path, (it) => this.meet(it, counts, turn), transfer);
       if (turn !== this.turn) return;
-      this.list.append(...[...this.list.children].sort((a, b) => (a.textContent < b.textContent ? -1 : 1)));
+      this.list.append(...[...this.list.children].sort((a, b) => inOrder(a.textContent, b.textContent)));
       this.tell(counts, "That is all.");
     } catch (fault) {
       this.told.textContent = fault.message;

@@ -1,10 +1,11 @@
 /** What stands above each view: the way to it, its name, and the other views of the same object. */
 import { link, make, nameText } from "./dom.js";
-import { ROOT, addressOf, foldersAbove, lastName } from "./places.js";
+import { ROOT, addressOf, foldersAbove } from "./places.js";
+import { nameAt } from "./trash.js";
 
 const VIEWS = [["open", "Contents"], ["access", "Access list"], ["who", "Who may do what"]];
 
-const nameOf = (place, path) => (path === ROOT ? place.room : lastName(path));
+const nameOf = (place, path) => (path === ROOT ? place.room : nameAt(path));
 
 function way(place) {
   const folders = foldersAbove(place.path).map((path) =>

@@ -154,7 +154,7 @@ const INSECURE = "This page needs https, or the address 127.0.0.1: elsewhere a b
 
 /** Whether the user wants to lose what is typed. */
 const mayLose = () => ask({ title: "Leave this?", words: make("p", {}, "What you typed is not saved."),
-  does: "Leave, and lose it" });
+  does: "Leave, and lose it", first: "Cancel" });
 
 function fail(words) {
   part("main").replaceChildren(make("p", { className: "fault" }, words));

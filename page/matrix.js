@@ -2,9 +2,9 @@
 import { button, labelled, make, nameText } from "./dom.js";
 import { head } from "./heads.js";
 import { joined, whomOf } from "./lists.js";
-import { shown } from "./names.js";
+import { byName, shown } from "./names.js";
 import { foldersAbove, inFolder, lastName, ROOT } from "./places.js";
-import { ALL, FOLDER, LEGEND, NOT_KNOWN, PASS_THROUGH, SHUT_OUT, levelOf, rightsIn } from "./rights.js";
+import { ALL, FOLDER, LEGEND, NOT_KNOWN, PASS_THROUGH, SHUT_OUT, askedOf, levelOf, rightsIn } from "./rights.js";
 import { kindBy } from "./trees.js";
 
 const MOST_USERS = 20; // columns shown at once
@@ -66,7 +66,7 @@ async function cellOf(questions, { path, kind }, user, groups) {
 function told({ path: itsPath, kind, user, allowed, barrier }) {
   const path = shown(itsPath);
   if (allowed === null && !barrier.folder) return `What ${user} may do with ${path}: ${NOT_KNOWN.tells}.`;
-  const rights = allowed ? joined(rightsIn(allowed, kind)) : "do nothing with it";
+  const rights = joined(rightsIn(askedOf(allowed, kind), kind)) || "do nothing with it";
   const may = allowed === null ? "" : `The list of ${path} lets ${user} ${rights}.`;
   if (barrier.folder) return `${user} may not pass through ${shown(barrier.folder)}, so cannot get at ${path}. ${may}`;
   return barrier.isKnown ? may : `${may} Whether ${user} may pass through each folder above is not known to you.`;
@@ -119,7 +119,7 @@ async function objectsOf(app, path) {
   const { kind } = await app.room.standing(path);
   const inside = kind === FOLDER ? await app.room.runIfAllowed("LIST", path) : null;
   const names = inside && kindBy(inside.names) === FOLDER ? inside.names : []; // (of a large file it has one row)
-  const children = names.map(([name, itsKind]) => ({ path: inFolder(path, name), kind: itsKind }));
+  const children = [...names].sort(byName).map(([name, itsKind]) => ({ path: inFolder(path, name), kind: itsKind }));
   return [{ path, kind }, ...children];
 }
 

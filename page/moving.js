@@ -2,13 +2,13 @@
 import { save } from "./bytes.js";
 import { ask, input } from "./dialogs.js";
 import { button, checkbox, make, nameText } from "./dom.js";
-import { NOBODY, isRefused, manifestAt, readFile, removeAll } from "./files.js";
+import { EXIST, NOBODY, NOENT, NOTDIR, isRefused, manifestAt, readFile, removeAll } from "./files.js";
 import { isPart } from "./manifest.js";
-import { clean, forDisk, shown } from "./names.js";
-import { ROOT, folderOf, inFolder, lastName, nameFault, namesOf } from "./places.js";
+import { byName, clean, forDisk, shown } from "./names.js";
+import { ROOT, folderOf, inFolder, nameFault, namesOf } from "./places.js";
 import { FOLDER } from "./rights.js";
 import { plural, sizeWords, transferring } from "./transfers.js";
-import { TRASH, makeTrash, mayMakeTrash, placeBefore, toTrash, trashOf } from "./trash.js";
+import { TRASH, calledAt, makeTrash, mayMakeTrash, nameAt, toTrash, toldBy, trashOf } from "./trash.js";
 import { below, copy, kindBy } from "./trees.js";
 import { Zip } from "./zip.js";
 
@@ -16,8 +16,8 @@ const LIKE_FILE = /\.[^.]{1,5}$/; // of such folders it is asked whether they ar
 
 /** A field that holds a folder, and walks; what is at `path` cannot go into itself. */
 class Chooser {
-  constructor(app, path) {
-    Object.assign(this, { app, path, value: folderOf(path) });
+  constructor(app, path, value) {
+    Object.assign(this, { app, path, value });
     this.element = make("fieldset", { className: "chooser" });
     this.draw();
   }
@@ -31,6 +31,7 @@ class Chooser {
       this.told.textContent = found.message ?? "This is a document.";
       return;
     }
+    found.names.sort(byName);
     const isNone = ([name, kind]) => kind !== FOLDER || isPart(name) || inFolder(to, name) === this.path;
     const isFile = await Promise.all(found.names.map((it) => isNone(it) ||
       LIKE_FILE.test(it[0]) && manifestAt(this.app.room, inFolder(to, it[0]))));
@@ -53,33 +54,33 @@ class Chooser {
   }
 }
 
-async function askWhere(app, path, words, does, task) {
-  const [chooser, name] = [new Chooser(app, path), input(lastName(path))];
+async function askWhere(app, path, { words, does, way = make("p", {}, words), start = folderOf(path) }, task) {
+  const [chooser, name] = [new Chooser(app, path, start), input(nameAt(path))];
   const to = () => inFolder(chooser.value, clean(name.value));
-  const isDone = await ask({ title: `${does} ${shown(lastName(path))}`, does: `${does} it there`,
-    words: [make("p", {}, words), chooser.element], fields: { name: { label: "Name there", field: name } },
+  const isDone = await ask({ title: `${does} ${shown(nameAt(path))}`, does: `${does} it there`,
+    words: [way, chooser.element], fields: { name: { label: "Name there", field: name } },
     faultOf: () => nameFault(clean(name.value)), task: () => task(to()) });
   return isDone && to();
 }
 
 export async function move(app, path) {
   const words = "What the new folder hands down takes the place of what the old one did.";
-  const to = await askWhere(app, path, words, "Move", (it) => app.room.run("RENAME", path, { to: it }));
-  if (to) await app.done(`${shown(path)} is now ${shown(to)}.`, { from: path, to });
+  const to = await askWhere(app, path, { words, does: "Move" }, (it) => app.room.run("RENAME", path, { to: it }));
+  if (to) await app.done(`${calledAt(path)} is now ${shown(to)}.`, { from: path, to });
 }
 
 export async function copyTo(app, path) {
   const words = "A copy is yours, and takes over what its new folder hands down.";
   const { room } = app;
-  const to = await askWhere(app, path, words, "Copy", async (it) => {
+  const to = await askWhere(app, path, { words, does: "Copy" }, async (it) => {
     if (`${it}/`.startsWith(`${path}/`)) throw new Error("Choose another place or name.");
     const isThere = await room.aside("STAT", it).then(() => true, (fault) => !isRefused(fault, 1));
     if (isThere) throw new Error("Something has this name already.");
   });
   if (!to) return;
-  await transferring(app, `Copy of ${shown(lastName(path))}`, { total: 1, unit: String }, async (transfer) => {
+  await transferring(app, `Copy of ${shown(nameAt(path))}`, { total: 1, unit: String }, async (transfer) => {
     await copy(room, path, to, transfer);
-    return `${shown(path)} is copied to ${shown(to)}.`;
+    return `${calledAt(path)} is copied to ${shown(to)}.`;
   });
 }
 
@@ -92,8 +93,9 @@ async function contentsWords(app, path) {
   const [folders, shut] = [found.length - files, found.filter((it) => it.isShut).length];
   if (found.length === 0) return [];
   const hidden = shut ? ` You may not look into ${shut} of them.` : "";
-  const words = `With it go ${plural(files, "document")} and ${plural(folders, "folder")} that are in it.${hidden}`;
-  return [make("p", { className: "fault" }, words)];
+  const counts = [files && plural(files, "document"), folders && plural(folders, "folder")].filter((it) => it);
+  const are = found.length === 1 ? "is" : "are";
+  return [make("p", { className: "fault" }, `With it go ${counts.join(" and ")} that ${are} in it.${hidden}`)];
 }
 
 /** What becomes of what is removed, in words, and a way to have a trash where there is none. */
@@ -121,12 +123,12 @@ export async function remove(app, path) {
   });
   const task = () => (isForGood ? removeAll(app.room, path) : toTrash(app.room, path, its.trash));
   const first = async () => toTrash(app.room, path, await makeTrash(app));
-  const done = await ask({ title: `Remove ${shown(lastName(path))}`, does: "Remove", task,
+  const done = await ask({ title: `Remove ${shown(nameAt(path))}`, does: "Remove", first: "Remove", task,
     words: [make("p", {}, its.words), ...(its.trash ? [box] : []), ...what,
       ...(its.mayMake ? [make("p", {}, WITH_TRASH)] : [])],
     others: its.mayMake ? [{ words: "Make a trash, and move it there", value: "trash", task: first }] : [] });
   const end = done === true && isForGood ? "removed" : "in the trash";
-  if (done) await app.done(`${shown(path)} is ${end}.`, { from: path, to: folderOf(path) });
+  if (done) await app.done(`${calledAt(path)} is ${end}.`, { from: path, to: folderOf(path) });
 }
 
 /** All that is in the user's trash. */
@@ -142,29 +144,52 @@ export async function emptyTrash(app, path) {
   }
 }
 
-/** Out of the trash, to where it was. */
+/** Why it cannot go back to that place, or nothing once it is there. */
+async function whyNotBack(room, path, place) {
+  if (!place) return "Its name does not tell where it was.";
+  try {
+    await room.run("RENAME", path, { to: place });
+    return "";
+  } catch (fault) {
+    if (isRefused(fault, EXIST)) return `Something else has the name ${shown(place)} now.`;
+    if (isRefused(fault, NOENT, NOTDIR)) return `The folder where it was, ${shown(folderOf(place))}, is there no more.`;
+    throw fault;
+  }
+}
+
+/** Out of the trash, to where it was, or where the user says if it cannot go there. */
 export async function putBack(app, path) {
-  const to = placeBefore(path);
-  const isDone = await app.attempt(() => app.room.run("RENAME", path, { to }));
-  if (isDone) await app.done(`${shown(to)} is there again.`, { from: path, to });
+  const { place } = toldBy(path);
+  let [why, to] = ["", place];
+  const isTried = await app.attempt(async () => {
+    why = await whyNotBack(app.room, path, place);
+  });
+  if (!isTried) return;
+  if (why) {
+    const start = await app.room.asideIfAllowed("LIST", folderOf(place ?? ROOT)) ? folderOf(place ?? ROOT) : ROOT;
+    const way = make("p", { className: "fault" }, why);
+    to = await askWhere(app, path, { way, does: "Put", start }, (it) => app.room.run("RENAME", path, { to: it }));
+  }
+  if (to) await app.done(`${shown(to)} is there again.`, { from: path, to });
 }
 
 /** A file to the user's disk, once its sum is right. */
 export async function download(app, path, size) {
-  const title = `Download of ${shown(lastName(path))}`;
+  const name = nameAt(path);
+  const title = `Download of ${shown(name)}`;
   const { room } = app;
   await transferring(app, title, { total: size ?? 0 }, async (transfer) => {
     const start = performance.now();
     const bytes = await readFile(room, path, transfer);
-    save(new Blob([bytes], { type: "application/octet-stream" }), lastName(path));
+    save(new Blob([bytes], { type: "application/octet-stream" }), name);
     const seconds = (performance.now() - start) / 1_000;
-    return `${shown(lastName(path))}: ${sizeWords(bytes.length)} in ${seconds.toFixed(1)} seconds.`;
+    return `${shown(name)}: ${sizeWords(bytes.length)} in ${seconds.toFixed(1)} seconds.`;
   });
 }
 
 /** A folder as a zip. What may not be read is told, and is not in it. */
 export async function downloadFolder(app, path) {
-  const name = path === ROOT ? app.room.name : lastName(path);
+  const name = path === ROOT ? app.room.name : nameAt(path);
   const { room } = app;
   await transferring(app, `Zip of ${shown(name)}`, { total: 0, unit: String }, async (transfer) => {
     const found = await below(room, path, transfer);

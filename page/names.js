@@ -29,3 +29,11 @@ export const forDisk = (name) =>
 
 /** As it is sent: one way to write each letter, and no blanks at the ends. */
 export const clean = (name) => name.normalize("NFC").trim();
+
+const { compare } = new Intl.Collator(undefined, { numeric: true });
+
+/** The order in which people look for names: capitals do not count before others, and 2 stands before 10. */
+export const inOrder = (one, other) => compare(one, other) || (one < other ? -1 : 1);
+
+/** The same of a listing, `[name, kind]`. */
+export const byName = ([one], [other]) => inOrder(one, other);

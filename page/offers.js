@@ -5,7 +5,7 @@ import { button } from "./dom.js";
 import * as moving from "./moving.js";
 import { ROOT, folderOf } from "./places.js";
 import { ADD_FILE, ADD_FOLDER, ALL, FILE, FOLDER, PASS_THROUGH as PASS, READ } from "./rights.js";
-import { placeBefore } from "./trash.js";
+import { toldBy } from "./trash.js";
 import { filesButton, newVersion } from "./uploads.js";
 
 const WRITE = 0x2;
@@ -28,7 +28,7 @@ export async function rightsAt(room, path) {
 
 /** Buttons for an object of a kind: FILE, FOLDER, "large" or "unfinished". */
 export function offersFor(app, path, kind, { own, above, size }) {
-  const [isFile, isLarge, isTop] = [kind === FILE, kind === "large", path === ROOT];
+  const [isFile, isLarge, isTop, isThrown] = [kind === FILE, kind === "large", path === ROOT, toldBy(path) !== null];
   const isOver = (isLarge || kind === "unfinished") && has(own, ADD_FILE, ADD_FOLDER, PASS);
   const isMovable = !isTop && (has(own, DELETE) || has(above, DELETE_CHILD));
   const replaces = kind === "unfinished" ? null : { mayKeep: has(own, READ) && has(above, ADD_FILE, ADD_FOLDER) };
@@ -36,10 +36,11 @@ export function offersFor(app, path, kind, { own, above, size }) {
     [isFile && has(own, READ) || isLarge && has(own, READ, PASS),
       () => button("Download", () => moving.download(app, path, size))],
     [kind === FOLDER && has(own, READ, PASS), () => button("Download as zip", () => moving.downloadFolder(app, path))],
-    [isFile && has(own, WRITE) || isOver,
+    [!isThrown && (isFile && has(own, WRITE) || isOver),
       () => filesButton("Upload a new version", { isOne: true }, (it) => newVersion(app, path, it, replaces))],
-    [isMovable && has(above, isFile ? ADD_FILE : ADD_FOLDER), () => button("Rename", () => actions.rename(app, path))],
-    [isMovable && placeBefore(path), () => button("Put back", () => moving.putBack(app, path))],
+    [!isThrown && isMovable && has(above, isFile ? ADD_FILE : ADD_FOLDER),
+      () => button("Rename", () => actions.rename(app, path))],
+    [isThrown && isMovable, () => button("Put back", () => moving.putBack(app, path))],
     [isMovable, () => button("Move", () => moving.move(app, path))],
     [!isTop && kind !== "unfinished" && has(own, READ), () => button("Copy", () => moving.copyTo(app, path))],
     [isMovable, () => button("Remove", () => moving.remove(app, path))],

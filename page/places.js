@@ -2,6 +2,7 @@
 
 const MAX_NAME_BYTES = 64;
 const MAX_NAMES = 16;
+export const MOST_THINGS = 256; // in a folder
 
 export const ROOT = "/";
 

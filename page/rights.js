@@ -56,7 +56,7 @@ const MORE = { name: "more", word: "view+", tells: "view and more, which is no s
 export const LEGEND = [...LEVELS.toReversed(), MORE, SOME, NONE, SHUT_OUT, NOT_KNOWN];
 
 /** The rights of a mask that commands ask for, of that kind of object. */
-function askedOf(mask, kind) {
+export function askedOf(mask, kind) {
   return RIGHTS.filter((it) => it.isAsked && !(kind === FILE && it.isOfFolders))
     .reduce((found, { bit }) => found | (mask & bit), 0);
 }

@@ -1,13 +1,13 @@
 /** The table of what is in a folder. Sizes are asked for rows that are seen, rights where a row's menu is opened. */
 import { button, link, make, nameText } from "./dom.js";
 import { manifestAt } from "./files.js";
-import { shown } from "./names.js";
+import { inOrder, shown } from "./names.js";
 import { offersFor, rightsOn } from "./offers.js";
 import { addressOf, inFolder } from "./places.js";
 import { FILE, FOLDER } from "./rights.js";
 import { SmallPictures } from "./small.js";
 import { sizeWords } from "./transfers.js";
-import { placeBefore } from "./trash.js";
+import { beforeWords, nameAt } from "./trash.js";
 import { kindBy } from "./trees.js";
 
 /** What a row's object is, and how large: `{kind, words, size}`. */
@@ -28,12 +28,16 @@ async function lookAt(room, path, kind) {
 class Row {
   constructor(app, place, [name, kind], rights, pictures) {
     Object.assign(this, { app, name, kind, rights, pictures, room: app.room, path: inFolder(place.path, name) });
+    this.called = nameAt(this.path);
     this.picture = pictures.placeOf(name);
     this.word = make("td", {}, kind === FOLDER ? "folder" : "document");
     this.menu = make("span", { className: "tools", hidden: true });
-    this.more = button("⋯", () => this.toggle(), { "aria-label": `More for ${shown(name)}`, "aria-expanded": "false" });
-    const its = link(addressOf({ room: place.room, path: this.path }), nameText(name));
-    this.element = make("tr", {}, make("th", { scope: "row" }, ...this.picture, its), this.word,
+    const words = `More for ${shown(this.called)}`;
+    this.more = button("⋯", () => this.toggle(), { "aria-label": words, "aria-expanded": "false" });
+    const its = link(addressOf({ room: place.room, path: this.path }), nameText(this.called));
+    const before = beforeWords(this.path);
+    const named = before ? make("div", {}, its, make("div", { className: "about" }, before)) : its;
+    this.element = make("tr", {}, make("th", { scope: "row" }, ...this.picture, named), this.word,
       make("td", { className: "own" }, this.more, this.menu));
     this.element.row = this;
   }
@@ -45,8 +49,7 @@ class Row {
 
   async #look() {
     const its = await lookAt(this.room, this.path, this.kind);
-    const from = placeBefore(this.path);
-    this.word.textContent = from ? `${its.words}, was ${shown(from)}` : its.words;
+    this.word.textContent = its.words;
     if (its.kind === "large") this.moveToDocuments();
     for (const it of this.picture) this.pictures.show(it, this.path, its.size);
     return its;
@@ -55,7 +58,7 @@ class Row {
   /** A large file stands among the documents, in order. */
   moveToDocuments() {
     const rows = [...this.element.closest("table")?.tBodies[1].rows ?? []];
-    const next = rows.find((it) => it.row.name > this.name);
+    const next = rows.find((it) => inOrder(it.row.name, this.name) > 0);
     if (next) next.before(this.element);
     else this.element.closest("table")?.tBodies[1].append(this.element);
   }
@@ -69,7 +72,7 @@ class Row {
     const offers = offersFor(this.app, this.path, its.kind, { own, above: this.rights.own, size: its.size });
     for (const it of offers) {
       const itsButton = it.querySelector("button") ?? it;
-      itsButton.setAttribute("aria-label", `${itsButton.textContent} ${shown(this.name)}`);
+      itsButton.setAttribute("aria-label", `${itsButton.textContent} ${shown(this.called)}`);
     }
     this.menu.replaceChildren(...offers.length ? offers : ["You may only look."]);
   }

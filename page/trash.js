@@ -1,11 +1,11 @@
 /** The trash: what was removed lies in /trash/USER, where that is there (docs/FILES.md has the names). */
 import { EXIST, NOENT, forEach, isRefused, orElse } from "./files.js";
-import { ROOT, folderOf, inFolder, lastName, namesOf, pathFault } from "./places.js";
+import { shown } from "./names.js";
+import { MOST_THINGS, ROOT, folderOf, inFolder, lastName, namesOf, pathFault } from "./places.js";
 import { ADD_FOLDER, ALL, FOLDER, VIEW } from "./rights.js";
 
 export const TRASH = "/trash";
 const MOST_NAME = 64; // bytes
-const MOST_THINGS = 256; // in a folder
 const ACCESS = 5; // a code of the room's
 const PROTECTED = 2; // a list that takes over nothing
 const HANDED_DOWN = 3; // to documents and folders
@@ -64,22 +64,51 @@ function nameInTrash(path, now) {
   return `${letters.join("")}…${ending}${end}`;
 }
 
+/** What to do where the trash is what does not take it, by the room's code. */
+const NOT_TAKEN = {
+  10: "In the trash something of it would have more than 16 names in its path. Move it higher first, or remove it " +
+    "for good.",
+  11: `The trash is full: it has ${MOST_THINGS} things in it. Empty it, or remove this for good.`,
+};
+
 export async function toTrash(room, path, trash) {
   for (let more = 0; ; more += 1) {
     const name = nameInTrash(path, new Date(Date.now() + more * 1_000));
     try {
       return await room.run("RENAME", path, { to: inFolder(trash, name) });
     } catch (fault) {
+      if (isRefused(fault, 10, 11)) throw new Error(NOT_TAKEN[fault.code]);
       if (!isRefused(fault, EXIST) || more === 30) throw fault;
     }
   }
 }
 
-/** Where something in a trash came from, or null where its name does not say. */
-export function placeBefore(path) {
-  const [name, ...rest] = lastName(path).split("~");
-  const stamp = rest.pop() ?? "";
-  const to = inFolder("/", ...rest, name);
-  const isTold = /^[0-9]{14}$/.test(stamp) && !path.includes("…") && pathFault(to) === "";
-  return folderOf(folderOf(path)) === TRASH && isTold ? to : null;
+function timeOf(stamp) {
+  const [, year, month, ...rest] = /^(\d{4})(\d\d)(\d\d)(\d\d)(\d\d)(\d\d)$/.exec(stamp) ?? [];
+  return year ? new Date(Date.UTC(year, month - 1, ...rest)) : null;
+}
+
+/** What the name of something in a trash tells: the `name` that it had, its `place`, or null where there was no room
+ * for that, and `when` it was removed. Null of anything else. */
+export function toldBy(path) {
+  const parts = lastName(path).split("~");
+  const when = timeOf(parts.pop());
+  if (folderOf(folderOf(path)) !== TRASH || !when || parts.length === 0) return null;
+  if (parts.length > 1 && parts.at(-1) === "…") return { name: parts.slice(0, -1).join("~"), place: null, when };
+  const place = inFolder(ROOT, ...parts.slice(1), parts[0]);
+  return path.includes("…") || pathFault(place) ? null : { name: parts[0], place, when };
+}
+
+/** The name that people know it by. */
+export const nameAt = (path) => toldBy(path)?.name ?? lastName(path);
+
+/** As `nameAt`, the path of what is in no trash. */
+export const calledAt = (path) => shown(toldBy(path)?.name ?? path);
+
+/** Where it was, and since when it is in a trash, in words, or nothing. */
+export function beforeWords(path) {
+  const its = toldBy(path);
+  const where = its?.place ? `was in ${shown(folderOf(its.place))}, ` : "";
+  const when = its?.when.toLocaleString(undefined, { dateStyle: "medium", timeStyle: "short" });
+  return its ? `${where}removed ${when}` : "";
 }

@@ -4,9 +4,10 @@ import { button, make } from "./dom.js";
 import { EXIST, NOBODY, forEach, orElse, readFile, writeFile } from "./files.js";
 import { MOST } from "./manifest.js";
 import { clean, shown } from "./names.js";
-import { folderOf, inFolder, lastName, nameFault, namesOf, withMark } from "./places.js";
+import { MOST_THINGS, folderOf, inFolder, lastName, nameFault, namesOf, withMark } from "./places.js";
 import { plural, sizeWords, transferring } from "./transfers.js";
 
+const MOST_TOLD = 10; // of many names or faults
 const AT_ONCE = 3; // files; the pieces of each go beside each other too
 
 /** A button by which the user chooses files, or with `isFolder` a folder; `chosen` gets them, each `{names, file}`. */
@@ -46,15 +47,34 @@ export async function dropped(data) {
 function faultOf({ names, file }) {
   const fault = names.map(clean).map(nameFault).find((it) => it !== "");
   if (fault) return `${shown(names.join("/"))}: ${fault}`;
-  return file?.size > MOST ? `${shown(names.join("/"))} has ${sizeWords(file.size)}; 16 MiB is the most.` : "";
+  return file?.size > MOST ? `${shown(names.join("/"))} has more than 16 MiB.` : "";
+}
+
+/** Those that can be sent. Where some cannot, it is said why, and asked whether the others shall go. */
+async function fitting(app, chosen) {
+  const faults = chosen.map(faultOf);
+  const fit = chosen.filter((_, at) => faults[at] === "");
+  const told = faults.filter((it) => it !== "");
+  if (told.length === 0) return fit;
+  if (chosen.length === 1) {
+    app.say(`${told[0]} Nothing was sent.`, false);
+    return [];
+  }
+  const isWanted = await ask({ title: `${told.length} of ${chosen.length} cannot be uploaded`, words: listed(told),
+    does: fit.length ? `Upload the other ${fit.length}` : "Close" });
+  return isWanted ? fit : [];
+}
+
+/** Some of many words, and how many more there are. */
+function listed(words) {
+  const more = words.length > MOST_TOLD ? [make("p", {}, `and ${words.length - MOST_TOLD} more.`)] : [];
+  return [make("ul", {}, ...words.slice(0, MOST_TOLD).map((it) => make("li", {}, it))), ...more];
 }
 
 /** Asks what to do with names that are there already: true to replace them, "both", "skip", or null. */
 function askAbout(clashes) {
-  const names = clashes.slice(0, 10).map((it) => make("li", {}, shown(it)));
-  const more = clashes.length > 10 ? [make("p", {}, `and ${clashes.length - 10} more.`)] : [];
   return ask({ title: clashes.length === 1 ? "This is there already" : "These are there already",
-    words: [make("ul", {}, ...names), ...more], does: "Replace what is there",
+    words: listed(clashes.map(shown)), does: "Replace what is there",
     others: [{ words: "Keep both", value: "both" }, { words: "Leave these out", value: "skip" }] });
 }
 
@@ -104,6 +124,22 @@ function foldersOf(wanted, folder) {
   return [...found].sort((a, b) => namesOf(a).length - namesOf(b).length);
 }
 
+/** Where folders would have more in them than they may, it is asked whether as much shall go as fits. */
+async function mayOverflow(wanted, folder, folders) {
+  const inside = new Map();
+  const paths = [...foldersOf(wanted, folder), ...wanted.filter((it) => it.file).map((it) => it.path)];
+  for (const path of paths) {
+    const above = folderOf(path);
+    if (!inside.has(above)) inside.set(above, new Set(await folders.names(above)));
+    inside.get(above).add(lastName(path));
+  }
+  const over = [...inside].filter(([, names]) => names.size > MOST_THINGS);
+  const most = `${MOST_THINGS} are the most.`;
+  const words = over.map(([path, names]) => `${shown(path)} would have ${names.size} things in it; ${most}`);
+  return words.length === 0 || ask({ title: "Too many for one folder", words: listed(words),
+    does: "Upload what fits" });
+}
+
 async function sendAll(app, transfer, wanted, folder) {
   const { room } = app;
   for (const path of foldersOf(wanted, folder)) await orElse(room.step("MKDIR", path), null, EXIST);
@@ -117,18 +153,20 @@ async function sendAll(app, transfer, wanted, folder) {
       faults.push(`${shown(lastName(path))}: ${fault.message}`);
     }
   }, AT_ONCE);
-  if (faults.length) throw new Error(`${faults.length} of ${plural(files.length, "file")} failed. ${faults.join(" ")}`);
+  if (faults.length) {
+    const more = faults.length > MOST_TOLD ? ` And ${faults.length - MOST_TOLD} more.` : "";
+    const told = faults.slice(0, MOST_TOLD).join(" ");
+    throw new Error(`${faults.length} of ${plural(files.length, "file")} failed. ${told}${more}`);
+  }
   const seconds = (performance.now() - start) / 1_000;
   return `${plural(files.length, "file")} uploaded: ${sizeWords(transfer.done)} in ${seconds.toFixed(1)} seconds.`;
 }
 
 /** Uploads what was chosen or dropped into the folder. */
 export async function upload(app, folder, chosen) {
-  if (chosen.length === 0) return;
-  const fault = chosen.map(faultOf).find((it) => it !== "");
-  if (fault) return app.say(`${fault} Nothing was sent.`, false);
+  const fit = await fitting(app, chosen);
   const folders = new Folders(app.room);
-  let wanted = chosen.map(({ names, file }) => ({ path: inFolder(folder, ...names.map(clean)), file, isNew: true }));
+  let wanted = fit.map(({ names, file }) => ({ path: inFolder(folder, ...names.map(clean)), file, isNew: true }));
   const clashes = await clashesOf(wanted, folders);
   const answer = clashes.length ? await askAbout(clashes.map((it) => it.path)) : true;
   if (answer === null) return;
@@ -137,7 +175,7 @@ export async function upload(app, folder, chosen) {
     if (answer === "both") it.path = await folders.free(it.path);
     else it.isNew = false;
   }
-  if (wanted.length) await start(app, wanted, folder);
+  if (wanted.length && await mayOverflow(wanted, folder, folders)) await start(app, wanted, folder);
 }
 
 /** Makes a copy of a file beside it, before it is replaced. */
@@ -159,7 +197,7 @@ function askToReplace(app, path, file, mayKeep) {
  * may lie beside it. */
 export async function newVersion(app, path, [it], replaces) {
   const fault = faultOf({ ...it, names: [lastName(path)] });
-  if (fault) return app.say(fault, false);
+  if (fault) return app.say(`${fault} Nothing was sent.`, false);
   if (replaces && !await askToReplace(app, path, it.file, replaces.mayKeep)) return;
   await start(app, [{ path, file: it.file, isNew: false }], folderOf(path));
 }

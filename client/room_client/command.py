@@ -198,10 +198,11 @@ def add_moves(commands) -> None:
                 ("source", {"metavar": "FROM"}), ("to", {"metavar": "TO"}),
                 ("--delete", {"action": "store_true", "help": "removes what FROM has not"}),
                 ("--dry-run", {"action": "store_true", "help": "tells what it would do"}), more=SYNC)
-    add_command(commands, "trash", documents.trash_can, "what is in your trash, and where it came from",
+    add_command(commands, "trash", documents.trash_can, "what is in your trash, and where it was",
                 ("action", {"nargs": "?", "choices": ["list", "empty", "restore"], "default": "list"}),
                 ("names", {"nargs": "*", "metavar": "NAME [TO]"}),
-                more="empty: removes it for good. restore: gives NAME its place back, or moves it to TO.")
+                more="empty: removes it for good. restore: gives NAME its place back, or moves it to TO; NAME is "
+                     "the name that it had, or the one in /trash/USER.")
 
 
 def add_rights(commands) -> None:

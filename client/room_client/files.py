@@ -154,10 +154,12 @@ class Upload:
                 remove_one(self.room, self.path)
             raise
         if not made:
-            self.share()
+            self.share(pieces_at(self.path, self.its))
             if text_at(self.room, self.path) != self.before:
                 self.give_way("")
         self.put_manifest(self.path, self.before is None)
+        if self.before is None and not made:
+            self.share([[f"{self.path}/{form.NAME}"]])
         try:
             self.look_after()
             clear_beside(self.room, self.path)
@@ -202,14 +204,14 @@ class Upload:
             clear(self.room, at, writing.rpartition("/")[2])
             raise
 
-    def share(self) -> None:
-        """The pieces belong to whom the file belongs, who may have no rights on what is somebody else's."""
-        its, ours = self.room.stat(self.path), self.room.stat(f"{self.path}/{self.its.folder}")
+    def share(self, levels: list[list[str]]) -> None:
+        """What was made belongs to whom the file belongs, who may have no rights on what is somebody else's."""
+        its, ours = self.room.stat(self.path), self.room.stat(levels[-1][0])
         whose = its["owner"], its["group"]
         if whose != (ours["owner"], ours["group"]):
-            refusal = give_pieces(self.room, self.path, self.its, *whose)
+            refusal = give_each(self.room, levels, *whose)
             if refusal:
-                self.room.say(f"{shown(self.path)}: the pieces stay yours, and {whose[0]} may lack rights on them: "
+                self.room.say(f"{shown(self.path)}: what was put stays yours, and {whose[0]} may lack rights on it: "
                               f"{refusal}")
 
     def give_way(self, more: str) -> None:
@@ -313,10 +315,15 @@ def carried(entry: dict) -> dict:
 
 # Owners
 
-def give_pieces(room: Room, at: str, its: Manifest, owner: str, group: str) -> Refused | None:
-    """Gives all pieces of a version to somebody, and then their folder; or why that is refused."""
+def pieces_at(at: str, its: Manifest) -> list[list[str]]:
+    """The pieces of a version, and then their folder."""
     folder = f"{at}/{its.folder}"
-    levels = [f"{folder}/{it}" for it in its.pieces], [folder]
+    return [[f"{folder}/{it}" for it in its.pieces], [folder]]
+
+
+def give_each(room: Room, levels: list[list[str]], owner: str, group: str) -> Refused | None:
+    """Gives what is at these paths to somebody, one level after another: whoever gave a folder may not pass through it
+    any more. Why that is refused, if it is."""
     for paths in levels:
         commands = [{"cmd": "CHOWN", "group": group, "owner": owner, "path": it} for it in paths]
         failed = next((it for it in zip(room.ask_all(commands), commands) if it[0]["code"]), None)
@@ -327,15 +334,7 @@ def give_pieces(room: Room, at: str, its: Manifest, owner: str, group: str) -> R
 
 def give(room: Room, path: str, its: Manifest, owner: str, group: str) -> Refused | None:
     """Gives a large file to somebody, its own folder last."""
-    refusal = give_pieces(room, path, its, owner, group)
-    if refusal:
-        return refusal
-    try:
-        room.chown(f"{path}/{form.NAME}", owner, group)
-        room.chown(path, owner, group)
-    except Refused as fault:
-        return fault
-    return None
+    return give_each(room, [*pieces_at(path, its), [f"{path}/{form.NAME}"], [path]], owner, group)
 
 
 # Removing and clearing

@@ -1,12 +1,14 @@
 """The trash: what was removed lies in /trash/USER, where that is there, until it is emptied. docs/FILES.md has the
 names."""
+import calendar
+import re
 import time
-from collections.abc import Iterator
+from dataclasses import dataclass
 
 from . import files
 from .faults import ACCESS, BadWords, Refused
 from .room import Room
-from .words import FOLDER, shown
+from .words import FOLDER, neat, shown
 
 TOP = "/trash"
 SEPARATOR, CUT = "~", "…"
@@ -40,11 +42,35 @@ def name_in_trash(path: str, stamp: str) -> str:
     return name + end
 
 
-def place_before(name: str) -> str | None:
-    """Where something in the trash came from, or None where its name does not say."""
-    its, *folders, stamp = name.split(SEPARATOR) if SEPARATOR in name else (name, "", "")
-    is_whole = len(stamp) == 14 and stamp.isdecimal() and its and all(folders) and CUT not in name
-    return "/" + "/".join([*folders, its]) if is_whole else None
+@dataclass(frozen=True)
+class Thrown:
+    """What a name in the trash tells: the name that it had, the folder where it was, if there was room for that, and
+    when it was removed."""
+    name: str
+    folder: str | None
+    when: float
+
+    @property
+    def place(self) -> str | None:
+        return None if self.folder is None else f"{self.folder.rstrip('/')}/{self.name}"
+
+    def words(self) -> str:
+        where = f"was in {shown(self.folder)}, " if self.folder else ""
+        return f"{where}removed {time.strftime('%Y-%m-%d %H:%M', time.localtime(self.when))}"
+
+
+def told_by(name: str) -> Thrown | None:
+    """None of a name that the trash did not give."""
+    *rest, stamp = name.split(SEPARATOR)
+    try:
+        when = calendar.timegm(time.strptime(stamp, STAMP))
+    except ValueError:
+        return None
+    if not all(rest) or not rest or not re.fullmatch("[0-9]{14}", stamp):
+        return None
+    if len(rest) > 1 and rest[-1] == CUT:
+        return Thrown(SEPARATOR.join(rest[:-1]), None, when)
+    return None if CUT in name else Thrown(rest[0], "/" + "/".join(rest[1:]), when)
 
 
 def put_in_trash(room: Room, path: str, trash: str) -> str:
@@ -95,12 +121,6 @@ def remove(room: Room, path: str, is_whole: bool) -> None:
         files.remove_all(room, path)
 
 
-def what_is_there(room: Room, trash: str) -> Iterator[tuple[str, str | None]]:
-    """Each thing in the trash, and where it came from."""
-    for name in room.children(trash):
-        yield name, place_before(name)
-
-
 def need_trash(room: Room) -> str:
     trash = trash_of(room)
     if trash is None:
@@ -108,12 +128,38 @@ def need_trash(room: Room) -> str:
     return trash
 
 
-def restore(room: Room, name: str, to: str | None) -> str:
+def is_called(name: str, called: str) -> bool:
+    """Whether something of that name in the trash is called so: by that name, or by the one that it had."""
+    its = told_by(name)
+    return called == name or its is not None and its.name in (called, neat(called))
+
+
+def named(room: Room, trash: str, called: str) -> str:
+    """The name in the trash of what is called so."""
+    names = room.children(trash)
+    found = [it for it in names if is_called(it, called)]
+    if called in names or not found:
+        return called
+    if len(found) > 1:
+        each = ", ".join(f"'{shown(it)}' ({told_by(it).words()})" for it in found)
+        raise BadWords(f"{len(found)} things in the trash had the name {shown(called)}: name one as it is there: "
+                       f"{each}")
+    return found[0]
+
+
+def restore(room: Room, called: str, to: str | None) -> str:
     """Gives something its place back."""
     trash = need_trash(room)
-    place = to or place_before(name)
+    above = f"{trash}/"
+    done = room.was_done(lambda it: it["cmd"] == "RENAME" and it["path"].startswith(above) and (
+        is_called(it["path"].removeprefix(above), called)) and to in (None, it["to"]))
+    if done:
+        return done["to"]
+    name = named(room, trash, called)
+    its = told_by(name)
+    place = to or its and its.place
     if place is None:
-        raise BadWords(f"the name does not say where it came from: room trash restore '{shown(name)}' TO")
+        raise BadWords(f"its name does not tell where it was: room trash restore '{shown(called)}' TO")
     room.rename(f"{trash}/{name}", place)
     return place
 

@@ -4,9 +4,10 @@ import re
 import subprocess
 
 from desk import COMMAND, Desk
-from served import HERE, ROSTER
+from served import HERE, ROSTER, text_of
 
-DOC = os.path.join(HERE, "..", "docs", "CLIENT.md")
+TOP = os.path.join(HERE, "..")
+DOC = os.path.join(TOP, "docs", "CLIENT.md")
 
 
 class Docs(Desk):
@@ -24,3 +25,14 @@ class Docs(Desk):
             done = subprocess.run(["bash", "-c", line], **how)
             want = re.sub("^    ", "", want, flags=re.MULTILINE)
             self.assertEqual((done.stdout, done.stderr), (want, ""), line)
+
+    def test_ports(self):
+        """Where an address stands as an example, its port is the one that the front, or a first room, has."""
+        front = re.search(r"listen 127\.0\.0\.1:(\d+)", text_of(os.path.join(TOP, "front", "listen.conf")))[1]
+        admin = text_of(os.path.join(TOP, "service", "admin", "fileroom_admin", "commands.py"))
+        ports = {"/": front, "": re.search(r"PORTS = range\((\d+),", admin)[1]}
+        names = "README.md", "docs/CLIENT.md", "docs/RUNNING.md", "client/room_client/__init__.py"
+        for text in self.does("--help")[1], *(text_of(os.path.join(TOP, it)) for it in names):
+            found = re.findall(r"http://127\.0\.0\.1:(\d+)(/?)", text)
+            self.assertTrue(found)
+            self.assertEqual([port for port, kind in found if port != ports[kind]], [], text[:60])

@@ -543,6 +543,19 @@ class Kept(Behind):
             self.assertEqual(self.parts(room, "/a"), [".room-pieces"])
         self.assertEqual(said, [])
 
+    def test_what_somebody_else_finishes(self):
+        """An upload of ann's that was stopped (bob has rights by his name, and ann as the owner alone)."""
+        with self.behind() as room:
+            room.set_list("/", 0, [{"flag": 3, "mask": 0x1F07FF, "type": 0, "who": "OWNER@"},
+                                   {"flag": 3, "mask": 0x1301EF, "type": 0, "who": "bob"}])
+            for path in "/a", "/a/.room-writing-0123456789abcdef":
+                room.mkdir(path)
+        data = some(PIECE + 1, 1)
+        with self.room(user="bob", say=lambda _: None) as bob:
+            files.write(bob, "/a", data)
+        with self.behind() as room:
+            self.assertEqual(files.read(room, "/a"), data)
+
     def test_rights_and_owner_by_command(self):
         data = some(PIECE + 1, 1)
         self.file("in", data)

@@ -248,9 +248,10 @@ class Trash(Behind):
         first, second = self.in_trash()
         self.assertRegex(first, "^a.txt~d~e~[0-9]{14}$")
         self.assertRegex(second, "^large~d~[0-9]{14}$")
-        self.prints("trash", want=f"{first}  (from /d/e/a.txt)\n{second}  (from /d/large)\n")
+        self.assertRegex(self.does("trash")[1], r"\Aa\.txt  \(was in /d/e, removed 20\d\d-\d\d-\d\d \d\d:\d\d\)\n"
+                         r"large  \(was in /d, removed 20.*\)\n\Z")
         self.prints("trash", "restore", first, want="/d/e/a.txt: restored\n")
-        self.prints("trash", "restore", second, "/big", want="/big: restored\n")
+        self.prints("trash", "restore", "large", "/big", want="/big: restored\n")
         self.prints("get", "/d/e/a.txt", want="x")
         self.prints("rm", "/big", want="/big: in /trash/ann\n")
         self.refuses("rm", "/d", want="NOTEMPTY (6) at /d: the folder has something in it: remove that first")
@@ -263,6 +264,21 @@ class Trash(Behind):
             self.prints("put", "-", "/d/x", stdin=b"x", want="/d/x: 1 bytes\n")
             self.prints("rm", "/d/x", want="/d/x: in /trash/ann\n")
         self.assertEqual(len(self.in_trash()), 3)
+        status, _, err = self.does("trash", "restore", "x")
+        self.assertEqual(status, 2)
+        self.assertRegex(err, r"3 things in the trash had the name x: name one as it is there: 'x~d~\d+' \(was in /d, ")
+        self.prints("trash", "restore", self.in_trash()[1], want="/d/x: restored\n")
+        self.assertEqual(len(self.in_trash()), 2)
+
+    def test_restored_once_though_its_answer_was_lost(self):
+        self.prints("rm", "/d/e/a.txt", want="/d/e/a.txt: in /trash/ann\n")
+        self.front.faults[:] = ["pass"] * 2 + ["lose"] + [504] * 99
+        status, _, err = self.does("trash", "restore", "a.txt", flags=["--patience", "0.2"])
+        self.assertEqual(status, 3, err)
+        del self.front.faults[:]
+        status, out, err = self.does("trash", "restore", "a.txt")
+        self.assertEqual((status, out), (0, "/d/e/a.txt: restored\n"), err)
+        self.assertIn("that was this very request, done once", err)
 
     def test_for_good(self):
         self.prints("rm", "--for-good", "/d/large", want="/d/large: removed\n")
@@ -307,5 +323,9 @@ class Trash(Behind):
         ]:
             self.assertEqual(trash.name_in_trash(path, stamp), name)
             self.assertLessEqual(len(name.encode()), 64)
-            self.assertEqual(trash.place_before(name), (path if place is None else place or None))
-        self.assertIsNone(trash.place_before("odd"))
+            its = trash.told_by(name)
+            self.assertEqual(its.place, (path if place is None else place or None))
+            self.assertEqual((its.name, its.when), (name.removesuffix(f"~{stamp}").removesuffix("~…") if not its.place
+                                                    else path.rpartition("/")[2], 1795729387))
+        for name in "odd", stamp, f"~{stamp}", f"a~20261326214307", f"a~…b~{stamp}":
+            self.assertIsNone(trash.told_by(name), name)

@@ -93,8 +93,21 @@ def sizes(club, differs):
     differs("what comes back", saved(club, "of 65537") == data["of 65537"], True)
     sent = len(club.lossy.bodies)
     put(club, "/big", on_disk(club, "too large", bytes(16 * MIB + 1)))
-    differs("too large", browser.sees("16 MiB is the most. Nothing was sent.", "#notices"), True)
+    differs("too large", browser.sees("too large has more than 16 MiB. Nothing was sent.", "#notices"), True)
+    long_name = "\u00e4" * 33
+    both = on_disk(club, "too large", bytes(16 * MIB + 1)), on_disk(club, long_name, b"x")
+    put(club, "/big", *both)
+    browser.sees("2 of 2 cannot be uploaded", "dialog")
+    browser.press("Close", "//dialog[@open]")
     differs("nothing was sent of it", [it for it in club.lossy.bodies[sent:] if b"CREATE" in it or b"MKDIR" in it], [])
+    put(club, "/big", *both, on_disk(club, "fits", b"fits"))
+    browser.sees("2 of 3 cannot be uploaded", "dialog")
+    for told in "too large has more than 16 MiB.", f"{long_name}: This name has 66 bytes, and 64 is the most.":
+        differs(told, browser.sees(told, "dialog li"), True)
+    browser.press("Upload the other 1")
+    browser.sees("1 file uploaded", "#notices")
+    differs("the one that fits", held(club, "/big/fits"), b"fits")
+    club.holds({"cmd": "REMOVE", "path": "/big/fits"})
 
 
 def largest(club, differs):
@@ -292,6 +305,27 @@ def drops(club, differs):
         differs(f"chosen: {name}", held(club, f"/chosen/{name}") == it, True)
 
 
+def too_many(club, differs):
+    """More than a folder holds is told before anything is sent; as much goes as fits, and the rest is told in short."""
+    browser = club.browser
+    for count in range(250):
+        on_disk(club, f"many/{count}", b"")
+    club.holds({"cmd": "MKDIR", "path": "/full"})
+    for count in range(20):
+        club.holds({"cmd": "CREATE", "path": f"/full/there {count}", "data": ""})
+    files = [os.path.join(club.folder, "disk", "many", str(count)) for count in range(250)]
+    put(club, "/full", *files)
+    differs("it is told", browser.sees("/full would have 270 things in it; 256 are the most.", "dialog li"), True)
+    browser.press("Cancel", "//dialog[@open]")
+    differs("nothing was sent", len(club.names("/full")), 20)
+    put(club, "/full", *files)
+    browser.press("Upload what fits")
+    browser.sees("14 of 250 files failed.", "#notices")
+    browser.sees("And 4 more.", "#notices")
+    differs("in short", browser.shown().count("The folder is full"), 10)
+    differs("what fits", len(club.names("/full")), 256)
+
+
 def both_ways(club, differs):
     """What the page wrote the command `room` reads, and the other way round; trash and names too."""
     browser = club.browser
@@ -318,6 +352,33 @@ def both_ways(club, differs):
         club.holds({"cmd": "REMOVE", "path": path})
 
 
+def of_somebody_else(club, differs):
+    """Who writes a new version of another's file gives it to its owner, who may have no right on what is theirs not."""
+    browser = club.browser
+    change = {"type": 0, "flag": 3, "mask": 0x1301EF, "who": "eve"}
+    alone = {"aclflag": 2, "entries": [{"type": 0, "flag": 3, "mask": 0x1F07FF, "who": "OWNER@"}, change]}
+    club.holds({"cmd": "MKDIR", "path": "/ours"})
+    club.holds({"cmd": "SETLIST", "path": "/ours", **alone})
+    put(club, "/ours", on_disk(club, "large", dice.randbytes(PIECE + 1)), on_disk(club, "small", b"small"))
+    browser.sees("2 files uploaded", "#notices")
+    for path in "/ours/stopped", "/ours/stopped/.room-writing-0123456789abcdef":
+        club.holds({"cmd": "MKDIR", "path": path})
+    data = dice.randbytes(2 * PIECE + 1)
+    club.log_in("eve")
+    for name in "large", "small", "stopped":
+        path = f"/ours/{name}"
+        club.go(f"#open/club{path}")
+        file = on_disk(club, "of eve", data)
+        choose(browser, "Upload a new version", file) if name == "stopped" else replace(browser, file)
+        browser.sees("1 file uploaded", "#notices")
+        differs(f"ann reads what eve wrote: {name}", held(club, path) == data, True)
+        inside = [f"{path}/{it}" for it in names_at(club, path)]
+        pieces = [f"{at}/{it}" for at in inside for it in names_at(club, at)]
+        owners = {club.holds({"cmd": "STAT", "path": it}).get("owner") for it in [path, *inside, *pieces]}
+        differs(f"all of it is ann's: {name}", (len(inside), len(pieces), owners), (2, 3, {"ann"}))
+    club.log_in("ann")
+
+
 def room(club, *words):
     """What the command writes, as ann straight at the room."""
     command = [os.path.join(HERE, "..", "client", "room"), "--url", f"http://127.0.0.1:{club.room.port}", "--room-user",
@@ -327,4 +388,4 @@ def room(club, *words):
     return done.stdout
 
 
-SCENES = [sizes, largest, versions, overtaken, stopped, late, left_beside, drops, both_ways]
+SCENES = [sizes, largest, versions, of_somebody_else, overtaken, stopped, late, left_beside, drops, too_many, both_ways]

@@ -140,15 +140,21 @@ def removed(club, differs):
     names = list(names_at(club, "/trash/ann"))
     differs("its name there", [bool(re.fullmatch(r"t~other~[0-9]{14}", it)) for it in names], [True])
     club.go("#open/club/trash/ann")
-    browser.press(f"More for {names[0]}")
-    browser.press(f"Put back {names[0]}")
+    told = row(browser, "t")
+    differs("its name, where it was, and when", bool(re.fullmatch(
+        r"t\n+was in /other, removed .*20\d\d.*\d:\d\d.*\n+folder.*\n+⋯", told)) or told, True)
+    browser.press("More for t")
+    browser.press("Put back t")
     browser.sees("/other/t is there again.", "#notices")
     differs("where it was", [list(names_at(club, "/other")), names_at(club, "/trash/ann")], [["t"], {}])
     club.holds({"cmd": "RENAME", "path": "/other/t", "to": f"/trash/ann/{names[0]}"})
     club.go("#open/club")
     club.go("#open/club/trash/ann")
-    browser.press(f"More for {names[0]}")
-    browser.press(f"Remove {names[0]}")
+    browser.follow("t")
+    browser.sees("group eng, was in /other, removed ", "main .about")
+    club.go("#open/club/trash/ann")
+    browser.press("More for t")
+    browser.press("Remove t")
     browser.sees("It cannot be brought back.", "dialog")
     browser.press("Remove", "//dialog[@open]")
     browser.sees("is removed.", "#notices")
@@ -180,16 +186,120 @@ def trashed(club, differs):
     to_new_trash(club, path)
     club.go("#open/club")
     browser.follow("Your trash")
-    browser.until("where they were", lambda: browser.shown().count(f"was {path}") == 2)
+    browser.until("where they were", lambda: browser.shown().count("was in /other, removed ") == 2)
+    differs("what is offered for the trash itself", browser.script(
+        "return [...document.querySelectorAll('main > .tools > *')].map((it) => it.textContent)"),
+        ["Search", "Empty the trash"])
     browser.devtools("Emulation.setDeviceMetricsOverride", width=360, height=740, deviceScaleFactor=1, mobile=True)
     wide = browser.script("return document.querySelector('.things th').offsetWidth")
     differs("names on 360 pixels", wide > 100, True)
     browser.devtools("Emulation.clearDeviceMetricsOverride")
     browser.press("Empty the trash")
-    differs("how much", browser.sees("With it go 2 documents and 0 folders", "dialog"), True)
+    differs("how much", browser.sees("With it go 2 documents that are in it.", "dialog"), True)
     browser.press("Remove all of it")
     browser.sees("The trash is empty.", "#notices")
     differs("it is empty", names_at(club, "/trash/ann"), {})
+
+
+def elsewhere(club, differs):
+    """What cannot go back to where it was goes where the user says, by its own name."""
+    browser, stamp, trash = club.browser, "20261126214307", "/trash/ann"
+    wide = "\u00e4" * 15
+    thrown = {"taken.txt": f"taken.txt~other~{stamp}", "gone.txt": f"gone.txt~left~{stamp}",
+              f"{wide}.txt": f"{wide}.txt~…~{stamp}"}
+    why = {"taken.txt": "Something else has the name /other/taken.txt now.",
+           "gone.txt": "The folder where it was, /left, is there no more.",
+           f"{wide}.txt": "Its name does not tell where it was."}
+    club.holds({"cmd": "CREATE", "path": "/other/taken.txt", "data": ""})
+    for called, name in thrown.items():
+        club.holds({"cmd": "CREATE", "path": f"{trash}/{name}", "data": "aGk="})
+    for called in thrown:
+        club.go("#open/club")
+        club.go("#open/club/trash/ann")
+        browser.press(f"More for {called}")
+        browser.sees("Put back", ".things")
+        buttons = browser.script("return [...document.querySelectorAll('.things .tools button')].map((it) => "
+                                 "it.textContent)")
+        differs("what is offered in the trash", buttons, ["Download", "Put back", "Move", "Copy", "Remove"])
+        browser.press(f"Put back {called}")
+        differs(f"why {called} cannot", browser.sees(why[called], "dialog"), True)
+        if called != "taken.txt":
+            browser.press("other", "//dialog[@open]")
+        browser.sees("To the folder /other", "dialog")
+        differs("its own name", browser.script("return document.querySelector('dialog input').value"), called)
+        browser.fill("Name there", f"back {called}")
+        browser.press("Put it there")
+        browser.sees(f"/other/back {called} is there again.", "#notices")
+        differs(f"{called} is back", club.text(f"/other/back {called}"), "hi")
+    differs("nothing is left", names_at(club, trash), {})
+    for name in club.names("/other"):
+        if name.startswith(("back ", "taken")):
+            club.holds({"cmd": "REMOVE", "path": f"/other/{name}"})
+
+
+def full(club, differs):
+    """Where the trash is full, or would be too deep, it is said what to do, and nothing is lost."""
+    browser, trash, path = club.browser, "/trash/ann", "/other/kept.txt"
+    for count in range(256):
+        club.holds({"cmd": "CREATE", "path": f"{trash}/{count}", "data": ""})
+    club.holds({"cmd": "CREATE", "path": path, "data": "aGk="})
+    club.go("#open/club")
+    club.go(f"#open/club{path}")
+    browser.press("Remove", "//main")
+    browser.press("Remove", "//dialog[@open]")
+    differs("it is full", browser.sees(
+        "The trash is full: it has 256 things in it. Empty it, or remove this for good.", "dialog"), True)
+    differs("it is still there", club.text(path), "hi")
+    browser.act("//dialog[@open]//label[contains(., 'for good')]", "click")
+    browser.press("Remove", "//dialog[@open]")
+    browser.sees(f"{path} is removed.", "#notices")
+    for count in range(256):
+        club.holds({"cmd": "REMOVE", "path": f"{trash}/{count}"})
+    deep = "/d" * 15
+    for count in range(1, 16):
+        club.holds({"cmd": "MKDIR", "path": "/d" * count})
+    club.go("#open/club/d")
+    browser.press("Remove", "//main")
+    browser.press("Remove", "//dialog[@open]")
+    differs("too deep", browser.sees("In the trash something of it would have more than 16 names", "dialog"), True)
+    browser.press("Cancel", "//dialog[@open]")
+    browser.until("no question", lambda: not browser.script("return document.querySelector('dialog[open]')") or
+                  browser.press("Discard it"))
+    for count in range(15, 0, -1):
+        club.holds({"cmd": "REMOVE", "path": deep[:2 * count]})
+
+
+def in_order(club, differs):
+    """Names stand as people look for them, large files among the others: in a folder, where one chooses one, in the
+    matrix, and where they were found."""
+    browser, order = club.browser, ["apple", "Bread 2", "bread 10", "\u00c4pfel", "Zebra", "\u00f6l"]
+    wanted = ["\u00c4pfel", "apple", "Bread 2", "bread 10", "\u00f6l", "Zebra"]
+    for top, command in ("/order", {"cmd": "MKDIR"}), ("/order/f", {"cmd": "CREATE", "data": ""}):
+        club.holds({"cmd": "MKDIR", "path": top})
+        for name in order:
+            club.holds({**command, "path": f"{top}/{name}"})
+    put(club, "/order/f", on_disk(club, "Bread 3", bytes(PIECE + 1)))
+    browser.sees("1 file uploaded", "#notices")
+    club.go("#open/club/order/f")
+    browser.until("its size", lambda: "64 KiB" in row(browser, "Bread 3"))
+    names = "return [...document.querySelectorAll(arguments[0])].map((it) => it.textContent)"
+    files = [*wanted[:3], "Bread 3", *wanted[3:]]
+    differs("documents", browser.script(names, ".things bdi"), files)
+    club.go("#who/club/order/f")
+    browser.sees("Zebra", ".matrix")
+    shown = [it.removesuffix("/") for it in browser.script(names, ".matrix tbody th")]
+    differs("in the matrix", shown, ["f", *files])
+    club.go("#open/club/order/f/apple")
+    browser.press("Move", "//main")
+    browser.press("One up", "//dialog[@open]")
+    browser.sees("To the folder /order", "dialog")
+    folders = ["One up", *wanted[:4], "f", *wanted[4:]]
+    browser.until("folders", lambda: browser.script(names, ".chooser button") == folders)
+    browser.press("Cancel", "//dialog[@open]")
+    club.go("#find/club/order/f")
+    browser.press("Search", "//main")
+    browser.sees("That is all.", "main")
+    differs("found", browser.script(names, ".found li"), [f"/order/f/{it}" for it in files])
 
 
 def to_new_trash(club, path):
@@ -274,4 +384,4 @@ def offered(club, differs):
             ["Append", "Edit", "Download", "Upload a new version", "Rename", "Move", "Copy", "Remove"])
 
 
-SCENES = [wholes, trashed, previews, small_pictures, pdfs, offered]
+SCENES = [wholes, trashed, elsewhere, full, in_order, previews, small_pictures, pdfs, offered]

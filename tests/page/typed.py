@@ -46,14 +46,19 @@ def leaving(club, differs):
     browser.fill("Text", "typed")
     browser.keys("escape", "escape", "escape")
     differs("escape asks", browser.sees("What you typed is not saved.", "dialog"), True)
-    browser.press("Go on typing")
-    differs("it is still there", browser.script("return document.querySelector('textarea').value"), "typed")
+    differs("the focus is on what loses nothing", browser.script(FOCUS), "Go on typing")
+    browser.keys("space")
+    browser.until("the question goes", lambda: "not saved" not in browser.shown())
+    browser.keys(" on")
+    differs("it is still there, and goes on", browser.script("return document.querySelector('textarea').value"),
+            "typed on")
     differs("a closed tab asks", browser.script(ASKED), True)
     browser.script("history.back()")
     browser.sees("Leave this?", "dialog h2")
+    differs("nothing is lost by a key", browser.script(FOCUS), "Cancel")
     differs("back stays", browser.script("return location.hash"), "#open/club/plans/june.txt")
     browser.press("Cancel", "//dialog[@aria-label='Leave this?']")
-    differs("after staying", browser.script("return document.querySelector('textarea').value"), "typed")
+    differs("after staying", browser.script("return document.querySelector('textarea').value"), "typed on")
     browser.script("history.back()")
     browser.press("Leave, and lose it")
     browser.until("the folder", lambda: browser.script("return document.querySelector('main').dataset.place") != "x")
@@ -68,6 +73,22 @@ def leaving(club, differs):
     differs("a list that was changed asks", browser.sees("Leave this?", "dialog h2"), True)
     browser.press("Leave, and lose it")
     browser.sees("plans", ".things")
+
+
+def at_work(club, differs):
+    """A dialog whose request takes a while shows that, and cannot be pressed again."""
+    browser, lossy = club.browser, club.lossy
+    club.go("#open/club/plans")
+    lossy.hold('"MKDIR"')
+    browser.press("New folder")
+    browser.fill("Name", "slow")
+    browser.press("Make")
+    differs("it is under way", browser.sees("Under way …", "dialog"), True)
+    dim = "return Number(getComputedStyle(document.querySelector('dialog[open] form')).opacity)"
+    browser.until("it is dim", lambda: browser.script(dim) < 0.7)
+    lossy.go_on()
+    browser.sees("Folder slow is made.")
+    club.holds({"cmd": "REMOVE", "path": "/plans/slow"})
 
 
 def lines(club, differs):
@@ -101,10 +122,31 @@ def conflicts(club, differs):
         browser.press(words)
         browser.sees("theirs", "main pre")
         differs("theirs stands", club.text("/plans/june.txt"), left)
+    both_in_one(club, differs)
     differs("mine is beside it", club.text("/plans/june (copy of ann).txt"), "mine")
     differs("and once", len(club.names("/plans")), 2)
     club.holds({"cmd": "REMOVE", "path": "/plans/june (copy of ann).txt"})
     lists_at_once(club, differs)
+
+
+def both_in_one(club, differs):
+    """Whoever saw the other's text goes on with the own one, and puts both together, unless another came since."""
+    browser, path = club.browser, "/plans/june.txt"
+    told = "Nothing was replaced yet."
+    browser.press("Edit")
+    browser.fill("Text", "mine")
+    for theirs in "theirs again", "theirs once more":
+        club.holds({"cmd": "WRITE", "path": path, "data": club.base64(theirs.encode())})
+        browser.press("Replace")
+        browser.sees(theirs, "dialog pre")
+        browser.press("Go on with mine")
+        browser.sees(told, "dialog")
+    differs("mine is still there", browser.script("return document.querySelector('textarea').value"), "mine")
+    browser.fill("Text", "theirs and mine")
+    browser.press("Replace")
+    browser.sees("Replaced.")
+    differs("both in one", club.text(path), "theirs and mine")
+    club.holds({"cmd": "WRITE", "path": path, "data": "dGhlaXJz"})
 
 
 def lists_at_once(club, differs):
@@ -174,4 +216,4 @@ def log_out(club, differs):
     club.log_in("ann")
 
 
-SCENES = [names, leaving, lines, conflicts, stays, one_vocabulary, log_out]
+SCENES = [names, leaving, at_work, lines, conflicts, stays, one_vocabulary, log_out]

@@ -164,8 +164,7 @@ def throws_away(club, browser, differs):
     browser.sees("is in the trash.", "#notices")
     club.go("#open/club")
     browser.follow("Your trash")
-    name = next(it for it in names_at(club, "/trash/ann") if it.startswith("minutes.txt~"))
-    by_menu(browser, name, "Put back")
+    by_menu(browser, "minutes.txt", "Put back")
     browser.sees("is there again.", "#notices")
     differs("the minutes are back", "minutes.txt" in names_at(club, f"{TOP}/2027"), True)
 
