@@ -5,11 +5,15 @@ import shutil
 import socket
 import subprocess
 import threading
+import time
 
 from lab import BRIDGE, PATH, UNSHARE, Machine, sh, until
 from served import end_with_parent
 
 STRIP = 7777  # the port of the power strip, at the bridge's address
+# seconds between the answer that a machine is off and its start: one that is back before the manager has heard of it
+# takes itself for fenced, and stays down
+OFF = 3
 OF_SYSTEMD = ("/lib/systemd/systemd", "systemctl", "dbus-daemon", "journalctl")
 ENABLED = ("nginx", "pcsd", "corosync", "pacemaker", "ssh")  # what Debian's packages enable
 # what the first process does: folders of its own over those of the machine below, few devices, and then systemd
@@ -137,7 +141,7 @@ class Booted(Machine):
             self.generation, self.first = self.generation + 1, None
             how = {"stdin": subprocess.DEVNULL, "stdout": subprocess.DEVNULL, "stderr": subprocess.DEVNULL}
             self.shell = subprocess.Popen(self.first_words(), preexec_fn=end_with_parent, **how)
-            until(lambda: self.find_first() and self.is_begun(), 60, f"{self.name} starts", 0.05)
+            until(lambda: self.find_first() and self.is_begun(), 120, f"{self.name} starts", 0.05)
             self.link_up()
             self.run("ip", "addr", "add", f"192.0.2.{self.number}/24", "dev", "eth0")
             return self
@@ -169,9 +173,13 @@ class Strip:
                 self.one(self.listener.accept()[0])
 
     def one(self, line):
+        action = name = ""
         with contextlib.suppress(OSError), line:
             action, name = (line.recv(100).decode().split() + [""])[:2]
             line.sendall(str(self.does(action, self.machines.get(name))).encode())
+        if action == "reboot" and self.works and name in self.machines:
+            time.sleep(OFF)
+            self.machines[name].boot()
 
     def does(self, action, machine):
         """The status that the agent ends with."""
@@ -184,6 +192,6 @@ class Strip:
         with machine.lock:
             if action in ("off", "reboot"):
                 machine.kill()
-            if action in ("on", "reboot") and not machine.is_up():
+            if action == "on" and not machine.is_up():
                 machine.boot()
             return 2 if action == "status" and not machine.is_up() else 0

@@ -13,7 +13,7 @@ from lab import BRIDGE, PATH, Lab, sh, until
 from load import DELAY, USERS, Load
 from nginx import certified, login
 from served import PROGRAM, first_answer, message, text_of
-from standby import AS_USER, DB, FOLDER, NAME, ROSTER, TOP, kept_words, look_at_tables
+from standby import AS_USER, BRICK, DB, NAME, ROSTER, TOP, kept_words, look_at_tables
 
 NEEDED = ("pcs", "pacemakerd", "corosync", "crm_mon", "nginx", "openssl", "sshd", "ssh-keygen", "setpriv",
           "modprobe", "fuser")
@@ -24,9 +24,18 @@ ADDRESS, SITE = "192.0.2.100", "room.example"
 CERT = f"/etc/letsencrypt/live/{SITE}"
 ROOM, GROUP = f"fileroom-standby@{NAME}", f"{NAME}-room"
 WELL = f"{NAME}: all is as it must be; "
-TAKEN, BACK = 120, 300  # seconds: far more than it takes, on a machine that others use
+COPIED = f"for the machines of {NAME}: fileroom-standby copy {NAME} | sh"
+TAKEN, BACK = 300, 600  # seconds: far more than it takes, on a machine that others use
 UNFENCED = 40  # seconds in which a machine that could be fenced would have been
 ATTEMPT = 5  # seconds that a client waits for one answer
+# `pcs`, but that it waits five minutes for the daemon of another machine, and not one: a loaded machine is slow
+PATIENT_PCS = """#!/usr/bin/python3 -Es
+import sys
+from pcs import settings
+settings.default_request_timeout = 300
+from pcs import app
+sys.exit(app.main(sys.argv[1:]))
+"""
 PLACED = re.compile(r"\*\*On (each|the first) machine")
 
 
@@ -59,7 +68,7 @@ def does(machine, line, want, tally):
     script = f"touch /run/set; . /run/set\n{line}\n"
     if re.match(r"\w+=", line):
         script += f"declare -p {line.partition('=')[0]} >>/run/set\n"
-    status, told, faults = machine.status("bash", "-c", f"cd; {script}", timeout=300)
+    status, told, faults = machine.status("bash", "-c", f"cd; {script}", timeout=900)
     patterns = [".*".join(map(re.escape, it.split(".."))) for it in want]
     said = told.splitlines()
     as_told = len(said) == len(patterns) and all(map(re.fullmatch, patterns, said))
@@ -151,11 +160,15 @@ class Cluster:
         for it in INSTALLED:
             shutil.copytree(os.path.join(TOP, it), os.path.join(there, "top", it))
         shutil.copy(PROGRAM, os.path.join(there, "top", "fileroom"))
-        machine.run("env", "FILEROOM=/srv/top/fileroom", "/srv/top/service/install", "", "/usr/local")
+        self.install(machine)
         machine.run("systemd-sysusers", "/usr/local/lib/sysusers.d/fileroom.conf")
         machine.run("systemctl", "daemon-reload")
-        machine.run("sh", "-c", "cat >/usr/sbin/fence_laboratory; chmod 755 /usr/sbin/fence_laboratory",
-                    input=booted.AGENT)
+        for path, text in ("/usr/sbin/fence_laboratory", booted.AGENT), ("/usr/local/sbin/pcs", PATIENT_PCS):
+            machine.run("sh", "-c", 'cat >"$0"; chmod 755 "$0"', path, input=text)
+
+    @staticmethod
+    def install(machine):
+        machine.run("env", "FILEROOM=/srv/top/fileroom", "/srv/top/service/install", "", "/usr/local")
 
     def login_by_ssh(self):
         """One key for root on all, who has logged in before."""
@@ -217,7 +230,7 @@ def taken_over(cluster, load, tally, dice, kind):
     dead, asked = cluster.serving(), len(cluster.lab.strip.asked)
     load.start()
     need_answers(load, 20, TAKEN, "a load")
-    begin = time.monotonic()
+    begin, clock = time.monotonic(), time.time()
     if kind == "cut off":
         dead.cut()
     else:
@@ -233,10 +246,21 @@ def taken_over(cluster, load, tally, dice, kind):
     load.close_line()
     pause = longest(load, begin)
     seconds = cluster.need_well(kind)
-    told = target.run("journalctl", "-b", "-u", f"fileroom-rejoin@{NAME}", "-o", "cat")
+    told = target.run("journalctl", "-u", f"fileroom-rejoin@{NAME}", "-o", "cat", "--since", f"@{clock:.0f}")
     say(f"{kind}: Pacemaker fenced {dead.name}, and {target.name} went on; the longest request took {pause:.1f} "
         f"seconds; the program was started again {told.count('the program is started again')} times once "
         f"{dead.name} was back; all was as it must be after {seconds:.0f} seconds")
+
+
+def goes_on(cluster, load, tally, name):
+    """The room is answered again, each slot's last request as before, and then all is as it must be."""
+    load.start()
+    need_answers(load, 20, TAKEN, f"{name}: the room is answered")
+    load.stop()
+    tally.need(load.fault is None, f"{name}: {load.fault!r}")
+    load.repeat_all()
+    load.close_line()
+    cluster.need_well(name)
 
 
 def on_purpose(cluster, load, tally):
@@ -246,8 +270,7 @@ def on_purpose(cluster, load, tally):
     load.start()
     need_answers(load, 20, TAKEN, "a load")
     told = here.run("fileroom-admin", "user", "add", NAME, "kim", "staff").splitlines()
-    tally.differs("user add tells what is to be done", told[-1], f"for the machines of {NAME}: fileroom-standby copy "
-                  f"{NAME} | sh")
+    tally.differs("user add tells what is to be done", told[-1], COPIED)
     password = told[1].rpartition(" ")[2]
     does(here, f"fileroom-standby copy {NAME} | sh", [], tally)
     begin = time.monotonic()
@@ -380,12 +403,7 @@ def alone(cluster, load, tally):
                   (False, []))
     cluster.others(here)[0].boot()
     until(cluster.serving, BACK, "with a quorum it goes on", 0.5)
-    load.start()
-    need_answers(load, 20, TAKEN, "the room is answered again")
-    load.stop()
-    tally.need(load.fault is None, f"alone: {load.fault!r}")
-    load.repeat_all()
-    cluster.need_well("two died")
+    goes_on(cluster, load, tally, "two died")
 
 
 def unfenced(cluster, load, tally):
@@ -401,12 +419,40 @@ def unfenced(cluster, load, tally):
     until(cluster.serving, TAKEN, "another has the room once somebody said so", 0.5)
     cluster.lab.strip.works = True
     dead.boot()
+    goes_on(cluster, load, tally, "switched off by hand")
+
+
+def a_new_disk(cluster, load, tally):
+    """A machine dies and comes back with an empty disk, by the lines for it: its copy becomes whole."""
+    broken = cluster.machines[1]
     load.start()
-    need_answers(load, 20, TAKEN, "the room is answered again")
+    need_answers(load, 20, TAKEN, "a load")
+    with broken.lock:  # (so it is not switched on meanwhile)
+        broken.kill()
+        shutil.rmtree(os.path.join(broken.folder, "srv", "fileroom"))
+    until(broken.is_up, BACK, "it is switched on again")
+    until(broken.is_started, BACK, "it is started")
+    need_answers(load, 20, TAKEN, "the room goes on without that copy")
     load.stop()
-    tally.need(load.fault is None, f"unfenced: {load.fault!r}")
-    load.repeat_all()
-    cluster.need_well("switched off by hand")
+    tally.need(load.fault is None, f"a new disk: {load.fault!r}")
+    until(lambda: "is away" in str(cluster.check(broken)), BACK, "check tells that a copy is away", 1)
+    for _, line, want in commands("The day it comes back"):
+        does(broken, line, want, tally)
+    goes_on(cluster, load, tally, "a new disk")
+    sums = [it.run("sh", "-c", f"cd {BRICK} && sha256sum room.db room.db-wal") for it in cluster.machines]
+    tally.differs("the new copy is the others'", sums[1] == sums[0] == sums[2], True)
+
+
+def a_new_version(cluster, load, tally):
+    """The program is installed anew on each machine, and the room goes on with it."""
+    for it in cluster.machines:
+        cluster.install(it)
+    here = cluster.serving()
+    told = [f"the front has the files of this program, and the rooms {NAME}", COPIED]
+    does(here, "fileroom-admin front", told, tally)
+    does(here, f"systemctl restart {ROOM}", [], tally)
+    does(here, f"fileroom-standby copy {NAME} | sh", [], tally)
+    goes_on(cluster, load, tally, "a new version")
 
 
 def back_to_one(cluster, load, tally):
@@ -425,6 +471,20 @@ def back_to_one(cluster, load, tally):
     load.close_line()
     first.run("systemctl", "stop", f"fileroom@{NAME}")
     look_inside(first, load, tally, "one machine again")
+    begun_again(first, tally)
+
+
+def begun_again(machine, tally):
+    """A room that a fault ends again and again is tried again behind a backup, which fails, too."""
+    does(machine, f"mv {DB} /root/room.db; systemctl start fileroom@{NAME}", [], tally)
+    until(lambda: state_of(machine) == "activating", TAKEN, "it has no room")
+    tally.differs("a backup of no room", machine.status("systemctl", "start", f"fileroom-backup@{NAME}")[0], 1)
+    does(machine, f"mv /root/room.db {DB}", [], tally)
+    until(lambda: state_of(machine) == "active", TAKEN, "it is started once the room is there")
+
+
+def state_of(machine):
+    return machine.status("systemctl", "is-active", f"fileroom@{NAME}")[1].strip()
 
 
 def moved_there(cluster, tally, dice):
@@ -460,6 +520,8 @@ def play(folder, tally, dice, kinds):
             backed_up(cluster, load, tally)
             found(cluster, tally)
             looked_at(cluster, load, tally, "cluster")
+            a_new_version(cluster, load, tally)
+            a_new_disk(cluster, load, tally)
             alone(cluster, load, tally)
             unfenced(cluster, load, tally)
             back_to_one(cluster, load, tally)

@@ -72,11 +72,11 @@ class Client:
         os.chmod(file.name, 0o600)
         self.words = [sys.executable, "-B", os.path.join(HERE, "..", "client", "room"),
                       "--url", f"http://127.0.0.1:{port}/rooms/club", "--login", "ann", "--password-file", file.name,
-                      "--state", os.path.join(folder, "state"), "--patience", "120"]
+                      "--state", os.path.join(folder, "state"), "--patience", "300"]
 
     def does(self, *words, data=""):
         env = {it: os.environ[it] for it in os.environ if not it.startswith("ROOM_")} | {"HOME": self.folder}
-        return subprocess.run([*self.words, *words], input=data, capture_output=True, text=True, timeout=180, env=env,
+        return subprocess.run([*self.words, *words], input=data, capture_output=True, text=True, timeout=400, env=env,
                               preexec_fn=end_with_parent)
 
     def append(self):
@@ -108,18 +108,18 @@ def client(standby, tally, dice, folder):
     tally.differs("put", its.does("put", "-", "/log").returncode, 0)
     thread = threading.Thread(target=its.play, daemon=True)
     thread.start()
-    until(lambda: len(its.done) >= BEFORE, 120, "the client's first commands")
+    until(lambda: len(its.done) >= BEFORE, 300, "the client's first commands")
     stop_and_go_on(standby, True)
-    until(lambda: any(it[2] for it in its.done), 120, "a command that had to wait")
+    until(lambda: any(it[2] for it in its.done), 300, "a command that had to wait")
     count = len(its.done) + AFTER
-    until(lambda: len(its.done) >= count, 120, "the client's last commands")
+    until(lambda: len(its.done) >= count, 300, "the client's last commands")
     its.is_stopping.set()
-    thread.join(180)
+    thread.join(400)
     tally.differs("each command is done", {it[0] for it in its.done}, {0})
     told = [f"/log: {5 * (n + 1)} bytes\n" for n in range(len(its.done))]
     tally.differs("each once, as it says", [it[1] for it in its.done], told)
     said = {it[2] for it in its.done if it[2]}
-    tally.differs("what it says meanwhile", [WORDS in it for it in said], [True])
+    tally.differs("what it says meanwhile", {WORDS in it for it in said}, {True})
     tally.differs("what is there", its.does("get", "/log").stdout, "".join(f"{n:04d};" for n in range(len(its.done))))
     longest = max(it[3] for it in its.done)
     print(f"standby: the client: {len(its.done)} commands, the longest {longest:.1f} seconds; it said: {said.pop()!r}")
@@ -146,7 +146,7 @@ def page(standby, tally, dice, folder):
         standby.serve(standby.machines[1])
         browser.sees("Appended.")
         took = time.monotonic() - begin
-        tally.differs("it acted once", browser.sees("before and after", "pre"), True)
+        tally.differs("it acted once", browser.sees("before\n and after", "pre"), True)
         print(f"standby: the page went on by itself {took:.1f} seconds after another machine began", flush=True)
     finally:
         browser.close()

@@ -4,7 +4,7 @@ import shutil
 import subprocess
 import time
 
-from lab import PATH, Disk, sh
+from lab import PATH, Disk, sh, until
 from load import USERS, Load
 from served import Line, Room, findings_of
 
@@ -68,10 +68,10 @@ def one_dies(at, disks, tally, dice):
     time.sleep(0.5)
     die(dice.choice(disks))
     before = len(load.times)
-    time.sleep(2)
+    until(lambda: len(load.times) > before + 20 or load.fault, 60, "the room goes on with one disk")
+    time.sleep(1)
     load.stop()
     tally.need(load.fault is None, f"a disk died: {load.fault!r}")
-    tally.differs("the room goes on with one disk", len(load.times) > before + 20, True)
     tally.differs("and nobody is told DELAY", load.delays, 0)
     room.kill()
     for kind, want in ("lists", load.list_report()), ("access", load.access_report()):

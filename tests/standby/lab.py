@@ -88,7 +88,7 @@ def end(child):
 
 def sh(*words, **how):
     """What a command prints. It must end well."""
-    done = subprocess.run(words, **{"capture_output": True, "text": True, "timeout": 120, **how})
+    done = subprocess.run(words, **{"capture_output": True, "text": True, "timeout": 300, **how})
     if done.returncode:
         raise RuntimeError(f"{' '.join(words)}: {done.returncode} {done.stdout[-600:]} {done.stderr[-600:]}")
     return done.stdout
@@ -183,7 +183,7 @@ class Machine:
 
     def status(self, *words, **how):
         """Status, output and faults of a command on this machine."""
-        how = {"capture_output": True, "text": True, "timeout": 120, **how}
+        how = {"capture_output": True, "text": True, "timeout": 300, **how}
         done = subprocess.run(self.words(*words), **how)
         return done.returncode, done.stdout, done.stderr
 

@@ -15,7 +15,7 @@ SESSIONS = {"ann": ("a" * 32, 3), "bob": ("b" * 32, 2)}
 PORT = 8001
 DELAY = 503
 LOOK = 0.25  # seconds between two looks at whether the room is elsewhere now
-PATIENCE = 120  # seconds until a request that is not answered is a failure
+PATIENCE = 300  # seconds until a request that is not answered is a failure, on a machine that others use
 DOCUMENTS, FOLDERS = 12, 3
 OPEN_TO_ALL = [{"flag": 3, "mask": ALL, "type": 0, "who": "EVERYONE@"}]
 
@@ -31,7 +31,7 @@ class Unanswered(Exception):
 class Load:
     """`where()` is the machine that the room is on. It is played by one thread; others may look at its counts."""
 
-    attempt = PATIENCE  # seconds until a connection that gives no answer is closed, and another one opened
+    attempt = 120  # seconds until a connection that gives no answer is closed, and another one opened
 
     def __init__(self, where, seed, half_reads=False):
         self.where, self.dice, self.half_reads = where, random.Random(seed), half_reads

@@ -8,10 +8,11 @@ import time
 from lab import WALL, until
 from load import PORT, SESSIONS, Load
 from served import first_answer, message
-from standby import AS_USER, DB, FOLDER, NAME, ROSTER, SERVED, SYSTEMCTL, TOOL
+from standby import AS_USER, DB, FOLDER, LISTENS, NAME, ROSTER, SERVED, SYSTEMCTL, TOOL, WHOLE, Program
 
 FAILED = "fileroom: store failed"
-SILENT = 20  # seconds in which a machine that was cut off must have lost its lock: far more than it takes
+SILENT = 40  # seconds in which a machine that was cut off must have lost its lock: far more than it takes
+UNFENCED = 5  # seconds in which a program that is started again would have the room
 ROOT = {"cmd": "STAT", "path": "/"}
 ANN, SLOTS = SESSIONS["ann"]
 
@@ -115,7 +116,7 @@ def takeover(standby, load, dice, found, tally, name, room_for):
         standby.mount(target)
         found.mounts.add(time.monotonic() - begin)
     found.serves.add(standby.serve(target))
-    first = until(lambda: first_answer_on(load, target, begin) or load.fault, 60, f"{name}: an answer", 0.02)
+    first = until(lambda: first_answer_on(load, target, begin) or load.fault, LISTENS, f"{name}: an answer", 0.02)
     time.sleep(0.5 * room_for)
     load.stop()
     need_sound(load, tally, name)
@@ -141,7 +142,7 @@ def come_back(standby, load, dice, found, tally, name):
     if dead:
         dead.boot()
     begin = time.monotonic()
-    until(lambda: standby.is_connected(standby.on), 120, f"{name}: all copies are there again")
+    until(lambda: standby.is_connected(standby.on), WHOLE, f"{name}: all copies are there again")
     whole = dice.random() < 0.6
     if whole:
         standby.need_whole(standby.on)
@@ -162,12 +163,13 @@ def refused(machine, *words):
 def lock(standby, tally, dice):
     """While a room is served nobody else has its file, on whichever machine; then another has it at once."""
     load = Load(standby.where, dice.random())
-    a, b, _ = standby.machines
+    a, b, c = standby.machines
     standby.serve(a)
     load.begin()
     load.close_line()
     standby.mount(b)
-    for machine in a, b:
+    standby.mount(c)
+    for machine in a, b, c:
         told = refused(machine, "serve", DB, ROSTER, str(PORT + 1), "1")
         tally.differs(f"a second serve on {machine.name}", told, (1, FAILED))
         tally.differs(f"report on {machine.name}", refused(machine, "report", DB, ROSTER, "lists"), (1, FAILED))
@@ -244,7 +246,7 @@ def cut_off(standby, tally, dice, is_asked):
     played(load, 0.5)
     need_sound(load, tally, "the machine that took over")
     a.join()
-    until(lambda: standby.is_connected(b), 60, "the link is back")
+    until(lambda: standby.is_connected(b), WHOLE, "the link is back")
     time.sleep(3)
     got = [acts_by(a, number, due[number]).wait() for number in range(SLOTS)] + ([asked.wait()] if asked else [])
     has_acted = any(it is not None and it.status == 200 for it in got)
@@ -254,8 +256,14 @@ def cut_off(standby, tally, dice, is_asked):
 def after_fencing(standby, load, tally, name):
     """Once the first machine is off, the other's program can be started again, and has what it answered."""
     a, b, _ = standby.machines
+    standby.program.end()
+    again = Program(b)
+    time.sleep(UNFENCED)
+    print(f"standby: {name}: while the first machine lives the other's program, started again, "
+          f"{'listens' if again.listens() else 'has no room'}", flush=True)
+    again.end()
     standby.kill(a)
-    standby.on = b
+    standby.serve(b)
     standby.look(load, tally, name)
     load.repeat_all()
     played(load, 0.5)
@@ -272,12 +280,12 @@ def split(standby, tally, dice, is_asked):
 
 
 def split_without_strict_locks(standby, tally, dice):
-    """The same with one setting taken away: the first machine acts again, so that the test above can fail."""
+    """The same with one setting taken away: whether the first machine acts again, so that the test above can fail."""
     _, old, has_acted, got = cut_off(standby, tally, dice, False)
     old.is_wanted = False
     standby.kill(standby.machines[0])
     print(f"standby: cut off, and idle, without strict locks: it answers {[it and it.status for it in got]}")
-    tally.differs("without client.strict-locks a machine that was cut off acts again", has_acted, True)
+    return has_acted
 
 
 # Machines that come back.
@@ -316,7 +324,7 @@ def rejoin(standby, tally, dice, is_restarted):
     standby.kill(b)
     time.sleep(3)
     b.boot()
-    until(lambda: standby.is_connected(a), 120, "b is there again")
+    until(lambda: standby.is_connected(a), WHOLE, "b is there again")
     tally.differs("check tells that the program is to be started again", finding(a, AGAIN), (1, True))
     if is_restarted:
         with hook(a):
@@ -337,13 +345,13 @@ def rejoin(standby, tally, dice, is_restarted):
         load.stop()
         need_sound(load, tally, "rejoin")
         c.boot()
-        until(lambda: standby.is_connected(a), 120, "c is there again")
+        until(lambda: standby.is_connected(a), WHOLE, "c is there again")
         standby.look(load, tally, "rejoin")
         return
     print(f"standby: rejoin without a start: {went_on} answers and {load.delays - delays} DELAY in 10 seconds")
     tally.differs("without it the room is answered DELAY", load.delays > delays, True)
     standby.restart()
-    until(lambda: len(load.times) > before + went_on + 5 or load.fault, 60, "it goes on once it was started again")
+    until(lambda: len(load.times) > before + went_on + 5 or load.fault, LISTENS, "it goes on once it was started again")
     load.stop()
     need_sound(load, tally, "rejoin without a start")
 
@@ -351,8 +359,8 @@ def rejoin(standby, tally, dice, is_restarted):
 def started_again(standby, load, tally, machine):
     """The hook starts the program again, once, though the load goes on; then all copies become whole."""
     starts = standby.program.starts
-    until(lambda: standby.program.starts > starts, 120, "the hook starts the program again", 0.2)
-    until(standby.program.listens, 60, "it listens")
+    until(lambda: standby.program.starts > starts, WHOLE, "the hook starts the program again", 0.2)
+    until(standby.program.listens, LISTENS, "it listens")
     time.sleep(2)
     tally.differs("the hook did what it says", machine.run("cat", "/run/systemctl.log").split("\n")[0],
                   f"--no-block restart fileroom-standby@{NAME}")
@@ -381,18 +389,19 @@ def two(standby, tally, dice):
     pause = slowest(load, begin - 1)
     tally.differs("with one silent the room goes on", load.fault is None and load.times[-1][1] > begin + 6, True)
     before = load.delays
+    tally.differs("and nobody is told DELAY", before, 0)
     standby.kill(c)
-    until(lambda: load.delays > before or load.fault, 60, "DELAY")
+    until(lambda: load.delays > before or load.fault, LISTENS, "DELAY")
     answered = len(load.times)
     b.boot()
     c.boot()
-    until(lambda: standby.is_connected(a), 120, "both are back")
+    until(lambda: standby.is_connected(a), WHOLE, "both are back")
     time.sleep(3)
     tally.differs("DELAY also when both are back", len(load.times), answered)
     tally.differs("check tells that the program is to be started again", finding(a, AGAIN), (1, True))
     begin = time.monotonic()
     with hook(a):
-        until(lambda: len(load.times) > answered + 5 or load.fault, 120, "it goes on by the hook")
+        until(lambda: len(load.times) > answered + 5 or load.fault, WHOLE, "it goes on by the hook")
     took = time.monotonic() - begin
     load.stop()
     need_sound(load, tally, "two")
@@ -434,7 +443,7 @@ def stale(standby, tally, dice):
     for _ in range(20):
         load.step()
     standby.kill(b)
-    until(lambda: load.step() or True, 60, "it goes on without b")
+    until(lambda: load.step() or True, LISTENS, "it goes on without b")
     for number in range(STALE):
         load.ask("ann", number % 3, {"cmd": "APPEND", "path": "/f0/stale", "data": "aaaa"} if number else
                  {"cmd": "CREATE", "path": "/f0/stale", "data": ""})
@@ -501,7 +510,7 @@ def check(standby, tally, dice, count):
     tally.differs("all is set again", finding(a, " must be ")[1], False)
     walls(a, tally)
     standby.kill(b)
-    time.sleep(1)
+    until(lambda: not standby.is_connected(a), LISTENS, "the mount has seen that")
     tally.differs("a copy that is away is told", finding(a, "10.77.0.2:/srv/fileroom/plans is away"), (1, True))
     tally.differs("and that the mount has two", finding(a, "this mount has 2 of 3 copies"), (1, True))
     b.boot()

@@ -23,7 +23,7 @@ SERVED = "/srv/bin/fileroom"  # a copy of the program, which everybody may run
 AS_USER = ["setpriv", "--reuid", "fileroom", "--regid", "fileroom", "--clear-groups"]
 DB, ROSTER, HOSTS = f"{FOLDER}/room.db", f"/etc/fileroom/{NAME}.toml", f"/etc/fileroom/{NAME}.hosts"
 MOUNT = "direct-io-mode=enable,attribute-timeout=0,entry-timeout=0"
-LISTENS, WHOLE = 60, 120  # seconds: far more than it takes, on a machine that others use
+LISTENS, WHOLE = 120, 300  # seconds: far more than it takes, on a machine that others use
 AGAIN = 0.2  # seconds until a program that ended is started again: RestartSec of the unit
 SERVE = 'echo $$ >/run/room.pid; exec "$@"'
 # what `systemctl restart` does in the laboratory, where no systemd runs: the program ends, and is started again
