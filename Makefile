@@ -55,7 +55,7 @@ failing: build
 full: build
 	tests/full/run
 
-# Asks a served room everything over sockets, and compares each answer with docs/.
+# Sends a served room odd, malformed and cut messages, and the program odd words, rosters and streams.
 wire: build
 	tests/wire/run
 
@@ -124,7 +124,6 @@ page: build
 # Needs sqlite3, strace, valgrind, gcc, libsqlite3-dev and nginx.
 bench: build
 	bench/check
-	bench/room
 	bench/tables
 	bench/report
 	bench/side
@@ -136,7 +135,7 @@ bench: build
 # Leaves build/fileroom-VERSION-COMMIT.tar.gz: the program that `make build` proved of this commit, with client, page,
 # front, units, man pages and docs. It runs on Debian 12 without the toolchain.
 dist: build
-	tools/dist
+	RT='$(RT)' tools/dist
 
 # Puts the proved program that `make build` made below PREFIX, with its man pages, the client, the page, units, the
 # backup script, and samples of roster and front: docs/RUNNING.md goes on from there. DESTDIR stands before each path,
