@@ -24,6 +24,7 @@ NEEDED = ("unshare", "nsenter", "ip", "mkfs.ext4", "glusterd", "gluster", "glust
           "sqlite3", "runuser", "systemd-sysusers", "nft")
 PATH = os.pathsep.join([os.environ.get("PATH", ""), "/usr/sbin", "/sbin"])
 DISK = 6 << 30  # bytes of the file that all machines lie in; it is sparse
+BUSY = "Locking failed", "Another transaction is in progress"  # of gluster: nothing was done
 BRIDGE = "10.77.0.254/24"
 FLOATING = "10.77.0.100"  # the address that moves to the machine that serves
 WALL = "/srv/bin/fileroom-ports"  # of a machine that has it: it is put up with its link
@@ -191,7 +192,15 @@ class Machine:
         return subprocess.Popen(self.words(*words), preexec_fn=end_with_parent, **how)
 
     def gluster(self, *words):
-        return self.run("gluster", "--mode=script", *words)
+        """What it prints. While it has another change under way it does nothing, and is asked again."""
+        words = ["gluster", "--mode=script", *words]
+        return until(lambda: self.gluster_once(words), 60, f"{' '.join(words)}: another change is under way", 2)[0]
+
+    def gluster_once(self, words):
+        status, told, faults = self.status(*words)
+        if status and not any(it in told + faults for it in BUSY):
+            raise RuntimeError(f"{' '.join(words)}: {status} {told[-600:]} {faults[-600:]}")
+        return None if status else (told,)
 
     def is_up(self):
         return self.shell is not None and self.shell.poll() is None
