@@ -118,19 +118,13 @@ firstday: build
 page: build
 	tests/page/run
 
-# Times `check`, a room in memory, a served room's tables and the reports; then the program beside a server in C over
-# libsqlite3, and counts the instructions of both, and as a room grows; then the upgrade of large rooms of version 1,
-# and many rooms behind a front.
-# Needs sqlite3, strace, valgrind, gcc, libsqlite3-dev and nginx.
+# Times and counts the program's works; the program beside a server in C over libsqlite3; the instructions of both, and
+# as a room grows. Needs sqlite3, strace, valgrind, gcc, libsqlite3-dev and nginx.
 bench: build
-	bench/check
-	bench/tables
-	bench/report
+	bench/run
 	bench/side
 	bench/instructions
 	bench/growth
-	bench/upgrade
-	bench/many
 
 # Leaves build/fileroom-VERSION-COMMIT.tar.gz: the program that `make build` proved of this commit, with client, page,
 # front, units, man pages and docs. It runs on Debian 12 without the toolchain.
