@@ -1,9 +1,11 @@
 //! Each public call once, the limits, and generic code over two shelves.
+use crate::checks::{holds, same};
 use room_acl::{Decision, Kind, Mask, Principal, Standing, Subject, Who};
 use room_records::{
     Change, FileName, MemShelf, Path, Roster, Shelf, ShelfFault, Sid, SlotCount, TripShelf,
 };
 use std::alloc::{AllocError, Global};
+use std::process::Abort;
 use std::test::Fail;
 use test_support::{
     SID, commit, entry, file_name, in_memory, named, node_in_root, path_of, session_name,
@@ -35,11 +37,13 @@ fn is_kept_as_it_is(alloc: Global, text: &str) -> Result<bool, Fail> {
 #[test]
 fn names_within_their_limits(rt: HostRuntime) -> Result<(), Fail> {
     let alloc = rt.alloc();
-    assert!(rt; is_kept_as_it_is(alloc, repeated(alloc, "a", 64)?.as_str())?);
-    assert!(rt; is_kept_as_it_is(alloc, "...")?);
-    assert!(rt; !is_file_name(alloc, repeated(alloc, "a", 65)?.as_str())?);
-    for text in ["", ".", "..", "a/b", "a\n", "\u{7f}"] {
-        assert!(rt; !is_file_name(alloc, text)?);
+    let longest = repeated(alloc, "a", 64)?;
+    for text in [longest.as_str(), "..."] {
+        holds(&rt, is_kept_as_it_is(alloc, text)?, text);
+    }
+    let too_long = repeated(alloc, "a", 65)?;
+    for text in [too_long.as_str(), "", ".", "..", "a/b", "a\n", "\u{7f}"] {
+        holds(&rt, !is_file_name(alloc, text)?, text);
     }
     Ok(())
 }
@@ -47,13 +51,27 @@ fn names_within_their_limits(rt: HostRuntime) -> Result<(), Fail> {
 #[test]
 fn session_names_within_their_limits(rt: HostRuntime) -> Result<(), Fail> {
     let alloc = rt.alloc();
-    assert_eq!(rt; session_name(alloc, SID)?.clone()?.text(), SID);
-    assert!(rt; !is_session_name(alloc, "0123456789ABCDEF0123456789ABCDEF")?);
-    assert!(rt; !is_session_name(alloc, "0123")?);
-    assert_eq!(rt; SlotCount::new(16).ok_or("16 slots")?.get(), 16);
-    assert!(rt; SlotCount::new(17).is_none());
-    assert!(rt; SlotCount::new(0).is_none());
+    let copy = session_name(alloc, SID)?.clone()?;
+    same(&rt, copy.text(), SID, "a copied name");
+    for text in ["0123456789ABCDEF0123456789ABCDEF", "0123"] {
+        holds(&rt, !is_session_name(alloc, text)?, text);
+    }
     Ok(())
+}
+
+/// The number of slots, where a session may have so many.
+fn slots(count: u32) -> Option<u32> {
+    match SlotCount::new(count) {
+        Some(slots) => Some(slots.get()),
+        None => None,
+    }
+}
+
+#[test]
+fn slots_within_their_limits(rt: HostRuntime) {
+    same(&rt, slots(16), Some(16), "the most slots");
+    same(&rt, slots(17), None, "one more");
+    same(&rt, slots(0), None, "none");
 }
 
 fn is_path(alloc: Global, text: &str) -> Result<bool, Fail> {
@@ -72,14 +90,22 @@ fn count_names(alloc: Global, text: &str) -> Result<usize, Fail> {
 #[test]
 fn paths_within_their_limits(rt: HostRuntime) -> Result<(), Fail> {
     let alloc = rt.alloc();
-    assert_eq!(rt;
-        count_names(alloc, repeated(alloc, "/a", 16)?.as_str())?,
-        16
-    );
-    assert_eq!(rt; count_names(alloc, "/")?, 0);
-    assert!(rt; !is_path(alloc, repeated(alloc, "/a", 17)?.as_str())?);
-    for text in ["", "a", "//", "/a/", "/a//b", "/.", "/a/.."] {
-        assert!(rt; !is_path(alloc, text)?);
+    let deepest = repeated(alloc, "/a", 16)?;
+    for (text, names) in [(deepest.as_str(), 16), ("/", 0)] {
+        same(&rt, count_names(alloc, text)?, names, text);
+    }
+    let too_deep = repeated(alloc, "/a", 17)?;
+    for text in [
+        too_deep.as_str(),
+        "",
+        "a",
+        "//",
+        "/a/",
+        "/a//b",
+        "/.",
+        "/a/..",
+    ] {
+        holds(&rt, !is_path(alloc, text)?, text);
     }
     Ok(())
 }
@@ -115,32 +141,81 @@ fn add_users(alloc: Global, roster: &mut Roster, count: u32) -> Result<(), Fail>
     Ok(())
 }
 
+/// A full list of groups, one more, and a user twice: whether each is added.
+static ADDED: [(&str, usize, bool); 4] = [
+    ("ann", 17, false),
+    ("bob", 16, true),
+    ("ann", 1, true),
+    ("bob", 0, false),
+];
+
+/// The first user in the order of names is `ann`, in one group.
+fn expect_first_user(rt: &impl Abort, roster: &Roster) -> Result<(), Fail> {
+    let (first, groups) = roster.user(0).ok_or("a first user")?;
+    same(
+        rt,
+        (first.text(), groups.len()),
+        ("ann", 1),
+        "the first user",
+    );
+    Ok(())
+}
+
+fn expect_groups(
+    rt: &impl Abort,
+    alloc: Global,
+    roster: &Roster,
+    name: &str,
+    wanted: Option<usize>,
+) -> Result<(), Fail> {
+    same(rt, count_groups(alloc, roster, name)?, wanted, name);
+    Ok(())
+}
+
+#[test]
+fn users_are_added_once(rt: HostRuntime) -> Result<(), Fail> {
+    let mut roster = Roster::empty(rt.alloc());
+    for (name, groups, wanted) in &ADDED {
+        let is_added = is_added(rt.alloc(), &mut roster, name, *groups)?;
+        same(&rt, (*groups, is_added), (*groups, *wanted), name);
+    }
+    expect_first_user(&rt, &roster)?;
+    expect_groups(&rt, rt.alloc(), &roster, "bob", Some(16))?;
+    expect_groups(&rt, rt.alloc(), &roster, "cy", None)
+}
+
 #[test]
 fn roster_within_its_limits(rt: HostRuntime) -> Result<(), Fail> {
-    let alloc = rt.alloc();
-    let mut roster = Roster::empty(alloc);
-    assert!(rt; !is_added(alloc, &mut roster, "ann", 17)?);
-    assert!(rt; is_added(alloc, &mut roster, "bob", 16)?);
-    assert!(rt; is_added(alloc, &mut roster, "ann", 1)?);
-    assert!(rt; !is_added(alloc, &mut roster, "bob", 0)?);
-    let (first, of_first) = roster.user(0).ok_or("a first user")?;
-    assert!(rt; first.text() == "ann" && of_first.len() == 1);
-    assert!(rt; count_groups(alloc, &roster, "bob")? == Some(16));
-    assert!(rt; count_groups(alloc, &roster, "cy")?.is_none());
-    add_users(alloc, &mut roster, 998)?;
-    assert_eq!(rt; roster.len(), 1000);
-    assert!(rt; !is_added(alloc, &mut roster, "zoe", 0)?);
+    let mut roster = Roster::empty(rt.alloc());
+    add_users(rt.alloc(), &mut roster, 1000)?;
+    same(&rt, roster.len(), 1000, "the users");
+    let is_added = is_added(rt.alloc(), &mut roster, "zoe", 0)?;
+    holds(&rt, !is_added, "one user more");
     Ok(())
+}
+
+/// The entries of a list of one, behind this number.
+fn put_entries(alloc: Global, id: u32) -> Result<Change, Fail> {
+    let entry = entry(true, 0, 1, Who::Everyone)?;
+    Ok(Change::PutEntries(id, vec![in alloc; entry]?))
+}
+
+fn put_node(alloc: Global, id: u32, name: &str, kind: Kind) -> Result<Change, Fail> {
+    Ok(Change::PutNode(node_in_root(alloc, id, name, kind)?))
+}
+
+fn put_doc(alloc: Global, id: u32) -> Result<Change, Fail> {
+    Ok(Change::PutDoc(id, b"hi".to_vec(alloc)?))
 }
 
 /// A change of each kind that puts something, in an order in which the record rules hold after each.
 fn change(alloc: Global, at: u32) -> Result<Change, Fail> {
     match at {
         0 => Ok(Change::PutNext(4)),
-        1 => Ok(Change::PutNode(node_in_root(alloc, 2, "b", Kind::Folder)?)),
-        2 => Ok(Change::PutNode(node_in_root(alloc, 3, "a", Kind::File)?)),
-        3 => Ok(Change::PutEntries(2, vec![in alloc; entry(true, 0, 1, Who::Everyone)?]?)),
-        4 => Ok(Change::PutDoc(3, b"hi".to_vec(alloc)?)),
+        1 => put_node(alloc, 2, "b", Kind::Folder),
+        2 => put_node(alloc, 3, "a", Kind::File),
+        3 => put_entries(alloc, 2),
+        4 => put_doc(alloc, 3),
         5 => session_row(alloc, SID, 2, true),
         _ => slot_row(alloc, SID, 1, 1, Some(Vec::new(alloc))),
     }
@@ -266,22 +341,33 @@ fn reads_as(alloc: Global, shelf: &mut MemShelf, wanted: Told) -> Result<(), Fai
     Ok(())
 }
 
+fn is_named(child: Option<&(FileName, Kind)>, name: &str, kind: Kind) -> bool {
+    match child {
+        Some((found, of)) => found.text() == name && *of == kind,
+        None => false,
+    }
+}
+
 /// The root's children come in the order of their names: `a`, a file of number 3, and `b`, a folder.
 fn are_in_order(shelf: &mut MemShelf) -> Result<bool, Fail> {
-    let children = shelf.children(1)?;
+    let first = match shelf.children(1)?.first() {
+        Some(child) => child.id,
+        None => 0,
+    };
     let names = shelf.names(1)?;
-    let (first, first_kind) = names.first().ok_or("a name")?;
-    let (last, last_kind) = names.last().ok_or("a name")?;
-    Ok(
-        children.first().ok_or("a child")?.id == 3
-            && (first.text(), *first_kind) == ("a", Kind::File)
-            && (last.text(), *last_kind) == ("b", Kind::Folder),
-    )
+    let is_file_first = is_named(names.first(), "a", Kind::File);
+    Ok(first == 3 && is_file_first && is_named(names.last(), "b", Kind::Folder))
 }
 
 fn is_open(alloc: Global, shelf: &mut MemShelf) -> Result<bool, Fail> {
     let sid = session_name(alloc, SID)?;
     Ok(shelf.session(&sid)?.ok_or("a session")?.is_open)
+}
+
+/// The session's slots and the file are dropped.
+fn drops(alloc: Global) -> Result<Vec<Change>, Fail> {
+    let sid = session_name(alloc, SID)?;
+    Ok(vec![in alloc; Change::DropSlots(sid), Change::DropNode(3)]?)
 }
 
 #[test]
@@ -291,10 +377,9 @@ fn rows_are_read_back(rt: HostRuntime) -> Result<(), Fail> {
     reads_as(alloc, &mut shelf, FRESH)?;
     commit(&mut shelf, one_of_each(alloc)?)?;
     reads_as(alloc, &mut shelf, COMMITTED)?;
-    assert!(rt; are_in_order(&mut shelf)?);
-    assert!(rt; is_open(alloc, &mut shelf)?);
-    let gone = Change::DropSlots(session_name(alloc, SID)?);
-    commit(&mut shelf, vec![in alloc; gone, Change::DropNode(3)]?)?;
+    holds(&rt, are_in_order(&mut shelf)?, "the children's order");
+    holds(&rt, is_open(alloc, &mut shelf)?, "an open session");
+    commit(&mut shelf, drops(alloc)?)?;
     reads_as(alloc, &mut shelf, DROPPED)
 }
 
