@@ -67,6 +67,7 @@ use Rattle.room_program.specs.Rooms.{ServesRoom, Listens, Reports, WritesReport,
 use Rattle.room_program.specs.Found.{IsOpenedOver, Holds, HoldsRoom, HoldsNothing, MayBeLeft, IsLeftBy}
 use Rattle.room_program.specs.Found.{Closes, LetsGo, ActsOn, StayUnopened, IsSparedIn, SparesFound, SparesRoom}
 use Rattle.room_program.specs.Found.{ServesFound, ReportsFound, MakesFound, JobFound, RunFound}
+use Rattle.room_program.specs.Halts.{IsTakenOut}
 use Rattle.room_program.specs.Runs.{Means, Streams, Ends, Runs, RunsJob, RunsRead, means}
 use Rattle.room_program.specs.Streams.{ServesSome}
 use Rattle.room_program.proofs.Streams.{serves_none, serves_all}
@@ -212,6 +213,11 @@ module _ {D : Type 0} (g : Ghosts D) where
       = ap (λ (d : Database). d.trees catalog_tree) shown.0.clean ∙ none in
       empty_schema opened.schema
       (subst (λ objects. Lists objects opened.schema) unlisted (shown.1 shown.0.is_open).0.lists)
+
+  -- a store that was taken out of its connection, and has returned what was written, had done so before
+  pub was_sound : (was : Held (FileStore D g)) (it : FileStore D g) → IsTakenOut over_files was it
+      → IsClean (view it) → HasCleanDisk (file_state was)
+  was_sound was it out clean = omega (arith, out.quiet.clean, clean)
 
   -- a crash leaves of a store, while it is there, what it showed
   pub stopped_holds : ((file : D) → g.may_leave file (g.seen file)) → (was : SqlShelf (FileStore D g) over_files)

@@ -1,12 +1,11 @@
 -- From one run to the next, over the files that the one before it left.
 use Rattle.std.proofs.Common.{◌≡◌, ℕ, zero, suc, List, IsTrue, refl, sym, subst}
-use Rattle.std.proofs.Common.{inl, inr, false, ◌∷◌, ◌⊎◌, arith}
+use Rattle.std.proofs.Common.{inl, inr, false, ◌∷◌, ◌⊎◌}
 use Rattle.std.proofs.Common.{Option, Result, Ok, Err, [], ap, ◌∙◌}
 use Rattle.std.proofs.Math.Logic.{∥∥₁_map, ∥∥₁_elim}
 use Rattle.sqlite_disk.specs.declared.Disk.{Ghosts}
 use Rattle.sqlite_trees.specs.Tree.{Trees}
-use Rattle.sqlite_trees.specs.View.{IsClean, IsQuiet, IsRolledBack}
-use Rattle.sqlite.specs.FileStore.{recovers, view, faults, is_shielded}
+use Rattle.sqlite.specs.FileStore.{recovers, view}
 use Rattle.sqlite.proofs.Theorems.{next_run, opens_again}
 use Rattle.sqlite_store.specs.Laws.{settled_at}
 use Rattle.sqlite.specs.Effect.{Database}
@@ -16,6 +15,7 @@ use Rattle.sqlite.specs.State.{HasCleanDisk}
 use Rattle.sqlite.specs.Held.{Held, AreDatabases}
 use Rattle.sqlite.specs.Files.{file_state, over_files}
 use Rattle.room_acl.specs.SubjectModel.{SubjectModel}
+use Rattle.room_records.specs.Records.{Records}
 use Rattle.room_records.specs.Room.{Room}
 use Rattle.room_records.specs.Shelf.{View}
 use Rattle.room_cache.specs.declared.known.Known.{Known}
@@ -24,14 +24,13 @@ use Rattle.room_tables.specs.Layout.{IsRoomOfVersion2, AreOfRoom}
 use Rattle.room_tables.specs.Rows.{records_of, version_rows, IsVersion}
 use Rattle.room_sql.specs.declared.sql_shelf.SqlShelf.{SqlShelf}
 use Rattle.room_sql.specs.SqlView.{sql_view}
+use Rattle.room_sql.specs.Resting.{leaves_rest, leaves_a_room}
 use Rattle.room_sql.proofs.Frames.{was_clean}
 use Rattle.room_wire.specs.Asks.EventModel.{EventModel}
 use Rattle.room_desk.specs.AnswerModel.{AnswerModel}
 use Rattle.room_desk.specs.History.{History, leaves_no_reply}
 use Rattle.room_desk.specs.Representation.{RepresentsHistory, StandsFor}
-use Rattle.room_wire.specs.Messages.MessageModel.{MessageModel}
-use Rattle.room_wire.specs.Serving.Outputs.{Outputs}
-use Rattle.room_desk.specs.Serving.{EventAnswered, MayAnswer}
+use Rattle.room_desk.specs.Serving.{EventAnswered}
 use Rattle.room_desk.proofs.Stops.{sent_again}
 use Rattle.room_program.specs.declared.fault.Fault.{Fault}
 use Rattle.room_program.specs.declared.fault.Fault.TheVariants as fault
@@ -49,6 +48,7 @@ use Rattle.room_program.specs.Found.{IsOpenedOver, Holds, HoldsRoom, IsLeftBy, A
 use Rattle.room_program.specs.Restarts.{ActsOnce, Steps, KeepsRoom, KeepsRoomOrMore, HoldsStill}
 use Rattle.room_program.specs.Restarts.{GoesOnBySome, GoesOnOrMore, AnswersOrMore}
 use Rattle.room_program.proofs.Found.{stands, closed_holds, closed_in, kept_in, unopened, served, read_stands}
+use Rattle.room_program.proofs.Streams.{connections_answered}
 use Rattle.room_program.proofs.Found.{spares, makes_found, one_database, found_database}
 
 module _ {D : Type 0} (g : Ghosts D) where
@@ -60,19 +60,6 @@ module _ {D : Type 0} (g : Ghosts D) where
       let (shown, finds) = is clean in
       ∥∥₁_map (next_run it numbered sound left may (file_state opened) finds)
       (λ found. subst (λ (d : Database). recovers it d.trees) (sym shown.0.clean) found)
-
-  -- a store that is taken out of its connection, and has returned what was written, had done so before; and its trees
-  -- were numbered
-  pub was_numbered : (conn was : Held (FileStore D g)) → conn ≡ was → (it : FileStore D g)
-      → IsQuiet view faults recovers is_shielded conn.store it → IsRolledBack (view conn.store) (view it)
-      → (IsClean (view it) → IsTrue (view it).is_numbered) → IsClean (view it)
-      → HasCleanDisk (file_state was) × IsTrue (view was.store).is_numbered
-  was_numbered conn was same it quiet undone numbered clean =
-      let early : HasCleanDisk (file_state conn) = omega (arith, quiet.clean, clean) in (
-        subst (λ (c : Held (FileStore D g)). HasCleanDisk (file_state c)) same early,
-        subst (λ (c : Held (FileStore D g)). IsTrue (view c.store).is_numbered) same
-            (sym undone.numbered ∙ numbered clean),
-      )
 
   -- trees of rooms are databases
   databases : (it : FileStore D g) → ((trees : Trees) → recovers it trees → AreOfRoom trees)
@@ -215,22 +202,35 @@ module _ {D M : Type 0} (g : Ghosts D) (image : Image) (does : M → Call (Held 
       keeps_room g image one opened shelf last users is adopted clean (by_messages _ users shelf last some clean)
       is_open (closed_holds g stays last.0.conn (left later) one told is_open (last.0.rests is_open) at)
 
+  -- the laws of a shelf, of this one
+  settled : (s : Taken) (left : Records) → (shown s).is_available → (shown s).crash_may_leave left
+      → left ≡ (shown s).records
+  settled s left there may =
+      leaves_rest (s.0.rests there.1) (λ trees. settled_at s.0.conn.store stays trees there.1) left may.1
+
+  leaves_laid_out : (s : Taken) → (shown s).is_available → (shown s).is_laid_out → (shown s).leaves_laid_out
+  leaves_laid_out s there laid =
+      leaves_a_room (s.0.rests there.1) laid.0.0 (λ trees. settled_at s.0.conn.store stays trees there.1)
+
   -- and where a fault had shut its store
-  module _ (accepts : M → Exchange → M → Type 0) (fails : M → M → Type 0)
-      (leave_answered : (users : List SubjectModel) (n : ℕ) (old last : M) (before between after : Taken)
-      (ms : List MessageModel) (out : List ℕ) → ServesEach accepts (Served shown users) n old last before between
-      → Outputs (MayAnswer shown users) between ms out after → (shown before).is_available → (shown after).is_intact
-      → AnswersOrMore shown users before after) where
+  module _ (accepts : M → Exchange → M → Type 0) (fails : M → M → Type 0) where
+    leave_answered : (users : List SubjectModel) (n : ℕ) (old last : M) (before after : Taken)
+        → ServesEach accepts (Served shown users) n old last before after → (shown before).is_available
+        → (shown after).is_intact → AnswersOrMore shown users before after
+    leave_answered users n old last before after each there intact =
+        connections_answered shown settled leaves_laid_out accepts users n old last before after after [] [] each
+        (refl, refl) there intact
+
     answered : (users : List SubjectModel) (port count : ℕ) (taken over : M) (shelf last : Taken)
         (done : Result (Unit {0}) Fault) → Listens does accepts fails shown users port count taken over shelf last done
         → (shown shelf).is_available → (shown last).is_intact → AnswersOrMore shown users shelf last
     answered users port count taken over shelf last done (inl (is, same, bound)) there intact =
-        leave_answered users 0 taken taken shelf last last [] [] (refl, same) (refl, refl) there intact
+        leave_answered users 0 taken taken shelf last (refl, same) there intact
     answered users port count taken over shelf last (Ok done) (inr (bound, did, all)) there intact =
-        leave_answered users count bound over shelf last last [] [] all.served (refl, refl) there intact
+        leave_answered users count bound over shelf last all.served there intact
     answered users port count taken over shelf last (Err fault) (inr (bound, did, all)) there intact =
         let (n, fewer, late, each, failed) = all.fewer in
-        leave_answered users n bound late shelf last last [] [] each (refl, refl) there intact
+        leave_answered users n bound late shelf last each there intact
 
     pub served_shut : (db : List ℕ) (users : List SubjectModel) (port count : ℕ) (read taken over later : M)
         (shelf last : Taken) (done : Result (Unit {0}) Fault) (one : Image)

@@ -1,20 +1,20 @@
 -- What a stop in the middle of an event leaves.
-use Rattle.std.proofs.Common.{◌≡◌, ◌∙◌, refl, sym, subst, inl, inr, ◌∷◌, IsTrue, arith}
+use Rattle.std.proofs.Common.{◌≡◌, ◌∙◌, refl, subst, inl, inr, ◌∷◌}
 use Rattle.std.proofs.Common.{Result, Ok, Err}
 use Rattle.std.proofs.Math.Logic.{∥∥₁_map}
 use Rattle.sqlite_disk.specs.declared.Disk.{Ghosts}
 use Rattle.sqlite_disk.specs.declared.Files.{Files}
 use Rattle.sqlite_pool.proofs.StateLemmas.{clean_is, may_leave_is}
-use Rattle.sqlite_trees.specs.View.{IsQuiet, IsClean}
+use Rattle.sqlite_trees.specs.View.{IsClean}
 use Rattle.sqlite_trees.proofs.Doubt.{no_doubt}
 use Rattle.sqlite.specs.WalFiles.{outcomes}
 use Rattle.sqlite.specs.WalReads.{AreClean}
-use Rattle.sqlite.specs.FileStore.{state, view, faults, recovers, is_shielded, files as files_in}
+use Rattle.sqlite.specs.FileStore.{state, view, files as files_in}
 use Rattle.sqlite.proofs.Theorems.{opens_again}
 use Rattle.sqlite.specs.Recovery.{Image}
 use Rattle.sqlite.specs.declared.FileStore.{FileStore}
 use Rattle.sqlite.specs.State.{HasCleanDisk, Survives}
-use Rattle.sqlite.specs.Held.{Held, AreDatabases}
+use Rattle.sqlite.specs.Held.{Held}
 use Rattle.sqlite.specs.Files.{file_state, over_files}
 use Rattle.room_records.specs.Room.{Room}
 use Rattle.room_records.specs.Shelf.{View, LeavesNew}
@@ -31,15 +31,13 @@ use Rattle.room_desk.specs.Representation.{RepresentsHistory}
 use Rattle.room_program.specs.declared.fault.Fault.{Fault}
 use Rattle.room_program.specs.Files.{Takes}
 use Rattle.room_program.specs.Found.{IsOpenedOver, HoldsRoom}
-use Rattle.room_program.specs.Halts.{StandsOrWith, HoldsOldOrNew, HoldsRoomWith, connection_of}
+use Rattle.room_program.specs.Halts.{StandsOrWith, HoldsOldOrNew, HoldsRoomWith, IsTakenOut, connection_of}
 use Rattle.room_program.specs.Restarts.{HoldsStill}
-use Rattle.room_program.proofs.Found.{may_room}
+use Rattle.room_program.proofs.Found.{may_room, was_sound}
 
 -- A shelf's store is taken out of its connection and closed, and its files have returned what was written
-module _ {D : Type 0} (g : Ghosts D) (was : SqlShelf (FileStore D g) over_files) (conn : Held (FileStore D g))
-    (same : conn ≡ was.conn) (it : FileStore D g) (quiet : IsQuiet view faults recovers is_shielded conn.store it)
-    (numbered : IsClean (view it) → IsTrue (view it).is_numbered)
-    (sound : IsClean (view it) → AreDatabases (recovers it))
+module _ {D : Type 0} (g : Ghosts D) (was : SqlShelf (FileStore D g) over_files) (it : FileStore D g)
+    (out : IsTakenOut over_files was.conn it)
     (files : Files D) (closed : (files.log, files.db) ≡ files_in it) (honest : AreClean g files.log files.db) where
   sure : AreClean g (files_in it).0 (files_in it).1
   sure = subst (λ (p : D × D). AreClean g p.0 p.1) closed honest
@@ -49,9 +47,7 @@ module _ {D : Type 0} (g : Ghosts D) (was : SqlShelf (FileStore D g) over_files)
 
   -- so had they before
   pub was_intact : HasCleanDisk (file_state was.conn)
-  was_intact =
-      let early : HasCleanDisk (file_state conn) = omega (arith, quiet.clean, none) in
-      subst (λ (c : Held (FileStore D g)). HasCleanDisk (file_state c)) same early
+  was_intact = was_sound g was.conn it out none
 
   -- what a crash may leave of them is what it might leave of the shelf
   pub left_in_files : (sql_view over_files was).leaves_laid_out → (image : Image) → outcomes g files.log files.db image
@@ -59,9 +55,8 @@ module _ {D : Type 0} (g : Ghosts D) (was : SqlShelf (FileStore D g) over_files)
   left_in_files laid image may =
       let there : (state it).may_leave image
       = may_leave_is it.pool image sure (subst (λ (p : D × D). outcomes g p.0 p.1 image) closed may) in
-      ∥∥₁_map (opens_again it (numbered none) (sound none) image there) (λ found.
-      let was_left = quiet.outcomes found.0 found.1 in
-      let before = subst (λ (c : Held (FileStore D g)). recovers c.store found.0) same was_left in
+      ∥∥₁_map (opens_again it (out.numbered none) (out.sound none) image there) (λ found.
+      let before = out.quiet.outcomes found.0 found.1 in
       let (schema, room) = laid found.0 before in (
         record { schema = schema; trees = found.0 },
         record { trees = ∣ found.2 ∣₁; sound = room.sound },
@@ -70,24 +65,21 @@ module _ {D : Type 0} (g : Ghosts D) (was : SqlShelf (FileStore D g) over_files)
       ))
 
 -- what a crash may leave of the shelf of a desk stands for one of two histories
-module _ {D : Type 0} {g : Ghosts D} (shelf desk : SqlShelf (FileStore D g) over_files × Known)
-    (same : shelf ≡ desk) where
+module _ {D : Type 0} {g : Ghosts D} (shelf : SqlShelf (FileStore D g) over_files × Known) where
   abbrev shows : SqlShelf (FileStore D g) over_files × Known → View
   shows = cached_view (sql_view over_files)
 
   pub old_or_new : (start : Room) (past : History) (event : EventModel)
-      → ((shows desk).is_intact → LeavesNew (shows desk) (StandsOrWith start past event))
-      → ((shows desk).is_intact → (shows desk).leaves_laid_out) → (shows shelf).is_intact → (image : Image)
+      → ((shows shelf).is_intact → LeavesNew (shows shelf) (StandsOrWith start past event))
+      → ((shows shelf).is_intact → (shows shelf).leaves_laid_out) → (shows shelf).is_intact → (image : Image)
       → ((shows shelf).leaves_laid_out → HoldsRoomWith image (shows shelf).crash_may_leave)
       → HoldsOldOrNew image start past event
   old_or_new start past event leaves laid intact image held =
-      let now = subst (λ d. (shows d).is_intact) same intact in
-      ∥∥₁_map (held (subst (λ d. (shows d).leaves_laid_out) (sym same) (laid now))) (λ found.
-      let (db, holds, room, left) = found in
-      let may = subst (λ d. (shows d).crash_may_leave (records_of db.trees)) same left in
+      ∥∥₁_map (held (laid intact)) (λ found.
+      let (db, holds, room, may) = found in
       let here : (past : History) → RepresentsHistory start (records_of db.trees) past → HoldsRoom image start past
       = λ past rows. record { db = db; held = holds; room = inl room; rows = rows } in
-      elim (leaves now (records_of db.trees) may) [
+      elim (leaves intact (records_of db.trees) may) [
         | inl without ↦ inl (here past without)
         | inr with_it ↦ inr (with_it.0, here (event ∷ past) with_it.1)
       ])
@@ -105,15 +97,15 @@ module _ {D : Type 0} (g : Ghosts D) (stays : (file : D) → g.may_leave file (g
 
   pub take_spared : (taken : Result (SqlShelf (FileStore D g) over_files × Known) (Fault × Held (FileStore D g)))
       → Takes over_files opened taken → connection_of taken ≡ shut → (it : FileStore D g)
-      → IsQuiet view faults recovers is_shielded shut.store it → (IsClean (view it) → IsTrue (view it).is_numbered)
-      → (IsClean (view it) → AreDatabases (recovers it)) → (files : Files D) → (files.log, files.db) ≡ files_in it
+      → IsTakenOut over_files shut it → (files : Files D) → (files.log, files.db) ≡ files_in it
       → AreClean g files.log files.db → (image : Image) → outcomes g files.log files.db image → HoldsStill found image
-  take_spared taken takes same it quiet numbered sound files closed honest image may start past held =
+  take_spared taken takes same it out files closed honest image may start past held =
       let sure = subst (λ (p : D × D). AreClean g p.0 p.1) closed honest in
       let none : IsClean (view it) = no_doubt _ (clean_is it.pool ∙ sure) in
       let there : (state it).may_leave image
       = may_leave_is it.pool image sure (subst (λ (p : D × D). outcomes g p.0 p.1 image) closed may) in
-      let clean : HasCleanDisk (file_state shut) = omega (arith, quiet.clean, none) in
+      let clean = was_sound g shut it out none in
       let survives = spared_by taken takes same in
       may_room g found start past held stays opened is (was_clean survives clean) it
-      (λ trees left. survives.crash clean trees (quiet.outcomes trees left)) (sound none) (numbered none) image there
+      (λ trees left. survives.crash clean trees (out.quiet.outcomes trees left)) (out.sound none) (out.numbered none)
+      image there

@@ -19,11 +19,12 @@ use Rattle.room_desk.proofs.Calls.{no_call, calls_then}
 use Rattle.room_desk.proofs.Messages.{goes_on}
 use Rattle.room_desk.proofs.Stops.{at_rest}
 use Rattle.room_desk.proofs.StreamStops.{stream_in_doubt, laid_out_in_stream, by_answers}
-use Rattle.room_desk.proofs.StreamStops.{AreAsked, none_asked, asked_in_stream}
+use Rattle.room_desk.proofs.StreamStops.{AreAsked, none_asked, asked_in_stream, intact_before}
 use Rattle.room_program.specs.declared.fault.Fault.{Fault}
 use Rattle.room_program.specs.Calls.{Exchange, ServesEach, Accepted}
 use Rattle.room_program.specs.Rooms.{ServesAll}
 use Rattle.room_program.specs.Streams.{GoesOn, Served, ServesSome}
+use Rattle.room_program.specs.Restarts.{AnswersOrMore}
 
 pub ran : (users : List SubjectModel) (start : Room) (past : History) (ms : List MessageModel)
     (out : List ℕ) (next : History) → IsRun users start past ms out next → GoesOn users start past next
@@ -127,7 +128,7 @@ module _ {S : Type 0} (view : S → View) (settled : (s : S) (left : Records) �
         let (next, on, there) = some_in_doubt between after all.2 all.3 all.5 intact mid left in
         (next, goes_further users start known.past mid.past next.past goes on, there)
 
-    pub answers_or_more : (n : ℕ) (last : L) (between after : S) (ms : List MessageModel) (out : List ℕ)
+    answers_or_more : (n : ℕ) (last : L) (between after : S) (ms : List MessageModel) (out : List ℕ)
         (past : History) → ServesEach accepts (Served view users) n old last before between
         → Outputs (MayAnswer view users) between ms out after → (view between).is_intact → (view after).is_intact
         → (view before).is_available → StandsFor start past (view before) → (view before).leaves_laid_out
@@ -151,3 +152,17 @@ module _ {S : Type 0} (view : S → View) (settled : (s : S) (left : Records) �
           ],
           kept,
         )
+
+-- and after any number of them, over a shelf that meets the two laws
+module _ {S : Type 0} (view : S → View) (settled : (s : S) (left : Records) → (view s).is_available
+    → (view s).crash_may_leave left → left ≡ (view s).records)
+    (leaves_laid_out : (s : S) → (view s).is_available → (view s).is_laid_out → (view s).leaves_laid_out) where
+  pub connections_answered : {L : Type 0} (accepts : L → Exchange → L → Type 0) (users : List SubjectModel) (n : ℕ)
+      (old last : L) (before between after : S) (ms : List MessageModel) (out : List ℕ)
+      → ServesEach accepts (Served view users) n old last before between
+      → Outputs (MayAnswer view users) between ms out after → (view before).is_available → (view after).is_intact
+      → AnswersOrMore view users before after
+  connections_answered accepts users n old last before between after ms out each run there intact start past stands =
+      answers_or_more view settled users start accepts old before n last between after ms out past each run
+      (intact_before view users between after ms out run intact) intact there stands
+      (leaves_laid_out before there (stands there).0)

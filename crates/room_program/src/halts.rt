@@ -4,7 +4,6 @@ ghost use Rattle.sqlite.specs.WalFiles.{image_at, outcomes};
 ghost use Rattle.sqlite.specs.WalReads.{AreClean};
 ghost use Rattle.sqlite.specs.Recovery.{Image};
 ghost use Rattle.room_records.specs.Room.{Room};
-ghost use Rattle.room_records.specs.Shelf.{LeavesNew};
 ghost use Rattle.room_wire.specs.Asks.EventModel.{EventModel};
 ghost use Rattle.room_desk.specs.AnswerModel.{AnswerModel};
 ghost use Rattle.room_desk.specs.History.{History, leaves_no_reply};
@@ -12,10 +11,11 @@ ghost use Rattle.room_desk.specs.Representation.{StandsFor};
 ghost use Rattle.room_desk.specs.Serving.{EventAnswered};
 ghost use Rattle.room_program.specs.Files.{Adopted, Takes};
 ghost use Rattle.room_program.specs.Found.{IsOpenedOver};
-ghost use Rattle.room_program.specs.Halts.{WereClean, MayBeLeftThen, StandsOrWith, HoldsOldOrNew, HoldsRoomWith};
+ghost use Rattle.room_program.specs.Halts.{WereClean, MayBeLeftThen, AnsweredThenLeft, HoldsOldOrNew, HoldsRoomWith};
 ghost use Rattle.room_program.specs.Halts.{connection_of};
 ghost use Rattle.room_program.specs.Restarts.{ActsOnce, HoldsStill};
 
+use crate::left::{store_in, store_under};
 use room_cache::CachedShelf;
 use room_desk::Desk;
 use room_records::Shelf;
@@ -27,18 +27,15 @@ use sqlite_trees::store::Store;
 /// The shelf of the program over two files.
 pub(crate) type FileShelf<D> = CachedShelf<SqlShelf<FileStore<D>>>;
 
-/// Where the store was there, and its rows stood for a history, a crash after an event was answered leaves rows that
-/// stand for that history, or for it with the event, and no others, and that are laid out: also where a fault shut the
-/// store on the way.
-pub(crate) fn answered<S: Shelf>()
-    ensures rows { (before after : S) (event : EventModel) (answered : AnswerModel) (start : Room) (past : History) →
-        StandsFor start past (S.view before) → (S.view before).is_available →
-        EventAnswered S.view before event answered after → (S.view after).is_intact →
-        LeavesNew (S.view after) (StandsOrWith start past event) }
-    ensures laid_out { (before after : S) (event : EventModel) (answered : AnswerModel) (start : Room)
-        (past : History) → StandsFor start past (S.view before) → (S.view before).is_available →
-        EventAnswered S.view before event answered after → (S.view after).is_intact → (S.view after).leaves_laid_out }
-{}
+/// The shelf of a desk after an event was answered. Where the store was there, and its rows stood for a history, a
+/// crash then leaves rows that stand for that history, or for it with the event, and no others, and that are laid out:
+/// also where a fault shut the store on the way.
+pub(crate) fn left_by<S: Shelf>(after: Desk<S>) -> S
+    ensures { (before : S) (event : EventModel) (answered : AnswerModel) →
+        EventAnswered S.view before event answered after → AnsweredThenLeft S.view before event answered result }
+{
+    after.into_shelf()
+}
 
 /// The files of a shelf, to which nothing more is written. Where they have returned what was written, and what a crash
 /// may leave of the shelf is laid out, each content that a crash may leave of them holds a room, with records that a
@@ -49,8 +46,7 @@ pub(crate) fn files_of<D: Disk + Drop>(shelf: FileShelf<D>) -> Files<D>
         → (image : Image) → outcomes D.Disk result.log result.db image
         → HoldsRoomWith image (⟦<FileShelf<D> as Shelf>⟧.view shelf).crash_may_leave }
 {
-    let store = shelf.into_inner().into_connection().into_store();
-    store.close()
+    store_under(shelf).close()
 }
 
 /// What a stop in the middle of an event leaves: the files of the desk `after` it.
@@ -74,8 +70,7 @@ pub fn an_event_cut_off_leaves_old_or_new<D: Disk + Drop>(
         → EventAnswered ⟦<FileShelf<Fuse<D>> as Shelf>⟧.view before event answered after → WereClean D.Disk result
         → (image : Image) → MayBeLeftThen D.Disk result image → HoldsOldOrNew image start past event }
 {
-    answered::<FileShelf<Fuse<D>>>();
-    files_of(after.into_shelf())
+    files_of(left_by(after))
 }
 
 /// What a take of a room leaves that is cut off, also while a room of version 1 becomes one of version 2: the files of
@@ -89,8 +84,7 @@ pub fn a_take_cut_off_leaves_the_room<D: Disk + Drop>(
         → Takes ⟦<FileStore<Fuse<D>> as Store>⟧ opened taken → connection_of taken ≡ shut → WereClean D.Disk result
         → (image : Image) → MayBeLeftThen D.Disk result image → HoldsStill found image }
 {
-    let store = shut.into_store();
-    store.close()
+    store_in(shut).close()
 }
 
 /// The next run opens such files, which `T` stands for, takes the room that it finds, and the event is sent again

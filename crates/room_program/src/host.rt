@@ -6,7 +6,7 @@ ghost use Rattle.sqlite.specs.WalFiles.{image_at};
 ghost use Rattle.room_program.specs.Machines.Call.{closes, leaves, opens};
 ghost use Rattle.room_program.specs.Found.{ActsOn};
 
-use crate::left::Left;
+use crate::left::{Left, store_in};
 use crate::listening::{Listener, Server};
 use crate::machine::Machine;
 use room_records::Roster;
@@ -101,9 +101,7 @@ fn close<S: Start>(connection: FileConnection<S>) -> Left<FileFrom<S>>
 fn keep<S: Start>(connection: FileConnection<S>) -> Left<FileFrom<S>>
     ensures { ActsOn (image_at S.Start) (leaves connection) Left.Nothing result }
 {
-    // What it shows is a database.
-    let _live = connection.schema();
-    Left::Kept(connection.into_store())
+    Left::Kept(store_in(connection))
 }
 
 impl<'a, S: Start> Machine<FileConnection<S>> for Host<'a, S> {

@@ -30,7 +30,7 @@ ghost use Rattle.room_program.specs.Restarts.{Steps, KeepsRoom, KeepsRoomOrMore,
 ghost use Rattle.room_program.specs.Restarts.{GoesOnBySome, GoesOnOrMore};
 
 use crate::host::{FileConnection, Host};
-use crate::left::Left;
+use crate::left::{Left, store_under, taken_off};
 use crate::listening::Listener;
 use crate::machine::Machine;
 use room_cache::CachedShelf;
@@ -96,12 +96,7 @@ pub fn a_run_that_ends_keeps_the_room<S: Start>()
         (Unmade ⟦<FileStore<FileFrom<S>> as Store>⟧ owner group) db owner group before later (Err why) →
         before.left ≡ Left.Nothing → SeesSums (image_at S.Start) later.left → IsLeftBy later.left left
         → HoldsStill (image_at S.Start) left }
-{
-    connections_leave_what_was_answered::<
-        Host<'static, S>,
-        CachedShelf<SqlShelf<FileStore<FileFrom<S>>>>,
-    >();
-}
+{}
 
 /// And so does one that stops between two connections, with the shelf `last`, while its store is there: a crash may
 /// leave the image `left` of its files. Each of the `count` connections before was served as `Desk::serve` promises
@@ -129,9 +124,7 @@ pub fn a_run_that_stops_keeps_the_room<S: Start>(
         AnswersOrMore ⟦<CachedShelf<SqlShelf<FileStore<FileFrom<S>>>> as Shelf>⟧.view users taken last →
         IsClean (view result) → MayBeLeft last.0.conn.store left → KeepsRoomOrMore (image_at S.Start) left }
 {
-    let connection = last.into_inner().into_connection();
-    let _live = connection.schema();
-    connection.into_store()
+    store_under(last)
 }
 
 /// However many connections were served over a shelf whose store was there, and some messages of one more, a crash then
@@ -170,9 +163,7 @@ pub fn the_next_run_finds_what_this_one_saw<S: Start, T: Start>(
         (records_of (file_state opened.now).now.trees)) ∥₁ }
 {
     let _opened = opened;
-    let connection = was.into_connection();
-    let _live = connection.schema();
-    connection.into_store()
+    taken_off(was)
 }
 
 /// What holds a room is not refused as none: `not a room` comes of no store that was opened over it, while the disk

@@ -3,6 +3,7 @@ ghost use Rattle.room_program.specs.Files.{Takes};
 ghost use Rattle.room_program.specs.Rooms.{Reports, WritesReport};
 
 use crate::fault::{Fault, done_of_report};
+use crate::left::connection_under;
 use crate::machine::Machine;
 use crate::opening::take_room;
 use crate::rosters::roster_at;
@@ -76,6 +77,6 @@ pub(crate) fn report<S: Alter + Drop, M: Machine<Connection<S>>, W: Write>(
     let roster = roster_at(alloc, machine, roster)?;
     let mut shelf = take_room(alloc, machine, db)?;
     let done = write_report(alloc, &mut shelf, &roster, kind, writer);
-    machine.leave(shelf.into_inner().into_connection());
+    machine.leave(connection_under(shelf));
     done
 }

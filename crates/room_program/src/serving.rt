@@ -3,6 +3,7 @@ ghost use Rattle.room_program.specs.Files.{Takes};
 ghost use Rattle.room_program.specs.Rooms.{Listens, ServesAll, ServesRoom};
 
 use crate::fault::Fault;
+use crate::left::connection_under;
 use crate::listening::Listener;
 use crate::machine::Machine;
 use crate::network::serve_listener;
@@ -47,6 +48,23 @@ fn listen<C, R: Shelf, M: Machine<C> + Listener>(
     }
 }
 
+/// The same over a desk of this shelf, which is handed back.
+fn listen_over<C, R: Shelf, M: Machine<C> + Listener>(
+    alloc: Global,
+    machine: &mut M,
+    shelf: R,
+    roster: &Roster,
+    port: u16,
+    count: u32,
+) -> (Result<(), Fault>, R)
+    ensures { Listens M.does M.accepts M.fails R.view roster.now
+        port count machine.old machine.new shelf result.1 result.0 }
+{
+    let mut desk = Desk::new(alloc, shelf);
+    let done = listen(machine, &mut desk, roster, port, count);
+    (done, desk.into_shelf())
+}
+
 /// Serves the room in the file at `db` on this port of 127.0.0.1, over `count` connections.
 pub(crate) fn serve<S: Alter + Drop, M: Machine<Connection<S>> + Listener>(
     alloc: Global,
@@ -62,8 +80,7 @@ pub(crate) fn serve<S: Alter + Drop, M: Machine<Connection<S>> + Listener>(
 {
     let roster = roster_at(alloc, machine, roster)?;
     let shelf = take_room(alloc, machine, db)?;
-    let mut desk = Desk::new(alloc, shelf);
-    let done = listen(machine, &mut desk, &roster, port, count);
-    machine.close(desk.into_shelf().into_inner().into_connection());
+    let (done, served) = listen_over(alloc, machine, shelf, &roster, port, count);
+    machine.close(connection_under(served));
     done
 }

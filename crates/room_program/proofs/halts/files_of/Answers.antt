@@ -1,17 +1,11 @@
-use Rattle.std.proofs.Common.{◌∙◌, ap}
 use Rattle.room_program.proofs.Stopped.{was_intact, left_in_files}
 use Rattle.room_program.proofs.halts.files_of.Goals as goal
 
 pub returns-clause-intact : goal.returns-clause-intact
 returns-clause-intact g c honest =
-    was_intact _ c.args.shelf.0 c.into_connection.result
-    (c.into_connection.ensures.same ∙ ap (λ s. s.conn) c.into_inner.ensures) c.into_store-store.result
-    c.into_store-store.ensures.quiet c.into_store-store.ensures.numbered c.into_store-store.ensures.sound
-    c.close.result c.close.ensures honest
+    was_intact _ c.args.shelf.0 c.store_under.result c.store_under.ensures c.close.result c.close.ensures honest
 
 pub returns-clause-left : goal.returns-clause-left
 returns-clause-left g c honest laid image may =
-    left_in_files _ c.args.shelf.0 c.into_connection.result
-    (c.into_connection.ensures.same ∙ ap (λ s. s.conn) c.into_inner.ensures) c.into_store-store.result
-    c.into_store-store.ensures.quiet c.into_store-store.ensures.numbered c.into_store-store.ensures.sound
-    c.close.result c.close.ensures honest laid image may
+    left_in_files _ c.args.shelf.0 c.store_under.result c.store_under.ensures c.close.result c.close.ensures honest
+    laid image may

@@ -20,7 +20,6 @@ returns-clause-serve_shut g c db users port count read taken over later shelf la
     (λ old call new. ActsOn (image_at g.S.Start) call old.left new.left)
     (λ host. host.left) (λ file. inl refl) (λ old new call did. did)
     (λ old e new. IsUnknown e × (new.left ≡ old.left)) (λ old new. new.left ≡ old.left)
-    c.connections_leave_what_was_answered.ensures
     db users port count read taken over later shelf last done left room listens closed at
 
 pub returns-clause-report : goal.returns-clause-report

@@ -1,19 +1,14 @@
-use Rattle.std.proofs.Common.{inl, refl, subst}
-use Rattle.sqlite.specs.State.{IsLive}
-use Rattle.sqlite.specs.Files.{file_state}
+use Rattle.std.proofs.Common.{inl, refl}
 use Rattle.sqlite.specs.WalFiles.{image_at}
-use Rattle.room_program.proofs.Restarts.{found_records, was_numbered}
-use Rattle.room_program.proofs.Found.{found_database, stopped_holds, closed_holds}
+use Rattle.room_program.proofs.Restarts.{found_records}
+use Rattle.room_program.proofs.Found.{found_database, stopped_holds, closed_holds, was_sound}
 use Rattle.room_program.proofs.laws.the_next_run_finds_what_this_one_saw.Goals as goal
 
 pub returns-clause-stop : goal.returns-clause-stop
 returns-clause-stop g c is_open sure may is there =
-    let same = c.into_connection-connection.ensures.same in
-    let live = subst (λ k. IsLive (file_state k)) same c.schema-live.ensures.live in
-    let store = c.into_store.ensures in
-    let (clean, numbered) = was_numbered _ _ _ same _ store.quiet store.undone store.numbered sure in
+    let out = c.taken_off.ensures in
     found_database _ (image_at g.T.Start) _
-    (stopped_holds _ (λ file. inl refl) c.args.was (image_at g.T.Start) live is_open numbered may)
+    (stopped_holds _ (λ file. inl refl) c.args.was (image_at g.T.Start) out.live is_open (out.was_numbered sure) may)
     c.args.opened.now is there
 
 pub returns-clause-closed : goal.returns-clause-closed
@@ -25,7 +20,6 @@ returns-clause-closed g c over later closed is_open at is there =
 
 pub returns-clause-shut : goal.returns-clause-shut
 returns-clause-shut g c sure laid may is there =
-    let same = c.into_connection-connection.ensures.same in
-    let store = c.into_store.ensures in
-    let (clean, numbered) = was_numbered _ _ _ same _ store.quiet store.undone store.numbered sure in
-    found_records _ _ c.args.was (image_at g.T.Start) c.args.opened.now clean laid numbered may is there
+    let out = c.taken_off.ensures in
+    found_records _ _ c.args.was (image_at g.T.Start) c.args.opened.now (was_sound _ c.args.was.conn _ out sure) laid
+    (out.was_numbered sure) may is there

@@ -4,7 +4,7 @@ use Rattle.room_program.proofs.reporting.report.Goals as goal
 
 pub returns : goal.returns
 returns g c =
-    let left = rw c.into_inner.ensures at (rw c.into_connection.ensures.same at c.leave.ensures.left) in
+    let left = rw c.connection_under.ensures at c.leave.ensures.left in
     inr (
       c.in_ok-roster.roster,
       c.roster_at.new.machine,

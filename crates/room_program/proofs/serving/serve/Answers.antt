@@ -4,20 +4,18 @@ use Rattle.room_program.proofs.serving.serve.Goals as goal
 
 pub returns : goal.returns
 returns g c =
-    let done = rw c.new-desk.ensures at c.listen-done.ensures in
-    let closed = rw c.into_shelf.ensures at (rw c.into_inner.ensures at
-    (rw c.into_connection.ensures.same at c.close.ensures.closed)) in
+    let closed = rw c.connection_under.ensures at c.close.ensures.closed in
     inr (
       c.in_ok-roster.roster,
       c.roster_at.new.machine,
       c.in_ok-roster.ensures,
       inr (
         c.in_ok-shelf.shelf,
-        c.listen-done.new.desk,
+        c.listen_over-done.result.1,
         c.take_room.new.machine,
-        c.listen-done.new.machine,
+        c.listen_over-done.new.machine,
         c.in_ok-shelf.ensures,
-        done,
+        c.listen_over-done.ensures,
         closed,
       ),
     )
