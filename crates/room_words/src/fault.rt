@@ -2,7 +2,7 @@
 use thiserror::Error as ThisError;
 
 /// Why words are no row of the command table.
-#[derive(Debug, Drop, ThisError)]
+#[derive(Clone, Debug, Drop, ThisError)]
 pub enum WordsFault {
     /// The words are not as the table has them; the text says what is wrong.
     #[error("{0}")]

@@ -10,7 +10,7 @@ pub enum ReportKind {
 }
 
 /// A row of the program's command table, with its values as they were written.
-#[derive(Debug, Drop)]
+#[derive(Clone, Debug, Drop)]
 pub enum Job {
     /// Answers questions about access lists, from standard input to standard output.
     Check,
