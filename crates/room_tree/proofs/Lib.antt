@@ -3,6 +3,7 @@ pub mod LoadedObjects
 pub mod Checking
 pub mod Stops
 pub mod Walks
+pub mod EntriesAdded
 pub mod FewRows
 pub mod StoredLists
 pub mod Outcomes

@@ -77,6 +77,12 @@ pub record AddsRenewals (t : ObjectRecords) (room : Room) (path : Path)
   pub goes_on : new ≡ old ++ added
   pub renews : RenewsBelow t room path list added
 
+-- a list of changes goes on with some that put entries, and no others
+pub record AddsEntries (old new : List Change) : Type 0 where
+  pub added : List Change
+  pub goes_on : new ≡ old ++ added
+  pub entries : AllByRecursion (λ change. puts_entries change ≡ true) added
+
 -- the entries of the folder with this number; the root has none above it
 abbrev pub entries_of : ObjectRecords → Option ℕ → List EntryModel
 entries_of t None = []

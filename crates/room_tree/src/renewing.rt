@@ -1,5 +1,6 @@
 //! Lists that change, and those below them.
-ghost use Rattle.std.specs.Prelude.{◌≡◌, ◌≢◌, ◌+◌, ◌≤◌, [], ◌∷◌, ◌++◌, length, true, Some, IfOk, OnOk, MatchOption};
+ghost use Rattle.std.specs.Prelude.{◌≡◌, ◌≢◌, ◌+◌, ◌≤◌, [], ◌∷◌, ◌++◌, length, true, Some, MatchOption};
+ghost use Rattle.std.specs.Prelude.{IfOk, OnOk, OnErr};
 ghost use Rattle.room_acl.specs.Bits.{follows};
 ghost use Rattle.room_acl.specs.Inheritance.{with_inherited};
 ghost use Rattle.room_records.specs.declared.node.Node.{Node as NodeRow};
@@ -9,7 +10,7 @@ ghost use Rattle.room_records.specs.Representation.{HasPath, RepresentsRoom};
 ghost use Rattle.room_records.specs.Room.{Room, list_under, object_at};
 ghost use Rattle.room_records.specs.Shelf.{ShelfRead, fault_in};
 ghost use Rattle.room_tree.specs.LoadedObjects.{OfRoom};
-ghost use Rattle.room_tree.specs.Renewals.{AddsRenewals, PutsList, entries_of};
+ghost use Rattle.room_tree.specs.Renewals.{AddsEntries, AddsRenewals, PutsList, entries_of};
 
 use room_acl::{Entry, Kind, ListFlags, own_part, same_entries, with_inherited};
 use room_records::{Change, MAX_NAMES, Node, Shelf, ShelfFault};
@@ -107,9 +108,10 @@ pub(crate) fn moved_list<S: Shelf>(
     renewed_list(alloc, shelf, node, above.as_slice())
 }
 
-/// Adds a change behind the others.
+/// Adds a change behind the others. Where memory is refused they are as they were.
 fn add_change(changes: &mut Vec<Change>, change: Change) -> Result<(), AllocError>
-    ensures { OnOk result (changes.new.items ≡ changes.old.items ++ change ∷ []) }
+    ensures added { OnOk result (changes.new.items ≡ changes.old.items ++ change ∷ []) }
+    ensures kept { OnErr result (changes.new.items ≡ changes.old.items) }
 {
     changes.push(change)?;
     Ok(())
@@ -131,6 +133,7 @@ fn renew_within<S: Shelf>(
         → max_names ≤ length path + levels →
         OnOk result (AddsRenewals t room path list.now out.old.items out.new.items)) }
     ensures frame { ShelfRead (S.view shelf.old) (S.view shelf.new) (fault_in result) }
+    ensures adds { AddsEntries out.old.items out.new.items }
 {
     if levels == 0 {
         return Ok(());
@@ -160,6 +163,11 @@ fn renew_within<S: Shelf>(
 /// Adds one PutEntries for each object below the folder of this number whose list changes where the folder gets this
 /// list. It goes down only through such objects, at most 16 levels: an object that does not follow, or whose list
 /// stays, ends the way down. The folder's own entries are put by the caller.
+///
+/// # Errors
+///
+/// The fault of the shelf, or `Memory`. What stood in `out` is still its front then, and behind it stand some of the
+/// PutEntries: taken off, they leave what was there.
 pub fn renew<S: Shelf>(
     alloc: Global,
     shelf: &mut S,
@@ -172,6 +180,7 @@ pub fn renew<S: Shelf>(
         → HasPath (S.view shelf.old).records.objects path id →
         OnOk result (AddsRenewals (S.view shelf.old).records.objects room path list.now out.old.items out.new.items) }
     ensures frame { ShelfRead (S.view shelf.old) (S.view shelf.new) (fault_in result) }
+    ensures adds { AddsEntries out.old.items out.new.items }
 {
     renew_within(alloc, shelf, id, Kind::Folder, list, MAX_NAMES, out)
 }

@@ -1,4 +1,4 @@
-use Rattle.std.proofs.Common.{◌≡◌, ℕ, ◌+◌, ◌-◌, ◌<◌, ◌≤◌, ap, sym, ◌∙◌, subst, arith, List, [], ◌∷◌, ◌++◌, length}
+use Rattle.std.proofs.Common.{◌≡◌, ℕ, refl, ◌+◌, ◌-◌, ◌<◌, ◌≤◌, ap, sym, ◌∙◌, subst, arith, List, [], ◌∷◌, ◌++◌, length}
 use Rattle.std.proofs.Common.{append-nil, append_assoc, length-append, Some}
 use Rattle.room_acl.specs.declared.subject.Kind.TheVariants.{File}
 use Rattle.room_records.specs.declared.change.Change.{Change}
@@ -12,6 +12,7 @@ use Rattle.room_records.proofs.Lists.{all_at}
 use Rattle.room_records.proofs.Shelves.{read_then}
 use Rattle.room_records.proofs.RoomsMap.{some_is}
 use Rattle.room_tree.proofs.Depths.{child_path}
+use Rattle.room_tree.proofs.EntriesAdded.{adds_none, adds_more, adds_one}
 use Rattle.room_tree.proofs.RenewingParts.{child_stays, renews_child}
 use Rattle.room_tree.proofs.RenewingChildren.{renews_lowest, renews_file, none_so_far, one_more_so_far, all_so_far}
 use Rattle.room_tree.proofs.renewing.+renew_within.Goals as goal
@@ -46,6 +47,7 @@ loop-node-init g m c = record {
       (rw (← e) (c.in_ok-nodes.ensures.value available laid_out (rw e stand.rules.nodes)));
   renews = λ available laid_out t e room stand path at deep.
       none_so_far stand path c.args.list.now c.args.out.now.items;
+  adds = adds_none c.args.out.now.items c.args.out.now.items refl;
 }
 
 pub returns-clause-value : goal.returns-clause-value
@@ -82,6 +84,7 @@ loop-node-preserved-in_default-2 g m c =
           (c.loop-node.invariant.renews before laid_out t e room stand path at deep)
           (child_stays t room stand path c.args.list.now (name_of child) child.id here (rw c.in_default-2.is at told))
           (sym (append-nil c.loop-node.out.items));
+      adds = c.loop-node.invariant.adds;
     }
 
 pub loop-node-preserved : goal.loop-node-preserved
@@ -124,6 +127,9 @@ loop-node-preserved g m c =
           (c.loop-node.invariant.renews before laid_out t e room stand path at deep)
           (renews_child t room path c.args.list.now name stand.rules child.id here renewed
           below.added told.0 told.1 (rw (← c.as_slice.ensures.value) below.renews))
-          (c.in_ok-add_change.ensures ∙ ap (λ l. l ++ put) below.goes_on
+          (c.in_ok-add_change.ensures.added ∙ ap (λ l. l ++ put) below.goes_on
           ∙ append_assoc c.loop-node.out.items below.added put);
+      adds = adds_more c.args.out.now.items c.loop-node.out.items _ c.loop-node.invariant.adds
+          (adds_more c.loop-node.out.items _ _ c.renew_within.ensures.adds
+          (adds_one _ _ child.id renewed c.in_ok-add_change.ensures.added));
     }

@@ -5,7 +5,7 @@ use Rattle.room_tree.proofs.renewing.with_list.Goals as goal
 
 pub returns-in_default-clause-value : goal.returns-in_default-clause-value
 returns-in_default-clause-value g c = λ available laid_out t e room stand path stored at stands kind.
-    rw c.in_default.is (c.in_ok-add_change.ensures
+    rw c.in_default.is (c.in_ok-add_change.ensures.added
     ∙ ap (λ (l : List Change). l ++ PutNode c.args.node ∷ []) c.new-changes.ensures.items)
 
 pub returns-clause-value : goal.returns-clause-value
@@ -15,8 +15,8 @@ returns-clause-value g c = λ available laid_out t e room stand path stored at s
     rw c.in-Some.is (
       below.added,
       rw (← c.as_slice.ensures.value) below.renews,
-      c.in_ok-add_change-2.ensures
+      c.in_ok-add_change-2.ensures.added
           ∙ ap (λ (l : List Change). l ++ put) (below.goes_on ∙ ap (λ (l : List Change). l ++ below.added)
-          (c.in_ok-add_change.ensures
+          (c.in_ok-add_change.ensures.added
           ∙ ap (λ (l : List Change). l ++ PutNode c.args.node ∷ []) c.new-changes.ensures.items)),
     )
