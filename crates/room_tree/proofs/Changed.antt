@@ -25,7 +25,7 @@ use Rattle.room_commands.specs.declared.reply.RefusalCode.TheVariants.{IsDir}
 use Rattle.room_commands.specs.Checks.{first_refusal, checks, check_file, refuse_if, is_kind}
 use Rattle.room_commands.specs.Effect.{changed, reply, with_object}
 use Rattle.room_tree.specs.LoadedObjects.{IsLoaded, node_of}
-use Rattle.room_tree.specs.Plans.{PlansEffect, place_after}
+use Rattle.room_tree.specs.Plans.{PlansEffect, most_rows, place_after}
 use Rattle.room_tree.specs.Renewals.{ChangesFewRows}
 use Rattle.room_commands.specs.ReplyModel.{reply_model}
 use Rattle.room_tree.proofs.Checking.{file_check, there}
@@ -54,7 +54,8 @@ pub replaced_plans : {t : ObjectRecords} {room : Room} (caller : SubjectModel) (
     → RepresentsRoom t room → Replaces t (apply_all_to_objects changes t) room
     (changed room caller command) path o now_is node now → first_refusal (checks room caller command) ≡ None
     → reply_model outcome.reply ≡ reply room caller command → outcome.changes.items ≡ changes
-    → AllByRecursion IsOfObjects changes → ObjectRulesHoldAfterEach changes t → ChangesFewRows t changes
+    → AllByRecursion IsOfObjects changes → ObjectRulesHoldAfterEach changes t
+    → ChangesFewRows (most_rows command) t changes
     → ((q : Path) → place_after command None q ≡ q) → PlansEffect t room caller command outcome
 replaced_plans {t} caller command outcome changes stand r passed replied planned of_objects rules few stays =
     let later = apply_all_to_objects changes t in

@@ -241,7 +241,7 @@ mkdir_plans {t} {room} {caller} {path} {id} {node} list outcome stand is_path be
       rules_bumped stand is_path root_off absent found number.1 few new o lawful,
       (rules, gives.each),
     )
-    (few_for_folder t id none (id + 1) node list)
+    (few_for_folder t id none (id + 1) node new.number list)
     (added stand r) (λ q k at stands there. added_keeps stand r q k at) (only_next stand is_path
     root_off absent found number.1 few new o lawful later gives.nodes)
 
@@ -295,6 +295,6 @@ create_plans {t} {room} {caller} bytes {path} {id} {node} list copy outcome stan
       rules_bumped stand is_path root_off absent found number.1 few new o lawful,
       (rules, rules_append puts (PutDoc id copy ∷ []) second gives.each (last, tt)),
     )
-    (few_for_document t id none (id + 1) node list copy)
+    (few_for_document t id none (id + 1) node new.number list copy)
     (rw whole at (added stand r)) (λ q k at stands there. keeps q k at) (rw (← whole) (only_next stand is_path
     root_off absent found number.1 few new o lawful later gives.nodes))

@@ -14,7 +14,7 @@ use Rattle.room_tree.specs.declared.planning.Outcome.{Outcome}
 use Rattle.room_commands.specs.Checks.{first_refusal, checks}
 use Rattle.room_commands.specs.ReplyModel.{Refused, reply_model, IsRefused, Refusal}
 use Rattle.room_commands.specs.Effect.{effect_by, changed, reply}
-use Rattle.room_tree.specs.Plans.{PlansEffect, place_after}
+use Rattle.room_tree.specs.Plans.{PlansEffect, most_rows, place_after}
 use Rattle.room_tree.specs.Renewals.{ChangesFewRows}
 use Rattle.room_commands.proofs.Rights.{rights_of_success}
 use Rattle.room_tree.proofs.FewRows.{few_none}
@@ -38,7 +38,8 @@ module _ {t : ObjectRecords} {room : Room} (caller : SubjectModel) (command : Co
   -- and what no check refuses plans what the command leaves
   pub success_plans : (changes : List Change) → first_refusal (checks room caller command) ≡ None
       → reply_model outcome.reply ≡ reply room caller command → outcome.changes.items ≡ changes
-      → AllByRecursion IsOfObjects changes → ObjectRulesHoldAfterEach changes t → ChangesFewRows t changes
+      → AllByRecursion IsOfObjects changes → ObjectRulesHoldAfterEach changes t
+      → ChangesFewRows (most_rows command) t changes
       → RepresentsRoom (apply_all_to_objects changes t) (changed room caller command)
       → ((path : Path) (id : ℕ) → HasPath t path id → IsSome (t.node id)
       → IsSome (object_at (changed room caller command) (place_after command None path))
@@ -63,6 +64,6 @@ module _ {t : ObjectRecords} {room : Room} (caller : SubjectModel) (command : Co
       → reply_model outcome.reply ≡ reply room caller command
       → outcome.changes.items ≡ [] → PlansEffect t room caller command outcome
   reading_plans stays same is replied none =
-      success_plans [] is replied none tt tt (few_none t) (rw same stand)
+      success_plans [] is replied none tt tt (few_none (most_rows command) t) (rw same stand)
       (λ path id at stands there. rw (stays path) (at))
       (λ id absent present. absurd (none_and_some (t.node id) absent present))

@@ -3,7 +3,7 @@ use Rattle.std.proofs.lemmas.Grind.{common_steps}
 use Rattle.std.proofs.Common.{◌≡◌, ◌≢◌, ℕ, ◌+◌, ◌≤◌, refl, ap, sym, ◌∙◌, arith, Bool, true, false, not, cond}
 use Rattle.std.proofs.Common.{eqb, ◌||◌, ◌⊎◌, inl, inr, List, [], ◌∷◌, ◌++◌, map, reverse, append-nil, Option, None}
 use Rattle.std.proofs.Common.{Some, IsTrue, count_by, MatchOption, eq-eqb}
-use Rattle.std.specs.Prelude.{Vec}
+use Rattle.std.specs.Prelude.{Vec, is_some}
 use Rattle.std.specs.declared.alloc.Global.{Global}
 use Rattle.std.specs.List.{AllByRecursion, list_any}
 use Rattle.std.proofs.lemmas.Bool.{eqb-true}
@@ -343,7 +343,7 @@ module _ {t : ObjectRecords} {room : Room} (stand : RepresentsRoom t room) {path
       let after = rules_kept puts first rules there in
       ((rules, after.0), after.1)
 
-  pub relisted_few : ChangesFewRows t (PutNode now ∷ map put puts)
+  pub relisted_few : ChangesFewRows 1 t (PutNode now ∷ map put puts)
   relisted_few = record {
     once = λ id. let more = sum_by-cons (λ (change : Change). cond (puts_entries_of id change) 1 0)
         (PutNode now) (map put puts) in omega (arith, more, r.once id);
@@ -351,6 +351,11 @@ module _ {t : ObjectRecords} {room : Room} (stand : RepresentsRoom t room) {path
         let what = put_found (IsRelisted t room path list) puts id r.each found in
         let new = what.1 in
         λ same. new.changes (new.is_list ∙ sym (relisted_at new.rest id new.at) ∙ same);
+    there = λ id found.
+        let new = (put_found (IsRelisted t room path list) puts id r.each found).1 in
+        let node = node_at_path stand (path ++ new.rest) id new.at in
+        let after = there_after id node.0 node.1 in
+        ap is_some (ap (λ (f : ℕ → Option Node). f id) (nodes_stay puts first) ∙ after.1);
     others =
         let more =
         sum_by-cons (λ (change : Change). cond (not (puts_entries change)) 1 0) (PutNode now) (map put puts) in

@@ -42,6 +42,19 @@ OnlyReads (C.GetList path) = Unit {0}
 OnlyReads (C.Access mask path) = Unit {0}
 OnlyReads command = ⊥
 
+-- how many rows a command may change beside entries: a new object has its row and the next number, a new document its
+-- bytes too
+abbrev pub most_rows : CommandModel → ℕ
+most_rows (C.Mkdir path) = 2
+most_rows (C.Create bytes path) = 3
+most_rows (C.Write bytes path) = 1
+most_rows (C.Append bytes path) = 1
+most_rows (C.Remove path) = 1
+most_rows (C.Rename path to) = 1
+most_rows (C.SetList flag entries path) = 1
+most_rows (C.Chown group owner path) = 1
+most_rows command = 0
+
 -- the reply is the effect's, and the changes lead to rows that stand for the effect's room
 pub record PlansEffect (t : ObjectRecords) (room : Room) (caller : SubjectModel)
     (command : CommandModel) (outcome : Outcome) : Type 0 where
@@ -50,7 +63,7 @@ pub record PlansEffect (t : ObjectRecords) (room : Room) (caller : SubjectModel)
   pub rules : ObjectRulesHoldAfterEach outcome.changes.items t
   pub leads : RepresentsRoom (apply_all_to_objects outcome.changes.items t) (effect room caller command).room
   pub numbers : KeepsNumbers t (apply_all_to_objects outcome.changes.items t) room caller command
-  pub few : ChangesFewRows t outcome.changes.items
+  pub few : ChangesFewRows (most_rows command) t outcome.changes.items
   pub refusal : IsRefused (reply_model outcome.reply) → outcome.changes.items ≡ []
   pub allowed : (IsRefused (reply_model outcome.reply) → ⊥) → NeedsAllowed room caller command
 

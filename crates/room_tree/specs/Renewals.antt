@@ -1,6 +1,6 @@
 -- Lists below an object that are renewed after its own. All of it is our own rule.
 use Rattle.std.specs.Prelude.{◌≡◌, ◌≢◌, ℕ, ◌≤◌, ◌⊎◌, Bool, true, false, not, ◌==◌, List, [], ◌∷◌, ◌++◌}
-use Rattle.std.specs.Prelude.{reverse, IsTrue, length, if◌then◌else◌}
+use Rattle.std.specs.Prelude.{reverse, IsTrue, IsSome, length, if◌then◌else◌}
 use Rattle.std.specs.List.{AllByRecursion, count_by, list_any}
 use Rattle.std.specs.Prelude.{Vec, Option, None, Some}
 use Rattle.std.specs.declared.alloc.Global.{Global}
@@ -100,9 +100,12 @@ PutsList t room path node (Some list) changes =
 abbrev pub puts_new : ℕ → Vec EntryModel Global → List Change
 puts_new id list = if length list.items == 0 then [] else PutEntries id list ∷ []
 
--- entries are put once for an object at most, and only for one whose list changes, and at most three other rows change
-pub record ChangesFewRows (t : ObjectRecords) (changes : List Change) : Type 0 where
+-- entries are put once for an object at most, and only for one that is there afterwards and whose list changes; and at
+-- most so many other rows change
+pub record ChangesFewRows (most : ℕ) (t : ObjectRecords) (changes : List Change) : Type 0 where
   pub once : (id : ℕ) → count_by (puts_entries_of id) changes ≤ 1
   pub needed : (id : ℕ) → IsTrue (list_any (puts_entries_of id) changes)
       → (apply_all_to_objects changes t).entries id ≢ t.entries id
-  pub others : count_by (λ change. not (puts_entries change)) changes ≤ 3
+  pub there : (id : ℕ) → IsTrue (list_any (puts_entries_of id) changes)
+      → IsSome ((apply_all_to_objects changes t).node id)
+  pub others : count_by (λ change. not (puts_entries change)) changes ≤ most
