@@ -30,7 +30,7 @@ ghost use Rattle.room_program.specs.Restarts.{Steps, KeepsRoom, KeepsRoomOrMore,
 ghost use Rattle.room_program.specs.Restarts.{GoesOnBySome, GoesOnOrMore};
 
 use crate::host::{FileConnection, Host};
-use crate::left::{Left, store_under, taken_off};
+use crate::left::{Left, store_off, store_under};
 use crate::listening::Listener;
 use crate::machine::Machine;
 use room_cache::CachedShelf;
@@ -163,7 +163,7 @@ pub fn the_next_run_finds_what_this_one_saw<S: Start, T: Start>(
         (records_of (file_state opened.now).now.trees)) ∥₁ }
 {
     let _opened = opened;
-    taken_off(was)
+    store_off(was)
 }
 
 /// What holds a room is not refused as none: `not a room` comes of no store that was opened over it, while the disk

@@ -38,7 +38,7 @@ fn taken_out<S: Alter + Drop>(connection: Connection<S>) -> S
 }
 
 /// Takes it from under a shelf.
-pub(crate) fn taken_off<S: Alter + Drop>(shelf: SqlShelf<S>) -> S
+fn taken_off<S: Alter + Drop>(shelf: SqlShelf<S>) -> S
     ensures { IsTakenOut S.Store shelf.conn result }
 {
     taken_out(shelf.into_connection())
@@ -51,13 +51,6 @@ pub(crate) fn connection_under<S: Alter + Drop>(shelf: CachedShelf<SqlShelf<S>>)
     shelf.into_inner().into_connection()
 }
 
-/// And takes the store from under that one.
-fn taken_under<S: Alter + Drop>(shelf: CachedShelf<SqlShelf<S>>) -> S
-    ensures { IsTakenOut S.Store shelf.0.conn result }
-{
-    taken_out(connection_under(shelf))
-}
-
 /// Takes a store over files out of its connection, and copies nothing.
 pub(crate) fn store_in<D: Disk + Drop>(connection: Connection<FileStore<D>>) -> FileStore<D>
     ensures { IsTakenOut ⟦<FileStore<D> as Store>⟧ connection result }
@@ -65,9 +58,16 @@ pub(crate) fn store_in<D: Disk + Drop>(connection: Connection<FileStore<D>>) -> 
     taken_out(connection)
 }
 
+/// Takes it from under a shelf.
+pub(crate) fn store_off<D: Disk + Drop>(shelf: SqlShelf<FileStore<D>>) -> FileStore<D>
+    ensures { IsTakenOut ⟦<FileStore<D> as Store>⟧ shelf.conn result }
+{
+    taken_off(shelf)
+}
+
 /// Takes it from under the program's shelf.
 pub(crate) fn store_under<D: Disk + Drop>(shelf: FileShelf<D>) -> FileStore<D>
     ensures { IsTakenOut ⟦<FileStore<D> as Store>⟧ shelf.0.conn result }
 {
-    taken_under(shelf)
+    store_off(shelf.into_inner())
 }

@@ -1,4 +1,8 @@
+use Rattle.std.proofs.Common.{subst}
+use Rattle.sqlite.specs.Files.{over_files}
+use Rattle.room_program.specs.Halts.{IsTakenOut}
 use Rattle.room_program.proofs.left.store_under.Goals as goal
 
 pub returns : goal.returns
-returns g c = c.taken_under.ensures
+returns g c =
+    subst (λ shelf. IsTakenOut over_files shelf.conn c.store_off.result) c.into_inner.ensures c.store_off.ensures
