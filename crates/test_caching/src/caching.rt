@@ -127,6 +127,14 @@ static OVER_COMMITS: [Row; 14] = [
     Knows(Slot(0, 1)),
 ];
 
+/// What the user `owner` and `eng` own.
+fn standing(alloc: Global, owner: &str) -> Result<Standing, Fail> {
+    Ok(Standing {
+        owner: named(alloc, owner)?,
+        group: named(alloc, "eng")?,
+    })
+}
+
 /// Whether the list of the root decides for this user, where this one is the owner, of these rights.
 fn decides<S: Shelf>(
     alloc: Global,
@@ -135,16 +143,10 @@ fn decides<S: Shelf>(
     owner: &str,
     bits: u32,
 ) -> Result<bool, Fail> {
-    let standing = Standing {
-        owner: named(alloc, owner)?,
-        group: named(alloc, "eng")?,
-    };
+    let subject = subject(alloc, user)?;
+    let standing = standing(alloc, owner)?;
     let mask = Mask::new(bits).ok_or("a mask was refused")?;
-    Ok(
-        shelf
-            .decide_at(1, &subject(alloc, user)?, &standing, mask)
-            .is_ok(),
-    )
+    Ok(shelf.decide_at(1, &subject, &standing, mask).is_ok())
 }
 
 /// The name of a session by its number.
@@ -153,51 +155,81 @@ fn sid_of(alloc: Global, at: u32) -> Result<Sid, Fail> {
 }
 
 fn put_slot(alloc: Global, session: u32, slot: u32) -> Result<Change, Fail> {
-    slot_row(
-        alloc,
-        format!(in alloc; "{session:032x}")?.as_str(),
-        slot,
-        9,
-        None,
-    )
+    let sid = format!(in alloc; "{session:032x}")?;
+    slot_row(alloc, sid.as_str(), slot, 9, None)
+}
+
+fn put_list(alloc: Global) -> Result<Change, Fail> {
+    let entry = handed_down(1, Who::Owner)?;
+    Ok(Change::PutEntries(1, vec![in alloc; entry]?))
+}
+
+fn drop_slots(alloc: Global, session: u32) -> Result<Vec<Change>, Fail> {
+    let dropped = Change::DropSlots(sid_of(alloc, session)?);
+    let put = put_slot(alloc, session, 0)?;
+    Ok(vec![in alloc; dropped, put]?)
+}
+
+/// The change alone.
+fn only(alloc: Global, change: Result<Change, Fail>) -> Result<Vec<Change>, Fail> {
+    Ok(vec![in alloc; change?]?)
 }
 
 /// The changes of a commit, none of another call.
 fn changes(alloc: Global, call: Call) -> Result<Vec<Change>, Fail> {
     match call {
-        PutList => Ok(vec![in alloc;
-            Change::PutEntries(1, vec![in alloc; handed_down(1, Who::Owner)?]?),
-        ]?),
-        DropSlots(session) => Ok(vec![in alloc;
-            Change::DropSlots(sid_of(alloc, session)?),
-            put_slot(alloc, session, 0)?,
-        ]?),
-        PutSlot(session, slot) => Ok(vec![in alloc; put_slot(alloc, session, slot)?]?),
+        PutList => only(alloc, put_list(alloc)),
+        DropSlots(session) => drop_slots(alloc, session),
+        PutSlot(session, slot) => only(alloc, put_slot(alloc, session, slot)),
         _ => Ok(Vec::new(alloc)),
+    }
+}
+
+fn is_committed<S: Shelf>(alloc: Global, shelf: &mut S, call: Call) -> Result<bool, Fail> {
+    let changes = changes(alloc, call)?;
+    Ok(shelf.commit(changes.as_slice()).is_ok())
+}
+
+fn has_child<S: Shelf>(alloc: Global, shelf: &mut S, name: &str) -> Result<bool, Fail> {
+    let name = file_name(alloc, name)?;
+    Ok(shelf.child(1, &name).is_ok())
+}
+
+/// Whether a call about a session or its slots is answered.
+fn is_told<S: Shelf>(shelf: &mut S, sid: &Sid, call: Call) -> bool {
+    match call {
+        Slot(_, slot) => shelf.slot(sid, slot).is_ok(),
+        Seq(_, slot) => shelf.slot_seq(sid, slot).is_ok(),
+        _ => shelf.session(sid).is_ok(),
+    }
+}
+
+/// Whether a call without names is answered, of the root or of the next number.
+fn is_read<S: Shelf>(shelf: &mut S, call: Call) -> bool {
+    match call {
+        Node => shelf.node(1).is_ok(),
+        Children => shelf.children(1).is_ok(),
+        ChildCount => shelf.child_count(1).is_ok(),
+        Names => shelf.names(1).is_ok(),
+        Entries => shelf.entries(1).is_ok(),
+        Doc => shelf.doc(1).is_ok(),
+        DocSize => shelf.doc_size(1).is_ok(),
+        _ => shelf.next_id().is_ok(),
     }
 }
 
 /// Whether a call is answered.
 fn is_answered<S: Shelf>(alloc: Global, shelf: &mut S, call: Call) -> Result<bool, Fail> {
-    let answered = match call {
-        Node => shelf.node(1).is_ok(),
-        Child(name) => shelf.child(1, &file_name(alloc, name)?).is_ok(),
-        Children => shelf.children(1).is_ok(),
-        ChildCount => shelf.child_count(1).is_ok(),
-        Names => shelf.names(1).is_ok(),
-        Entries => shelf.entries(1).is_ok(),
-        Decide(user, owner, bits) => decides(alloc, shelf, user, owner, bits)?,
-        Doc => shelf.doc(1).is_ok(),
-        DocSize => shelf.doc_size(1).is_ok(),
-        Next => shelf.next_id().is_ok(),
-        Session => shelf.session(&sid_of(alloc, 0)?).is_ok(),
-        Slot(session, slot) => shelf.slot(&sid_of(alloc, session)?, slot).is_ok(),
-        Seq(session, slot) => shelf.slot_seq(&sid_of(alloc, session)?, slot).is_ok(),
-        PutList | DropSlots(_) | PutSlot(_, _) => {
-            shelf.commit(changes(alloc, call)?.as_slice()).is_ok()
+    match call {
+        Child(name) => has_child(alloc, shelf, name),
+        Decide(user, owner, bits) => decides(alloc, shelf, user, owner, bits),
+        Session => Ok(is_told(shelf, &sid_of(alloc, 0)?, call)),
+        Slot(session, _) | Seq(session, _) => Ok(is_told(shelf, &sid_of(alloc, session)?, call)),
+        PutList | DropSlots(_) | PutSlot(_, _) => is_committed(alloc, shelf, call),
+        Node | Children | ChildCount | Names | Entries | Doc | DocSize | Next => {
+            Ok(is_read(shelf, call))
         }
-    };
-    Ok(answered)
+    }
 }
 
 /// The place of the first call that is not answered, or how many there are.
@@ -210,18 +242,33 @@ fn first_refused<S: Shelf>(alloc: Global, shelf: &mut S, rows: &[Row]) -> Result
     Ok(rows.len())
 }
 
-/// A room with /a and /b, a session, and numbers in the 16 slots of 16 sessions: as many as are remembered.
-fn room(alloc: Global) -> Result<MemShelf, Fail> {
-    let mut shelf = in_memory(alloc)?;
-    let mut changes = vec![in alloc;
-        Change::PutNode(node_in_root(alloc, 2, "a", Kind::Folder)?),
-        Change::PutNode(node_in_root(alloc, 3, "b", Kind::Folder)?),
-        Change::PutNext(4),
-        session_row(alloc, "00000000000000000000000000000000", 2, true)?,
-    ]?;
+fn put_folder(alloc: Global, id: u32, name: &str) -> Result<Change, Fail> {
+    Ok(Change::PutNode(node_in_root(alloc, id, name, Kind::Folder)?))
+}
+
+/// /a and /b, and a session.
+fn folders(alloc: Global) -> Result<Vec<Change>, Fail> {
+    let mut changes = Vec::new(alloc);
+    changes.push(put_folder(alloc, 2, "a")?)?;
+    changes.push(put_folder(alloc, 3, "b")?)?;
+    changes.push(Change::PutNext(4))?;
+    changes.push(session_row(alloc, "00000000000000000000000000000000", 2, true)?)?;
+    Ok(changes)
+}
+
+/// Numbers in the 16 slots of 16 sessions: as many as are remembered.
+fn push_slots(alloc: Global, changes: &mut Vec<Change>) -> Result<(), Fail> {
     for at in 0..256 {
         changes.push(put_slot(alloc, at / 16, at % 16)?)?;
     }
+    Ok(())
+}
+
+/// A room with folders, a session and numbers.
+fn room(alloc: Global) -> Result<MemShelf, Fail> {
+    let mut changes = folders(alloc)?;
+    push_slots(alloc, &mut changes)?;
+    let mut shelf = in_memory(alloc)?;
     commit(&mut shelf, changes)?;
     Ok(shelf)
 }
@@ -234,21 +281,25 @@ fn refused_at(alloc: Global, rows: &[Row], k: u64) -> Result<usize, Fail> {
     at
 }
 
+/// Where the shelf inside refuses its k-th call, the call at this place is the first that is not answered.
+fn refuses_at(alloc: Global, rows: &[Row], k: u64, place: usize) -> Result<(), Fail> {
+    let found = refused_at(alloc, rows, k)?;
+    if found != place {
+        return Err(Fail::new(format_args!("call {k}: {found} and not {place}")));
+    }
+    Ok(())
+}
+
 /// The k-th call of the shelf inside is made by the k-th row that asks it, and by no other.
 fn asks_as_told(alloc: Global, rows: &[Row]) -> Result<(), Fail> {
     let mut asked = 0u64;
     for (at, row) in rows.iter().enumerate() {
         if matches!(row, Asks(_)) {
             asked = asked.saturating_add(1);
-            if refused_at(alloc, rows, asked)? != at {
-                return Err(Fail::new(format_args!("{at}, {row:?}")));
-            }
+            refuses_at(alloc, rows, asked, at)?;
         }
     }
-    must(
-        refused_at(alloc, rows, asked.saturating_add(1))? == rows.len(),
-        "more calls",
-    )
+    refuses_at(alloc, rows, asked.saturating_add(1), rows.len())
 }
 
 #[test]
@@ -283,19 +334,20 @@ fn a_row_that_is_remembered_takes_no_place_of_others(rt: HostRuntime) -> Result<
     rows.push(Asks(Slot(3, 5)))?;
     push_numbers(&mut rows, true)?;
     rows.push(Asks(Doc))?;
-    assert_eq!(rt; refused_at(rt.alloc(), rows.as_slice(), 258)?, 513);
-    Ok(())
+    refuses_at(rt.alloc(), rows.as_slice(), 258, 513)
 }
+
+static NODE_AND_DOC: [Row; 2] = [Asks(Node), Asks(Doc)];
+
+static NEXT_AND_NODE: [Row; 2] = [Asks(Next), Asks(Node)];
 
 /// Its second call of the shelf inside is refused, and behind that its third: the node again, and not the next number.
 fn forgets<S: Shelf>(alloc: Global, shelf: &mut S) -> Result<(), Fail> {
+    let document = first_refused(alloc, shelf, &NODE_AND_DOC)?;
+    let node = first_refused(alloc, shelf, &NEXT_AND_NODE)?;
     must(
-        first_refused(alloc, shelf, &[Asks(Node), Asks(Doc)])? == 1,
-        "the document",
-    )?;
-    must(
-        first_refused(alloc, shelf, &[Asks(Next), Asks(Node)])? == 1,
-        "the node",
+        (document, node) == (1, 1),
+        "the document, and the node again",
     )
 }
 
