@@ -25,7 +25,8 @@ CERT = f"/etc/letsencrypt/live/{SITE}"
 ROOM, GROUP = f"fileroom-standby@{NAME}", f"{NAME}-room"
 WELL = f"{NAME}: all is as it must be; "
 COPIED = f"for the machines of {NAME}: fileroom-standby copy {NAME} | sh"
-TAKEN, BACK = 300, 600  # seconds: far more than it takes, on a machine that others use
+TAKEN, BACK = 300, 600  # seconds: far more than it takes, on a machine that others use; less than ten minutes, after
+# which Gluster by itself looks for copies that are behind
 UNFENCED = 40  # seconds in which a machine that could be fenced would have been
 ATTEMPT = 5  # seconds that a client waits for one answer
 # `pcs`, but that it waits five minutes for the daemon of another machine, and not one: a loaded machine is slow
@@ -206,7 +207,7 @@ class Cluster:
         for it in self.machines:
             until(it.is_up, BACK, f"{name}: {it.name} is switched on again")
             try:
-                until(lambda it=it: self.check(it)[0] == 0, BACK, "check finds nothing", 1)
+                until(lambda it=it: self.check(it)[0] == 0, TAKEN, "check finds nothing", 1)
             except RuntimeError:
                 pass
             status, told = self.check(it)
