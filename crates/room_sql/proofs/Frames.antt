@@ -1,6 +1,6 @@
 -- The frames of calls.
 use Rattle.std.proofs.Common.{◌≡◌, ◌∙◌, true, false, Vec, Result, Ok, Err, IfOk, IfErr, IsErr, OnOk}
-use Rattle.std.proofs.Common.{refl, ap, arith}
+use Rattle.std.proofs.Common.{refl, ap, arith, ◌⊎◌, inl, inr}
 use Rattle.std.specs.declared.alloc.Global.{Global}
 use Rattle.std.specs.Prelude.{List, ℕ}
 use Rattle.std.proofs.lemmas.Result.{IfOk-from_err}
@@ -8,7 +8,7 @@ use Rattle.sqlite_value.specs.Order.{Row}
 use Rattle.sqlite_trees.specs.declared.store.Store.{Ghosts}
 use Rattle.sqlite_resolve.specs.Compile.{first}
 use Rattle.sqlite.specs.State.{State, HasCleanDisk, Survives, Shown, FailsToQuery, CommitsShowing}
-use Rattle.sqlite.specs.State.{ExecutesInside}
+use Rattle.sqlite.specs.State.{ExecutesInside, KeepsCommit, IsTooLate}
 use Rattle.sqlite.specs.Held.{Held, state}
 use Rattle.sqlite.specs.declared.error.Error.{Error}
 use Rattle.sqlite.specs.declared.rows.Row.{Row as Answer}
@@ -16,9 +16,10 @@ use Rattle.sqlite.specs.declared.transaction.Transaction.{Transaction}
 use Rattle.sqlite_trees.specs.Tree.{Trees}
 use Rattle.sqlite.specs.Effect.{Database}
 use Rattle.sqlite.proofs.StateLemmas.{survives_then}
-use Rattle.sqlite.proofs.InsideLemmas.{keeps_then}
+use Rattle.sqlite.proofs.InsideLemmas.{keeps_then, unchanged_keeps}
 use Rattle.room_tables.proofs.Changes.{keeps_all, was_inside}
 use Rattle.room_tables.proofs.Queries.{is_query_text, query_keeps, query_left, query_answered, query_open}
+use Rattle.room_tables.proofs.Queries.{query_leaves, fails_leaves}
 use Rattle.room_sql.specs.Frames.{QueryFrame, InsideFrame, CommitFrame}
 
 -- what holds after an Ok
@@ -52,6 +53,27 @@ asked text args {old = old} {new = new} {r = r} selects ok err mode survives =
       crash = query_keeps text args old new selects survives;
     }
 
+-- a text that only asks, inside a transaction: the database is as it was after an answer
+pub asked_now : (text : List ℕ) (args : Row) (a b : State) (r : Result (Vec Answer Global) Error)
+    → is_query_text (first text) ≡ true → IfOk r (λ rows. Shown text args a b rows.items) → OnOk r (b.now ≡ a.now)
+asked_now text args a b (Ok rows) selects ok = (query_leaves text args a b rows.items selects ok).0.now_is
+asked_now text args a b (Err e) selects ok = tt
+
+asked_mode : (text : List ℕ) (args : Row) (a b : State) (r : Result (Vec Answer Global) Error)
+    → is_query_text (first text) ≡ true → a.in_transaction ≡ true → IfOk r (λ rows. Shown text args a b rows.items)
+    → OnOk r (b.in_transaction ≡ true)
+asked_mode text args a b (Ok rows) selects inside ok =
+    (query_leaves text args a b rows.items selects ok).0.mode ∙ inside
+asked_mode text args a b (Err e) selects inside ok = tt
+
+asked_kept : (text : List ℕ) (args : Row) (a b : State) (r : Result (Vec Answer Global) Error)
+    → is_query_text (first text) ≡ true → IfOk r (λ rows. Shown text args a b rows.items)
+    → IfErr r (λ e. FailsToQuery text args a b e ⊎ IsTooLate text args a b e) → KeepsCommit a b
+asked_kept text args a b (Ok rows) selects ok err =
+    unchanged_keeps a b (inl (query_leaves text args a b rows.items selects ok))
+asked_kept text args a b (Err e) selects ok (inl fails) = unchanged_keeps a b (fails_leaves text args a b e fails)
+asked_kept text args a b (Err e) selects ok (inr late) = unchanged_keeps a b (inl late.5)
+
 -- a statement that answered Ok ran inside a transaction
 pub statement_done : (text : List ℕ) (args : Row) (a b : State) (r : Result ℕ Error) (e : Error) (Y : Type 0)
     → (a.in_transaction ≡ false → (r ≡ Err e) × Y)
@@ -81,6 +103,23 @@ module _ {S : Type 0} {store : Ghosts S} where
     inside = λ clean. goes_on text args _ _ r _ _ ended (runs clean);
     kept = λ clean. keeps_all text args (state store a.conn.now) (state store b.conn.now) r _
         (λ out. let it = ended out in (it.0, ap (state store) it.1)) (runs clean);
+    crash = survives;
+  }
+
+  -- one query, as it was answered
+  pub asked_inside : (text : List ℕ) (args : Row) {a b : Transaction S} {r : Result (Vec Answer Global) Error}
+      → is_query_text (first text) ≡ true → b.conn.ghost_name ≡ a.conn.ghost_name
+      → (HasCleanDisk (state store a.conn.now) → a.conn.now.in_transaction ≡ true)
+      → (HasCleanDisk (state store b.conn.now)
+      → IfOk r (λ rows. Shown text args (state store a.conn.now) (state store b.conn.now) rows.items))
+      → (HasCleanDisk (state store b.conn.now) → IfErr r (λ e.
+      FailsToQuery text args (state store a.conn.now) (state store b.conn.now) e
+      ⊎ IsTooLate text args (state store a.conn.now) (state store b.conn.now) e))
+      → Survives (state store a.conn.now) (state store b.conn.now) (λ _. ⊥) → InsideFrame store a b r
+  asked_inside text args {r = r} selects same inside ok err survives = record {
+    same_reference = same;
+    inside = λ clean. asked_mode text args _ _ r selects (inside (was_clean survives clean)) (ok clean);
+    kept = λ clean. asked_kept text args _ _ r selects (ok clean) (err clean);
     crash = survives;
   }
 

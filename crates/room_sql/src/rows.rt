@@ -5,12 +5,12 @@ ghost use Rattle.std.specs.Prelude.{option_map, IfOk, string_bytes};
 ghost use Rattle.std.specs.List.{AllByRecursion, filter_map};
 ghost use Rattle.sqlite_value.specs.Order.{column};
 ghost use Rattle.sqlite_value.specs.declared.value.Value.TheVariants.{Int, Text};
-ghost use Rattle.room_acl.specs.Entries.{who_from};
+ghost use Rattle.room_acl.specs.Entries.{who_from, who_text};
 ghost use Rattle.room_tables.specs.Rows.{number_in, text_in, name_of_text, name_in, parent_in, bytes_in, reply_in};
 ghost use Rattle.room_tables.specs.Rows.{kind_of, who_of, only, node_of, entry_of, doc_of, session_of, kept_of};
-ghost use Rattle.room_tables.specs.Rows.{listed_of, seq_of, size_in, HasEntryColumns};
+ghost use Rattle.room_tables.specs.Rows.{listed_of, seq_of, size_in, five_columns, HasEntryColumns};
 ghost use Rattle.room_tables.specs.Names.{counted_row};
-ghost use Rattle.room_tables.specs.Steps.{flag_of};
+ghost use Rattle.room_tables.specs.Steps.{flag_of, type_of, shown_as, placed, IsReadBack};
 
 use room_acl::{Entry, Flags, Kind, ListFlags, Mask, Principal, Who};
 use room_records::{FileName, Node, SessionRow, Sid, SlotCount};
@@ -125,7 +125,7 @@ pub(crate) fn node_of(alloc: Global, row: &Row) -> Result<Node, Error>
 /// Whether an entry allows: its type is 0 then.
 fn allow_at(row: &Row, at: usize) -> Result<bool, Error>
     ensures value { IfOk result (λ allow. allow ≡ (number_in (column row.now at) == 0)) }
-    ensures typed { IfOk result (λ _. column row.now at ≡ Int (pos (number_in (column row.now at)))) }
+    ensures stored { IfOk result (λ allow. column row.now at ≡ Int (pos (type_of allow))) }
 {
     Ok(!flag_at(row, at)?)
 }
@@ -150,6 +150,7 @@ fn mask_at(row: &Row, at: usize) -> Result<Mask, Error>
 fn who_from(alloc: Global, flags: Flags, text: &str) -> Result<Who, Error>
     ensures value { IfOk result (λ who. who ≡ who_of flags text.now) }
     ensures found { IfOk result (λ who. who_from flags text.now ≡ Some who) }
+    ensures text { IfOk result (λ who. who_text who ≡ text.now) }
 {
     Who::read(alloc, flags, text)?.ok_or(bad_value())
 }
@@ -158,6 +159,8 @@ fn who_from(alloc: Global, flags: Flags, text: &str) -> Result<Who, Error>
 pub(crate) fn entry_of(alloc: Global, row: &Row) -> Result<Entry, Error>
     ensures value { IfOk result (λ entry. entry ≡ entry_of row.now) }
     ensures typed { IfOk result (λ _. HasEntryColumns row.now) }
+    ensures shown { IfOk result (λ entry. five_columns row.now ≡ shown_as (number_in (column row.now 0)) entry) }
+    ensures back { IfOk result IsReadBack }
 {
     let _place = number_at(row, 0)?;
     let allow = allow_at(row, 1)?;
@@ -174,6 +177,21 @@ pub(crate) fn all_entries(alloc: Global, rows: &[Row]) -> Result<Vec<Entry>, Err
 {
     let mut entries = Vec::new(alloc);
     for row in rows {
+        entries.push(entry_of(alloc, row)?)?;
+    }
+    Ok(entries)
+}
+
+/// The entries of rows at the places 0, 1, 2, ..
+pub(crate) fn placed_entries(alloc: Global, rows: &[Row]) -> Result<Vec<Entry>, Error>
+    ensures shown { IfOk result (λ entries. map five_columns rows.now ≡ placed 0 entries.items) }
+    ensures back { IfOk result (λ entries. AllByRecursion IsReadBack entries.items) }
+{
+    let mut entries = Vec::new(alloc);
+    for row in rows {
+        if number_at(row, 0)? as usize != entries.len() {
+            return Err(bad_value());
+        }
         entries.push(entry_of(alloc, row)?)?;
     }
     Ok(entries)

@@ -1,6 +1,6 @@
 //! Values of a room as the tables hold them.
 
-ghost use Rattle.std.specs.Prelude.{◌≡◌, [], ◌∷◌};
+ghost use Rattle.std.specs.Prelude.{◌≡◌, [], ◌∷◌, true};
 ghost use Rattle.sqlite_value.specs.declared.value.Value.TheVariants.{Blob};
 ghost use Rattle.sqlite.specs.Values.{bound, or_null};
 ghost use Rattle.room_acl.specs.Entries.{who_text};
@@ -8,10 +8,11 @@ ghost use Rattle.room_tables.specs.Rows.{name_of_text, who_of};
 ghost use Rattle.room_tables.specs.Layout.{parent_value, reply_value};
 ghost use Rattle.room_tables.specs.Steps.{kind_number, flag_of, type_of, shown_as, IsReadBack};
 
-use room_acl::{Entry, Kind};
+use room_acl::{Entry, Kind, same_entries};
 use room_records::Node;
 use room_slots::Kept;
 use sqlite::types::{ToSql, Value, ValueRef};
+use std::slice::from_ref;
 
 /// The name of a node, and the empty text for the root's.
 pub(crate) fn name_text(node: &Node) -> &str
@@ -120,6 +121,13 @@ fn who_text(entry: &Entry) -> &str
     ensures back { who_of entry.now.flags result.now ≡ entry.now.who }
 {
     entry.who().text()
+}
+
+/// Whether two entries are one.
+pub(crate) fn is_same(a: &Entry, b: &Entry) -> bool
+    ensures { result ≡ true → a.now ≡ b.now }
+{
+    same_entries(from_ref(a), from_ref(b))
 }
 
 /// The columns of an entry behind its node's number.

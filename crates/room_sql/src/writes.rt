@@ -1,32 +1,35 @@
 //! The changes, each inside a transaction.
 
-ghost use Rattle.std.specs.Prelude.{◌≡◌, ◌+◌, ◌^◌, ◌<◌, ◌≤◌, ℕ, [], ◌∷◌, ◌++◌, length, Ok, IfOk, OnOk};
-ghost use Rattle.std.specs.Prelude.{OnErr, true, false, IsTrue};
+ghost use Rattle.std.specs.Prelude.{◌≡◌, ◌+◌, ◌^◌, ◌<◌, ◌≤◌, ℕ, List, [], ◌∷◌, ◌++◌, length, map, take, drop, min};
+ghost use Rattle.std.specs.Prelude.{Ok, IfOk, OnOk, OnErr, true, false, IsTrue};
+ghost use Rattle.std.specs.List.{AllByRecursion};
 ghost use Rattle.sqlite.specs.State.{HasCleanDisk, ExecutesInside, Survives};
 ghost use Rattle.sqlite.specs.Held.{state};
 ghost use Rattle.sqlite.specs.Values.{bound};
 ghost use Rattle.sqlite.specs.Effect.{Database, IsDatabase};
+ghost use Rattle.room_acl.specs.Entries.{EntryModel};
 ghost use Rattle.room_records.specs.Changes.{apply_changes};
 ghost use Rattle.room_records.specs.declared.change.Change.TheVariants.{PutNode, DropNode, PutEntries, PutDoc};
 ghost use Rattle.room_records.specs.declared.change.Change.TheVariants.{PutSession, PutSlot, DropSlots, PutNext};
 ghost use Rattle.room_tables.specs.Tables.{Upgraded, room_schema};
 ghost use Rattle.room_tables.specs.Rows.{version_rows, IsVersion};
 ghost use Rattle.room_tables.specs.Layout.{IsRoomDatabase};
-ghost use Rattle.room_tables.specs.Rows.{records_of};
-ghost use Rattle.room_tables.specs.Steps.{Steps, SeesSound, Lists, MayBecome, StaysRoom};
+ghost use Rattle.room_tables.specs.Rows.{records_of, five_columns};
+ghost use Rattle.room_tables.specs.Steps.{Steps, SeesSound, Lists, MayBecome, StaysRoom, IsReadBack, placed};
 ghost use Rattle.room_sql.specs.NewObject.{after_change, NoEntriesIfKnown};
 ghost use Rattle.room_sql.specs.Frames.{RunsOr, InsideFrame, CommitFrame};
 ghost use Rattle.room_sql.specs.NodeRows.{MakesChange, AfterAll};
 
 use crate::new_object::NewObject;
+use crate::rows::placed_entries;
 use crate::values::{
-    entry_row, flag_number, group_text, kept_number, kept_reply, kept_request, kind_number,
-    list_flags, name_text, node_number, owner_text, parent_value,
+    entry_row, flag_number, group_text, is_same, kept_number, kept_reply, kept_request,
+    kind_number, list_flags, name_text, node_number, owner_text, parent_value,
 };
 use room_acl::Entry;
 use room_records::{Change, Node, SessionRow, Sid, SlotRow};
 use sqlite::types::{ToSql, ValueRef};
-use sqlite::{Alter, Connection, Error, ErrorCode, Transaction, params};
+use sqlite::{Alter, Connection, Error, ErrorCode, Row, Transaction, params};
 
 /// Runs one statement.
 pub(crate) fn run<S: Alter>(
@@ -324,42 +327,213 @@ fn add_batch<S: Alter>(
     }
 }
 
-/// Puts the entries of an object that has none, in batches.
+/// Puts the entries from a place on behind those before it, in batches.
 fn add_entries<S: Alter>(
     tx: &mut Transaction<'_, S>,
     id: u32,
+    from: u32,
     entries: &[Entry],
 ) -> Result<(), Error>
-    requires { HasCleanDisk (state S.Store tx.old.conn.now) → tx.old.conn.now.in_transaction ≡ true }
+    requires inside { HasCleanDisk (state S.Store tx.old.conn.now) → tx.old.conn.now.in_transaction ≡ true }
+    requires within { from ≤ length entries.now }
     ensures frame { InsideFrame S.Store tx.old tx.new result }
     ensures ok { HasCleanDisk (state S.Store tx.new.conn.now)
-        → OnOk result ((was : Database) → Lists was id [] (state S.Store tx.old.conn.now).now →
+        → OnOk result ((was : Database) → Lists was id (take from entries.now) (state S.Store tx.old.conn.now).now →
         Lists was id entries.now (state S.Store tx.new.conn.now).now) }
 {
     if u32::try_from(entries.len()).is_err() {
         return Err(Error::SqliteFailure(ErrorCode::TooBig));
     }
-    let mut place: u32 = 0;
-    for batch in entries.chunks(BATCH) {
+    let mut place = from;
+    for batch in entries[from as usize..].chunks(BATCH) {
         add_batch(tx, id, place, batch)?;
         place += batch.len() as u32;
     }
     Ok(())
 }
 
-/// Replaces the object's entries. Their places are 0, 1, 2, ..
+/// Writes an entry over the one at its place.
+fn change_entry<S: Alter>(
+    tx: &mut Transaction<'_, S>,
+    id: u32,
+    place: u32,
+    entry: &Entry,
+) -> Result<(), Error>
+    ensures frame { InsideFrame S.Store tx.old tx.new result }
+    ensures ok { HasCleanDisk (state S.Store tx.new.conn.now)
+        → OnOk result ((was : Database) (before behind : _) (stored : EntryModel) → length before ≡ place →
+        Lists was id (before ++ stored ∷ behind) (state S.Store tx.old.conn.now).now
+        → Lists was id (before ++ entry.now ∷ behind) (state S.Store tx.new.conn.now).now) }
+{
+    let row = entry_row(place, entry);
+    run(
+        tx,
+        "UPDATE entry SET type = ?3, flag = ?4, mask = ?5, who = ?6 WHERE node = ?1 AND place = ?2",
+        &[
+            id.to_sql(),
+            row.place,
+            row.kind,
+            row.flags,
+            row.mask,
+            row.who,
+        ],
+    )
+}
+
+/// Writes an entry over the stored one at its place, where the two differ.
+fn renew_entry<S: Alter>(
+    tx: &mut Transaction<'_, S>,
+    id: u32,
+    place: u32,
+    stored: &Entry,
+    entry: &Entry,
+) -> Result<(), Error>
+    requires { HasCleanDisk (state S.Store tx.old.conn.now) → tx.old.conn.now.in_transaction ≡ true }
+    ensures frame { InsideFrame S.Store tx.old tx.new result }
+    ensures ok { HasCleanDisk (state S.Store tx.new.conn.now)
+        → OnOk result ((was : Database) (before behind : _) → length before ≡ place →
+        Lists was id (before ++ stored.now ∷ behind) (state S.Store tx.old.conn.now).now
+        → Lists was id (before ++ entry.now ∷ behind) (state S.Store tx.new.conn.now).now) }
+{
+    if is_same(stored, entry) {
+        Ok(())
+    } else {
+        change_entry(tx, id, place, entry)
+    }
+}
+
+/// Renews the entries of the first places, which the two lists both have.
+fn renew_entries<S: Alter>(
+    tx: &mut Transaction<'_, S>,
+    id: u32,
+    both: u32,
+    stored: &[Entry],
+    entries: &[Entry],
+) -> Result<(), Error>
+    requires inside { HasCleanDisk (state S.Store tx.old.conn.now) → tx.old.conn.now.in_transaction ≡ true }
+    requires stored { both ≤ length stored.now }
+    requires wanted { both ≤ length entries.now }
+    ensures frame { InsideFrame S.Store tx.old tx.new result }
+    ensures ok { HasCleanDisk (state S.Store tx.new.conn.now)
+        → OnOk result ((was : Database) → Lists was id stored.now (state S.Store tx.old.conn.now).now →
+        Lists was id (take both entries.now ++ drop both stored.now) (state S.Store tx.new.conn.now).now) }
+{
+    for place in 0..both {
+        let at = place as usize;
+        renew_entry(tx, id, place, &stored[at], &entries[at])?;
+    }
+    Ok(())
+}
+
+/// Takes the object's entries from a place on away.
+fn drop_behind<S: Alter>(tx: &mut Transaction<'_, S>, id: u32, place: u32) -> Result<(), Error>
+    ensures frame { InsideFrame S.Store tx.old tx.new result }
+    ensures ok { HasCleanDisk (state S.Store tx.new.conn.now)
+        → OnOk result ((was : Database) (before behind : _) → length before ≡ place →
+        Lists was id (before ++ behind) (state S.Store tx.old.conn.now).now
+        → Lists was id before (state S.Store tx.new.conn.now).now) }
+{
+    run(
+        tx,
+        "DELETE FROM entry WHERE node = ?1 AND place >= ?2",
+        params![id, place],
+    )
+}
+
+/// Behind the places that the two lists both have, takes away what is stored, or puts the entries that are more.
+fn end_list<S: Alter>(
+    tx: &mut Transaction<'_, S>,
+    id: u32,
+    both: u32,
+    stored: &[Entry],
+    entries: &[Entry],
+) -> Result<(), Error>
+    requires inside { HasCleanDisk (state S.Store tx.old.conn.now) → tx.old.conn.now.in_transaction ≡ true }
+    requires both { both ≡ min (length stored.now) (length entries.now) }
+    ensures frame { InsideFrame S.Store tx.old tx.new result }
+    ensures ok { HasCleanDisk (state S.Store tx.new.conn.now)
+        → OnOk result ((was : Database) →
+        Lists was id (take both entries.now ++ drop both stored.now) (state S.Store tx.old.conn.now).now →
+        Lists was id entries.now (state S.Store tx.new.conn.now).now) }
+{
+    if stored.len() > entries.len() {
+        drop_behind(tx, id, both)
+    } else {
+        add_entries(tx, id, both, entries)
+    }
+}
+
+/// Makes the stored list of an object another in place: an UPDATE tests no key and no reference, and most lists that a
+/// command renews keep most of their rows.
+fn change_list<S: Alter>(
+    tx: &mut Transaction<'_, S>,
+    id: u32,
+    stored: &[Entry],
+    entries: &[Entry],
+) -> Result<(), Error>
+    requires { HasCleanDisk (state S.Store tx.old.conn.now) → tx.old.conn.now.in_transaction ≡ true }
+    ensures frame { InsideFrame S.Store tx.old tx.new result }
+    ensures ok { HasCleanDisk (state S.Store tx.new.conn.now)
+        → OnOk result ((was : Database) → Lists was id stored.now (state S.Store tx.old.conn.now).now →
+        Lists was id entries.now (state S.Store tx.new.conn.now).now) }
+{
+    let Ok(both) = u32::try_from(stored.len().min(entries.len())) else {
+        return Err(Error::SqliteFailure(ErrorCode::TooBig));
+    };
+    renew_entries(tx, id, both, stored, entries)?;
+    end_list(tx, id, both, stored, entries)
+}
+
+/// Takes the object's entries away, whatever their rows are, and puts these.
+fn replace_list<S: Alter>(
+    tx: &mut Transaction<'_, S>,
+    id: u32,
+    entries: &[Entry],
+) -> Result<(), Error>
+    ensures frame { InsideFrame S.Store tx.old tx.new result }
+    ensures ok { HasCleanDisk (state S.Store tx.new.conn.now)
+        → OnOk result (IsRoomDatabase (state S.Store tx.old.conn.now).now →
+        Lists (state S.Store tx.old.conn.now).now id entries.now (state S.Store tx.new.conn.now).now) }
+{
+    clear_entries(tx, id)?;
+    add_entries(tx, id, 0, entries)
+}
+
+/// The rows of the object's entries, in their order, as the transaction has them.
+fn list_rows<S: Alter>(tx: &mut Transaction<'_, S>, id: u32) -> Result<Vec<Row>, Error>
+    requires { HasCleanDisk (state S.Store tx.old.conn.now) → tx.old.conn.now.in_transaction ≡ true }
+    ensures frame { InsideFrame S.Store tx.old tx.new result }
+    ensures same { HasCleanDisk (state S.Store tx.new.conn.now)
+        → OnOk result ((state S.Store tx.new.conn.now).now ≡ (state S.Store tx.old.conn.now).now) }
+    ensures rows { HasCleanDisk (state S.Store tx.new.conn.now)
+        → IfOk result (λ rows. IsRoomDatabase (state S.Store tx.old.conn.now).now → (stored : List EntryModel) →
+        map five_columns rows.items ≡ placed 0 stored → AllByRecursion IsReadBack stored →
+        Lists (state S.Store tx.old.conn.now).now id stored (state S.Store tx.old.conn.now).now) }
+{
+    tx.query_all(
+        "SELECT place, type, flag, mask, who FROM entry WHERE node = ?1 ORDER BY place, type, flag, mask, who",
+        params![id],
+    )
+}
+
+/// Makes these the object's entries, in place where the stored rows are entries at the places 0, 1, 2, .., and else by
+/// other rows.
 pub(crate) fn put_entries<S: Alter>(
     tx: &mut Transaction<'_, S>,
     id: u32,
     entries: &Vec<Entry>,
 ) -> Result<(), Error>
+    requires { HasCleanDisk (state S.Store tx.old.conn.now) → tx.old.conn.now.in_transaction ≡ true }
     ensures frame { InsideFrame S.Store tx.old tx.new result }
     ensures ok { HasCleanDisk (state S.Store tx.new.conn.now)
         → OnOk result (IsRoomDatabase (state S.Store tx.old.conn.now).now →
         MakesChange (PutEntries id entries.now) (state S.Store tx.old.conn.now) (state S.Store tx.new.conn.now)) }
 {
-    clear_entries(tx, id)?;
-    add_entries(tx, id, entries.as_slice())
+    let rows = list_rows(tx, id)?;
+    match placed_entries(*entries.allocator(), rows.as_slice()) {
+        Ok(stored) => change_list(tx, id, stored.as_slice(), entries.as_slice()),
+        Err(_) => replace_list(tx, id, entries.as_slice()),
+    }
 }
 
 /// Puts the entries of an object that was just added, and has none. Their places are 0, 1, 2, ..
@@ -375,7 +549,7 @@ fn put_new_entries<S: Alter>(
         (records_of (state S.Store tx.old.conn.now).now.trees).objects.entries id ≡ [] →
         MakesChange (PutEntries id entries.now) (state S.Store tx.old.conn.now) (state S.Store tx.new.conn.now)) }
 {
-    add_entries(tx, id, entries.as_slice())
+    add_entries(tx, id, 0, entries.as_slice())
 }
 
 /// Replaces the document, and adds it where there was none. An upsert costs more than the one statement that it comes

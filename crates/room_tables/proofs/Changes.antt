@@ -149,7 +149,7 @@ cleared l old new at table sql params terms count p place schema keyed means her
       schema = ap (λ (d : Database). d.schema) w.now;
       sound = w.sound;
       rows_are = ap (λ (d : Database). d.trees table.tree) w.now ∙ ap (λ (t : Trees). t table.tree) trees
-          ∙ one.rows ∙ removed p (db table.tree) given.0 keyed same;
+          ∙ one.rows ∙ removed p (λ _. []) (db table.tree) given.0 keyed same;
       others = subst (λ t. Others l table.tree db t) (sym (ap (λ (d : Database). d.trees) w.now ∙ trees))
           (others_of l table.tree db edited_to.0 one.tables);
     }

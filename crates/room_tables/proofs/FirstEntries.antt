@@ -20,7 +20,7 @@ use Rattle.room_tables.specs.Steps.{Steps, SeesSound, Lists}
 use Rattle.room_tables.proofs.Filters.{same_test}
 use Rattle.room_tables.proofs.Effects.{params_of_node, node_added, id_is}
 use Rattle.room_tables.proofs.Drops.{no_entries}
-use Rattle.room_tables.proofs.Placed.{lists_records}
+use Rattle.room_tables.proofs.Placed.{lists_stored, lists_records}
 
 -- entries would have referred to a node that was not there
 pub added_bare : (old new : State) (node : Node) (name : List ℕ) (params : Row) (count : ℕ) → IsRoomDatabase old.now
@@ -46,20 +46,8 @@ none_mapped f (x ∷ xs) none = absurd (let e = none in cc)
 -- before the first of its entries is put in
 pub lists_bare : (db : Database) (id : ℕ) → IsRoomDatabase db → (records_of db.trees).objects.entries id ≡ []
     → Lists db id [] db
-lists_bare db id room none = record {
-  room = room;
-  schema = refl;
-  mine = none_mapped entry_of (in_order (filter (has 1 id) (db.trees 3))) none;
-  back = tt;
-  others = λ q apart. refl;
-  nodes = refl;
-  documents = λ q. refl;
-  next = refl;
-  sessions = λ q. refl;
-  slots = λ q n. refl;
-  version = refl;
-  sound = λ s. s;
-}
+lists_bare db id room none =
+    lists_stored db id [] room (none_mapped entry_of (in_order (filter (has 1 id) (db.trees 3))) none) tt
 
 -- after the last the records are changed so
 pub lists_steps : (old new : State) (id : ℕ) (entries : Vec EntryModel Global) (es : List EntryModel)

@@ -92,6 +92,16 @@ pub change_node_means : (l : Layout)
 unfolding understood everything
 change_node_means l = (refl, (refl, refl))
 
+pub change_entry_means : (l : Layout)
+    → Means (room_schema l) T.change_entry_text (Update 2 (record { lets = []; body = T.change_entry_query }))
+unfolding understood everything
+change_entry_means l = (refl, (refl, refl))
+
+pub drop_behind_means : (l : Layout)
+    → Means (room_schema l) T.drop_behind_text (Delete 2 (record { lets = []; body = T.drop_behind_query }))
+unfolding understood everything
+drop_behind_means l = (refl, (refl, refl))
+
 pub change_doc_means : (l : Layout)
     → Means (room_schema l) T.change_doc_text (Update 3 (record { lets = []; body = T.change_doc_query }))
 unfolding understood everything

@@ -20,19 +20,19 @@ use Rattle.sqlite_keyed.specs.Lists.{sort_by}
 use Rattle.sqlite_keyed.proofs.ListLemmas.{IsPermutation-filter, all-append}
 use Rattle.sqlite_keyed.proofs.SortLemmas.{IsPermutation-sort_by}
 use Rattle.sqlite_rules.specs.Edit.{is_taken}
-use Rattle.sqlite.specs.Effect.{Database}
+use Rattle.sqlite.specs.Effect.{Database, IsDatabase}
 use Rattle.sqlite.specs.State.{State, ExecutesInside}
 use Rattle.room_acl.specs.Entries.{EntryModel, who_text}
-use Rattle.room_tables.specs.Tables.{Layout}
+use Rattle.room_tables.specs.Tables.{Layout, room_schema}
 use Rattle.room_tables.proofs.Texts.{drop_entries_text}
 use Rattle.room_tables.specs.Rows.{has, shown_entry, entry_of, entry_keys, in_order, nodes_in, documents_in, next_in}
-use Rattle.room_tables.specs.Rows.{sessions_in, slots_in, records_of, versions_in, IsEntryRow}
+use Rattle.room_tables.specs.Rows.{sessions_in, slots_in, records_of, versions_in, entry_rows, IsEntryRow}
 use Rattle.room_tables.specs.Layout.{IsKeyed, IsRoomDatabase}
 use Rattle.room_tables.specs.Steps.{type_of, IsReadBack, shown_as, placed, Lists}
 use Rattle.room_tables.proofs.Sorted.{AtMost, ascending-sort_by, same_ascending}
 use Rattle.room_tables.proofs.Queries.{first_tie}
 use Rattle.room_tables.proofs.Values.{int_has}
-use Rattle.room_tables.proofs.Changes.{HasAll}
+use Rattle.room_tables.proofs.Changes.{HasAll, Others}
 use Rattle.room_tables.proofs.Takes.{stored, bound_entries, AddsEntries, drops_entries}
 use Rattle.room_tables.proofs.Filters.{put_is_one_more, put_passed_over, rows_gone, not_both, keyed_put}
 use Rattle.room_tables.proofs.Filters.{keyed_filter, still_room, still_numbered, still_slots}
@@ -75,11 +75,11 @@ later : (a at : ℕ) (e : EntryModel) (es : List EntryModel)
 later a at e [] low = tt
 later a at e (f ∷ es) low = (first_less a at e f low, later a (suc at) e es (omega arith))
 
-placed_up : (at : ℕ) (es : List EntryModel) → IsAscending below (placed at es)
+pub placed_up : (at : ℕ) (es : List EntryModel) → IsAscending below (placed at es)
 placed_up at [] = tt
 placed_up at (e ∷ es) = (later at (suc at) e es (omega arith), placed_up (suc at) es)
 
-placed_rows : (at : ℕ) (es : List EntryModel) → AllByRecursion IsEntryRow (placed at es)
+pub placed_rows : (at : ℕ) (es : List EntryModel) → AllByRecursion IsEntryRow (placed at es)
 placed_rows at [] = tt
 placed_rows at (e ∷ es) = (
   record {
@@ -93,7 +93,7 @@ placed_rows at (e ∷ es) = (
   placed_rows (suc at) es,
 )
 
-placed_push : (at : ℕ) (es : List EntryModel) (e : EntryModel)
+pub placed_push : (at : ℕ) (es : List EntryModel) (e : EntryModel)
     → placed at (es ++ e ∷ []) ≡ placed at es ++ shown_as (at + length es) e ∷ []
 placed_push at [] e = rw Rattle.std.proofs.Common.add-zero refl
 placed_push at (x ∷ es) e =
@@ -132,6 +132,24 @@ one_placed old new es e was more =
 
 -- ---- the statements
 
+-- what is stored is listed
+pub lists_stored : (db : Database) (id : ℕ) (es : List EntryModel) → IsRoomDatabase db
+    → entry_rows db.trees id ≡ placed 0 es → AllByRecursion IsReadBack es → Lists db id es db
+lists_stored db id es room mine back = record {
+  room = room;
+  schema = refl;
+  mine = mine;
+  back = back;
+  others = λ q apart. refl;
+  nodes = refl;
+  documents = λ q. refl;
+  next = refl;
+  sessions = λ q. refl;
+  slots = λ q n. refl;
+  version = refl;
+  sound = λ s. s;
+}
+
 -- no entry of the object is left, and all else is as it was
 pub lists_none : (old new : State) (id count : ℕ) → IsRoomDatabase old.now
     → ExecutesInside 0 drop_entries_text (Int (pos id) ∷ []) old new (Ok count) → Lists old.now id [] new.now
@@ -158,12 +176,13 @@ lists_none old new id count room h =
       sound = λ _. it.sound;
     }
 
--- one row more of the object, at the next place: those of the object are in order, and those of the others as before
-record Grown (id : ℕ) (es : List EntryModel) (rows new : List Row) : Type 0 where
+-- the rows of the object are these entries in order, and those of the others as before
+pub record Grown (id : ℕ) (es : List EntryModel) (rows new : List Row) : Type 0 where
   pub keyed : IsKeyed new
   pub mine : in_order (filter (has 1 id) new) ≡ placed 0 es
   pub others : (q : ℕ) → q ≢ id → filter (has 1 q) new ≡ filter (has 1 q) rows
 
+-- one row more of the object, at the next place
 grown : (id : ℕ) (es : List EntryModel) (e : EntryModel) (rowid : ℤ) (rows : List Row)
     → is_taken rows (Int rowid ∷ Int (pos id) ∷ shown_as (length es) e) ≡ false
     → IsKeyed rows → in_order (filter (has 1 id) rows) ≡ placed 0 es
@@ -208,6 +227,26 @@ all_grown id at es (e ∷ batch) rows new place keyed was all =
       others = λ q apart. more.others q apart ∙ one.others q apart;
     }
 
+-- the list of the object is another where its rows alone changed
+pub relisted : (before old new : Database) (id : ℕ) (es fs : List EntryModel) (was : Lists before id es old)
+    → new.schema ≡ room_schema was.room.layout → IsDatabase new → Others was.room.layout 3 old.trees new.trees
+    → AllByRecursion IsReadBack fs → Grown id fs (old.trees 3) (new.trees 3) → Lists before id fs new
+relisted before old new id es fs was schema sound o back it = record {
+  room = still_room 3 old new was.room schema sound o it.keyed (still_numbered 3 old new was.room (omega arith) o);
+  schema = schema ∙ sym was.room.schema ∙ was.schema;
+  mine = it.mine;
+  back = back;
+  others = λ q apart. ap (λ l. map entry_of (in_order l)) (it.others q apart) ∙ was.others q apart;
+  nodes = o.node (omega arith) ∙ was.nodes;
+  documents = λ q. ap (λ l. documents_in l q) (o.doc (omega arith)) ∙ was.documents q;
+  next = ap next_in (o.room (omega arith)) ∙ was.next;
+  sessions = λ q. ap (λ l. sessions_in l q) (o.session (omega arith)) ∙ was.sessions q;
+  slots = λ q n. ap (λ l. slots_in l q n) (still_slots 3 old new was.room schema sound (omega arith) o)
+      ∙ was.slots q n;
+  version = ap versions_in (o.room (omega arith)) ∙ was.version;
+  sound = λ _. sound;
+}
+
 -- the entries of the object after some more are put in behind them
 pub lists_more : (text : List ℕ) (old new : State) (id at count : ℕ) (es batch : List EntryModel) (before : Database)
     → ((l : Layout) → AddsEntries l text id at batch) → at ≡ length es → AllByRecursion IsReadBack batch
@@ -216,25 +255,9 @@ pub lists_more : (text : List ℕ) (old new : State) (id at count : ℕ) (es bat
     → Lists before id (es ++ batch) new.now
 lists_more text old new id at count es batch before adds place back was h =
     let it = adds was.room.layout old new count was.room.schema h.0 in
-    let o = it.others in
-    let more = all_grown id at es batch (old.now.trees 3)
-    (new.now.trees 3) place was.room.keyed.entry was.mine it.rows in
-    record {
-      room = still_room 3 old.now new.now was.room it.schema it.sound o more.keyed
-          (still_numbered 3 old.now new.now was.room (omega arith) o);
-      schema = it.schema ∙ sym was.room.schema ∙ was.schema;
-      mine = more.mine;
-      back = all-append IsReadBack es batch was.back back;
-      others = λ q apart. ap (λ l. map entry_of (in_order l)) (more.others q apart) ∙ was.others q apart;
-      nodes = o.node (omega arith) ∙ was.nodes;
-      documents = λ q. ap (λ l. documents_in l q) (o.doc (omega arith)) ∙ was.documents q;
-      next = ap next_in (o.room (omega arith)) ∙ was.next;
-      sessions = λ q. ap (λ l. sessions_in l q) (o.session (omega arith)) ∙ was.sessions q;
-      slots = λ q n. ap (λ l. slots_in l q n)
-          (still_slots 3 old.now new.now was.room it.schema it.sound (omega arith) o) ∙ was.slots q n;
-      version = ap versions_in (o.room (omega arith)) ∙ was.version;
-      sound = λ _. it.sound;
-    }
+    relisted before old.now new.now id es (es ++ batch) was it.schema it.sound it.others
+    (all-append IsReadBack es batch was.back back)
+    (all_grown id at es batch (old.now.trees 3) (new.now.trees 3) place was.room.keyed.entry was.mine it.rows)
 
 -- what the records are then
 pub lists_records : (before : Database) (id : ℕ) (es : List EntryModel) (db : Database) → Lists before id es db

@@ -110,15 +110,15 @@ removed_ids p rows ids keyed sound complete =
           true≢false (sym (ap p (tied_same rows x r.0 keyed.table h r.1 tie) ∙ r.2) ∙ fails)) ∙ sym fails
     ]
 
--- so it is where a query found them
-pub removed : (p : Row → Bool) (rows found : List Row) → IsKeyed rows
-    → IsPermutation (map (λ r. rowid r ∷ []) (filter p rows)) found
+-- so it is where a query found them, each with its rowid first
+pub removed : (p : Row → Bool) (raw : Row → Row) (rows found : List Row) → IsKeyed rows
+    → IsPermutation (map (λ r. rowid r ∷ raw r) (filter p rows)) found
     → without_all rows (ids_of found) ≡ filter (λ r. not (p r)) rows
-removed p rows found keyed same = removed_ids p rows (ids_of found) keyed
+removed p raw rows found keyed same = removed_ids p rows (ids_of found) keyed
     (λ id h.
     let f = has_mapped id_of found id h in
-    let r = shown_of (λ r. rowid r ∷ []) p rows found same f.0 f.1 in
+    let r = shown_of (λ r. rowid r ∷ raw r) p rows found same f.0 f.1 in
     let key : rowid r.0 ≡ Int (id_of r.0) = int_is (rowid r.0) (all_has _ rows r.0 keyed.ints r.1) in
     (r.0, r.1, r.2, key ∙ ap Int (sym (f.2 ∙ ap id_of r.3))))
     (λ r id h passes is. subst (Has (ids_of found)) (ap id_in is)
-    (mapped_has id_of found (rowid r ∷ []) (is_shown (λ x. rowid x ∷ []) p rows found same r h passes)))
+    (mapped_has id_of found (rowid r ∷ raw r) (is_shown (λ x. rowid x ∷ raw x) p rows found same r h passes)))

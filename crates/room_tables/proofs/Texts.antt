@@ -4,9 +4,11 @@ use Rattle.sqlite_value.specs.declared.value.Value.TheVariants.{Null, Int}
 use Rattle.sqlite_value.specs.declared.keys.Collation.TheVariants.{Binary}
 use Rattle.sqlite_value.specs.declared.keys.Key.{Key}
 use Rattle.sqlite_value.specs.Keys.{ascending}
-use Rattle.sqlite_sql.specs.Term.{Term, lit, col, op1}
+use Rattle.sqlite_sql.specs.Term.{Term, lit, col, op1, op2}
 use Rattle.sqlite_sql.specs.Query.{Query, inner, end}
 use Rattle.sqlite_sql.specs.declared.ops.UnaryOp.TheVariants.{Length}
+use Rattle.sqlite_sql.specs.declared.ops.BinaryOp.TheVariants.{Compare}
+use Rattle.sqlite_sql.specs.declared.ops.CompareOp.TheVariants.{Ge}
 use Rattle.sqlite_schema.specs.declared.command.Upsert.{Upsert}
 use Rattle.sqlite_sql.specs.Group.{Aggregate, Grouping}
 use Rattle.sqlite_sql.specs.declared.aggregate.AggregateOp.TheVariants.{CountRows}
@@ -125,6 +127,24 @@ add_three_text = codes
 abbrev pub add_four_text : List ℕ
 add_four_text = codes
     "INSERT INTO entry (node, place, type, flag, mask, who) VALUES (?1, ?2, ?3, ?4, ?5, ?6), (?1, ?7, ?8, ?9, ?10, ?11), (?1, ?12, ?13, ?14, ?15, ?16), (?1, ?17, ?18, ?19, ?20, ?21)"
+
+-- an entry is written over the one that is there, whose node and place stay
+abbrev pub change_entry_text : List ℕ
+change_entry_text =
+    codes "UPDATE entry SET type = ?3, flag = ?4, mask = ?5, who = ?6 WHERE node = ?1 AND place = ?2"
+
+-- the rowid of each row that passes, and its values with those that are set
+abbrev pub change_entry_query : Query
+change_entry_query = over_table 3 (equals (col 1 1) (col 0 0) ∷ equals (col 1 2) (col 0 1) ∷ [])
+    (col 1 0 ∷ col 1 0 ∷ col 1 1 ∷ col 1 2 ∷ col 0 2 ∷ col 0 3 ∷ col 0 4 ∷ col 0 5 ∷ []) []
+
+-- the entries at a place and behind it
+abbrev pub drop_behind_text : List ℕ
+drop_behind_text = codes "DELETE FROM entry WHERE node = ?1 AND place >= ?2"
+
+abbrev pub drop_behind_query : Query
+drop_behind_query = over_table 3
+    (equals (col 1 1) (col 0 0) ∷ op2 (Compare Ge Binary) (col 1 2) (col 0 1) ∷ []) (col 1 0 ∷ []) []
 
 -- The row of version 2 is written over the one that is there; it is added only where none was changed. An upsert would
 -- cost more than what it comes to

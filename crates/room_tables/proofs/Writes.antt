@@ -77,7 +77,7 @@ module _ (l : Layout) (table : Table) (p : Row → Bool) (terms project : List T
   edit db rows = edit_of db table (ids_of rows) Given 1 rows
 
   module _ (it : IsUpdate l table p terms project params Fits) where
-    abbrev read_of : Row → Row
+    abbrev pub read_of : Row → Row
     read_of r = rowid r ∷ it.raw r
 
     -- no other row is changed with those that were read
@@ -95,7 +95,7 @@ module _ (l : Layout) (table : Table) (p : Row → Bool) (terms project : List T
       pub counted : count ≡ length (edit old.trees rows).news
       pub step : Applies (room_schema l) Enforced old.trees (edit old.trees rows) new.trees
 
-    reads_rows : (old new : State) (at count : ℕ) (text : List ℕ) → slice_get (room_schema l).tables at ≡ Some table
+    pub reads_rows : (old new : State) (at count : ℕ) (text : List ℕ) → slice_get (room_schema l).tables at ≡ Some table
         → Means (room_schema l) text (Update at (record { lets = []; body = query })) → old.now.schema ≡ room_schema l
         → Executes text params old new (Ok count) → (rows : List Row) × Updated old.now new.now count rows
     reads_rows old new at count text place means schema h =
@@ -123,7 +123,7 @@ module _ (l : Layout) (table : Table) (p : Row → Bool) (terms project : List T
     module _ (old new : Database) (count : ℕ) (rows : List Row) (keyed : IsKeyed (old.trees table.tree))
         (u : Updated old new count rows) where
       -- the row of the table that one of them was
-      read_from : (a : Row) → Has rows a → (r : Row) × Has (old.trees table.tree) r × (p r ≡ true) × (a ≡ read_of r)
+      pub read_from : (a : Row) → Has rows a → (r : Row) × Has (old.trees table.tree) r × (p r ≡ true) × (a ≡ read_of r)
           × (rowid r ≡ Int (id_in (rowid r)))
       read_from a h =
           let r = shown_of read_of p (old.trees table.tree) rows u.same a h in

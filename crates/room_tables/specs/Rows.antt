@@ -272,6 +272,10 @@ records_of db = record {
   slot = slots_in (slots_of db);
 }
 
+-- the five columns of a row of entries as it is shown
+abbrev pub five_columns : Row → Row
+five_columns row = column row 0 ∷ column row 1 ∷ column row 2 ∷ column row 3 ∷ column row 4 ∷ []
+
 -- a row of entries as it is shown: its place, type, flags, mask and text
 pub record IsEntryRow (row : Row) : Type 0 where
   pub place : ℕ

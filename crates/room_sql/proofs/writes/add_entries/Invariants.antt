@@ -1,4 +1,4 @@
-use Rattle.std.proofs.Common.{◌≡◌, ◌≤◌, [], take, drop, length, Ok}
+use Rattle.std.proofs.Common.{◌≡◌, ◌≤◌, take, drop, length, Ok}
 use Rattle.sqlite.specs.State.{HasCleanDisk}
 use Rattle.sqlite.specs.Held.{state}
 use Rattle.sqlite.specs.Effect.{Database}
@@ -15,6 +15,6 @@ invariant-loop-batch g l =
       size : l.batch-iterator.size ≡ 4;
       rest : l.batch-iterator.rest.now ≡ drop l.place l.entries;
       within : l.place ≤ length l.entries;
-      done : HasCleanDisk now → (was : Database) → Lists was l.id [] old.now
+      done : HasCleanDisk now → (was : Database) → Lists was l.id (take l.from l.entries) old.now
           → Lists was l.id (take l.place l.entries) now.now;
     }
