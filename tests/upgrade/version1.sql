@@ -3,7 +3,7 @@
 -- Session fedc.. of bob has replies of other kinds; its slot 7 is at the last number, which was set by hand.
 -- Session 0000.. is closed; in it ann made /shut, whose list is her own, and /shut/b.
 -- version1.db is the file that `sqlite3 version1.db < version1.sql` makes of it, version1.lists what `report` of the
--- program of version 1 wrote of it. crates/test_stores has the same statements.
+-- program of version 1 wrote of it. crates/test_tables has the same statements.
 CREATE TABLE room (one INTEGER PRIMARY KEY CHECK (one = 1), version INTEGER NOT NULL, next INTEGER NOT NULL) STRICT;
 CREATE TABLE node (id INTEGER PRIMARY KEY, parent INTEGER REFERENCES node(id), name TEXT NOT NULL, kind INTEGER NOT NULL CHECK (kind = 0 OR kind = 1), owner TEXT NOT NULL, grp TEXT NOT NULL, aclflag INTEGER NOT NULL CHECK (aclflag >= 0 AND aclflag <= 7), UNIQUE (parent, name)) STRICT;
 CREATE TABLE entry (node INTEGER NOT NULL REFERENCES node(id) ON DELETE CASCADE, place INTEGER NOT NULL, type INTEGER NOT NULL CHECK (type = 0 OR type = 1), flag INTEGER NOT NULL, mask INTEGER NOT NULL, who TEXT NOT NULL, PRIMARY KEY (node, place)) STRICT;

@@ -6,7 +6,6 @@ use sqlite_disk::{Crash, Disk, Files, Memory};
 use std::alloc::Global;
 use std::collections::VecDeque;
 use std::io::{self, ErrorKind};
-use test_stores::Held;
 
 /// The one store, and the one roster.
 pub const ROOM: &str = "room.db";
@@ -14,6 +13,13 @@ pub const ROOM: &str = "room.db";
 pub const ROSTER: &str = "roster.toml";
 
 pub type FileConnection = Connection<FileStore<Memory>>;
+
+/// The bytes of a log and its database file.
+#[derive(Drop)]
+struct Held {
+    log: Vec<u8>,
+    db: Vec<u8>,
+}
 
 /// What a run over it finds, and what it leaves.
 #[derive(Drop)]
@@ -66,9 +72,14 @@ impl<'a> MemoryMachine<'a> {
     }
 }
 
-/// What a stop leaves of a store's files.
+/// What is left of a store's files with nothing copied.
+fn let_go(connection: FileConnection) -> Files<Memory> {
+    connection.into_store().close()
+}
+
+/// What a stop leaves of them.
 fn stopped(connection: FileConnection) -> Files<Memory> {
-    let mut files = connection.into_store().close();
+    let mut files = let_go(connection);
     files.log.crash();
     files.db.crash();
     files
@@ -141,7 +152,7 @@ impl<'a> Machine<FileConnection> for MemoryMachine<'a> {
     }
 
     fn leave(&mut self, connection: FileConnection) {
-        let _ = self.keep(&connection.into_store().close());
+        let _ = self.keep(&let_go(connection));
     }
 
     fn listen(&mut self, _port: u16) -> io::Result<()> {

@@ -1,10 +1,9 @@
-//! Worked examples of the tables of a room, over memory: rooms that are made, taken and refused, commits of which
-//! nothing stays or all, and how many rows a decision fetches.
+//! Rooms in tables, over memory and over disks that fail.
 #![tactic(auto)]
 
 #[cfg(test)]
-mod databases;
+mod disks;
 #[cfg(test)]
-mod deciding;
+mod stores;
 #[cfg(test)]
-mod rooms;
+mod tables;

@@ -1,6 +1,4 @@
-//! What tests over tables share: rooms in tables, one of version 1, files in memory, and databases as text.
-#![tactic(auto)]
-
+//! What the tests over tables share: rooms in tables, one of version 1, files in memory, and databases as text.
 mod files;
 mod rooms;
 mod rows;

@@ -1,9 +1,9 @@
 //! Databases, made by texts, and what opens them as rooms.
+use crate::stores::{adopt, contents, init};
 use room_sql::OpenFault;
 use sqlite::{Alter, Connection, MemStore};
 use std::alloc::Global;
 use std::test::Fail;
-use test_stores::{adopt, contents, init};
 
 /// A database in memory that these statements make.
 pub fn database(alloc: Global, statements: &str) -> Result<Connection<MemStore>, Fail> {

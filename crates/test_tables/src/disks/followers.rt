@@ -1,13 +1,12 @@
 //! A room in which a hundred objects follow the list of one folder.
-use crate::rooms::{left_in, new_files};
-use crate::story::{APPEND, Ask, CREATE, Step, TWO_PIECES, is_wanted, play_steps, request};
+use crate::disks::files::Work;
+use crate::disks::story::{APPEND, Ask, CREATE, Step, TWO_PIECES, is_wanted, play_steps, request};
+use crate::stores::made;
 use room_desk::Desk;
 use room_records::Shelf;
-use room_sql::SqlShelf;
 use sqlite::{Alter, Connection};
 use std::alloc::Global;
 use std::test::Fail;
-use test_stores::{Held, made};
 
 /// How many follow: folders, and nine files in each.
 pub const FOLLOWERS: u32 = 100;
@@ -61,16 +60,24 @@ fn make_all<P: Shelf>(alloc: Global, desk: &mut Desk<P>) -> Result<(), Fail> {
     Ok(())
 }
 
-fn made_in<S: Alter + Drop>(alloc: Global, room: SqlShelf<S>) -> Result<Connection<S>, Fail> {
-    let mut desk = Desk::new(alloc, room);
+/// Makes them at a new desk over a shelf, and gives the shelf back.
+fn make_at_desk<P: Shelf>(alloc: Global, shelf: P) -> (Result<(), Fail>, P) {
+    let mut desk = Desk::new(alloc, shelf);
     let end = make_all(alloc, &mut desk);
-    let conn = desk.into_shelf().into_connection();
-    end?;
-    Ok(conn)
+    (end, desk.into_shelf())
 }
 
-/// What the files hold of a room in which all follow, which is in the database file.
-pub fn room_of_followers(alloc: Global) -> Result<Held, Fail> {
-    let room = made(alloc, new_files(alloc)?)?;
-    left_in(alloc, made_in(alloc, room)?, false)
+/// Makes a room in which all follow.
+#[derive(Clone, Copy)]
+pub struct MakeFollowers;
+
+impl Work for MakeFollowers {
+    type Found = ();
+
+    fn run<S: Alter + Drop>(self, alloc: Global, conn: Connection<S>) -> Result<((), S), Fail> {
+        let (end, room) = make_at_desk(alloc, made(alloc, conn)?);
+        let store = room.into_connection().into_store();
+        end?;
+        Ok(((), store))
+    }
 }

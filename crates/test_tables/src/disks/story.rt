@@ -121,7 +121,7 @@ pub fn is_wanted(answer: &Answer, wanted: &str) -> Result<bool, Fail> {
 }
 
 /// Whether a step has its answer; else it is answered DELAY. Another answer is an error.
-pub fn has_answer<P: Shelf>(alloc: Global, desk: &mut Desk<P>, step: &Step) -> Result<bool, Fail> {
+fn has_answer<P: Shelf>(alloc: Global, desk: &mut Desk<P>, step: &Step) -> Result<bool, Fail> {
     let Step(ask, wanted) = *step;
     is_wanted(&answer(alloc, desk, ask)?, wanted)
 }
@@ -139,4 +139,16 @@ pub fn play_steps<P: Shelf>(
         }
     }
     Ok(steps.len())
+}
+
+/// The same at a new desk over a shelf, and the shelf.
+pub fn play_at_desk<P: Shelf>(
+    alloc: Global,
+    shelf: P,
+    steps: &[Step],
+    from: usize,
+) -> (Result<usize, Fail>, P) {
+    let mut desk = Desk::new(alloc, shelf);
+    let at = play_steps(alloc, &mut desk, steps, from);
+    (at, desk.into_shelf())
 }

@@ -1,11 +1,9 @@
-//! Files in memory, and what they hold.
-ghost use Rattle.std.specs.Prelude.{◌≡◌, false, IfOk};
-
-use sqlite::{Connection, FileStore, Options};
+//! Files in memory, what they hold, and work over a database in them.
+use crate::stores::{Held, file_of};
+use sqlite::{Alter, Connection, FileStore, Options};
 use sqlite_disk::{Crash, Disk, Files, Fuse, Memory, Rot};
 use std::alloc::Global;
 use std::test::Fail;
-use test_stores::{Held, file_of};
 
 /// A disk over a file in memory.
 pub trait Kept: Disk {
@@ -70,14 +68,34 @@ pub fn flushed<D: Kept + Crash + Drop>(alloc: Global, files: Files<D>) -> Result
     held_by(alloc, &files)
 }
 
+/// What is done with a database, over any store.
+pub trait Work {
+    type Found: Drop;
+
+    /// What is found, and the store that is left.
+    fn run<S: Alter + Drop>(
+        self,
+        alloc: Global,
+        conn: Connection<S>,
+    ) -> Result<(Self::Found, S), Fail>;
+}
+
+/// Does work over a store in files. No other call of what is for any store is made over this one: each that makes one
+/// is proved in half a minute, for it shows anew that the files are a store.
+fn done<D: Disk + Drop, W: Work>(
+    alloc: Global,
+    conn: Connection<FileStore<D>>,
+    work: W,
+) -> Result<(W::Found, FileStore<D>), Fail> {
+    work.run(alloc, conn)
+}
+
 /// The database in files, or what is left of them.
-pub fn opened<D: Disk + Drop>(
+fn opened<D: Disk + Drop>(
     alloc: Global,
     files: Files<D>,
     options: Options,
-) -> Result<Connection<FileStore<D>>, Files<D>>
-    ensures { IfOk result (λ conn. conn.in_transaction ≡ false) }
-{
+) -> Result<Connection<FileStore<D>>, Files<D>> {
     if !files.may_be_used() {
         return Err(files);
     }
@@ -87,21 +105,58 @@ pub fn opened<D: Disk + Drop>(
     }
 }
 
-/// The database in sound files with these bytes.
-pub fn opened_again(alloc: Global, held: &Held) -> Result<Connection<FileStore<Memory>>, Fail>
-    ensures { IfOk result (λ conn. conn.in_transaction ≡ false) }
-{
+/// What work finds in a database, where it is opened, and the files with no IO behind it.
+pub fn found_over<D: Disk + Drop, W: Work + Drop>(
+    alloc: Global,
+    files: Files<D>,
+    options: Options,
+    work: W,
+) -> Result<(Option<W::Found>, Files<D>), Fail> {
+    match opened(alloc, files, options) {
+        Ok(conn) => {
+            let (found, store) = done(alloc, conn, work)?;
+            Ok((Some(found), store.close()))
+        },
+        Err(files) => Ok((None, files)),
+    }
+}
+
+/// Does work over a database in sound files with these bytes.
+fn done_again<W: Work + Drop>(
+    alloc: Global,
+    held: &Held,
+    work: W,
+) -> Result<(W::Found, FileStore<Memory>), Fail> {
     let log = file_of(alloc, held.log.as_slice())?;
     let db = file_of(alloc, held.db.as_slice())?;
     match opened(alloc, Files { log, db }, Options::new(2)) {
-        Ok(conn) => Ok(conn),
+        Ok(conn) => done(alloc, conn, work),
         Err(_) => Err(Fail::new("not opened again")),
     }
 }
 
-/// The files of a connection, with no IO.
-pub fn files_of<D: Disk + Drop>(conn: Connection<FileStore<D>>) -> Files<D> {
-    conn.into_store().close()
+/// What work finds in a database in sound files with these bytes.
+pub fn found_in<W: Work + Drop>(alloc: Global, held: &Held, work: W) -> Result<W::Found, Fail> {
+    let (found, _) = done_again(alloc, held, work)?;
+    Ok(found)
+}
+
+/// Files that were never written.
+pub fn empty(alloc: Global) -> Held {
+    Held {
+        log: Vec::new(alloc),
+        db: Vec::new(alloc),
+    }
+}
+
+/// What new files hold after work: it is in the log, or copied into the database file.
+pub fn left_by<W: Work + Drop>(alloc: Global, work: W, in_log: bool) -> Result<Held, Fail> {
+    let (_, store) = done_again(alloc, &empty(alloc), work)?;
+    let mut store = store;
+    if !in_log {
+        store.checkpoint()?;
+    }
+    held_by(alloc, &store.close())
 }
 
 /// Options under which a large change goes to the log before it is committed, and the log is often copied into the

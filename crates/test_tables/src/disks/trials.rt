@@ -1,15 +1,14 @@
 //! Requests over files of which one fails, and what follows when they are opened again.
-use crate::disks::{Failing, files_of, flushed, has_stopped, held_by, opened, opened_again};
-use crate::rooms::{begun, contents, is_at, stages_of};
-use crate::story::{Step, play_steps};
-use room_desk::Desk;
+use crate::disks::files::{Failing, Work, flushed, found_in, found_over, has_stopped, held_by};
+use crate::disks::rooms::{begun, contents, is_at, play_in, stages_of};
+use crate::disks::story::Step;
+use crate::stores::{Held, adopt, file_of, made, taken};
 use room_report::list_report;
 use room_sql::{OpenFault, SqlShelf};
 use sqlite::{Alter, Connection, Options};
 use sqlite_disk::{Disk, Files, Fuse, Memory, Rot};
 use std::alloc::Global;
 use std::test::Fail;
-use test_stores::{Held, adopt, file_of, made, taken};
 
 /// A place behind all calls and bytes.
 const NEVER: u64 = 1_000_000_000;
@@ -33,52 +32,36 @@ struct Whole {
 }
 
 /// The room with all its lists in the end.
-fn lists_of<S: Alter + Drop>(alloc: Global, conn: Connection<S>) -> Result<Vec<u8>, Fail> {
+fn lists_of<S: Alter + Drop>(
+    alloc: Global,
+    conn: Connection<S>,
+) -> Result<(Vec<u8>, Connection<S>), Fail> {
     let mut room = taken(alloc, conn)?;
     let mut lists = Vec::new(alloc);
     match list_report(alloc, &mut room, &mut lists) {
-        Ok(()) => Ok(lists),
+        Ok(()) => Ok((lists, room.into_connection())),
         Err(_) => Err(Fail::new("no report of the lists")),
     }
 }
 
-fn whole_in<S: Alter + Drop>(
-    alloc: Global,
-    room: SqlShelf<S>,
-    steps: &[Step],
-) -> Result<Whole, Fail> {
-    let (stages, conn) = stages_of(alloc, room.into_connection(), steps)?;
-    Ok(Whole {
-        stages,
-        lists: lists_of(alloc, conn)?,
-    })
-}
+/// Plays requests over a room that is made or taken first.
+#[derive(Clone, Copy)]
+struct PlayWhole(bool, &'static [Step]);
 
-fn whole_over<S: Alter + Drop>(
-    alloc: Global,
-    conn: Connection<S>,
-    is_new: bool,
-    steps: &[Step],
-) -> Result<Whole, Fail> {
-    let room = if is_new {
-        made(alloc, conn)?
-    } else {
-        taken(alloc, conn)?
-    };
-    whole_in(alloc, room, steps)
-}
+impl Work for PlayWhole {
+    type Found = Whole;
 
-/// The requests over a room from one of them on, up to the first that is answered DELAY: its place.
-fn play_in<S: Alter + Drop>(
-    alloc: Global,
-    room: SqlShelf<S>,
-    steps: &[Step],
-    from: usize,
-) -> Result<(usize, Connection<S>), Fail> {
-    let mut desk = Desk::new(alloc, room);
-    let at = play_steps(alloc, &mut desk, steps, from);
-    let conn = desk.into_shelf().into_connection();
-    Ok((at?, conn))
+    fn run<S: Alter + Drop>(self, alloc: Global, conn: Connection<S>) -> Result<(Whole, S), Fail> {
+        let PlayWhole(is_new, steps) = self;
+        let room = if is_new {
+            made(alloc, conn)?
+        } else {
+            taken(alloc, conn)?
+        };
+        let (stages, conn) = stages_of(alloc, room.into_connection(), steps)?;
+        let (lists, conn) = lists_of(alloc, conn)?;
+        Ok((Whole { stages, lists }, conn.into_store()))
+    }
 }
 
 /// How many requests were answered, where a room was made or taken.
@@ -128,8 +111,7 @@ impl Trial {
         options: Options,
         steps: &'static [Step],
     ) -> Result<Trial, Fail> {
-        let conn = opened_again(alloc, &start.held)?;
-        let whole = whole_over(alloc, conn, start.is_new, steps)?;
+        let whole = found_in(alloc, &start.held, PlayWhole(start.is_new, steps))?;
         Ok(Trial {
             alloc,
             start,
@@ -186,13 +168,8 @@ impl Trial {
 
     /// The same over files.
     fn play_over<D: Disk + Drop>(&self, files: Files<D>) -> Result<(Answered, Files<D>), Fail> {
-        match opened(self.alloc, files, self.options) {
-            Ok(conn) => {
-                let (answered, conn) = self.play(conn)?;
-                Ok((answered, files_of(conn)))
-            },
-            Err(files) => Ok((None, files)),
-        }
+        let (answered, files) = found_over(self.alloc, files, self.options, Play(self))?;
+        Ok((answered.flatten(), files))
     }
 
     /// What a stop at a call leaves.
@@ -226,7 +203,11 @@ impl Trial {
 
     /// The requests follow in a room, from the first without a reply on. Then it is the very room that they leave
     /// where no file stops.
-    fn ends<S: Alter + Drop>(&self, room: SqlShelf<S>, answered: Answered) -> Result<(), Fail> {
+    fn ends<S: Alter + Drop>(
+        &self,
+        room: SqlShelf<S>,
+        answered: Answered,
+    ) -> Result<Connection<S>, Fail> {
         let (at, conn) = play_in(self.alloc, room, self.steps, answered.unwrap_or(0))?;
         if at < self.steps.len() {
             return Err(Fail::new(format_args!("request {at} is answered DELAY")));
@@ -236,10 +217,11 @@ impl Trial {
         if !is_at(self.whole.stages.as_slice(), at, found.as_str()) {
             return Err(Fail::new(format_args!("another room in the end: {found}")));
         }
-        if lists_of(self.alloc, conn)?.as_slice() != self.whole.lists.as_slice() {
+        let (lists, conn) = lists_of(self.alloc, conn)?;
+        if lists.as_slice() != self.whole.lists.as_slice() {
             return Err(Fail::new("other lists in the end"));
         }
-        Ok(())
+        Ok(conn)
     }
 
     /// A room that is there after a stop is the right one, and the requests follow.
@@ -247,7 +229,7 @@ impl Trial {
         &self,
         conn: Connection<S>,
         answered: Answered,
-    ) -> Result<(), Fail> {
+    ) -> Result<Connection<S>, Fail> {
         let mut conn = conn;
         let found = contents(self.alloc, &mut conn)?;
         if !self.is_left(answered, found.as_str()) {
@@ -261,7 +243,7 @@ impl Trial {
         &self,
         conn: Connection<S>,
         answered: Answered,
-    ) -> Result<(), Fail> {
+    ) -> Result<Connection<S>, Fail> {
         if !self.start.is_new || answered.is_some() {
             return Err(Fail::new("a room is gone"));
         }
@@ -273,7 +255,7 @@ impl Trial {
         &self,
         conn: Connection<S>,
         answered: Answered,
-    ) -> Result<(), Fail> {
+    ) -> Result<Connection<S>, Fail> {
         match adopt(self.alloc, conn)? {
             Ok(room) => self.goes_on_in(room.into_connection(), answered),
             Err((OpenFault::NotARoom, conn)) => self.begins_in(conn, answered),
@@ -286,7 +268,7 @@ impl Trial {
         if is_known(known.as_slice(), &held, answered) {
             return Ok(());
         }
-        self.follows_in(opened_again(self.alloc, &held)?, answered)?;
+        found_in(self.alloc, &held, Follow(self, answered))?;
         known.push((held, answered))?;
         Ok(())
     }
@@ -333,5 +315,34 @@ impl Trial {
             }
         }
         Ok(whole)
+    }
+}
+
+/// Plays all requests of a trial but the last.
+#[derive(Clone, Copy)]
+struct Play<'a>(&'a Trial);
+
+impl<'a> Work for Play<'a> {
+    type Found = Answered;
+
+    fn run<S: Alter + Drop>(
+        self,
+        _alloc: Global,
+        conn: Connection<S>,
+    ) -> Result<(Answered, S), Fail> {
+        let (answered, conn) = self.0.play(conn)?;
+        Ok((answered, conn.into_store()))
+    }
+}
+
+/// Sees what a stop left, of which so many requests were answered, and plays the others.
+#[derive(Clone, Copy)]
+struct Follow<'a>(&'a Trial, Answered);
+
+impl<'a> Work for Follow<'a> {
+    type Found = ();
+
+    fn run<S: Alter + Drop>(self, _alloc: Global, conn: Connection<S>) -> Result<((), S), Fail> {
+        Ok(((), self.0.follows_in(conn, self.1)?.into_store()))
     }
 }

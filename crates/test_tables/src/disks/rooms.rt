@@ -1,13 +1,11 @@
 //! Rooms in tables, and all that is in them after each step of a story.
-use crate::disks::{files_of, held_by, opened_again};
-use crate::story::{Step, has_answer};
-use room_desk::Desk;
+use crate::disks::files::Work;
+use crate::disks::story::{Step, play_at_desk};
+use crate::stores::{adopt, init, made, make_version_1, shown, taken};
 use room_sql::{OpenFault, SqlShelf};
-use sqlite::{Alter, Connection, FileStore};
-use sqlite_disk::Memory;
+use sqlite::{Alter, Connection};
 use std::alloc::Global;
 use std::test::Fail;
-use test_stores::{Held, adopt, init, made, make_version_1, shown, taken};
 
 /// What shows a room of version 2 whole.
 const ALL: [&str; 7] = [
@@ -25,56 +23,30 @@ pub fn contents<S: Alter>(alloc: Global, conn: &mut Connection<S>) -> Result<Str
     shown(alloc, conn, &ALL)
 }
 
-/// What the files hold once they are closed: the log is copied into the database file.
-fn closed(alloc: Global, conn: Connection<FileStore<Memory>>) -> Result<Held, Fail> {
-    match conn.close_files() {
-        Ok(files) => held_by(alloc, &files),
-        Err((error, _)) => Err(Fail::new(format_args!("not closed: {error:?}"))),
+/// Makes a fresh room.
+#[derive(Clone, Copy)]
+pub struct MakeRoom;
+
+impl Work for MakeRoom {
+    type Found = ();
+
+    fn run<S: Alter + Drop>(self, alloc: Global, conn: Connection<S>) -> Result<((), S), Fail> {
+        Ok(((), made(alloc, conn)?.into_connection().into_store()))
     }
 }
 
-/// A fresh room that is made in a database.
-fn with_room<S: Alter + Drop>(alloc: Global, conn: Connection<S>) -> Result<Connection<S>, Fail> {
-    Ok(made(alloc, conn)?.into_connection())
-}
+/// Makes a room of version 1.
+#[derive(Clone, Copy)]
+pub struct MakeVersion1;
 
-/// A room of version 1 that is made in a database.
-fn with_version_1<S: Alter + Drop>(conn: Connection<S>) -> Result<Connection<S>, Fail> {
-    let mut conn = conn;
-    make_version_1(&mut conn)?;
-    Ok(conn)
-}
+impl Work for MakeVersion1 {
+    type Found = ();
 
-/// A database in new files.
-pub fn new_files(alloc: Global) -> Result<Connection<FileStore<Memory>>, Fail> {
-    let nothing = Held {
-        log: Vec::new(alloc),
-        db: Vec::new(alloc),
-    };
-    opened_again(alloc, &nothing)
-}
-
-/// What the files of a room hold: the room is in the log, or copied into the database file.
-pub fn left_in(
-    alloc: Global,
-    conn: Connection<FileStore<Memory>>,
-    in_log: bool,
-) -> Result<Held, Fail> {
-    if in_log {
-        held_by(alloc, &files_of(conn))
-    } else {
-        closed(alloc, conn)
+    fn run<S: Alter + Drop>(self, _alloc: Global, conn: Connection<S>) -> Result<((), S), Fail> {
+        let mut conn = conn;
+        make_version_1(&mut conn)?;
+        Ok(((), conn.into_store()))
     }
-}
-
-/// What the files of a fresh room hold.
-pub fn fresh_room(alloc: Global, in_log: bool) -> Result<Held, Fail> {
-    left_in(alloc, with_room(alloc, new_files(alloc)?)?, in_log)
-}
-
-/// What the files of a room of version 1 hold.
-pub fn room_of_version_1(alloc: Global, in_log: bool) -> Result<Held, Fail> {
-    left_in(alloc, with_version_1(new_files(alloc)?)?, in_log)
 }
 
 /// A room that is made in a database, or is there; or the database where the store failed.
@@ -95,16 +67,26 @@ pub fn begun<S: Alter + Drop>(
     }
 }
 
+/// The requests over a room from one of them on, up to the first that is answered DELAY: its place.
+pub fn play_in<S: Alter + Drop>(
+    alloc: Global,
+    room: SqlShelf<S>,
+    steps: &[Step],
+    from: usize,
+) -> Result<(usize, Connection<S>), Fail> {
+    let (at, room) = play_at_desk(alloc, room, steps, from);
+    let conn = room.into_connection();
+    Ok((at?, conn))
+}
+
 /// A step over a room whose files do not fail is answered.
 fn after_step<S: Alter + Drop>(
     alloc: Global,
     conn: Connection<S>,
     step: &Step,
 ) -> Result<Connection<S>, Fail> {
-    let mut desk = Desk::new(alloc, taken(alloc, conn)?);
-    let end = has_answer(alloc, &mut desk, step);
-    let conn = desk.into_shelf().into_connection();
-    if !end? {
+    let (answered, conn) = play_in(alloc, taken(alloc, conn)?, &[*step], 0)?;
+    if answered == 0 {
         return Err(Fail::new("DELAY where nothing fails"));
     }
     Ok(conn)

@@ -1,11 +1,11 @@
 //! How far a decision fetches an object's list: row by row in order of place, up to the one that leaves nothing open.
+use crate::stores::{in_tables, taken};
 use room_acl::{Decision, Entry, Mask, Standing, Who};
 use room_records::{Change, Shelf, ShelfFault};
 use room_sql::SqlShelf;
 use sqlite::{Alter, Connection};
 use std::alloc::Global;
 use std::test::Fail;
-use test_stores::{in_tables, taken};
 use test_support::{commit, entry, named, subject};
 
 /// The most entries that inheritance can give: 32 own ones, and those of 16 folders above.

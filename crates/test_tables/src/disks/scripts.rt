@@ -1,28 +1,26 @@
 //! A script of requests while the log, or the database file, stops at each of its calls or has a damaged byte.
-use crate::disks::{small, spilling};
-use crate::followers::{CHANGES_ALL, FOLLOWERS, room_of_followers};
-use crate::rooms::{fresh_room, room_of_version_1};
-use crate::story::{AFTER_VERSION_1, STORY, TWO_PIECES};
-use crate::trials::{Start, Trial};
+use crate::disks::files::{empty, left_by, small, spilling};
+use crate::disks::followers::{CHANGES_ALL, FOLLOWERS, MakeFollowers};
+use crate::disks::rooms::{MakeRoom, MakeVersion1};
+use crate::disks::story::{AFTER_VERSION_1, STORY, TWO_PIECES};
+use crate::disks::trials::{Start, Trial};
 use sqlite::Options;
 use std::alloc::Global;
 use std::test::Fail;
-use test_stores::Held;
 
 /// A room is made in new files, and the requests follow.
 fn of_a_new_room(alloc: Global, options: Options) -> Result<Trial, Fail> {
-    let held = Held {
-        log: Vec::new(alloc),
-        db: Vec::new(alloc),
+    let start = Start {
+        held: empty(alloc),
+        is_new: true,
     };
-    let start = Start { held, is_new: true };
     Trial::new(alloc, start, options, &TWO_PIECES)
 }
 
 /// A fresh room is taken, which is in the database file or in the log, and the story follows.
 fn of_a_fresh_room(alloc: Global, in_log: bool, options: Options) -> Result<Trial, Fail> {
     let start = Start {
-        held: fresh_room(alloc, in_log)?,
+        held: left_by(alloc, MakeRoom, in_log)?,
         is_new: false,
     };
     Trial::new(alloc, start, options, &STORY)
@@ -31,7 +29,7 @@ fn of_a_fresh_room(alloc: Global, in_log: bool, options: Options) -> Result<Tria
 /// A room of version 1 is taken over, and the slot goes on.
 fn of_version_1(alloc: Global, in_log: bool, options: Options) -> Result<Trial, Fail> {
     let start = Start {
-        held: room_of_version_1(alloc, in_log)?,
+        held: left_by(alloc, MakeVersion1, in_log)?,
         is_new: false,
     };
     Trial::new(alloc, start, options, &AFTER_VERSION_1)
@@ -48,7 +46,7 @@ fn is_within(number: u64, least: u64, most: u64, what: &str) -> Result<(), Fail>
 /// A room is taken in which a hundred objects follow one folder, whose list is then changed.
 fn of_followers(alloc: Global, options: Options) -> Result<Trial, Fail> {
     let start = Start {
-        held: room_of_followers(alloc)?,
+        held: left_by(alloc, MakeFollowers, false)?,
         is_new: false,
     };
     let trial = Trial::new(alloc, start, options, &CHANGES_ALL)?;

@@ -1,11 +1,11 @@
 //! Rooms that are made, taken and refused, and commits of which nothing stays or all.
-use crate::databases::{Opening, database, is_refused, number};
+use crate::stores::{in_tables, made, taken};
+use crate::tables::databases::{Opening, database, is_refused, number};
 use room_records::{Change, Node, Shelf};
 use room_sql::{OpenFault, SqlShelf};
 use sqlite::{Connection, MemStore};
 use std::alloc::Global;
 use std::test::Fail;
-use test_stores::{in_tables, made, taken};
 use test_support::{commit, must};
 
 type Room = SqlShelf<MemStore>;
