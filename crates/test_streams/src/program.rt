@@ -4,7 +4,7 @@ use crate::words::words_of;
 use room_program::{Host, Wary, run_program};
 use std::io::{Read, Write};
 use std::test::Fail;
-use test_support::{BoundedWriter, Full, Pieces};
+use test_support::{BoundedWriter, Full, Pieces, must};
 
 /// The status with which the program ends on these words.
 fn ended<R: Read, W: Write, E: Write>(
@@ -26,31 +26,36 @@ fn ended<R: Read, W: Write, E: Write>(
     ))
 }
 
-/// What `check` writes on its output and tells on standard error, and its status.
-fn checked(rt: &HostRuntime, input: &str) -> Result<(Vec<u8>, Vec<u8>, u8), Fail> {
+/// A status, and the bytes on the output and on standard error.
+type Ended<'a> = (u8, &'a [u8], &'a [u8]);
+
+/// A run ended as due.
+fn is_as_due(found: Ended<'_>, due: Ended<'_>, what: &str) -> Result<(), Fail> {
+    let (status, output, errors) = found;
+    let (status_due, output_due, errors_due) = due;
+    if status != status_due || output != output_due || errors != errors_due {
+        return Err(Fail::new(format_args!("{what}: status {status}")));
+    }
+    Ok(())
+}
+
+/// `check` ends as due on this input.
+fn check_ends(rt: &HostRuntime, input: &str, due: Ended<'_>) -> Result<(), Fail> {
     let mut output = Vec::new(rt.alloc());
     let mut errors = Vec::new(rt.alloc());
-    let status = ended(
-        rt,
-        &["check"],
-        &mut input.as_bytes(),
-        &mut output,
-        &mut errors,
-    )?;
-    Ok((output, errors, status))
+    let reader = &mut input.as_bytes();
+    let status = ended(rt, &["check"], reader, &mut output, &mut errors)?;
+    is_as_due((status, output.as_slice(), errors.as_slice()), due, input)
 }
 
 #[test]
 fn check_answers(rt: HostRuntime) -> Result<(), Fail> {
-    for (input, want, wanted_status, fault) in [
-        ("", "", 0, ""),
-        (QUESTION, ANSWER, 0, ""),
-        ("no message\r\n", BAD_HTTP, 1, "fileroom: bad message\n"),
+    for (input, status, output, fault) in [
+        ("", 0, "", ""),
+        (QUESTION, 0, ANSWER, ""),
+        ("no message\r\n", 1, BAD_HTTP, "fileroom: bad message\n"),
     ] {
-        let (output, errors, status) = checked(&rt, input)?;
-        assert_eq!(rt; status, wanted_status, "{input}");
-        assert_eq!(rt; output.as_slice(), want.as_bytes(), "{input}");
-        assert_eq!(rt; errors.as_slice(), fault.as_bytes(), "{input}");
+        check_ends(&rt, input, (status, output.as_bytes(), fault.as_bytes()))?;
     }
     Ok(())
 }
@@ -61,10 +66,12 @@ fn check_whose_input_fails(rt: HostRuntime) -> Result<(), Fail> {
     let mut output = Vec::new(rt.alloc());
     let mut errors = Vec::new(rt.alloc());
     let status = ended(&rt, &["check"], &mut reader, &mut output, &mut errors)?;
-    assert_eq!(rt; status, 1);
-    assert_eq!(rt; output.as_slice(), ANSWER.as_bytes());
-    assert_eq!(rt; errors.as_slice(), "fileroom: read failed\n".as_bytes());
-    Ok(())
+    let due = (1, ANSWER.as_bytes(), "fileroom: read failed\n".as_bytes());
+    is_as_due(
+        (status, output.as_slice(), errors.as_slice()),
+        due,
+        "a read fails",
+    )
 }
 
 #[test]
@@ -73,10 +80,16 @@ fn check_whose_output_fails(rt: HostRuntime) -> Result<(), Fail> {
     let mut errors = Vec::new(rt.alloc());
     let input = &mut QUESTION.as_bytes();
     let status = ended(&rt, &["check"], input, &mut output, &mut errors)?;
-    assert_eq!(rt; status, 1);
-    assert_eq!(rt; output.taken.as_slice(), &ANSWER.as_bytes()[..10]);
-    assert_eq!(rt; errors.as_slice(), "fileroom: write failed\n".as_bytes());
-    Ok(())
+    let due = (
+        1,
+        &ANSWER.as_bytes()[..10],
+        "fileroom: write failed\n".as_bytes(),
+    );
+    is_as_due(
+        (status, output.taken.as_slice(), errors.as_slice()),
+        due,
+        "a write fails",
+    )
 }
 
 #[test]
@@ -85,15 +98,36 @@ fn check_whose_two_outputs_fail(rt: HostRuntime) -> Result<(), Fail> {
     let mut errors = BoundedWriter::new(rt.alloc(), 5, 1, Full::Fails);
     let input = &mut QUESTION.as_bytes();
     let status = ended(&rt, &["check"], input, &mut output, &mut errors)?;
-    assert_eq!(rt; status, 1);
-    assert_eq!(rt; errors.taken.as_slice(), "filer".as_bytes());
+    let due = (1, "".as_bytes(), "filer".as_bytes());
+    is_as_due(
+        (status, output.taken.as_slice(), errors.taken.as_slice()),
+        due,
+        "both fail",
+    )
+}
+
+/// On these words the program ends with this status, and tells this usage: on its output where it was asked, else on
+/// standard error. The other stays empty, and the input is left alone.
+fn tells_usage(rt: &HostRuntime, texts: &[&str], status: u8, usage: &str) -> Result<(), Fail> {
+    let mut reader = Pieces::new(&[QUESTION], 0);
+    let mut output = Vec::new(rt.alloc());
+    let mut errors = Vec::new(rt.alloc());
+    let found = ended(rt, texts, &mut reader, &mut output, &mut errors)?;
+    let (told, other) = if status == 0 {
+        (output.as_slice(), errors.as_slice())
+    } else {
+        (errors.as_slice(), output.as_slice())
+    };
+    let is_told = std::str::from_utf8(told)?.contains(usage);
+    if found != status || reader.calls != 0 || !is_told || !other.is_empty() {
+        return Err(Fail::new(format_args!("{texts:?}: status {found}")));
+    }
     Ok(())
 }
 
-/// Words that name no job: what is written, where, and the status. The input is left alone.
+/// Words that name no job, or ask for help.
 #[test]
 fn other_words(rt: HostRuntime) -> Result<(), Fail> {
-    let alloc = rt.alloc();
     let empty: [&str; 0] = [];
     for (texts, status, usage) in [
         (empty.as_slice(), 2, "Usage: fileroom <COMMAND>"),
@@ -105,22 +139,7 @@ fn other_words(rt: HostRuntime) -> Result<(), Fail> {
         (["-h"].as_slice(), 0, "Usage: fileroom <COMMAND>"),
         (["check", "--help"].as_slice(), 0, "Usage: fileroom check"),
     ] {
-        let mut reader = Pieces::new(&[QUESTION], 0);
-        let mut output = Vec::new(alloc);
-        let mut errors = Vec::new(alloc);
-        let found = ended(&rt, texts, &mut reader, &mut output, &mut errors)?;
-        assert_eq!(rt; found, status, "{texts:?}");
-        assert_eq!(rt; reader.calls, 0, "{texts:?}");
-        let (told, other) = if status == 0 {
-            (&output, &errors)
-        } else {
-            (&errors, &output)
-        };
-        assert!(rt;
-            std::str::from_utf8(told.as_slice())?.contains(usage),
-            "{texts:?}"
-        );
-        assert_eq!(rt; other.len(), 0, "{texts:?}");
+        tells_usage(&rt, texts, status, usage)?;
     }
     Ok(())
 }
@@ -132,8 +151,15 @@ fn help_that_cannot_be_written(rt: HostRuntime) -> Result<(), Fail> {
     let mut errors = Vec::new(alloc);
     let input = &mut "".as_bytes();
     let status = ended(&rt, &["--help"], input, &mut output, &mut errors)?;
-    assert_eq!(rt; status, 1);
-    assert_eq!(rt; output.taken.len(), 10);
-    assert_eq!(rt; errors.as_slice(), "fileroom: write failed\n".as_bytes());
-    Ok(())
+    must(output.taken.len() == 10, "the part that is written")?;
+    let due = (
+        1,
+        output.taken.as_slice(),
+        "fileroom: write failed\n".as_bytes(),
+    );
+    is_as_due(
+        (status, output.taken.as_slice(), errors.as_slice()),
+        due,
+        "help fails",
+    )
 }
