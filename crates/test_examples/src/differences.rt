@@ -14,6 +14,15 @@ pub struct Differences<'a> {
     pub lines: Vec<String>,
 }
 
+fn push_shown(shown: &mut String, letter: char) -> Result<(), Fault> {
+    match letter {
+        '\r' => shown.push_str("\\r")?,
+        '\n' => shown.push_str("\\n")?,
+        _ => shown.push(letter)?,
+    }
+    Ok(())
+}
+
 /// A text on one line, cut where it is long.
 fn shown(alloc: Global, bytes: &[u8]) -> Result<String, Fault> {
     let text = String::from_utf8_lossy(alloc, bytes)?;
@@ -23,13 +32,15 @@ fn shown(alloc: Global, bytes: &[u8]) -> Result<String, Fault> {
             shown.push_str("..")?;
             break;
         }
-        match letter {
-            '\r' => shown.push_str("\\r")?,
-            '\n' => shown.push_str("\\n")?,
-            _ => shown.push(letter)?,
-        }
+        push_shown(&mut shown, letter)?;
     }
     Ok(shown)
+}
+
+fn other_text(alloc: Global, got: &[u8], due: &[u8]) -> Result<String, Fault> {
+    let got = shown(alloc, got)?;
+    let due = shown(alloc, due)?;
+    Ok(format!(in alloc; "{got} and not {due}")?)
 }
 
 impl<'a> Differences<'a> {
@@ -52,13 +63,14 @@ impl<'a> Differences<'a> {
         let file = self.file;
         let way = self.way;
         let text = format!(in self.alloc; "{file}:{line}: {way}: {what}")?;
-        for line in &self.lines {
-            if line.as_str() == text.as_str() {
-                return Ok(());
-            }
+        if !self.is_told(text.as_str()) {
+            self.lines.push(text)?;
         }
-        self.lines.push(text)?;
         Ok(())
+    }
+
+    fn is_told(&self, text: &str) -> bool {
+        self.lines.iter().any(|line| line.as_str() == text)
     }
 
     /// Compares what a line gave with what was due.
@@ -66,9 +78,7 @@ impl<'a> Differences<'a> {
         if got == due {
             return Ok(());
         }
-        let got = shown(self.alloc, got)?;
-        let due = shown(self.alloc, due)?;
-        let text = format!(in self.alloc; "{got} and not {due}")?;
+        let text = other_text(self.alloc, got, due)?;
         self.tell(line, text.as_str())
     }
 }

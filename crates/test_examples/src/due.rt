@@ -63,17 +63,21 @@ fn begins_with_digit(text: &str) -> bool {
     }
 }
 
+/// The status, 200 where none stands, and the text behind it.
+fn read_status(text: &str) -> Result<(&'static str, &str), Fault> {
+    if !begins_with_digit(text) {
+        return Ok((OK, text));
+    }
+    let (word, rest) = text.split_once(' ').unwrap_or((text, ""));
+    match status_of(word) {
+        Some(status) => Ok((status, rest)),
+        None => Err(Fault::Because("a status that no answer has")),
+    }
+}
+
 /// Reads `[STATUS ][close ]BODY`: the head, and the text of the body as it stands in the file.
 pub fn read_due(text: &str) -> Result<(Head, &str), Fault> {
-    let (status, text) = if begins_with_digit(text) {
-        let (word, rest) = text.split_once(' ').unwrap_or((text, ""));
-        let Some(status) = status_of(word) else {
-            return Err(Fault::Because("a status that no answer has"));
-        };
-        (status, rest)
-    } else {
-        (OK, text)
-    };
+    let (status, text) = read_status(text)?;
     let (closes, body) = match text.strip_prefix("close ") {
         Some(body) => (true, body),
         None => (false, text),

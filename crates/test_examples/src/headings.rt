@@ -40,16 +40,18 @@ fn later_scene(
     let Some(other) = scenes.get(place) else {
         return Err(Fault::Because("a scene after one that isn't there"));
     };
-    let mut before = other.before.clone()?;
-    before.push(place)?;
-    Ok(Scene {
-        line,
-        name: String::from_str(alloc, name)?,
-        before,
-        left_out: other.left_out.clone()?,
-        numbers: other.numbers.copy()?,
-        steps: Vec::new(alloc),
-    })
+    let mut scene = first_scene(alloc, line, name)?;
+    go_on(&mut scene, other, place)?;
+    Ok(scene)
+}
+
+/// Lets a scene go on from another one, which stands at this place.
+fn go_on(scene: &mut Scene, other: &Scene, place: usize) -> Result<(), Fault> {
+    scene.before = other.before.clone()?;
+    scene.before.push(place)?;
+    scene.left_out = other.left_out.clone()?;
+    scene.numbers = other.numbers.copy()?;
+    Ok(())
 }
 
 /// Leaves a scene out in the ways of these words.
@@ -64,6 +66,40 @@ fn leave_out(scene: &mut Scene, words: &str) -> Result<(), Fault> {
     Ok(())
 }
 
+/// The words of a line that begins a scene.
+#[derive(Clone, Copy)]
+struct Heading<'a> {
+    name: &'a str,
+    after: Option<&'a str>,
+    not: Option<&'a str>,
+}
+
+/// The text before a word, and what stands behind it where it is there.
+fn split<'a>(text: &'a str, word: &str) -> (&'a str, Option<&'a str>) {
+    match text.split_once(word) {
+        Some((front, behind)) => (front, Some(behind)),
+        None => (text, None),
+    }
+}
+
+fn heading_of(text: &str) -> Heading<'_> {
+    let (text, not) = split(text, " not ");
+    let (name, after) = split(text, " after ");
+    Heading { name, after, not }
+}
+
+fn begun(
+    alloc: Global,
+    scenes: &[Scene],
+    line: usize,
+    heading: Heading<'_>,
+) -> Result<Scene, Fault> {
+    match heading.after {
+        Some(other) => later_scene(alloc, scenes, line, heading.name, other),
+        None => first_scene(alloc, line, heading.name),
+    }
+}
+
 /// The scene that `NAME [after OTHER] [not WAY..]` begins.
 pub fn read_heading(
     alloc: Global,
@@ -71,25 +107,15 @@ pub fn read_heading(
     line: usize,
     text: &str,
 ) -> Result<Scene, Fault> {
-    let (text, words) = match text.split_once(" not ") {
-        Some((text, words)) => (text, Some(words)),
-        None => (text, None),
-    };
-    let (name, other) = match text.split_once(" after ") {
-        Some((name, other)) => (name, Some(other)),
-        None => (text, None),
-    };
-    if !is_scene_name(name) {
+    let heading = heading_of(text);
+    if !is_scene_name(heading.name) {
         return Err(Fault::Because("a scene's name is of lower-case letters, digits and _"));
     }
-    if place_of(scenes, name).is_some() {
+    if place_of(scenes, heading.name).is_some() {
         return Err(Fault::Because("a scene name twice"));
     }
-    let mut scene = match other {
-        Some(other) => later_scene(alloc, scenes, line, name, other)?,
-        None => first_scene(alloc, line, name)?,
-    };
-    if let Some(words) = words {
+    let mut scene = begun(alloc, scenes, line, heading)?;
+    if let Some(words) = heading.not {
         leave_out(&mut scene, words)?;
     }
     Ok(scene)

@@ -46,29 +46,33 @@ fn print_lines(rt: &HostRuntime, lines: &[String]) -> io::Result<()> {
     Ok(())
 }
 
+/// Prints why a file is not played.
+fn print_why(rt: &HostRuntime, file: &str, line: usize, why: &str) -> io::Result<bool> {
+    println!(rt; "{file}:{line}: {why}")?;
+    Ok(false)
+}
+
+fn print_count(rt: &HostRuntime, file: &str, scenes: &[Scene]) -> io::Result<()> {
+    let examples = count_of(scenes);
+    let count = scenes.len();
+    println!(rt; "{file}: {examples} examples in {count} scenes")
+}
+
 /// Plays the scenes of a file, and prints what was found: whether nothing was.
 fn play_read(rt: &HostRuntime, file: &str, scenes: &[Scene]) -> io::Result<bool> {
     let mut differences = Differences::new(rt.alloc(), file);
     if let Err(fault) = play_scenes(rt.alloc(), scenes, &mut differences) {
-        let why = fault.text();
-        println!(rt; "{file}:1: {why}")?;
-        return Ok(false);
+        return print_why(rt, file, 1, fault.text());
     }
     print_lines(rt, differences.lines.as_slice())?;
-    let examples = count_of(scenes);
-    let count = scenes.len();
-    println!(rt; "{file}: {examples} examples in {count} scenes")?;
+    print_count(rt, file, scenes)?;
     Ok(differences.lines.is_empty())
 }
 
 fn play_text(rt: &HostRuntime, file: &str, text: &str) -> io::Result<bool> {
     match read_scenes(rt.alloc(), text) {
         Ok(scenes) => play_read(rt, file, scenes.as_slice()),
-        Err(Unread { line, fault }) => {
-            let why = fault.text();
-            println!(rt; "{file}:{line}: {why}")?;
-            Ok(false)
-        }
+        Err(Unread { line, fault }) => print_why(rt, file, line, fault.text()),
     }
 }
 
@@ -85,7 +89,8 @@ fn play_file(rt: &HostRuntime, file: &str) -> io::Result<bool> {
 
 fn print_ways(rt: &HostRuntime) -> io::Result<()> {
     print!(rt; "ways:")?;
-    for (word, _) in WAYS {
+    for (word, _) in &WAYS {
+        let word = *word;
         print!(rt; " {word}")?;
     }
     println!(rt; "")

@@ -1,6 +1,6 @@
 //! The numbers that were last sent.
 use crate::fault::Fault;
-use std::alloc::Global;
+use std::alloc::{AllocError, Global};
 
 /// The number that was last sent in a slot of a session.
 #[derive(Drop)]
@@ -11,6 +11,26 @@ struct Last {
 }
 
 impl Last {
+    fn new(alloc: Global, session: &str, slot: &str, number: u32) -> Result<Last, AllocError> {
+        let session = String::from_str(alloc, session)?;
+        let slot = String::from_str(alloc, slot)?;
+        Ok(Last {
+            session,
+            slot,
+            number,
+        })
+    }
+
+    fn copy(&self) -> Result<Last, AllocError> {
+        let session = self.session.clone()?;
+        let slot = self.slot.clone()?;
+        Ok(Last {
+            session,
+            slot,
+            number: self.number,
+        })
+    }
+
     fn is_of(&self, session: &str, slot: &str) -> bool {
         self.session.as_str() == session && self.slot.as_str() == slot
     }
@@ -34,11 +54,7 @@ impl Numbers {
     pub fn copy(&self) -> Result<Numbers, Fault> {
         let mut all = Vec::new(self.alloc);
         for last in &self.all {
-            all.push(Last {
-                session: last.session.clone()?,
-                slot: last.slot.clone()?,
-                number: last.number,
-            })?;
+            all.push(last.copy()?)?;
         }
         Ok(Numbers {
             alloc: self.alloc,
@@ -59,11 +75,8 @@ impl Numbers {
     /// Keeps a number that is sent.
     pub fn keep(&mut self, session: &str, slot: &str, number: u32) -> Result<(), Fault> {
         self.all.retain(|last| !last.is_of(session, slot));
-        self.all.push(Last {
-            session: String::from_str(self.alloc, session)?,
-            slot: String::from_str(self.alloc, slot)?,
-            number,
-        })?;
+        self.all
+            .push(Last::new(self.alloc, session, slot, number)?)?;
         Ok(())
     }
 }

@@ -49,15 +49,36 @@ fn play_scene(
     scene: &Scene,
     differences: &mut Differences<'_>,
 ) -> Result<(), Fault> {
-    for (word, way) in WAYS {
-        if !scene.left_out.contains(&way) {
-            differences.begin(word);
+    for (word, way) in &WAYS {
+        if !scene.left_out.contains(way) {
+            differences.begin(*word);
             if let Err(fault) = way.play(play, differences) {
                 differences.tell(play.line, fault.text())?;
             }
         }
     }
     Ok(())
+}
+
+/// Plays a scene behind those that come before it.
+fn play_behind(
+    alloc: Global,
+    scenes: &[Scene],
+    scene: &Scene,
+    routes: &Routes,
+    roster: &Roster,
+    differences: &mut Differences<'_>,
+) -> Result<(), Fault> {
+    let before = steps_before(alloc, scenes, scene)?;
+    let play = Play {
+        alloc,
+        routes,
+        roster,
+        line: scene.line,
+        before: before.as_slice(),
+        steps: scene.steps.as_slice(),
+    };
+    play_scene(&play, scene, differences)
 }
 
 /// Plays the scenes of a file. Differences are told.
@@ -71,16 +92,7 @@ pub fn play_scenes(
     };
     let roster = users(alloc)?;
     for scene in scenes {
-        let before = steps_before(alloc, scenes, scene)?;
-        let play = Play {
-            alloc,
-            routes: &routes,
-            roster: &roster,
-            line: scene.line,
-            before: before.as_slice(),
-            steps: scene.steps.as_slice(),
-        };
-        play_scene(&play, scene, differences)?;
+        play_behind(alloc, scenes, scene, &routes, &roster, differences)?;
     }
     Ok(())
 }

@@ -120,15 +120,16 @@ impl<'a> Reader<'a> {
 
     /// Ends what the line before may have left open.
     fn finish(&mut self) -> Result<(), Unread> {
-        match std::mem::replace(&mut self.open, Open::Nothing) {
+        let open = std::mem::replace(&mut self.open, Open::Nothing);
+        match &open {
             Open::Nothing => Ok(()),
             Open::Request(line, _, _) | Open::Bytes(line, _, _) => Err(Unread {
-                line,
+                line: *line,
                 fault: Fault::Because("the due answer is missing"),
             }),
             Open::Report(line, kind, lines) => at(
-                line,
-                self.add_report(line, kind, lines.as_slice()),
+                *line,
+                self.add_report(*line, *kind, lines.as_slice()),
             ),
         }
     }
@@ -141,13 +142,17 @@ impl<'a> Reader<'a> {
         add_step(&mut self.scenes, Step::Report { line, kind, due })
     }
 
-    fn take_block(&mut self, text: &'a str) -> Result<(), Fault> {
-        // Here, so that a `%{..}` that stands for nothing is told of its own line.
-        let count = match &self.open {
+    /// What `%{n}` stands for in the block that is open.
+    fn block_count(&self) -> Option<u32> {
+        match &self.open {
             Open::Bytes(_, times, _) => times.count(0),
             _ => None,
-        };
-        let _ = self.names.expanded(text, count)?;
+        }
+    }
+
+    fn take_block(&mut self, text: &'a str) -> Result<(), Fault> {
+        // Here, so that a `%{..}` that stands for nothing is told of its own line.
+        let _ = self.names.expanded(text, self.block_count())?;
         match &mut self.open {
             Open::Bytes(_, _, lines) | Open::Report(_, _, lines) => {
                 lines.push(text)?;
@@ -187,11 +192,12 @@ impl<'a> Reader<'a> {
 
     /// The answer that is due to the request in the lines before.
     fn take_due(&mut self, text: &str) -> Result<(), Fault> {
-        match std::mem::replace(&mut self.open, Open::Nothing) {
-            Open::Request(line, times, request) => self.add_requests(line, times, &request, text),
+        let open = std::mem::replace(&mut self.open, Open::Nothing);
+        match &open {
+            Open::Request(line, times, request) => self.add_requests(*line, *times, request, text),
             Open::Bytes(line, times, lines) => self.add_messages(
-                line,
-                times,
+                *line,
+                *times,
                 lines.as_slice(),
                 text,
             ),
@@ -238,13 +244,24 @@ impl<'a> Reader<'a> {
     ) -> Result<(), Fault> {
         let puts = self.puts.take();
         for place in 0..times.number() {
-            let count = times.count(place);
-            let sent = self.message(request, count)?;
-            let due = self.due(due, count)?;
-            let puts = self.puts_of(puts, count)?;
-            self.add_example(line, sent, due, puts)?;
+            let sent = self.message(request, times.count(place))?;
+            self.add_answered(line, sent, due, puts, times.count(place))?;
         }
         Ok(())
+    }
+
+    /// Adds a message, and reads what is due to it.
+    fn add_answered(
+        &mut self,
+        line: usize,
+        sent: Vec<u8>,
+        due: &str,
+        puts: Option<&str>,
+        count: Option<u32>,
+    ) -> Result<(), Fault> {
+        let due = self.due(due, count)?;
+        let puts = self.puts_of(puts, count)?;
+        self.add_example(line, sent, due, puts)
     }
 
     fn add_messages(
@@ -257,8 +274,7 @@ impl<'a> Reader<'a> {
         for place in 0..times.number() {
             let count = times.count(place);
             let sent = block_bytes(self.alloc, &self.names, lines, count)?;
-            let due = self.due(due, count)?;
-            self.add_example(line, sent, due, None)?;
+            self.add_answered(line, sent, due, None, count)?;
         }
         Ok(())
     }
@@ -272,14 +288,18 @@ impl<'a> Reader<'a> {
             return self.names.add(text);
         }
         if let Some(text) = text.strip_prefix("== ") {
-            let scene = read_heading(self.alloc, self.scenes.as_slice(), line, text)?;
-            self.scenes.push(scene)?;
-            return Ok(());
+            return self.begin_scene(line, text);
         }
         if self.scenes.is_empty() {
             return Err(Fault::Because("a line before the first scene"));
         }
         self.begin_step(line, text)
+    }
+
+    fn begin_scene(&mut self, line: usize, text: &str) -> Result<(), Fault> {
+        let scene = read_heading(self.alloc, self.scenes.as_slice(), line, text)?;
+        self.scenes.push(scene)?;
+        Ok(())
     }
 
     fn begin_step(&mut self, line: usize, text: &'a str) -> Result<(), Fault> {
@@ -315,12 +335,16 @@ impl<'a> Reader<'a> {
         self.open = if text == "send" {
             Open::Bytes(line, times, Vec::new(self.alloc))
         } else {
-            let request = read_request(text)?;
-            // Here, so that a `%{..}` that stands for nothing is told of its own line.
-            let _ = self.names.expanded(request.body(), times.count(0))?;
-            Open::Request(line, times, request)
+            self.request(line, times, text)?
         };
         Ok(())
+    }
+
+    fn request(&self, line: usize, times: Times, text: &'a str) -> Result<Open<'a>, Fault> {
+        let request = read_request(text)?;
+        // Here, so that a `%{..}` that stands for nothing is told of its own line.
+        let _ = self.names.expanded(request.body(), times.count(0))?;
+        Ok(Open::Request(line, times, request))
     }
 }
 

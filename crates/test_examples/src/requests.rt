@@ -37,6 +37,15 @@ impl<'a> Request<'a> {
             Request::Close { .. } => "",
         }
     }
+
+    /// Who asks: of a question nobody.
+    fn user(&self) -> Option<&'a str> {
+        match *self {
+            Request::Open { user, .. } | Request::Close { user, .. } | Request::Run { user, .. } =>
+                { Some(user) }
+            Request::Check { .. } => None,
+        }
+    }
 }
 
 /// The text before the first blank, and the text behind it.
@@ -88,6 +97,18 @@ pub fn read_times(line: &str) -> Option<(u32, &str)> {
     Some((count, rest))
 }
 
+/// One more than the last number of a slot, which is kept as the last one then.
+fn next_number(
+    alloc: Global,
+    numbers: &mut Numbers,
+    session: &str,
+    slot: &str,
+) -> Result<String, Fault> {
+    let next = numbers.next(session, slot);
+    numbers.keep(session, slot, next)?;
+    Ok(format!(in alloc; "{next}")?)
+}
+
 /// The number that is sent, which is kept as the last one of its slot.
 fn number_sent(
     alloc: Global,
@@ -97,9 +118,7 @@ fn number_sent(
     number: &str,
 ) -> Result<String, Fault> {
     if number == "next" {
-        let next = numbers.next(session, slot);
-        numbers.keep(session, slot, next)?;
-        return Ok(format!(in alloc; "{next}")?);
+        return next_number(alloc, numbers, session, slot);
     }
     if let Ok(number) = number.parse::<u32>() {
         numbers.keep(session, slot, number)?;
@@ -116,6 +135,44 @@ fn message(alloc: Global, line: &str, fields: &str, body: &[u8]) -> Result<Vec<u
     Ok(sent)
 }
 
+fn run_line(
+    alloc: Global,
+    numbers: &mut Numbers,
+    session: &str,
+    slot: &str,
+    number: &str,
+) -> Result<String, Fault> {
+    let number = number_sent(alloc, numbers, session, slot, number)?;
+    Ok(format!(in alloc; "POST /v1/sessions/{session}/slots/{slot}/{number}")?)
+}
+
+fn session_line(alloc: Global, method: &str, session: &str) -> Result<String, Fault> {
+    Ok(format!(in alloc; "{method} /v1/sessions/{session}")?)
+}
+
+/// The method and the target of a request.
+fn line_of(alloc: Global, numbers: &mut Numbers, request: &Request<'_>) -> Result<String, Fault> {
+    match *request {
+        Request::Check { .. } => Ok(String::from_str(alloc, "POST /v1/check")?),
+        Request::Open { session, .. } => session_line(alloc, "POST", session),
+        Request::Close { session, .. } => session_line(alloc, "DELETE", session),
+        Request::Run {
+            session,
+            slot,
+            number,
+            ..
+        } => run_line(alloc, numbers, session, slot, number),
+    }
+}
+
+/// The field that names the user, where one asks.
+fn fields_of(alloc: Global, user: Option<&str>) -> Result<String, Fault> {
+    match user {
+        Some(user) => Ok(format!(in alloc; "room-user: {user}\r\n")?),
+        None => Ok(String::new(alloc)),
+    }
+}
+
 /// The message of a request with this body.
 pub fn message_of(
     alloc: Global,
@@ -123,26 +180,7 @@ pub fn message_of(
     request: &Request<'_>,
     body: &[u8],
 ) -> Result<Vec<u8>, Fault> {
-    let (user, line) = match *request {
-        Request::Check { .. } => return message(alloc, "POST /v1/check", "", body),
-        Request::Open { user, session, .. } => {
-            (user, format!(in alloc; "POST /v1/sessions/{session}")?)
-        }
-        Request::Close { user, session } => {
-            (user, format!(in alloc; "DELETE /v1/sessions/{session}")?)
-        }
-        Request::Run {
-            user,
-            session,
-            slot,
-            number,
-            ..
-        } => {
-            let number = number_sent(alloc, numbers, session, slot, number)?;
-            let line = format!(in alloc; "POST /v1/sessions/{session}/slots/{slot}/{number}")?;
-            (user, line)
-        }
-    };
-    let fields = format!(in alloc; "room-user: {user}\r\n")?;
+    let line = line_of(alloc, numbers, request)?;
+    let fields = fields_of(alloc, request.user())?;
     message(alloc, line.as_str(), fields.as_str(), body)
 }

@@ -37,7 +37,7 @@ pub enum Way {
 }
 
 /// The ways with their words.
-pub const WAYS: [(&str, Way); 9] = [
+pub static WAYS: [(&str, Way); 9] = [
     ("memory", Way::Memory),
     ("tables", Way::Tables),
     ("run", Way::Run),
@@ -54,9 +54,9 @@ pub const SOCKETS: &str = "sockets";
 
 /// The way of this word.
 pub fn way_named(name: &str) -> Option<Way> {
-    for (word, way) in WAYS {
-        if word == name {
-            return Some(way);
+    for (word, way) in &WAYS {
+        if *word == name {
+            return Some(*way);
         }
     }
     None

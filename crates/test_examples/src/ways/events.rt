@@ -27,6 +27,37 @@ fn plan_of<S: Shelf>(
     }
 }
 
+/// Compares what was planned for a request that is done, and all lists behind it.
+fn expect_done<S: Shelf>(
+    play: &Play<'_>,
+    shelf: &mut S,
+    example: &Example,
+    planned: Option<&Planned>,
+    differences: &mut Differences<'_>,
+) -> Result<(), Fault> {
+    if let (Some(puts), Some(planned)) = (&example.puts, planned) {
+        expect_planned(play, shelf, example, puts, planned, differences)?;
+    }
+    if matches!(has_few(shelf), Ok(true)) {
+        return expect_whole_lists(play, shelf, example.line, differences);
+    }
+    Ok(())
+}
+
+fn ask<S: Shelf + Drop>(
+    play: &Play<'_>,
+    shelf: S,
+    example: &Example,
+    differences: &mut Differences<'_>,
+) -> Result<S, Fault> {
+    let mut shelf = shelf;
+    let planned = plan_of(play, &mut shelf, example)?;
+    let (answer, mut shelf) = answered(play, shelf, example.sent.as_slice());
+    differences.expect(example.line, answer.body(), example.due.body.as_slice())?;
+    expect_done(play, &mut shelf, example, planned.as_ref(), differences)?;
+    Ok(shelf)
+}
+
 fn take<S: Shelf + Drop>(
     play: &Play<'_>,
     shelf: S,
@@ -34,19 +65,10 @@ fn take<S: Shelf + Drop>(
     differences: &mut Differences<'_>,
 ) -> Result<S, Fault> {
     let mut shelf = shelf;
-    let Step::Ask(example) = step else {
-        do_step(play, &mut shelf, step, differences)?;
-        return Ok(shelf);
-    };
-    let planned = plan_of(play, &mut shelf, example)?;
-    let (answer, mut shelf) = answered(play, shelf, example.sent.as_slice());
-    differences.expect(example.line, answer.body(), example.due.body.as_slice())?;
-    if let (Some(puts), Some(planned)) = (&example.puts, &planned) {
-        expect_planned(play, &mut shelf, example, puts, planned, differences)?;
+    if let Step::Ask(example) = step {
+        return ask(play, shelf, example, differences);
     }
-    if matches!(has_few(&mut shelf), Ok(true)) {
-        expect_whole_lists(play, &mut shelf, example.line, differences)?;
-    }
+    do_step(play, &mut shelf, step, differences)?;
     Ok(shelf)
 }
 

@@ -1,21 +1,19 @@
 //! Files that are closed and opened again behind each request.
-ghost use Rattle.std.specs.Prelude.{◌≡◌, IsTrue, IfOk, false};
+ghost use Rattle.std.specs.Prelude.{IsTrue, IfOk};
 ghost use Rattle.sqlite_disk.specs.Memory.{memory_is_usable};
 
 use crate::differences::Differences;
 use crate::fault::Fault;
 use crate::playing::Play;
 use crate::rooms::made;
-use crate::scenes::Step;
-use crate::shelves::{answered, do_step, expect_whole_lists, prepare};
+use crate::scenes::{Example, Step};
+use crate::shelves::{answered, do_step, expect_whole_lists, prepared};
 use room_sql::SqlShelf;
-use sqlite::{Connection, FileStore, Options};
+use sqlite::{Alter, Connection, FileStore, Options};
 use sqlite_disk::{Files, Memory};
 use std::alloc::Global;
 
 type FileConn = Connection<FileStore<Memory>>;
-
-type FileRoom = SqlShelf<FileStore<Memory>>;
 
 /// Few pages stay in memory, and the log is soon copied: both are worked harder, and less memory is cleared.
 const OPTIONS: Options = Options {
@@ -27,7 +25,6 @@ const OPTIONS: Options = Options {
 
 fn opened(alloc: Global, log: Memory, db: Memory) -> Result<FileConn, Fault>
     requires { IsTrue (memory_is_usable log) × IsTrue (memory_is_usable db) }
-    ensures { IfOk result (λ conn. conn.in_transaction ≡ false) }
 {
     match Connection::open_files(alloc, Files { log, db }, OPTIONS) {
         Ok(conn) => Ok(conn),
@@ -44,49 +41,43 @@ fn closed(conn: FileConn) -> Result<Files<Memory>, Fault>
     }
 }
 
-/// The files closed and opened again.
-fn opened_again(alloc: Global, conn: FileConn) -> Result<FileConn, Fault>
-    ensures { IfOk result (λ conn. conn.in_transaction ≡ false) }
-{
+fn reopened(alloc: Global, conn: FileConn) -> Result<FileConn, Fault> {
     let Files { log, db } = closed(conn)?;
     opened(alloc, log, db)
 }
 
 /// The room that is in files.
-fn taken(alloc: Global, conn: FileConn) -> Result<FileRoom, Fault>
-    requires { conn.in_transaction ≡ false }
-{
+fn taken<S: Alter + Drop>(alloc: Global, conn: Connection<S>) -> Result<SqlShelf<S>, Fault> {
+    if !conn.is_autocommit() {
+        return Err(Fault::Because("files in a transaction"));
+    }
     match SqlShelf::adopt(alloc, conn) {
         Ok(shelf) => Ok(shelf),
         Err((_, _)) => Err(Fault::Because("files that are no room")),
     }
 }
 
-/// A fresh room in new files.
-fn in_files(alloc: Global) -> Result<FileRoom, Fault> {
-    let conn = opened(alloc, Memory::new(alloc), Memory::new(alloc))?;
-    made(alloc, conn)
-}
-
-fn reopened(alloc: Global, shelf: FileRoom) -> Result<FileRoom, Fault> {
-    let conn = opened_again(alloc, shelf.into_connection())?;
-    taken(alloc, conn)
-}
-
-fn take(
+fn ask<S: Alter + Drop>(
     play: &Play<'_>,
-    shelf: FileRoom,
+    shelf: SqlShelf<S>,
+    example: &Example,
+    differences: &mut Differences<'_>,
+) -> Result<SqlShelf<S>, Fault> {
+    let (answer, shelf) = answered(play, shelf, example.sent.as_slice());
+    differences.expect(example.line, answer.body(), example.due.body.as_slice())?;
+    Ok(shelf)
+}
+
+fn take<S: Alter + Drop>(
+    play: &Play<'_>,
+    shelf: SqlShelf<S>,
     step: &Step,
     differences: &mut Differences<'_>,
-) -> Result<FileRoom, Fault> {
+) -> Result<SqlShelf<S>, Fault> {
     let mut shelf = shelf;
     match step {
-        Step::Ask(example) => {
-            let (answer, shelf) = answered(play, shelf, example.sent.as_slice());
-            differences.expect(example.line, answer.body(), example.due.body.as_slice())?;
-            reopened(play.alloc, shelf)
-        }
-        Step::Reopen => reopened(play.alloc, shelf),
+        Step::Ask(example) => ask(play, shelf, example, differences),
+        Step::Reopen => Ok(shelf),
         Step::Report { .. } | Step::Next(_) => {
             do_step(play, &mut shelf, step, differences)?;
             Ok(shelf)
@@ -94,38 +85,41 @@ fn take(
     }
 }
 
-/// The room as the earlier scenes leave it. (A call over any shelf that is dropped takes more steps here than the check
-/// of one function may.)
-fn prepared(play: &Play<'_>, shelf: FileRoom) -> Result<FileRoom, Fault> {
-    let (end, shelf) = prepare(play, shelf);
-    end?;
+/// Behind all steps the lists are compared.
+fn end<S: Alter + Drop>(
+    play: &Play<'_>,
+    shelf: SqlShelf<S>,
+    differences: &mut Differences<'_>,
+) -> Result<SqlShelf<S>, Fault> {
+    let mut shelf = shelf;
+    expect_whole_lists(play, &mut shelf, play.line, differences)?;
     Ok(shelf)
 }
 
-/// The room after all steps.
-fn played(
+/// What is done between two openings: at 0 the room is made as the earlier scenes leave it, then come the steps, and
+/// then the end. (Over any store: each call over a store of files makes a proof half a minute longer.)
+fn stage<S: Alter + Drop>(
     play: &Play<'_>,
-    shelf: FileRoom,
+    conn: Connection<S>,
+    at: usize,
     differences: &mut Differences<'_>,
-) -> Result<FileRoom, Fault> {
-    let mut shelf = shelf;
-    for step in play.steps {
-        shelf = take(play, shelf, step, differences)?;
+) -> Result<Connection<S>, Fault> {
+    if at == 0 {
+        let shelf = prepared(play, made(play.alloc, conn)?)?;
+        return Ok(shelf.into_connection());
     }
-    Ok(shelf)
-}
-
-fn has_whole_lists(
-    play: &Play<'_>,
-    shelf: FileRoom,
-    differences: &mut Differences<'_>,
-) -> Result<(), Fault> {
-    let mut shelf = shelf;
-    expect_whole_lists(play, &mut shelf, play.line, differences)
+    let shelf = taken(play.alloc, conn)?;
+    let shelf = match play.steps.get(at - 1) {
+        Some(step) => take(play, shelf, step, differences)?,
+        None => end(play, shelf, differences)?,
+    };
+    Ok(shelf.into_connection())
 }
 
 pub fn play(play: &Play<'_>, differences: &mut Differences<'_>) -> Result<(), Fault> {
-    let shelf = prepared(play, in_files(play.alloc)?)?;
-    let shelf = played(play, reopened(play.alloc, shelf)?, differences)?;
-    has_whole_lists(play, shelf, differences)
+    let mut conn = opened(play.alloc, Memory::new(play.alloc), Memory::new(play.alloc))?;
+    for at in 0..play.steps.len().saturating_add(2) {
+        conn = reopened(play.alloc, stage(play, conn, at, differences)?)?;
+    }
+    Ok(())
 }

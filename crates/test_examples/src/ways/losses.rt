@@ -9,7 +9,7 @@ use crate::playing::Play;
 use crate::rooms::in_memory;
 use crate::scenes::{Example, Step};
 use crate::shelves::{do_step, expect_whole_lists, prepared};
-use crate::ways::serving::{Line, expect_end, serve};
+use crate::ways::serving::{Ended, Line, expect_end, serve};
 use room_records::{MemShelf, Shelf};
 use room_wire::{Event, Why};
 
@@ -40,17 +40,28 @@ fn lose(
     let (ended, shelf) = serve(play, shelf, line);
     let whole = due.whole.as_slice();
     let (front, _) = whole.split_at(room.min(whole.len()));
+    expect_lost(example, &ended, front, differences)?;
+    Ok(shelf)
+}
+
+/// Compares what was written before the answer was lost, and how serving ended.
+fn expect_lost(
+    example: &Example,
+    ended: &Ended,
+    front: &[u8],
+    differences: &mut Differences<'_>,
+) -> Result<(), Fault> {
     differences.expect(example.line, ended.written.as_slice(), front)?;
     if ended.end.why != Why::WriteFailed {
         differences.tell(example.line, "a lost answer that the server takes for sent")?;
     }
     if ended.end.count != count_of(example) {
-        differences.tell(
+        return differences.tell(
             example.line,
             "another count of messages where the answer is lost",
-        )?;
+        );
     }
-    Ok(shelf)
+    Ok(())
 }
 
 /// How many messages the example is. Bytes that are no message are not counted.
@@ -86,9 +97,19 @@ fn ask_again(
 ) -> Result<MemShelf, Fault> {
     let shelf = lose_each(play, shelf, example, due, differences)?;
     let (ended, shelf) = serve(play, shelf, Line::good(example.sent.as_slice()));
-    differences.expect(example.line, ended.written.as_slice(), due.whole.as_slice())?;
-    expect_end(example, 1, ended.end, differences)?;
+    expect_whole(example, due, &ended, differences)?;
     Ok(shelf)
+}
+
+/// Compares an answer that comes through, and how serving ended.
+fn expect_whole(
+    example: &Example,
+    due: &Due,
+    ended: &Ended,
+    differences: &mut Differences<'_>,
+) -> Result<(), Fault> {
+    differences.expect(example.line, ended.written.as_slice(), due.whole.as_slice())?;
+    expect_end(example, 1, ended.end, differences)
 }
 
 /// Whether the request runs now, and says that its reply need not be kept. One with the kept number ran before.

@@ -21,19 +21,21 @@ struct Stream<'a> {
     examples: Vec<&'a Example>,
 }
 
-/// Lets a message of so many bytes come a byte a read, but for the middle of a long one.
-fn push_byte_sizes(sizes: &mut Vec<usize>, size: usize) -> Result<(), Fault> {
-    for _ in 0..size.min(FRONT) {
+fn push_ones(sizes: &mut Vec<usize>, count: usize) -> Result<(), Fault> {
+    for _ in 0..count {
         sizes.push(1)?;
     }
+    Ok(())
+}
+
+/// Lets a message of so many bytes come a byte a read, but for the middle of a long one.
+fn push_byte_sizes(sizes: &mut Vec<usize>, size: usize) -> Result<(), Fault> {
+    push_ones(sizes, size.min(FRONT))?;
     let rest = size.saturating_sub(FRONT);
     if rest > BACK {
         sizes.push(rest - BACK)?;
     }
-    for _ in 0..rest.min(BACK) {
-        sizes.push(1)?;
-    }
-    Ok(())
+    push_ones(sizes, rest.min(BACK))
 }
 
 impl<'a> Stream<'a> {

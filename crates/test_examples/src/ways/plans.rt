@@ -95,29 +95,51 @@ fn number_at<S: Shelf>(play: &Play<'_>, shelf: &mut S, path: &str) -> Result<Opt
     }
 }
 
-/// Tells where the entries of these objects were not put.
-fn expect_put<S: Shelf>(
+/// Tells where the entries of another number of objects were put.
+fn expect_count(
+    play: &Play<'_>,
+    line: usize,
+    count: usize,
+    due: usize,
+    differences: &mut Differences<'_>,
+) -> Result<(), Fault> {
+    if count == due {
+        return Ok(());
+    }
+    let text = format!(in play.alloc; "entries of {count} objects are put")?;
+    differences.tell(line, text.as_str())
+}
+
+/// Tells where the entries of the object at this path were not put.
+fn expect_path<S: Shelf>(
     play: &Play<'_>,
     shelf: &mut S,
     line: usize,
-    puts: &Puts,
+    path: &str,
     put: &[u32],
     differences: &mut Differences<'_>,
 ) -> Result<(), Fault> {
-    if put.len() != puts.count {
-        let count = put.len();
-        let text = format!(in play.alloc; "entries of {count} objects are put")?;
-        differences.tell(line, text.as_str())?;
+    let is_put = match number_at(play, shelf, path)? {
+        Some(id) => put.contains(&id),
+        None => false,
+    };
+    if is_put {
+        return Ok(());
     }
-    for path in &puts.paths {
-        let is_put = match number_at(play, shelf, path.as_str())? {
-            Some(id) => put.contains(&id),
-            None => false,
-        };
-        if !is_put {
-            let text = format!(in play.alloc; "no entries are put of {path}")?;
-            differences.tell(line, text.as_str())?;
-        }
+    let text = format!(in play.alloc; "no entries are put of {path}")?;
+    differences.tell(line, text.as_str())
+}
+
+/// Compares the planned reply, and the number of changes.
+fn expect_outcome(
+    example: &Example,
+    planned: &Planned,
+    differences: &mut Differences<'_>,
+) -> Result<(), Fault> {
+    let due = example.due.body.as_slice();
+    differences.expect(example.line, planned.reply.as_slice(), due)?;
+    if planned.changes > planned.put.len().saturating_add(MOST_OTHERS) {
+        return differences.tell(example.line, "more than three other changes");
     }
     Ok(())
 }
@@ -132,10 +154,10 @@ pub fn expect_planned<S: Shelf>(
     differences: &mut Differences<'_>,
 ) -> Result<(), Fault> {
     let put = planned.put.as_slice();
-    let due = example.due.body.as_slice();
-    differences.expect(example.line, planned.reply.as_slice(), due)?;
-    if planned.changes > put.len().saturating_add(MOST_OTHERS) {
-        differences.tell(example.line, "more than three other changes")?;
+    expect_outcome(example, planned, differences)?;
+    expect_count(play, example.line, put.len(), puts.count, differences)?;
+    for path in &puts.paths {
+        expect_path(play, shelf, example.line, path.as_str(), put, differences)?;
     }
-    expect_put(play, shelf, example.line, puts, put, differences)
+    Ok(())
 }

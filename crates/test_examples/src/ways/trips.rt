@@ -33,6 +33,24 @@ fn expect_trips(
     }
 }
 
+/// Compares an answer: the due one behind so many failed calls, DELAY where a call failed.
+fn expect_answer(
+    play: &Play<'_>,
+    example: &Example,
+    answer: &Answer,
+    trips: Option<u64>,
+    differences: &mut Differences<'_>,
+) -> Result<(), Fault> {
+    let due = match trips {
+        Some(trips) => {
+            expect_trips(play, example, trips, differences)?;
+            example.due.body.as_slice()
+        }
+        None => refusal_text(Code::Delay).as_bytes(),
+    };
+    differences.expect(example.line, answer.body(), due)
+}
+
 fn ask<S: Shelf + Drop>(
     play: &Play<'_>,
     shelf: S,
@@ -43,13 +61,15 @@ fn ask<S: Shelf + Drop>(
     for k in 1..MOST_CALLS {
         let (answer, tripped, left) = answered_at(play, shelf, k, example.sent.as_slice());
         shelf = left;
+        let trips = if tripped {
+            None
+        } else {
+            Some(k.saturating_sub(1))
+        };
+        expect_answer(play, example, &answer, trips, differences)?;
         if !tripped {
-            expect_trips(play, example, k.saturating_sub(1), differences)?;
-            differences.expect(example.line, answer.body(), example.due.body.as_slice())?;
             return Ok(shelf);
         }
-        let delay = refusal_text(Code::Delay).as_bytes();
-        differences.expect(example.line, answer.body(), delay)?;
     }
     differences.tell(example.line, "no end of calls of the shelf")?;
     Ok(shelf)
