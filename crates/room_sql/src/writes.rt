@@ -517,7 +517,7 @@ fn list_rows<S: Alter>(tx: &mut Transaction<'_, S>, id: u32) -> Result<Vec<Row>,
 }
 
 /// Makes these the object's entries, in place where the stored rows are entries at the places 0, 1, 2, .., and else by
-/// other rows.
+/// other rows: so too where memory was refused to read the stored ones by.
 pub(crate) fn put_entries<S: Alter>(
     tx: &mut Transaction<'_, S>,
     id: u32,
