@@ -94,8 +94,8 @@ client: build
 front: build
 	tests/front/run
 
-# A room on three machines, of which some die: namespaces, GlusterFS, and the settings of service/standby. By hand and
-# each night; not part of `make test`. Needs root, glusterfs-server, btrfs-progs and nftables; for RUNNING's lines, and
+# A room on three machines, of which some die: namespaces, GlusterFS, and the settings of service/standby. By hand, and
+# not part of `make test`. Needs root, glusterfs-server, btrfs-progs and nftables; for RUNNING's lines, and
 # takeovers by Pacemaker, pacemaker, pcs, nginx-light and openssh-server; for people at a desk nginx and chromium.
 # TAKEOVERS=100 plays so many.
 standby: build
