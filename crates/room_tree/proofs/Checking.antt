@@ -1,10 +1,8 @@
 -- Checks at a found object.
 use Rattle.std.proofs.lemmas.Grind.{common_steps}
-use Rattle.std.proofs.Common.{◌≡◌, ℕ, false, ◌≤◌, arith, length, Result, Ok, Err, IfOk, refl, ap, sym, ◌∙◌}
+use Rattle.std.proofs.Common.{◌≡◌, ℕ, false, ◌≤◌, arith, length, refl, ap, sym, ◌∙◌}
 use Rattle.std.proofs.Common.{Option, None, Some, List, [], ◌∷◌, ◌++◌}
-use Rattle.std.specs.Prelude.{not, is_some, nat_lt}
-use borrow.Author.Tests.{ltb-false}
-use Rattle.room_commands.proofs.ChecksTell.{not_refused}
+use Rattle.std.specs.Prelude.{not, is_some}
 use Rattle.room_acl.specs.declared.subject.Kind.TheVariants.{Folder}
 use Rattle.room_acl.specs.SubjectModel.{SubjectModel}
 use Rattle.room_acl.specs.Access.{decision}
@@ -15,11 +13,11 @@ use Rattle.room_records.specs.Representation.{RepresentsRoom}
 use Rattle.room_records.proofs.RoomsMap.{object_there_is_lawful}
 use Rattle.room_records.specs.Room.{Object, Room, object_at, parent_of, standing_of}
 use Rattle.room_tree.specs.declared.loaded.LoadedObject.{LoadedObject}
-use Rattle.room_commands.specs.declared.reply.RefusalCode.TheVariants.{NoEnt, Exist, Inval, IsDir, FBig}
+use Rattle.room_commands.specs.declared.reply.RefusalCode.TheVariants.{NoEnt, Exist, Inval, IsDir}
 use Rattle.room_commands.specs.ReplyModel.{Refusal}
 use Rattle.room_commands.specs.Checks.{refuse_if, refusal_without_place, is_kind, denied_at, right_on, check_exists}
 use Rattle.room_commands.specs.Checks.{check_absent, check_right, check_folder, check_file, prefix_refusal}
-use Rattle.room_commands.specs.Checks.{first_refusal, is_root, bytes_at, check_size, walk, check_removal}
+use Rattle.room_commands.specs.Checks.{first_refusal, is_root, bytes_at, walk, check_removal}
 use Rattle.room_commands.specs.Checks.{check_folder_full, check_room_full}
 use Rattle.room_tree.specs.LoadedObjects.{IsLoaded}
 
@@ -118,10 +116,6 @@ pub missing : (room : Room) (path : Path) (way : Option Refusal) → way ≡ Non
     → first_refusal (way ∷ check_exists room path ∷ []) ≡ Some (refusal_without_place NoEnt)
 missing room path way none nothing = grind (arith, common_steps)
 
-pub if_ok_map : {T E : Type 0} (P Q : T → Type 0) → ((x : T) → P x → Q x) → (r : Result T E) → IfOk r P → IfOk r Q
-if_ok_map P Q weaker (Ok x) h = weaker x h
-if_ok_map P Q weaker (Err e) h = tt
-
 module _ {t : ObjectRecords} {room : Room} (stand : RepresentsRoom t room) {path : Path} {loaded : LoadedObject}
     (found : IsLoaded t room path loaded) where
   pub bytes_there : bytes_at room path ≡ found.object.bytes
@@ -131,7 +125,3 @@ module _ {t : ObjectRecords} {room : Room} (stand : RepresentsRoom t room) {path
   few_bytes =
       let small = (object_there_is_lawful room stand.lawful path found.object (there found)).small in
       omega (arith, ap length bytes_there, small)
-
--- what passes is not too large
-pub small_by_check : (n : ℕ) → check_size n ≡ None → n ≤ max_document
-small_by_check n h = ltb-false max_document n (not_refused (nat_lt max_document n) FBig h)

@@ -13,7 +13,7 @@ pub mod ListsRenewed
 pub mod Renewed
 pub mod Changed
 pub mod Relisted
-pub mod RowsAdded
+pub mod RowsPut
 pub mod NewLists
 pub mod Made
 pub mod RowsRemoved

@@ -1,7 +1,8 @@
 -- A new object: what is planned is the effect.
 use Rattle.std.proofs.lemmas.Grind.{common_steps}
 use Rattle.std.proofs.Common.{◌≡◌, ◌≢◌, ℕ, ◌+◌, ◌<◌, ◌≤◌, refl, ap, sym, ◌∙◌, subst, arith, cond, false, List}
-use Rattle.std.proofs.Common.{[], ◌∷◌, ◌++◌, length, Option, None, Some, IsSome, IsNone, unwrap_or}
+use Rattle.std.proofs.Common.{[], ◌∷◌, ◌++◌, length, reverse, Option, None, Some, IsSome, IsNone, unwrap_or, inl, inr}
+use Rattle.std.proofs.lemmas.List.{reverse-append}
 use Rattle.std.specs.Prelude.{nat_lt, nat_le, Vec}
 use Rattle.std.specs.declared.alloc.Global.{Global}
 use Rattle.std.proofs.lemmas.Bool.Decides.{nat_tests}
@@ -11,17 +12,16 @@ use Rattle.room_acl.specs.SubjectModel.{SubjectModel}
 use Rattle.room_records.specs.declared.change.Change.TheVariants.{PutNext, PutNode, PutDoc}
 use Rattle.room_records.specs.declared.node.Node.{Node}
 use Rattle.room_records.specs.Limits.{max_objects}
-use Rattle.room_records.specs.Names.{Path, IsPath}
+use Rattle.room_records.specs.Names.{Name, Path, IsPath}
 use Rattle.room_records.specs.Records.{ObjectRecords}
 use Rattle.room_records.specs.Rules.{ObjectRules}
 use Rattle.room_records.specs.Changes.{apply_to_objects, apply_all_to_objects, IsOfObjects}
 use Rattle.room_records.specs.Room.{Object, Room, IsRoom, object_at, parent_of, list_of, follows}
-use Rattle.room_records.specs.Representation.{RepresentsRoom, HasPath}
+use Rattle.room_records.specs.Representation.{RepresentsRoom, NodeIsObject, HasPath, NamesUpwards}
 use Rattle.room_records.proofs.Lists.{all_append}
-use Rattle.room_records.proofs.Paths.{object_at_node, child_is_at}
 use Rattle.room_records.proofs.RoomsMap.{some_is, none_is_some, Ends, parent_of_end, nothing_below}
 use Rattle.room_records.proofs.RoomsLists.{list_of_child, lists_by_objects_above}
-use Rattle.room_records.proofs.RulesKept.{if_same, if_other, rules_put_next, rules_put_doc}
+use Rattle.room_records.proofs.RulesKept.{same_or_other, if_same, if_other, rules_put_next, rules_put_doc}
 use Rattle.room_commands.specs.CommandModel as C
 use Rattle.room_tree.specs.declared.loaded.LoadedObject.{LoadedObject}
 use Rattle.room_tree.specs.declared.planning.Outcome.{Outcome}
@@ -43,8 +43,9 @@ use Rattle.room_tree.proofs.Outcomes.{success_plans}
 use Rattle.room_tree.proofs.Replies.{object_is}
 use Rattle.room_commands.proofs.Rights.{all_none}
 use Rattle.room_commands.proofs.RoomsNew.{new_there, elsewhere_as_before, old_stays, new_or_old}
-use Rattle.room_tree.proofs.RowsAdded.{IsFree, rules_put_new, Adds, added, added_keeps, last_is_name}
-use Rattle.room_tree.proofs.StoredLists.{node_at_path, stored_list, is_present}
+use Rattle.room_tree.proofs.RowsPut.{IsFree, no_child, rules_put_free, last_is_name}
+use Rattle.room_tree.proofs.RowsReplaced.{still_shows}
+use Rattle.room_tree.proofs.StoredLists.{stored_list, is_present}
 
 -- the group that a new object gets
 abbrev object_group : Room → Path → List ℕ
@@ -98,26 +99,28 @@ module _ {t : ObjectRecords} {room : Room} {caller : SubjectModel} {path : Path}
   folder_at = rw (← in_folder) found.is_there.at
 
   free : IsFree (apply_to_objects (PutNext (id + 1)) t) node above.id end.name
-  free = record {
-    fresh = fresh;
-    positive = (let first = is_present (t.node 1) stand.rules.nodes.has_root in
-        let one = stand.rules.numbered 1 first.0 first.1 in omega (arith, one.2, numbered));
-    below = omega (arith, new.number);
-    parent = node_of above;
-    stands = found.is_there.node_stands;
-    folder = folder_is;
-    inside = new.parent;
-    named = new.name end.folder end.name end.is;
-    lawful = (last_is_name end.folder end.name (rw end.is at is_path).names);
-    alone = λ other child named.
-        let at = child_is_at t stand.rules end.folder end.name above.id other folder_at
-        (record { stands = child.stands; inside = child.inside }) named in
-        let there = object_at_node t room stand (end.folder ++ end.name ∷ []) other.id other at child.stands in
-        none_is_some there.0 (sym absent ∙ ap (object_at room) end.is ∙ there.1);
-  }
+  free =
+      let first = is_present (t.node 1) stand.rules.nodes.has_root in
+      let absent_before : (before : Node) → t.node node.id ≡ Some before → ⊥ =
+      λ before stands. none_is_some before (sym fresh ∙ stands) in
+      record {
+        off_root = λ same. absent_before first.0 (ap t.node same ∙ first.1);
+        positive = (let one = stand.rules.numbered 1 first.0 first.1 in omega (arith, one.2, numbered));
+        below = omega (arith, new.number);
+        parent = node_of above;
+        stands = found.is_there.node_stands;
+        folder = folder_is;
+        inside = new.parent;
+        named = new.name end.folder end.name end.is;
+        lawful = (last_is_name end.folder end.name (rw end.is at is_path).names);
+        alone = λ other child. no_child stand end.folder end.name above.id folder_at
+            (ap (object_at room) (sym end.is) ∙ absent) other
+            (record { stands = child.stands; inside = child.inside });
+        kind = λ before stands. absurd (absent_before before stands);
+      }
 
   pub rules_made : ObjectRules (apply_to_objects (PutNode node) (apply_to_objects (PutNext (id + 1)) t))
-  rules_made = rules_put_new rules_bumped free
+  rules_made = rules_put_free rules_bumped free
 
   pub new_stands : (k : ℕ) → k ≡ node.id
       → (apply_to_objects (PutNode node) (apply_to_objects (PutNext (id + 1)) t)).node k ≡ Some node
@@ -152,46 +155,93 @@ module _ {t : ObjectRecords} {room : Room} {caller : SubjectModel} {path : Path}
       ∙ sym (list_of_child after end.folder end.name o (subst At end.is (new_there room path o)))
       ∙ ap (list_of after) (sym end.is)
 
-  pub adds : (later : ObjectRecords)
+  -- rows with its row, its list and its document stand for the room with the object, and keep all numbers
+  pub added : (later : ObjectRecords)
       → later.node ≡ (apply_to_objects (PutNode node) (apply_to_objects (PutNext (id + 1)) t)).node
       → ((k : ℕ) → k ≢ node.id → later.entries k ≡ t.entries k)
       → later.entries node.id ≡ handed_down (list_of room (parent_of path)) kind
       → ((k : ℕ) → k ≢ node.id → later.document k ≡ t.document k) → later.next ≡ id + 1 → ObjectRules later
       → o.kind ≡ kind → o.owner ≡ caller.name → o.group ≡ object_group room path
       → o.aclflag ≡ 1 → o.own ≡ [] → unwrap_or (later.document node.id) [] ≡ o.bytes
-      → Adds t later room (with_new room path o) path o node
-  adds later nodes entries list documents next rules kind_is owner group aclflag own bytes = record {
-    fresh = fresh;
-    rules = rules;
-    stands = ap (λ (f : ℕ → Option Node). f node.id) nodes ∙ new_stands node.id refl;
-    nodes_away = λ k other. ap (λ (f : ℕ → Option Node). f k) nodes ∙ if_other k node.id (Some node) (t.node k) other;
-    lists_away = λ q k at.
-        let there = node_at_path stand q k at in
-        let apart : k ≢ node.id = (λ same. none_is_some there.0 (sym fresh ∙ ap t.node (sym same) ∙ there.1)) in
-        let stands = object_at_node t room stand q k there.0 at there.1 in
-        entries k apart ∙ stored_list stand q k at ∙ lists_stay q stands.0 stands.1;
-    documents_away = documents;
-    folder = end.folder;
-    name = end.name;
-    path_is = end.is;
-    above = above.id;
-    folder_at = folder_at;
-    inside = new.parent;
-    named = new.name end.folder end.name end.is;
-    shows = record {
-      kind = new.kind_is ∙ sym kind_is;
-      owner = new.owner ∙ sym owner;
-      group = group_is ∙ sym group;
-      aclflag = new.aclflag ∙ sym aclflag;
-      entries = list ∙ list_of_new kind_is aclflag own;
-      bytes = bytes;
-    };
-    next = next ∙ ap (λ n. n + 1) (number ∙ stand.next);
-    lawful = lawful;
-    at_path = new_there room path o;
-    old = old_stays room path o absent;
-    new_or_old = new_or_old room path o;
-  }
+      → RepresentsRoom later (with_new room path o) × ((q : Path) (k : ℕ) → HasPath t q k → HasPath later q k)
+  added later nodes entries list documents next rules kind_is owner group aclflag own bytes = (
+    record {
+      rules = rules;
+      lawful = lawful;
+      nodes = λ k row stands. elim (same_or_other k node.id) [
+        | inl same ↦
+            let is : node ≡ row = some_is node row (sym new_row ∙ ap later.node (sym same) ∙ stands) in
+            (path, o, rw (← is) (rw same new_is))
+        | inr other ↦
+            let before = stand.nodes k row (sym (away k other) ∙ stands) in
+            (before.0, before.1, old_is k row before.0 before.1 before.2)
+      ];
+      objects = λ q p stands. elim (new_or_old room path o q p stands) [
+        | inl here ↦ (node.id, node, rw (← here.1) (rw here.0 new_is))
+        | inr there ↦
+            let before = stand.objects q p there in
+            (before.0, before.1, old_is before.0 before.1 q p before.2)
+      ];
+      next = next ∙ ap (λ n. n + 1) (number ∙ stand.next);
+    },
+    keeps,
+  )
+    where
+      new_row : later.node node.id ≡ Some node
+      new_row = ap (λ (f : ℕ → Option Node). f node.id) nodes ∙ new_stands node.id refl
+
+      away : (k : ℕ) → k ≢ node.id → later.node k ≡ t.node k
+      away k other = ap (λ (f : ℕ → Option Node). f k) nodes ∙ if_other k node.id (Some node) (t.node k) other
+
+      apart : (k : ℕ) (row : Node) → t.node k ≡ Some row → k ≢ node.id
+      apart k row stands same = none_is_some row (sym fresh ∙ ap t.node (sym same) ∙ stands)
+
+      names_stay : (names : List Name) (k : ℕ) → NamesUpwards t names k → NamesUpwards later names k
+      names_stay [] k up = up
+      names_stay (name ∷ others) k (row, parent, stands, named, inside, up) =
+          (row, parent, away k (apart k row stands) ∙ stands, named, inside, names_stay others parent up)
+
+      keeps : (q : Path) (k : ℕ) → HasPath t q k → HasPath later q k
+      keeps q k at = names_stay (reverse q) k at
+
+      new_at : HasPath later path node.id
+      new_at =
+          rw (ap reverse end.is ∙ reverse-append end.folder (end.name ∷ [])) (
+            node,
+            above.id,
+            new_row,
+            new.name end.folder end.name end.is,
+            new.parent,
+            names_stay (reverse end.folder) above.id folder_at,
+          )
+
+      new_is : NodeIsObject later (with_new room path o) node.id node path o
+      new_is = record {
+        at = new_at;
+        node_stands = new_row;
+        object_stands = new_there room path o;
+        shows = record {
+          kind = new.kind_is ∙ sym kind_is;
+          owner = new.owner ∙ sym owner;
+          group = group_is ∙ sym group;
+          aclflag = new.aclflag ∙ sym aclflag;
+          entries = list ∙ list_of_new kind_is aclflag own;
+          bytes = bytes;
+        };
+      }
+
+      old_is : (k : ℕ) (row : Node) (q : Path) (p : Object)
+          → NodeIsObject t room k row q p → NodeIsObject later (with_new room path o) k row q p
+      old_is k row q p is =
+          let k_is : row.id ≡ k = (stand.rules.numbered k row is.node_stands).0 in
+          let other = apart k row is.node_stands in
+          record {
+            at = keeps q k is.at;
+            node_stands = away k other ∙ is.node_stands;
+            object_stands = old_stays room path o absent q p is.object_stands;
+            shows = still_shows is.shows (ap later.entries k_is ∙ entries k other ∙ stored_list stand q k is.at
+                ∙ lists_stay q p is.object_stands) (documents row.id (λ same. other (sym k_is ∙ same)));
+          }
 
   pub only_next : (later : ObjectRecords)
       → later.node ≡ (apply_to_objects (PutNode node) (apply_to_objects (PutNext (id + 1)) t)).node
@@ -230,7 +280,7 @@ mkdir_plans {t} {room} {caller} {path} {id} {node} list outcome stand is_path be
     let none = no_entries stand is_path root_off absent found number.1 few new o lawful in
     let later = apply_all_to_objects (puts_new id list) second in
     let gives = gives_list second id node list rules stands none in
-    let r = adds stand is_path root_off absent found number.1 few new o lawful later gives.nodes
+    let r = added stand is_path root_off absent found number.1 few new o lawful later gives.nodes
     (λ k other. gives.away k (λ is. other (is ∙ sym new.number)))
     (ap later.entries new.number ∙ gives.listed ∙ given)
     (λ k other. ap (λ (f : ℕ → Option (List ℕ)). f k) gives.documents) gives.next gives.rules refl refl refl refl refl
@@ -242,7 +292,7 @@ mkdir_plans {t} {room} {caller} {path} {id} {node} list outcome stand is_path be
       (rules, gives.each),
     )
     (few_for_folder t id none (id + 1) node new.number list)
-    (added stand r) (λ q k at stands there. added_keeps stand r q k at) (only_next stand is_path
+    r.0 (λ q k at stands there. r.1 q k at) (only_next stand is_path
     root_off absent found number.1 few new o lawful later gives.nodes)
 
 -- CREATE
@@ -279,7 +329,7 @@ create_plans {t} {room} {caller} bytes {path} {id} {node} list copy outcome stan
     let gives = gives_list second id node list rules stands none in
     let last = rules_put_doc third gives.rules id node (ap (λ (f : ℕ → Option Node). f id) gives.nodes ∙ stands)
     new.kind_is copy in
-    let r = adds stand is_path root_off absent found number.1 few new o lawful later gives.nodes
+    let r = added stand is_path root_off absent found number.1 few new o lawful later gives.nodes
     (λ k other. gives.away k (λ is. other (is ∙ sym new.number)))
     (ap third.entries new.number ∙ gives.listed ∙ given)
     (λ k other. if_other k id (Some copy.items) (third.document k) (λ is. other (is ∙ sym new.number))
@@ -288,7 +338,7 @@ create_plans {t} {room} {caller} bytes {path} {id} {node} list copy outcome stan
     (ap (λ (d : Option (List ℕ)). unwrap_or d [])
     (if_same node.id id (Some copy.items) (third.document node.id) new.number) ∙ same) in
     let whole = sym (apply_append puts (PutDoc id copy ∷ []) second) in
-    let keeps = rw whole at (added_keeps stand r) in
+    let keeps = rw whole at r.1 in
     success_plans caller command outcome stand
     (PutNext (id + 1) ∷ PutNode node ∷ puts ++ PutDoc id copy ∷ []) passed replied planned
     (tt, (tt, all_append IsOfObjects puts (PutDoc id copy ∷ []) gives.of_objects (tt, tt))) (
@@ -296,5 +346,5 @@ create_plans {t} {room} {caller} bytes {path} {id} {node} list copy outcome stan
       (rules, rules_append puts (PutDoc id copy ∷ []) second gives.each (last, tt)),
     )
     (few_for_document t id none (id + 1) node new.number list copy)
-    (rw whole at (added stand r)) (λ q k at stands there. keeps q k at) (rw (← whole) (only_next stand is_path
+    (rw whole at r.0) (λ q k at stands there. keeps q k at) (rw (← whole) (only_next stand is_path
     root_off absent found number.1 few new o lawful later gives.nodes))

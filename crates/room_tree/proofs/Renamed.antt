@@ -40,7 +40,7 @@ use Rattle.room_tree.proofs.Renewed.{Puts, put, Relists, IsChangeOf, list_then, 
 use Rattle.room_tree.proofs.Renewed.{stored_at, nodes_stay, documents_stay, next_stays, relisted_at, relisted_off}
 use Rattle.room_tree.proofs.Renewed.{relisted_of_objects, relisted_rules, relisted_few}
 use Rattle.room_commands.proofs.Rights.{all_none}
-use Rattle.room_tree.proofs.RowsAdded.{last_is_name}
+use Rattle.room_tree.proofs.RowsPut.{last_is_name}
 use Rattle.room_tree.proofs.RowsMoved.{MovesNode, MovesLists, moved_off, moved_rest, rules_moved, moved_represents}
 use Rattle.room_tree.proofs.RowsMoved.{moved_keeps, none_new_moved}
 use Rattle.room_tree.proofs.RowsReplaced.{path_of_node}

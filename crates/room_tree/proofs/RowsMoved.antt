@@ -8,19 +8,20 @@ use Rattle.room_acl.specs.declared.subject.Kind.TheVariants.{Folder}
 use Rattle.room_records.specs.declared.node.Node.{Node}
 use Rattle.room_records.specs.declared.change.Change.TheVariants.{PutNode}
 use Rattle.room_records.specs.Names.{Name, Path, IsFileName}
-use Rattle.room_records.specs.Records.{ObjectRecords, IsChild}
-use Rattle.room_records.specs.Rules.{NodeRules, ObjectRules}
+use Rattle.room_records.specs.Records.{ObjectRecords}
+use Rattle.room_records.specs.Rules.{ObjectRules}
 use Rattle.room_records.specs.Changes.{apply_to_objects}
 use Rattle.room_records.specs.Room.{Object, Room, IsRoom, object_at, list_of}
 use Rattle.room_records.specs.Representation.{RepresentsRoom, NodeIsObject, HasPath, NamesUpwards}
-use Rattle.room_records.proofs.Paths.{reads_one, child_is_at, object_at_node}
-use Rattle.room_records.proofs.RoomsMap.{some_is, none_is_some, Ends, ends}
+use Rattle.room_records.proofs.Paths.{reads_one}
+use Rattle.room_records.proofs.RoomsMap.{some_is, Ends, ends}
 use Rattle.room_records.proofs.RulesKept.{same_or_other, if_same, if_other, shape_itself, names_by_shape}
 use Rattle.room_commands.specs.Checks.{is_at_or_below}
 use Rattle.room_commands.specs.Effect.{renamed, moved}
 use Rattle.room_commands.proofs.Renaming.{at_behind}
 use Rattle.room_commands.proofs.RoomsRenamed.{rest_below, not_both, at_moved, Stands, Moved}
 use Rattle.room_commands.proofs.RoomsRenamed.{Stayed, stands_after}
+use Rattle.room_tree.proofs.RowsPut.{rules_put_free, no_child}
 use Rattle.room_tree.proofs.RowsReplaced.{path_of_node, still_shows}
 
 -- an object below a path, but not at it, has its folder there too
@@ -178,92 +179,27 @@ module _ {t : ObjectRecords} {room : Room} (stand : RepresentsRoom t room) {path
   not_first : node.id ≢ 1
   not_first = grind (arith, common_steps)
 
-  forth : (id : ℕ) (found : Node) → t.node id ≡ Some found
-      → (after : Node) × (later.node id ≡ Some after) × (after.kind ≡ found.kind)
-  forth id found stands = elim (same_or_other id node.id) [
-    | inl same ↦ (
-      now,
-      put id same,
-      m.kind
-          ∙ ap (λ (n : Node). n.kind) (some_is node found (sym m.is_there.node_stands ∙ ap t.node (sym same) ∙ stands)),
-    )
-    | inr other ↦ (found, away id other ∙ stands, refl)
-  ]
-
   back : (id : ℕ) (found : Node) → later.node id ≡ Some found
       → ((id ≡ node.id) × (now ≡ found)) ⊎ ((id ≢ node.id) × (t.node id ≡ Some found))
   back id found stands = grind (arith, common_steps)
 
-  gone_before : (id : ℕ) → later.node id ≡ None → t.node id ≡ None
-  gone_before id gone = grind (arith, common_steps)
-
-  -- nothing else is in the new folder under the new name
-  alone : (other : Node) → t.node other.id ≡ Some other → other.parent ≡ now.parent → other.name ≡ now.name → ⊥
-  alone other stands parents names =
-      let child : IsChild t above other = record { stands = stands; inside = parents ∙ m.inside } in
-      let at = child_is_at t stand.rules up last above other m.up_at child (names ∙ m.name) in
-      let there = object_at_node t room stand to other.id other at stands in
-      none_is_some there.0 (sym m.free ∙ there.1)
-
-  nodes_moved : NodeRules (apply_to_objects (PutNode now) t).node
-  nodes_moved = record {
-    root = rw (away 1 (λ same. not_first (sym same))) stand.rules.nodes.root;
-    has_root = rw (away 1 (λ same. not_first (sym same))) stand.rules.nodes.has_root;
-    below = λ id found stands other. elim (back id found stands) [
-      | inl new ↦ (let parent = forth above m.parent m.parent_stands in record {
-        above = above;
-        parent = parent.0;
-        has_parent = ap (λ (n : Node). n.parent) (sym new.1) ∙ m.inside;
-        stands = parent.1;
-        folder = parent.2 ∙ m.parent_folder;
-        name = last;
-        named = ap (λ (n : Node). n.name) (sym new.1) ∙ m.name;
-        lawful = m.named;
-      })
-      | inr old ↦ (let under = stand.rules.nodes.below id found old.1 other in
-          let parent = forth under.above under.parent under.stands in record {
-            above = under.above;
-            parent = parent.0;
-            has_parent = under.has_parent;
-            stands = parent.1;
-            folder = parent.2 ∙ under.folder;
-            name = under.name;
-            named = under.named;
-            lawful = under.lawful;
-          })
-    ];
-    once = λ a b a_stands b_stands parents names. elim (back a.id a a_stands) [
-      | inl a_new ↦ elim (back b.id b b_stands) [
-        | inl b_new ↦ a_new.0 ∙ sym b_new.0
-        | inr b_old ↦ absurd (alone b b_old.1 (sym parents ∙ ap (λ (n : Node). n.parent) (sym a_new.1))
-            (sym names ∙ ap (λ (n : Node). n.name) (sym a_new.1)))
-      ]
-      | inr a_old ↦ elim (back b.id b b_stands) [
-        | inl b_new ↦ absurd (alone a a_old.1 (parents ∙ ap (λ (n : Node). n.parent) (sym b_new.1))
-            (names ∙ ap (λ (n : Node). n.name) (sym b_new.1)))
-        | inr b_old ↦ stand.rules.nodes.once a b a_old.1 b_old.1 parents names
-      ]
-    ];
-  }
-
   pub rules_moved : ObjectRules (apply_to_objects (PutNode now) t)
-  rules_moved = record {
-    numbered = λ id found stands. elim (back id found stands) [
-      | inl new ↦ (let old = stand.rules.numbered node.id node m.is_there.node_stands in (
-        ap (λ (n : Node). n.id) (sym new.1) ∙ m.id ∙ sym new.0,
-        omega (arith, new.0, old.1),
-        omega (arith, new.0, old.2),
-      ))
-      | inr old ↦ stand.rules.numbered id found old.1
-    ];
-    nodes = nodes_moved;
-    entries = λ id gone. stand.rules.entries id (gone_before id gone);
-    documents = λ id there.
-        let owner = stand.rules.documents id there in
-        let after = forth id owner.0 owner.1 in
-        (after.0, after.1, after.2 ∙ owner.2);
-    next = stand.rules.next;
-  }
+  rules_moved =
+      let old = stand.rules.numbered node.id node m.is_there.node_stands in
+      rules_put_free stand.rules (record {
+        off_root = λ same. not_first (sym m.id ∙ same);
+        positive = omega (arith, m.id, old.1);
+        below = omega (arith, m.id, old.2);
+        parent = m.parent;
+        stands = m.parent_stands;
+        folder = m.parent_folder;
+        inside = m.inside;
+        named = m.name;
+        lawful = m.named;
+        alone = no_child stand up last above m.up_at m.free;
+        kind = λ before stands. m.kind ∙ ap (λ (n : Node). n.kind)
+            (some_is node before (sym m.is_there.node_stands ∙ ap t.node (sym m.id) ∙ stands));
+      })
 
   old_node : (id : ℕ) (found : Node) → later.node id ≡ Some found → (before : Node) × (t.node id ≡ Some before)
   old_node id found stands = elim (back id found stands)

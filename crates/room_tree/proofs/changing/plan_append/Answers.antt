@@ -5,7 +5,8 @@ use Rattle.room_records.specs.Room.{Object}
 use Rattle.room_commands.specs.CommandModel as C
 use Rattle.room_commands.specs.Checks.{check_size, bytes_at}
 use Rattle.room_commands.specs.ReplyModel.{Size}
-use Rattle.room_tree.proofs.Checking.{none_passes, first_alone, small_by_check, bytes_there, file_checks}
+use Rattle.room_commands.proofs.ChecksTell.{small_enough}
+use Rattle.room_tree.proofs.Checking.{none_passes, first_alone, bytes_there, file_checks}
 use Rattle.room_tree.proofs.Changed.{is_document, replaced_plans, document_replaces}
 use Rattle.room_tree.proofs.FewRows.{few_document}
 use Rattle.room_commands.proofs.EffectIsRoom.{appended_is_room}
@@ -60,7 +61,7 @@ returns-clause-effect g c = λ available laid_out t e room stand.
     let long : length all_bytes.items ≡ length (bytes_at room path) + length bytes =
     ap length (joined.1 ∙ ap (λ b. b ++ bytes) old) ∙ length-append (bytes_at room path) bytes in
     let fits : length all_bytes.items < 2 ^ 32 =
-    omega (arith, long, small_by_check (length (bytes_at room path) + length bytes) size) in
+    omega (arith, long, small_enough room (length (bytes_at room path) + length bytes) size) in
     let r = document_replaces stand told.0.1 change (appended_is_room room caller bytes path
     stand.lawful passed) file all_bytes (ap (λ (b : List ℕ). record told.0.1.object { bytes = b }) (sym is)) in
     replaced_plans caller (C.Append c.args.bytes.now path) c.in_ok-outcome.outcome (PutDoc loaded.id all_bytes

@@ -4,7 +4,8 @@ use Rattle.room_records.specs.Room.{Object}
 use Rattle.room_commands.specs.CommandModel as C
 use Rattle.room_commands.specs.Checks.{check_size}
 use Rattle.room_commands.specs.ReplyModel.{Size}
-use Rattle.room_tree.proofs.Checking.{none_passes, first_alone, small_by_check, file_checks}
+use Rattle.room_commands.proofs.ChecksTell.{small_enough}
+use Rattle.room_tree.proofs.Checking.{none_passes, first_alone, file_checks}
 use Rattle.room_tree.proofs.Changed.{is_document, replaced_plans, document_replaces}
 use Rattle.room_tree.proofs.FewRows.{few_document}
 use Rattle.room_commands.proofs.EffectIsRoom.{written_is_room}
@@ -41,7 +42,7 @@ returns-clause-effect g c = λ available laid_out t e room stand.
     let copy = c.in_ok-copy.copy in
     let same : copy.items ≡ bytes = c.in_ok-copy.ensures.items_if_clones_equal (λ x y is. is) in
     let change : Object → Object = λ o. record o { bytes = bytes } in
-    let fits : length copy.items < 2 ^ 32 = omega (arith, ap length same, small_by_check (length bytes) size) in
+    let fits : length copy.items < 2 ^ 32 = omega (arith, ap length same, small_enough room (length bytes) size) in
     let r = document_replaces stand reached.1 change (written_is_room room caller bytes path
     stand.lawful passed) file copy (ap (λ (b : List ℕ). record reached.1.object { bytes = b }) (sym same)) in
     replaced_plans caller (C.Write c.args.bytes.now path) c.in_ok-outcome.outcome (PutDoc loaded.id copy ∷ []) stand

@@ -2,8 +2,9 @@ use Rattle.std.proofs.Common.{◌≡◌, ◌<◌, ◌^◌, arith, ap, sym, ◌�
 use Rattle.room_records.specs.Room.{parent_of}
 use Rattle.room_commands.specs.Checks.{check_size}
 use Rattle.room_commands.specs.ReplyModel.{Size}
+use Rattle.room_commands.proofs.ChecksTell.{small_enough}
 use Rattle.room_records.proofs.Shelves.{read_then}
-use Rattle.room_tree.proofs.Checking.{none_passes, stop, small_by_check, limit_checks, new_checks}
+use Rattle.room_tree.proofs.Checking.{none_passes, stop, limit_checks, new_checks}
 use Rattle.room_tree.proofs.Made.{create_plans}
 use Rattle.room_tree.proofs.Stops.{handed_on, in_front, past_front, past_head}
 use Rattle.room_tree.proofs.InTurn.{both_tell}
@@ -49,7 +50,7 @@ returns-clause-effect g c = λ available laid_out t e room stand.
     let number = told.1.0 (parent_of path) reached.1 in
     let given = told.1.1 (parent_of path) reached.1 in
     let size : check_size (length c.args.bytes.now) ≡ None = sym c.in_ok-check_size.ensures in
-    let fits : length c.args.bytes.now < 2 ^ 32 = omega (arith, small_by_check (length c.args.bytes.now) size) in
+    let fits : length c.args.bytes.now < 2 ^ 32 = omega (arith, small_enough room (length c.args.bytes.now) size) in
     create_plans c.args.bytes.now
     c.in_ok-list.list c.in_ok-copy.copy _ stand c.in_ok-above.ensures.lawful reached.0 size reached.1
     number c.in_ok-node.ensures given
