@@ -1,14 +1,15 @@
 -- How many rows the changes of a command change.
 use Rattle.std.proofs.lemmas.Grind.{common_steps}
-use Rattle.std.proofs.Common.{◌≡◌, ℕ, arith, true, false}
-use Rattle.std.proofs.Common.{[], ◌∷◌, ◌++◌}
+use Rattle.std.proofs.Common.{◌≡◌, ℕ, arith, true, false, not, [], ◌∷◌, ◌++◌}
+use Rattle.std.proofs.lemmas.List.Sums.{count_by-le-length}
 use Rattle.std.specs.Prelude.{Vec}
 use Rattle.std.specs.declared.alloc.Global.{Global}
 use Rattle.room_acl.specs.Entries.{EntryModel}
-use Rattle.room_records.specs.declared.change.Change.TheVariants.{PutNode, DropNode, PutDoc, PutNext}
+use Rattle.room_records.specs.declared.change.Change.{Change}
+use Rattle.room_records.specs.declared.change.Change.TheVariants.{PutNode, PutDoc, PutNext}
 use Rattle.room_records.specs.declared.node.Node.{Node}
 use Rattle.room_records.specs.Records.{ObjectRecords}
-use Rattle.room_tree.specs.Renewals.{ChangesFewRows, puts_new}
+use Rattle.room_tree.specs.Renewals.{ChangesFewRows, puts_entries, puts_entries_of, puts_new}
 
 off : false ≡ true → ⊥
 off h = cc
@@ -23,28 +24,13 @@ few_none most t = record {
 }
 
 -- one change that puts no entries
-pub few_document : (t : ObjectRecords) (at : ℕ) (bytes : Vec ℕ Global) → ChangesFewRows 1 t (PutDoc at bytes ∷ [])
-few_document t at bytes = record {
-  once = λ id. omega arith;
-  needed = λ id puts same. absurd (off puts);
-  there = λ id puts. absurd (off puts);
-  others = omega arith;
-}
-
-pub few_row : (t : ObjectRecords) (node : Node) → ChangesFewRows 1 t (PutNode node ∷ [])
-few_row t node = record {
-  once = λ id. omega arith;
-  needed = λ id puts same. absurd (off puts);
-  there = λ id puts. absurd (off puts);
-  others = omega arith;
-}
-
-pub few_dropped : (t : ObjectRecords) (gone : ℕ) → ChangesFewRows 1 t (DropNode gone ∷ [])
-few_dropped t gone = record {
-  once = λ id. omega arith;
-  needed = λ id puts same. absurd (off puts);
-  there = λ id puts. absurd (off puts);
-  others = omega arith;
+pub few_one : (t : ObjectRecords) (change : Change)
+    → ((id : ℕ) → puts_entries_of id change ≡ false) → ChangesFewRows 1 t (change ∷ [])
+few_one t change none = record {
+  once = λ id. count_by-le-length (puts_entries_of id) (change ∷ []);
+  needed = λ id puts same. absurd (off (rw none at puts));
+  there = λ id puts. absurd (off (rw none at puts));
+  others = count_by-le-length (λ change. not (puts_entries change)) (change ∷ []);
 }
 
 module _ (t : ObjectRecords) (id : ℕ) (none : t.entries id ≡ []) (next : ℕ) (node : Node) (number : node.id ≡ id)

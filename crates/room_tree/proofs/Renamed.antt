@@ -1,7 +1,7 @@
 -- RENAME: its checks by what was read, and what it plans.
 use Rattle.std.proofs.lemmas.Grind.{common_steps}
-use Rattle.std.proofs.Common.{arith, ◌≡◌, ℕ, refl, ap, sym, ◌∙◌, Bool, true, false, not, ◌||◌, List, [], ◌∷◌, ◌++◌, map}
-use Rattle.std.proofs.Common.{drop, length, Option, None, Some, reverse}
+use Rattle.std.proofs.Common.{arith, ◌≡◌, refl, ap, sym, ◌∙◌, Bool, true, false, not, ◌||◌, [], ◌∷◌, ◌++◌, map}
+use Rattle.std.proofs.Common.{length, Option, None, Some, reverse}
 use Rattle.std.specs.Prelude.{Vec}
 use Rattle.std.specs.declared.alloc.Global.{Global}
 use Rattle.std.proofs.lemmas.Bool.{true_from_ne_false}
@@ -12,11 +12,10 @@ use Rattle.room_records.specs.declared.change.Change.TheVariants.{PutNode}
 use Rattle.room_records.specs.declared.node.Node.{Node}
 use Rattle.room_records.specs.Names.{Name, Path, IsPath, name_eq, path_eq}
 use Rattle.room_records.specs.Records.{ObjectRecords}
-use Rattle.room_records.specs.Rules.{ObjectRules}
-use Rattle.room_records.specs.Changes.{apply_to_objects, apply_all_to_objects, ObjectRulesHoldAfterEach}
+use Rattle.room_records.specs.Changes.{apply_all_to_objects}
 use Rattle.room_records.specs.Room.{Object, Room, object_at, list_of, list_under, parent_of}
 use Rattle.room_records.specs.Representation.{RepresentsRoom, HasPath}
-use Rattle.room_records.proofs.Paths.{reads_one, object_at_node}
+use Rattle.room_records.proofs.Paths.{reads_one}
 use Rattle.room_records.proofs.RoomsMap.{some_is, path_itself, other_path, parent_of_end}
 use Rattle.room_records.proofs.RoomsChildren.{name_itself, same_name}
 use Rattle.room_commands.specs.CommandModel as C
@@ -25,26 +24,24 @@ use Rattle.room_tree.specs.declared.loaded.LoadedObject.{LoadedObject}
 use Rattle.room_tree.specs.declared.moving.Move.{Move}
 use Rattle.room_commands.specs.declared.reply.RefusalCode.TheVariants.{Inval}
 use Rattle.room_commands.specs.Checks.{first_refusal, checks, refuse_if, is_root, is_at_or_below}
-use Rattle.room_commands.specs.Effect.{renamed, moved}
+use Rattle.room_commands.specs.Effect.{renamed}
 use Rattle.room_tree.specs.LoadedObjects.{IsLoaded, node_of}
 use Rattle.room_tree.specs.Plans.{PlansEffect}
 use Rattle.room_tree.specs.Renames.{IsMove}
-use Rattle.room_tree.specs.Renewals.{list_below, PutsList}
+use Rattle.room_tree.specs.Renewals.{PutsList}
 use Rattle.room_commands.specs.ReplyModel.{Done, reply_model}
 use Rattle.room_commands.proofs.ChecksTell.{absent_there, walk_ends_in_folder}
 use Rattle.room_commands.proofs.EffectIsRoom.{changed_is_room, not_root_ends, not_in_root}
-use Rattle.room_commands.proofs.RoomsRenamed.{rest_below}
-use Rattle.room_tree.proofs.ListsMoved.{list_of_stayed, list_of_moved, lists_of_moved}
+use Rattle.room_tree.proofs.ListsMoved.{list_of_moved}
 use Rattle.room_tree.proofs.Outcomes.{success_plans}
-use Rattle.room_tree.proofs.Renewed.{Puts, put, Relists, IsChangeOf, list_then, list_then_is, changes_list, puts_relist}
-use Rattle.room_tree.proofs.Renewed.{stored_at, nodes_stay, documents_stay, next_stays, relisted_at, relisted_off}
-use Rattle.room_tree.proofs.Renewed.{relisted_of_objects, relisted_rules, relisted_few}
+use Rattle.room_tree.proofs.Renewed.{put, IsChangeOf, list_then, list_then_is, changes_list, puts_relist}
+use Rattle.room_tree.proofs.Renewed.{stored_at}
+use Rattle.room_tree.proofs.Renewed.{relisted_of_objects, relisted_few}
 use Rattle.room_commands.proofs.Rights.{all_none}
 use Rattle.room_tree.proofs.RowsPut.{last_is_name}
-use Rattle.room_tree.proofs.RowsMoved.{MovesNode, MovesLists, moved_off, moved_rest, rules_moved, moved_represents}
+use Rattle.room_tree.proofs.RowsMoved.{node_moved, MovesNode, rules_after, moved_represents}
 use Rattle.room_tree.proofs.RowsMoved.{moved_keeps, none_new_moved}
 use Rattle.room_tree.proofs.RowsReplaced.{path_of_node}
-use Rattle.room_tree.proofs.StoredLists.{node_at_path, stored_list}
 
 -- a test that two names are other
 pub other_names : (a b : Name) (differ : Bool) → differ ≡ not (name_eq a b) → differ ≡ true → a ≡ b → ⊥
@@ -81,58 +78,12 @@ module _ {t : ObjectRecords} {room : Room} (stand : RepresentsRoom t room) {a b 
       other (reads_one t stand.rules (reverse a) here.id there.id
       is_here.is_there.at (rw same is_there.is_there.at)))
 
-module _ {t : ObjectRecords} {room : Room} (stand : RepresentsRoom t room) {path up : Path} {last : Name} {o : Object}
-    {node now : Node} {above : ℕ} (m : MovesNode t room path up last o node now above) {list : List EntryModel}
-    (is : list_of (renamed room path (up ++ last ∷ [])) (up ++ last ∷ []) ≡ list) {puts : Puts}
-    (r : Relists t room path list puts) where
-  abbrev to : Path
-  to = up ++ last ∷ []
-
-  abbrev first : ObjectRecords
-  first = apply_to_objects (PutNode now) t
-
-  abbrev rows : ObjectRecords
-  rows = apply_all_to_objects (PutNode now ∷ map put puts) t
-
-  -- each object has its list at the place where it is now
-  lists_after : (q : Path) (id : ℕ) → HasPath t q id
-      → rows.entries id ≡ list_of (renamed room path to) (moved path to q)
-  lists_after q id at = by_place (is_at_or_below q path) refl
-    where
-      by_place : (b : Bool) → is_at_or_below q path ≡ b
-          → rows.entries id ≡ list_of (renamed room path to) (moved path to q)
-      by_place true below =
-          let rest = drop (length path) q in
-          let split : q ≡ path ++ rest = rest_below path q below in
-          relisted_at stand r now rest id (rw (← split) (at)) ∙ ap (λ l. list_below room path l (reverse rest)) (sym is)
-          ∙ sym (lists_of_moved room stand.lawful path to o m.apart m.is_there.object_stands m.free rest)
-          ∙ ap (list_of (renamed room path to)) (sym (ap (moved path to) split ∙ moved_rest path to rest))
-      by_place false off =
-          let found = node_at_path stand q id at in
-          let other = object_at_node t room stand q id found.0 at found.1 in
-          relisted_off stand r now q id at off ∙ stored_list stand q id at
-          ∙ sym (list_of_stayed room stand.lawful path to o m.apart
-          m.is_there.object_stands m.free q other.0 other.1 off)
-          ∙ ap (list_of (renamed room path to)) (sym (moved_off q path to off))
-
-  pub rules_after : ObjectRulesHoldAfterEach (PutNode now ∷ map put puts) t × ObjectRules rows
-  rules_after = relisted_rules stand r now (rules_moved stand m)
-
-  pub moves_lists : MovesLists t rows now room path to
-  moves_lists = record {
-    nodes = nodes_stay puts first;
-    documents = documents_stay puts first;
-    next = next_stays puts first;
-    rules = rules_after.1;
-    lists = lists_after;
-  }
-
 -- the row that is planned leads to the room with the subtree moved
 pub rename_plans : {t : ObjectRecords} {room : Room} (caller : SubjectModel) {path to : Path} {move : Move}
     (now : Node) (outcome : Outcome) → RepresentsRoom t room → IsPath path → IsPath to
     → first_refusal (checks room caller (C.Rename path to)) ≡ None → IsMove t room path to move
-    → ((folder : Path) (name : Name) → to ≡ folder ++ name ∷ [] → now
-    ≡ record (node_of move.loaded) { parent = Some move.into.id; name = Some name })
+    → ((folder : Path) (name : Name) → to ≡ folder ++ name ∷ []
+    → now ≡ node_moved (node_of move.loaded) move.into.id name)
     → (new : Option (Vec EntryModel Global))
     → IsChangeOf (t.entries move.loaded.id) (list_under (object_at room path) (t.entries move.into.id)) new
     → (HasPath t path now.id → t.node now.id ≡ Some (node_of move.loaded) → (node_of move.loaded).kind ≡ now.kind
@@ -145,16 +96,14 @@ rename_plans {t} {room} caller {path} {to} {move} now outcome stand is_path is_t
     let pass = paths_pass path to a.0 in
     let last = not_root_ends to pass.to_below_root in
     let in_folder : parent_of to ≡ last.folder = ap parent_of last.is ∙ parent_of_end last.folder last.name in
-    let is = row last.folder last.name last.is in
     let lawful = changed_is_room room caller command (is_path, is_to) stand.lawful passed in
     let above = walk_ends_in_folder room caller last.folder last.name (rw (← last.is) a.1.1.1.0) in
     let into = found.into.is_there in
     let same : found.into.object ≡ above.0 =
     some_is found.into.object above.0 (sym into.object_stands ∙ ap (object_at room) in_folder ∙ above.1) in
-    let m : MovesNode t room path last.folder last.name found.loaded.object (node_of move.loaded) now move.into.id =
+    let m : MovesNode t room path last.folder last.name found.loaded.object (node_of move.loaded) move.into.id =
     record {
       is_there = found.loaded.is_there;
-      end = not_root_ends path pass.below_root;
       off_root = not_in_root path pass.below_root;
       apart = ap (λ p. is_at_or_below p path) (sym last.is) ∙ pass.apart;
       free = ap (object_at room) (sym last.is) ∙ absent_there room to a.1.1.1.1.0;
@@ -163,30 +112,24 @@ rename_plans {t} {room} caller {path} {to} {move} now outcome stand is_path is_t
       parent_stands = into.node_stands;
       parent_folder = into.shows.kind ∙ ap (λ (o : Object). o.kind) same ∙ above.2;
       named = last_is_name last.folder last.name (rw last.is at is_to).names;
-      id = ap (λ (n : Node). n.id) is;
-      inside = ap (λ (n : Node). n.parent) is;
-      name = ap (λ (n : Node). n.name) is;
-      kind = ap (λ (n : Node). n.kind) is;
-      owner = ap (λ (n : Node). n.owner) is;
-      group = ap (λ (n : Node). n.group) is;
-      aclflag = ap (λ (n : Node). n.aclflag) is;
       lawful = rw (← last.is) lawful;
     } in
     plan_by last.folder last.name last.is m
   where
     plan_by : (up : Path) (name : Name) → to ≡ up ++ name ∷ []
-        → MovesNode t room path up name found.loaded.object (node_of move.loaded) now move.into.id
+        → MovesNode t room path up name found.loaded.object (node_of move.loaded) move.into.id
         → PlansEffect t room caller (C.Rename path to) outcome
     plan_by up name is m =
         let target : Path = up ++ name ∷ [] in
         let o = found.loaded.object in
         let node = node_of move.loaded in
         let loaded = move.loaded in
+        let after = node_moved node move.into.id name in
         let there = found.loaded.is_there in
         let given = list_under (object_at room path) (t.entries move.into.id) in
-        let puts = planned (rw m.id there.at) (ap t.node m.id ∙ there.node_stands) (sym m.kind) in
+        let puts = (rw (row up name is) at planned) there.at there.node_stands refl in
         let changed = changes_list t loaded.id (t.entries loaded.id) given refl new changes in
-        let what = puts_relist stand path loaded.id there.at now m.id new changed outcome.changes.items puts in
+        let what = puts_relist stand path loaded.id there.at after refl new changed outcome.changes.items puts in
         let list = list_then t loaded.id new in
         let in_folder : parent_of to ≡ up = ap parent_of is ∙ parent_of_end up name in
         let handed : t.entries move.into.id ≡ list_of room up = stored_at found.into ∙ ap (list_of room) in_folder in
@@ -197,10 +140,10 @@ rename_plans {t} {room} caller {path} {to} {move} now outcome stand is_path is_t
         ∙ ap (λ found. list_under found (t.entries move.into.id)) (sym there.object_stands) in
         let list_is : list_of (renamed room path target) target ≡ list =
         as_moved ∙ sym (list_then_is t loaded.id (t.entries loaded.id) given refl new changes) in
-        let later = apply_all_to_objects (PutNode now ∷ map put what.0) t in
-        let w = moves_lists stand m list_is what.2 in
-        success_plans caller (C.Rename path to) outcome stand (PutNode now ∷ map put what.0) passed replied what.1
-        (relisted_of_objects stand what.2 now) (rules_after stand m list_is what.2).0 (relisted_few stand what.2 now)
-        (rw is (moved_represents stand m w)) (λ q id at stands there.
-        (rw (← is) at (moved_keeps stand m w)) q id at) (λ id absent present.
-        absurd (none_new_moved stand m w id absent present))
+        let later = apply_all_to_objects (PutNode after ∷ map put what.0) t in
+        success_plans caller (C.Rename path to) outcome stand (PutNode after ∷ map put what.0) passed replied what.1
+        (relisted_of_objects stand what.2 after) (rules_after stand m list_is what.2).0
+        (relisted_few stand what.2 after)
+        (rw is (moved_represents stand m list_is what.2)) (λ q id at stands there.
+        (rw (← is) at (moved_keeps stand m list_is what.2)) q id at) (λ id absent present.
+        absurd (none_new_moved stand m list_is what.2 id absent present))

@@ -1,28 +1,34 @@
 -- Rows where one node has another folder and name stand for the room with its subtree moved.
 use Rattle.std.proofs.lemmas.Grind.{common_steps}
 use Rattle.std.proofs.Common.{◌≡◌, ◌≢◌, ℕ, refl, ap, sym, ◌∙◌, arith, Bool, true, false, cond, ◌⊎◌, inl}
-use Rattle.std.proofs.Common.{inr, List, [], ◌∷◌, ◌++◌, reverse, length, drop, append_assoc, append-nil}
+use Rattle.std.proofs.Common.{inr, List, [], ◌∷◌, ◌++◌, map, reverse, length, drop, append_assoc, append-nil}
 use Rattle.std.proofs.Common.{Option, None, Some, IsSome, IsNone, unwrap_or}
 use Rattle.std.proofs.lemmas.List.{reverse-append, reverse-reverse, drop-append-le, drop_all, same_from_push}
 use Rattle.room_acl.specs.declared.subject.Kind.TheVariants.{Folder}
+use Rattle.room_acl.specs.Entries.{EntryModel}
 use Rattle.room_records.specs.declared.node.Node.{Node}
 use Rattle.room_records.specs.declared.change.Change.TheVariants.{PutNode}
 use Rattle.room_records.specs.Names.{Name, Path, IsFileName}
 use Rattle.room_records.specs.Records.{ObjectRecords}
 use Rattle.room_records.specs.Rules.{ObjectRules}
-use Rattle.room_records.specs.Changes.{apply_to_objects}
+use Rattle.room_records.specs.Changes.{apply_to_objects, apply_all_to_objects, ObjectRulesHoldAfterEach}
 use Rattle.room_records.specs.Room.{Object, Room, IsRoom, object_at, list_of}
 use Rattle.room_records.specs.Representation.{RepresentsRoom, NodeIsObject, HasPath, NamesUpwards}
-use Rattle.room_records.proofs.Paths.{reads_one}
-use Rattle.room_records.proofs.RoomsMap.{some_is, Ends, ends}
+use Rattle.room_records.proofs.Paths.{reads_one, object_at_node}
+use Rattle.room_records.proofs.RoomsMap.{some_is, ends}
 use Rattle.room_records.proofs.RulesKept.{same_or_other, if_same, if_other, shape_itself, names_by_shape}
 use Rattle.room_commands.specs.Checks.{is_at_or_below}
 use Rattle.room_commands.specs.Effect.{renamed, moved}
 use Rattle.room_commands.proofs.Renaming.{at_behind}
 use Rattle.room_commands.proofs.RoomsRenamed.{rest_below, not_both, at_moved, Stands, Moved}
 use Rattle.room_commands.proofs.RoomsRenamed.{Stayed, stands_after}
+use Rattle.room_tree.specs.Renewals.{list_below}
+use Rattle.room_tree.proofs.ListsMoved.{list_of_stayed, lists_of_moved}
+use Rattle.room_tree.proofs.Renewed.{Puts, put, Relists, nodes_stay, documents_stay, next_stays, relisted_at}
+use Rattle.room_tree.proofs.Renewed.{relisted_off, relisted_rules}
 use Rattle.room_tree.proofs.RowsPut.{rules_put_free, no_child}
 use Rattle.room_tree.proofs.RowsReplaced.{path_of_node, still_shows}
+use Rattle.room_tree.proofs.StoredLists.{is_present, node_at_path, stored_list}
 
 -- an object below a path, but not at it, has its folder there too
 below_parent : (q path : Path) (name : Name) → is_at_or_below (q ++ name ∷ []) path ≡ true
@@ -58,11 +64,13 @@ moved_top path to =
 pub moved_rest : (path to rest : Path) → moved path to (path ++ rest) ≡ to ++ rest
 moved_rest path to rest = grind (arith, common_steps, at_behind, drop-append-le, drop_all)
 
--- one node with another folder and name
+-- a node with another folder and name
+abbrev pub node_moved : Node → ℕ → Name → Node
+node_moved node above last = record node { parent = Some above; name = Some last }
+
 pub record MovesNode (t : ObjectRecords) (room : Room) (path up : Path)
-    (last : Name) (o : Object) (node now : Node) (above : ℕ) : Type 0 where
+    (last : Name) (o : Object) (node : Node) (above : ℕ) : Type 0 where
   pub is_there : NodeIsObject t room node.id node path o
-  pub end : Ends path
   pub off_root : is_at_or_below [] path ≡ false
   pub apart : is_at_or_below (up ++ last ∷ []) path ≡ false
   pub free : object_at room (up ++ last ∷ []) ≡ None
@@ -71,36 +79,24 @@ pub record MovesNode (t : ObjectRecords) (room : Room) (path up : Path)
   pub parent_stands : t.node above ≡ Some parent
   pub parent_folder : parent.kind ≡ Folder
   pub named : IsFileName last
-  pub id : now.id ≡ node.id
-  pub inside : now.parent ≡ Some above
-  pub name : now.name ≡ Some last
-  pub kind : now.kind ≡ node.kind
-  pub owner : now.owner ≡ node.owner
-  pub group : now.group ≡ node.group
-  pub aclflag : now.aclflag ≡ node.aclflag
   pub lawful : IsRoom (renamed room path (up ++ last ∷ []))
 
--- the rows after it, where each list is that of the room after
-pub record MovesLists (t rows : ObjectRecords) (now : Node) (room : Room) (path to : Path) : Type 0 where
-  pub nodes : rows.node ≡ (apply_to_objects (PutNode now) t).node
-  pub documents : rows.document ≡ t.document
-  pub next : rows.next ≡ t.next
-  pub rules : ObjectRules rows
-  pub lists : (q : Path) (id : ℕ) → HasPath t q id → rows.entries id ≡ list_of (renamed room path to) (moved path to q)
-
 module _ {t : ObjectRecords} {room : Room} (stand : RepresentsRoom t room) {path up : Path} {last : Name} {o : Object}
-    {node now : Node} {above : ℕ} (m : MovesNode t room path up last o node now above) where
+    {node : Node} {above : ℕ} (m : MovesNode t room path up last o node above) where
   abbrev to : Path
   to = up ++ last ∷ []
+
+  abbrev now : Node
+  now = node_moved node above last
 
   abbrev later : ObjectRecords
   later = apply_to_objects (PutNode now) t
 
-  put : (id : ℕ) → id ≡ node.id → later.node id ≡ Some now
-  put id same = if_same id now.id (Some now) (t.node id) (same ∙ sym m.id)
+  here : (id : ℕ) → id ≡ node.id → later.node id ≡ Some now
+  here id same = if_same id node.id (Some now) (t.node id) same
 
   away : (id : ℕ) → id ≢ node.id → later.node id ≡ t.node id
-  away id other = if_other id now.id (Some now) (t.node id) (λ same. other (same ∙ m.id))
+  away id other = if_other id node.id (Some now) (t.node id) other
 
   off_by : (q : Path) (name : Name) → is_at_or_below (q ++ name ∷ []) path ≡ false → is_at_or_below q path ≡ false
   off_by q name off = grind (arith, common_steps)
@@ -138,9 +134,9 @@ module _ {t : ObjectRecords} {room : Room} (stand : RepresentsRoom t room) {path
       rw (reverse-append up (last ∷ [])) (
         now,
         above,
-        put node.id refl,
-        m.name,
-        m.inside,
+        here node.id refl,
+        refl,
+        refl,
         names_off (reverse up) above m.up_at (rw (reverse-reverse up) (off_by up last m.apart)),
       )
 
@@ -177,7 +173,8 @@ module _ {t : ObjectRecords} {room : Room} (stand : RepresentsRoom t room) {path
   keeps_place q id at = rw (← reverse-reverse q) (names_moved (reverse q) id at)
 
   not_first : node.id ≢ 1
-  not_first = grind (arith, common_steps)
+  not_first same = not_both (is_at_or_below [] path) (ap (λ p. is_at_or_below [] p)
+      (path_of_node t stand.rules path [] node.id m.is_there.at same)) m.off_root
 
   back : (id : ℕ) (found : Node) → later.node id ≡ Some found
       → ((id ≡ node.id) × (now ≡ found)) ⊎ ((id ≢ node.id) × (t.node id ≡ Some found))
@@ -187,33 +184,63 @@ module _ {t : ObjectRecords} {room : Room} (stand : RepresentsRoom t room) {path
   rules_moved =
       let old = stand.rules.numbered node.id node m.is_there.node_stands in
       rules_put_free stand.rules (record {
-        off_root = λ same. not_first (sym m.id ∙ same);
-        positive = omega (arith, m.id, old.1);
-        below = omega (arith, m.id, old.2);
+        off_root = not_first;
+        positive = old.1;
+        below = old.2;
         parent = m.parent;
         stands = m.parent_stands;
         folder = m.parent_folder;
-        inside = m.inside;
-        named = m.name;
+        inside = refl;
+        named = refl;
         lawful = m.named;
         alone = no_child stand up last above m.up_at m.free;
-        kind = λ before stands. m.kind ∙ ap (λ (n : Node). n.kind)
-            (some_is node before (sym m.is_there.node_stands ∙ ap t.node (sym m.id) ∙ stands));
+        kind = λ before stands.
+            ap (λ (n : Node). n.kind) (some_is node before (sym m.is_there.node_stands ∙ stands));
       })
 
   old_node : (id : ℕ) (found : Node) → later.node id ≡ Some found → (before : Node) × (t.node id ≡ Some before)
   old_node id found stands = elim (back id found stands)
       [ inl new ↦ (node, ap t.node new.0 ∙ m.is_there.node_stands) | inr old ↦ (found, old.1) ]
 
-  -- with other entries, where each is the list of its object in the room after
-  module _ {rows : ObjectRecords} (w : MovesLists t rows now room path to) where
+  -- with the lists that change for it
+  module _ {list : List EntryModel} (is : list_of (renamed room path to) to ≡ list) {puts : Puts}
+      (r : Relists t room path list puts) where
+    abbrev rows : ObjectRecords
+    rows = apply_all_to_objects (PutNode now ∷ map put puts) t
+
+    -- each object has its list at the place where it is now
+    lists_after : (q : Path) (id : ℕ) → HasPath t q id
+        → rows.entries id ≡ list_of (renamed room path to) (moved path to q)
+    lists_after q id at = by_place (is_at_or_below q path) refl
+      where
+        by_place : (b : Bool) → is_at_or_below q path ≡ b
+            → rows.entries id ≡ list_of (renamed room path to) (moved path to q)
+        by_place true below =
+            let rest = drop (length path) q in
+            let split : q ≡ path ++ rest = rest_below path q below in
+            relisted_at stand r now rest id (rw (← split) (at))
+            ∙ ap (λ l. list_below room path l (reverse rest)) (sym is)
+            ∙ sym (lists_of_moved room stand.lawful path to o m.apart m.is_there.object_stands m.free rest)
+            ∙ ap (list_of (renamed room path to)) (sym (ap (moved path to) split ∙ moved_rest path to rest))
+        by_place false off =
+            let found = node_at_path stand q id at in
+            let other = object_at_node t room stand q id found.0 at found.1 in
+            relisted_off stand r now q id at off ∙ stored_list stand q id at
+            ∙ sym (list_of_stayed room stand.lawful path to o m.apart
+            m.is_there.object_stands m.free q other.0 other.1 off)
+            ∙ ap (list_of (renamed room path to)) (sym (moved_off q path to off))
+
+    pub rules_after : ObjectRulesHoldAfterEach (PutNode now ∷ map put puts) t × ObjectRules rows
+    rules_after = relisted_rules stand r now rules_moved
+
     row_after : (id : ℕ) → rows.node id ≡ later.node id
-    row_after id = ap (λ (f : ℕ → Option Node). f id) w.nodes
+    row_after id = ap (λ (f : ℕ → Option Node). f id) (nodes_stay puts later)
 
     -- numbers are kept
     pub moved_keeps : (q : Path) (id : ℕ) → HasPath t q id → HasPath rows (moved path to q) id
     moved_keeps q id at =
-        names_by_shape later rows (shape_itself later rows w.nodes) (reverse (moved path to q)) id (keeps_place q id at)
+        names_by_shape later rows (shape_itself later rows (nodes_stay puts later))
+        (reverse (moved path to q)) id (keeps_place q id at)
 
     -- what a node shows moves with it
     moved_is : (id : ℕ) (found : Node) (q : Path) (p : Object) → NodeIsObject t room id found q p
@@ -225,16 +252,16 @@ module _ {t : ObjectRecords} {room : Room} (stand : RepresentsRoom t room) {path
             now,
             record {
               at = moved_keeps q id is.at;
-              node_stands = row_after id ∙ put id same;
+              node_stands = row_after id ∙ here id same;
               object_stands = stands_there;
               shows = record {
-                kind = m.kind ∙ ap (λ (n : Node). n.kind) same_node ∙ is.shows.kind;
-                owner = m.owner ∙ ap (λ (n : Node). n.owner) same_node ∙ is.shows.owner;
-                group = m.group ∙ ap (λ (n : Node). n.group) same_node ∙ is.shows.group;
-                aclflag = m.aclflag ∙ ap (λ (n : Node). n.aclflag) same_node ∙ is.shows.aclflag;
-                entries = ap rows.entries (m.id ∙ sym same) ∙ w.lists q id is.at;
-                bytes = ap (λ (f : ℕ → Option (List ℕ)). unwrap_or (f now.id) []) w.documents
-                    ∙ ap (λ k. unwrap_or (t.document k) []) (m.id ∙ ap (λ (n : Node). n.id) same_node) ∙ is.shows.bytes;
+                kind = ap (λ (n : Node). n.kind) same_node ∙ is.shows.kind;
+                owner = ap (λ (n : Node). n.owner) same_node ∙ is.shows.owner;
+                group = ap (λ (n : Node). n.group) same_node ∙ is.shows.group;
+                aclflag = ap (λ (n : Node). n.aclflag) same_node ∙ is.shows.aclflag;
+                entries = ap rows.entries (sym same) ∙ lists_after q id is.at;
+                bytes = ap (λ (f : ℕ → Option (List ℕ)). unwrap_or (f node.id) []) (documents_stay puts later)
+                    ∙ ap (λ (n : Node). unwrap_or (t.document n.id) []) same_node ∙ is.shows.bytes;
               };
             },
           )
@@ -245,8 +272,8 @@ module _ {t : ObjectRecords} {room : Room} (stand : RepresentsRoom t room) {path
           node_stands = row_after id ∙ away id other ∙ is.node_stands;
           object_stands = stands_there;
           shows = still_shows is.shows
-              (ap rows.entries (stand.rules.numbered id found is.node_stands).0 ∙ w.lists q id is.at)
-              (ap (λ (f : ℕ → Option (List ℕ)). f found.id) w.documents);
+              (ap rows.entries (stand.rules.numbered id found is.node_stands).0 ∙ lists_after q id is.at)
+              (ap (λ (f : ℕ → Option (List ℕ)). f found.id) (documents_stay puts later));
         },
       )
     ]
@@ -262,7 +289,7 @@ module _ {t : ObjectRecords} {room : Room} (stand : RepresentsRoom t room) {path
 
     pub moved_represents : RepresentsRoom rows (renamed room path to)
     moved_represents = record {
-      rules = w.rules;
+      rules = rules_after.1;
       lawful = m.lawful;
       nodes = λ id found stands.
           let before = old_node id found (sym (row_after id) ∙ stands) in
@@ -271,7 +298,7 @@ module _ {t : ObjectRecords} {room : Room} (stand : RepresentsRoom t room) {path
           (moved path to was.0, was.1, rw (same_row id after.0 found after.1.node_stands stands) at after.1);
       objects = λ q p stands. by_stand q p
           (stands_after room stand.lawful path to o m.apart m.is_there.object_stands m.free q p stands);
-      next = w.next ∙ stand.next;
+      next = next_stays puts later ∙ stand.next;
     }
       where
         there : (q : Path) (p : Object) → object_at room q ≡ Some p → Found (moved path to q) p
@@ -287,4 +314,6 @@ module _ {t : ObjectRecords} {room : Room} (stand : RepresentsRoom t room) {path
         by_stand q p (Stayed _ _ off off_to stands) = rw (← moved_off q path to off) (there q p stands)
 
     pub none_new_moved : (id : ℕ) → IsNone (t.node id) → IsSome (rows.node id) → ⊥
-    none_new_moved id none some = grind (arith, common_steps)
+    none_new_moved id none some =
+        let found = is_present (rows.node id) some in
+        let f = rw (old_node id found.0 (sym (row_after id) ∙ found.1)).1 at none in cc

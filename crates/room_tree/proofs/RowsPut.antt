@@ -1,6 +1,6 @@
 -- A row put where its place is free.
 use Rattle.std.proofs.lemmas.Grind.{common_steps}
-use Rattle.std.proofs.Common.{◌≡◌, ◌≢◌, ℕ, ◌<◌, ◌≤◌, refl, ap, sym, ◌∙◌, arith, ◌⊎◌, inl, inr, List, []}
+use Rattle.std.proofs.Common.{◌≡◌, ◌≢◌, ℕ, ◌<◌, ◌≤◌, refl, ap, sym, ◌∙◌, arith, ◌⊎◌, inl, inr, []}
 use Rattle.std.proofs.Common.{◌∷◌, ◌++◌, None, Some}
 use Rattle.std.specs.List.{AllByRecursion}
 use Rattle.room_acl.specs.declared.subject.Kind.TheVariants.{Folder}
@@ -31,8 +31,8 @@ pub record IsFree (t : ObjectRecords) (node : Node) (above : ℕ) (name : Name) 
   pub kind : (before : Node) → t.node node.id ≡ Some before → node.kind ≡ before.kind
 
 -- where no object is, no row of the folder has the name
-pub no_child : {t : ObjectRecords} {room : Room} (stand : RepresentsRoom t room) (folder : Path) (name : Name) (above : ℕ)
-    → HasPath t folder above → object_at room (folder ++ name ∷ []) ≡ None
+pub no_child : {t : ObjectRecords} {room : Room} → RepresentsRoom t room
+    → (folder : Path) (name : Name) (above : ℕ) → HasPath t folder above → object_at room (folder ++ name ∷ []) ≡ None
     → (other : Node) → IsChild t above other → other.name ≡ Some name → ⊥
 no_child {t} {room} stand folder name above at free other child named =
     let there = object_at_node t room stand (folder ++ name ∷ []) other.id other

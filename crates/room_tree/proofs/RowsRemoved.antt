@@ -26,7 +26,7 @@ use Rattle.room_tree.specs.LoadedObjects.{IsLoaded, node_of}
 use Rattle.room_tree.specs.Plans.{PlansEffect}
 use Rattle.room_commands.specs.ReplyModel.{Done, reply_model}
 use Rattle.room_acl.specs.SubjectModel.{SubjectModel}
-use Rattle.room_tree.proofs.FewRows.{few_dropped}
+use Rattle.room_tree.proofs.FewRows.{few_one}
 use Rattle.room_commands.proofs.EffectIsRoom.{changed_is_room, not_root_ends}
 use Rattle.room_tree.proofs.Outcomes.{success_plans, none_and_some}
 use Rattle.room_commands.proofs.RoomsWithout.{at_removed, elsewhere_left, left_was_there}
@@ -178,7 +178,8 @@ remove_plans {t} {room} caller {path} {loaded} outcome stand found passed root_o
     let lawful = changed_is_room room caller (C.Remove path) is_path stand.lawful passed in
     let node = node_of loaded in
     success_plans caller (C.Remove path) outcome stand (DropNode loaded.id ∷ []) passed replied planned (tt, tt)
-    (rules_dropped stand found.is_there end empty lawful, tt) (few_dropped t loaded.id)
+    (rules_dropped stand found.is_there end empty lawful, tt)
+    (few_one t (DropNode loaded.id) (λ k. refl))
     (removed stand found.is_there end empty lawful)
     (λ q k at stands there. removed_keeps stand found.is_there end empty lawful q k at there)
     (λ k absent present. absurd (none_made stand found.is_there end empty lawful k absent present))

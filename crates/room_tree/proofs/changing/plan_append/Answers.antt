@@ -8,7 +8,7 @@ use Rattle.room_commands.specs.ReplyModel.{Size}
 use Rattle.room_commands.proofs.ChecksTell.{small_enough}
 use Rattle.room_tree.proofs.Checking.{none_passes, first_alone, bytes_there, file_checks}
 use Rattle.room_tree.proofs.Changed.{is_document, replaced_plans, document_replaces}
-use Rattle.room_tree.proofs.FewRows.{few_document}
+use Rattle.room_tree.proofs.FewRows.{few_one}
 use Rattle.room_commands.proofs.EffectIsRoom.{appended_is_room}
 use Rattle.room_commands.proofs.Rights.{all_none}
 use Rattle.room_tree.proofs.Stops.{handed_on, stopped_by, at_head, in_front, past_front}
@@ -67,4 +67,4 @@ returns-clause-effect g c = λ available laid_out t e room stand.
     replaced_plans caller (C.Append c.args.bytes.now path) c.in_ok-outcome.outcome (PutDoc loaded.id all_bytes
     ∷ []) stand
     r passed (c.in_ok-outcome.ensures.reply fits ∙ ap Size long) c.in_ok-outcome.ensures.changes
-    (tt, tt) (r.rules, tt) (few_document t loaded.id all_bytes) (λ q. refl)
+    (tt, tt) (r.rules, tt) (few_one t (PutDoc loaded.id all_bytes) (λ id. refl)) (λ q. refl)

@@ -5,7 +5,7 @@ use Rattle.room_records.specs.Room.{Object}
 use Rattle.room_commands.specs.CommandModel as C
 use Rattle.room_commands.specs.ReplyModel.{reply_model}
 use Rattle.room_tree.proofs.Changed.{replaced_plans, row_replaces}
-use Rattle.room_tree.proofs.FewRows.{few_row}
+use Rattle.room_tree.proofs.FewRows.{few_one}
 use Rattle.room_commands.proofs.EffectIsRoom.{chown_is_room}
 use Rattle.room_tree.proofs.Stops.{handed_on}
 use Rattle.room_tree.proofs.changing.plan_chown.Goals as goal
@@ -37,4 +37,4 @@ returns-clause-effect g c = λ available laid_out t e room stand.
     replaced_plans caller (C.Chown c.args.group.now c.args.owner.now path) c.in_ok-outcome.outcome
     (PutNode node ∷ []) stand
     r reached.0 (ap reply_model c.in_ok-outcome.ensures.reply) c.in_ok-outcome.ensures.changes
-    (tt, tt) (r.rules, tt) (few_row t node) (λ q. refl)
+    (tt, tt) (r.rules, tt) (few_one t (PutNode node) (λ k. refl)) (λ q. refl)

@@ -7,7 +7,7 @@ use Rattle.room_commands.specs.ReplyModel.{Size}
 use Rattle.room_commands.proofs.ChecksTell.{small_enough}
 use Rattle.room_tree.proofs.Checking.{none_passes, first_alone, file_checks}
 use Rattle.room_tree.proofs.Changed.{is_document, replaced_plans, document_replaces}
-use Rattle.room_tree.proofs.FewRows.{few_document}
+use Rattle.room_tree.proofs.FewRows.{few_one}
 use Rattle.room_commands.proofs.EffectIsRoom.{written_is_room}
 use Rattle.room_commands.proofs.Rights.{all_none}
 use Rattle.room_tree.proofs.Stops.{handed_on, in_front}
@@ -48,4 +48,4 @@ returns-clause-effect g c = λ available laid_out t e room stand.
     replaced_plans caller (C.Write c.args.bytes.now path) c.in_ok-outcome.outcome (PutDoc loaded.id copy ∷ []) stand
     r passed (c.in_ok-outcome.ensures.reply fits ∙ ap (λ (b : List ℕ). Size (length b)) same)
     c.in_ok-outcome.ensures.changes
-    (tt, tt) (r.rules, tt) (few_document t loaded.id copy) (λ q. refl)
+    (tt, tt) (r.rules, tt) (few_one t (PutDoc loaded.id copy) (λ id. refl)) (λ q. refl)
