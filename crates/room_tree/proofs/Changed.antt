@@ -1,7 +1,6 @@
 -- One object changed where it stands: what is planned is the effect.
-use Rattle.std.proofs.lemmas.Grind.{common_steps}
-use Rattle.std.proofs.Common.{arith, ◌≡◌, ℕ, refl, ap, sym, ◌∙◌, inl, inr, List, [], Option, None, Some}
-use Rattle.std.proofs.Common.{IsSome, IsNone, unwrap_or}
+use Rattle.std.proofs.Common.{◌≡◌, ℕ, refl, ap, sym, ◌∙◌, inl, inr, List, [], Option, None, Some}
+use Rattle.std.proofs.Common.{unwrap_or, reverse}
 use Rattle.std.specs.Prelude.{Vec}
 use Rattle.std.specs.declared.alloc.Global.{Global}
 use Rattle.std.specs.List.{AllByRecursion}
@@ -16,7 +15,7 @@ use Rattle.room_records.specs.Records.{ObjectRecords}
 use Rattle.room_records.specs.Changes.{apply_to_objects, apply_all_to_objects, IsOfObjects, ObjectRulesHoldAfterEach}
 use Rattle.room_records.specs.Room.{Object, Room, IsRoom, object_at, list_of}
 use Rattle.room_records.specs.Representation.{RepresentsRoom}
-use Rattle.room_records.proofs.RulesKept.{if_same, if_other, SamePlace, SameShape, shape_itself, shape_put}
+use Rattle.room_records.proofs.RulesKept.{if_same, if_other, SamePlace, shape_itself, shape_put, names_by_shape}
 use Rattle.room_records.proofs.RulesKept.{rules_put, rules_put_doc}
 use Rattle.room_commands.specs.CommandModel.{CommandModel}
 use Rattle.room_tree.specs.declared.loaded.LoadedObject.{LoadedObject}
@@ -32,11 +31,8 @@ use Rattle.room_tree.proofs.Checking.{file_check, there}
 use Rattle.room_tree.proofs.Outcomes.{success_plans}
 use Rattle.room_commands.proofs.RoomsNew.{same_or_other_path}
 use Rattle.room_commands.proofs.RoomsObject.{elsewhere_unchanged}
-use Rattle.room_tree.proofs.RowsReplaced.{Replaces, replaced, replaced_keeps, changed_at}
+use Rattle.room_tree.proofs.RowsReplaced.{Replaces, replaced, none_new, changed_at, stood_there}
 use Rattle.room_tree.proofs.StoredLists.{stored_list, list_part, lists_alike, same_parts}
-
-none_new : (t later : ObjectRecords) → SameShape t later → (id : ℕ) → IsNone (t.node id) → IsSome (later.node id) → ⊥
-none_new t later shape id absent present = grind (arith, common_steps)
 
 file_by_kind : (kind : Kind) (o : Object)
     → refuse_if (is_kind Folder (Some (record o { kind = kind }))) IsDir ≡ None → kind ≡ File
@@ -52,7 +48,7 @@ is_document {loaded} found passed = file_by_kind loaded.kind found.object (sym (
 pub replaced_plans : {t : ObjectRecords} {room : Room} (caller : SubjectModel) (command : CommandModel)
     (outcome : Outcome) (changes : List Change) {path : Path} {o now_is : Object} {node now : Node}
     → RepresentsRoom t room → Replaces t (apply_all_to_objects changes t) room
-    (changed room caller command) path o now_is node now → first_refusal (checks room caller command) ≡ None
+    (changed room caller command) (λ q. q) path o now_is node now → first_refusal (checks room caller command) ≡ None
     → reply_model outcome.reply ≡ reply room caller command → outcome.changes.items ≡ changes
     → AllByRecursion IsOfObjects changes → ObjectRulesHoldAfterEach changes t
     → ChangesFewRows (most_rows command) t changes
@@ -60,9 +56,8 @@ pub replaced_plans : {t : ObjectRecords} {room : Room} (caller : SubjectModel) (
 replaced_plans {t} caller command outcome changes stand r passed replied planned of_objects rules few stays =
     let later = apply_all_to_objects changes t in
     success_plans caller command outcome stand changes passed replied planned of_objects rules few (replaced stand r)
-    (λ q id at stands there.
-    rw (stays q) (replaced_keeps stand r q id at))
-    (λ id absent present. absurd (none_new t later r.shape id absent present))
+    (λ q id at stands there. rw (stays q) (r.keeps q id at))
+    (λ id absent present. absurd (none_new stand r id absent present))
 
 module _ {t : ObjectRecords} {room : Room} (stand : RepresentsRoom t room) {path : Path} {loaded : LoadedObject}
     (found : IsLoaded t room path loaded) (change : Object → Object)
@@ -89,7 +84,7 @@ module _ {t : ObjectRecords} {room : Room} (stand : RepresentsRoom t room) {path
   -- its document
   pub document_replaces : (file : loaded.kind ≡ File) (bytes : Vec ℕ Global)
       → change found.object ≡ record found.object { bytes = bytes.items }
-      → Replaces t (apply_to_objects (PutDoc loaded.id bytes) t) room (with_object room path change)
+      → Replaces t (apply_to_objects (PutDoc loaded.id bytes) t) room (with_object room path change) (λ q. q)
       path found.object (change found.object) (node_of loaded) (node_of loaded)
   document_replaces file bytes becomes =
       let later = apply_to_objects (PutDoc loaded.id bytes) t in
@@ -98,7 +93,7 @@ module _ {t : ObjectRecords} {room : Room} (stand : RepresentsRoom t room) {path
       let stays = lists_stay (ap (λ (o : Object). o.own) becomes) flags (ap (λ (o : Object). o.kind) becomes) in
       record {
         is_there = found.is_there;
-        shape = shape_itself t later refl;
+        keeps = λ q. names_by_shape t later (shape_itself t later refl) (reverse q);
         rules = rules_put_doc t stand.rules loaded.id (node_of loaded) found.is_there.node_stands file bytes;
         stands = found.is_there.node_stands;
         shows = record {
@@ -114,11 +109,11 @@ module _ {t : ObjectRecords} {room : Room} (stand : RepresentsRoom t room) {path
         nodes_away = λ id other. refl;
         lists_away = λ q id at other. stored_list stand q id at ∙ stays q;
         documents_away = λ id other. if_other id loaded.id (Some bytes.items) (t.document id) other;
-        next = refl;
-        made = refl;
+        next = stand.next;
         lawful = lawful;
         at_path = changed_at room path change found.object (there found);
-        away = elsewhere_unchanged room path change;
+        away = λ q p other there. elsewhere_unchanged room path change q other ∙ there;
+        back = stood_there room path change;
       }
 
   -- its row
@@ -127,7 +122,7 @@ module _ {t : ObjectRecords} {room : Room} (stand : RepresentsRoom t room) {path
       → now.aclflag ≡ (change found.object).aclflag → (change found.object).aclflag ≡ found.object.aclflag
       → (change found.object).kind ≡ found.object.kind → (change found.object).own ≡ found.object.own
       → (change found.object).bytes ≡ found.object.bytes
-      → Replaces t (apply_to_objects (PutNode now) t) room (with_object room path change)
+      → Replaces t (apply_to_objects (PutNode now) t) room (with_object room path change) (λ q. q)
       path found.object (change found.object) (node_of loaded) now
   row_replaces now same owner group aclflag flags kind own bytes =
       let later = apply_to_objects (PutNode now) t in
@@ -135,7 +130,8 @@ module _ {t : ObjectRecords} {room : Room} (stand : RepresentsRoom t room) {path
       let stays = lists_stay own flags kind in
       record {
         is_there = found.is_there;
-        shape = shape_put t stand.rules (node_of loaded) now found.is_there.node_stands same;
+        keeps = λ q. names_by_shape t later
+            (shape_put t stand.rules (node_of loaded) now found.is_there.node_stands same) (reverse q);
         rules = rules_put t stand.rules (node_of loaded) now found.is_there.node_stands same;
         stands = if_same loaded.id now.id (Some now) (t.node loaded.id) (sym same.id);
         shows = record {
@@ -149,9 +145,9 @@ module _ {t : ObjectRecords} {room : Room} (stand : RepresentsRoom t room) {path
         nodes_away = λ id other. if_other id now.id (Some now) (t.node id) (λ is. other (is ∙ same.id));
         lists_away = λ q id at other. stored_list stand q id at ∙ stays q;
         documents_away = λ id other. refl;
-        next = refl;
-        made = refl;
+        next = stand.next;
         lawful = lawful;
         at_path = changed_at room path change found.object (there found);
-        away = elsewhere_unchanged room path change;
+        away = λ q p other there. elsewhere_unchanged room path change q other ∙ there;
+        back = stood_there room path change;
       }

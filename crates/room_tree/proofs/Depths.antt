@@ -34,7 +34,7 @@ some_there (Some x) h = (x, refl)
 
 module _ (room : Room) (lawful : IsRoom room) where
   -- what stands below an object stands on a way of objects
-  on_the_way : (path front rest : Path) (o : Object) → path ≡ front ++ rest
+  pub on_the_way : (path front rest : Path) (o : Object) → path ≡ front ++ rest
       → object_at room path ≡ Some o → (above : Object) × (object_at room front ≡ Some above)
   on_the_way path front rest o same is =
       some_there (object_at room front) (λ none.

@@ -19,7 +19,7 @@ use Rattle.room_records.specs.Room.{Object, Room, object_at, list_of}
 use Rattle.room_records.specs.Representation.{RepresentsRoom, HasPath}
 use Rattle.room_records.proofs.RoomsLists.{list_of_child, list_of_root}
 use Rattle.room_records.proofs.RoomsMap.{some_is, Ends}
-use Rattle.room_records.proofs.RulesKept.{if_same, if_other, SamePlace, SameShape, shape_put, rules_put}
+use Rattle.room_records.proofs.RulesKept.{if_same, if_other, SamePlace, SameShape, shape_put, rules_put, names_by_shape}
 use Rattle.room_commands.specs.CommandModel as C
 use Rattle.room_commands.specs.Checks.{first_refusal, checks, is_at_or_below}
 use Rattle.room_commands.specs.Effect.{with_object}
@@ -41,7 +41,7 @@ use Rattle.room_tree.proofs.OwnPart.{root_or_below}
 use Rattle.room_tree.proofs.Renewed.{Puts, put, Relists, IsChangeOf, list_then_is, changes_list, puts_relist}
 use Rattle.room_tree.proofs.Renewed.{stored_at, nodes_stay, documents_stay, next_stays, relisted_at, relisted_off}
 use Rattle.room_tree.proofs.Renewed.{relisted_of_objects, relisted_rules, relisted_few}
-use Rattle.room_tree.proofs.RowsReplaced.{Replaces, changed_at}
+use Rattle.room_tree.proofs.RowsReplaced.{Replaces, changed_at, stood_there}
 use Rattle.room_tree.proofs.StoredLists.{stored_list}
 
 nothing_handed_down : (own : List EntryModel) (aclflag : ℕ) (kind : Kind) → with_inherited own aclflag kind [] ≡ own
@@ -137,13 +137,13 @@ module _ {t : ObjectRecords} {room : Room} (stand : RepresentsRoom t room) {path
       rules_after = relisted_rules stand r now
           (rules_put t stand.rules (node_of loaded) now found.is_there.node_stands same_place)
 
-      replaces : Replaces t later room after path found.object (change found.object) (node_of loaded) now
+      replaces : Replaces t later room after (λ q. q) path found.object (change found.object) (node_of loaded) now
       replaces =
           let shows = found.is_there.shows in
           record {
             is_there = found.is_there;
-            shape = shape_with t first later (nodes_stay puts first)
-                (shape_put t stand.rules (node_of loaded) now found.is_there.node_stands same_place);
+            keeps = λ q. names_by_shape t later (shape_with t first later (nodes_stay puts first)
+                (shape_put t stand.rules (node_of loaded) now found.is_there.node_stands same_place)) (reverse q);
             rules = rules_after.1;
             stands = node_after loaded.id ∙ if_same loaded.id loaded.id (Some now) (t.node loaded.id) refl;
             shows = record {
@@ -158,11 +158,11 @@ module _ {t : ObjectRecords} {room : Room} (stand : RepresentsRoom t room) {path
             nodes_away = λ id other. node_after id ∙ if_other id loaded.id (Some now) (t.node id) other;
             lists_away = λ q id at other. lists_below q id at;
             documents_away = λ id other. ap (λ (f : ℕ → Option (List ℕ)). f id) (documents_stay puts first);
-            next = next_stays puts first;
-            made = refl;
+            next = next_stays puts first ∙ stand.next;
             lawful = setlist_is_room room caller flag sent path stand.lawful passed;
             at_path = at_path;
-            away = elsewhere_unchanged room path change;
+            away = λ q p other there. elsewhere_unchanged room path change q other ∙ there;
+            back = stood_there room path change;
           }
 
       planned_with : (outcome : Outcome) → reply_model outcome.reply ≡ Done

@@ -39,9 +39,8 @@ use Rattle.room_tree.proofs.Renewed.{stored_at}
 use Rattle.room_tree.proofs.Renewed.{relisted_of_objects, relisted_few}
 use Rattle.room_commands.proofs.Rights.{all_none}
 use Rattle.room_tree.proofs.RowsPut.{last_is_name}
-use Rattle.room_tree.proofs.RowsMoved.{node_moved, MovesNode, rules_after, moved_represents}
-use Rattle.room_tree.proofs.RowsMoved.{moved_keeps, none_new_moved}
-use Rattle.room_tree.proofs.RowsReplaced.{path_of_node}
+use Rattle.room_tree.proofs.RowsMoved.{node_moved, MovesNode, rules_after, moves}
+use Rattle.room_tree.proofs.RowsReplaced.{path_of_node, replaced, none_new}
 
 -- a test that two names are other
 pub other_names : (a b : Name) (differ : Bool) → differ ≡ not (name_eq a b) → differ ≡ true → a ≡ b → ⊥
@@ -141,9 +140,10 @@ rename_plans {t} {room} caller {path} {to} {move} now outcome stand is_path is_t
         let list_is : list_of (renamed room path target) target ≡ list =
         as_moved ∙ sym (list_then_is t loaded.id (t.entries loaded.id) given refl new changes) in
         let later = apply_all_to_objects (PutNode after ∷ map put what.0) t in
+        let w = moves stand m list_is what.2 in
         success_plans caller (C.Rename path to) outcome stand (PutNode after ∷ map put what.0) passed replied what.1
         (relisted_of_objects stand what.2 after) (rules_after stand m list_is what.2).0
         (relisted_few stand what.2 after)
-        (rw is (moved_represents stand m list_is what.2)) (λ q id at stands there.
-        (rw (← is) at (moved_keeps stand m list_is what.2)) q id at) (λ id absent present.
-        absurd (none_new_moved stand m list_is what.2 id absent present))
+        (rw is (replaced stand w)) (λ q id at stands there.
+        (rw (← is) at w.keeps) q id at) (λ id absent present.
+        absurd (none_new stand w id absent present))

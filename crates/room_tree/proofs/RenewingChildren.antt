@@ -2,13 +2,13 @@
 use Rattle.std.proofs.lemmas.Grind.{common_steps}
 use Rattle.std.proofs.Common.{◌≡◌, ◌≢◌, ℕ, zero, suc, ◌+◌, ◌<◌, ◌≤◌, refl, ap, sym, ◌∙◌, subst, arith, ◌⊎◌}
 use Rattle.std.proofs.Common.{inl, inr, List, [], ◌∷◌, ◌++◌, take, drop, get_or, length, append-nil, append_assoc}
-use Rattle.std.proofs.Common.{length-append, Option, None, Some, unwrap_or}
+use Rattle.std.proofs.Common.{length-append, Option, Some, unwrap_or}
 use Rattle.std.specs.List.{AllByRecursion, slice_index_or}
 use Rattle.std.specs.declared.cmp.Ordering.TheVariants.{Less}
 use Rattle.std.proofs.lemmas.Cmp.{nat_list_cmp_total}
 use Rattle.std.proofs.lemmas.List.{take_more, take_all, take-append-drop}
 use Rattle.room_acl.specs.Entries.{EntryModel}
-use Rattle.room_acl.specs.declared.subject.Kind.TheVariants.{File, Folder}
+use Rattle.room_acl.specs.declared.subject.Kind.TheVariants.{File}
 use Rattle.room_records.specs.declared.change.Change.{Change}
 use Rattle.room_records.specs.declared.node.Node.{Node}
 use Rattle.room_records.specs.Limits.{max_names}
@@ -19,8 +19,9 @@ use Rattle.room_records.specs.Representation.{HasPath, RepresentsRoom}
 use Rattle.room_records.specs.Shelf.{AreChildren, InNameOrder, name_of}
 use Rattle.room_records.proofs.Folders.{object_child}
 use Rattle.room_records.proofs.Paths.{object_at_node}
-use Rattle.room_records.proofs.RoomsMap.{none_is_some, nothing_below, nothing_in_a_file, path_of_object}
+use Rattle.room_records.proofs.RoomsMap.{path_of_object}
 use Rattle.room_tree.specs.Renewals.{AddsRenewals, RenewsBelow}
+use Rattle.room_tree.proofs.Depths.{on_the_way, none_below_file}
 use Rattle.room_tree.proofs.RenewingParts.{Renews, renews_both, BeginsWith}
 use Rattle.room_tree.proofs.StoredLists.{node_at_path}
 
@@ -85,12 +86,6 @@ apart (first ∷ nodes) node rest less (inl here) begins =
     same_first below other e = cc
 apart (first ∷ nodes) node rest less (inr there) begins = apart nodes node rest less.1 there begins
 
--- something that stands has all above it
-stands_above : (room : Room) → (front rest : Path) (o : Object) → object_at room (front ++ rest) ≡ Some o
-    → ((object_at room front ≡ None) → object_at room (front ++ rest) ≡ None)
-    → (above : Object) × (object_at room front ≡ Some above)
-stands_above room front rest o stands none_below = grind (arith, common_steps)
-
 module _ {t : ObjectRecords} {room : Room} (stand : RepresentsRoom t room) (path : Path) (list : List EntryModel) where
   -- no child yet
   pub renews_none : Renews t room path list (UnderOne []) []
@@ -126,9 +121,8 @@ module _ {t : ObjectRecords} {room : Room} (stand : RepresentsRoom t room) (path
       under_one [] k some at = absurd (some refl)
       under_one (name ∷ rest) k some at =
           let found = object_of (path ++ name ∷ rest) k at in
-          let joined : (path ++ name ∷ []) ++ rest ≡ path ++ name ∷ rest = append_assoc path (name ∷ []) rest in
-          let first = stands_above room (path ++ name ∷ []) rest found.0 (ap (object_at room) joined ∙ found.1)
-          (nothing_below room stand.lawful rest (path ++ name ∷ [])) in
+          let first = on_the_way room stand.lawful (path ++ name ∷ rest) (path ++ name ∷ [])
+          rest found.0 (sym (append_assoc path (name ∷ []) rest)) found.1 in
           let child = object_child t room stand path id here name first.0 first.1 in
           let held = are.every child.0 child.1 in
           let named : name_of child.0 ≡ name = ap (λ (n : Option Name). unwrap_or n []) child.2 in
@@ -160,12 +154,9 @@ module _ {t : ObjectRecords} {room : Room} (stand : RepresentsRoom t room) (path
       none [] k some at = some refl
       none (name ∷ rest) k some at =
           let node = node_at_path stand path id here in
-          let itself = object_at_node t room stand path id node.0 here node.1 in
           let found = object_of (path ++ name ∷ rest) k at in
-          let no_child = nothing_in_a_file room stand.lawful path itself.0 itself.1
-          (λ folder. let f : File ≡ Folder = sym (file node.0 node.1) ∙ itself.2.kind ∙ folder in cc) name in
-          none_is_some found.0 (sym (nothing_below room stand.lawful rest (path ++ name ∷ []) no_child)
-          ∙ ap (object_at room) (append_assoc path (name ∷ []) rest) ∙ found.1)
+          none_below_file stand path id node.0 (length (name ∷ rest)) here node.1 (file node.0 node.1)
+          (omega arith) (record { rest = name ∷ rest; object = found.0; stands = found.1; deep = refl })
 
 -- changes go on with those below the nodes so far
 pub record RenewsSoFar (t : ObjectRecords) (room : Room) (path : Path)

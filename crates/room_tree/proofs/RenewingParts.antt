@@ -6,7 +6,7 @@ use Rattle.std.specs.List.{AllByRecursion, count_by, list_any}
 use Rattle.std.specs.declared.alloc.Global.{Global}
 use Rattle.std.proofs.lemmas.Bool.{eqb-true}
 use Rattle.std.proofs.lemmas.List.{append_cancel_left}
-use Rattle.std.proofs.lemmas.List.Sums.{sum_by-cons, sum_by-append}
+use Rattle.std.proofs.lemmas.List.Sums.{sum_by-cons, sum_by-append, count_by-le-length}
 use Rattle.std.proofs.lemmas.List.Folds.{list_any-append}
 use Rattle.std.proofs.Math.Bool.{or-true}
 use Rattle.room_acl.specs.Entries.{EntryModel}
@@ -21,7 +21,7 @@ use Rattle.room_records.specs.Representation.{HasPath, RepresentsRoom}
 use Rattle.room_records.proofs.Lists.{all_append}
 use Rattle.room_records.proofs.Paths.{reads_one}
 use Rattle.room_tree.specs.Renewals.{list_below, IsRenewed, IsRenewal, RenewsBelow, puts_entries_of}
-use Rattle.room_tree.proofs.Renewed.{one_if, one_or_none, split_renewals, put_found}
+use Rattle.room_tree.proofs.Renewed.{one_if, split_renewals, put_found}
 use Rattle.room_tree.proofs.ListsRenewed.{lists_stay}
 use Rattle.room_tree.proofs.RenewingLists.{list_below_child}
 use Rattle.room_tree.proofs.RowsReplaced.{path_of_node}
@@ -203,11 +203,7 @@ module _ (t : ObjectRecords) (room : Room) (path : Path) (list : List EntryModel
       every = λ rest k only at.
           let same : k ≡ id = reads_one t rules (reverse (path ++ name ∷ [])) k id (rw (← only) (at)) here in
           inr (ap (λ b. b || false) (eq-eqb k id same));
-      once = λ k.
-          let more =
-          sum_by-cons (λ (change : Change). cond (puts_entries_of k change) 1 0) (PutEntries id entries) [] in
-          let one : one_if (eqb k id) ≤ 1 = one_or_none (eqb k id) in
-          omega (arith, more, one);
+      once = λ k. count_by-le-length (puts_entries_of k) (PutEntries id entries ∷ []);
     }
 
     -- the child's list is put, after those below it

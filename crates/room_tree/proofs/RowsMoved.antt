@@ -2,7 +2,7 @@
 use Rattle.std.proofs.lemmas.Grind.{common_steps}
 use Rattle.std.proofs.Common.{◌≡◌, ◌≢◌, ℕ, refl, ap, sym, ◌∙◌, arith, Bool, true, false, cond, ◌⊎◌, inl}
 use Rattle.std.proofs.Common.{inr, List, [], ◌∷◌, ◌++◌, map, reverse, length, drop, append_assoc, append-nil}
-use Rattle.std.proofs.Common.{Option, None, Some, IsSome, IsNone, unwrap_or}
+use Rattle.std.proofs.Common.{Option, None, Some, unwrap_or}
 use Rattle.std.proofs.lemmas.List.{reverse-append, reverse-reverse, drop-append-le, drop_all, same_from_push}
 use Rattle.room_acl.specs.declared.subject.Kind.TheVariants.{Folder}
 use Rattle.room_acl.specs.Entries.{EntryModel}
@@ -20,6 +20,7 @@ use Rattle.room_records.proofs.RulesKept.{same_or_other, if_same, if_other, shap
 use Rattle.room_commands.specs.Checks.{is_at_or_below}
 use Rattle.room_commands.specs.Effect.{renamed, moved}
 use Rattle.room_commands.proofs.Renaming.{at_behind}
+use Rattle.room_commands.proofs.RoomsNew.{same_or_other_path}
 use Rattle.room_commands.proofs.RoomsRenamed.{rest_below, not_both, at_moved, Stands, Moved}
 use Rattle.room_commands.proofs.RoomsRenamed.{Stayed, stands_after}
 use Rattle.room_tree.specs.Renewals.{list_below}
@@ -27,8 +28,8 @@ use Rattle.room_tree.proofs.ListsMoved.{list_of_stayed, lists_of_moved}
 use Rattle.room_tree.proofs.Renewed.{Puts, put, Relists, nodes_stay, documents_stay, next_stays, relisted_at}
 use Rattle.room_tree.proofs.Renewed.{relisted_off, relisted_rules}
 use Rattle.room_tree.proofs.RowsPut.{rules_put_free, no_child}
-use Rattle.room_tree.proofs.RowsReplaced.{path_of_node, still_shows}
-use Rattle.room_tree.proofs.StoredLists.{is_present, node_at_path, stored_list}
+use Rattle.room_tree.proofs.RowsReplaced.{path_of_node, Replaces}
+use Rattle.room_tree.proofs.StoredLists.{node_at_path, stored_list}
 
 -- an object below a path, but not at it, has its folder there too
 below_parent : (q path : Path) (name : Name) → is_at_or_below (q ++ name ∷ []) path ≡ true
@@ -198,10 +199,6 @@ module _ {t : ObjectRecords} {room : Room} (stand : RepresentsRoom t room) {path
             ap (λ (n : Node). n.kind) (some_is node before (sym m.is_there.node_stands ∙ stands));
       })
 
-  old_node : (id : ℕ) (found : Node) → later.node id ≡ Some found → (before : Node) × (t.node id ≡ Some before)
-  old_node id found stands = elim (back id found stands)
-      [ inl new ↦ (node, ap t.node new.0 ∙ m.is_there.node_stands) | inr old ↦ (found, old.1) ]
-
   -- with the lists that change for it
   module _ {list : List EntryModel} (is : list_of (renamed room path to) to ≡ list) {puts : Puts}
       (r : Relists t room path list puts) where
@@ -236,84 +233,50 @@ module _ {t : ObjectRecords} {room : Room} (stand : RepresentsRoom t room) {path
     row_after : (id : ℕ) → rows.node id ≡ later.node id
     row_after id = ap (λ (f : ℕ → Option Node). f id) (nodes_stay puts later)
 
-    -- numbers are kept
-    pub moved_keeps : (q : Path) (id : ℕ) → HasPath t q id → HasPath rows (moved path to q) id
-    moved_keeps q id at =
-        names_by_shape later rows (shape_itself later rows (nodes_stay puts later))
-        (reverse (moved path to q)) id (keeps_place q id at)
-
-    -- what a node shows moves with it
-    moved_is : (id : ℕ) (found : Node) (q : Path) (p : Object) → NodeIsObject t room id found q p
-        → (after : Node) × NodeIsObject rows (renamed room path to) id after (moved path to q) p
-    moved_is id found q p is = elim (same_or_other id node.id) [
-      | inl same ↦
-          let same_node : node ≡ found =
-          some_is node found (sym m.is_there.node_stands ∙ ap t.node (sym same) ∙ is.node_stands) in (
-            now,
-            record {
-              at = moved_keeps q id is.at;
-              node_stands = row_after id ∙ here id same;
-              object_stands = stands_there;
-              shows = record {
-                kind = ap (λ (n : Node). n.kind) same_node ∙ is.shows.kind;
-                owner = ap (λ (n : Node). n.owner) same_node ∙ is.shows.owner;
-                group = ap (λ (n : Node). n.group) same_node ∙ is.shows.group;
-                aclflag = ap (λ (n : Node). n.aclflag) same_node ∙ is.shows.aclflag;
-                entries = ap rows.entries (sym same) ∙ lists_after q id is.at;
-                bytes = ap (λ (f : ℕ → Option (List ℕ)). unwrap_or (f node.id) []) (documents_stay puts later)
-                    ∙ ap (λ (n : Node). unwrap_or (t.document n.id) []) same_node ∙ is.shows.bytes;
-              };
-            },
-          )
-      | inr other ↦ (
-        found,
+    -- each object stands at its new path, and nothing else does
+    pub moves : Replaces t rows room (renamed room path to) (moved path to) path o o node now
+    moves =
+        let stays = m.is_there.shows in
         record {
-          at = moved_keeps q id is.at;
-          node_stands = row_after id ∙ away id other ∙ is.node_stands;
-          object_stands = stands_there;
-          shows = still_shows is.shows
-              (ap rows.entries (stand.rules.numbered id found is.node_stands).0 ∙ lists_after q id is.at)
-              (ap (λ (f : ℕ → Option (List ℕ)). f found.id) (documents_stay puts later));
-        },
-      )
-    ]
+          is_there = m.is_there;
+          keeps = λ q id at. names_by_shape later rows (shape_itself later rows (nodes_stay puts later))
+              (reverse (moved path to q)) id (keeps_place q id at);
+          rules = rules_after.1;
+          stands = row_after node.id ∙ here node.id refl;
+          shows = record {
+            kind = stays.kind;
+            owner = stays.owner;
+            group = stays.group;
+            aclflag = stays.aclflag;
+            entries = lists_after path node.id m.is_there.at;
+            bytes = ap (λ (f : ℕ → Option (List ℕ)). unwrap_or (f node.id) []) (documents_stay puts later)
+                ∙ stays.bytes;
+          };
+          nodes_away = λ id other. row_after id ∙ away id other;
+          lists_away = λ q id at other. lists_after q id at;
+          documents_away = λ id other. ap (λ (f : ℕ → Option (List ℕ)). f id) (documents_stay puts later);
+          next = next_stays puts later ∙ stand.next;
+          lawful = m.lawful;
+          at_path = at_new path o m.is_there.object_stands;
+          away = λ q p other. at_new q p;
+          back = λ q p stands. stood q p
+              (stands_after room stand.lawful path to o m.apart m.is_there.object_stands m.free q p stands);
+        }
       where
-        stands_there : object_at (renamed room path to) (moved path to q) ≡ Some p
-        stands_there = at_moved room stand.lawful path to o m.apart m.is_there.object_stands m.free q p is.object_stands
+        at_new : (q : Path) (p : Object) → object_at room q ≡ Some p
+            → object_at (renamed room path to) (moved path to q) ≡ Some p
+        at_new = at_moved room stand.lawful path to o m.apart m.is_there.object_stands m.free
 
-    same_row : (id : ℕ) (a b : Node) → rows.node id ≡ Some a → rows.node id ≡ Some b → a ≡ b
-    same_row id a b x y = some_is a b (sym x ∙ y)
-
-    abbrev Found : Path → Object → Type 0
-    Found q p = (id : ℕ) × (found : Node) × NodeIsObject rows (renamed room path to) id found q p
-
-    pub moved_represents : RepresentsRoom rows (renamed room path to)
-    moved_represents = record {
-      rules = rules_after.1;
-      lawful = m.lawful;
-      nodes = λ id found stands.
-          let before = old_node id found (sym (row_after id) ∙ stands) in
-          let was = stand.nodes id before.0 before.1 in
-          let after = moved_is id before.0 was.0 was.1 was.2 in
-          (moved path to was.0, was.1, rw (same_row id after.0 found after.1.node_stands stands) at after.1);
-      objects = λ q p stands. by_stand q p
-          (stands_after room stand.lawful path to o m.apart m.is_there.object_stands m.free q p stands);
-      next = next_stays puts later ∙ stand.next;
-    }
-      where
-        there : (q : Path) (p : Object) → object_at room q ≡ Some p → Found (moved path to q) p
-        there q p stands =
-            let was = stand.objects q p stands in
-            let after = moved_is was.0 was.1 q p was.2 in
-            (was.0, after.0, after.1)
-
-        by_stand : (q : Path) (p : Object)
-            → Stands room stand.lawful path to o m.apart m.is_there.object_stands m.free q p → Found q p
-        by_stand q p (Moved _ _ rest same stands) =
-            (rw (moved_rest path to rest ∙ sym same) at (there (path ++ rest) p stands))
-        by_stand q p (Stayed _ _ off off_to stands) = rw (← moved_off q path to off) (there q p stands)
-
-    pub none_new_moved : (id : ℕ) → IsNone (t.node id) → IsSome (rows.node id) → ⊥
-    none_new_moved id none some =
-        let found = is_present (rows.node id) some in
-        let f = rw (old_node id found.0 (sym (row_after id) ∙ found.1)).1 at none in cc
+        stood : (q : Path) (p : Object)
+            → Stands room stand.lawful path to o m.apart m.is_there.object_stands m.free q p → (q ≡ moved path to path)
+            ⊎ ((was : Path) × (was ≡ path → ⊥) × (q ≡ moved path to was) × (object_at room was ≡ Some p))
+        stood q p (Moved _ _ rest same stands) = elim (same_or_other_path (path ++ rest) path) [
+          | inl top ↦ inl (same ∙ sym (moved_rest path to rest) ∙ ap (moved path to) top)
+          | inr other ↦ inr (path ++ rest, other, same ∙ sym (moved_rest path to rest), stands)
+        ]
+        stood q p (Stayed _ _ off off_to stands) = inr (
+          q,
+          λ top. not_both (is_at_or_below q path) (ap (λ a. is_at_or_below a path) top ∙ itself_below) off,
+          sym (moved_off q path to off),
+          stands,
+        )
