@@ -5,6 +5,7 @@ use Rattle.std.proofs.Common.{length-append, append-nil, codes, IsPermutation, E
 use Rattle.std.specs.List.{AllByRecursion, list_any}
 use Rattle.std.proofs.lemmas.Bool.{or_from}
 use Rattle.std.proofs.lemmas.Cmp.{tied_itself, alike_right}
+use Rattle.std.proofs.lemmas.List.{same_from_push}
 use Rattle.std.proofs.lemmas.List.Sorted.{length_permutation}
 use Rattle.sqlite_value.specs.declared.value.Value.TheVariants.{Null, Int}
 use Rattle.sqlite_value.specs.Keys.{plain, first_key}
@@ -106,16 +107,6 @@ settled : (l : Layout) (n : ℕ) (db next : Trees) → Leads (room_schema l) Enf
 settled l zero db next h = let e = h.1 in cc
 settled l (suc n) db next h = absurd (omega (arith, ap length h.2, length-append h.0 (h.1 ∷ [])))
 
-last_of : {X : Type 0} (front below : List X) (w v : X) → front ++ v ∷ [] ≡ below ++ w ∷ [] → (below ≡ front) × (w ≡ v)
-last_of [] [] w v e = (refl, let f : w ≡ v = cc in f)
-last_of [] (b ∷ below) w v e = absurd (omega (arith, ap length e, length-append below (w ∷ [])))
-last_of (a ∷ front) [] w v e = absurd (omega (arith, ap length e, length-append front (v ∷ [])))
-last_of (a ∷ front) (b ∷ below) w v e =
-    let first : b ≡ a = cc in
-    let rest : front ++ v ∷ [] ≡ below ++ w ∷ [] = cc in
-    let more = last_of front below w v rest in
-    (let p = more.0 in cc, more.1)
-
 -- the trees after one action, and the actions that are left
 record Acted (l : Layout) (n : ℕ) (db next : Trees) (w : Work) (below : List Work) : Type 0 where
   mid : Trees
@@ -158,7 +149,7 @@ led : (l : Layout) (n : ℕ) (db next : Trees) (table : Table) (ref : Reference)
 led l zero db next table ref there front quiet h =
     absurd (omega (arith, ap length h.0, length-append front (work_on table ref there ∷ [])))
 led l (suc n) db next table ref there front quiet h =
-    let one = last_of front h.0 h.1 (work_on table ref there) h.2 in (
+    let one = same_from_push h.0 front h.1 (work_on table ref there) (sym h.2) in (
       n,
       acts l n db next table ref there front quiet
           (subst₂ (λ b w. Acts (room_schema l) Enforced (Leads (room_schema l) Enforced n) db w b (Ok next))

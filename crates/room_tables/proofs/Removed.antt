@@ -20,16 +20,11 @@ use Rattle.std.proofs.lemmas.List.Sorted.{IsPermutation-sym}
 use Rattle.sqlite_keyed.proofs.ListLemmas.{ascending-filter, filter_all}
 use Rattle.sqlite_keyed.proofs.RuleLemmas.{each_true}
 pub use Rattle.room_tables.specs.Layout.{IsKeyed}
-use Rattle.sqlite_trees.proofs.ListLemmas.{all-permutation}
+use Rattle.sqlite_trees.proofs.ListLemmas.{all-permutation, filter_same}
 use Rattle.room_tables.proofs.Values.{eq_is}
 
 abbrev among : List ℤ → Row → Bool
 among ids r = list_any (λ id. has_rowid id r) ids
-
-filter_on : {X : Type 0} (p q : X → Bool) (xs : List X) → ((x : X) → Has xs x → p x ≡ q x) → filter p xs ≡ filter q xs
-filter_on p q [] same = refl
-filter_on p q (x ∷ xs) same =
-    rw (same x (inl refl)) (ap (λ l. cond (q x) (x ∷ l) l) (filter_on p q xs (λ y h. same y (inr h))))
 
 two_filters : {X : Type 0} (p q : X → Bool) (xs : List X)
     → filter (λ x. not (q x)) (filter (λ x. not (p x)) xs) ≡ filter (λ x. not (p x || q x)) xs
@@ -94,7 +89,8 @@ pub removed_ids : (p : Row → Bool) (rows : List Row) (ids : List ℤ) → IsKe
     → without_all rows ids ≡ filter (λ r. not (p r)) rows
 removed_ids p rows ids keyed sound complete =
     without_all_is ids rows
-    ∙ filter_on (λ r. not (among ids r)) (λ r. not (p r)) rows (λ x h. ap not (agrees x h))
+    ∙ filter_same (λ r. not (among ids r)) (λ r. not (p r)) rows
+    (all_from (λ r. not (among ids r) ≡ not (p r)) rows (λ x h. ap not (agrees x h)))
   where
     agrees : (x : Row) → Has rows x → among ids x ≡ p x
     agrees x h = elim (cases_Bool (p x)) [
