@@ -10,7 +10,6 @@ use Rattle.room_cache.specs.declared.known.Known.{Known}
 use Rattle.room_cache.specs.Known.{IsTrueOf, IsDecidedBy, IsLeft}
 use Rattle.room_cache.specs.Slots.{AreKept, IsKept}
 use Rattle.room_cache.specs.Rows.{row_at}
-use Rattle.room_cache.proofs.Folders.{listed_stay}
 use Rattle.std.specs.Ordering.{nat_cmp}
 use Rattle.room_records.specs.Names.{Name, name_cmp}
 use Rattle.room_records.specs.Sessions.{slot_cmp}
@@ -31,7 +30,6 @@ pub left_itself : (known : Known) → IsLeft [] known known
 left_itself known = record {
   sessions = λ sid row held. (held, tt);
   nodes = λ id node held. (held, tt);
-  names = λ folder names held. (held, λ id. tt);
   lists = λ id list held. (held, tt);
   decisions = λ id made held. (held, tt);
   slots = λ r are. are;
@@ -54,8 +52,6 @@ others_left change old new same slots sessions objects =
         ((λ r. ap (λ f. f sid) (sessions r)), tt),
       );
       nodes = λ id node held. (sym (ap (λ (k : Known). row_at nat_cmp k.nodes id) same) ∙ held, (same_node id, tt));
-      names = λ folder names held.
-          (sym (ap (λ (k : Known). row_at nat_cmp k.names folder) same) ∙ held, λ id. (same_node id, tt));
       lists = λ id list held. (sym (ap (λ (k : Known). row_at nat_cmp k.lists id) same) ∙ held, (same_entries id, tt));
       decisions = λ id made held.
           (sym (ap (λ (k : Known). row_at nat_cmp k.decisions id) same) ∙ held, (same_entries id, tt));
@@ -66,13 +62,12 @@ others_left change old new same slots sessions objects =
 
 -- nothing is remembered
 pub nothing_true : (r : Records) (known : Known) → ((k : List ℕ) → row_at name_cmp known.sessions k ≡ None)
-    → ((k : ℕ) → row_at nat_cmp known.nodes k ≡ None) → ((k : ℕ) → row_at nat_cmp known.names k ≡ None)
-    → ((k : ℕ) → row_at nat_cmp known.lists k ≡ None) → ((k : ℕ) → row_at nat_cmp known.decisions k ≡ None)
-    → ((k : Name × ℕ) → row_at slot_cmp known.slots k ≡ None) → known.next ≡ None → IsTrueOf known r
-nothing_true r known sessions nodes names lists decisions slots next = record {
+    → ((k : ℕ) → row_at nat_cmp known.nodes k ≡ None) → ((k : ℕ) → row_at nat_cmp known.lists k ≡ None)
+    → ((k : ℕ) → row_at nat_cmp known.decisions k ≡ None) → ((k : Name × ℕ) → row_at slot_cmp known.slots k ≡ None)
+    → known.next ≡ None → IsTrueOf known r
+nothing_true r known sessions nodes lists decisions slots next = record {
   sessions = λ sid row held. absurd (none_some _ row (sessions sid) held);
   nodes = λ id node held. absurd (none_some _ node (nodes id) held);
-  names = λ folder listed held. absurd (none_some _ listed (names folder) held);
   lists = λ id list held. absurd (none_some _ list (lists id) held);
   decisions = λ id made held d in_made. absurd (none_some _ made (decisions id) held);
   slots = λ sid slot fact held. absurd (none_some _ fact (slots (sid, slot)) held);
@@ -89,9 +84,6 @@ left_in_turn change changes old mid new first rest = record {
   nodes = λ id node held.
       let later = rest.nodes id node held in
       let sooner = first.nodes id node later.0 in (sooner.0, (sooner.1.0, later.1));
-  names = λ folder names held.
-      let later = rest.names folder names held in
-      let sooner = first.names folder names later.0 in (sooner.0, λ id. ((sooner.1 id).0, later.1 id));
   lists = λ id list held.
       let later = rest.lists id list held in
       let sooner = first.lists id list later.0 in (sooner.0, (sooner.1.0, later.1));
@@ -113,9 +105,6 @@ left_true changes known left old new is stay true_of = record {
   sessions = λ sid row held.
       let was = is.sessions sid row held in stay.session sid was.1 ∙ true_of.sessions sid row was.0;
   nodes = λ id node held. let was = is.nodes id node held in stay.node id was.1 ∙ true_of.nodes id node was.0;
-  names = λ folder names held.
-      let was = is.names folder names held in
-      listed_stay old new (λ id. stay.node id (was.1 id)) folder names (true_of.names folder names was.0);
   lists = λ id list held. let was = is.lists id list held in stay.entries id was.1 ∙ true_of.lists id list was.0;
   decisions = λ id made held d in_made.
       let was = is.decisions id made held in

@@ -1,4 +1,3 @@
-pub mod Folders
 pub mod Keys
 pub mod Left
 pub mod Remembered

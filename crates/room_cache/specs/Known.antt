@@ -2,17 +2,15 @@
 use Rattle.std.specs.Prelude.{◌≡◌, ℕ, true, List, Some, IfSome}
 use Rattle.std.specs.List.{Contains}
 use Rattle.std.specs.Ordering.{nat_cmp}
-use Rattle.room_acl.specs.declared.subject.Kind.{Kind}
 use Rattle.room_acl.specs.Access.{decision}
 use Rattle.room_acl.specs.Entries.{EntryModel}
 use Rattle.room_records.specs.declared.change.Change.{Change}
 use Rattle.room_records.specs.declared.node.Node.{Node}
 use Rattle.room_records.specs.declared.session.SessionRow.{SessionRow}
-use Rattle.room_records.specs.Names.{Name, name_cmp}
+use Rattle.room_records.specs.Names.{name_cmp}
 use Rattle.room_records.specs.Records.{Records}
-use Rattle.room_records.specs.Rules.{NodeRules}
 use Rattle.room_records.specs.Changes.{Leave, apply_changes}
-use Rattle.room_records.specs.Shelf.{View, AreNames}
+use Rattle.room_records.specs.Shelf.{View}
 use Rattle.room_cache.specs.Rows.{row_at}
 use Rattle.room_cache.specs.Slots.{AreKept}
 use Rattle.room_cache.specs.declared.decisions.Decided.{Decided}
@@ -22,17 +20,11 @@ use Rattle.room_cache.specs.declared.known.Known.{Known}
 abbrev pub IsDecidedBy : List EntryModel → Decided → Type 0
 IsDecidedBy entries d = d.decision ≡ decision entries d.subject d.standing d.wanted
 
--- the names and kinds of what is in a folder, as a shelf tells them
-abbrev pub AreListed : Records → ℕ → List (Name × Kind) → Type 0
-AreListed r folder names = NodeRules r.objects.node → AreNames r.objects folder names
-
 -- what is remembered is what the records are. A place is only a hint where to look
 pub record IsTrueOf (known : Known) (r : Records) : Type 0 where
   pub sessions : (sid : List ℕ) (row : SessionRow) → row_at name_cmp known.sessions sid ≡ Some row
       → r.session sid ≡ Some row
   pub nodes : (id : ℕ) (node : Node) → row_at nat_cmp known.nodes id ≡ Some node → r.objects.node id ≡ Some node
-  pub names : (folder : ℕ) (names : List (Name × Kind)) → row_at nat_cmp known.names folder ≡ Some names
-      → AreListed r folder names
   pub lists : (id : ℕ) (list : List EntryModel) → row_at nat_cmp known.lists id ≡ Some list
       → r.objects.entries id ≡ list
   pub decisions : (id : ℕ) (made : List Decided) → row_at nat_cmp known.decisions id ≡ Some made
@@ -46,8 +38,6 @@ pub record IsLeft (changes : List Change) (old new : Known) : Type 0 where
       → (row_at name_cmp old.sessions sid ≡ Some row) × Leave (λ r. r.session sid) changes
   pub nodes : (id : ℕ) (node : Node) → row_at nat_cmp new.nodes id ≡ Some node
       → (row_at nat_cmp old.nodes id ≡ Some node) × Leave (λ r. r.objects.node id) changes
-  pub names : (folder : ℕ) (names : List (Name × Kind)) → row_at nat_cmp new.names folder ≡ Some names
-      → (row_at nat_cmp old.names folder ≡ Some names) × ((id : ℕ) → Leave (λ r. r.objects.node id) changes)
   pub lists : (id : ℕ) (list : List EntryModel) → row_at nat_cmp new.lists id ≡ Some list
       → (row_at nat_cmp old.lists id ≡ Some list) × Leave (λ r. r.objects.entries id) changes
   pub decisions : (id : ℕ) (made : List Decided) → row_at nat_cmp new.decisions id ≡ Some made

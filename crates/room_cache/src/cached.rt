@@ -6,24 +6,24 @@ ghost use Rattle.room_cache.specs.Known.{IsTrueOf};
 use crate::decisions::Decided;
 use crate::known::Known;
 use room_acl::{Decision, Entry, Kind, Mask, Standing, Subject, copy_entries, decide};
-use room_records::{Change, FileName, Node, SessionRow, Shelf, ShelfFault, Sid, copy_names};
+use room_records::{Change, FileName, Node, SessionRow, Shelf, ShelfFault, Sid};
 use room_slots::Kept;
 use std::alloc::Global;
 use std::marker::Model;
 
 /// A shelf around a shelf, which remembers sessions, what slots keep or the number of it, nodes by number and by folder
-/// and name, the names in a folder, lists, and the number of the next object, and does not ask for them again. A
-/// decision that is not remembered goes by the list where that is, and else is asked of the shelf inside, which need
-/// not read the list whole, and is remembered then: for the same subject, standing and rights it is not asked again. A
-/// commit makes it forget the rows that it changes, with a list what the list decided, with any node the names in every
-/// folder, and with the slots of a session that are dropped all slots; a slot's row that it puts is remembered. A fault
-/// makes it forget all: memory answers only while the store is known to be there.
+/// and name, lists, and the number of the next object, and does not ask for them again. A decision that is not
+/// remembered goes by the list where that is, and else is asked of the shelf inside, which need not read the list
+/// whole, and is remembered then: for the same subject, standing and rights it is not asked again. A commit makes it
+/// forget the rows that it changes, with a list what the list decided, and with the slots of a session that are dropped
+/// all slots; a slot's row that it puts is remembered. A fault makes it forget all: memory answers only while the store
+/// is known to be there.
 ///
-/// It remembers at most 256 rows of each kind, lists of up to 64 entries, 16 decisions of each of 256 objects, up to
-/// 256 names in each of 256 folders, and 1 MiB of what slots keep: by the sizes of the types some 200 kB, lists of
-/// 1.5 MB at worst, names of 6.3 MB at worst, and decisions of 0.9 MB and 56 bytes for each group of each subject,
-/// 3.7 MB more with 16 groups each. Where memory is refused for what would be remembered, the call is answered still;
-/// where it is refused for the copy that is the answer, the call answers `Memory`, and nothing is forgotten.
+/// It remembers at most 256 rows of each kind, lists of up to 64 entries, 16 decisions of each of 256 objects, and 1
+/// MiB of what slots keep: by the sizes of the types some 200 kB, lists of 1.5 MB at worst, and decisions of 0.9 MB and
+/// 56 bytes for each group of each subject, 3.7 MB more with 16 groups each. Where memory is refused for what would be
+/// remembered, the call is answered still; where it is refused for the copy that is the answer, the call answers
+/// `Memory`, and nothing is forgotten.
 #[derive(Drop)]
 pub struct CachedShelf<S: Shelf> {
     inner: S,
@@ -101,13 +101,7 @@ impl<S: Shelf> Shelf for CachedShelf<S> {
     }
 
     fn names(&mut self, parent: u32) -> Result<Vec<(FileName, Kind)>, ShelfFault> {
-        if let Some(names) = self.known.names(parent) {
-            let names = names.names();
-            return Ok(copy_names(*names.allocator(), names.as_slice())?);
-        }
-        let found = self.known.or_forget(self.inner.names(parent))?;
-        self.known.keep_names(parent, &found);
-        Ok(found)
+        self.known.or_forget(self.inner.names(parent))
     }
 
     fn child_count(&mut self, parent: u32) -> Result<u64, ShelfFault> {

@@ -4,24 +4,20 @@ ghost use Rattle.std.specs.Ordering.{nat_cmp, eq_by_cmp};
 ghost use Rattle.room_slots.specs.Slots.{kept_seq};
 ghost use Rattle.room_acl.specs.Entries.{EntryModel};
 ghost use Rattle.room_acl.specs.Access.{decision};
-ghost use Rattle.room_records.specs.declared.node.Node.{Node};
 ghost use Rattle.room_records.specs.Records.{Records};
 ghost use Rattle.room_records.specs.Changes.{apply_change, Untouched};
 ghost use Rattle.room_records.specs.Shelf.{IsChildNamed};
 ghost use Rattle.room_cache.specs.Rows.{row_at};
-ghost use Rattle.room_cache.specs.Known.{IsTrueOf, AreListed, IsDecidedBy, IsLeft};
+ghost use Rattle.room_cache.specs.Known.{IsTrueOf, IsDecidedBy, IsLeft};
 ghost use Rattle.room_cache.specs.Slots.{AreKept, IsKept};
 ghost use Rattle.room_cache.specs.declared.decisions.Decided.{Decided};
 
 use crate::decisions::{Decided, Decisions};
 use crate::list::ShortList;
-use crate::names::NameList;
 use crate::rows::Rows;
 use crate::slots::{SlotFact, SlotRows};
-use room_acl::{Decision, Entry, Kind, Mask, Standing, Subject, copy_entries};
-use room_records::{
-    Change, FileName, MAX_SLOTS, Node, SessionRow, ShelfFault, Sid, SlotRow, copy_names,
-};
+use room_acl::{Decision, Entry, Mask, Standing, Subject, copy_entries};
+use room_records::{Change, FileName, MAX_SLOTS, Node, SessionRow, ShelfFault, Sid, SlotRow};
 use room_slots::Kept;
 use std::alloc::Global;
 
@@ -34,8 +30,6 @@ pub(crate) struct Known {
     pub(crate) nodes: Rows<u32, Node>,
     /// The number of the node that was in this folder under this name. The node tells whether it still is.
     pub(crate) places: Rows<(u32, FileName), u32>,
-    /// The names and kinds of what is in these folders.
-    pub(crate) names: Rows<u32, NameList>,
     pub(crate) lists: Rows<u32, ShortList>,
     /// What the lists of these objects decide.
     pub(crate) decisions: Rows<u32, Decisions>,
@@ -55,7 +49,6 @@ impl Known {
             sessions: Rows::new(alloc),
             nodes: Rows::new(alloc),
             places: Rows::new(alloc),
-            names: Rows::new(alloc),
             lists: Rows::new(alloc),
             decisions: Rows::new(alloc),
             slots: SlotRows::new(alloc),
@@ -85,7 +78,6 @@ impl Known {
         self.sessions.clear();
         self.nodes.clear();
         self.places.clear();
-        self.names.clear();
         self.lists.clear();
         self.decisions.clear();
         self.slots.clear();
@@ -130,17 +122,6 @@ impl Known {
         } else {
             None
         }
-    }
-
-    /// The names and kinds of what is in a folder, by name.
-    pub(crate) fn names(&self, folder: u32) -> Option<&NameList>
-        ensures true_of { (r : Records) → IsTrueOf self.now r → IfSome result (λ names. AreListed r folder names.now) }
-        ensures answered { IsSome result → self.now.has_answered ≡ true }
-    {
-        if !self.has_answered {
-            return None;
-        }
-        self.names.get(&folder)
     }
 
     pub(crate) fn list(&self, id: u32) -> Option<&ShortList>
@@ -249,19 +230,6 @@ impl Known {
         }
     }
 
-    /// More than 256 names are not remembered: no folder of a room has them.
-    pub(crate) fn keep_names(&mut self, folder: u32, names: &Vec<(FileName, Kind)>)
-        ensures { (r : Records) → AreListed r folder names.now.items → IsTrueOf self.old r → IsTrueOf self.new r }
-    {
-        let Ok(copy) = copy_names(*names.allocator(), names.as_slice()) else {
-            return;
-        };
-        if let Some(names) = NameList::new(copy) {
-            self.names.keep(folder, names);
-            self.has_answered = true;
-        }
-    }
-
     /// A list of more than 64 entries is not remembered.
     pub(crate) fn keep_list(&mut self, id: u32, list: &Vec<Entry>)
         ensures { (r : Records) → r.objects.entries id ≡ list.now.items → IsTrueOf self.old r → IsTrueOf self.new r }
@@ -319,20 +287,6 @@ impl Known {
         self.has_answered = true;
     }
 
-    /// Forgets a node, and the names of every folder: the one that it was in is not known here.
-    fn forget_node(&mut self, id: &u32)
-        ensures nodes { (k : ℕ) (node : Node) → row_at nat_cmp self.new.nodes k ≡ Some node
-            → (row_at nat_cmp self.old.nodes k ≡ Some node) × (eq_by_cmp nat_cmp id.now k ≡ false) }
-        ensures names { (k : ℕ) → row_at nat_cmp self.new.names k ≡ None }
-        ensures others { self.new ≡ record self.old {
-          nodes = self.new.nodes;
-          names = self.new.names;
-        } }
-    {
-        self.nodes.forget(id);
-        self.names.clear();
-    }
-
     /// Forgets the list of an object and what it decides.
     fn forget_list(&mut self, id: &u32)
         ensures lists { (k : ℕ) (list : List EntryModel) → row_at nat_cmp self.new.lists k ≡ Some list
@@ -370,9 +324,9 @@ impl Known {
         ensures { IsLeft (change.now ∷ []) self.old self.new }
     {
         match change {
-            Change::PutNode(node) => self.forget_node(&node.id),
+            Change::PutNode(node) => self.nodes.forget(&node.id),
             Change::DropNode(id) => {
-                self.forget_node(id);
+                self.nodes.forget(id);
                 self.forget_list(id);
             }
             Change::PutEntries(id, _) => self.forget_list(id),

@@ -5,7 +5,6 @@ mod cached;
 mod decisions;
 mod known;
 mod list;
-mod names;
 mod rows;
 mod slots;
 

@@ -18,7 +18,7 @@ use Rattle.room_tables.specs.Tables.{Layout}
 use Rattle.room_tables.specs.Rows.{has}
 use Rattle.room_tables.specs.Layout.{parent_value}
 use Rattle.room_tables.proofs.Upserts.{Put}
-use Rattle.room_tables.proofs.Filters.{put_is_one_more, others_left_on, not_both}
+use Rattle.room_tables.proofs.Filters.{put_is_one_more, put_passed_over, others_left_on, not_both}
 use Rattle.room_tables.proofs.Values.{int_has, has_is}
 use Rattle.room_sql.specs.NodeRows.{HasNone, HasOneMore, is_parent, After, AfterAll}
 
@@ -44,22 +44,31 @@ one_counted p r rows false is = rw is (omega arith)
 pub one_more : {l : Layout} (id : ℕ) (parent : Option ℕ) (row : Row) (db next : Trees)
     → column row 2 ≡ parent_value parent
     → Put l 1 db next (λ r. r ≡ row) (λ r. has 0 id r ≡ true) → HasNone id (db 1) → HasOneMore parent (db 1) (next 1)
-one_more id parent row db next is it none folder =
-    ap (λ l. length (filter (has 2 folder) l)) it.rows
-    ∙ sym (length_permutation _ _ (IsPermutation-filter (has 2 folder) _ _ (put_is_one_more it.row left it.free)))
-    ∙ one_counted (has 2 folder) it.row left (is_parent parent folder)
-    (is_in parent folder it.row (ap (λ (r : Row). column r 2) it.fits ∙ is))
-    ∙ ap (λ (l : List Row). length l + (if is_parent parent folder then 1 else 0))
-    (others_left_on (has_rowid it.id) (has 2 folder) (db 1) (λ r there h. stays r there))
+one_more id parent row db next is it none = record {
+  counts = λ folder.
+      ap (λ l. length (filter (has 2 folder) l)) it.rows
+      ∙ sym (length_permutation _ _ (IsPermutation-filter (has 2 folder) _ _ (put_is_one_more it.row left it.free)))
+      ∙ one_counted (has 2 folder) it.row left (is_parent parent folder) (inside folder)
+      ∙ ap (λ (l : List Row). length l + (if is_parent parent folder then 1 else 0)) (all_left folder);
+  others = λ folder apart.
+      ap (filter (has 2 folder)) it.rows
+      ∙ put_passed_over (has 2 folder) it.row left (inside folder ∙ apart) it.free ∙ all_left folder;
+}
   where
     left : List Row
     left = without_rowid it.id (db 1)
+
+    inside : (folder : ℕ) → has 2 folder it.row ≡ is_parent parent folder
+    inside folder = is_in parent folder it.row (ap (λ (r : Row). column r 2) it.fits ∙ is)
 
     stays : (r : Row) → Has (db 1) r → has_rowid it.id r ≡ false
     stays r there = elim (cases_Bool (has_rowid it.id r)) [
       | inl gone ↦ absurd (subst (λ l. Has l r) none (has_kept (has 0 id) (db 1) r there (it.gone r there gone)))
       | inr other ↦ other
     ]
+
+    all_left : (folder : ℕ) → filter (has 2 folder) left ≡ filter (has 2 folder) (db 1)
+    all_left folder = others_left_on (has_rowid it.id) (has 2 folder) (db 1) (λ r there h. stays r there)
 
 -- ---- changes in turn
 

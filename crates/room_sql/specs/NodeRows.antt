@@ -9,9 +9,13 @@ use Rattle.room_records.specs.Changes.{apply_change}
 use Rattle.room_tables.specs.Rows.{has}
 use Rattle.room_tables.specs.Steps.{Steps}
 
--- how many rows are in a folder
+-- the rows in a folder
+abbrev pub rows_in : ℕ → List Row → List Row
+rows_in folder rows = filter (has 2 folder) rows
+
+-- how many there are
 abbrev pub in_folder : ℕ → List Row → ℕ
-in_folder folder rows = length (filter (has 2 folder) rows)
+in_folder folder rows = length (rows_in folder rows)
 
 -- no row has the number
 abbrev pub HasNone : ℕ → List Row → Type 0
@@ -21,10 +25,11 @@ abbrev pub is_parent : Option ℕ → ℕ → Bool
 is_parent None folder = false
 is_parent (Some parent) folder = parent == folder
 
--- one row more in the folder that is the parent, and as many as before in all others
-abbrev pub HasOneMore : Option ℕ → List Row → List Row → Type 0
-HasOneMore parent old new =
-    (folder : ℕ) → in_folder folder new ≡ in_folder folder old + (if is_parent parent folder then 1 else 0)
+-- one row more in the folder that is the parent, and the rows of all others as they were
+pub record HasOneMore (parent : Option ℕ) (old new : List Row) : Type 0 where
+  pub counts : (folder : ℕ)
+      → in_folder folder new ≡ in_folder folder old + (if is_parent parent folder then 1 else 0)
+  pub others : (folder : ℕ) → is_parent parent folder ≡ false → rows_in folder new ≡ rows_in folder old
 
 -- A node of a number that no row has is one row more. Of a node that is put in another's place, and of one that is
 -- dropped, nothing is said. All other changes leave the rows of nodes as they are

@@ -2,6 +2,7 @@
 #![tactic(auto)]
 
 mod deciding;
+mod names;
 mod new_object;
 mod node_facts;
 mod open;

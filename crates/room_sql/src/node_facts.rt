@@ -3,24 +3,31 @@
 ghost use Rattle.std.specs.Prelude.{◌≡◌, ◌+◌, ℕ, true, false, Some, IfSome, IsSome, List, if◌then◌else◌};
 ghost use Rattle.std.specs.Ordering.{nat_cmp};
 ghost use Rattle.sqlite_value.specs.Order.{Row};
+ghost use Rattle.room_acl.specs.declared.subject.Kind.{Kind};
 ghost use Rattle.room_records.specs.declared.change.Change.TheVariants.{PutNode};
+ghost use Rattle.room_records.specs.Names.{Name};
 ghost use Rattle.room_cache.specs.Rows.{row_at};
 ghost use Rattle.room_sql.specs.NodeRows.{in_folder, HasNone, is_parent, After, AfterAll};
-ghost use Rattle.room_sql.specs.NodeFacts.{IsTrueOf, KnowsNothing};
+ghost use Rattle.room_sql.specs.NodeFacts.{AreListed, IsTrueOf, KnowsNothing};
 
+use crate::names::NameList;
+use room_acl::Kind;
 use room_cache::Rows;
-use room_records::{Change, Node};
+use room_records::{Change, FileName, Node, copy_names};
 use std::alloc::Global;
 
-/// The counts of at most 256 folders and one number that no row has: all that a shelf remembers. A commit chooses its
-/// statements by `NewObject`; only where it succeeded are its changes followed here, and other changes may stand before
-/// the node that takes the free number: its folder's count is raised still.
+/// The counts of at most 256 folders, the names in as many, and one number that no row has: all that a shelf remembers.
+/// A commit chooses its statements by `NewObject`; only where it succeeded are its changes followed here, and other
+/// changes may stand before the node that takes the free number: its folder's count is raised still, and that folder's
+/// names alone are forgotten.
 #[derive(Drop)]
 pub(crate) struct NodeFacts {
-    /// True only where no fault came since a count was read, so that the store is there if it is intact.
-    has_counted: bool,
+    /// True only where no fault came since a count or names were read, so that the store is there if it is intact.
+    has_answered: bool,
     /// How many rows of nodes are in these folders.
     counts: Rows<u32, u64>,
+    /// The names and kinds of what is in these folders.
+    names: Rows<u32, NameList>,
     /// A number that no row has, if one is known.
     pub(crate) free: Option<u32>,
 }
@@ -29,11 +36,12 @@ impl NodeFacts {
     /// True of any rows.
     pub(crate) fn nothing(alloc: Global) -> NodeFacts
         ensures true_of { KnowsNothing result }
-        ensures uncounted { result.has_counted ≡ false }
+        ensures unanswered { result.has_answered ≡ false }
     {
         NodeFacts {
-            has_counted: false,
+            has_answered: false,
             counts: Rows::new(alloc),
+            names: Rows::new(alloc),
             free: None,
         }
     }
@@ -41,19 +49,20 @@ impl NodeFacts {
     /// What is left is true of any rows.
     pub(crate) fn forget(&mut self)
         ensures true_of { KnowsNothing self.new }
-        ensures uncounted { self.new.has_counted ≡ false }
+        ensures unanswered { self.new.has_answered ≡ false }
     {
-        self.has_counted = false;
+        self.has_answered = false;
         self.counts.clear();
+        self.names.clear();
         self.free = None;
     }
 
     /// The count of this folder, if it is remembered.
     pub(crate) fn count_in(&self, folder: u32) -> Option<u64>
         ensures true_of { (rows : List Row) → IsTrueOf self.now rows → IfSome result (λ n. n ≡ in_folder folder rows) }
-        ensures counted { IsSome result → self.now.has_counted ≡ true }
+        ensures answered { IsSome result → self.now.has_answered ≡ true }
     {
-        if !self.has_counted {
+        if !self.has_answered {
             return None;
         }
         match self.counts.get(&folder) {
@@ -67,14 +76,41 @@ impl NodeFacts {
         ensures { (rows : List Row) → IsTrueOf self.old rows → count ≡ in_folder folder rows → IsTrueOf self.new rows }
     {
         self.counts.keep(folder, count);
-        self.has_counted = true;
+        self.has_answered = true;
+    }
+
+    /// The names and kinds of what is in this folder, by name, if they are remembered.
+    pub(crate) fn names_in(&self, folder: u32) -> Option<&NameList>
+        ensures true_of { (rows : List Row) → IsTrueOf self.now rows
+            → IfSome result (λ names. AreListed folder rows names.now) }
+        ensures answered { IsSome result → self.now.has_answered ≡ true }
+    {
+        if !self.has_answered {
+            return None;
+        }
+        self.names.get(&folder)
+    }
+
+    /// Remembers the names and kinds of what is in this folder. More than 256 are not remembered: no folder of a room
+    /// has them.
+    pub(crate) fn keep_names(&mut self, folder: u32, names: &Vec<(FileName, Kind)>)
+        ensures { (rows : List Row) → IsTrueOf self.old rows → AreListed folder rows names.now.items
+            → IsTrueOf self.new rows }
+    {
+        let Ok(copy) = copy_names(*names.allocator(), names.as_slice()) else {
+            return;
+        };
+        if let Some(names) = NameList::new(copy) {
+            self.names.keep(folder, names);
+            self.has_answered = true;
+        }
     }
 
     /// Remembers that no row has this number, if that was found, in the place of another.
     pub(crate) fn keep_free(&mut self, id: u32, is_free: bool)
         ensures true_of { (rows : List Row) → IsTrueOf self.old rows
             → (is_free ≡ true → HasNone id rows) → IsTrueOf self.new rows }
-        ensures counted { self.new.has_counted ≡ self.old.has_counted }
+        ensures answered { self.new.has_answered ≡ self.old.has_answered }
     {
         if is_free {
             self.free = Some(id);
@@ -109,6 +145,17 @@ impl NodeFacts {
         }
     }
 
+    /// Forgets the names in the folder that is the parent.
+    fn forget_names(&mut self, parent: Option<u32>)
+        ensures names { (folder : ℕ) (names : List (Name × Kind)) → row_at nat_cmp self.new.names folder ≡ Some names
+            → (row_at nat_cmp self.old.names folder ≡ Some names) × (is_parent parent folder ≡ false) }
+        ensures others { self.new ≡ record self.old { names = self.new.names } }
+    {
+        if let Some(folder) = parent {
+            self.names.forget(&folder);
+        }
+    }
+
     /// After a node is put: where its number was free it is one row more in its folder, and its number is taken.
     fn follow_put(&mut self, node: &Node)
         ensures { (old new : List Row) → IsTrueOf self.old old → After (PutNode node.now) old new
@@ -119,6 +166,7 @@ impl NodeFacts {
             return;
         }
         self.raise_count(node.parent);
+        self.forget_names(node.parent);
         self.free = None;
     }
 

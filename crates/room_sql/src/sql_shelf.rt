@@ -16,14 +16,17 @@ use crate::rows::{
 };
 use crate::{deciding, reads, writes};
 use room_acl::{Decision, Entry, Kind, Mask, Standing, Subject};
-use room_records::{Change, FileName, Node, SessionRow, Shelf, ShelfFault, Sid};
+use room_records::{Change, FileName, Node, SessionRow, Shelf, ShelfFault, Sid, copy_names};
 use room_slots::Kept;
 use sqlite::{Alter, Connection, Error, ErrorCode};
 use std::alloc::Global;
 
 /// A shelf whose records are the rows of the six tables in its connection's database, and nothing beside them.
-/// The connection is outside a transaction between calls. It remembers how many children up to 256 folders have, while
-/// the connection is open, and one number that no row has; any fault makes it forget all.
+/// The connection is outside a transaction between calls. It remembers, while the connection is open, how many children
+/// up to 256 folders have, the names of up to 256 in each of as many, by the sizes of the types 6.3 MB at worst, and
+/// one number that no row has; any fault makes it forget all. Where memory is refused for names that would be
+/// remembered, the call is answered still; where it is refused for the copy that is the answer, the call answers
+/// `Memory`, and nothing is forgotten.
 #[derive(Drop)]
 pub struct SqlShelf<S: Alter> {
     alloc: Global,
@@ -31,7 +34,8 @@ pub struct SqlShelf<S: Alter> {
     failures: u64,
     known: NodeFacts,
     ghost outside: { conn.in_transaction ≡ false },
-    ghost there: { known.has_counted ≡ true → HasCleanDisk (state S.Store conn) → (state S.Store conn).is_open ≡ true },
+    ghost there: { known.has_answered ≡ true → HasCleanDisk (state S.Store conn)
+        → (state S.Store conn).is_open ≡ true },
     ghost rests: { IsTrue (state S.Store conn).is_open
         → (state S.Store conn).now.trees ≡ (state S.Store conn).committed.trees } by { rests_prop _ _ _ },
 }
@@ -74,7 +78,7 @@ fn fault(failures: &mut u64, known: &mut NodeFacts, error: Error) -> ShelfFault
     ensures never_falls { failures.old ≤ failures.new }
     ensures quiet { result ≢ ShelfFault.Store → failures.new ≡ failures.old }
     ensures forgotten { KnowsNothing known.new }
-    ensures uncounted { known.new.has_counted ≡ false }
+    ensures unanswered { known.new.has_answered ≡ false }
 {
     known.forget();
     match error {
@@ -101,7 +105,7 @@ fn or_fault<T>(
     ensures never_falls { failures.old ≤ failures.new }
     ensures quiet { result ≢ Err Store → failures.new ≡ failures.old }
     ensures forgotten { OnErr result (KnowsNothing known.new) }
-    ensures uncounted { OnErr result (known.new.has_counted ≡ false) }
+    ensures unanswered { OnErr result (known.new.has_answered ≡ false) }
 {
     match answer {
         Ok(value) => Ok(value),
@@ -158,12 +162,17 @@ impl<S: Alter> Shelf for SqlShelf<S> {
 
     /// The name and the kind of a row are all that it reads: another column of no value of its type is no fault here.
     fn names(&mut self, parent: u32) -> Result<Vec<(FileName, Kind)>, ShelfFault> {
+        if let Some(names) = self.known.names_in(parent) {
+            return Ok(copy_names(self.alloc, names.names().as_slice())?);
+        }
         let _outside = self.conn.is_autocommit();
         let rows = reads::name_rows(&mut self.conn, parent);
         let _rests = self.conn.is_autocommit();
         let rows = or_fault(&mut self.failures, &mut self.known, rows)?;
         let found = all_names(self.alloc, rows.as_slice());
-        or_fault(&mut self.failures, &mut self.known, found)
+        let names = or_fault(&mut self.failures, &mut self.known, found)?;
+        self.known.keep_names(parent, &names);
+        Ok(names)
     }
 
     fn child_count(&mut self, parent: u32) -> Result<u64, ShelfFault> {

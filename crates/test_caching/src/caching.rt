@@ -52,12 +52,11 @@ impl Row {
     }
 }
 
-/// Each row is asked for once, but for documents and lists of nodes. What a slot keeps tells its number too; its number
-/// does not tell what it keeps.
+/// Each row is asked for once, but for documents, and nodes and names of a folder. What a slot keeps tells its number
+/// too; its number does not tell what it keeps.
 static ONCE: [Row; 31] = [
     Asks(Node),
     Asks(Child("a")),
-    Asks(Names),
     Asks(Decide("ann", "bob", 1)),
     Asks(Entries),
     Asks(Next),
@@ -69,7 +68,6 @@ static ONCE: [Row; 31] = [
     Knows(Slot(0, 2)),
     Knows(Node),
     Knows(Child("a")),
-    Knows(Names),
     Knows(Decide("ann", "bob", 1)),
     Knows(Entries),
     Knows(Next),
@@ -80,6 +78,8 @@ static ONCE: [Row; 31] = [
     Knows(Slot(0, 1)),
     Asks(Children),
     Asks(Children),
+    Asks(Names),
+    Asks(Names),
     Asks(ChildCount),
     Asks(ChildCount),
     Asks(Doc),
@@ -110,14 +110,12 @@ static DECISIONS: [Row; 17] = [
 ];
 
 /// Commits leave what they don't touch, and what they put in slots is remembered.
-static OVER_COMMITS: [Row; 14] = [
-    Asks(Names),
+static OVER_COMMITS: [Row; 12] = [
     Asks(Session),
     Asks(Child("a")),
     Asks(Child("b")),
     Asks(DropSlots(0)),
     Asks(PutSlot(0, 1)),
-    Knows(Names),
     Knows(Session),
     Knows(Child("a")),
     Knows(Child("b")),

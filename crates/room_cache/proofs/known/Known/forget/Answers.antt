@@ -13,10 +13,10 @@ pub returns-in-PutSession : goal.returns-in-PutSession
 returns-in-PutSession c =
     let row = c.in-PutSession.row in
     let P : Change → Type 0 = λ change. IsLeft (change ∷ []) c.args.self.now
-    (record c.args.self.now { sessions = c.forget.new.self }) in
+    (record c.args.self.now { sessions = c.forget-in-PutSession.new.self }) in
     subst P (sym c.in-PutSession.is) (record {
       sessions = λ sid held is.
-          let was = c.forget.ensures.rows sid held is in (
+          let was = c.forget-in-PutSession.ensures.rows sid held is in (
             was.0,
             (
               (λ r. elim (name_test sid row.sid) [
@@ -27,7 +27,6 @@ returns-in-PutSession c =
             ),
           );
       nodes = λ id node held. (held, ((λ r. refl), tt));
-      names = λ folder names held. (held, λ id. ((λ r. refl), tt));
       lists = λ id list held. (held, ((λ r. refl), tt));
       decisions = λ id made held. (held, ((λ r. refl), tt));
       slots = λ r are. are;

@@ -9,7 +9,6 @@ pub returns : goal.returns
 returns c = λ r is true_of. record {
   sessions = true_of.sessions;
   nodes = true_of.nodes;
-  names = true_of.names;
   lists = true_of.lists;
   decisions = λ id made held d in_made. elim (c.keep-2.ensures.rows id made held) [
     | inl before ↦ true_of.decisions id made (c.take.ensures.rest id made before).0 d in_made

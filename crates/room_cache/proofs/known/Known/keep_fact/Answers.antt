@@ -8,7 +8,6 @@ pub returns-in-Ok : goal.returns-in-Ok
 returns-in-Ok c = λ r is true_of. record {
   sessions = true_of.sessions;
   nodes = true_of.nodes;
-  names = true_of.names;
   lists = true_of.lists;
   decisions = true_of.decisions;
   slots =

@@ -10,7 +10,6 @@ returns-in-Ok-Ok c = λ r is true_of. record {
         ∙ ap Some (sym (now.1 ∙ c.in-Ok-Ok.ensures'))
   ];
   nodes = true_of.nodes;
-  names = true_of.names;
   lists = true_of.lists;
   decisions = true_of.decisions;
   slots = true_of.slots;
