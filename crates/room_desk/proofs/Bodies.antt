@@ -1,40 +1,28 @@
--- Requests whose number their slot keeps: what the slot keeps is the text of a lawful command, and they are answered by
--- it as the history says.
-use Rattle.std.proofs.Common.{◌≡◌, ◌∙◌, ap, sym, ℕ, Bool, true, false, List, [], ◌∷◌, Option, Some, arith, inl, refl}
-use Rattle.std.specs.Str.{bytes_eq}
-use Rattle.std.specs.Cmp.Lexicographic.{bytes_decides}
-use Rattle.std.proofs.lemmas.Bool.Decides.{nat_tests}
+-- Requests that are sent again with the text that their slot keeps: it is the text of a lawful command.
+use Rattle.std.proofs.Common.{◌≡◌, ◌∙◌, ap, sym, ℕ, List, [], ◌∷◌, Option, Some, arith, subst, true, false, refl}
 use Rattle.std.proofs.lemmas.Grind.{common_steps}
 use Rattle.std.proofs.lemmas.Option.{same_Some}
 use Rattle.room_slots.specs.KeptModel.{KeptModel}
-use Rattle.room_slots.proofs.Counts.{next_number_other}
 use Rattle.room_records.specs.Records.{Records}
 use Rattle.room_records.specs.Room.{Room}
 use Rattle.room_commands.specs.CommandModel.{CommandModel}
+use Rattle.room_commands.specs.Lawful.{IsLawful}
 use Rattle.room_wire.specs.declared.asks.routed.SentRequest.{SentRequest}
-use Rattle.room_wire.specs.Asks.EventModel.{Request, Slot}
+use Rattle.room_wire.specs.Asks.AskOf.{sent_event}
+use Rattle.room_wire.specs.Asks.EventModel.{EventModel, Request, Slot}
 use Rattle.room_wire.specs.Forms.Commands.{command_of_body}
 use Rattle.room_wire.specs.Forms.Texts.{command_text}
 use Rattle.room_wire.proofs.Lemmas.Forms.CommandBack.{text_back}
+use Rattle.room_desk.specs.declared.requests.Found.TheVariants as F
 use Rattle.room_desk.specs.AnswerModel.{AnswerModel}
-use Rattle.room_desk.specs.Bodies.{KeepsNumber, IsText, AnswersBody, answer_to_body}
-use Rattle.room_desk.specs.History.{History, session_of, is_open_for, Accepted, accepted, is_accepted}
-use Rattle.room_desk.specs.History.{HaveLawfulCommands, answer_to}
+use Rattle.room_desk.specs.History.{History, Accepted, accepted, HaveLawfulCommands, answer_to, changes_rows}
 use Rattle.room_desk.specs.Representation.{RepresentsHistory, kept_after, slot_row_of}
-use Rattle.room_desk.specs.RowAnswers.{HasSlot, answer_kept}
-use Rattle.room_desk.proofs.Answers.{usable}
-use Rattle.room_desk.proofs.SlotTests.{accepted_by_number, old_answer}
+use Rattle.room_desk.specs.RowAnswers.{answer_kept, found_by}
+use Rattle.room_desk.proofs.Found.{Says, said}
 
--- the request, once its command is known
-abbrev pub request_of : SentRequest → CommandModel × Bool → Request
-request_of sent asked = record {
-  caller = sent.subject;
-  sid = sent.sid;
-  slot = sent.slot;
-  seq = sent.seq;
-  command = asked.0;
-  keep = asked.1;
-}
+-- the bytes are the text of a lawful command
+abbrev IsText : List ℕ → Type 0
+IsText text = (command : CommandModel) × IsLawful command × (command_text command ≡ text)
 
 text_after : (start : Room) (requests : List Accepted) (kept : KeptModel)
     → HaveLawfulCommands requests → kept_after start requests ≡ Some kept → IsText kept.request
@@ -47,33 +35,35 @@ kept_of_row : (start : Room) (past : History) (sid : List ℕ) (slot : ℕ) (kep
     → slot_row_of start past sid slot ≡ Some kept → kept_after start (accepted past sid slot) ≡ Some kept
 kept_of_row start past sid slot kept is = grind (arith, common_steps)
 
--- a body that is the kept text asks the command of the last request
-pub repeats : (body : List ℕ) (seq : ℕ) (kept : KeptModel) (answered : AnswerModel) → bytes_eq body kept.request ≡ true
-    → answered ≡ answer_kept (Some kept) seq body → IsText kept.request
-    → AnswersBody (command_of_body body) seq kept answered
-repeats body seq kept answered same told (command, lawful, text) =
-    let asks : body ≡ command_text command = (bytes_decides body kept.request).0 same ∙ sym text in
-    rw (ap command_of_body asks ∙ text_back command lawful) (inl (told ∙ ap (answer_kept (Some kept) seq) asks))
+-- what was found is what the slot keeps
+slot_keeps : (r : Records) (sent : SentRequest) (kept : Option KeptModel)
+    → found_by r sent.subject sent.sid sent.slot sent.seq ≡ F.Again kept → r.slot sent.sid sent.slot ≡ kept
+slot_keeps r sent kept found = grind (arith, common_steps)
 
 module _ {start : Room} {r : Records} {past : History} (stand : RepresentsHistory start r past)
-    {sent : SentRequest} {kept : KeptModel} (keeps : KeepsNumber r sent kept) where
-  pub is_text : IsText kept.request
-  is_text = text_after start (accepted past sent.sid sent.slot) kept (stand.lawful sent.sid sent.slot)
-      (kept_of_row start past sent.sid sent.slot kept (sym (stand.slots sent.sid sent.slot) ∙ keeps.keeps))
-
-  may_use : is_open_for sent.sid sent.subject (session_of past sent.sid) ≡ true
-  may_use = usable stand sent.sid keeps.row keeps.stands sent.subject ∙ keeps.usable
-
-  has : HasSlot r sent.sid sent.slot
-  has = record { row = keeps.row; stands = keeps.stands; below = keeps.below }
-
-  module _ (asked : CommandModel × Bool) where
-    -- it is not new
-    pub not_accepted : is_accepted past (request_of sent asked) ≡ false
-    not_accepted =
-        let by_number = accepted_by_number stand (request_of sent asked) may_use has refl refl refl in
-        grind (arith, common_steps, nat_tests, next_number_other, keeps.keeps, keeps.number, by_number)
-
-    pub answer_is : answer_to_body (Some asked) sent.seq kept ≡ answer_to start past (Slot (request_of sent asked))
-    answer_is = old_answer stand (request_of sent asked) may_use has not_accepted
-        (ap (λ (k : Option KeptModel). answer_kept k sent.seq (command_text asked.0)) (sym keeps.keeps))
+    (sent : SentRequest) (kept : KeptModel)
+    (found : found_by r sent.subject sent.sid sent.slot sent.seq ≡ F.Again (Some kept)) where
+  -- so a body that is the kept text asks its command, and is answered as the history says
+  pub kept_text : (answered : AnswerModel) → sent.body.now ≡ kept.request
+      → answered ≡ answer_kept (Some kept) sent.seq sent.body.now
+      → (event : EventModel) × (sent_event sent ≡ Some event) × (answered ≡ answer_to start past event)
+      × (changes_rows past event ≡ false)
+  kept_text answered same told =
+      let (command, lawful, text) = text_after start (accepted past sent.sid sent.slot) kept
+      (stand.lawful sent.sid sent.slot) (kept_of_row start past sent.sid sent.slot kept
+      (sym (stand.slots sent.sid sent.slot) ∙ slot_keeps r sent (Some kept) found)) in
+      let asks : sent.body.now ≡ command_text command = same ∙ sym text in
+      let q : Request = record {
+        caller = sent.subject;
+        sid = sent.sid;
+        slot = sent.slot;
+        seq = sent.seq;
+        command = command;
+        keep = true;
+      } in
+      let says = subst (Says start r past q) found (said stand q) in (
+        Slot q,
+        rw (ap command_of_body asks ∙ text_back command lawful) refl,
+        told ∙ ap (answer_kept (Some kept) sent.seq) asks ∙ sym says.1,
+        says.0,
+      )

@@ -9,6 +9,7 @@ pub mod Bodies
 pub mod Closing
 pub mod Running
 pub mod SlotTests
+pub mod Found
 pub mod Idle
 pub mod Alike
 pub mod SentAgain

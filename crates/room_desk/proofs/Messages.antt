@@ -5,13 +5,13 @@ use Rattle.room_records.specs.Room.{Room}
 use Rattle.room_records.specs.Shelf.{View}
 use Rattle.room_wire.specs.declared.answers.code.Code.TheVariants.{Delay}
 use Rattle.room_wire.specs.declared.fault.WireFault.{WireFault}
-use Rattle.room_wire.specs.declared.fault.WireFault.TheVariants.{BadRoute, UnknownUser, BadRequest, Memory}
+use Rattle.room_wire.specs.declared.fault.WireFault.TheVariants.{Memory}
 use Rattle.room_wire.specs.declared.serving.stop.Why.{Why}
 use Rattle.room_wire.specs.declared.serving.stop.Why.TheVariants as W
 use Rattle.std.proofs.KnownBytes.{Appends-nil, Consumes-nil}
 use Rattle.std.proofs.lemmas.List.{append_assoc}
-use Rattle.room_wire.specs.Asks.AskOf.{AskModel, Check, Event, ask_of, event_asked, DecodesAsk, ReadsAs}
-use Rattle.room_wire.specs.Asks.EventModel.{EventModel, event_model}
+use Rattle.room_wire.specs.Asks.AskOf.{AskModel, Check, Event, ask_of, DecodesAsk}
+use Rattle.room_wire.specs.Asks.EventModel.{EventModel}
 use Rattle.room_wire.specs.Serving.CheckService.{fault_code, IsCheckAnswer}
 use Rattle.room_wire.specs.Serving.Ends.{Serves}
 use Rattle.room_wire.specs.Messages.MessageModel.{MessageModel}
@@ -48,14 +48,6 @@ pub refusal_stays : (fault : WireFault) (ask : Result AskModel WireFault) (s : V
     → DecodesAsk ask (Err fault) → Answered ask s (Refused (fault_code fault)) s
 refusal_stays Memory ask s h = stays ask s _ (λ event is. refl) (λ start past. inr (refl, refl))
 refusal_stays fault ask s h = rw h (stays (Err fault) s _ (λ event is. absurd (cc)) (λ start past. inl (refl, refl)))
-
--- what is no event's body is refused
-pub read_refused : (fault : WireFault) (wanted : Option EventModel) → ReadsAs event_model wanted (Err fault)
-    → DecodesAsk (event_asked wanted) (Err fault)
-read_refused BadRequest wanted none = ap event_asked none
-read_refused Memory wanted none = tt
-read_refused BadRoute wanted none = absurd none
-read_refused UnknownUser wanted none = absurd none
 
 module _ {S : Type 0} (view : S → View) where
   -- the shelf after some messages

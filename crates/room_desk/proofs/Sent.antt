@@ -1,27 +1,27 @@
 -- Reads before a request is answered, and what is answered by them alone.
-use Rattle.std.proofs.Common.{◌∙◌, refl, ◌∷◌, Bool, Option, None, Some}
-use Rattle.std.proofs.Common.{Result, inl, inr}
-use Rattle.room_slots.specs.KeptModel.{KeptModel}
+use Rattle.std.proofs.Common.{◌≡◌, ◌∙◌, sym, refl, ◌∷◌, Option, None, Some, Result, IfOk, inl, inr}
 use Rattle.room_records.specs.declared.shelf.ShelfFault.{ShelfFault}
 use Rattle.room_records.specs.declared.shelf.ShelfFault.TheVariants.{Store}
-use Rattle.room_records.specs.Records.{Records}
 use Rattle.room_records.specs.Room.{Room}
-use Rattle.room_records.specs.Shelf.{View, ShelfRead}
+use Rattle.room_records.specs.Shelf.{View, ShelfCall, ShelfRead, fault_in}
 use Rattle.room_records.proofs.Shelves.{none_not_store}
-use Rattle.room_commands.specs.CommandModel.{CommandModel}
+use Rattle.room_wire.specs.declared.answers.answer.Answer.{Answer}
 use Rattle.room_wire.specs.declared.answers.code.Code.TheVariants.{Delay}
 use Rattle.room_wire.specs.declared.asks.routed.SentRequest.{SentRequest}
 use Rattle.room_wire.specs.declared.fault.WireFault.{WireFault}
-use Rattle.room_wire.specs.Asks.AskOf.{AskModel, event_asked, request_by}
-use Rattle.room_wire.specs.Asks.EventModel.{Slot}
-use Rattle.room_desk.specs.AnswerModel.{AnswerModel, Refused}
-use Rattle.room_desk.specs.Bodies.{KeepsNumber, IsText, AnswersBody}
+use Rattle.room_wire.specs.Asks.AskOf.{AskModel, event_asked, sent_event}
+use Rattle.room_wire.specs.Asks.EventModel.{Request, Slot}
+use Rattle.room_desk.specs.declared.requests.Found.{Found}
+use Rattle.room_desk.specs.AnswerModel.{AnswerModel, Refused, answer_model, IsTurnedAway}
 use Rattle.room_desk.specs.History.{History}
 use Rattle.room_desk.specs.Representation.{RepresentsHistory, StandsFor}
-use Rattle.room_desk.specs.Serving.{Answered, AnswersOrDelays}
+use Rattle.room_desk.specs.RowAnswers.{AnswersText, found_by, found_for}
+use Rattle.room_desk.specs.Serving.{Answered}
+use Rattle.room_desk.specs.Trying.{EventTried, JoinsHistory}
 use Rattle.room_desk.proofs.Alike.{stand_after_idle}
-use Rattle.room_desk.proofs.Bodies.{request_of, is_text, not_accepted, answer_is}
+use Rattle.room_desk.proofs.Bodies.{kept_text}
 use Rattle.room_desk.proofs.Calls.{one_call}
+use Rattle.room_desk.proofs.Trying.{tried_after_read}
 
 -- rows that were read stand for what they stood for
 stand_after_read : {a b : View} {fault : Option ShelfFault} → ShelfRead a b fault → (start : Room) (past : History)
@@ -44,44 +44,37 @@ delayed_by_read ask a b fault read = record {
   stays_laid_out = λ k start past stands. read.stays_laid_out k;
 }
 
--- what is asked, by the command of the body
-abbrev asked_of : SentRequest → Option (CommandModel × Bool) → Result AskModel WireFault
-asked_of sent wanted = event_asked (request_by sent.subject (Some sent.sid) (Some sent.slot) (Some sent.seq) wanted)
-
-module _ {start : Room} {past : History} {r : Records} (stand : RepresentsHistory start r past)
-    (sent : SentRequest) (kept : KeptModel) (keeps : KeepsNumber r sent kept) where
-  -- by the kept text, the request is answered as the history says, and joins it
-  joins : (wanted : Option (CommandModel × Bool)) (answered : AnswerModel) → AnswersBody wanted sent.seq kept answered
-      → (next : History) × AnswersOrDelays start past (asked_of sent wanted) answered next
-      × RepresentsHistory start r next
-  joins None answered (inl is) = (past, inl (is, refl), stand)
-  joins (Some asked) answered (inl is) = (
-    Slot (request_of sent asked) ∷ past,
-    inl (is ∙ answer_is stand keeps asked, refl),
-    stand_after_idle start r past (Slot (request_of sent asked)) (not_accepted stand keeps asked) stand,
-  )
-  joins wanted answered (inr is) = (past, inr (is, refl), stand)
-
 -- what is answered by the kept text, after a read of it
-pub answered_by_kept : (sent : SentRequest) (wanted : Option (CommandModel × Bool)) (kept : KeptModel) (a b : View)
-    (answered : AnswerModel) → ShelfRead a b None → (b.is_intact → b.is_available)
-    → (b.is_available → a.is_laid_out → KeepsNumber a.records sent kept)
-    → (IsText kept.request → AnswersBody wanted sent.seq kept answered)
-    → Answered (asked_of sent wanted) a answered b
-answered_by_kept sent wanted kept a b answered read there keeps says = record {
+pub answered_by_kept : (sent : SentRequest) {found : Found} {a b : View} {answered : AnswerModel}
+    → ShelfRead a b None → (b.is_intact → b.is_available)
+    → (b.is_available → a.is_laid_out → found ≡ found_by a.records sent.subject sent.sid sent.slot sent.seq)
+    → AnswersText found sent.seq sent.body.now answered → Answered (event_asked (sent_event sent)) a answered b
+answered_by_kept sent {found} {a} {b} {answered} read there tells (kept, again, same, told) = record {
   frame = one_call a b None read.call;
   quiet = λ other. read.call.quiet (none_not_store Store);
   alive = λ k event is other. there k;
   step = λ k start past stands.
-      let stood = stands (read.call.was_available (there k)) in
-      let kept_is = keeps (there k) stood.0 in
-      let joined = joins stood.1 sent kept kept_is wanted answered (says (is_text stood.1 kept_is)) in (
-        joined.0,
-        joined.1,
-        λ h. (read.call.laid_out h stood.0, rw (read.same h stood.0) joined.2),
+      let (d, stand) = stands (read.call.was_available (there k)) in
+      let found_is = sym (tells (there k) d) ∙ again in
+      let (event, asks, says, idle) = kept_text stand sent kept found_is answered same told in (
+        event ∷ past,
+        rw asks (inl (says, refl)),
+        λ h. (read.call.laid_out h d, rw (read.same h d) (stand_after_idle start a.records past event idle stand)),
       );
   refused = λ h d away. read.same h d;
   idle = λ h d start past stand idle. read.same h d;
   crash = λ k start past stands left may. inl (read.crash left may);
   stays_laid_out = λ k start past stands. read.stays_laid_out k;
 }
+
+-- a request that is answered by what a look-up found
+pub tried_by_found : {q : Request} {found : Found} {a b c : View} {r : Result Answer ShelfFault}
+    → ShelfRead a b None → (b.is_intact → b.is_available)
+    → (b.is_available → a.is_laid_out → found ≡ found_for a.records q) → ShelfCall b c (fault_in r)
+    → (c.is_available → b.is_laid_out → IfOk r (λ answer. IsTurnedAway (answer_model answer) → c.records ≡ b.records))
+    → (b.is_available → b.is_laid_out → (start : Room) (past : History) → RepresentsHistory start b.records past
+    → found ≡ found_for b.records q → JoinsHistory start past (Slot q) b c r)
+    → EventTried (Slot q) a c r
+tried_by_found read there found call refused joins =
+    tried_after_read read there call refused (λ start past h d stand.
+    joins h (read.call.laid_out h d) start past stand (rw (read.same h d) (found h d)))

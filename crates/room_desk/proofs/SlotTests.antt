@@ -1,5 +1,5 @@
 -- What a slot keeps decides a request as the count of its accepted requests does.
-use Rattle.std.proofs.Common.{◌≡◌, ℕ, sym, ◌∙◌, Bool, true, false, List, length, Option, arith}
+use Rattle.std.proofs.Common.{◌≡◌, ℕ, sym, ◌∙◌, true, false, List, length, Option, arith}
 use Rattle.std.specs.Prelude.{◌==◌, nat_lt}
 use Rattle.std.proofs.lemmas.Bool.{lt-ltb}
 use Rattle.std.proofs.lemmas.Bool.Decides.{nat_tests}
@@ -12,11 +12,11 @@ use Rattle.room_records.specs.Room.{Room}
 use Rattle.room_wire.specs.Asks.EventModel.{Request, Slot}
 use Rattle.room_wire.specs.Forms.Texts.{command_text, reply_text}
 use Rattle.room_commands.specs.Effect.{effect}
-use Rattle.room_desk.specs.AnswerModel.{AnswerModel, Reply}
+use Rattle.room_desk.specs.AnswerModel.{Reply}
 use Rattle.room_desk.specs.History.{History, session_of, is_open_for, slots_of, accepted, Accepted, is_accepted}
 use Rattle.room_desk.specs.History.{answer_to, answer_unaccepted, state_after}
 use Rattle.room_desk.specs.Representation.{RepresentsHistory, kept_after}
-use Rattle.room_desk.specs.RowAnswers.{HasSlot, answer_by_verdict, row_answer}
+use Rattle.room_desk.specs.RowAnswers.{HasSlot, answer_by_verdict, answer_kept}
 use Rattle.room_desk.proofs.Answers.{as_many}
 use Rattle.room_desk.proofs.KeptRows.{keeps_count, verdict_is, row_is, accepted_is}
 
@@ -42,19 +42,16 @@ module _ {start : Room} {r : Records} {past : History} (stand : RepresentsHistor
   by_number = accepted_is start past q usable below
 
   -- the number that the slot keeps tells alone whether a request is accepted
-  pub accepted_by_number : {test : Bool} {last : Option ℕ} {p : Request} → p ≡ q → test ≡ is_next last p.seq
-      → last ≡ kept_seq (r.slot p.sid p.slot) → is_accepted past q ≡ test
-  accepted_by_number same tells number =
-      rw (tells, number, same) (by_number ∙ rw kept_is (sym (next_by_count
-      (kept_after start (accepted past q.sid q.slot)) _ q.seq (keeps_count start (accepted past q.sid q.slot)))))
+  pub accepted_by_number : is_accepted past q ≡ is_next (kept_seq (r.slot q.sid q.slot)) q.seq
+  accepted_by_number = by_number ∙ rw kept_is (sym (next_by_count
+      (kept_after start (accepted past q.sid q.slot)) _ q.seq (keeps_count start (accepted past q.sid q.slot))))
 
-  pub new_answer : is_accepted past q ≡ true → {answered : AnswerModel}
-      → answered ≡ Reply (reply_text (effect (state_after start past) q.caller q.command).reply)
-      → answered ≡ answer_to start past (Slot q)
-  new_answer new told = rw (told, new, usable, below)
+  pub new_answer : is_accepted past q ≡ true → answer_to start past (Slot q)
+      ≡ Reply (reply_text (effect (state_after start past) q.caller q.command).reply)
+  new_answer new = rw (new, usable, below)
 
-  pub old_answer : is_accepted past q ≡ false → {answered : AnswerModel}
-      → answered ≡ row_answer r q (command_text q.command) → answered ≡ answer_to start past (Slot q)
-  old_answer other told =
-      rw (told, other, usable, below, kept_is, verdict_is start q (accepted past q.sid q.slot), sym by_number ∙ other)
-      (sym (unaccepted_is start q (accepted past q.sid q.slot)))
+  pub old_answer : is_accepted past q ≡ false
+      → answer_to start past (Slot q) ≡ answer_kept (r.slot q.sid q.slot) q.seq (command_text q.command)
+  old_answer other =
+      rw (other, usable, below, kept_is, verdict_is start q (accepted past q.sid q.slot), sym by_number ∙ other)
+      (unaccepted_is start q (accepted past q.sid q.slot))

@@ -1,18 +1,23 @@
 -- Calls that try an event: by reads alone, by a commit, and after a read.
-use Rattle.std.proofs.Common.{◌≡◌, ◌∙◌, false, true, inl, ◌∷◌, None, Result, Ok, Err, IfOk, OnOk}
+use Rattle.std.proofs.Common.{◌≡◌, ◌∙◌, refl, false, true, inl, inr, ◌∷◌, None, Some, Result, Ok, Err, IfOk, OnOk}
 use Rattle.std.proofs.lemmas.Bool.{both_ways}
 use Rattle.room_records.specs.declared.shelf.ShelfFault.{ShelfFault}
+use Rattle.room_records.specs.declared.shelf.ShelfFault.TheVariants.{Store}
 use Rattle.room_records.specs.Records.{Records}
 use Rattle.room_records.specs.Room.{Room}
 use Rattle.room_records.specs.Shelf.{View, ShelfCall, ShelfRead, fault_in, LeavesOldOrNew}
-use Rattle.room_records.proofs.Shelves.{call_then}
+use Rattle.room_records.proofs.Shelves.{call_then, none_not_store}
 use Rattle.room_wire.specs.declared.answers.answer.Answer.{Answer}
+use Rattle.room_wire.specs.declared.answers.code.Code.TheVariants.{Delay}
+use Rattle.room_wire.specs.Asks.AskOf.{Event}
 use Rattle.room_wire.specs.Asks.EventModel.{EventModel}
-use Rattle.room_desk.specs.AnswerModel.{answer_model, IsTurnedAway}
+use Rattle.room_desk.specs.AnswerModel.{Refused, answer_model, IsTurnedAway}
 use Rattle.room_desk.specs.History.{History, answer_to, changes_rows}
 use Rattle.room_desk.specs.Representation.{RepresentsHistory, StandsFor}
+use Rattle.room_desk.specs.Serving.{Answered}
 use Rattle.room_desk.specs.Trying.{EventTried, JoinsHistory}
 use Rattle.room_desk.proofs.Alike.{stand_after_idle}
+use Rattle.room_desk.proofs.Calls.{one_call}
 use Rattle.room_desk.proofs.Crashes.{leaves_either}
 use Rattle.room_desk.proofs.Results.{if_ok_then}
 
@@ -34,6 +39,17 @@ joins_by_reads {start} {past} {event} {a} {b} {r} read stands says = record {
   idle = λ h idle. read.same h (stands (read.call.was_available h)).0;
   crash = λ k left may. inl (read.crash left may);
   stays_laid_out = read.stays_laid_out;
+}
+
+-- no call: the same where nothing is asked of the shelf
+pub joins_at_once : {start : Room} {past : History} {event : EventModel} {a : View} {answer : Answer}
+    → RepresentsHistory start a.records past → answer_model answer ≡ answer_to start past event
+    → changes_rows past event ≡ false → JoinsHistory start past event a a (Ok answer)
+joins_at_once {start} {past} {event} {a} stand says idle = record {
+  step = λ h. (says, stand_after_idle start a.records past event idle stand);
+  idle = λ h idle. refl;
+  crash = λ k left may. inl may;
+  stays_laid_out = λ k l. l;
 }
 
 -- a commit that leaves rows like these, which stand for the history with the event
@@ -79,4 +95,43 @@ module _ {event : EventModel} {a b c : View} {r : Result Answer ShelfFault} (rea
     refused = λ h d. if_ok_then r (refused h (read.call.laid_out (call.was_available h) d))
         (λ answer same away. same away ∙ read.same (call.was_available h) d);
     joins = λ start past stands. joins_after_read stands (joins start past);
+  }
+
+-- an event that was tried is answered; where the call gave up, with DELAY
+module _ {event : EventModel} {a b : View} where
+  pub answered_ok : {answer : Answer} → EventTried event a b (Ok answer)
+      → Answered (Ok (Event event)) a (answer_model answer) b
+  answered_ok tried = record {
+    frame = one_call a b None tried.frame;
+    quiet = λ other. tried.frame.quiet (none_not_store Store);
+    alive = λ k asked is other. tried.there k;
+    step = λ k start past stands.
+        let step = (tried.joins start past stands).step (tried.there k) in (
+          event ∷ past,
+          inl (step.0, refl),
+          λ h. (tried.frame.laid_out h (stands (tried.frame.was_available h)).0, step.1),
+        );
+    refused = tried.refused;
+    idle = λ h d start past stand. (tried.joins start past (λ _. (d, stand))).idle h;
+    crash = λ k start past stands. (tried.joins start past stands).crash k;
+    stays_laid_out = λ k start past stands. (tried.joins start past stands).stays_laid_out k;
+  }
+
+  pub answered_err : {fault : ShelfFault} → EventTried event a b (Err fault)
+      → Answered (Ok (Event event)) a (Refused Delay) b
+  answered_err {fault} tried = record {
+    frame = one_call a b (Some fault) tried.frame;
+    quiet = λ other. absurd (other refl);
+    alive = λ k asked is other. absurd (other refl);
+    step = λ k start past stands. (
+      past,
+      inr (refl, refl),
+      λ h.
+          let stood = stands (tried.frame.was_available h) in
+          (tried.frame.laid_out h stood.0, rw (tried.frame.undone h stood.0) stood.1),
+    );
+    refused = λ h d away. tried.frame.undone h d;
+    idle = λ h d start past stand. (tried.joins start past (λ _. (d, stand))).idle h;
+    crash = λ k start past stands. (tried.joins start past stands).crash k;
+    stays_laid_out = λ k start past stands. (tried.joins start past stands).stays_laid_out k;
   }

@@ -1,5 +1,4 @@
 pub mod AnswerModel
-pub mod Bodies
 pub mod History
 pub mod Representation
 pub mod RowAnswers

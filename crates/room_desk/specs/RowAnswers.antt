@@ -1,11 +1,11 @@
 -- What an event is answered by the rows. The history says the same: `proofs/Answers`.
-use Rattle.std.specs.Prelude.{◌≡◌, ◌<◌, ℕ, List, Bool, ◌==◌, ◌&&◌, Option, None, Some, if◌then◌else◌}
+use Rattle.std.specs.Prelude.{◌≡◌, ◌<◌, ℕ, List, Bool, not, ◌==◌, ◌&&◌, nat_lt, Option, None, Some, if◌then◌else◌}
 use Rattle.std.specs.Str.{bytes_eq}
 use Rattle.room_acl.specs.SubjectModel.{SubjectModel}
 use Rattle.room_slots.specs.KeptModel.{KeptModel}
 use Rattle.room_slots.specs.declared.verdict.Verdict.{Verdict}
 use Rattle.room_slots.specs.declared.verdict.Verdict.TheVariants.{New, Repeat, Uncached, FalseRetry, Misordered}
-use Rattle.room_slots.specs.Slots.{verdict}
+use Rattle.room_slots.specs.Slots.{is_next, kept_seq, verdict}
 use Rattle.room_records.specs.declared.session.SessionRow.{SessionRow}
 use Rattle.room_records.specs.declared.session.SlotRow.{SlotRow}
 use Rattle.room_records.specs.declared.change.Change.TheVariants.{PutSlot}
@@ -17,10 +17,12 @@ use Rattle.room_records.specs.Representation.{RepresentsRoom}
 use Rattle.room_commands.specs.Effect.{effect}
 use Rattle.room_commands.specs.Lawful.{IsLawful}
 use Rattle.room_commands.specs.ReplyModel.{Opened}
-use Rattle.room_wire.specs.declared.answers.code.Code.TheVariants.{BadSession, SeqMisordered, SeqFalseRetry}
+use Rattle.room_wire.specs.declared.answers.code.Code.TheVariants.{BadSession, BadSlot, SeqMisordered, SeqFalseRetry}
 use Rattle.room_wire.specs.declared.answers.code.Code.TheVariants.{SessionTaken, RetryUncached}
 use Rattle.room_wire.specs.Asks.EventModel.{Request}
 use Rattle.room_wire.specs.Forms.Texts.{command_text, reply_text}
+use Rattle.room_desk.specs.declared.requests.Found.{Found}
+use Rattle.room_desk.specs.declared.requests.Found.TheVariants as F
 use Rattle.room_desk.specs.AnswerModel.{AnswerModel, Reply, Refused}
 use Rattle.room_desk.specs.History.{if_kept, answer_again}
 
@@ -83,6 +85,21 @@ answer_by_verdict New kept = Refused SeqMisordered
 abbrev pub answer_kept : Option KeptModel → ℕ → List ℕ → AnswerModel
 answer_kept kept seq text = answer_by_verdict (verdict kept seq text) kept
 
--- what a request is answered that is not new to its slot, by the slot's row
-abbrev pub row_answer : Records → Request → List ℕ → AnswerModel
-row_answer r q text = answer_kept (r.slot q.sid q.slot) q.seq text
+-- what the rows of its session and of its slot say of a request, before its command is known
+abbrev pub found_in : Option SessionRow → Option KeptModel → SubjectModel → ℕ → ℕ → Found
+found_in None kept caller slot seq = F.Refused BadSession
+found_in (Some row) kept caller slot seq =
+    if not (is_usable caller row) then F.Refused BadSession
+    else (if not (nat_lt slot row.slots) then F.Refused BadSlot
+    else (if is_next (kept_seq kept) seq then F.New else F.Again kept))
+
+abbrev pub found_by : Records → SubjectModel → List ℕ → ℕ → ℕ → Found
+found_by r caller sid slot seq = found_in (r.session sid) (r.slot sid slot) caller slot seq
+
+abbrev pub found_for : Records → Request → Found
+found_for r q = found_by r q.caller q.sid q.slot q.seq
+
+-- a request was found to be no new one, its body is the text that its slot keeps, and that text tells the answer
+abbrev pub AnswersText : Found → ℕ → List ℕ → AnswerModel → Type 0
+AnswersText found seq body answered = (kept : KeptModel) × (found ≡ F.Again (Some kept)) × (body ≡ kept.request)
+    × (answered ≡ answer_kept (Some kept) seq body)

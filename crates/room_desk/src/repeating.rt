@@ -1,106 +1,59 @@
-//! Requests that are sent again: told by their body, before it is read.
-ghost use Rattle.std.specs.Prelude.{◌≡◌, ◌↔◌, ◌<◌, true, Some, IfSome, OnOk};
-ghost use Rattle.room_records.specs.Shelf.{ShelfRead, Tells, fault_in};
-ghost use Rattle.room_wire.specs.Forms.Commands.{command_of_body};
+//! Requests of a stream: one that is sent again is told by its body, before that is read.
+ghost use Rattle.std.specs.Prelude.{◌≡◌, MatchResult};
 ghost use Rattle.room_wire.specs.Asks.AskOf.{event_asked, sent_event};
 ghost use Rattle.room_desk.specs.AnswerModel.{answer_model};
-ghost use Rattle.room_desk.specs.Bodies.{AnswersBody, IsText, KeepsNumber, TextAsked};
-ghost use Rattle.room_desk.specs.RowAnswers.{is_usable};
+ghost use Rattle.room_desk.specs.RowAnswers.{AnswersText};
 ghost use Rattle.room_desk.specs.Serving.{Answered};
 
-use crate::desk::Desk;
-use crate::requests::answer_kept;
-use crate::sessions::is_usable;
-use room_records::{SessionRow, Shelf, ShelfFault};
-use room_slots::Kept;
-use room_wire::{Answer, Code, SentRequest, WireFault, command_text, fault_code, read_command};
+use crate::requests::{Found, SlotRequest, answer_found, answer_kept, look_up};
+use room_records::Shelf;
+use room_wire::{Answer, Code, SentRequest, fault_code, read_command};
 use std::alloc::Global;
 
-/// Whether the last number is this one.
-fn is_last(last: Option<u32>, seq: u32) -> bool
-    ensures { (result ≡ true) ↔ (last ≡ Some seq) }
+/// What a body is answered that is the text that its slot keeps, or else what was found.
+fn answer_at_once(found: Found, seq: u32, body: &[u8]) -> Result<Answer, Found>
+    ensures { MatchResult result (λ answer. AnswersText found seq body.now (answer_model answer))
+        (λ rest. rest ≡ found) }
 {
-    match last {
-        Some(last) => last == seq,
-        None => false,
+    match found {
+        Found::Again(Some(kept)) => {
+            if body == kept.request.as_slice() {
+                return Ok(answer_kept(Some(kept), seq, body));
+            }
+            Err(Found::Again(Some(kept)))
+        }
+        found => Err(found),
     }
 }
 
-/// Whether the session is open and the caller's, and has the slot.
-fn may_use(row: &SessionRow, sent: &SentRequest<'_>) -> bool
-    ensures { (result ≡ true) ↔ ((is_usable sent.now.subject row.now ≡ true) × (sent.now.slot < row.now.slots)) }
+/// Answers a request whose body is not read yet. A body that is the text that its slot keeps asks the command of that
+/// text, and is not read; any other is refused before all else where it asks no command.
+pub(crate) fn answer_sent<S: Shelf>(alloc: Global, shelf: &mut S, sent: &SentRequest<'_>) -> Answer
+    ensures { Answered (event_asked (sent_event sent.now))
+        (S.view shelf.old) (answer_model result) (S.view shelf.new) }
 {
-    is_usable(row, &sent.subject) && sent.slot < row.slots.get()
-}
-
-/// What the slot keeps, where it has the number of this request, the session is open and the caller's, and the slot is
-/// one of its slots. The slot's number is read first, so that a new request, which has another, reads no more here.
-fn kept_with_number<S: Shelf>(
-    shelf: &mut S,
-    sent: &SentRequest<'_>,
-) -> Result<Option<Kept>, ShelfFault>
-    ensures value { Tells (S.view shelf.old) (S.view shelf.new) result
-        (λ records found. IfSome found (KeepsNumber records sent.now)) }
-    ensures there { (S.view shelf.new).is_intact → OnOk result (S.view shelf.new).is_available }
-    ensures frame { ShelfRead (S.view shelf.old) (S.view shelf.new) (fault_in result) }
-{
-    let last = shelf.slot_seq(&sent.sid, sent.slot)?;
-    if !is_last(last, sent.seq) {
-        return Ok(None);
-    }
-    let Some(row) = shelf.session(&sent.sid)? else {
-        return Ok(None);
+    let Ok(found) = look_up(shelf, &sent.subject, &sent.sid, sent.slot, sent.seq) else {
+        return Answer::Refused(Code::Delay);
     };
-    if !may_use(&row, sent) {
-        return Ok(None);
-    }
-    shelf.slot(&sent.sid, sent.slot)
-}
-
-/// The text of the command that the body asks.
-fn text_asked(alloc: Global, body: &[u8]) -> Result<Vec<u8>, WireFault>
-    ensures { TextAsked (command_of_body body.now) result }
-{
-    let (command, _) = read_command(alloc, body)?;
-    Ok(command_text(alloc, &command)?)
-}
-
-/// What a request is answered whose number its slot keeps. A body that is the kept text asks the command of that text,
-/// and is not read.
-fn answer_by_body(alloc: Global, sent: &SentRequest<'_>, kept: Kept) -> Answer
-    ensures { IsText kept.request →
-        AnswersBody (command_of_body sent.now.body.now) sent.now.seq kept (answer_model result) }
-{
-    if sent.body == kept.request.as_slice() {
-        return answer_kept(Some(kept), sent.seq, sent.body);
-    }
-    match text_asked(alloc, sent.body) {
-        Ok(text) => answer_kept(Some(kept), sent.seq, &text),
+    let found = match answer_at_once(found, sent.seq, sent.body) {
+        Ok(answer) => return answer,
+        Err(found) => found,
+    };
+    match read_command(alloc, sent.body) {
+        Ok((command, keep)) => {
+            let asked = SlotRequest {
+                subject: &sent.subject,
+                sid: &sent.sid,
+                slot: sent.slot,
+                seq: sent.seq,
+                command: &command,
+                keep,
+            };
+            match answer_found(alloc, shelf, &asked, found) {
+                Ok(answer) => answer,
+                Err(_) => Answer::Refused(Code::Delay),
+            }
+        }
         Err(fault) => Answer::Refused(fault_code(fault)),
-    }
-}
-
-impl<S: Shelf> Desk<S> {
-    /// Reads a request, and answers it.
-    fn serve_read(&mut self, sent: SentRequest<'_>) -> Answer
-        ensures { Answered (event_asked (sent_event sent.entry))
-            (S.view self.old) (answer_model result) (S.view self.new) }
-    {
-        match sent.read(self.alloc) {
-            Ok(event) => self.handle(&event),
-            Err(fault) => Answer::Refused(fault_code(fault)),
-        }
-    }
-
-    /// Answers a request whose body is not read yet.
-    pub(crate) fn serve_request(&mut self, sent: SentRequest<'_>) -> Answer
-        ensures { Answered (event_asked (sent_event sent.entry))
-            (S.view self.old) (answer_model result) (S.view self.new) }
-    {
-        match kept_with_number(&mut self.shelf, &sent) {
-            Ok(Some(kept)) => answer_by_body(self.alloc, &sent, kept),
-            Ok(None) => self.serve_read(sent),
-            Err(_) => Answer::Refused(Code::Delay),
-        }
     }
 }

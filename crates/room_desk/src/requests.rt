@@ -1,5 +1,5 @@
 //! Requests in a slot.
-ghost use Rattle.std.specs.Prelude.{◌≡◌, IfOk, OnOk, true, option_map};
+ghost use Rattle.std.specs.Prelude.{◌≡◌, IfOk, OnOk, option_map};
 ghost use Rattle.room_records.specs.Rules.{SlotRules};
 ghost use Rattle.room_records.specs.Room.{Room};
 ghost use Rattle.room_records.specs.Representation.{RepresentsRoom};
@@ -8,9 +8,9 @@ ghost use Rattle.room_commands.specs.Lawful.{IsLawful};
 ghost use Rattle.room_wire.specs.Asks.EventModel.{Slot};
 ghost use Rattle.room_wire.specs.Forms.Texts.{command_text};
 ghost use Rattle.room_desk.specs.AnswerModel.{answer_model, IsTurnedAway};
-ghost use Rattle.room_desk.specs.History.{History, session_of, is_open_for, if_kept, answer_again};
+ghost use Rattle.room_desk.specs.History.{History, if_kept, answer_again};
 ghost use Rattle.room_desk.specs.Representation.{RepresentsHistory};
-ghost use Rattle.room_desk.specs.RowAnswers.{HasSlot, Ran, RanTo, answer_kept, row_answer};
+ghost use Rattle.room_desk.specs.RowAnswers.{HasSlot, Ran, RanTo, answer_kept, found_by, found_for};
 ghost use Rattle.room_desk.specs.Trying.{EventTried, JoinsHistory};
 
 use crate::sessions::is_usable;
@@ -144,49 +144,80 @@ pub(crate) fn answer_kept(kept: Option<Kept>, seq: u32, text: &[u8]) -> Answer
     }
 }
 
-/// What a request that is not new to its slot is answered, by the slot's row.
-fn answer_from_row<S: Shelf>(
-    alloc: Global,
+/// What the rows of its session and of its slot say of a request, before its command is known.
+#[derive(Debug, Drop)]
+pub(crate) enum Found {
+    /// It is refused.
+    Refused(Code),
+    /// Its number is the next one of its slot.
+    New,
+    /// It has another number; what its slot keeps tells the answer.
+    Again(Option<Kept>),
+}
+
+/// Looks a request up: the session is tested first, then the slot, then the number. The slot's row may be long, so of a
+/// new request the number alone is read.
+pub(crate) fn look_up<S: Shelf>(
     shelf: &mut S,
-    asked: &SlotRequest,
-) -> Result<Answer, ShelfFault>
+    subject: &Subject,
+    sid: &Sid,
+    slot: u32,
+    seq: u32,
+) -> Result<Found, ShelfFault>
     ensures value { Tells (S.view shelf.old) (S.view shelf.new) result
-        (λ records answer. answer_model answer ≡ row_answer records asked.now (command_text asked.now.command)) }
+        (λ records found. found ≡ found_by records subject.now sid.now slot seq) }
     ensures there { (S.view shelf.new).is_intact → OnOk result (S.view shelf.new).is_available }
     ensures frame { ShelfRead (S.view shelf.old) (S.view shelf.new) (fault_in result) }
 {
-    let kept = shelf.slot(asked.sid, asked.slot)?;
+    let Some(row) = shelf.session(sid)? else {
+        return Ok(Found::Refused(Code::BadSession));
+    };
+    if !is_usable(&row, subject) {
+        return Ok(Found::Refused(Code::BadSession));
+    }
+    if slot >= row.slots.get() {
+        return Ok(Found::Refused(Code::BadSlot));
+    }
+    let last = shelf.slot_seq(sid, slot)?;
+    if is_next(last, seq) {
+        return Ok(Found::New);
+    }
+    Ok(Found::Again(shelf.slot(sid, slot)?))
+}
+
+/// What a request that is not new to its slot is answered, by the text of its command.
+fn answer_old(alloc: Global, asked: &SlotRequest, kept: Option<Kept>) -> Result<Answer, AllocError>
+    ensures { IfOk result (λ answer. answer_model answer
+        ≡ answer_kept kept asked.now.seq (command_text asked.now.command)) }
+{
     let text = command_text(alloc, asked.command)?;
     Ok(answer_kept(kept, asked.seq, &text))
 }
 
-/// A request in a slot of an open session of the caller: the number decides. The slot's row may be long, so a new
-/// request reads its number alone. Its clauses are those of `EventTried`, the last under what was tested before.
-fn in_slot<S: Shelf>(
+/// Answers a request by what was found. Its clauses are those of `EventTried`, the last under what was found.
+pub(crate) fn answer_found<S: Shelf>(
     alloc: Global,
     shelf: &mut S,
     asked: &SlotRequest,
+    found: Found,
 ) -> Result<Answer, ShelfFault>
-    ensures there { (S.view shelf.new).is_intact → OnOk result (S.view shelf.new).is_available }
     ensures frame { ShelfCall (S.view shelf.old) (S.view shelf.new) (fault_in result) }
     ensures refused { (S.view shelf.new).is_available → (S.view shelf.old).is_laid_out →
         IfOk result (λ answer. IsTurnedAway (answer_model answer)
         → (S.view shelf.new).records ≡ (S.view shelf.old).records) }
-    ensures joins { (S.view shelf.old).is_laid_out → (start : Room) (past : History)
-        → RepresentsHistory start (S.view shelf.old).records past →
-        is_open_for asked.now.sid asked.now.caller (session_of past asked.now.sid) ≡ true
-        → HasSlot (S.view shelf.old).records asked.now.sid asked.now.slot →
+    ensures joins { (S.view shelf.old).is_available → (S.view shelf.old).is_laid_out
+        → (start : Room) (past : History) → RepresentsHistory start (S.view shelf.old).records past →
+        found ≡ found_for (S.view shelf.old).records asked.now →
         JoinsHistory start past (Slot asked.now) (S.view shelf.old) (S.view shelf.new) result }
 {
-    let last = shelf.slot_seq(asked.sid, asked.slot)?;
-    if is_next(last, asked.seq) {
-        run_new(alloc, shelf, asked)
-    } else {
-        answer_from_row(alloc, shelf, asked)
+    match found {
+        Found::Refused(code) => Ok(Answer::Refused(code)),
+        Found::New => run_new(alloc, shelf, asked),
+        Found::Again(kept) => Ok(answer_old(alloc, asked, kept)?),
     }
 }
 
-/// A request to a slot: the session is tested first, then the slot, then the number.
+/// A request to a slot.
 pub(crate) fn request<S: Shelf>(
     alloc: Global,
     shelf: &mut S,
@@ -194,14 +225,6 @@ pub(crate) fn request<S: Shelf>(
 ) -> Result<Answer, ShelfFault>
     ensures { EventTried (Slot asked.now) (S.view shelf.old) (S.view shelf.new) result }
 {
-    let Some(row) = shelf.session(asked.sid)? else {
-        return Ok(Answer::Refused(Code::BadSession));
-    };
-    if !is_usable(&row, asked.subject) {
-        return Ok(Answer::Refused(Code::BadSession));
-    }
-    if asked.slot >= row.slots.get() {
-        return Ok(Answer::Refused(Code::BadSlot));
-    }
-    in_slot(alloc, shelf, asked)
+    let found = look_up(shelf, asked.subject, asked.sid, asked.slot, asked.seq)?;
+    answer_found(alloc, shelf, asked, found)
 }

@@ -8,6 +8,7 @@ ghost use Rattle.room_desk.specs.AnswerModel.{answer_model};
 ghost use Rattle.room_desk.specs.Serving.{Answered, MayAnswer};
 
 use crate::desk::Desk;
+use crate::repeating::answer_sent;
 use room_records::{Roster, Shelf};
 use room_wire::{
     Answer, Ask, Message, Question, Routed, Routes, Service, answer_question, fault_code, route,
@@ -36,7 +37,7 @@ impl<S: Shelf> Desk<S> {
         match route(self.alloc, message, lookup.routes, lookup.roster) {
             Ok(Routed::Ask(Ask::Check(question))) => self.serve_question(&question),
             Ok(Routed::Ask(Ask::Event(event))) => self.handle(&event),
-            Ok(Routed::Request(sent)) => self.serve_request(sent),
+            Ok(Routed::Request(sent)) => answer_sent(self.alloc, &mut self.shelf, &sent),
             Err(fault) => Answer::Refused(fault_code(fault)),
         }
     }

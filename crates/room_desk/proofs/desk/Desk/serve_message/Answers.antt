@@ -20,4 +20,4 @@ returns-in-Ok-Ask-Event g c = λ m s.
 
 pub returns-in-Ok-Request : goal.returns-in-Ok-Request
 returns-in-Ok-Request g c = λ m s.
-    rw (c.in-Ok-Request.ensures m s, c.in-Ok-Request.field-0-is) c.serve_request.ensures
+    rw (c.in-Ok-Request.ensures m s, c.in-Ok-Request.field-0-is) (rw (← c.self.view_is) c.answer_sent.ensures)
