@@ -1,6 +1,8 @@
 -- Answers to the messages of a stream, one after another, by a history.
-use Rattle.std.proofs.Common.{◌≡◌, ℕ, List, [], ◌∷◌, ◌++◌, refl, sym, ap, ◌∙◌, arith, Result, Ok, Err, Option, inl, inr}
+use Rattle.std.proofs.Common.{◌≡◌, ◌≢◌, ℕ, List, [], ◌∷◌, ◌++◌, refl, sym, ap, ◌∙◌, arith}
+use Rattle.std.proofs.Common.{Result, Ok, Err, Option, inl, inr}
 use Rattle.room_acl.specs.SubjectModel.{SubjectModel}
+use Rattle.room_records.specs.Records.{Records}
 use Rattle.room_records.specs.Room.{Room}
 use Rattle.room_records.specs.Shelf.{View}
 use Rattle.room_wire.specs.declared.answers.code.Code.TheVariants.{Delay}
@@ -20,8 +22,16 @@ use Rattle.room_wire.specs.Serving.Outputs.{Outputs}
 use Rattle.room_desk.specs.AnswerModel.{AnswerModel, Refused}
 use Rattle.room_desk.specs.History.{History}
 use Rattle.room_desk.specs.Representation.{StandsFor}
-use Rattle.room_desk.specs.Serving.{AnswersOrDelays, AnswersMessage, DeskCall, Answered, MayAnswer}
+use Rattle.room_desk.specs.Serving.{AnswersOrDelays, AnswersMessage, DeskCall, Answered, AskChangesFew, MayAnswer}
 use Rattle.room_desk.proofs.Calls.{no_call, calls_then}
+
+-- what is answered otherwise than by DELAY and asks no event changes nothing
+few_unasked : (start : Room) (past : History) (ask : Result AskModel WireFault) (r : Records) (answered : AnswerModel)
+    → ((event : EventModel) → ask ≡ Ok (Event event) → answered ≡ Refused Delay) → answered ≢ Refused Delay
+    → AskChangesFew start past ask r r
+few_unasked start past (Ok (Check question)) r answered delays other = tt
+few_unasked start past (Ok (Event event)) r answered delays other = absurd (other (delays event refl))
+few_unasked start past (Err fault) r answered delays other = tt
 
 -- an answer that leaves the shelf as it was
 pub stays : (ask : Result AskModel WireFault) (s : View) (answered : AnswerModel)
@@ -34,6 +44,7 @@ stays ask s answered delays says = record {
   step = λ k start past stands. (past, says start past, stands);
   refused = λ h d away. refl;
   idle = λ h d start past stands idle. refl;
+  few = λ h d start past stands other. few_unasked start past ask s.records answered delays other;
   crash = λ k start past stands left may. inl may;
   stays_laid_out = λ k start past stands l. l;
 }

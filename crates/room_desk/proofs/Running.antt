@@ -113,5 +113,12 @@ commits {r} {from} {room} {p} {q} {outcome} {row} {changes} asked same stand slo
         leaves = after ∙ rw (same, changes_are, kept) (changes_then outcome.changes.items (PutSlot (ran_row room q)) r);
         says = refl;
         lawful = lawful;
+        made = record {
+          changes = outcome.changes.items;
+          of_tree = plans.of_tree;
+          few = plans.few;
+          numbers = plans.numbers;
+          leaves = after ∙ rw (same, changes_are, kept) refl;
+        };
       };
     }

@@ -21,7 +21,7 @@ use Rattle.room_desk.specs.Trying.{EventTried, JoinsHistory}
 use Rattle.room_desk.proofs.Alike.{stand_after_idle}
 use Rattle.room_desk.proofs.Bodies.{kept_text}
 use Rattle.room_desk.proofs.Calls.{one_call}
-use Rattle.room_desk.proofs.Trying.{tried_after_read}
+use Rattle.room_desk.proofs.Trying.{idle_few, tried_after_read}
 
 -- rows that were read stand for what they stood for
 stand_after_read : {a b : View} {fault : Option ShelfFault} → ShelfRead a b fault → (start : Room) (past : History)
@@ -40,6 +40,7 @@ delayed_by_read ask a b fault read = record {
   step = λ k start past stands. (past, inr (refl, refl), stand_after_read read start past stands);
   refused = λ h d away. read.same h d;
   idle = λ h d start past stand idle. read.same h d;
+  few = λ h d start past stand other. absurd (other refl);
   crash = λ k start past stands left may. inl (read.crash left may);
   stays_laid_out = λ k start past stands. read.stays_laid_out k;
 }
@@ -63,6 +64,9 @@ answered_by_kept sent {found} {a} {b} {answered} read there tells (kept, again, 
       );
   refused = λ h d away. read.same h d;
   idle = λ h d start past stand idle. read.same h d;
+  few = λ h d start past stand other.
+      let (event, asks, says, idle) = kept_text stand sent kept (sym (tells h d) ∙ again) answered same told in
+      rw asks (idle_few start past event a.records b.records idle);
   crash = λ k start past stands left may. inl (read.crash left may);
   stays_laid_out = λ k start past stands. read.stays_laid_out k;
 }

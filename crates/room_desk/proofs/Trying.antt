@@ -1,5 +1,6 @@
 -- Calls that try an event: by reads alone, by a commit, and after a read.
-use Rattle.std.proofs.Common.{◌≡◌, ◌∙◌, refl, false, true, inl, inr, ◌∷◌, None, Some, Result, Ok, Err, IfOk, OnOk}
+use Rattle.std.proofs.Common.{◌≡◌, ◌∙◌, refl, subst, false, true, inl, inr, ◌∷◌, None}
+use Rattle.std.proofs.Common.{Some, Result, Ok, Err, IfOk, OnOk}
 use Rattle.std.proofs.lemmas.Bool.{both_ways}
 use Rattle.room_records.specs.declared.shelf.ShelfFault.{ShelfFault}
 use Rattle.room_records.specs.declared.shelf.ShelfFault.TheVariants.{Store}
@@ -10,10 +11,11 @@ use Rattle.room_records.proofs.Shelves.{call_then, none_not_store}
 use Rattle.room_wire.specs.declared.answers.answer.Answer.{Answer}
 use Rattle.room_wire.specs.declared.answers.code.Code.TheVariants.{Delay}
 use Rattle.room_wire.specs.Asks.AskOf.{Event}
-use Rattle.room_wire.specs.Asks.EventModel.{EventModel}
+use Rattle.room_wire.specs.Asks.EventModel.{EventModel, Open, Close, Slot}
 use Rattle.room_desk.specs.AnswerModel.{Refused, answer_model, IsTurnedAway}
 use Rattle.room_desk.specs.History.{History, answer_to, changes_rows}
 use Rattle.room_desk.specs.Representation.{RepresentsHistory, StandsFor}
+use Rattle.room_desk.specs.RowAnswers.{EventChangesFew}
 use Rattle.room_desk.specs.Serving.{Answered}
 use Rattle.room_desk.specs.Trying.{EventTried, JoinsHistory}
 use Rattle.room_desk.proofs.Alike.{stand_after_idle}
@@ -27,6 +29,13 @@ pub there_where_ok : {a b : View} (r : Result Answer ShelfFault) → ShelfCall a
 there_where_ok (Ok answer) call there intact = call.alive intact (there intact)
 there_where_ok (Err fault) call there intact = tt
 
+-- an event that changes nothing is no accepted request
+pub idle_few : (start : Room) (past : History) (event : EventModel) (old new : Records)
+    → changes_rows past event ≡ false → EventChangesFew start past event old new
+idle_few start past (Open caller sid slots) old new idle = tt
+idle_few start past (Close caller sid) old new idle = tt
+idle_few start past (Slot q) old new idle = λ accepted. absurd (both_ways _ idle accepted)
+
 -- reads alone: the answer is the history's, to an event that changes nothing
 pub joins_by_reads : {start : Room} {past : History} {event : EventModel} {a b : View} {r : Result Answer ShelfFault}
     → ShelfRead a b (fault_in r) → StandsFor start past a
@@ -37,6 +46,8 @@ joins_by_reads {start} {past} {event} {a} {b} {r} read stands says = record {
   step = λ h. let (d, stand) = stands (read.call.was_available h) in if_ok_then r (says h d stand)
       (λ answer told. (told.0, rw (read.same h d) (stand_after_idle start a.records past event told.1 stand)));
   idle = λ h idle. read.same h (stands (read.call.was_available h)).0;
+  few = λ h. let (d, stand) = stands (read.call.was_available h) in if_ok_then r (says h d stand)
+      (λ answer told. idle_few start past event a.records b.records told.1);
   crash = λ k left may. inl (read.crash left may);
   stays_laid_out = read.stays_laid_out;
 }
@@ -48,6 +59,7 @@ pub joins_at_once : {start : Room} {past : History} {event : EventModel} {a : Vi
 joins_at_once {start} {past} {event} {a} stand says idle = record {
   step = λ h. (says, stand_after_idle start a.records past event idle stand);
   idle = λ h idle. refl;
+  few = λ h. idle_few start past event a.records a.records idle;
   crash = λ k left may. inl may;
   stays_laid_out = λ k l. l;
 }
@@ -56,12 +68,14 @@ joins_at_once {start} {past} {event} {a} stand says idle = record {
 pub joins_by_commit : {start : Room} {past : History} {event : EventModel} {a b : View} {r : Result Answer ShelfFault}
     {Made : Records → Type 0} → a.is_available → changes_rows past event ≡ true
     → ((left : Records) → Made left → RepresentsHistory start left (event ∷ past))
+    → ((left : Records) → Made left → EventChangesFew start past event a.records left)
     → (b.is_available → IfOk r (λ answer. (answer_model answer ≡ answer_to start past event) × Made b.records))
     → (b.is_intact → LeavesOldOrNew a b Made) → (b.is_intact → a.leaves_laid_out → b.leaves_laid_out)
     → JoinsHistory start past event a b r
-joins_by_commit {start} {past} {event} {a} {b} {r} there changes stands ok crash stays = record {
+joins_by_commit {start} {past} {event} {a} {b} {r} there changes stands few ok crash stays = record {
   step = λ h. if_ok_then r (ok h) (λ answer done. (done.0, stands b.records done.1));
   idle = λ h idle. absurd (both_ways _ idle changes);
+  few = λ h. if_ok_then r (ok h) (λ answer done. few b.records done.1);
   crash = λ k left may. leaves_either (crash k left may) (λ old. old) (λ made. (there, (changes, stands left made)));
   stays_laid_out = stays;
 }
@@ -78,6 +92,8 @@ module _ {event : EventModel} {a b c : View} {r : Result Answer ShelfFault} (rea
       (read.same h d, then h d (rw (read.same h d) stand))) in record {
         step = λ h. (now (call.was_available h)).1.step h;
         idle = λ h idle. (now (call.was_available h)).1.idle h idle ∙ (now (call.was_available h)).0;
+        few = λ h. subst (λ old. IfOk r (λ answer. EventChangesFew start past event old c.records))
+            (now (call.was_available h)).0 ((now (call.was_available h)).1.few h);
         crash = λ k left may.
             leaves_either ((now (there (call.was_intact k))).1.crash k left may) (read.crash left)
             (λ made. (read.call.was_available made.0, made.1));
@@ -113,6 +129,7 @@ module _ {event : EventModel} {a b : View} where
         );
     refused = tried.refused;
     idle = λ h d start past stand. (tried.joins start past (λ _. (d, stand))).idle h;
+    few = λ h d start past stand other. (tried.joins start past (λ _. (d, stand))).few h;
     crash = λ k start past stands. (tried.joins start past stands).crash k;
     stays_laid_out = λ k start past stands. (tried.joins start past stands).stays_laid_out k;
   }
@@ -132,6 +149,7 @@ module _ {event : EventModel} {a b : View} where
     );
     refused = λ h d away. tried.frame.undone h d;
     idle = λ h d start past stand. (tried.joins start past (λ _. (d, stand))).idle h;
+    few = λ h d start past stand other. absurd (other refl);
     crash = λ k start past stands. (tried.joins start past stands).crash k;
     stays_laid_out = λ k start past stands. (tried.joins start past stands).stays_laid_out k;
   }

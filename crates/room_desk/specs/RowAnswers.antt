@@ -1,5 +1,7 @@
 -- What an event is answered by the rows. The history says the same: `proofs/Answers`.
-use Rattle.std.specs.Prelude.{◌≡◌, ◌<◌, ℕ, List, Bool, not, ◌==◌, ◌&&◌, nat_lt, Option, None, Some, if◌then◌else◌}
+use Rattle.std.specs.Prelude.{◌≡◌, ◌<◌, ℕ, List, [], ◌∷◌, ◌++◌, Bool, true, not, ◌==◌}
+use Rattle.std.specs.Prelude.{◌&&◌, nat_lt, Option, None, Some, if◌then◌else◌}
+use Rattle.std.specs.List.{AllByRecursion}
 use Rattle.std.specs.Str.{bytes_eq}
 use Rattle.room_acl.specs.SubjectModel.{SubjectModel}
 use Rattle.room_slots.specs.KeptModel.{KeptModel}
@@ -8,10 +10,11 @@ use Rattle.room_slots.specs.declared.verdict.Verdict.TheVariants.{New, Repeat, U
 use Rattle.room_slots.specs.Slots.{is_next, kept_seq, verdict}
 use Rattle.room_records.specs.declared.session.SessionRow.{SessionRow}
 use Rattle.room_records.specs.declared.session.SlotRow.{SlotRow}
+use Rattle.room_records.specs.declared.change.Change.{Change}
 use Rattle.room_records.specs.declared.change.Change.TheVariants.{PutSlot}
 use Rattle.room_records.specs.Records.{Records}
 use Rattle.room_records.specs.Rules.{SlotRules}
-use Rattle.room_records.specs.Changes.{apply_change}
+use Rattle.room_records.specs.Changes.{apply_change, apply_changes, apply_all_to_objects, IsOfObjects}
 use Rattle.room_records.specs.Room.{Room}
 use Rattle.room_records.specs.Representation.{RepresentsRoom}
 use Rattle.room_commands.specs.Effect.{effect}
@@ -19,12 +22,14 @@ use Rattle.room_commands.specs.Lawful.{IsLawful}
 use Rattle.room_commands.specs.ReplyModel.{Opened}
 use Rattle.room_wire.specs.declared.answers.code.Code.TheVariants.{BadSession, BadSlot, SeqMisordered, SeqFalseRetry}
 use Rattle.room_wire.specs.declared.answers.code.Code.TheVariants.{SessionTaken, RetryUncached}
-use Rattle.room_wire.specs.Asks.EventModel.{Request}
+use Rattle.room_tree.specs.Plans.{KeepsNumbers, most_rows}
+use Rattle.room_tree.specs.Renewals.{ChangesFewRows}
+use Rattle.room_wire.specs.Asks.EventModel.{EventModel, Request, Open, Close, Slot}
 use Rattle.room_wire.specs.Forms.Texts.{command_text, reply_text}
 use Rattle.room_desk.specs.declared.requests.Found.{Found}
 use Rattle.room_desk.specs.declared.requests.Found.TheVariants as F
 use Rattle.room_desk.specs.AnswerModel.{AnswerModel, Reply, Refused}
-use Rattle.room_desk.specs.History.{if_kept, answer_again}
+use Rattle.room_desk.specs.History.{History, is_accepted, state_after, if_kept, answer_again}
 
 -- an OPEN of a name that was opened before
 abbrev pub answer_open_again : SubjectModel → ℕ → SessionRow → AnswerModel
@@ -56,6 +61,21 @@ ran_row room q = record {
   };
 }
 
+-- what an accepted request changes: objects, by these changes, and the row of its slot. A list is put where it changes
+-- and once, few other rows change, and each object that stays keeps its number
+pub record ChangesFew (r : Records) (room : Room) (q : Request) (new : Records) : Type 0 where
+  pub changes : List Change
+  pub of_tree : AllByRecursion IsOfObjects changes
+  pub few : ChangesFewRows (most_rows q.command) r.objects changes
+  pub numbers : KeepsNumbers r.objects (apply_all_to_objects changes r.objects) room q.caller q.command
+  pub leaves : new ≡ apply_changes (changes ++ PutSlot (ran_row room q) ∷ []) r
+
+-- an event changes so few rows, where it is an accepted request; an OPEN and a CLOSE change rows of sessions and slots
+abbrev pub EventChangesFew : Room → History → EventModel → (old new : Records) → Type 0
+EventChangesFew start past (Open caller sid slots) old new = Unit {0}
+EventChangesFew start past (Close caller sid) old new = Unit {0}
+EventChangesFew start past (Slot q) old new = is_accepted past q ≡ true → ChangesFew old (state_after start past) q new
+
 -- a command was run: its reply, and the records after its changes and its slot row
 pub record Ran (r : Records) (room : Room) (q : Request) (answered : AnswerModel) (new : Records) : Type 0 where
   pub changed : Records
@@ -66,6 +86,7 @@ pub record Ran (r : Records) (room : Room) (q : Request) (answered : AnswerModel
   pub leaves : new ≡ apply_change (PutSlot (ran_row room q)) changed
   pub says : answered ≡ Reply (reply_text (effect room q.caller q.command).reply)
   pub lawful : IsLawful q.command
+  pub made : ChangesFew r room q new
 
 -- the records after a command was run
 abbrev pub RanTo : Records → Room → Request → Records → Type 0

@@ -16,6 +16,7 @@ use Rattle.room_wire.specs.Serving.Outputs.{Outputs}
 use Rattle.room_desk.specs.AnswerModel.{AnswerModel, Reply, Refused, IsTurnedAway}
 use Rattle.room_desk.specs.History.{History, answer_to, changes_rows}
 use Rattle.room_desk.specs.Representation.{RepresentsHistory, StandsFor, StandsWith}
+use Rattle.room_desk.specs.RowAnswers.{EventChangesFew}
 
 -- what was asked is answered: a question and a refusal change nothing, and an event joins the history
 abbrev pub AnswersAsk : Room → History → Result AskModel WireFault → AnswerModel → History → Type 0
@@ -57,8 +58,15 @@ pub record DeskCall (old new : View) : Type 0 where
   pub laid_out : new.is_available → old.is_laid_out → new.is_laid_out
   pub never_falls : old.failures ≤ new.failures
 
+-- an event that was asked changes few rows
+abbrev pub AskChangesFew : Room → History → Result AskModel WireFault → (old new : Records) → Type 0
+AskChangesFew start past (Ok (Check question)) old new = Unit {0}
+AskChangesFew start past (Ok (Event event)) old new = EventChangesFew start past event old new
+AskChangesFew start past (Err fault) old new = Unit {0}
+
 -- what a shelf is after an answer: the rows stand for the history before it, or for one event more. While the store is
--- available, they are the same rows after a refusal, and where what was asked changes nothing. Save where the answer is
+-- available, they are the same rows after a refusal, and where what was asked changes nothing; an accepted
+-- request changes few. Save where the answer is
 -- DELAY, the count of failures is the same, and an intact store is available where an event was asked. A crash leaves
 -- what it could leave before, or, of an event that changes what is kept and found the store there, the rows that stand
 -- for the history with it; and that stays laid out
@@ -74,6 +82,9 @@ pub record Answered (ask : Result AskModel WireFault) (before : View)
   pub idle : after.is_available → before.is_laid_out → (start : Room) (past : History)
       → RepresentsHistory start before.records past →
       ask_changes_rows past ask ≡ false → after.records ≡ before.records
+  pub few : after.is_available → before.is_laid_out → (start : Room) (past : History)
+      → RepresentsHistory start before.records past →
+      answered ≢ Refused Delay → AskChangesFew start past ask before.records after.records
   pub crash : after.is_intact → (start : Room) (past : History) → StandsFor start past before →
       LeavesOldOrNew before after (λ left. before.is_available × StandsWithAsked start past ask left)
   pub stays_laid_out : after.is_intact → (start : Room) (past : History) → StandsFor start past before →

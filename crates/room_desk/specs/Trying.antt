@@ -8,15 +8,19 @@ use Rattle.room_wire.specs.Asks.EventModel.{EventModel}
 use Rattle.room_desk.specs.AnswerModel.{answer_model, IsTurnedAway}
 use Rattle.room_desk.specs.History.{History, answer_to, changes_rows}
 use Rattle.room_desk.specs.Representation.{RepresentsHistory, StandsFor, StandsWith}
+use Rattle.room_desk.specs.RowAnswers.{EventChangesFew}
 
 -- the call over rows that stood for this history: an answer is the history's, and the event joins it. The rows are the
--- same where the event changes nothing. A crash leaves what it could leave before, or, of an event that changes what is
--- kept and found the store there, the rows that stand for the history with it; and it stays laid out
+-- same where the event changes nothing, and an accepted request changes few. A crash leaves what it could leave before,
+-- or, of an event that changes what is kept and found the store there, the rows that stand for the history with it; and
+-- it stays laid out
 pub record JoinsHistory (start : Room) (past : History) (event : EventModel)
     (old new : View) (result : Result Answer ShelfFault) : Type 0 where
   pub step : new.is_available → IfOk result (λ answer. (answer_model answer ≡ answer_to start past event)
       × RepresentsHistory start new.records (event ∷ past))
   pub idle : new.is_available → changes_rows past event ≡ false → new.records ≡ old.records
+  pub few : new.is_available
+      → IfOk result (λ answer. EventChangesFew start past event old.records new.records)
   pub crash : new.is_intact → LeavesOldOrNew old new (λ left. old.is_available × StandsWith start past event left)
   pub stays_laid_out : new.is_intact → old.leaves_laid_out → new.leaves_laid_out
 

@@ -14,7 +14,7 @@ returns-in-New-clause-joins g c = λ there d start past stand found.
     let room = state_after start past in
     let (has, new, says) = subst (Says start (g.S.Shelf.view c.args.shelf.now).records past q)
     (sym found ∙ c.in-New.is) (said stand q) in
-    joins_by_commit there new (λ left ran. stand_after_run start past q new stand ran)
+    joins_by_commit there new (λ left ran. stand_after_run start past q new stand ran) (λ left ran new. ran.made)
     (λ h. if_ok_then c.run_new.result (c.run_new.ensures.ok h d room stand.room stand.rules has)
     (λ answer ran. (ran.says ∙ sym says, rw ran.says at ran)))
     (λ k. c.run_new.ensures.crash k there d room stand.room stand.rules has)

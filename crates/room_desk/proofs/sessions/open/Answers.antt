@@ -16,7 +16,7 @@ returns-in-None g c =
     let rules = open_rules stand c.args.subject.now c.args.slots none in
     let laid_out = first.call.laid_out read d in
     let opens = open_stands stand c.args.subject.now c.args.slots none in
-    joins_by_commit read opens.0 (λ left is. rw is opens.1)
+    joins_by_commit read opens.0 (λ left is. rw is opens.1) (λ left is. tt)
     (λ h. if_ok_both c.open_first.result made.reply (made.ok h laid_out rules)
     (λ answer reply after. (reply ∙ sym (open_answer stand c.args.subject.now c.args.slots none), after)))
     (λ k. made.crash laid_out rules) (λ k. made.frame.left_laid_out k read laid_out))
