@@ -6,7 +6,8 @@ answer's whole bytes. A line that cannot be read ends the reading with a Fault, 
 import os
 import re
 
-WAYS = {"memory", "tables", "run", "stream", "bytes", "reopened", "tripped", "tripped_tables", "lost", "sockets"}
+WAYS = {"memory", "tables", "run", "run_tables", "stream", "bytes", "reopened", "tripped", "tripped_tables", "lost",
+        "sockets"}
 SESSIONS = {"S": "0123456789abcdef0123456789abcdef", "T": "f" * 32}
 PHRASES = {200: "OK", 400: "Bad Request", 403: "Forbidden", 404: "Not Found", 409: "Conflict",
            503: "Service Unavailable"}

@@ -12,40 +12,45 @@ use crate::differences::Differences;
 use crate::fault::Fault;
 use crate::playing::Play;
 use crate::rooms::{in_memory, in_tables};
+use room_records::Shelf;
 
-/// A way in which scenes are played.
+/// How a scene is played over a shelf.
 #[derive(Clone, Copy, PartialEq, Eq)]
-pub enum Way {
-    /// Each request as an event, over memory.
-    Memory,
-    /// The same over tables.
-    Tables,
+pub enum How {
+    /// Each request as an event.
+    Events,
     /// The events between other things as one run.
     Run,
     /// The messages between other things as one stream.
     Stream,
-    /// The same over tables, a byte a read but for the middle of long messages.
+    /// The same, a byte a read but for the middle of long messages.
     Bytes,
+    /// Each request with each call of the shelf failing in turn.
+    Tripped,
+}
+
+/// A way in which scenes are played.
+#[derive(Clone, Copy, PartialEq, Eq)]
+pub enum Way {
+    Memory(How),
+    Tables(How),
     /// Over files, which are closed and opened again behind each request.
     Reopened,
-    /// With each call of the shelf failing in turn, over memory.
-    Tripped,
-    /// The same over tables.
-    TrippedTables,
-    /// With each answer lost behind each of its bytes.
+    /// Over memory, with each answer lost behind each of its bytes.
     Lost,
 }
 
 /// The ways with their words.
-pub static WAYS: [(&str, Way); 9] = [
-    ("memory", Way::Memory),
-    ("tables", Way::Tables),
-    ("run", Way::Run),
-    ("stream", Way::Stream),
-    ("bytes", Way::Bytes),
+pub static WAYS: [(&str, Way); 10] = [
+    ("memory", Way::Memory(How::Events)),
+    ("tables", Way::Tables(How::Events)),
+    ("run", Way::Memory(How::Run)),
+    ("run_tables", Way::Tables(How::Run)),
+    ("stream", Way::Memory(How::Stream)),
+    ("bytes", Way::Tables(How::Bytes)),
     ("reopened", Way::Reopened),
-    ("tripped", Way::Tripped),
-    ("tripped_tables", Way::TrippedTables),
+    ("tripped", Way::Memory(How::Tripped)),
+    ("tripped_tables", Way::Tables(How::Tripped)),
     ("lost", Way::Lost),
 ];
 
@@ -62,18 +67,32 @@ pub fn way_named(name: &str) -> Option<Way> {
     None
 }
 
+impl How {
+    /// Plays a scene over the shelf of a fresh room. (All of them in one function over any shelf: each call over tables
+    /// makes a proof longer.)
+    fn play<S: Shelf + Drop>(
+        self,
+        play: &Play<'_>,
+        fresh: S,
+        differences: &mut Differences<'_>,
+    ) -> Result<(), Fault> {
+        match self {
+            How::Events => events::play(play, fresh, differences),
+            How::Run => batches::play(play, fresh, differences),
+            How::Stream => messages::play(play, fresh, false, differences),
+            How::Bytes => messages::play(play, fresh, true, differences),
+            How::Tripped => trips::play(play, fresh, differences),
+        }
+    }
+}
+
 impl Way {
     /// Plays a scene. Differences are told.
     pub fn play(self, play: &Play<'_>, differences: &mut Differences<'_>) -> Result<(), Fault> {
         match self {
-            Way::Memory => events::play(play, in_memory(play.alloc)?, differences),
-            Way::Tables => events::play(play, in_tables(play.alloc)?, differences),
-            Way::Run => batches::play(play, differences),
-            Way::Stream => messages::play(play, in_memory(play.alloc)?, false, differences),
-            Way::Bytes => messages::play(play, in_tables(play.alloc)?, true, differences),
+            Way::Memory(how) => how.play(play, in_memory(play.alloc)?, differences),
+            Way::Tables(how) => how.play(play, in_tables(play.alloc)?, differences),
             Way::Reopened => files::play(play, differences),
-            Way::Tripped => trips::play(play, in_memory(play.alloc)?, differences),
-            Way::TrippedTables => trips::play(play, in_tables(play.alloc)?, differences),
             Way::Lost => losses::play(play, differences),
         }
     }

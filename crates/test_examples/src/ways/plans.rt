@@ -11,17 +11,15 @@ use room_tree::{Command, Outcome, node_at, plan};
 use room_wire::{Event, reply_text};
 use std::alloc::Global;
 
-/// The most changes beside those of entries.
-const MOST_OTHERS: usize = 3;
-
 /// What is planned for a command.
 #[derive(Drop)]
 pub struct Planned {
     reply: Vec<u8>,
     /// The numbers of the objects whose entries are put.
     put: Vec<u32>,
-    /// How many changes there are.
-    changes: usize,
+    /// How many other changes there are, and how many the command may make.
+    others: usize,
+    most: usize,
 }
 
 fn numbers_put(alloc: Global, changes: &[Change]) -> Result<Vec<u32>, Fault> {
@@ -34,12 +32,33 @@ fn numbers_put(alloc: Global, changes: &[Change]) -> Result<Vec<u32>, Fault> {
     Ok(put)
 }
 
-fn told(alloc: Global, outcome: &Outcome) -> Result<Planned, Fault> {
+/// The most rows beside entries that a command changes: of a new object its own, the next number and a file's bytes.
+fn most_rows(command: &Command) -> usize {
+    match command {
+        Command::Create { .. } => 3,
+        Command::Mkdir { .. } => 2,
+        Command::Write { .. }
+        | Command::Append { .. }
+        | Command::Remove { .. }
+        | Command::Rename { .. }
+        | Command::SetList { .. }
+        | Command::Chown { .. } => 1,
+        Command::Stat { .. }
+        | Command::List { .. }
+        | Command::Read { .. }
+        | Command::GetList { .. }
+        | Command::Access { .. } => 0,
+    }
+}
+
+fn told(alloc: Global, command: &Command, outcome: &Outcome) -> Result<Planned, Fault> {
     let changes = outcome.changes.as_slice();
+    let put = numbers_put(alloc, changes)?;
     Ok(Planned {
         reply: reply_text(alloc, &outcome.reply)?,
-        put: numbers_put(alloc, changes)?,
-        changes: changes.len(),
+        others: changes.len().saturating_sub(put.len()),
+        most: most_rows(command),
+        put,
     })
 }
 
@@ -63,7 +82,7 @@ fn plan_event<S: Shelf>(alloc: Global, shelf: &mut S, event: &Event) -> Result<P
             ..
         } => {
             let outcome = outcome_of(alloc, shelf, subject, command)?;
-            told(alloc, &outcome)
+            told(alloc, command, &outcome)
         }
         Event::Open { .. } | Event::Close { .. } => {
             Err(Fault::Because("'puts' below what is no command"))
@@ -130,7 +149,7 @@ fn expect_path<S: Shelf>(
     differences.tell(line, text.as_str())
 }
 
-/// Compares the planned reply, and the number of changes.
+/// Compares the planned reply, and the number of other changes.
 fn expect_outcome(
     example: &Example,
     planned: &Planned,
@@ -138,8 +157,8 @@ fn expect_outcome(
 ) -> Result<(), Fault> {
     let due = example.due.body.as_slice();
     differences.expect(example.line, planned.reply.as_slice(), due)?;
-    if planned.changes > planned.put.len().saturating_add(MOST_OTHERS) {
-        return differences.tell(example.line, "more than three other changes");
+    if planned.others > planned.most {
+        return differences.tell(example.line, "more other changes than the command may make");
     }
     Ok(())
 }
