@@ -41,8 +41,8 @@ test:
 wrong:
 	@RT='$(RT)' tests/wrong/rounds $(CRATE)
 
-# Refuses each growth of memory in turn, over questions, a room, and all examples. `make test` tries a sample of those
-# of the examples.
+# Refuses each growth of memory in turn, over questions, a room, runs and all examples. `make test` tries a sample of
+# those of the examples. Needs the player of examples, as `rt run` in crates/test_examples leaves it.
 growth: build
 	RT='$(RT)' tests/growth/run
 	RT='$(RT)' tests/growth/examples --every 1
