@@ -37,6 +37,21 @@ def due(room):
     return found | {("slot", *at): it for at, it in room.slots.items() if room.sessions[at[0]][2]}
 
 
+def put(db, room, numbers):
+    """Has a fresh file hold the objects of a plain room, each by its number, of which the root's is 1."""
+    values, nodes, entries, docs = due(room), [], [], []
+    for path, number in numbers.items():
+        *node, whole, bytes_ = values["object", path]
+        nodes.append((number, numbers[path[:-1]] if path else None, path[-1] if path else "", *node))
+        entries += [(number, *entry) for entry in whole]
+        docs += [] if bytes_ is None else [(number, bytes_)]
+    with contextlib.closing(sqlite3.connect(db)) as table, table:
+        table.executescript("DELETE FROM entry; DELETE FROM node;")
+        for name, rows in ("node", nodes), ("entry", entries), ("doc", docs):
+            table.executemany(f"INSERT INTO {name} VALUES ({', '.join('?' for _ in rows[0])})", rows)
+        table.execute("UPDATE room SET next = ?", (room.made + 1,))
+
+
 def other_rows(db, room):
     """What a file has otherwise than a plain room: the value there, and the one that is due."""
     got, want = stored(db), due(room)
