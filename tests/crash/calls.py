@@ -1,12 +1,14 @@
 """A room is killed before each call that changes a file or flushes it, from `init` on; it finds no room from that call
-on, or at that one alone, or that flush fails (tests/upgrade/stop.c). Where that leaves no room, `init` makes one. Each
-request is answered as it should be or DELAY; served again, the requests follow from the first without a reply on, and
-the rows and the report of the lists are those of a run without a stop."""
+on, or at that one alone, or that flush fails (tests/upgrade/stop.c). Where that leaves no room, `init` makes one, in a
+file of its own or in a database with what somebody else keeps, which is as it was at each such end. Each request is
+answered as it should be or DELAY; served again, the requests follow from the first without a reply on, and the rows and
+the report of the lists are those of a run without a stop."""
 import os
 import signal
 import subprocess
 import tempfile
 
+import beside
 import preloaded
 from served import Room, findings_of, run, session, slot, sqlite, start_program, wait_for_port
 
@@ -41,11 +43,21 @@ def asked(line, message):
     return answer and answer.body
 
 
+def no_room(folder, others=""):
+    """A place for a room, perhaps with a database that these statements make."""
+    room = Room(folder, made=False)
+    if others:
+        sqlite(room.db, others)
+    return room
+
+
 class EachCall:
     """A story over a room, which no server has open: it is stopped in one way at one call after the other."""
 
-    def __init__(self, folder, tally, start, story):
+    def __init__(self, folder, tally, start, story, others=""):
         self.folder, self.tally, self.start, self.story, self.healed = folder, tally, start, story, 0
+        self.others = others
+        self.theirs, _ = beside.told(no_room(tempfile.mkdtemp(dir=folder), others).db)
         self.env = {**os.environ, "LD_PRELOAD": preloaded.built(folder, STOP)}
         self.whole = self.copy()
         self.follow(self.whole, "no stop", 0)
@@ -55,9 +67,9 @@ class EachCall:
         return self.start.copied(Room, tempfile.mkdtemp(dir=self.folder))
 
     def found(self, room):
-        """The rows in the file, and the report of the lists."""
+        """The rows in the file, the report of the lists, and what somebody else has there."""
         self.tally.differs("SQLite finds", findings_of(room.db), [])
-        return sqlite(room.db, ROWS), room.report("lists")
+        return sqlite(room.db, ROWS), room.report("lists"), beside.told(room.db)
 
     def play(self, line, name):
         """Sends the story until a request is answered DELAY twice, or the server is gone: how many were answered."""
@@ -103,9 +115,11 @@ class EachCall:
 
     def stopped_init(self, how, at):
         """The same of `init`: its status, and whether it left a room."""
-        room, name = Room(tempfile.mkdtemp(dir=self.folder), made=False), f"init {how} {at}"
+        room, name = no_room(tempfile.mkdtemp(dir=self.folder), self.others), f"init {how} {at}"
         status = run("init", room.db, "ann", "eng", env={**self.env, "STOP": f"{how} {at}"})[0]
         self.tally.differs(f"{name}: status {status}", status in (0, 1, -signal.SIGKILL), True)
+        if self.others:  # (a file of one byte, which is new to the program, is none to SQLite)
+            self.tally.differs(f"{name}: what is there", beside.fault(room.db, self.theirs), None)
         told = room.report("lists")
         if told[0]:
             self.tally.differs(f"{name}: what it left", told, NO_ROOM)
@@ -113,12 +127,12 @@ class EachCall:
         self.ends(room, name, 0)
         return status, not told[0]
 
-    def all(self, stopped, name):
-        """Each way at each call. Returns how often what was asked did not come to its end, as a text."""
+    def all(self, stopped, name, hows="nos"):
+        """Each of these ways at each call. Returns how often what was asked did not come to its end, as a text."""
         calls = next((at for at in range(MOST) if stopped("k", at + 1)[0] == 0), MOST)
         self.tally.differs(f"{name}: killed at some calls, and not at others", 5 < calls < MOST, True)
         told = [f"killed before each of {calls} calls"]
-        for how in "nos":
+        for how in hows:
             self.healed = 0
             cut = sum(not stopped(how, at)[1] for at in range(1, calls + 1))
             self.tally.differs(f"{name}: {HOWS[how]} was met", cut > 0, True)
@@ -133,6 +147,10 @@ def each_call(folder, tally):
     within = lambda: tempfile.mkdtemp(dir=folder)
     first = EachCall(within(), tally, Room(within()), FIRST)
     yield first.all(first.stopped_init, "init")
+    other = no_room(within(), beside.THEIRS)
+    tally.differs("init beside others", run("init", other.db, "ann", "eng"), (0, b"", b""))
+    both = EachCall(within(), tally, other, FIRST, beside.THEIRS)
+    yield both.all(both.stopped_init, "init beside others", "ns")
     yield first.all(first.stopped, "a folder and a document")
     then = EachCall(within(), tally, first.whole, THEN)
     yield then.all(then.stopped, "what follows")

@@ -29,6 +29,9 @@ CHANGED = ["UPDATE room SET version = 3;", "UPDATE room SET version = 1;", "DROP
            "DROP TABLE doc;", "ALTER TABLE session DROP COLUMN slots;"]
 OTHERS = ["CREATE TABLE rooms (one, version, next); INSERT INTO rooms VALUES (1, 2, 2);",
           "CREATE TABLE t (x INTEGER PRIMARY KEY, y TEXT); CREATE INDEX i ON t (y);"]
+# what the program's SQLite does not read, or holds against a file
+UNREAD = ["PRAGMA auto_vacuum = 1; CREATE TABLE t (x);", "PRAGMA encoding = 'UTF-16'; CREATE TABLE t (x);",
+          "CREATE TABLE u (x UNIQUE); CREATE TABLE t (x REFERENCES u (x)); INSERT INTO t VALUES (7);"]
 NAMES = [*VERSIONS[0], "kept", "ROOM", "NODE", "Entry", "dOC", "SESSIOn", '"Slot"', "Kept", "[ROOM]", "`node`"]
 
 
@@ -63,6 +66,8 @@ def cases(whole):
     yield "names in capital letters", text, None, EXISTS
     for text in OTHERS:
         yield text, text, NO_ROOM, MADE
+    for text in UNREAD:
+        yield text, text, FAILED, FAILED
     for name in NAMES:
         yield f"a table {name}", f"CREATE TABLE {name} (x); INSERT INTO {name} VALUES (7);", NO_ROOM, EXISTS
     for name in VERSIONS[1]:
