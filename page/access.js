@@ -6,6 +6,7 @@ import { button, checkbox, link, make } from "./dom.js";
 import { entryEditor } from "./editor.js";
 import { head } from "./heads.js";
 import { asOwn, follows, isInherited, newEntry, sentence, whomFault, whomOf, withFollows } from "./lists.js";
+import { shown } from "./names.js";
 import { ROOT, addressOf, folderOf } from "./places.js";
 import { FOLDER } from "./rights.js";
 import { standing } from "./stand.js";
@@ -105,7 +106,7 @@ class ListView {
     const unknown = this.own.map((it) => whomFault(it, this.roster)).filter((it) => it !== "");
     if (unknown.length && !await askAbout(unknown)) return;
     let now = null;
-    const isDone = await this.app.attempt(async () => {
+    const isDone = await this.app.attempt(`The list of ${shown(this.place.path)}`, async () => {
       now = await this.app.room.run("GETLIST", this.place.path);
       if (isSame(now, this.list)) await this.set();
     });

@@ -41,7 +41,7 @@ function asLines(text, before) {
  * the user may not read, or what is no text, nobody can tell. */
 export async function append(app, path) {
   let before = "";
-  const isRead = await app.attempt(async () => {
+  const isRead = await app.attempt(`Append to ${shown(path)}`, async () => {
     const data = (await app.room.asideIfAllowed("READ", path, { keep: false }))?.data ?? "";
     before = toText(fromBase64(data)) ?? "";
   });

@@ -8,6 +8,7 @@ import { head } from "./heads.js";
 import { isPart } from "./manifest.js";
 import { emptyTrash } from "./moving.js";
 import { byName, shown } from "./names.js";
+import { tellFault } from "./notices.js";
 import { offersFor, rightsAt, textOffers } from "./offers.js";
 import { ROOT, addressOf, inFolder, lastName } from "./places.js";
 import { canShow, nothing, preview } from "./preview.js";
@@ -51,7 +52,7 @@ function takeDrops(app, folder, element) {
   element.ondrop = async (event) => {
     event.preventDefault();
     element.classList.remove("dropping");
-    const chosen = await dropped(event.dataTransfer).catch((fault) => app.say(fault.message, false));
+    const chosen = await dropped(event.dataTransfer).catch((fault) => tellFault(fault.message));
     if (chosen) await upload(app, folder, chosen);
   };
 }
@@ -122,7 +123,7 @@ async function large(app, place, stat, rights) {
   const start = await app.room.asideIfAllowed("READ", inFolder(path, its.folder, its.pieces[0]), { keep: false });
   if (start && !canShow(fromBase64(start.data))) area.append(nothing());
   else if (rights.own & READ && its.size <= PREVIEWED) await show().catch((fault) => area.append(fault.message));
-  else area.append(button("Show it", () => app.attempt(show)));
+  else area.append(button("Show it", () => app.attempt(shown(path), show)));
   const offers = offersFor(app, path, "large", { ...rights, size: its.size });
   return [tools(...offers), about(place, stat, sizeWords(its.size)), area];
 }

@@ -44,7 +44,7 @@ export async function forEach(items, task, width = 6) {
 }
 
 /** For who waits for no end and shows none. */
-export const NOBODY = { add() {}, check() {}, note() {}, overtaken: () => null };
+export const NOBODY = { add() {}, check() {}, note() {}, fail() {}, overtaken: () => null };
 
 export const bytesAt = async (room, path, more) => fromBase64((await room.aside("READ", path, more)).data);
 
@@ -139,7 +139,7 @@ class Upload {
     if (!ours || ours.owner === owner && ours.group === group) return;
     await give(this.room, levels, { owner, group }).catch((fault) => {
       if (!(fault instanceof Refusal)) throw fault;
-      this.transfer.note(`What was uploaded of ${shown(lastName(this.path))} stays yours, and ${owner} may lack ` +
+      this.transfer.fail(`What was uploaded of ${shown(lastName(this.path))} stays yours, and ${owner} may lack ` +
         `rights on it: ${fault.message}`);
     });
   }
@@ -148,6 +148,7 @@ class Upload {
     await this.putManifest(this.path, this.before === null);
     if (this.before === null && !this.isMade) await this.share([[inFolder(this.path, form.NAME)]]);
     await this.lookAfter();
+    if (this.clears) this.transfer.note(`What a stopped upload of ${shown(lastName(this.path))} left is cleared.`);
     if (this.isMade) await clearBeside(this.room, this.path, this.transfer);
     return this.path;
   }
@@ -164,9 +165,7 @@ class Upload {
     if (!isLeft && !(this.before && form.readManifest(this.before))) {
       throw new Error(`A folder has the name ${shown(lastName(this.path))}.`);
     }
-    if (isLeft || this.names.some(([name]) => form.isLeft(name))) {
-      this.transfer.note(`What a stopped upload of ${shown(lastName(this.path))} left is cleared.`);
-    }
+    this.clears = isLeft || this.names.some(([name]) => form.isLeft(name));
     return null;
   }
 
@@ -315,7 +314,7 @@ async function clear(room, at, name, transfer) {
     if (!name.startsWith(form.GONE)) await room.step("RENAME", inFolder(at, name), { to: gone });
     await removeAll(room, gone);
   } catch (fault) {
-    if (!isRefused(fault, NOENT, NOTDIR)) transfer.note(`Something is left of the upload: ${fault.message}`);
+    if (!isRefused(fault, NOENT, NOTDIR)) transfer.fail(`Something is left of the upload: ${fault.message}`);
   }
 }
 

@@ -10,6 +10,7 @@ import { head } from "./heads.js";
 import { Login, logOut } from "./login.js";
 import { showMatrix } from "./matrix.js";
 import { shown } from "./names.js";
+import { pass, say, settle, tellFault } from "./notices.js";
 import { ROOT, addressOf, placeOf } from "./places.js";
 import { Room } from "./room.js";
 import { arrive, leave, standing } from "./stand.js";
@@ -42,27 +43,24 @@ class App {
   /** Tells how a request ended that was under way when a tab ended. */
   tellLeft(command, reply, fault) {
     const { cmd, path } = command;
-    if (!reply && !fault) return this.say(LEFT, false);
+    if (!reply && !fault) return tellFault(LEFT);
     if (["STAT", "LIST", "READ", "GETLIST", "ACCESS"].includes(cmd)) return;
     const end = fault?.message ?? (reply.code === 0 ? "it is done, once." : new Refusal(reply, command).message);
-    this.say(`A request from before was sent again, ${cmd} of ${shown(path)}: ${end}`, reply?.code === 0);
+    (reply?.code === 0 ? say : tellFault)(`A request from before was sent again, ${cmd} of ${shown(path)}: ${end}`);
   }
 
-  say(words, isGood = true) {
-    const it = make("p", { className: isGood ? "good" : "fault" }, words, " ");
-    it.append(button("Close", () => it.remove(), { className: "small" }));
-    part("notices").replaceChildren(it);
-  }
-
-  /** Runs it with the page at rest: a second press of a button does nothing. True where it was done. */
-  async attempt(task) {
+  /** Runs it with the page at rest: a second press of a button does nothing. True where it was done; else its fault is
+   * told, with `what` it was, in words. */
+  async attempt(what, task) {
+    const about = `${this.room?.name} ${what}`;
     part("main").inert = true;
     part("main").setAttribute("aria-busy", "true");
     try {
       await task();
+      settle(about);
       return true;
     } catch (fault) {
-      this.say(fault.message, false);
+      tellFault(`${what}: ${fault.message}`, about);
       return false;
     } finally {
       part("main").inert = false;
@@ -78,26 +76,25 @@ class App {
       location.hash = addressOf({ room: here.room, path: moved.to });
     } else {
       const back = standing();
-      this.say(words);
+      say(words);
       await this.show(back);
     }
   }
 
   /** What went on beside the page has ended: a folder is shown anew, where nobody is at something else. */
-  async ended(words, isGood) {
-    this.say(words, isGood);
+  async ended() {
     await untilClosed();
     await this.shown;
     if (placeOf(location.hash)?.view === "open") await this.show(standing());
   }
 
-  /** The address has changed. What was said before is of another place, save where an action led here. */
+  /** The address has changed. Plain words of before are of another place, save where an action led here. */
   async come() {
     if (isUnsaved() && location.hash !== this.here && !this.isLosing) return this.askToLeave();
     this.isLosing = false;
     closeAll();
-    part("notices").replaceChildren();
-    if (this.saying) this.say(this.saying);
+    pass();
+    if (this.saying) say(this.saying);
     this.saying = null;
     leave(this.here);
     await this.show(() => arrive(location.hash));
@@ -133,7 +130,7 @@ class App {
     const place = placeOf(location.hash) ?? { view: "open", room: this.rooms[0], path: ROOT };
     const turn = this.turn += 1;
     this.here = location.hash;
-    await this.attempt(async () => {
+    await this.attempt(shown(place.path), async () => {
       const nodes = await this.nodesOf(place);
       if (turn !== this.turn) return;
       part("main").replaceChildren(...nodes);

@@ -143,7 +143,7 @@ class MatrixView {
 
   more() {
     const left = this.objects.length - this.count;
-    const show = () => this.app.attempt(() => {
+    const show = () => this.app.attempt("Who may do what", () => {
       this.count += MOST_OBJECTS;
       return this.draw();
     });
@@ -153,7 +153,7 @@ class MatrixView {
   narrow(found) {
     if (this.users.length <= MOST_USERS) return [];
     const field = make("input", { type: "search", value: this.word });
-    field.onchange = () => this.app.attempt(() => {
+    field.onchange = () => this.app.attempt("Who may do what", () => {
       this.word = field.value.trim();
       return this.draw();
     });

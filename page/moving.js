@@ -78,7 +78,8 @@ export async function copyTo(app, path) {
     if (isThere) throw new Error("Something has this name already.");
   });
   if (!to) return;
-  await transferring(app, `Copy of ${shown(nameAt(path))}`, { total: 1, unit: String }, async (transfer) => {
+  const how = { total: 1, unit: String, about: `copy ${room.name} ${path}` };
+  await transferring(app, `Copy of ${shown(nameAt(path))}`, how, async (transfer) => {
     await copy(room, path, to, transfer);
     return `${calledAt(path)} is copied to ${shown(to)}.`;
   });
@@ -113,7 +114,7 @@ const WITH_TRASH = "With a trash, what somebody removes lies in a folder that is
 
 export async function remove(app, path) {
   let [its, what] = [{}, []];
-  const isAsked = await app.attempt(async () => {
+  const isAsked = await app.attempt(`Remove ${calledAt(path)}`, async () => {
     [its, what] = await Promise.all([trashWords(app, path), contentsWords(app, path)]);
   });
   if (!isAsked) return;
@@ -134,7 +135,7 @@ export async function remove(app, path) {
 /** All that is in the user's trash. */
 export async function emptyTrash(app, path) {
   const what = [];
-  const isAsked = await app.attempt(async () => what.push(...await contentsWords(app, path)));
+  const isAsked = await app.attempt("Empty the trash", async () => what.push(...await contentsWords(app, path)));
   const task = async () => {
     for (const [name] of (await app.room.aside("LIST", path)).names) await removeAll(app.room, inFolder(path, name));
   };
@@ -161,7 +162,7 @@ async function whyNotBack(room, path, place) {
 export async function putBack(app, path) {
   const { place } = toldBy(path);
   let [why, to] = ["", place];
-  const isTried = await app.attempt(async () => {
+  const isTried = await app.attempt(`Put back ${calledAt(path)}`, async () => {
     why = await whyNotBack(app.room, path, place);
   });
   if (!isTried) return;
@@ -178,7 +179,7 @@ export async function download(app, path, size) {
   const name = nameAt(path);
   const title = `Download of ${shown(name)}`;
   const { room } = app;
-  await transferring(app, title, { total: size ?? 0 }, async (transfer) => {
+  await transferring(app, title, { total: size ?? 0, about: `download ${room.name} ${path}` }, async (transfer) => {
     const start = performance.now();
     const bytes = await readFile(room, path, transfer);
     save(new Blob([bytes], { type: "application/octet-stream" }), name);
@@ -191,24 +192,27 @@ export async function download(app, path, size) {
 export async function downloadFolder(app, path) {
   const name = path === ROOT ? app.room.name : nameAt(path);
   const { room } = app;
-  await transferring(app, `Zip of ${shown(name)}`, { total: 0, unit: String }, async (transfer) => {
+  const how = { total: 0, unit: String, about: `zip ${room.name} ${path}` };
+  await transferring(app, `Zip of ${shown(name)}`, how, async (transfer) => {
     const found = await below(room, path, transfer);
     found.sort((a, b) => (a.path < b.path ? -1 : 1));
-    const [zip, start, left, used] = [new Zip(), namesOf(path).length, [], new Set()];
+    const [zip, start, used] = [new Zip(), namesOf(path).length, new Set()];
     transfer.total = transfer.bar.max = found.length;
     for (const it of found) {
       transfer.check();
       let inside = [name, ...namesOf(it.path).slice(start)].map(forDisk).join("/");
       while (used.has(inside)) inside += "_";
       used.add(inside);
-      if (it.isShut) left.push(it.path);
+      if (it.isShut) transfer.fail(`${shown(it.path)} is empty in it: you may not look into it.`);
       if (it.kind === FOLDER) zip.add(`${inside}/`);
       else await readFile(room, it.path, { ...NOBODY, check: () => transfer.check() })
-        .then((bytes) => zip.add(inside, bytes), (fault) => left.push(`${it.path} (${fault.message})`));
+        .then((bytes) => zip.add(inside, bytes), (fault) => {
+          transfer.check();
+          transfer.fail(`${shown(it.path)} is not in it. ${fault.message}`);
+        });
       transfer.add(1);
     }
     transfer.check();
-    if (left.length) transfer.note(`Not in it: ${left.map(shown).join(", ")}.`);
     save(zip.end(), `${name}.zip`);
     return `${shown(name)}.zip is made, of ${found.length} things.`;
   });

@@ -1,6 +1,7 @@
 /** The table of what is in a folder. Sizes are asked for rows that are seen, rights where a row's menu is opened. */
 import { button, link, make, nameText } from "./dom.js";
 import { manifestAt } from "./files.js";
+import { tellFault } from "./notices.js";
 import { inOrder, shown } from "./names.js";
 import { offersFor, rightsOn } from "./offers.js";
 import { addressOf, inFolder } from "./places.js";
@@ -84,7 +85,7 @@ export function things(app, place, names, rights) {
     for (const { target, isIntersecting } of entries) {
       if (!isIntersecting) continue;
       seen.unobserve(target);
-      target.row.look().catch((fault) => app.say(fault.message, false));
+      target.row.look().catch((fault) => tellFault(fault.message));
     }
   });
   const pictures = new SmallPictures(app.room);

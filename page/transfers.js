@@ -2,6 +2,7 @@
 import { ask } from "./dialogs.js";
 import { button, make } from "./dom.js";
 import { shown } from "./names.js";
+import { say, settle, tellFaults } from "./notices.js";
 import { folderOf, inFolder, lastName, withMark } from "./places.js";
 import { watchEnd } from "./unsaved.js";
 
@@ -18,12 +19,13 @@ export const plural = (count, one) => `${count} ${one}${count === 1 ? "" : "s"}`
 
 class Transfer {
   notes = [];
+  faults = [];
   done = 0;
   isCancelled = false;
 
-  /** `unit` tells a count of what is to be done in words. */
-  constructor(app, title, total, unit = sizeWords) {
-    Object.assign(this, { app, total, unit });
+  /** `unit` tells a count of what is to be done in words, `about` what it is among all others. */
+  constructor(app, title, { total, unit = sizeWords, about }) {
+    Object.assign(this, { app, title, total, unit, about });
     this.bar = make("progress", { max: Math.max(total, 1), value: 0, "aria-label": title });
     this.words = make("span", {});
     this.element = make("p", { className: "transfer" }, make("span", {}, title), this.bar, this.words,
@@ -50,6 +52,11 @@ class Transfer {
     this.notes.push(words);
   }
 
+  /** Something of it went wrong. It goes on. */
+  fail(words, about = this.about) {
+    this.faults.push({ words, about });
+  }
+
   /** Somebody else wrote a version meanwhile, and its pieces have that owner, where that may be seen: true to put this
    * one in its place, the path of a copy, or null. */
   async overtaken(path, owner) {
@@ -61,20 +68,24 @@ class Transfer {
   }
 }
 
-/** Runs the task with a transfer, beside the page, and tells its end: what the task gives, in words. */
-export async function transferring(app, title, { total, unit }, task) {
-  const it = new Transfer(app, title, total, unit);
+/** Runs the task with a transfer, beside the page, and tells its end: what the task gives, in words, and its faults. */
+export async function transferring(app, title, how, task) {
+  const it = new Transfer(app, title, how);
   const unwatch = watchEnd(() => true);
   document.getElementById("transfers").append(it.element);
-  let [words, isGood] = ["", false];
+  let words = "";
   try {
     words = await task(it);
-    isGood = it.notes.length === 0;
+    settle(it.about);
   } catch (fault) {
-    words = fault instanceof Cancelled ? `${title}: cancelled.` : `${title}: ${fault.message}`;
+    if (fault instanceof Cancelled) words = `${title}: cancelled.`;
+    else it.fail(fault.message);
   } finally {
     unwatch();
     it.element.remove();
   }
-  await app.ended([words, ...it.notes].join(" "), isGood);
+  const plain = [words, ...it.notes].filter((one) => one !== "");
+  if (plain.length) say(plain.join(" "));
+  tellFaults(it.title, it.faults);
+  await app.ended();
 }

@@ -1,7 +1,7 @@
 /** Folders with all that is in them: what they hold, copies of them, and their files. */
 import { NOBODY, forEach, readFile, writeFile } from "./files.js";
 import { NAME, isPart, isUnfinished } from "./manifest.js";
-import { clean } from "./names.js";
+import { clean, shown } from "./names.js";
 import { inFolder, namesOf } from "./places.js";
 import { FOLDER } from "./rights.js";
 
@@ -57,8 +57,8 @@ export async function copy(room, from, to, transfer) {
     await writeFile(room, at(path), await readFile(room, path, quiet), quiet, true);
     transfer.add(1);
   }, 3);
-  const shut = found.filter((it) => it.isShut).length;
-  if (shut) transfer.note(`${shut} folders could not be looked into, and are empty in the copy.`);
+  const shut = found.filter((it) => it.isShut).map((it) => it.path);
+  for (const path of shut) transfer.fail(`${shown(path)} is empty in the copy: you may not look into it.`);
 }
 
 /** Whether a name has the letters that are looked for, in either case. */

@@ -4,6 +4,7 @@ import { button, make } from "./dom.js";
 import { EXIST, NOBODY, forEach, orElse, readFile, writeFile } from "./files.js";
 import { MOST } from "./manifest.js";
 import { clean, shown } from "./names.js";
+import { settle, tellFault } from "./notices.js";
 import { MOST_THINGS, folderOf, inFolder, lastName, nameFault, namesOf, withMark } from "./places.js";
 import { plural, sizeWords, transferring } from "./transfers.js";
 
@@ -50,14 +51,19 @@ function faultOf({ names, file }) {
   return file?.size > MOST ? `${shown(names.join("/"))} has more than 16 MiB.` : "";
 }
 
+/** What an upload to these paths is, among all that is done. */
+const aboutOf = (room, ...paths) => `upload ${room.name} ${paths.join(" ")}`;
+
+const goalOf = (folder, names) => inFolder(folder, ...names.map(clean));
+
 /** Those that can be sent. Where some cannot, it is said why, and asked whether the others shall go. */
-async function fitting(app, chosen) {
+async function fitting(app, folder, chosen) {
   const faults = chosen.map(faultOf);
   const fit = chosen.filter((_, at) => faults[at] === "");
   const told = faults.filter((it) => it !== "");
   if (told.length === 0) return fit;
   if (chosen.length === 1) {
-    app.say(`${told[0]} Nothing was sent.`, false);
+    tellFault(`${told[0]} Nothing was sent.`, aboutOf(app.room, goalOf(folder, chosen[0].names)));
     return [];
   }
   const isWanted = await ask({ title: `${told.length} of ${chosen.length} cannot be uploaded`, words: listed(told),
@@ -143,39 +149,50 @@ async function mayOverflow(wanted, folder, folders) {
 async function sendAll(app, transfer, wanted, folder) {
   const { room } = app;
   for (const path of foldersOf(wanted, folder)) await orElse(room.step("MKDIR", path), null, EXIST);
-  const [faults, start, files] = [[], performance.now(), wanted.filter((it) => it.file)];
+  const [start, files, isOne] = [performance.now(), wanted.filter((it) => it.file), wanted.length === 1];
+  let [count, size] = [0, 0];
   await forEach(files, async ({ path, file, isNew }) => {
     transfer.check();
     try {
       await writeFile(room, path, new Uint8Array(await file.arrayBuffer()), transfer, isNew);
+      settle(aboutOf(room, path));
+      [count, size] = [count + 1, size + file.size];
     } catch (fault) {
       transfer.check();
-      faults.push(`${shown(lastName(path))}: ${fault.message}`);
+      transfer.fail(isOne ? fault.message : `${shown(path)}: ${fault.message}`, aboutOf(room, path));
     }
   }, AT_ONCE);
-  if (faults.length) {
-    const more = faults.length > MOST_TOLD ? ` And ${faults.length - MOST_TOLD} more.` : "";
-    const told = faults.slice(0, MOST_TOLD).join(" ");
-    throw new Error(`${faults.length} of ${plural(files.length, "file")} failed. ${told}${more}`);
-  }
+  const failed = files.length - count;
+  if (failed && !isOne) transfer.title = `${failed} of ${plural(files.length, "file")} failed`;
+  if (failed && count === 0) return "";
   const seconds = (performance.now() - start) / 1_000;
-  return `${plural(files.length, "file")} uploaded: ${sizeWords(transfer.done)} in ${seconds.toFixed(1)} seconds.`;
+  return `${plural(count, "file")} uploaded: ${sizeWords(size)} in ${seconds.toFixed(1)} seconds.`;
 }
 
-/** Uploads what was chosen or dropped into the folder. */
-export async function upload(app, folder, chosen) {
-  const fit = await fitting(app, chosen);
+/** What is to be sent of what was chosen, and how, by the user's word. */
+async function wantedOf(app, folder, chosen) {
+  const fit = await fitting(app, folder, chosen);
   const folders = new Folders(app.room);
-  let wanted = fit.map(({ names, file }) => ({ path: inFolder(folder, ...names.map(clean)), file, isNew: true }));
+  let wanted = fit.map(({ names, file }) => ({ path: goalOf(folder, names), file, isNew: true }));
   const clashes = await clashesOf(wanted, folders);
   const answer = clashes.length ? await askAbout(clashes.map((it) => it.path)) : true;
-  if (answer === null) return;
+  if (answer === null) return [];
   if (answer === "skip") wanted = wanted.filter((it) => !clashes.includes(it));
   for (const it of clashes) {
     if (answer === "both") it.path = await folders.free(it.path);
     else it.isNew = false;
   }
-  if (wanted.length && await mayOverflow(wanted, folder, folders)) await start(app, wanted, folder);
+  return wanted.length && await mayOverflow(wanted, folder, folders) ? wanted : [];
+}
+
+/** Uploads what was chosen or dropped into the folder. */
+export async function upload(app, folder, chosen) {
+  try {
+    const wanted = await wantedOf(app, folder, chosen);
+    if (wanted.length) await start(app, wanted, folder);
+  } catch (fault) {
+    tellFault(`Upload to ${shown(folder)}: ${fault.message}`);
+  }
 }
 
 /** Makes a copy of a file beside it, before it is replaced. */
@@ -197,7 +214,7 @@ function askToReplace(app, path, file, mayKeep) {
  * may lie beside it. */
 export async function newVersion(app, path, [it], replaces) {
   const fault = faultOf({ ...it, names: [lastName(path)] });
-  if (fault) return app.say(`${fault} Nothing was sent.`, false);
+  if (fault) return tellFault(`${fault} Nothing was sent.`, aboutOf(app.room, path));
   if (replaces && !await askToReplace(app, path, it.file, replaces.mayKeep)) return;
   await start(app, [{ path, file: it.file, isNew: false }], folderOf(path));
 }
@@ -205,5 +222,6 @@ export async function newVersion(app, path, [it], replaces) {
 function start(app, wanted, folder) {
   const total = wanted.reduce((sum, { file }) => sum + (file?.size ?? 0), 0);
   const title = wanted.length === 1 ? `Upload of ${shown(lastName(wanted[0].path))}` : `Upload of ${wanted.length}`;
-  return transferring(app, title, { total }, (it) => sendAll(app, it, wanted, folder));
+  const about = aboutOf(app.room, ...wanted.map((it) => it.path));
+  return transferring(app, title, { total, about }, (it) => sendAll(app, it, wanted, folder));
 }

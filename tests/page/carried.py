@@ -306,7 +306,7 @@ def drops(club, differs):
 
 
 def too_many(club, differs):
-    """More than a folder holds is told before anything is sent; as much goes as fits, and the rest is told in short."""
+    """More than a folder holds is told before anything is sent; as much goes as fits, and the rest is told."""
     browser = club.browser
     for count in range(250):
         on_disk(club, f"many/{count}", b"")
@@ -320,9 +320,9 @@ def too_many(club, differs):
     differs("nothing was sent", len(club.names("/full")), 20)
     put(club, "/full", *files)
     browser.press("Upload what fits")
-    browser.sees("14 of 250 files failed.", "#notices")
-    browser.sees("And 4 more.", "#notices")
-    differs("in short", browser.shown().count("The folder is full"), 10)
+    browser.sees("14 of 250 files failed:", "#notices")
+    differs("each is told", browser.shown().count("The folder is full"), 14)
+    browser.press("Close", "//*[@id='notices']/*[contains(., 'failed')]")
     differs("what fits", len(club.names("/full")), 256)
 
 

@@ -1,0 +1,48 @@
+/** What is told at the top of the page. A fault stays until it is closed, or until what it is about goes well; a plain
+ * word goes with the next one, and with the place. */
+import { button, make } from "./dom.js";
+
+const section = document.getElementById("notices");
+
+function put(how, ...children) {
+  const it = make("div", how, ...children);
+  const words = it.querySelector("p") ?? it;
+  words.append(" ", button("Close", () => it.remove(), { className: "small" }));
+  section.prepend(it); // (the newest is seen first, where there are more than have room)
+}
+
+/** Plain words go. */
+export const pass = () => section.querySelectorAll(".good").forEach((it) => it.remove());
+
+export function say(words) {
+  pass();
+  put({ className: "good" }, words);
+}
+
+/** What this is about went well: its faults go, and a list of faults with the last that is in it. */
+export function settle(about) {
+  for (const it of section.querySelectorAll("[data-about]")) {
+    if (it.dataset.about !== about) continue;
+    const whole = it.closest(".fault");
+    it.remove();
+    if (!whole.querySelector("[data-about]")) whole.remove();
+  }
+}
+
+/** Faults of one thing that was done, `{about, words}`, below words that they have in common. */
+export function tellFaults(words, faults) {
+  for (const it of faults) settle(it.about);
+  const how = (about) => ({ "data-about": about });
+  if (faults.length === 1) {
+    put({ className: "fault", ...how(faults[0].about) }, `${words}: ${faults[0].words}`);
+  } else if (faults.length) {
+    const items = faults.map((it) => make("li", how(it.about), it.words));
+    put({ className: "fault" }, make("p", {}, `${words}:`), make("ul", {}, ...items));
+  }
+}
+
+/** A fault that says itself what it is about. */
+export function tellFault(words, about = words) {
+  settle(about);
+  put({ className: "fault", "data-about": about }, words);
+}
