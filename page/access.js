@@ -10,6 +10,7 @@ import { shown } from "./names.js";
 import { ROOT, addressOf, folderOf } from "./places.js";
 import { FOLDER } from "./rights.js";
 import { standing } from "./stand.js";
+import { standingAt } from "./trees.js";
 
 /** The names that may be meant in an entry: of the roster, and of the list itself. */
 function knownNames(roster, entries) {
@@ -150,7 +151,7 @@ function words({ kind, owner, group }) {
 }
 
 export async function showAccess(app, place) {
-  const its = await app.room.standing(place.path);
+  const its = await standingAt(app.room, place.path);
   const list = await app.room.run("GETLIST", place.path).catch((fault) => fault);
   if (list instanceof Refusal) return [...head(place), make("p", { className: "fault" }, list.message)];
   if (list instanceof Error) throw list;

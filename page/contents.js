@@ -3,7 +3,7 @@ import * as actions from "./actions.js";
 import { fromBase64, toText } from "./bytes.js";
 import { Refusal } from "./codes.js";
 import { button, link, make } from "./dom.js";
-import { manifestAt, readFile } from "./files.js";
+import { ACCESS, isRefused, manifestAt, readFile } from "./files.js";
 import { head } from "./heads.js";
 import { isPart } from "./manifest.js";
 import { emptyTrash } from "./moving.js";
@@ -12,14 +12,13 @@ import { tellFault } from "./notices.js";
 import { offersFor, rightsAt, textOffers } from "./offers.js";
 import { ROOT, addressOf, inFolder, lastName } from "./places.js";
 import { canShow, nothing, preview } from "./preview.js";
-import { ADD_FILE, ADD_FOLDER, FILE, FOLDER, READ } from "./rights.js";
+import { ADD_FILE, ADD_FOLDER, FILE, FOLDER, LARGE, READ } from "./rights.js";
 import { things } from "./things.js";
 import { sizeWords } from "./transfers.js";
 import { beforeWords, pathOfTrash, trashOf } from "./trash.js";
 import { kindBy } from "./trees.js";
 import { dropped, filesButton, upload } from "./uploads.js";
 
-const ACCESS = 5;
 const PREVIEWED = 2 ** 22; // bytes of a large file that are read to be shown without being asked for
 
 /** What the task gives, or the refusal of a right on this very object: then the rest of the view is still of use. */
@@ -27,7 +26,7 @@ async function orRefused(task, path) {
   try {
     return await task;
   } catch (fault) {
-    if (fault instanceof Refusal && fault.code === ACCESS && fault.path === path) return fault;
+    if (isRefused(fault, ACCESS) && fault.path === path) return fault;
     throw fault;
   }
 }
@@ -124,7 +123,7 @@ async function large(app, place, stat, rights) {
   if (start && !canShow(fromBase64(start.data))) area.append(nothing());
   else if (rights.own & READ && its.size <= PREVIEWED) await show().catch((fault) => area.append(fault.message));
   else area.append(button("Show it", () => app.attempt(shown(path), show)));
-  const offers = offersFor(app, path, "large", { ...rights, size: its.size });
+  const offers = offersFor(app, path, LARGE, { ...rights, size: its.size });
   return [tools(...offers), about(place, stat, sizeWords(its.size)), area];
 }
 

@@ -1,8 +1,8 @@
 /** One entry of a list, as a sentence that opens into its fields. */
 import { button, checkbox, make, select } from "./dom.js";
 import { input } from "./dialogs.js";
-import { REACH, WHOM, isDeny, sentence, whomFault, whomOf, withWhom } from "./lists.js";
-import { FOLDER, RIGHTS, SETS, bothWords } from "./rights.js";
+import { REACH, WHOM, carried, isDeny, sentence, whomFault, whomOf, withWhom } from "./lists.js";
+import { FOLDER, LARGE, RIGHTS, SETS, bothWords, setOf } from "./rights.js";
 
 const CHOSEN = "chosen";
 
@@ -14,9 +14,9 @@ class Fields {
   }
 
   set(entry) {
-    this.entry = entry;
+    this.entry = this.kind === LARGE ? carried(entry) : entry;
     this.fault.textContent = whomFault(entry, this.roster);
-    this.changed(entry);
+    this.changed(this.entry);
   }
 
   verb() {
@@ -38,28 +38,34 @@ class Fields {
   }
 
   rights() {
-    const boxes = RIGHTS.map((it) => this.right(it));
+    this.boxes = RIGHTS.map((it) => this.right(it));
     const choices = [...SETS.map(({ mask, does }) => ({ value: String(mask), word: does })),
       { value: CHOSEN, word: "do what is chosen below" }];
     this.sets = select(choices, this.setNow(), (it) => {
-      if (it !== CHOSEN) this.set({ ...this.entry, mask: Number(it) });
-      for (const [at, { bit }] of RIGHTS.entries()) boxes[at].firstChild.checked = (this.entry.mask & bit) !== 0;
+      if (it === CHOSEN) return;
+      this.set({ ...this.entry, mask: Number(it) });
+      this.showRights();
     }, { "aria-label": "Rights" });
-    const some = (isAsked) => boxes.filter((_, at) => RIGHTS[at].isAsked === isAsked);
+    const some = (isAsked) => this.boxes.filter((_, at) => RIGHTS[at].isAsked === isAsked);
     return [make("fieldset", {}, make("legend", {}, "Rights"), ...some(true),
       make("details", {}, make("summary", {}, "Rights that no command asks for"), ...some(false)))];
   }
 
   setNow() {
-    return SETS.some((it) => it.mask === this.entry.mask) ? String(this.entry.mask) : CHOSEN;
+    return String(setOf(this.entry.mask, this.kind)?.mask ?? CHOSEN);
   }
 
   right(it) {
     const words = this.kind === FOLDER ? bothWords(it) : it[this.kind];
     return checkbox(`${words} (${it.words.join(", ")})`, (this.entry.mask & it.bit) !== 0, () => {
       this.set({ ...this.entry, mask: this.entry.mask ^ it.bit });
-      this.sets.value = this.setNow();
+      this.showRights();
     });
+  }
+
+  showRights() {
+    for (const [at, { bit }] of RIGHTS.entries()) this.boxes[at].firstChild.checked = (this.entry.mask & bit) !== 0;
+    this.sets.value = this.setNow();
   }
 
   reach() {

@@ -1,7 +1,7 @@
 /** Files of up to 16 MiB: a small one is a document, a large one a folder with pieces (docs/FILES.md). */
 import { MOST_BYTES, fromBase64, toBase64 } from "./bytes.js";
 import { Refusal } from "./codes.js";
-import { asOwn, follows, isInherited } from "./lists.js";
+import { carried, follows, isInherited } from "./lists.js";
 import * as form from "./manifest.js";
 import { shown } from "./names.js";
 import { folderOf, inFolder, lastName, namesOf } from "./places.js";
@@ -11,7 +11,7 @@ export const NOENT = 1;
 export const NOTDIR = 2;
 const ISDIR = 3;
 export const EXIST = 4;
-const ACCESS = 5;
+export const ACCESS = 5;
 const NOTEMPTY = 6;
 const TRIES = 5; // of a reader that meets one new version after another
 
@@ -234,14 +234,6 @@ class Upload {
       if (isOld || form.isLeft(name)) await clear(this.room, this.path, name, this.transfer);
     }
   }
-}
-
-const BESIDE = { 0x1: 0x20, 0x2: 0x66, 0x4: 0x66 }; // what a folder has to allow beside a document's right
-
-/** An entry of a document, for the folder in its place. */
-function carried(entry) {
-  const more = entry.type === 0 ? Object.entries(BESIDE).filter(([bit]) => entry.mask & bit) : [];
-  return { ...asOwn(entry), flag: asOwn(entry).flag | 3, mask: more.reduce((mask, [, it]) => mask | it, entry.mask) };
 }
 
 /** A document gives its name to a large file, which keeps its owner and its list. */

@@ -1,5 +1,5 @@
 /** Entries of a list in words, and back. docs/LISTS.md has the rules; whether an entry is lawful the room says. */
-import { FILE, FOLDER, RIGHTS, SETS, bothWords, rightsIn } from "./rights.js";
+import { FILE, FOLDER, LARGE, RIGHTS, SETS, bothWords, rightsIn, setOf } from "./rights.js";
 
 const DENY = 1;
 const GROUP_FLAG = 0x40;
@@ -40,7 +40,16 @@ export const isInherited = (entry) => (entry.flag & MARK) !== 0;
 export const asOwn = (entry) => ({ ...entry, flag: entry.flag & ~MARK });
 export const isDeny = (entry) => entry.type === DENY;
 export const newEntry = (kind) =>
-  ({ type: 0, flag: kind === FOLDER ? TO_FILES | TO_FOLDERS : 0, mask: SETS[0].mask, who: "EVERYONE@" });
+  ({ type: 0, flag: kind === FILE ? 0 : TO_FILES | TO_FOLDERS, mask: SETS[0].mask, who: "EVERYONE@" });
+
+const BESIDE = { 0x1: 0x20, 0x2: 0x66, 0x4: 0x66 }; // what a folder has to allow beside a document's right
+
+/** An entry of a document, as the folder that is a large file needs it, and hands it down to its pieces. */
+export function carried(entry) {
+  const more = entry.type === 0 ? Object.entries(BESIDE).filter(([bit]) => entry.mask & bit) : [];
+  return { ...asOwn(entry), flag: asOwn(entry).flag | TO_FILES | TO_FOLDERS,
+    mask: more.reduce((mask, [, it]) => mask | it, entry.mask) };
+}
 
 /** Whether an object takes over what its folder hands down. */
 export function follows(aclflag) {
@@ -78,9 +87,10 @@ export function joined(words) {
 
 /** The rights of an entry, in the words of the kinds of objects for which it counts. */
 function rightsWords({ mask, flag }, kind) {
-  const set = SETS.find((it) => it.mask === mask);
+  const set = setOf(mask, kind);
   if (set) return set.does;
   if (mask === 0) return "do nothing";
+  if (kind === LARGE) return joined(rightsIn(mask, LARGE));
   const isForFiles = kind === FILE || flag & NOT_HERE && flag & TO_FILES && !(flag & TO_FOLDERS);
   const isForBoth = !isForFiles && kind === FOLDER && flag & TO_FILES;
   if (!isForBoth) return joined(rightsIn(mask, isForFiles ? FILE : FOLDER));
@@ -95,9 +105,12 @@ function reachWords(flag) {
     ` in it${depth}.`;
 }
 
+/** Whether an entry of a large file counts for all of it. */
+const isOfAll = ({ flag }) => (flag & (TO_FILES | TO_FOLDERS | CHILDREN_ALONE | NOT_HERE)) === (TO_FILES | TO_FOLDERS);
+
 /** An entry as a sentence. */
 export function sentence(entry, kind, standing) {
   const verb = isDeny(entry) ? "Deny" : "Allow";
-  const reach = kind === FOLDER ? ` ${reachWords(entry.flag)}` : "";
+  const reach = kind === FOLDER || kind === LARGE && !isOfAll(entry) ? ` ${reachWords(entry.flag)}` : "";
   return `${verb} ${whomWords(entry, standing)} to ${rightsWords(entry, kind)}.${reach}`;
 }

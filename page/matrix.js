@@ -2,13 +2,15 @@
 import { button, labelled, make, nameText } from "./dom.js";
 import { head } from "./heads.js";
 import { joined, whomOf } from "./lists.js";
+import { NAME } from "./manifest.js";
 import { byName, shown } from "./names.js";
 import { foldersAbove, inFolder, lastName, ROOT } from "./places.js";
-import { ALL, FOLDER, LEGEND, NOT_KNOWN, PASS_THROUGH, SHUT_OUT, askedOf, levelOf, rightsIn } from "./rights.js";
-import { kindBy } from "./trees.js";
+import { ALL, FOLDER, LARGE, LEGEND, NOT_KNOWN, PASS_THROUGH, SHUT_OUT, askedOf, levelOf, ofLarge,
+  rightsIn } from "./rights.js";
+import { kindBy, lookInto } from "./trees.js";
 
 const MOST_USERS = 20; // columns shown at once
-const MOST_OBJECTS = 40; // rows shown at first, and added each time: two requests each
+const MOST_OBJECTS = 40; // rows shown at first, and added each time: some requests each
 
 /** What is asked of the room for one matrix, each thing once. */
 class Questions {
@@ -30,11 +32,26 @@ class Questions {
     });
   }
 
+  /** What something is that the room calls a folder or a document. */
+  async kindOf({ path, kind }) {
+    if (kind !== FOLDER) return kind;
+    const its = await this.once(`into ${path}`, () => lookInto(this.app.room, path));
+    return its.kind === LARGE ? LARGE : FOLDER;
+  }
+
+  /** What the user may do with an object, or null. Of a large file the list counts, and what it hands down. */
+  async mayDo({ path, kind }, user, groups) {
+    const own = await this.allowed(path, user, groups);
+    if (kind !== LARGE || own === null) return own;
+    const inside = await this.allowed(inFolder(path, NAME), user, groups);
+    return inside === null ? null : ofLarge(own, inside);
+  }
+
   /** The rights that the object's list allows the user, or null where that is not known. */
   async allowed(path, user, groups) {
     const it = await this.object(path);
     const isOwn = user === this.app.user;
-    if (isOwn && !(it && groups)) return this.once(`${path} own`, () => this.own(path));
+    if (isOwn && !(it && groups)) return this.once(`own ${path}`, () => this.own(path));
     const key = JSON.stringify([user, it]);
     return it && this.once(key, () => this.app.room.allowed(it, user, groups ?? []));
   }
@@ -56,7 +73,7 @@ class Questions {
 }
 
 async function cellOf(questions, { path, kind }, user, groups) {
-  const allowed = await questions.allowed(path, user, groups);
+  const allowed = await questions.mayDo({ path, kind }, user, groups);
   const barrier = await questions.barrier(path, user, groups);
   const level = barrier.folder ? SHUT_OUT : allowed === null ? NOT_KNOWN : levelOf(allowed, kind);
   return { path, kind, user, allowed, barrier, level };
@@ -90,12 +107,12 @@ async function table(questions, objects, users, detail) {
   const titles = users.map(([user]) => make("th", { scope: "col" }, nameText(user)));
   const rows = [];
   for (const object of objects) {
-    const cells = [];
+    const [path, kind, cells] = [object.path, await questions.kindOf(object), []];
     for (const [user, groups] of users) {
-      cells.push(cellElement(await cellOf(questions, object, user, groups), detail));
+      cells.push(cellElement(await cellOf(questions, { path, kind }, user, groups), detail));
     }
-    const end = object.kind === FOLDER && object.path !== ROOT ? "/" : "";
-    rows.push(make("tr", {}, make("th", { scope: "row" }, nameText(lastName(object.path)), end), ...cells));
+    const end = kind === FOLDER && path !== ROOT ? "/" : "";
+    rows.push(make("tr", {}, make("th", { scope: "row" }, nameText(lastName(path)), end), ...cells));
   }
   return make("div", { className: "wide", tabIndex: 0, role: "region", "aria-label": "Users and objects" },
     make("table", { className: "matrix" }, make("thead", {}, make("tr", {}, make("th", { scope: "col" }, "Object"),

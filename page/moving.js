@@ -2,7 +2,7 @@
 import { save } from "./bytes.js";
 import { ask, input } from "./dialogs.js";
 import { button, checkbox, make, nameText } from "./dom.js";
-import { EXIST, NOBODY, NOENT, NOTDIR, isRefused, manifestAt, readFile, removeAll } from "./files.js";
+import { ACCESS, EXIST, NOBODY, NOENT, NOTDIR, isRefused, manifestAt, orElse, readFile, removeAll } from "./files.js";
 import { isPart } from "./manifest.js";
 import { byName, clean, forDisk, shown } from "./names.js";
 import { ROOT, folderOf, inFolder, nameFault, namesOf } from "./places.js";
@@ -34,7 +34,7 @@ class Chooser {
     found.names.sort(byName);
     const isNone = ([name, kind]) => kind !== FOLDER || isPart(name) || inFolder(to, name) === this.path;
     const isFile = await Promise.all(found.names.map((it) => isNone(it) ||
-      LIKE_FILE.test(it[0]) && manifestAt(this.app.room, inFolder(to, it[0]))));
+      LIKE_FILE.test(it[0]) && orElse(manifestAt(this.app.room, inFolder(to, it[0])), null, ACCESS)));
     if (this.goal !== to) return;
     this.value = to;
     this.draw(found.names.filter((_, at) => !isFile[at]));

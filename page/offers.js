@@ -4,14 +4,10 @@ import * as actions from "./actions.js";
 import { button } from "./dom.js";
 import * as moving from "./moving.js";
 import { ROOT, folderOf } from "./places.js";
-import { ADD_FILE, ADD_FOLDER, ALL, FILE, FOLDER, PASS_THROUGH as PASS, READ } from "./rights.js";
+import { ADD_FILE, ADD_FOLDER, ALL, APPEND, DELETE, DELETE_CHILD, FILE, FOLDER, LARGE, PASS_THROUGH as PASS, READ,
+  WRITE } from "./rights.js";
 import { toldBy } from "./trash.js";
 import { filesButton, newVersion } from "./uploads.js";
-
-const WRITE = 0x2;
-const APPEND = 0x4;
-const DELETE_CHILD = 0x40;
-const DELETE = 0x10000;
 
 /** The rights that the caller has on it. */
 export async function rightsOn(room, path) {
@@ -26,9 +22,9 @@ export async function rightsAt(room, path) {
   return { own, above };
 }
 
-/** Buttons for an object of a kind: FILE, FOLDER, "large" or "unfinished". */
+/** Buttons for an object of a kind: FILE, FOLDER, LARGE or "unfinished". */
 export function offersFor(app, path, kind, { own, above, size }) {
-  const [isFile, isLarge, isTop, isThrown] = [kind === FILE, kind === "large", path === ROOT, toldBy(path) !== null];
+  const [isFile, isLarge, isTop, isThrown] = [kind === FILE, kind === LARGE, path === ROOT, toldBy(path) !== null];
   const isOver = (isLarge || kind === "unfinished") && has(own, ADD_FILE, ADD_FOLDER, PASS);
   const isMovable = !isTop && (has(own, DELETE) || has(above, DELETE_CHILD));
   const replaces = kind === "unfinished" ? null : { mayKeep: has(own, READ) && has(above, ADD_FILE, ADD_FOLDER) };

@@ -2,11 +2,12 @@
 
 export const FILE = "file";
 export const FOLDER = "folder";
+export const LARGE = "large"; // a document in pieces, whose list is that of the folder that holds them
 
 const right = (bit, words, onFile, onFolder = onFile) =>
-  ({ bit, words, [FILE]: onFile, [FOLDER]: onFolder, isAsked: true });
-const ofFolders = (bit, words, does) =>
-  ({ ...right(bit, words, `${does} (of folders alone)`, does), isOfFolders: true });
+  ({ bit, words, [FILE]: onFile, [FOLDER]: onFolder, [LARGE]: onFile, isAsked: true });
+const ofFolders = (bit, words, does, onLarge) =>
+  ({ ...right(bit, words, `${does} (of folders alone)`, does), [LARGE]: onLarge, isOfFolders: true });
 const unasked = (bit, word) => ({ ...right(bit, [word], word.replaceAll("-", " ")), isAsked: false });
 
 /** In the order in which they are shown, with the words that the command `room` has for them: of a document and of a
@@ -15,9 +16,9 @@ export const RIGHTS = [
   right(0x1, ["read", "list"], "read it", "see what is in it"),
   right(0x4, ["append", "add-folder"], "append to it", "make folders in it"),
   right(0x2, ["write", "add-file"], "replace its text", "make documents in it"),
-  ofFolders(0x20, ["execute", "traverse"], "pass through to what is in it"),
+  ofFolders(0x20, ["execute", "traverse"], "pass through to what is in it", "get at its pieces"),
   right(0x10000, ["delete"], "remove or rename it"),
-  ofFolders(0x40, ["delete-child"], "remove or rename what is in it"),
+  ofFolders(0x40, ["delete-child"], "remove or rename what is in it", "remove its old pieces"),
   right(0x80, ["read-attributes"], "see its owner and size"),
   right(0x20000, ["read-acl"], "see its list"),
   right(0x40000, ["write-acl"], "change its list"),
@@ -32,9 +33,13 @@ export const RIGHTS = [
 
 export const ALL = RIGHTS.reduce((mask, it) => mask | it.bit, 0);
 export const READ = 0x1;
+export const WRITE = 0x2;
+export const APPEND = 0x4;
 export const ADD_FILE = 0x2;
 export const ADD_FOLDER = 0x4;
 export const PASS_THROUGH = 0x20;
+export const DELETE_CHILD = 0x40;
+export const DELETE = 0x10000;
 
 export const VIEW = 0x1200a9; // what a new room gives to its group
 
@@ -46,6 +51,10 @@ export const SETS = [
   { mask: ALL, name: "all", does: "do all", tells: "change, and its list and its owner too" },
 ];
 
+/** The set that a mask is. (The right to remove its old pieces makes no other one of a large file's.) */
+export const setOf = (mask, kind) =>
+  SETS.find((it) => ((it.mask ^ mask) & ~(kind === LARGE ? DELETE_CHILD : 0)) === 0);
+
 /** For the legend of the matrix: the sets, and what they alone do not tell. */
 const SOME = { name: "some", word: "some", tells: "other rights alone, as passing through: press the cell" };
 const NONE = { name: "none", word: "none", tells: "no right on it" };
@@ -55,10 +64,17 @@ const LEVELS = SETS.map(({ name, tells }) => ({ name, word: name, tells }));
 const MORE = { name: "more", word: "view+", tells: "view and more, which is no set of its own: press the cell" };
 export const LEGEND = [...LEVELS.toReversed(), MORE, SOME, NONE, SHUT_OUT, NOT_KNOWN];
 
-/** The rights of a mask that commands ask for, of that kind of object. */
+/** The rights of a mask that commands ask for, of that kind of object. (To a large file nothing is appended.) */
 export function askedOf(mask, kind) {
-  return RIGHTS.filter((it) => it.isAsked && !(kind === FILE && it.isOfFolders))
-    .reduce((found, { bit }) => found | (mask & bit), 0);
+  const isOf = (it) => kind === FOLDER || !it.isOfFolders && !(kind === LARGE && it.bit === APPEND);
+  return RIGHTS.filter((it) => it.isAsked && isOf(it)).reduce((found, { bit }) => found | (mask & bit), 0);
+}
+
+/** What somebody may do with a large file, of those rights on it and of these on what is in it. */
+export function ofLarge(own, inside) {
+  const needs = [[READ, READ | PASS_THROUGH], [WRITE, ADD_FILE | ADD_FOLDER | PASS_THROUGH]];
+  const lacks = needs.filter(([bit, all]) => (own & all) !== all || !(inside & bit));
+  return lacks.reduce((mask, [bit]) => mask & ~bit, own);
 }
 
 /** What somebody may do, summed up: the largest set that is allowed whole, with a + where more is allowed. */

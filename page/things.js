@@ -1,15 +1,14 @@
 /** The table of what is in a folder. Sizes are asked for rows that are seen, rights where a row's menu is opened. */
 import { button, link, make, nameText } from "./dom.js";
-import { manifestAt } from "./files.js";
-import { tellFault } from "./notices.js";
 import { inOrder, shown } from "./names.js";
+import { tellFault } from "./notices.js";
 import { offersFor, rightsOn } from "./offers.js";
 import { addressOf, inFolder } from "./places.js";
-import { FILE, FOLDER } from "./rights.js";
+import { FILE, FOLDER, LARGE } from "./rights.js";
 import { SmallPictures } from "./small.js";
 import { sizeWords } from "./transfers.js";
 import { beforeWords, nameAt } from "./trash.js";
-import { kindBy } from "./trees.js";
+import { lookInto } from "./trees.js";
 
 /** What a row's object is, and how large: `{kind, words, size}`. */
 async function lookAt(room, path, kind) {
@@ -17,12 +16,10 @@ async function lookAt(room, path, kind) {
     const stat = await room.asideIfAllowed("STAT", path);
     return { kind: FILE, words: stat ? sizeWords(stat.size) : "document", size: stat?.size };
   }
-  const names = (await room.asideIfAllowed("LIST", path))?.names;
+  const { kind: found, names, its } = await lookInto(room, path);
   if (!names) return { kind: FOLDER, words: "folder" };
-  const found = kindBy(names);
   if (found === "unfinished") return { kind: found, words: "unfinished upload" };
-  const its = found === "file" && await manifestAt(room, path);
-  if (its) return { kind: "large", words: sizeWords(its.size), size: its.size };
+  if (found === LARGE) return { kind: LARGE, words: its ? sizeWords(its.size) : "document", size: its?.size };
   return { kind: FOLDER, words: names.length ? `folder, ${names.length} in it` : "empty folder" };
 }
 
@@ -51,7 +48,7 @@ class Row {
   async #look() {
     const its = await lookAt(this.room, this.path, this.kind);
     this.word.textContent = its.words;
-    if (its.kind === "large") this.moveToDocuments();
+    if (its.kind === LARGE) this.moveToDocuments();
     for (const it of this.picture) this.pictures.show(it, this.path, its.size);
     return its;
   }

@@ -1,12 +1,11 @@
 /** The trash: what was removed lies in /trash/USER, where that is there (docs/FILES.md has the names). */
-import { EXIST, NOENT, forEach, isRefused, orElse } from "./files.js";
+import { ACCESS, EXIST, NOENT, forEach, isRefused, orElse } from "./files.js";
 import { shown } from "./names.js";
 import { MOST_THINGS, ROOT, folderOf, inFolder, lastName, namesOf, pathFault } from "./places.js";
 import { ADD_FOLDER, ALL, FOLDER, VIEW } from "./rights.js";
 
 export const TRASH = "/trash";
 const MOST_NAME = 64; // bytes
-const ACCESS = 5; // a code of the room's
 const PROTECTED = 2; // a list that takes over nothing
 const HANDED_DOWN = 3; // to documents and folders
 

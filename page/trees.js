@@ -1,14 +1,31 @@
 /** Folders with all that is in them: what they hold, copies of them, and their files. */
-import { NOBODY, forEach, readFile, writeFile } from "./files.js";
+import { ACCESS, NOBODY, forEach, manifestAt, orElse, readFile, writeFile } from "./files.js";
 import { NAME, isPart, isUnfinished } from "./manifest.js";
 import { clean, shown } from "./names.js";
 import { inFolder, namesOf } from "./places.js";
-import { FOLDER } from "./rights.js";
+import { FOLDER, LARGE } from "./rights.js";
 
 /** What the names in a folder say that it is. */
 export function kindBy(names) {
   if (names.some(([name, kind]) => name === NAME && kind !== FOLDER)) return "file";
   return isUnfinished(names) ? "unfinished" : FOLDER;
+}
+
+/** What a folder is to people: its kind, FOLDER, LARGE or "unfinished"; the names in it, or null where one may not see
+ * them; the manifest of a large file, where one may read it. */
+export async function lookInto(room, path) {
+  const names = (await room.asideIfAllowed("LIST", path))?.names ?? null;
+  const kind = names ? kindBy(names) : FOLDER;
+  if (kind !== "file") return { kind, names };
+  const its = await orElse(manifestAt(room, path), undefined, ACCESS);
+  return { kind: its === null ? FOLDER : LARGE, names, its };
+}
+
+/** As `standing` of the room, of kind LARGE where a folder is a large file. */
+export async function standingAt(room, path) {
+  const its = await room.standing(path);
+  const isLarge = its.kind === FOLDER && (await lookInto(room, path)).kind === LARGE;
+  return isLarge ? { ...its, kind: LARGE } : its;
 }
 
 /** Looks at all below a folder, and calls `met` with each: `{path, name, kind}`, a large file as a file. A folder that

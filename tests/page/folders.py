@@ -4,10 +4,10 @@ import re
 import zipfile
 import zlib
 
-from carried import PIECE, dice, held, names_at, on_disk, put, row, saved
-from club import USERS
+from carried import NAME, PIECE, dice, held, names_at, on_disk, put, row, saved
+from club import USERS, set_list
 
-ALL = 0x1F07FF
+ALL, EDIT, VIEW = 0x1F07FF, 0x1200AF, 0x1200A9
 # a picture of one red dot, and an SVG that would run
 PNG = (b"\x89PNG\r\n\x1a\n\x00\x00\x00\rIHDR\x00\x00\x00\x01\x00\x00\x00\x01\x08\x02\x00\x00\x00\x90wS\xde"
        b"\x00\x00\x00\x0cIDATx\x9cc\xf8\xcf\xc0\x00\x00\x03\x01\x01\x00\xc9\xfe\x92\xef\x00\x00\x00\x00IEND\xaeB`\x82")
@@ -363,6 +363,53 @@ def pdfs(club, differs):
         browser.turn_to(before)
 
 
+def entry(who, mask, flag=3):
+    return {"type": 0, "flag": flag, "mask": mask, "who": who}
+
+
+def one_document(club, differs):
+    """A large file is one document in the matrix and in the words of its list, with what it lets its pieces have."""
+    browser, top, path = club.browser, "/whole", "/whole/large"
+    club.holds({"cmd": "MKDIR", "path": top})
+    club.holds({"cmd": "SETLIST", "path": top, "aclflag": 2, "entries": [
+        entry("OWNER@", ALL), entry("bob", VIEW), entry("eve", EDIT)]})
+    put(club, top, on_disk(club, "large", bytes(PIECE + 1)), on_disk(club, "small", b"small"))
+    browser.sees("2 files uploaded", "#notices")
+    rows = ("return [...document.querySelectorAll('.matrix tbody tr')].map((row) => [...row.cells].map((it) => "
+            "it.innerText))")
+    levels = ["all", "view", "edit"]
+    club.go(f"#who/club{top}")
+    differs("in the matrix", browser.script(rows), [[it, *levels] for it in ("whole/", "large", "small")])
+    club.go(f"#who/club{path}")
+    differs("alone", browser.script(rows), [["large", *levels]])
+    own = [entry("OWNER@", ALL), entry("bob", VIEW, 0), entry("eve", VIEW)]
+    club.holds({"cmd": "SETLIST", "path": path, "aclflag": 2, "entries": own})
+    differs("bob may not read it", club.holds({"cmd": "READ", "path": f"{path}/{NAME}"}, "bob")["code"], 5)
+    club.go(f"#who/club{top}")
+    differs("what its pieces have not", browser.script(rows)[1], ["large", "all", "some", "view"])
+    browser.act("//main//tbody/tr[2]/td[2]/button", "click")
+    browser.sees(f"The list of {path} lets bob see its owner and size and see its list.", ".detail")
+    its_list(club, differs, path, own)
+
+
+def its_list(club, differs, path, own):
+    browser = club.browser
+    club.go(f"#access/club{path}")
+    browser.sees("To get at this document one must also pass", "main")
+    told = "return [...document.querySelectorAll('.entries > li > details > summary')].map((it) => it.textContent)"
+    differs("in words", browser.script(told), [
+        "Allow its owner (ann) to do all.", "Allow the user bob to view. Counts here alone.",
+        "Allow the user eve to view."])
+    set_list(browser, "the user", "bob", "edit", False)
+    differs("a new entry", browser.script(told)[0], "Allow the user bob to edit.")
+    differs("it counts for all of it", browser.script("return document.querySelector('main').innerText")
+            .count("Counts for"), 0)
+    browser.press("Save the list")
+    browser.sees("The list is set.", "#notices")
+    differs("the list", club.holds({"cmd": "GETLIST", "path": path})["entries"], [entry("bob", EDIT | 0x40), *own])
+    differs("bob reads it", club.holds({"cmd": "READ", "path": f"{path}/{NAME}"}, "bob")["code"], 0)
+
+
 def offered(club, differs):
     """What one's rights refuse is not offered: in a folder, in a row, and of a document."""
     browser = club.browser
@@ -384,4 +431,4 @@ def offered(club, differs):
             ["Append", "Edit", "Download", "Upload a new version", "Rename", "Move", "Copy", "Remove"])
 
 
-SCENES = [wholes, trashed, elsewhere, full, in_order, previews, small_pictures, pdfs, offered]
+SCENES = [wholes, trashed, elsewhere, full, in_order, one_document, previews, small_pictures, pdfs, offered]
