@@ -6,6 +6,11 @@ WORDS = "import('/rights.js').then((it) => arguments[0]([it.RIGHTS.map(({bit, wo
         "it.SETS.map(({name, mask}) => [name, mask])]))"
 SENTENCE = "import('/lists.js').then((it) => arguments[1](it.sentence(arguments[0], 'folder', {})))"
 ASKED = "const it = new Event('beforeunload', {cancelable: true}); dispatchEvent(it); return it.defaultPrevented"
+ENDS = ("delete sessionStorage.asked; setTimeout(() => location.reload());"
+        "addEventListener('beforeunload', (it) => sessionStorage.asked = it.defaultPrevented)")
+ENDED = "return document.querySelector('main').dataset.place && sessionStorage.asked"
+DIALOG = "return document.querySelector('dialog[open]') !== null"
+PLACE = "return document.querySelector('main').dataset.place"
 FOCUS = "return document.activeElement.getAttribute('aria-label') ?? document.activeElement.textContent"
 
 
@@ -34,14 +39,16 @@ def names(club, differs):
 
 
 def leaving(club, differs):
-    """Escape, another view, Back and a closed tab ask where something is typed."""
-    browser = club.browser
+    """Escape, Back, another view, Log out and a closed tab ask where something is typed, and only there."""
+    browser, path = club.browser, "/plans/june.txt"
+    before = club.text(path)
     club.go("#open/club")
-    club.go("#open/club/plans/june.txt")
+    club.go(f"#open/club{path}")
     browser.press("Append", "//main")
     browser.until("a dialog", lambda: browser.find("//dialog[@open]"))
+    differs("nothing typed, nothing asked", browser.script(ASKED), False)
     browser.keys("escape")
-    browser.until("an empty dialog closes", lambda: not browser.script("return document.querySelector('dialog[open]')"))
+    browser.until("an empty dialog closes", lambda: not browser.script(DIALOG))
     browser.press("Append", "//main")
     browser.fill("Text", "typed")
     browser.keys("escape", "escape", "escape")
@@ -50,29 +57,66 @@ def leaving(club, differs):
     browser.keys("space")
     browser.until("the question goes", lambda: "not saved" not in browser.shown())
     browser.keys(" on")
-    differs("it is still there, and goes on", browser.script("return document.querySelector('textarea').value"),
-            "typed on")
+    text = "return document.querySelector('textarea').value"
+    differs("it is still there, and goes on", browser.script(text), "typed on")
     differs("a closed tab asks", browser.script(ASKED), True)
-    browser.script("history.back()")
+    asks(browser, differs, "Back", lambda: browser.script("history.back()"), f"#open/club{path}")
+    differs("after staying", browser.script(text), "typed on")
+    leaves(browser, differs, lambda: browser.script("history.back()"), "#open/club")
+    differs("nothing was sent", club.text(path), before)
+    leaving_a_list(club, differs, path)
+
+
+def asks(browser, differs, words, does, place):
+    """It asks, and who does not want to lose anything is where they were."""
+    does()
     browser.sees("Leave this?", "dialog h2")
-    differs("nothing is lost by a key", browser.script(FOCUS), "Cancel")
-    differs("back stays", browser.script("return location.hash"), "#open/club/plans/june.txt")
+    differs(f"{words}: nothing is lost by a key", browser.script(FOCUS), "Cancel")
+    differs(f"{words}: the address stays", browser.script("return location.hash"), place)
     browser.press("Cancel", "//dialog[@aria-label='Leave this?']")
-    differs("after staying", browser.script("return document.querySelector('textarea').value"), "typed on")
-    browser.script("history.back()")
-    browser.press("Leave, and lose it")
-    browser.until("the folder", lambda: browser.script("return document.querySelector('main').dataset.place") != "x")
-    browser.until("no dialog", lambda: not browser.script("return document.querySelector('dialog[open]')"))
-    differs("nothing typed, nothing asked", browser.script(ASKED), False)
-    club.go("#access/club/plans/june.txt")
+    browser.until("the question goes", lambda: "Leave this?" not in browser.shown())
+    differs(f"{words}: what is shown stays", browser.script(PLACE), place)
+
+
+def leaves(browser, differs, does, place):
+    """It asks, and who wants to lose it is elsewhere, and asked no more."""
+    does()
+    browser.press("Leave, and lose it", "//dialog[@aria-label='Leave this?']")
+    browser.until(place, lambda: browser.script(PLACE) == place)
+    differs(f"{place}: no dialog is left", browser.script(DIALOG), False)
+    differs(f"{place}: nothing is unsaved", browser.script(ASKED), False)
+
+
+def leaving_a_list(club, differs, path):
+    """A list that was changed and not saved asks too, whatever leads away."""
+    browser, place = club.browser, f"#access/club{path}"
+    before = club.holds({"cmd": "GETLIST", "path": path})
+    club.go(place)
+    differs("a list as it is asks nothing", browser.script(ASKED), False)
     browser.press("Add an entry")
-    browser.press("Log out")
-    differs("logging out asks", browser.sees("Leave this?", "dialog h2"), True)
-    browser.press("Cancel", "//dialog[@open]")
-    browser.script("location.hash = '#open/club'")
-    differs("a list that was changed asks", browser.sees("Leave this?", "dialog h2"), True)
-    browser.press("Leave, and lose it")
-    browser.sees("plans", ".things")
+    differs("a changed list: a closed tab asks", browser.script(ASKED), True)
+    entries = "return document.querySelectorAll('.entries details').length"
+    count = browser.script(entries)
+    does = {"another view": lambda: browser.follow("Contents"), "another place": lambda: browser.follow("plans"),
+            "Back": lambda: browser.script("history.back()"), "Log out": lambda: browser.press("Log out")}
+    for words, its in does.items():
+        asks(browser, differs, words, its, place)
+        differs(f"{words}: the entry is still there", browser.script(entries), count)
+    leaves(browser, differs, lambda: browser.follow("Who may do what"), f"#who/club{path}")
+    differs("the list is as it was", club.holds({"cmd": "GETLIST", "path": path}), before)
+    ending(club, differs, path)
+
+
+def ending(club, differs, path):
+    """A page that ends, as a closed tab or a reload does, has the browser ask. (Its driver says yes.)"""
+    browser = club.browser
+    club.go(f"#open/club{path}")
+    for words in "", "typed":
+        browser.press("Append", "//main")
+        browser.fill("Text", words)
+        browser.script(ENDS)
+        asked = browser.until("the page anew", lambda: browser.script(DIALOG) is False and browser.script(ENDED))
+        differs(f"it ends with {words!r}", asked, str(words != "").lower())
 
 
 def at_work(club, differs):
