@@ -1,12 +1,13 @@
 /** What a user does with a file or a folder as a whole: move, copy, remove, download. */
 import { save } from "./bytes.js";
+import { Refusal } from "./codes.js";
 import { ask, input } from "./dialogs.js";
 import { button, checkbox, make, nameText } from "./dom.js";
 import { ACCESS, EXIST, NOBODY, NOENT, NOTDIR, isRefused, manifestAt, orElse, readFile, removeAll } from "./files.js";
 import { isPart } from "./manifest.js";
 import { byName, clean, forDisk, shown } from "./names.js";
 import { ROOT, folderOf, inFolder, nameFault, namesOf } from "./places.js";
-import { FOLDER } from "./rights.js";
+import { ADD_FILE, ADD_FOLDER, FILE, FOLDER } from "./rights.js";
 import { plural, sizeWords, transferring } from "./transfers.js";
 import { TRASH, calledAt, makeTrash, mayMakeTrash, nameAt, toTrash, toldBy, trashOf } from "./trash.js";
 import { below, copy, kindBy } from "./trees.js";
@@ -69,11 +70,18 @@ export async function move(app, path) {
   if (to) await app.done(`${calledAt(path)} is now ${shown(to)}.`, { from: path, to });
 }
 
+/** Throws what the room would say, where something of that kind may not be made in the folder. */
+async function needRight(room, kind, path) {
+  const bit = kind === FILE ? ADD_FILE : ADD_FOLDER;
+  if (!(await room.aside("ACCESS", path, { mask: bit })).allowed) throw new Refusal({ code: ACCESS, bit, path });
+}
+
 export async function copyTo(app, path) {
   const words = "A copy is yours, and takes over what its new folder hands down.";
   const { room } = app;
   const to = await askWhere(app, path, { words, does: "Copy" }, async (it) => {
     if (`${it}/`.startsWith(`${path}/`)) throw new Error("Choose another place or name.");
+    await needRight(room, (await room.standing(path)).kind, folderOf(it));
     const isThere = await room.aside("STAT", it).then(() => true, (fault) => !isRefused(fault, 1));
     if (isThere) throw new Error("Something has this name already.");
   });

@@ -120,4 +120,24 @@ def lacking(club, differs):
     differs("it went well", lines(browser), [])
 
 
-SCENES = [failed, lacking]
+def copies(club, differs):
+    """Whoever may not copy something there is told so where they chose the place, and chooses another."""
+    browser = club.browser
+    club.log_in("eve")
+    club.go(f"#open/club{TOP}/{NAMES[0]}")
+    browser.press("Copy", "//main")
+    browser.press("One up", "//dialog[@open]")
+    browser.sees("To the folder club", "dialog")
+    browser.fill("Name there", "copied")
+    browser.press("Copy it there")
+    differs("the refusal", browser.sees("The list of / does not allow you to make documents in it.", "dialog"), True)
+    differs("what was typed", browser.script("return document.querySelector('dialog input').value"), "copied")
+    browser.press("told", "//dialog[@open]")
+    browser.sees(f"To the folder {TOP}", "dialog")
+    browser.press("Copy it there")
+    browser.sees(f"is copied to {TOP}/copied.", "#notices")
+    differs("it is copied", club.holds({"cmd": "STAT", "path": f"{TOP}/copied"}, "eve")["size"], len(NAMES[0]))
+    club.log_in("ann")
+
+
+SCENES = [failed, lacking, copies]
