@@ -105,7 +105,7 @@ def show_session(state: State, is_new: bool) -> None:
 
 
 def make_report(asked) -> None:
-    rights = report.read_report(read_local(asked.file))
+    rights = report.whole_files(report.read_report(read_local(asked.file)))
     text = report.as_html(rights) if asked.html else "\ufeff" + report.as_csv(rights)
     write_bytes(text.encode())
 

@@ -6,6 +6,7 @@ import re
 from dataclasses import dataclass
 
 from .faults import BadWords
+from .manifest import NAME
 from .words import ALL, FILE, FOLDER, RIGHTS, SETS, mask_words, right_words, shown
 
 LINE = re.compile(rb"([0-9a-f]{8}) ([A-Za-z0-9._-][A-Za-z0-9._ -]{31}) (/.*)", re.DOTALL)
@@ -35,6 +36,26 @@ def read_line(number: int, line: bytes) -> Right:
         except UnicodeDecodeError:
             pass
     raise BadWords(f"line {number} is none of an access report: give what fileroom report DB ROSTER access wrote")
+
+
+def masks_of(rights: list[Right]) -> dict[str, dict[str, int]]:
+    """Of each path, what each user has."""
+    masks: dict[str, dict[str, int]] = {}
+    for it in rights:
+        masks.setdefault(it.path, {})[it.user] = it.mask
+    return masks
+
+
+# what a large file is made of
+OF_FILE = re.compile(r"(/.+)/\.room-(?:file|(?:pieces|writing|gone)-[0-9a-f]{16}(?:/[^/]+)?)")
+
+
+def whole_files(rights: list[Right]) -> list[Right]:
+    """A large file as one object: of what it is made of, only what has other rights than the file is left."""
+    masks = masks_of(rights)
+    found = ((it, OF_FILE.fullmatch(it)) for it in masks)
+    parts = {path for path, its in found if its and f"{its[1]}/{NAME}" in masks and masks.get(its[1]) == masks[path]}
+    return [it for it in rights if it.path not in parts]
 
 
 def both_words(mask: int) -> str:
@@ -86,14 +107,11 @@ def cell(mask: int) -> str:
 def as_html(rights: list[Right]) -> str:
     """A page with a line for each object and a column for each user."""
     users = list(dict.fromkeys(it.user for it in rights))
-    masks: dict[str, dict[str, int]] = {}
-    for it in rights:
-        masks.setdefault(it.path, {})[it.user] = it.mask
     head = "".join(f'<th scope="col">{html.escape(it)}</th>' for it in users)
     rows = [
         f'<tr><th scope="row" class="path">{html.escape(shown(path))}</th>'
         + "".join(cell(of[user]) if user in of else "<td>?</td>" for user in users) + "</tr>"
-        for path, of in masks.items()
+        for path, of in masks_of(rights).items()
     ]
     colours = "".join(f"td.{name} {{ background: {colour} }}\n" for name, _, _, colour in [*LEVELS, NONE])
     legend = "".join(f'<td class="{name}">{name}: {says}</td>' for name, _, says, _ in [*LEVELS, NONE])

@@ -4,7 +4,7 @@ import io
 from html.parser import HTMLParser
 
 from desk import Desk
-from room_client import BadWords, report
+from room_client import BadWords, files, report
 
 MARKUP = '<b>"&\'=x'
 
@@ -64,6 +64,23 @@ class Reports(Desk):
         self.assertTrue(page.rows[4][1].startswith("change + "), page.rows[4])
         self.assertTrue(page.rows[4][2].startswith("add-file, write, "), page.rows[4])
         self.assertIn("view: see it and what is in it", page.rows[0])
+
+    def test_large_file(self):
+        """It is one object, but for what is in it and has other rights."""
+        self.served.start()
+        with self.room() as room:
+            for path in "/plans/lake", "/plans/shared":
+                files.write(room, path, bytes(70_000))
+            room.mkdir("/plans/.room-pieces-0123456789abcdef")
+            piece = f"/plans/shared/{files.manifest_at(room, '/plans/shared').folder}/001"
+            room.set_list(piece, 0, [{"flag": 0, "mask": 1, "type": 0, "who": "bob"}])
+        self.served.kill()
+        status, text, err = self.does("report", "--csv", stdin=self.served.report("access")[1], own_settings=False)
+        self.assertEqual((status, err), (0, ""))
+        paths = [it[0] for it in list(csv.reader(io.StringIO(text[1:], newline="")))[1:]]
+        self.assertEqual(list(dict.fromkeys(paths)), [
+            "/", "/plans", "/plans/.room-pieces-0123456789abcdef", f"/plans/{MARKUP}", "/plans/lake", "/plans/shared",
+            piece])
 
     def test_what_is_no_report(self):
         for text, says in [(b"001f07ff ann", "in the middle of a line"), (b"hello\n", "line 1 is none"),
