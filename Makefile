@@ -124,6 +124,7 @@ bench: build
 	bench/run
 	bench/side
 	bench/instructions
+	bench/instructions setlist
 	bench/growth
 
 # Leaves build/fileroom-VERSION-COMMIT.tar.gz: the program that `make build` proved of this commit, with client, page,
