@@ -1,8 +1,11 @@
-"""`fileroom-admin` below a root of its own: each change whole or not at all, also where it stops at any step.
+"""`fileroom-admin` below a root of its own: each change whole or not at all, also where it stops at any step, and the
+next call at one of its own; and `check` tells each thing that is put wrong.
 
 What stands for systemctl, nft and runuser writes down what it is asked; nginx looks at the very files, moved; program
 and openssl are the machine's.
 """
+import contextlib
+import io
 import json
 import os
 import shutil
@@ -12,7 +15,8 @@ import sys
 from nginx import PATH, certified
 from served import HERE, PROGRAM, Tally, text_of
 
-ADMIN = os.path.join(HERE, "..", "service", "admin", "fileroom-admin")
+SERVICE = os.path.join(HERE, "..", "service")
+ADMIN = os.path.join(SERVICE, "admin", "fileroom-admin")
 NGINX = """user www-data;
 include /etc/nginx/modules-enabled/*.conf;
 events {
@@ -22,9 +26,10 @@ http {
     include /etc/nginx/conf.d/*.conf;
 }
 """
+KILLED, MOST = 9, 1000  # a status; steps
 TOLD = 'echo "$(basename "$0") $*" >>"$ROOT/../told"\n'
 STAND_INS = {
-    "systemctl": TOLD + '[ ! -e "$ROOT/../broken" ] || ! grep -q -- "$2" "$ROOT/../broken"',
+    "systemctl": TOLD + '[ ! -e "$ROOT/../broken" ] || ! grep -qxF -- "${@: -1}" "$ROOT/../broken"',
     "runuser": 'shift 3; exec "$@"',
     "nft": TOLD + 'echo "elements = { 8001, 8002, 8003 }"',
     "room": 'exec "$FILEROOM" --version',
@@ -51,11 +56,14 @@ class Machine:
         self.write("etc/nginx/nginx.conf", NGINX)
         os.mkdir(self.tools)
         for name, text in STAND_INS.items():
-            path = os.path.join(self.tools, name)
-            with open(path, "w", encoding="utf-8") as file:
-                file.write(f"#!/bin/bash\n{text}\n")
-            os.chmod(path, 0o755)
+            self.stand_in(name, text)
         self.env = {**os.environ, "PATH": f"{self.tools}:{PATH}", "ROOT": self.root, "FILEROOM": PROGRAM}
+
+    def stand_in(self, name, text):
+        path = os.path.join(self.tools, name)
+        with open(path, "w", encoding="utf-8") as file:
+            file.write(f"#!/bin/bash\n{text}\n")
+        os.chmod(path, 0o755)
 
     def at(self, path):
         return os.path.join(self.root, path)
@@ -64,9 +72,9 @@ class Machine:
         with open(self.at(path), "w", encoding="utf-8") as file:
             file.write(text)
 
-    def does(self, *words, stdin="", first=()):
+    def does(self, *words, stdin="", first=(), within=()):
         """Status, what is said, and what is told as a fault."""
-        line = [sys.executable, "-B", *(first or [ADMIN]), "--root", self.root, *words]
+        line = [*within, sys.executable, "-B", *(first or [ADMIN]), "--root", self.root, *words]
         how = {"capture_output": True, "text": True, "env": self.env, "timeout": 60, "umask": 0o077}
         done = subprocess.run(line, input=stdin, **how)
         return done.returncode, done.stdout, done.stderr
@@ -80,15 +88,17 @@ class Machine:
         return lines
 
     def breaks(self, what):
-        """From now on systemctl fails where its second word has this."""
+        """From now on systemctl fails where it is asked about this unit."""
         with open(os.path.join(self.folder, "broken"), "w", encoding="utf-8") as file:
             file.write(what)
 
     def mended(self):
-        os.remove(os.path.join(self.folder, "broken"))
+        with contextlib.suppress(FileNotFoundError):
+            os.remove(os.path.join(self.folder, "broken"))
 
-    def files(self):
-        """Each file below the root but the lock, a room's log and hashes, which have salt: its mode and text."""
+    def files(self, logins=None):
+        """Each file below the root but the lock and a room's log: its mode and text. Of a login that is none of these a
+        name alone, since each hash has another salt."""
         found = {}
         for folder, _, names in os.walk(self.root):
             for name in names:
@@ -96,8 +106,8 @@ class Machine:
                 if name.startswith("room.db-") or ".undone-" in name or name == "admin.lock":
                     continue
                 text = "a room" if name == "room.db" else text_of(path)
-                if name == "users":
-                    text = "".join(f"{it.partition(':')[0]}\n" for it in text.splitlines())
+                if name == "users" and logins is not None:
+                    text = [it if it in logins else it.partition(":")[0] for it in text.splitlines()]
                 found[os.path.relpath(path, self.root)] = oct(os.stat(path).st_mode), text
         return found
 
@@ -173,8 +183,12 @@ def users(machine, tally):
         tally.differs(f"passwd of {word}", (status, fits(machine, "bob", word)), (want, want == 0))
     tally.differs("the list", machine.does("user", "list", "plans")[1], "plans  ann  eng  login\n"
                   "plans  b.c  eng  no login\nplans  bob  -  login\n")
+    machine.told()
     tally.differs("user remove", machine.does("user", "remove", "plans", "bob")[0], 0)
     tally.differs("whose login is gone", "bob:" in text_of(machine.at("etc/nginx/fileroom/users")), False)
+    tally.differs("who is left in the page's", json.loads(text_of(machine.at(
+        "etc/nginx/fileroom/rooms/plans.users.json"))), {"ann": ["eng"], "b.c": ["eng"]})
+    tally.differs("the room reads that", machine.told(), ["systemctl try-restart fileroom@plans"])
     machine.does("user", "remove", "plans", "ann")
     tally.differs("whose login another room wants", "ann:" in text_of(machine.at("etc/nginx/fileroom/users")), True)
     machine.does("user", "add", "plans", "ann", "eng")
@@ -191,13 +205,23 @@ def users(machine, tally):
 
 
 def faults_undo(machine, tally):
-    """What a service, nginx or the room refuses leaves all as it was."""
-    for what, words in ("nginx", "room add new ann eng"), ("fileroom@plans", "user add plans kim eng"):
+    """What a service, nginx or the room refuses leaves all as it was, and what has read it reads the old again."""
+    machine.does("user", "add", "plans", "lou")
+    cert, key = certified(os.path.join(machine.folder, "refused"), "DNS:room.example")
+    for what, words in (("nginx", "room add new ann eng"), ("fileroom@plans", "user add plans kim eng"),
+                        ("fileroom@plans", "user groups plans lou eng"), ("fileroom@plans", "user remove plans lou"),
+                        ("nginx", f"tls {cert} {key}"), ("nginx", "front")):
+        machine.told()
         machine.breaks(what)
         before = machine.files()
         status, _, faults = machine.does(*words.split())
         machine.mended()
         tally.differs(f"{words}: {faults}", (status, machine.files() == before), (1, True))
+        told = machine.told()
+        done = told[:len(told) // 2]
+        tally.differs(f"{words}: what is undone", told[len(done):],
+                      [it.replace("enable --now", "disable --now") for it in reversed(done)])
+    machine.does("user", "remove", "plans", "lou")
     aside = sorted(it.rpartition("-")[0] for it in os.listdir(machine.at("var/lib/fileroom/new")))
     tally.differs("a room that was served is kept aside", aside, ["room.db-wal.undone", "room.db.undone"])
     machine.write("etc/nginx/conf.d/other.conf", "no such word;\n")
@@ -208,43 +232,60 @@ def faults_undo(machine, tally):
     os.remove(machine.at("etc/nginx/conf.d/other.conf"))
 
 
-STOPPED = """
-import os, subprocess, sys
-left = [int(sys.argv.pop(1))]
-def counted(task):
+def counted(task, left):
+    """The same, but the process ends as by a kill where this is the step."""
     def one(*words, **how):
         left[0] -= 1
         if left[0] < 0:
-            os._exit(9)
+            os._exit(KILLED)
         return task(*words, **how)
     return one
-for name in "replace", "unlink", "link", "fsync", "chmod":
-    setattr(os, name, counted(getattr(os, name)))
-subprocess.run = counted(subprocess.run)
-sys.path.insert(0, sys.argv.pop(1))
-sys.dont_write_bytecode = True
-from fileroom_admin.command import main
-sys.exit(main(sys.argv[1:]))
-"""
 
 
-def stops(machine, words, tally):
-    """A call that is killed at each of its steps in turn: after the next call all is as before it, or as after it."""
+def stopped(machine, step, *words, stdin=""):
+    """A call in a process of its own, which is killed before this one of its steps: its status."""
+    child = os.fork()
+    if child:
+        return os.waitstatus_to_exitcode(os.waitpid(child, 0)[1])
+    try:
+        os.environ.update(machine.env)
+        os.umask(0o077)
+        sys.stdin, sys.stdout = io.StringIO(stdin), open(os.devnull, "w", encoding="utf-8")
+        sys.stderr = sys.stdout
+        left = [step]
+        for name in "replace", "unlink", "link", "fsync", "chmod":
+            setattr(os, name, counted(getattr(os, name), left))
+        subprocess.run = counted(subprocess.run, left)
+        sys.path.insert(0, os.path.dirname(ADMIN))
+        from fileroom_admin.command import main
+        os._exit(main(["--root", machine.root, *words]))
+    finally:
+        os._exit(1)
+
+
+def stops(machine, tally, *words, stdin=""):
+    """A call that is killed at each of its steps in turn, and the next call at one of its own: after the one behind it
+    all is as before, and no service was asked, or all as after, and then the services were, in their order."""
     saved, outcomes = os.path.join(machine.folder, "saved"), set()
     shutil.copytree(machine.root, saved, symlinks=True)
-    before = machine.files()
-    machine.does(*words)
-    after = machine.files()
-    for at in range(1000):
+    logins = text_of(machine.at("etc/nginx/fileroom/users")).splitlines()
+    before = machine.files(logins)
+    machine.told()
+    machine.does(*words, stdin=stdin)
+    after, asked = machine.files(logins), machine.told()
+    for at in range(MOST):
         shutil.rmtree(machine.root)
         shutil.copytree(saved, machine.root, symlinks=True)
-        status = machine.does(*words, first=["-c", STOPPED, str(at), os.path.dirname(ADMIN)])[0]
-        tally.differs(f"{words}, stopped at {at}", status in (0, 9), True)
-        next_call = machine.does("user", "list")
-        found = machine.files()
-        tally.differs(f"the next call, {words} stopped at {at}: {next_call[2]}",
-                      (next_call[0], found in (before, after)), (0, True))
-        outcomes.add("before" if found == before else "after")
+        status = stopped(machine, at, *words, stdin=stdin)
+        tally.differs(f"{words}, stopped at {at}", status in (0, KILLED), True)
+        stopped(machine, at % 13, "user", "list")
+        next_call = stopped(machine, MOST, "user", "list")
+        found, told = machine.files(logins), machine.told()
+        tally.differs(f"the next call, {words} stopped at {at}", (next_call, found in (before, after)), (0, True))
+        is_before = found == before
+        tally.differs(f"services, {words} stopped at {at}", told[0 if is_before else len(told) - len(asked):],
+                      [] if is_before else asked)
+        outcomes.add("before" if is_before else "after")
         if status == 0:
             break
     tally.differs(f"{words}: undone, and gone on", outcomes, {"before", "after"})
@@ -258,7 +299,7 @@ def written_since(machine, tally):
     words, at = ["user", "add", "plans", "lee", "eng"], 0
     while not os.path.exists(journal) or "lee" not in text_of(roster):
         machine.does("user", "list")
-        machine.does(*words, first=["-c", STOPPED, str(at), os.path.dirname(ADMIN)])
+        stopped(machine, at, *words)
         at += 1
     before = text_of(roster)
     machine.write("etc/fileroom/plans.toml", before + "# by hand\n")
@@ -275,12 +316,15 @@ def certificate(machine, tally):
     before = machine.files()
     for words in (other, key), (cert, cert), (key, key), (cert, os.path.join(folder, "none")):
         tally.differs(f"tls {words}", (machine.does("tls", *words)[0], machine.files() == before), (1, True))
+    machine.told()
     status, said, faults = machine.does("tls", cert, key)
     told = said.startswith("the front listens by https, as room.example www.room.example, until ")
     tally.differs(f"tls: {faults}", (status, told), (0, True))
     tally.differs("the key's mode", os.stat(machine.at("etc/nginx/fileroom/tls/key.pem")).st_mode & 0o777, 0o600)
     tally.differs("the way to https", "server_name room.example www.room.example;" in text_of(
         machine.at("etc/nginx/conf.d/fileroom-redirect.conf")), True)
+    tally.differs("nginx reads it", machine.told(), ["systemctl reload-or-restart nginx"])
+    return certified(os.path.join(folder, "next"), "DNS:room.example")
 
 
 def looked_at(machine, tally):
@@ -310,16 +354,26 @@ def looked_at(machine, tally):
         "users is open to too many": lambda: os.chmod(machine.at("etc/nginx/fileroom/users"), 0o644),
         "plans is open to too many": lambda: os.chmod(machine.at("var/lib/fileroom/plans"), 0o755),
         "in the clear": lambda: machine.write("etc/nginx/fileroom/listen.conf", "listen 8080;\n"),
+        "plans.toml is open to too many": lambda: os.chmod(machine.at("etc/fileroom/plans.toml"), 0o664),
+        "a change was stopped": lambda: machine.write("etc/fileroom/admin.journal", "{}"),
+        "nginx does not take its files": lambda: machine.write("etc/nginx/conf.d/other.conf", "no such word;\n"),
+        "plans: its place in the front": lambda: machine.write("etc/nginx/fileroom/rooms/plans.conf", ""),
+        "club has the port of plans": lambda: machine.write("etc/fileroom/club.env", "PORT=8001\n"),
+        "No such file or directory": lambda: os.remove(machine.at("etc/nginx/fileroom/users")),
+        "of two versions": lambda: machine.stand_in("room", "echo room 0.0.1"),
+        "there is no curl": lambda: machine.env.update(PATH=machine.tools),
         "has no backup": lambda: shutil.rmtree(machine.at("var/backups/fileroom/club")),
         "hours old": lambda: os.rename(machine.at("var/backups/fileroom/club/2999-01-01T00-00-00Z"),
                                        machine.at("var/backups/fileroom/club/2020-01-01T00-00-00Z")),
         "the front has no backup": lambda: os.utime(
             machine.at("var/backups/fileroom-front/2999-01-01.tar.gz"), (1, 1)),
-        "does not run": lambda: machine.breaks("-q"),
+        **{f"{it} does not run": lambda it=it: machine.breaks(it)
+           for it in ("fileroom@plans", "fileroom-backup@plans.timer")},
         "reach its port": lambda: machine.write("etc/fileroom/club.env", "PORT=8004\n"),
         "rooms.json names other rooms": lambda: machine.write("etc/nginx/fileroom/rooms.json", "[]\n"),
         "768": lambda: machine.write("etc/nginx/nginx.conf", NGINX),
     }
+    path = machine.env["PATH"]
     for what, task in put_wrong.items():
         saved = os.path.join(machine.folder, "saved")
         shutil.copytree(machine.root, saved, symlinks=True)
@@ -328,7 +382,33 @@ def looked_at(machine, tally):
         tally.differs(f"check: {what}", (status, what in said, said.count("\n    ") >= 1), (1, True, True))
         shutil.rmtree(machine.root)
         os.rename(saved, machine.root)
-    machine.mended()
+        machine.env.update(PATH=path)
+        machine.stand_in("room", STAND_INS["room"])
+        machine.mended()
+
+
+# A folder on a disk of its own of 8 MiB, with so much of it filled.
+SMALL = """set -e
+cp -a "$1" "$1-kept"
+mount -t tmpfs -o size=8m small "$1"
+cp -a "$1-kept/." "$1"
+rm -r "$1-kept"
+head -c "$2" /dev/zero >"$1/filled"
+exec "${@:3}" """
+
+
+def disks(machine, tally):
+    """A disk with free room is no finding, and one that is nearly full is: what this machine lacks to try it."""
+    unshare = ["unshare", "--mount", *([] if os.geteuid() == 0 else ["--map-root-user"])]
+    if subprocess.run([*unshare, "mount", "-t", "tmpfs", "small", machine.tools], capture_output=True).returncode:
+        return ["a disk of its own (unshare)"]
+    for folder in "var/lib/fileroom", "var/backups/fileroom":
+        for filled, status in ("1K", 0), ("7400K", 1):
+            within = [*unshare, "bash", "-c", SMALL, "bash", machine.at(folder), filled]
+            found = machine.does("check", within=within)
+            tally.differs(f"check: {filled} of 8 MiB filled in {folder}: {found}", (found[0], found[1].count(
+                f"the disk of {machine.at(folder)} has 0 MiB free\n")), (status, status))
+    return []
 
 
 def a_standby(machine, tally):
@@ -350,17 +430,24 @@ def a_standby(machine, tally):
 
 
 def tried(folder, tally):
+    """Returns what this machine lacks."""
     machine = Machine(folder)
     a_front(machine, tally)
     a_room(machine, tally)
     users(machine, tally)
     faults_undo(machine, tally)
-    certificate(machine, tally)
-    steps = [stops(machine, it.split(), tally) for it in ("user add plans kim eng", "room add more ann eng")]
+    cert, key = certificate(machine, tally)
+    machine.stand_in("nginx", "true")  # (it has taken such files, and would be most of the time)
+    steps = [stops(machine, tally, *it.split(), stdin="some longer word\n") for it in (
+        "user add plans kim eng", "user passwd kim --stdin", "user remove plans kim", f"tls {cert} {key}",
+        "room add more ann eng")]
     written_since(machine, tally)
+    machine.stand_in("nginx", STAND_INS["nginx"])
     looked_at(machine, tally)
+    lacking = disks(machine, tally)
     a_standby(machine, tally)
     print(f"service: fileroom-admin, stopped at each of {sum(steps)} steps")
+    return lacking
 
 
 if __name__ == "__main__":
