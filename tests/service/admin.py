@@ -368,7 +368,7 @@ def looked_at(machine, tally):
         "the front has no backup": lambda: os.utime(
             machine.at("var/backups/fileroom-front/2999-01-01.tar.gz"), (1, 1)),
         **{f"{it} does not run": lambda it=it: machine.breaks(it)
-           for it in ("fileroom@plans", "fileroom-backup@plans.timer")},
+           for it in ("nginx", "fileroom@plans", "fileroom-backup@plans.timer")},
         "reach its port": lambda: machine.write("etc/fileroom/club.env", "PORT=8004\n"),
         "rooms.json names other rooms": lambda: machine.write("etc/nginx/fileroom/rooms.json", "[]\n"),
         "768": lambda: machine.write("etc/nginx/nginx.conf", NGINX),
@@ -411,6 +411,28 @@ def disks(machine, tally):
     return []
 
 
+def two_versions(machine, tally):
+    """What is installed is of one version: the program, the client, the page, a unit, or `fileroom-admin` itself."""
+    top = os.path.join(machine.folder, "usr")
+    installed = os.path.join(top, "bin", "fileroom-admin")
+    how = {"env": machine.env, "capture_output": True, "text": True}
+    done = subprocess.run([os.path.join(SERVICE, "install"), "", top], **how)
+    tally.differs(f"install: {done.stderr}", done.returncode, 0)
+    machine.does("front", first=[installed])
+    tally.differs("as it was installed", machine.does("check", first=[installed])[0], 0)
+    for name in ("bin/fileroom", "share/fileroom/client/room_client/version.py", "share/fileroom/page/index.html",
+                 "lib/systemd/system/fileroom@.service", "share/fileroom/admin/fileroom_admin/places.py"):
+        path = os.path.join(top, name)
+        shutil.copy2(path, machine.folder)
+        with open(path, "a", encoding="utf-8") as file:
+            file.write("\n")
+        found = machine.does("check", first=[installed])
+        shutil.copy2(os.path.join(machine.folder, os.path.basename(name)), path)
+        tally.differs(f"another {name}", found[:2], (
+            1, f"not as it was installed with the rest: {name}\n    make install, of one version\n"))
+    machine.does("front")
+
+
 def a_standby(machine, tally):
     """A room that other machines can take over has another unit; `check` asks about it, and about no file elsewhere."""
     machine.write("etc/fileroom/plans.hosts", "10.77.0.1\n10.77.0.2\n10.77.0.3\n")
@@ -445,6 +467,7 @@ def tried(folder, tally):
     machine.stand_in("nginx", STAND_INS["nginx"])
     looked_at(machine, tally)
     lacking = disks(machine, tally)
+    two_versions(machine, tally)
     a_standby(machine, tally)
     print(f"service: fileroom-admin, stopped at each of {sum(steps)} steps")
     return lacking

@@ -10,15 +10,16 @@ import stat
 import time
 
 from . import rosters
-from .changes import JOURNAL
+from .changes import JOURNAL, sum_in
 from .commands import end_of, room_conf
-from .places import FRONT_FILES, LISTEN, SEARCHED, Fault, read, said, sample
+from .places import FRONT_FILES, HERE, LISTEN, SEARCHED, Fault, read, said, sample
 
 PROGRAMS = {"nginx": "nginx-light", "openssl": "openssl", "sqlite3": "sqlite3", "nft": "nftables", "curl": "curl"}
 ROOM_LEFT = 1 << 30  # bytes that a disk should have free, or a tenth of it
 DAYS_LEFT = 21  # of a certificate
 OTHERS = stat.S_IRWXG | stat.S_IRWXO
 FRONT_REMEDY = "fileroom-admin front puts it right"
+ONE_VERSION = "make install, of one version"
 
 
 class Findings:
@@ -41,9 +42,16 @@ class Findings:
                 self.add(f"there is no {name}", f"apt-get install {package}")
         versions = [said(it, "--version")[1].split()[-1:] for it in (self.places.program, "room")]
         if versions[0] != versions[1]:
-            self.add(f"program and client are of two versions, {versions}", "make install, of one version")
+            self.add(f"program and client are of two versions, {versions}", ONE_VERSION)
         if os.path.exists(self.places.at(JOURNAL)):
             self.add("a change was stopped in its middle", "fileroom-admin user list: the next call ends it")
+
+    def installed(self):
+        """(In a checkout there are no sums.)"""
+        sums = [it.split("  ") for it in read(os.path.join(HERE, "../../sums"), "").splitlines()]
+        others = [name for its_sum, name in sums if sum_in(os.path.join(HERE, "../../../..", name)) != its_sum]
+        if others:
+            self.add(f"not as it was installed with the rest: {', '.join(others[:9])}", ONE_VERSION)
 
     def front(self):
         for name, path in FRONT_FILES.items():
@@ -54,6 +62,8 @@ class Findings:
         status, told = said("nginx", "-tq")
         if status:
             self.add(f"nginx does not take its files: {told[:200]}", "mend what it names")
+        if not any(map(self.places.has_standby, self.places.rooms())):  # (else it runs where the room is)
+            self.unit("nginx")
         if sorted(json.loads(read(self.places.front("rooms.json")))) != self.places.rooms():
             self.add("rooms.json names other rooms than /etc/fileroom has", FRONT_REMEDY)
         self.listening(read(self.places.at(LISTEN)))
@@ -103,8 +113,11 @@ class Findings:
             self.owner(places.file(room))
         units = [] if places.has_standby(room) else [f"fileroom@{room}"]
         for unit in *units, f"fileroom-backup@{room}.timer":
-            if said("systemctl", "is-active", "-q", unit)[0]:
-                self.add(f"{unit} does not run", f"systemctl enable --now {unit}; journalctl -u {unit} says why not")
+            self.unit(unit)
+
+    def unit(self, name):
+        if said("systemctl", "is-active", "-q", name)[0]:
+            self.add(f"{name} does not run", f"systemctl enable --now {name}; journalctl -u {name} says why not")
 
     def is_here(self, room):
         """(A room with a standby is where its volume is mounted.)"""
@@ -158,7 +171,7 @@ class Findings:
 def check(places, hours, say):
     """Says each finding, or that there is none. The exit status."""
     it = Findings(places)
-    for task in it.programs, it.front, it.passwords:
+    for task in it.programs, it.installed, it.front, it.passwords:
         it.part(task)
     if not places.rooms():
         it.add("there is no room", "fileroom-admin room add NAME OWNER GROUP")
