@@ -1,5 +1,5 @@
-//! What no text of messages and answers can say: how often a reader is asked, readers that fail in mid-stream, runs of
-//! the program, and the calls behind an answer.
+//! What no text of messages and answers can say: how often a reader is asked, readers that fail in mid-stream,
+//! connections that wait, runs of the program, and the calls behind an answer.
 #![tactic(auto)]
 
 #[cfg(test)]
@@ -10,6 +10,8 @@ mod calls;
 mod failures;
 #[cfg(test)]
 mod instance;
+#[cfg(test)]
+mod listening;
 #[cfg(test)]
 mod machine;
 #[cfg(test)]
