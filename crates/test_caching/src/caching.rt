@@ -15,7 +15,7 @@ use test_support::{
 };
 
 /// A call of a shelf: of the root, of a session, or of a slot of a session that has a number.
-#[derive(Clone, Copy, Debug)]
+#[derive(Clone, Copy)]
 enum Call {
     Node,
     Child(&'static str),
@@ -38,7 +38,7 @@ enum Call {
 }
 
 /// A call that asks the shelf inside, or that memory answers.
-#[derive(Clone, Copy, Debug)]
+#[derive(Clone, Copy)]
 enum Row {
     Asks(Call),
     Knows(Call),
