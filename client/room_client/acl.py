@@ -39,13 +39,14 @@ def show_list(room: Room, asked) -> None:
     reply = room.get_list(asked.path)
     if asked.json:
         return show(asked, reply, "")
+    kind = words.FOLDER  # (where it is not told, the words for folders do: either word of a right is taken)
     try:
         its = room.stat(asked.path)
-        about = f"# {shown(asked.path)}: {its['kind']} of owner {its['owner']} and group {its['group']}\n"
+        kind = words.LARGE if its["kind"] == words.FOLDER and large_at(room, asked.path) else its["kind"]
+        about = f"# {shown(asked.path)}: {kind} of owner {its['owner']} and group {its['group']}\n"
     except Refused as fault:
-        # (without its kind the words for folders do: either word of a right is taken)
-        its, about = {"kind": words.FOLDER}, f"# {shown(asked.path)}: {fault}\n"
-    sys.stdout.write(about + words.list_text(reply, its["kind"]))
+        about = f"# {shown(asked.path)}: {fault}\n"
+    sys.stdout.write(about + words.list_text(reply, kind))
     sys.stdout.flush()
 
 

@@ -6,10 +6,13 @@ from dataclasses import dataclass
 from pathlib import PurePosixPath
 
 from .faults import LocalFault, Refused, reading
+from .files import large_at
+from .manifest import NAME
 from .room import Room
-from .words import ALL, GROUP, mask_words, right_words, shown, FOLDER
+from .words import ALL, FILE, FOLDER, GROUP, SETS, mask_words, right_words, shown
 
-TRAVERSE = 0x20
+READ, WRITE, TRAVERSE, DELETE_CHILD = 0x1, 0x2, 0x20, 0x40
+OF_LARGE = {READ: READ | TRAVERSE, WRITE: 0x6 | TRAVERSE}  # what its folder has to allow, for its pieces to count
 
 
 @dataclass(frozen=True)
@@ -70,15 +73,31 @@ def allowed(room: Room, its: dict, subject: Subject, mask: int) -> int:
     return room.check(question | {"groups": subject.groups, "mask": mask, "user": subject.user})["allowed"]
 
 
+def of_large(mask: int, inside: int) -> int:
+    """What somebody may do with a large file, of those rights on it and of these on what is in it."""
+    lacks = sum(bit for bit, needs in OF_LARGE.items() if needs & ~mask or not inside & bit)
+    return mask & ~lacks
+
+
+def large_words(mask: int) -> str:
+    """(The right to remove its old pieces makes no other set of it.)"""
+    return mask_words(mask ^ DELETE_CHILD if mask ^ DELETE_CHILD in SETS.values() else mask, FILE)
+
+
 def who(room: Room, path: str, roster: list[Subject] | None) -> list[Row]:
     its = standing(room, path)
+    is_large = its["kind"] == FOLDER and large_at(room, path)
+    inside = standing(room, f"{path.rstrip('/')}/{NAME}") if is_large else None
     above = list(standing_above(room, path))
     not_known = next((folder for folder, found in above if found is None), None)
     rows = []
     for subject in roster if roster is not None else subjects_of(its):
         mask = allowed(room, its, subject, ALL)
+        if inside:
+            mask = of_large(mask, allowed(room, inside, subject, ALL))
+        rights = large_words(mask) if inside else mask_words(mask, its["kind"])
         closed = (folder for folder, found in above if found and not allowed(room, found, subject, TRAVERSE))
-        rows.append(Row(subject.label, mask, mask_words(mask, its["kind"]), next(closed, None), not_known))
+        rows.append(Row(subject.label, mask, rights, next(closed, None), not_known))
     return rows
 
 

@@ -4,6 +4,7 @@ import unicodedata
 from collections.abc import Iterable, Iterator
 
 FILE, FOLDER = "file", "folder"
+LARGE = "large file"  # one document, whose list is that of the folder that holds its pieces
 
 # Bit, word on a document, word on a folder, and other words that are taken.
 RIGHTS = [
@@ -134,6 +135,8 @@ def flag_words(flag: int) -> Iterator[str]:
 
 def kinds_of(entry: dict, kind: str) -> set[str]:
     """For which kinds of objects an entry on an object of this kind counts, there or further down."""
+    if kind == LARGE:
+        return {FILE}
     down = {name for name, bit in ((FILE, TO_FILES), (FOLDER, TO_FOLDERS)) if entry["flag"] & bit}
     return down if entry["flag"] & NOT_HERE and down else down | {kind}
 

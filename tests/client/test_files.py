@@ -572,6 +572,37 @@ class Kept(Behind):
             self.assertEqual(files.read(bob, "/a"), data)
         self.assertEqual(self.does("get", "/a")[:2], (1, ""))
 
+    def test_one_document(self):
+        """In the words of its list, and in who may do what: there with what its pieces are handed."""
+        self.file("in", some(PIECE + 1, 1))
+        self.prints("put", "in", "/a", want="/a: 65537 bytes\n")
+        rights = [("OWNER@", 0x1F07FF, 3), ("bob", 0x1200A9, 0), ("eng", 0x1200A9, 3), ("zoe", 0x1200EF, 3),
+                  ("pat", 0x3, 3)]
+        with self.behind() as room:
+            room.set_list("/a", 2, [{"flag": flag, "mask": mask, "type": 0, "who": it} for it, mask, flag in rights])
+            room.set_list("/", 0, [{"flag": 0, "mask": 0x1F07FF, "type": 0, "who": "EVERYONE@"}])
+        self.prints("acl", "/a", want=(
+            "# /a: large file of owner ann and group eng\n"
+            "flags protected\n"
+            "allow OWNER@ all inherit\n"
+            "allow bob view\n"
+            "allow eng view inherit\n"
+            "allow zoe read,write,append,read-named-attrs,execute,delete-child,read-attributes,read-acl,synchronize "
+            "inherit\n"
+            "allow pat read,write inherit\n"))
+        self.prints("who", "/a", want=(
+            "ann (owner)   all\n"
+            "bob           read-named-attrs,execute,read-attributes,read-acl,synchronize\n"
+            "eng           view\n"
+            "pat           none\n"
+            "zoe           edit\n"
+            "group:eng     none\n"
+            "anybody else  none\n"))
+        for user, code in ("bob", 5), ("eng", 0):
+            with self.room(user=user) as room:
+                reply, = room.ask_all([{"cmd": "READ", "path": f"/a/{manifest.NAME}"}])
+                self.assertEqual(reply["code"], code)
+
     def test_nothing_is_added_to_a_large_file(self):
         self.file("in", some(PIECE + 1, 1))
         self.prints("put", "in", "/a", want="/a: 65537 bytes\n")

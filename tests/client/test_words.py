@@ -23,7 +23,7 @@ class Words(unittest.TestCase):
                 continue
             for who in ("bob", "OWNER@"):
                 entry = {"flag": flag, "mask": 1, "type": flag & 1, "who": who}
-                for kind in (words.FILE, words.FOLDER):
+                for kind in (words.FILE, words.FOLDER, words.LARGE):
                     self.assertEqual(words.read_entry(words.entry_words(entry, kind)), entry)
 
     def test_lists_come_back(self):
@@ -36,7 +36,7 @@ class Words(unittest.TestCase):
                 for _ in range(dice.randrange(6))
             ]
             reply = {"aclflag": dice.randrange(8), "code": 0, "entries": entries}
-            text = "# /x: a comment\n" + words.list_text(reply, dice.choice([words.FILE, words.FOLDER]))
+            text = "# /x: a comment\n" + words.list_text(reply, dice.choice([words.FILE, words.FOLDER, words.LARGE]))
             self.assertEqual(words.read_list(text.splitlines()), (reply["aclflag"], entries))
 
     def test_rights_have_the_words_of_their_kind(self):
