@@ -1,4 +1,5 @@
 /** What a user does with a file or a folder as a whole: move, copy, remove, download. */
+import { GaveUp } from "./busy.js";
 import { save } from "./bytes.js";
 import { Refusal } from "./codes.js";
 import { ask, input } from "./dialogs.js";
@@ -6,6 +7,7 @@ import { button, checkbox, make, nameText } from "./dom.js";
 import { ACCESS, EXIST, NOBODY, NOENT, NOTDIR, isRefused, manifestAt, orElse, readFile, removeAll } from "./files.js";
 import { isPart } from "./manifest.js";
 import { byName, clean, forDisk, shown } from "./names.js";
+import { tellFault } from "./notices.js";
 import { ROOT, folderOf, inFolder, nameFault, namesOf } from "./places.js";
 import { ADD_FILE, ADD_FOLDER, FILE, FOLDER } from "./rights.js";
 import { plural, sizeWords, transferring } from "./transfers.js";
@@ -26,19 +28,26 @@ class Chooser {
   /** Where it is gone elsewhere before it is there, it stays elsewhere. */
   async go(to) {
     this.goal = to;
-    const found = await this.app.room.aside("LIST", to).catch((fault) => fault);
+    const found = await this.foldersIn(to).catch((fault) => fault);
     if (this.goal !== to) return;
-    if (found instanceof Error || kindBy(found.names) !== FOLDER) {
-      this.told.textContent = found.message ?? "This is a document.";
+    if (found instanceof Error) {
+      this.told.textContent = found.message;
+      if (found instanceof GaveUp) tellFault(found.message); // (its button is out of reach until the dialog is closed)
       return;
     }
-    found.names.sort(byName);
-    const isNone = ([name, kind]) => kind !== FOLDER || isPart(name) || inFolder(to, name) === this.path;
-    const isFile = await Promise.all(found.names.map((it) => isNone(it) ||
-      LIKE_FILE.test(it[0]) && orElse(manifestAt(this.app.room, inFolder(to, it[0])), null, ACCESS)));
-    if (this.goal !== to) return;
     this.value = to;
-    this.draw(found.names.filter((_, at) => !isFile[at]));
+    this.draw(found);
+  }
+
+  /** The folders in it to choose from. */
+  async foldersIn(to) {
+    const { names } = await this.app.room.aside("LIST", to);
+    if (kindBy(names) !== FOLDER) throw new Error("This is a document.");
+    names.sort(byName);
+    const isNone = ([name, kind]) => kind !== FOLDER || isPart(name) || inFolder(to, name) === this.path;
+    const isFile = await Promise.all(names.map((it) => isNone(it) ||
+      LIKE_FILE.test(it[0]) && orElse(manifestAt(this.app.room, inFolder(to, it[0])), null, ACCESS)));
+    return names.filter((_, at) => !isFile[at]);
   }
 
   get name() {

@@ -41,7 +41,10 @@ class Row {
   }
 
   look() {
-    this.looked ??= this.#look();
+    this.looked ??= this.#look().catch((fault) => {
+      this.looked = null; // (it is asked anew)
+      throw fault;
+    });
     return this.looked;
   }
 
@@ -61,11 +64,21 @@ class Row {
     else this.element.closest("table")?.tBodies[1].append(this.element);
   }
 
-  async toggle() {
-    const isOpen = this.menu.hidden;
+  open(isOpen) {
     this.more.setAttribute("aria-expanded", String(isOpen));
     this.menu.hidden = !isOpen;
-    if (!isOpen) return;
+  }
+
+  async toggle() {
+    this.open(this.menu.hidden);
+    if (this.menu.hidden) return;
+    await this.fill().catch((fault) => {
+      this.open(false);
+      tellFault(fault.message);
+    });
+  }
+
+  async fill() {
     const [its, own] = await Promise.all([this.look(), rightsOn(this.room, this.path)]);
     const offers = offersFor(this.app, this.path, its.kind, { own, above: this.rights.own, size: its.size });
     for (const it of offers) {

@@ -140,4 +140,27 @@ def copies(club, differs):
     club.log_in("ann")
 
 
-SCENES = [failed, lacking, copies]
+def given_up(club, differs):
+    """What is given up while the menu of a row, or the folders to choose from, are asked for is told, once."""
+    browser, lossy = club.browser, club.lossy
+    club.go(f"#open/club{TOP}")
+    differs("before", lines(browser), [])
+    lossy.lose('"ACCESS"', 10_000)
+    browser.press(f"More for {NAMES[0]}")
+    browser.press_anyway("Give up")
+    lossy.lose("")
+    differs("in a row", browser.sees("Given up.", "#notices"), True)
+    differs("its menu", browser.script("return document.querySelector('main [aria-expanded=true]')"), None)
+    browser.press("Close", "//*[@id='notices']")
+    browser.press(f"More for {NAMES[0]}")
+    lossy.lose('"LIST"', 10_000)
+    browser.press(f"Move {NAMES[0]}")
+    browser.press("Cancel", "//dialog[@open]")
+    browser.press_anyway("Give up")
+    lossy.lose("")
+    differs("where a folder was to be chosen", browser.sees("Given up.", "#notices"), True)
+    differs("once", len(lines(browser)), 1)
+    browser.press("Close", "//*[@id='notices']")
+
+
+SCENES = [failed, lacking, copies, given_up]
