@@ -13,7 +13,7 @@ import subprocess
 import sys
 
 from nginx import PATH, certified
-from served import HERE, PROGRAM, Tally, text_of
+from served import HERE, PROGRAM, Tally, end_with_parent, started_here, text_of
 
 SERVICE = os.path.join(HERE, "..", "service")
 ADMIN = os.path.join(SERVICE, "admin", "fileroom-admin")
@@ -27,9 +27,15 @@ http {
 }
 """
 KILLED, MOST = 9, 1000  # a status; steps
+NOTHING = "nothing is wrong that was looked at; rooms: club, more, plans\n"
 TOLD = 'echo "$(basename "$0") $*" >>"$ROOT/../told"\n'
 STAND_INS = {
-    "systemctl": TOLD + '[ ! -e "$ROOT/../broken" ] || ! grep -qxF -- "${@: -1}" "$ROOT/../broken"',
+    "systemctl": TOLD + r"""if [ "$1" = show ]; then
+    for it in "${@:3}"; do sed -n "s/^$it \(${2#--property=}=\)/\1/p" "$ROOT/../shown"; done
+    [ "$2 $3" != "--property=MainPID fileroom@plans" ] || mv "$ROOT/../shown-next" "$ROOT/../shown" 2>/dev/null
+    exit 0
+fi
+[ ! -e "$ROOT/../broken" ] || ! grep -qxF -- "${@: -1}" "$ROOT/../broken" """,
     "runuser": 'shift 3; exec "$@"',
     "nft": TOLD + 'echo "elements = { 8001, 8002, 8003 }"',
     "room": 'exec "$FILEROOM" --version',
@@ -55,6 +61,7 @@ class Machine:
             os.makedirs(self.at(it))
         self.write("etc/nginx/nginx.conf", NGINX)
         os.mkdir(self.tools)
+        self.shows("")
         for name, text in STAND_INS.items():
             self.stand_in(name, text)
         self.env = {**os.environ, "PATH": f"{self.tools}:{PATH}", "ROOT": self.root, "FILEROOM": PROGRAM}
@@ -95,6 +102,12 @@ class Machine:
     def mended(self):
         with contextlib.suppress(FileNotFoundError):
             os.remove(os.path.join(self.folder, "broken"))
+
+    def shows(self, text, later=None):
+        """What systemctl shows of units, lines UNIT NAME=VALUE: now, and once a room's process was asked for."""
+        self.write("../shown", text)
+        if later is not None:
+            self.write("../shown-next", later)
 
     def files(self, logins=None):
         """Each file below the root but the lock and a room's log: its mode and text. Of a login that is none of these a
@@ -344,7 +357,7 @@ def looked_at(machine, tally):
     words = ["openssl", "req", "-x509", "-key", key, "-days", "90", "-subj", "/CN=x", "-out", cert]
     subprocess.run(words, check=True, capture_output=True)
     tally.differs("nothing is wrong", machine.does("check")[:2],
-                  (0, "nothing is wrong that was looked at; rooms: club, more, plans\n"))
+                  (0, NOTHING))
     put_wrong = {
         "the page has another roster": lambda: machine.write("etc/fileroom/club.toml", "[users]\nann = []\n"),
         "not that of the installed program": lambda: machine.write("etc/nginx/fileroom/proxy.conf", "\n"),
@@ -411,13 +424,17 @@ def disks(machine, tally):
     return []
 
 
-def two_versions(machine, tally):
-    """What is installed is of one version: the program, the client, the page, a unit, or `fileroom-admin` itself."""
-    top = os.path.join(machine.folder, "usr")
-    installed = os.path.join(top, "bin", "fileroom-admin")
-    how = {"env": machine.env, "capture_output": True, "text": True}
+def install(machine, tally, top, program=PROGRAM):
+    """Installs all below a folder: where its `fileroom-admin` is."""
+    how = {"env": {**machine.env, "FILEROOM": program}, "capture_output": True, "text": True}
     done = subprocess.run([os.path.join(SERVICE, "install"), "", top], **how)
     tally.differs(f"install: {done.stderr}", done.returncode, 0)
+    return os.path.join(top, "bin", "fileroom-admin")
+
+
+def two_versions(machine, tally, top):
+    """What is installed is of one version: the program, the client, the page, a unit, or `fileroom-admin` itself."""
+    installed = install(machine, tally, top)
     machine.does("front", first=[installed])
     tally.differs("as it was installed", machine.does("check", first=[installed])[0], 0)
     for name in ("bin/fileroom", "share/fileroom/client/room_client/version.py", "share/fileroom/page/index.html",
@@ -430,23 +447,125 @@ def two_versions(machine, tally):
         shutil.copy2(os.path.join(machine.folder, os.path.basename(name)), path)
         tally.differs(f"another {name}", found[:2], (
             1, f"not as it was installed with the rest: {name}\n    make install, of one version\n"))
-    machine.does("front")
 
 
-def a_standby(machine, tally):
-    """A room that other machines can take over has another unit; `check` asks about it, and about no file elsewhere."""
+def sees(machine, tally, top, what, want):
+    """These are all that the installed `check` finds, with their remedies; `note: ..` is no finding."""
+    found = [it for it in want if not it.startswith("note: ")]
+    told = machine.does("check", first=[os.path.join(top, "bin", "fileroom-admin")])
+    tally.differs(what, told, (1 if found else 0, "".join(f"{it}\n" for it in want) + ("" if found else NOTHING), ""))
+
+
+def older_process(machine, tally, top):
+    """A room's process runs what is installed: told where another program was installed since it began, and not where
+    the same bytes were, or where no process is."""
+    other, roster = os.path.join(machine.folder, "other"), machine.at("etc/fileroom/plans.toml")
+    shutil.copy2(PROGRAM, other)
+    with open(other, "ab") as file:
+        file.write(b"\n")
+
+    def begin():
+        words = [os.path.join(top, "bin", "fileroom"), "replay", roster, "--", "ann", "eng"]  # (it waits for a message)
+        how = {"stdin": subprocess.PIPE, "stdout": subprocess.DEVNULL, "preexec_fn": end_with_parent}
+        started_here.append(subprocess.Popen(words, **how))
+        return started_here[-1]
+
+    def looks(what, pid, *want, later=None):
+        machine.shows(*(f"fileroom@plans MainPID={it}\n" for it in (pid, pid if later is None else later)))
+        sees(machine, tally, top, what, want)
+
+    told = "plans: its process runs another program than the installed one\n    systemctl restart fileroom@plans"
+    first = begin()
+    looks("a process of what is installed", first.pid)
+    install(machine, tally, top, other)
+    looks("another program was installed", first.pid, told)
+    second = begin()
+    looks("the room was started again", second.pid)
+    looks("it has just begun", os.getpid(), later=second.pid)
+    install(machine, tally, top)
+    looks("the one of before was installed again", second.pid, told)
+    looks("the same bytes were", first.pid)
+    tally.differs("the processes go on", (first.poll(), second.poll()), (None, None))
+    second.kill()
+    second.wait()
+    looks("a process that has ended", second.pid)
+    looks("no process", 0)
+    first.kill()
+    first.wait()
+
+
+def other_units(machine, tally, top):
+    """What systemd takes in the place of an installed unit is told; a drop-in too, which is no finding."""
+    def hides(path):
+        return (f"{machine.at(path)} hides the installed unit\n    move it away, systemctl daemon-reload, and a "
+                f"restart; lines of your own go into a drop-in: systemctl edit {os.path.basename(path)}")
+
+    def looks(what, folder, *want):
+        sees(machine, tally, top, what, want)
+        shutil.rmtree(machine.at(folder))
+
+    names = ["fileroom-backup@.service", "fileroom-backup@club.timer", "fileroom-ports.service", "fileroom@.service",
+             "fileroom@plans.service"]
+    for folder in "etc/systemd/system.control", "etc/systemd/system", "run/systemd/system", \
+            "usr/local/lib/systemd/system":
+        os.makedirs(machine.at(folder))
+        for it in names:
+            machine.write(f"{folder}/{it}", "[Service]\nExecStart=/bin/true\n")
+        looks(f"whole units in {folder}", folder, *(hides(f"{folder}/{it}") for it in names))
+    folder = "etc/systemd/system"
+    unit, at = f"{folder}/fileroom@plans.service", machine.at(f"{folder}/fileroom@plans.service")
+    own = os.path.join(top, "lib/systemd/system/fileroom@.service")
+    for what, make, want in (("a mask", lambda: os.symlink("/dev/null", at), [hides(unit)]),
+                             ("a copy, which the next version leaves", lambda: shutil.copy(own, at), [hides(unit)]),
+                             ("a link to the installed one", lambda: os.symlink(own, at), [])):
+        os.makedirs(machine.at(folder))
+        make()
+        looks(what, folder, *want)
+    for it in "fileroom@gone.service", "fileroom-copy.service", "fileroom-standby@.service":
+        os.makedirs(machine.at(folder), exist_ok=True)
+        machine.write(f"{folder}/{it}", "")
+    os.makedirs(machine.at(f"{folder}/multi-user.target.wants"))
+    os.symlink(own, machine.at(f"{folder}/multi-user.target.wants/fileroom@plans.service"))
+    looks("units that no room here has", folder)
+    for name in "fileroom@.service", "fileroom-backup@plans.timer":
+        os.makedirs(machine.at(f"{folder}/{name}.d"))
+        machine.write(f"{folder}/{name}.d/none.txt", "")
+        sees(machine, tally, top, "a folder without a drop-in", [])
+        machine.write(f"{folder}/{name}.d/own.conf", "[Service]\nMemoryMax=2G\n")
+        note = (f"note: {machine.at(folder)}/{name}.d/own.conf changes the installed unit\n"
+                f"    where that is not meant: systemctl revert {name}")
+        sees(machine, tally, top, "a drop-in", [note])
+        machine.write(unit, "")
+        looks("a drop-in, and a unit", folder, hides(unit), note)
+    for it in "fileroom-ports.service", "fileroom@plans.service", "fileroom-backup@club.timer":
+        for word, want in ("no", []), ("yes", ["systemd has not read the units since they changed\n"
+                                               "    systemctl daemon-reload; systemctl try-restart "
+                                               "fileroom@club fileroom@more fileroom@plans"]):
+            machine.shows(f"{it} NeedDaemonReload={word}\n{it} MainPID=0\n")
+            sees(machine, tally, top, f"{it}: NeedDaemonReload={word}", want)
+    machine.shows("")
+
+
+def a_standby(machine, tally, top):
+    """A room that other machines can take over has other units; `check` asks about it, and about no file elsewhere."""
+    installed = [os.path.join(top, "bin", "fileroom-admin")]
     machine.write("etc/fileroom/plans.hosts", "10.77.0.1\n10.77.0.2\n10.77.0.3\n")
     machine.told()
     said = machine.does("user", "add", "plans", "sue", "eng")[1].splitlines()
     tally.differs("what is to be copied", said[-1], "for the machines of plans: fileroom-standby copy plans | sh")
     tally.differs("the standby's unit", machine.told(), ["systemctl try-restart fileroom-standby@plans"])
-    machine.does("front")
+    machine.does("front", first=installed)
     tally.differs("nginx is the manager's", machine.told(), ["systemctl try-reload-or-restart nginx"])
     os.chmod(machine.at("var/lib/fileroom/plans"), 0o755)
-    said = machine.does("check")[1]
+    folder = machine.at("etc/systemd/system")
+    os.makedirs(folder)
+    for it in "", "-rejoin", "-standby":
+        os.symlink("/dev/null", os.path.join(folder, f"fileroom{it}@plans.service"))
+    said = machine.does("check", first=installed)[1]
     tally.differs("what it asks", "fileroom-standby check plans" in machine.told(), True)
-    found = [it for it in said.splitlines() if "plans" in it]
+    found = [it for it in said.splitlines() if not it.startswith("    move it away")]
     tally.differs("check of a standby", found, [
+        *(f"{folder}/fileroom-{it}@plans.service hides the installed unit" for it in ("rejoin", "standby")),
         "fileroom@plans runs, and the room has a standby", "    systemctl disable --now fileroom@plans",
         "plans: its standby is not as it must be", "    fileroom-standby check plans"])
 
@@ -467,8 +586,9 @@ def tried(folder, tally):
     machine.stand_in("nginx", STAND_INS["nginx"])
     looked_at(machine, tally)
     lacking = disks(machine, tally)
-    two_versions(machine, tally)
-    a_standby(machine, tally)
+    top = os.path.join(machine.folder, "usr")
+    for task in two_versions, older_process, other_units, a_standby:
+        task(machine, tally, top)
     print(f"service: fileroom-admin, stopped at each of {sum(steps)} steps")
     return lacking
 

@@ -1,5 +1,6 @@
 """`fileroom-admin check`: what is wrong with a machine, each finding with its remedy."""
 import datetime
+import glob
 import grp
 import json
 import os
@@ -18,16 +19,24 @@ PROGRAMS = {"nginx": "nginx-light", "openssl": "openssl", "sqlite3": "sqlite3", 
 ROOM_LEFT = 1 << 30  # bytes that a disk should have free, or a tenth of it
 DAYS_LEFT = 21  # of a certificate
 OTHERS = stat.S_IRWXG | stat.S_IRWXO
+PREFIX = os.path.join(HERE, "../../../..")  # of what `make install` put; in a checkout there is nothing
+# where systemd looks for units before it does below the prefix
+BEFORE = "etc/systemd/system.control", "etc/systemd/system", "run/systemd/system", "usr/local/lib/systemd/system"
 FRONT_REMEDY = "fileroom-admin front puts it right"
 ONE_VERSION = "make install, of one version"
+SUMS = "share/fileroom/sums"
 
 
 class Findings:
     def __init__(self, places):
-        self.places, self.found = places, []
+        self.places, self.found, self.notes = places, [], []
 
     def add(self, text, remedy):
         self.found.append((text, remedy))
+
+    def note(self, text, more):
+        """What may be meant, and is told alone."""
+        self.notes.append((f"note: {text}", more))
 
     def part(self, task, *words):
         """A look that cannot be done is a finding too."""
@@ -48,10 +57,31 @@ class Findings:
 
     def installed(self):
         """(In a checkout there are no sums.)"""
-        sums = [it.split("  ") for it in read(os.path.join(HERE, "../../sums"), "").splitlines()]
-        others = [name for its_sum, name in sums if sum_in(os.path.join(HERE, "../../../..", name)) != its_sum]
+        sums = [it.split("  ") for it in read(os.path.join(PREFIX, SUMS), "").splitlines()]
+        others = [name for its_sum, name in sums if sum_in(os.path.join(PREFIX, name)) != its_sum]
         if others:
             self.add(f"not as it was installed with the rest: {', '.join(others[:9])}", ONE_VERSION)
+        if sums:
+            self.units()
+
+    def units(self):
+        """What systemd takes in the place of an installed unit, or with it, or has not read yet."""
+        names = ["fileroom-ports.service", *(it for room in self.places.rooms() for it in self.places.units(room))]
+        for name in sorted({*names, *map(template_of, names)}):
+            for folder in BEFORE:
+                self.unit_before(self.places.at(f"{folder}/{name}"), name)
+        if "NeedDaemonReload=yes" in said("systemctl", "show", "--property=NeedDaemonReload", *names)[1].splitlines():
+            self.add("systemd has not read the units since they changed", "systemctl daemon-reload; systemctl "
+                     f"try-restart {' '.join(map(self.places.unit, self.places.rooms()))}")
+
+    def unit_before(self, path, name):
+        """A unit there hides the installed one, with what an update changes in it; a drop-in changes some lines."""
+        installed = os.path.join(PREFIX, "lib/systemd/system", template_of(name))
+        if os.path.lexists(path) and os.path.realpath(path) != os.path.realpath(installed):
+            self.add(f"{path} hides the installed unit", "move it away, systemctl daemon-reload, and a restart; "
+                     f"lines of your own go into a drop-in: systemctl edit {name}")
+        for it in sorted(glob.glob(f"{glob.escape(path)}.d/*.conf")):
+            self.note(f"{it} changes the installed unit", f"where that is not meant: systemctl revert {name}")
 
     def front(self):
         for name, path in FRONT_FILES.items():
@@ -111,6 +141,7 @@ class Findings:
         if self.is_here(room):
             self.mode(places.state(room), OTHERS, "chmod 700")
             self.owner(places.file(room))
+        self.running(room)
         units = [] if places.has_standby(room) else [f"fileroom@{room}"]
         for unit in *units, f"fileroom-backup@{room}.timer":
             self.unit(unit)
@@ -118,6 +149,12 @@ class Findings:
     def unit(self, name):
         if said("systemctl", "is-active", "-q", name)[0]:
             self.add(f"{name} does not run", f"systemctl enable --now {name}; journalctl -u {name} says why not")
+
+    def running(self, room):
+        """(It is looked at twice: what has just begun is systemd's own program yet.)"""
+        unit = self.places.unit(room)
+        if all(runs_other(unit, pause) for pause in (0, 1)):
+            self.add(f"{room}: its process runs another program than the installed one", f"systemctl restart {unit}")
 
     def is_here(self, room):
         """(A room with a standby is where its volume is mounted.)"""
@@ -168,8 +205,20 @@ class Findings:
                 self.add(f"the disk of {folder} has {it.free >> 20} MiB free", "take away what is not needed")
 
 
+def runs_other(unit, pause):
+    """Whether its process has other bytes than the installed program, after so many seconds."""
+    time.sleep(pause)
+    installed = sum_in(os.path.join(PREFIX, "bin/fileroom"))
+    pid = re.search(r"(?m)^MainPID=([1-9]\d*)$", said("systemctl", "show", "--property=MainPID", unit)[1])
+    return bool(installed and pid) and sum_in(f"/proc/{pid[1]}/exe") not in (None, installed)
+
+
+def template_of(unit):
+    return re.sub(r"@.*\.", "@.", unit)
+
+
 def check(places, hours, say):
-    """Says each finding, or that there is none. The exit status."""
+    """Says each finding, or that there is none, and notes. The exit status."""
     it = Findings(places)
     for task in it.programs, it.installed, it.front, it.passwords:
         it.part(task)
@@ -183,7 +232,7 @@ def check(places, hours, say):
         it.part(it.backup_of_front, hours)
     for folder in places.at("var/lib/fileroom"), places.backups().rstrip("/"):
         it.part(it.disk, folder)
-    for text, remedy in it.found:
+    for text, remedy in it.found + it.notes:
         say(f"{text}\n    {remedy}")
     if not it.found:
         say(f"nothing is wrong that was looked at; rooms: {', '.join(places.rooms())}")

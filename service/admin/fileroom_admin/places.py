@@ -61,6 +61,11 @@ class Places:
     def unit(self, room):
         return f"fileroom-standby@{room}" if self.has_standby(room) else f"fileroom@{room}"
 
+    def units(self, room):
+        rejoin = [f"fileroom-rejoin@{room}.service"] if self.has_standby(room) else []
+        backup = f"fileroom-backup@{room}"
+        return [f"{self.unit(room)}.service", *rejoin, f"{backup}.service", f"{backup}.timer"]
+
     def read_front(self):
         """The words that have nginx read its files. (Where a room has a standby, the cluster's manager starts it.)"""
         is_managed = any(map(self.has_standby, self.rooms()))
