@@ -11,6 +11,7 @@ import os
 import shutil
 import subprocess
 import sys
+import time
 
 from nginx import PATH, certified
 from served import HERE, PROGRAM, Tally, end_with_parent, started_here, text_of
@@ -26,7 +27,7 @@ http {
     include /etc/nginx/conf.d/*.conf;
 }
 """
-KILLED, MOST = 9, 1000  # a status; steps
+KILLED, BROKEN, MOST = 9, 3, 1000  # two statuses; steps
 NOTHING = "nothing is wrong that was looked at; rooms: club, more, plans\n"
 TOLD = 'echo "$(basename "$0") $*" >>"$ROOT/../told"\n'
 STAND_INS = {
@@ -85,6 +86,15 @@ class Machine:
         how = {"capture_output": True, "text": True, "env": self.env, "timeout": 60, "umask": 0o077}
         done = subprocess.run(line, input=stdin, **how)
         return done.returncode, done.stdout, done.stderr
+
+    def lacks(self, program):
+        """From now on no program of this name is found (but in /usr/sbin, which is always looked in)."""
+        few = os.path.join(self.folder, f"without-{program}")
+        os.mkdir(few)
+        for folder in filter(os.path.isdir, self.env["PATH"].split(os.pathsep)):
+            for it in {*os.listdir(folder)} - {program, *os.listdir(few)}:
+                os.symlink(os.path.join(folder, it), os.path.join(few, it))
+        self.env.update(PATH=few)
 
     def told(self):
         """What the stand-ins were asked since the last time."""
@@ -153,9 +163,7 @@ def a_room(machine, tally):
     modes = [oct(os.stat(machine.at(f"etc/nginx/fileroom/{it}")).st_mode & 0o777) for it in ("rooms", "rooms.json")]
     tally.differs("what nginx reads", modes, ["0o755", "0o644"])
     tally.differs("a room", os.path.exists(machine.at("var/lib/fileroom/plans/room.db")), True)
-    tally.differs("what the services are asked", machine.told(), [f"systemctl {it}" for it in (
-        "daemon-reload", "enable fileroom-ports", "restart fileroom-ports", "enable --now fileroom@plans",
-        "enable --now fileroom-backup@plans.timer", "reload-or-restart nginx")])
+    tally.differs("what the services are asked", machine.told(), asked_for("plans"))
     tally.differs("the login", fits(machine, "ann", word), True)
     tally.differs("once more", machine.does("room", "add", "plans", "ann", "eng")[0], 1)
     tally.differs("the next port", (machine.does("room", "add", "club", "ann", "eng")[0],
@@ -164,6 +172,17 @@ def a_room(machine, tally):
         before = machine.files()
         status = machine.does("room", "add", *words)[0]
         tally.differs(f"room add {words}", (status, machine.files() == before), (1, True))
+
+
+def asked_for(room):
+    """What a new room asks of services."""
+    return [f"systemctl {it}" for it in (
+        "daemon-reload", "enable fileroom-ports", "restart fileroom-ports", f"enable --now fileroom@{room}",
+        f"enable --now fileroom-backup@{room}.timer", "reload-or-restart nginx")]
+
+
+def undone(asked):
+    return [it.replace("enable --now", "disable --now") for it in reversed(asked)]
 
 
 def fits(machine, user, word):
@@ -221,28 +240,41 @@ def faults_undo(machine, tally):
     """What a service, nginx or the room refuses leaves all as it was, and what has read it reads the old again."""
     machine.does("user", "add", "plans", "lou")
     cert, key = certified(os.path.join(machine.folder, "refused"), "DNS:room.example")
-    for what, words in (("nginx", "room add new ann eng"), ("fileroom@plans", "user add plans kim eng"),
-                        ("fileroom@plans", "user groups plans lou eng"), ("fileroom@plans", "user remove plans lou"),
-                        ("nginx", f"tls {cert} {key}"), ("nginx", "front")):
+    new = asked_for("new")
+    tries = [(it.split()[-1], "room add new ann eng", new) for it in new[2:]]
+    for words in "user add plans kim eng", "user groups plans lou eng", "user remove plans lou":
+        tries.append(("fileroom@plans", words, ["systemctl try-restart fileroom@plans"]))
+    for words in f"tls {cert} {key}", "front":
+        tries.append(("nginx", words, ["systemctl reload-or-restart nginx"]))
+    for what, words, asked in tries:
         machine.told()
         machine.breaks(what)
         before = machine.files()
         status, _, faults = machine.does(*words.split())
         machine.mended()
         tally.differs(f"{words}: {faults}", (status, machine.files() == before), (1, True))
-        told = machine.told()
-        done = told[:len(told) // 2]
-        tally.differs(f"{words}: what is undone", told[len(done):],
-                      [it.replace("enable --now", "disable --now") for it in reversed(done)])
+        first = next(at for at, it in enumerate(asked) if it.split()[-1] == what)
+        tally.differs(f"{words}, {what}: asked, and undone", machine.told(), asked[:first + 1] + undone(asked))
+    before = machine.files()
+    machine.env.update(FILEROOM="false")
+    status = machine.does("user", "add", "plans", "kim", "eng")[0]
+    machine.env.update(FILEROOM=PROGRAM)
+    tally.differs("the room's program refuses the roster", (status, machine.files() == before, machine.told()),
+                  (1, True, []))
     machine.does("user", "remove", "plans", "lou")
-    aside = sorted(it.rpartition("-")[0] for it in os.listdir(machine.at("var/lib/fileroom/new")))
-    tally.differs("a room that was served is kept aside", aside, ["room.db-wal.undone", "room.db.undone"])
+    is_aside(machine, tally, "new")
     machine.write("etc/nginx/conf.d/other.conf", "no such word;\n")
     before = machine.files()
     tally.differs("another site is broken", (machine.does("room", "add", "newer", "ann", "eng")[0],
                                              machine.files() == before), (1, True))
-    tally.differs("its room is kept aside", os.path.exists(machine.at("var/lib/fileroom/newer/room.db")), False)
+    is_aside(machine, tally, "newer")
     os.remove(machine.at("etc/nginx/conf.d/other.conf"))
+
+
+def is_aside(machine, tally, room):
+    """The file of a room that came to nothing is there under another name."""
+    names = {it.rpartition("-")[0] for it in os.listdir(machine.at(f"var/lib/fileroom/{room}"))}
+    tally.differs(f"the room {room} is kept aside", names, {"room.db-wal.undone", "room.db.undone"})
 
 
 def counted(task, left):
@@ -273,12 +305,13 @@ def stopped(machine, step, *words, stdin=""):
         from fileroom_admin.command import main
         os._exit(main(["--root", machine.root, *words]))
     finally:
-        os._exit(1)
+        os._exit(BROKEN)
 
 
-def stops(machine, tally, *words, stdin=""):
+def stops(machine, tally, *words, stdin="", broken=None):
     """A call that is killed at each of its steps in turn, and the next call at one of its own: after the one behind it
-    all is as before, and no service was asked, or all as after, and then the services were, in their order."""
+    all is as before, and no service was asked, or all as after, and then the services were, in their order. Where one
+    of them is broken during the call, its undoing has steps too, and those that were asked have read the old again."""
     saved, outcomes = os.path.join(machine.folder, "saved"), set()
     shutil.copytree(machine.root, saved, symlinks=True)
     logins = text_of(machine.at("etc/nginx/fileroom/users")).splitlines()
@@ -289,17 +322,19 @@ def stops(machine, tally, *words, stdin=""):
     for at in range(MOST):
         shutil.rmtree(machine.root)
         shutil.copytree(saved, machine.root, symlinks=True)
+        machine.breaks(broken or "")
         status = stopped(machine, at, *words, stdin=stdin)
-        tally.differs(f"{words}, stopped at {at}", status in (0, KILLED), True)
+        machine.mended()
+        tally.differs(f"{words}, stopped at {at}", status in (1 if broken else 0, KILLED), True)
         stopped(machine, at % 13, "user", "list")
         next_call = stopped(machine, MOST, "user", "list")
         found, told = machine.files(logins), machine.told()
         tally.differs(f"the next call, {words} stopped at {at}", (next_call, found in (before, after)), (0, True))
         is_before = found == before
-        tally.differs(f"services, {words} stopped at {at}", told[0 if is_before else len(told) - len(asked):],
-                      [] if is_before else asked)
+        want = asked if not is_before else undone(asked) if broken and told else []
+        tally.differs(f"services, {words} stopped at {at}", told[len(told) - len(want) if want else 0:], want)
         outcomes.add("before" if is_before else "after")
-        if status == 0:
+        if status != KILLED:
             break
     tally.differs(f"{words}: undone, and gone on", outcomes, {"before", "after"})
     shutil.rmtree(saved)
@@ -318,6 +353,9 @@ def written_since(machine, tally):
     machine.write("etc/fileroom/plans.toml", before + "# by hand\n")
     told = machine.does("user", "list")
     tally.differs("what was written by hand", (told[0], text_of(roster)), (0, before + "# by hand\n"))
+    of_page = text_of(machine.at("etc/nginx/fileroom/rooms/plans.users.json"))
+    tally.differs("the rest is undone", (told[2], "lee" in of_page),
+                  ("fileroom-admin: a change that was stopped is undone\n", False))
     machine.does("front")
     machine.does("user", "remove", "plans", "lee")
 
@@ -325,10 +363,18 @@ def written_since(machine, tally):
 def certificate(machine, tally):
     folder = os.path.join(machine.folder, "tls")
     cert, key = certified(folder, "DNS:room.example", "DNS:www.room.example", "IP:127.0.0.1")
-    other, _ = certified(os.path.join(folder, "other"), "IP:127.0.0.1")
+    other, its_key = certified(os.path.join(folder, "other"), "IP:127.0.0.1")
+    ended, shut = os.path.join(folder, "ended.pem"), os.path.join(folder, "shut.pem")
+    for words in ["x509", "-in", cert, "-signkey", key, "-days", "-1", "-out", ended], [
+            "pkey", "-in", key, "-aes256", "-passout", "pass:word", "-out", shut]:
+        subprocess.run(["openssl", *words], check=True, capture_output=True)
     before = machine.files()
-    for words in (other, key), (cert, cert), (key, key), (cert, os.path.join(folder, "none")):
-        tally.differs(f"tls {words}", (machine.does("tls", *words)[0], machine.files() == before), (1, True))
+    for words, why in (
+            ((other, its_key), "has no name of a machine"), ((cert, its_key), "is not that of the certificate"),
+            ((ended, key), "the certificate ended"), ((cert, shut), "has a passphrase"), ((key, key), "openssl x509"),
+            ((cert, cert), "no private key"), ((cert, os.path.join(folder, "none")), "no private key")):
+        status, _, faults = machine.does("tls", *words)
+        tally.differs(f"tls {words}: {faults}", (status, why in faults, machine.files() == before), (1, True, True))
     machine.told()
     status, said, faults = machine.does("tls", cert, key)
     told = said.startswith("the front listens by https, as room.example www.room.example, until ")
@@ -354,13 +400,18 @@ def looked_at(machine, tally):
     tally.differs("check", (listed[0], listed[1].splitlines()[0][:20], len(listed[1].splitlines())),
                   (1, "the certificate ends", 2))
     key = machine.at("etc/nginx/fileroom/tls/key.pem")
-    words = ["openssl", "req", "-x509", "-key", key, "-days", "90", "-subj", "/CN=x", "-out", cert]
-    subprocess.run(words, check=True, capture_output=True)
-    tally.differs("nothing is wrong", machine.does("check")[:2],
-                  (0, NOTHING))
+    for days, status in (20, 1), (23, 0):
+        words = ["openssl", "req", "-x509", "-key", key, "-days", str(days), "-subj", "/CN=x", "-out", cert]
+        subprocess.run(words, check=True, capture_output=True)
+        tally.differs(f"a certificate of {days} days", machine.does("check")[0], status)
+    tally.differs("nothing is wrong", machine.does("check"), (0, NOTHING, ""))
+    passed_by(machine, tally)
+    # (what is found, or those that are; and how it comes to be so)
     put_wrong = {
         "the page has another roster": lambda: machine.write("etc/fileroom/club.toml", "[users]\nann = []\n"),
-        "not that of the installed program": lambda: machine.write("etc/nginx/fileroom/proxy.conf", "\n"),
+        **{f"/{it} is not that of the installed program": lambda it=it: machine.write(it, "# another\n" + text_of(
+            machine.at(it))) for it in ("etc/nginx/fileroom/proxy.conf", "etc/nginx/conf.d/fileroom.conf",
+                                        "etc/nginx/modules-enabled/60-fileroom.conf")},
         "has a login, and is in no roster": lambda: machine.write(
             "etc/nginx/fileroom/users", text_of(machine.at("etc/nginx/fileroom/users")) + "zed:x\n"),
         "key.pem is open to too many": lambda: os.chmod(machine.at("etc/nginx/fileroom/tls/key.pem"), 0o644),
@@ -371,10 +422,12 @@ def looked_at(machine, tally):
         "a change was stopped": lambda: machine.write("etc/fileroom/admin.journal", "{}"),
         "nginx does not take its files": lambda: machine.write("etc/nginx/conf.d/other.conf", "no such word;\n"),
         "plans: its place in the front": lambda: machine.write("etc/nginx/fileroom/rooms/plans.conf", ""),
-        "club has the port of plans": lambda: machine.write("etc/fileroom/club.env", "PORT=8001\n"),
+        ("club: its place in the front", "club has the port of plans", "plans has the port of club"):
+            lambda: machine.write("etc/fileroom/club.env", "PORT=8001\n"),
         "No such file or directory": lambda: os.remove(machine.at("etc/nginx/fileroom/users")),
         "of two versions": lambda: machine.stand_in("room", "echo room 0.0.1"),
-        "there is no curl": lambda: machine.env.update(PATH=machine.tools),
+        ("there is no openssl", "there is no openssl"): lambda: machine.lacks("openssl"),
+        **{f"there is no {it}": lambda it=it: machine.lacks(it) for it in ("sqlite3", "curl")},
         "has no backup": lambda: shutil.rmtree(machine.at("var/backups/fileroom/club")),
         "hours old": lambda: os.rename(machine.at("var/backups/fileroom/club/2999-01-01T00-00-00Z"),
                                        machine.at("var/backups/fileroom/club/2020-01-01T00-00-00Z")),
@@ -382,7 +435,8 @@ def looked_at(machine, tally):
             machine.at("var/backups/fileroom-front/2999-01-01.tar.gz"), (1, 1)),
         **{f"{it} does not run": lambda it=it: machine.breaks(it)
            for it in ("nginx", "fileroom@plans", "fileroom-backup@plans.timer")},
-        "reach its port": lambda: machine.write("etc/fileroom/club.env", "PORT=8004\n"),
+        ("club: its place in the front", "reach its port"): lambda: machine.write(
+            "etc/fileroom/club.env", "PORT=8004\n"),
         "rooms.json names other rooms": lambda: machine.write("etc/nginx/fileroom/rooms.json", "[]\n"),
         "768": lambda: machine.write("etc/nginx/nginx.conf", NGINX),
     }
@@ -392,12 +446,33 @@ def looked_at(machine, tally):
         shutil.copytree(machine.root, saved, symlinks=True)
         task()
         status, said, _ = machine.does("check")
-        tally.differs(f"check: {what}", (status, what in said, said.count("\n    ") >= 1), (1, True, True))
+        found, want = said.splitlines(), [what] if isinstance(what, str) else what
+        is_told = len(found) == 2 * len(want) and all(it.startswith("    ") for it in found[1::2]) and all(
+            map(str.__contains__, found[::2], want))
+        tally.differs(f"check: {what}: {said}", (status, is_told), (1, True))
         shutil.rmtree(machine.root)
         os.rename(saved, machine.root)
         machine.env.update(PATH=path)
         machine.stand_in("room", STAND_INS["room"])
         machine.mended()
+
+
+def passed_by(machine, tally):
+    """What is near a finding, and is none; and what is just over."""
+    now = time.time()
+    club, front = machine.at("var/backups/fileroom/club"), machine.at("var/backups/fileroom-front/2999-01-01.tar.gz")
+    for hours, more, found in (25, [], 0), (27, [], 1), (27, ["--backup-hours", "28"], 0):
+        made = time.strftime("%Y-%m-%dT%H-%M-%SZ", time.gmtime(now - hours * 3600))
+        os.rename(os.path.join(club, os.listdir(club)[0]), os.path.join(club, made))
+        tally.differs(f"a backup {hours} hours old {more}", machine.does("check", *more)[0], found)
+        os.rename(os.path.join(club, made), os.path.join(club, "2999-01-01T00-00-00Z"))
+        os.utime(front, (now, now - hours * 3600))
+        tally.differs(f"one of the front, {hours} hours old {more}", machine.does("check", *more)[0], found)
+        os.utime(front, (now, now))
+    listen, before = "etc/nginx/fileroom/listen.conf", text_of(machine.at("etc/nginx/fileroom/listen.conf"))
+    machine.write(listen, "listen 127.0.0.1:20081;\nlisten [::1]:20081;\n")
+    tally.differs("in the clear for this machine alone", machine.does("check"), (0, NOTHING, ""))
+    machine.write(listen, before)
 
 
 # A folder on a disk of its own of 8 MiB, with so much of it filled.
@@ -579,7 +654,8 @@ def tried(folder, tally):
     faults_undo(machine, tally)
     cert, key = certificate(machine, tally)
     machine.stand_in("nginx", "true")  # (it has taken such files, and would be most of the time)
-    steps = [stops(machine, tally, *it.split(), stdin="some longer word\n") for it in (
+    steps = [stops(machine, tally, "room", "add", "more", "ann", "eng", broken="fileroom-backup@more.timer")]
+    steps += [stops(machine, tally, *it.split(), stdin="some longer word\n") for it in (
         "user add plans kim eng", "user passwd kim --stdin", "user remove plans kim", f"tls {cert} {key}",
         "room add more ann eng")]
     written_since(machine, tally)

@@ -32,7 +32,8 @@ class Findings:
         self.places, self.found, self.notes = places, [], []
 
     def add(self, text, remedy):
-        self.found.append((text, remedy))
+        """(A program may say it in several lines.)"""
+        self.found.append((" ".join(text.splitlines()), remedy))
 
     def note(self, text, more):
         """What may be meant, and is told alone."""
