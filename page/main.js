@@ -68,12 +68,13 @@ class App {
     }
   }
 
-  /** Something was done: tells it, and shows what is there then; `moved` where what was shown is elsewhere now. */
+  /** Something was done: tells it, and shows what is there then; `moved` where what was shown is elsewhere now, and no
+   * way leads Back to where it was. */
   async done(words, moved = null) {
     const here = placeOf(location.hash);
     if (here && moved && isAt(here.path, moved.from)) {
       this.saying = words; // (the next place tells it)
-      location.hash = addressOf({ room: here.room, path: moved.to });
+      location.replace(addressOf({ room: here.room, path: moved.to }));
     } else {
       const back = standing();
       say(words);
@@ -90,6 +91,7 @@ class App {
 
   /** The address has changed. Plain words of before are of another place, save where an action led here. */
   async come() {
+    if (!part("main")) return; // (logged out: nothing is shown any more)
     if (isUnsaved() && location.hash !== this.here && !this.isLosing) return this.askToLeave();
     this.isLosing = false;
     closeAll();

@@ -213,7 +213,7 @@ def lists_at_once(club, differs):
 
 
 def stays(club, differs):
-    """After an action the page stands where it stood; an unknown room is told at once."""
+    """After an action the page stands where it stood, and Back is not what is gone; an unknown room is told at once."""
     browser = club.browser
     club.holds({"cmd": "MKDIR", "path": "/long"})
     for count in range(60):
@@ -228,6 +228,14 @@ def stays(club, differs):
     browser.until("at rest", lambda: browser.script(FOCUS) == "More for 40 b.txt")
     moved = abs(browser.script("return Math.round(scrollY)") - top)
     differs("it stands where it stood", [top > 100, moved < 80], [True, True])  # (a notice takes a line or two)
+    browser.follow("40 b.txt")
+    browser.press("Rename", "//main")
+    browser.fill("New name", "40 c.txt")
+    browser.press("Rename", "//dialog[@open]")
+    browser.sees("40 c.txt", "h1")
+    browser.script("history.back()")
+    browser.until("Back", lambda: browser.script(PLACE) != "#open/club/long/40%20c.txt")
+    differs("Back is the folder, and no old name", browser.script(PLACE), "#open/club/long")
     browser.go(club.address("#open/nowhere/plans"))
     differs("an unknown room", browser.sees("There is no room nowhere here.", "main"), True)
     differs("the rooms that are there", browser.sees("club", "main li"), True)
@@ -247,9 +255,10 @@ def one_vocabulary(club, differs):
 
 
 def log_out(club, differs):
-    """The browser forgets the login: a request of the page is asked for one again."""
+    """The browser forgets the login: a request of the page is asked for one again. Back shows nothing and fails not."""
     browser = club.browser
     club.go("#open/club")
+    club.go("#open/club/plans")  # (Back from the first would load another page, which waits for a login)
     ask = ("fetch(new URL('/whoami', location.origin), {signal: AbortSignal.timeout(3000)})"
            ".then((it) => arguments[0](it.status), () => arguments[0]('waits for a login'))")
     asked = {"script": ask, "args": []}
@@ -257,6 +266,10 @@ def log_out(club, differs):
     browser.press("Log out")
     differs("it is told", browser.sees("You are logged out", "h1"), True)
     differs("after", browser.ask("POST", "/execute/async", asked), "waits for a login")
+    browser.script("history.back()")
+    browser.until("Back", lambda: browser.script("return location.hash") == "#open/club")
+    differs("after Back", browser.script("return document.querySelector('h1').textContent"), "You are logged out")
+    differs("it fails not", [it for it in browser.complaints() if "TypeError" in it], [])
     club.log_in("ann")
 
 
