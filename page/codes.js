@@ -29,21 +29,28 @@ const REFUSALS = {
   43: ["The room does not take this request: a name or a path in it is not well formed.", "Change it."],
 };
 
-function lackedRight({ bit, path }, command) {
-  const kind = OF_DOCUMENTS.has(command.cmd) && path === command.path ? FILE : FOLDER;
-  return [`The list of ${shown(path)} does not allow you to ${rightsIn(bit, kind)}.`,
-    "Ask its owner, or whoever may change its list."];
+/** By name, as far as the user may see: `owner` is the object's, `above` that of the folder that it is in. */
+function whomToAsk({ user, owner, above }) {
+  if (owner && owner === user) return "It is yours, so you may change its list.";
+  if (owner) return `Ask its owner, ${owner}, or whoever may change its list.`;
+  const isOthers = above && above !== user;
+  return `Ask its owner, or ${isOthers ? `${above}, who owns the folder above` : "whoever may change its list"}.`;
 }
 
-function wordsOf(reply, command) {
-  if (reply.code === ACCESS) return lackedRight(reply, command);
+function lackedRight({ bit, path }, command, whose) {
+  const kind = OF_DOCUMENTS.has(command.cmd) && path === command.path ? FILE : FOLDER;
+  return [`The list of ${shown(path)} does not allow you to ${rightsIn(bit, kind)}.`, whomToAsk(whose)];
+}
+
+function wordsOf(reply, command, whose) {
+  if (reply.code === ACCESS) return lackedRight(reply, command, whose);
   return REFUSALS[reply.code] ?? [`The room refuses this (${reply.code} ${reply.error}).`, "Ask who runs the room."];
 }
 
 /** A refusal of the room, told in words. */
 export class Refusal extends Error {
-  constructor(reply, command = {}) {
-    super(wordsOf(reply, command).join(" "));
+  constructor(reply, command = {}, whose = {}) {
+    super(wordsOf(reply, command, whose).join(" "));
     this.code = reply.code;
     this.path = reply.path;
   }

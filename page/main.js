@@ -31,7 +31,8 @@ class App {
     const base = `/rooms/${name}`;
     const tell = (command, reply, fault) => this.tellLeft(command, reply, fault);
     if (!this.opened.has(name)) {
-      const opening = sessionOfTab(base, name, busy, this.login, tell).then((it) => new Room(name, base, it, busy));
+      const opening = sessionOfTab(base, name, busy, this.login, tell)
+        .then((it) => new Room(name, base, it, busy, this.user));
       this.opened.set(name, opening.catch((fault) => {
         this.opened.delete(name);
         throw fault;

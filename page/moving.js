@@ -1,7 +1,6 @@
 /** What a user does with a file or a folder as a whole: move, copy, remove, download. */
 import { GaveUp } from "./busy.js";
 import { save } from "./bytes.js";
-import { Refusal } from "./codes.js";
 import { ask, input } from "./dialogs.js";
 import { button, checkbox, make, nameText } from "./dom.js";
 import { ACCESS, EXIST, NOBODY, NOENT, NOTDIR, isRefused, manifestAt, orElse, readFile, removeAll } from "./files.js";
@@ -82,7 +81,7 @@ export async function move(app, path) {
 /** Throws what the room would say, where something of that kind may not be made in the folder. */
 async function needRight(room, kind, path) {
   const bit = kind === FILE ? ADD_FILE : ADD_FOLDER;
-  if (!(await room.aside("ACCESS", path, { mask: bit })).allowed) throw new Refusal({ code: ACCESS, bit, path });
+  if (!(await room.aside("ACCESS", path, { mask: bit })).allowed) throw await room.refusal({ code: ACCESS, bit, path });
 }
 
 export async function copyTo(app, path) {

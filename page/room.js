@@ -1,36 +1,50 @@
 /** A room: its commands, each one request of this tab's session, and its questions. */
 import { fileOfFront, untilAnswered } from "./wire.js";
 import { Refusal } from "./codes.js";
+import { ROOT, folderOf } from "./places.js";
 import { ALL, FILE, FOLDER } from "./rights.js";
 
-const NOT_A_FOLDER = 2; // a code of the room's
-
-function need(reply, command) {
-  if (reply.code !== 0) throw new Refusal(reply, command);
-  return reply;
-}
+const NOT_A_FOLDER = 2; // codes of the room's
+const ACCESS = 5;
 
 export class Room {
-  constructor(name, base, session, patience) {
-    Object.assign(this, { name, base, session, patience });
+  constructor(name, base, session, patience, user) {
+    Object.assign(this, { name, base, session, patience, user });
+  }
+
+  async #need(reply, command) {
+    if (reply.code !== 0) throw await this.refusal(reply, command);
+    return reply;
+  }
+
+  /** A refusal in words, which name whom to ask. */
+  async refusal(reply, command) {
+    return new Refusal(reply, command, reply.code === ACCESS ? await this.#whose(reply.path) : {});
+  }
+
+  /** Who owns an object, or where that may not be seen, the folder above. */
+  async #whose(path) {
+    const ask = async (it) => (await this.asideIfAllowed("STAT", it).catch(() => null))?.owner;
+    const owner = await ask(path);
+    return { user: this.user, owner, above: owner || path === ROOT ? null : await ask(folderOf(path)) };
   }
 
   /** Runs a command. A refusal is thrown. */
   async run(cmd, path, more = {}) {
     const command = { cmd, path, ...more };
-    return need(await this.session.ask(command), command);
+    return this.#need(await this.session.ask(command), command);
   }
 
   /** As `run`, beside other commands. */
   async aside(cmd, path, more = {}) {
     const command = { cmd, path, ...more };
-    return need(await this.session.askAside(command), command);
+    return this.#need(await this.session.askAside(command), command);
   }
 
   /** As `aside`, of a step of something longer, which is not done once the page has ended. */
   async step(cmd, path, more = {}) {
     const command = { cmd, path, ...more };
-    return need(await this.session.askAside(command, true), command);
+    return this.#need(await this.session.askAside(command, true), command);
   }
 
   /** As `aside`, and null where the room refuses it. */
@@ -55,7 +69,7 @@ export class Room {
   async allowed({ entries, owner, group }, user, groups) {
     const question = { entries, group, groups, mask: ALL, owner, user };
     const reply = await untilAnswered(`${this.base}/v1/check`, JSON.stringify(question), this.patience);
-    return need(reply).allowed;
+    return (await this.#need(reply)).allowed;
   }
 
   /** The users of the roster with their groups, or null where the front does not tell them. */

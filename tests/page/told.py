@@ -21,8 +21,8 @@ def set_alone(club, path, flag=0, **masks):
 
 
 def refusal(name):
-    return (f"{TOP}/{name}: The list of {TOP}/{name} does not allow you to replace its text. Ask its owner, or whoever "
-            "may change its list.")
+    return (f"{TOP}/{name}: The list of {TOP}/{name} does not allow you to replace its text. Ask its owner, ann, or "
+            "whoever may change its list.")
 
 
 def sends(browser, *paths):
@@ -98,7 +98,7 @@ def lacking(club, differs):
     differs("what is not in it", lines(browser), sorted([
         f"{TOP}/closed is empty in it: you may not look into it.",
         f"{TOP}/{SHUT[0]} is not in it. The list of {TOP}/{SHUT[0]} does not allow you to read it. Ask its owner, or "
-        "whoever may change its list."]))
+        "ann, who owns the folder above."]))
     with zipfile.ZipFile(io.BytesIO(saved(club, "told.zip"))) as file:
         differs("what is in it", sorted(file.namelist()), sorted(
             ["told/closed/", "told/one more", *(f"told/{it}" for it in NAMES if it != SHUT[0])]))
