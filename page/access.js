@@ -5,7 +5,8 @@ import { ask } from "./dialogs.js";
 import { button, checkbox, link, make } from "./dom.js";
 import { entryEditor } from "./editor.js";
 import { head } from "./heads.js";
-import { asOwn, follows, isInherited, newEntry, sentence, whomFault, whomOf, withFollows } from "./lists.js";
+import { asOwn, follows, isForNobody, isInherited, newEntry, sentence, whomFault, whomOf,
+  withFollows } from "./lists.js";
 import { shown } from "./names.js";
 import { ROOT, addressOf, folderOf } from "./places.js";
 import { FOLDER } from "./rights.js";
@@ -62,11 +63,15 @@ class ListView {
 
   taking() {
     if (this.place.path === ROOT) return make("p", {}, "This is the top folder: nothing is handed down to it.");
-    return checkbox("It takes over what the folder above hands down", follows(this.aclflag), (it) => this.take(it));
+    const its = follows(this.aclflag);
+    return make("div", {},
+      checkbox("It takes over what the folder above hands down", its, (it) => this.take(it)),
+      make("p", { className: "about" }, its ? WITHOUT : this.taken ? TAKEN : ALONE));
   }
 
   /** Without the folder's entries, copies of them become its own: what counted goes on counting until it is changed. */
   take(isWanted) {
+    this.taken = isWanted ? 0 : this.inherited.length;
     if (!isWanted) this.own.push(...this.inherited.map(asOwn));
     this.aclflag = withFollows(this.aclflag, isWanted);
     this.draw();
@@ -104,10 +109,12 @@ class ListView {
 
   /** Sets it, where nobody set another meanwhile; what was changed here stays until it is set. */
   async save() {
+    const about = `The list of ${shown(this.place.path)}`;
+    if (this.own.some(isForNobody)) return void this.app.attempt(about, () => needWhom());
     const unknown = this.own.map((it) => whomFault(it, this.roster)).filter((it) => it !== "");
     if (unknown.length && !await askAbout(unknown)) return;
     let now = null;
-    const isDone = await this.app.attempt(`The list of ${shown(this.place.path)}`, async () => {
+    const isDone = await this.app.attempt(about, async () => {
       now = await this.app.room.run("GETLIST", this.place.path);
       if (isSame(now, this.list)) await this.set();
     });
@@ -136,6 +143,16 @@ class ListView {
     if (chosen === "theirs") await this.app.show(standing());
     return chosen === true;
   }
+}
+
+/** Beside the tick: what comes of taking it away, and what came. */
+const WITHOUT = "Without the tick, what is handed down now stays, as entries of its own: remove what shall not count " +
+  "any more. What the folder above hands down later does not come.";
+const TAKEN = "What was handed down stands among its own entries now: remove there what shall not count any more.";
+const ALONE = "What the folder above hands down does not count here.";
+
+function needWhom() {
+  throw new Error("An entry is for nobody yet. Choose for whom it counts, or remove it.");
 }
 
 const isSame = (one, other) => JSON.stringify(one) === JSON.stringify(other);

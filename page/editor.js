@@ -28,7 +28,7 @@ class Fields {
   whom() {
     const now = whomOf(this.entry);
     const name = input(now.name, { "aria-label": "Name", list: this.names, hidden: now.name === "" });
-    const choices = WHOM.map(({ id, word }) => ({ value: id, word }));
+    const choices = WHOM.filter(({ id }) => id !== "" || now.id === "").map(({ id, word }) => ({ value: id, word }));
     const whom = select(choices, now.id, (id) => {
       name.hidden = !WHOM.find((it) => it.id === id).isNamed;
       this.set(withWhom(this.entry, { id, name: name.value }));

@@ -11,16 +11,21 @@ const NOT_HERE = 0x8;
 const AUTO_INHERIT = 1;
 const PROTECTED = 2;
 
+/** Of a new entry nobody is chosen yet, and the room would not take it. */
+export const isForNobody = (entry) => entry.who === "";
+
 /** Why an entry would count for nobody by the roster, `{"ann":["eng"]}`, or nothing. */
 export function whomFault(entry, roster) {
+  if (isForNobody(entry)) return "Choose for whom it counts.";
   const { id, name } = whomOf(entry);
   if (!roster || !WHOM.find((it) => it.id === id).isNamed) return "";
   const known = id === "user" ? Object.keys(roster) : Object.values(roster).flat();
-  return known.includes(name) ? "" : `${name || "Nobody"} is no ${id} of this room's roster.`;
+  return known.includes(name) ? "" : `${name} is no ${id} of this room's roster.`;
 }
 
 /** Whom an entry can name: the word of the choice, and whether a name stands behind it. */
 export const WHOM = [
+  { id: "", word: "nobody yet" },
   { id: "EVERYONE@", word: "everyone" },
   { id: "OWNER@", word: "its owner" },
   { id: "GROUP@", word: "its group" },
@@ -40,7 +45,7 @@ export const isInherited = (entry) => (entry.flag & MARK) !== 0;
 export const asOwn = (entry) => ({ ...entry, flag: entry.flag & ~MARK });
 export const isDeny = (entry) => entry.type === DENY;
 export const newEntry = (kind) =>
-  ({ type: 0, flag: kind === FILE ? 0 : TO_FILES | TO_FOLDERS, mask: SETS[0].mask, who: "EVERYONE@" });
+  ({ type: 0, flag: kind === FILE ? 0 : TO_FILES | TO_FOLDERS, mask: SETS[0].mask, who: "" });
 
 const BESIDE = { 0x1: 0x20, 0x2: 0x66, 0x4: 0x66 }; // what a folder has to allow beside a document's right
 
@@ -64,7 +69,7 @@ export function withFollows(aclflag, isWanted) {
 
 /** The choice of `WHOM` that an entry has, with its name where one stands there. */
 export function whomOf(entry) {
-  if (entry.who.endsWith("@")) return { id: entry.who, name: "" };
+  if (isForNobody(entry) || entry.who.endsWith("@")) return { id: entry.who, name: "" };
   return { id: entry.flag & GROUP_FLAG ? "group" : "user", name: entry.who };
 }
 

@@ -95,6 +95,9 @@ def leaving_a_list(club, differs, path):
     differs("a list as it is asks nothing", browser.script(ASKED), False)
     browser.press("Add an entry")
     differs("a changed list: a closed tab asks", browser.script(ASKED), True)
+    browser.press("Save the list")
+    differs("an entry for nobody is not sent", browser.sees("An entry is for nobody yet.", "#notices"), True)
+    browser.press("Close", "//*[@id='notices']")
     entries = "return document.querySelectorAll('.entries details').length"
     count = browser.script(entries)
     does = {"another view": lambda: browser.follow("Contents"), "another place": lambda: browser.follow("plans"),
