@@ -1,5 +1,5 @@
 /** Entries of a list in words, and back. docs/LISTS.md has the rules; whether an entry is lawful the room says. */
-import { FILE, FOLDER, LARGE, RIGHTS, SETS, bothWords, rightsIn, setOf } from "./rights.js";
+import { FILE, FOLDER, LARGE, OF_OWNERS, RIGHTS, SETS, bothWords, rightsIn, setOf } from "./rights.js";
 
 const DENY = 1;
 const GROUP_FLAG = 0x40;
@@ -113,9 +113,34 @@ function reachWords(flag) {
 /** Whether an entry of a large file counts for all of it. */
 const isOfAll = ({ flag }) => (flag & (TO_FILES | TO_FOLDERS | CHILDREN_ALONE | NOT_HERE)) === (TO_FILES | TO_FOLDERS);
 
+/** What an entry says, without where it counts. */
+export const ruling = (entry, kind, standing) =>
+  `${isDeny(entry) ? "Deny" : "Allow"} ${whomWords(entry, standing)} to ${rightsWords(entry, kind)}.`;
+
 /** An entry as a sentence. */
 export function sentence(entry, kind, standing) {
-  const verb = isDeny(entry) ? "Deny" : "Allow";
   const reach = kind === FOLDER || kind === LARGE && !isOfAll(entry) ? ` ${reachWords(entry.flag)}` : "";
-  return `${verb} ${whomWords(entry, standing)} to ${rightsWords(entry, kind)}.${reach}`;
+  return ruling(entry, kind, standing) + reach;
+}
+
+/** Whether an entry names that user, alone or among others. */
+function isFor(entry, { owner, group }, user, groups) {
+  const { id, name } = whomOf(entry);
+  if (id === "OWNER@") return user === owner;
+  if (id === "GROUP@") return groups.includes(group);
+  return id === "EVERYONE@" || (id === "user" ? name === user : groups.includes(name));
+}
+
+/** The places of the entries that decide what a user may do of these rights: each is the first to name one of them.
+ * Null where that would not come to what the room `allowed`. */
+export function deciding(object, user, groups, { rights, allowed }) {
+  let [left, found] = [rights, user === object.owner ? OF_OWNERS : 0];
+  const places = [];
+  for (const [at, it] of object.entries.entries()) {
+    if (it.flag & NOT_HERE || !(it.mask & left) || !isFor(it, object, user, groups)) continue;
+    places.push(at);
+    if (!isDeny(it)) found |= it.mask & left;
+    left &= ~it.mask;
+  }
+  return ((found ^ allowed) & rights) === 0 ? places : null;
 }

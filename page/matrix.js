@@ -1,7 +1,7 @@
 /** The view of who may do what: users and objects, and what the room says of each pair. */
 import { button, labelled, make, nameText } from "./dom.js";
 import { head } from "./heads.js";
-import { joined, whomOf } from "./lists.js";
+import { deciding, joined, ruling, whomOf } from "./lists.js";
 import { NAME } from "./manifest.js";
 import { byName, shown } from "./names.js";
 import { foldersAbove, inFolder, lastName, ROOT } from "./places.js";
@@ -76,15 +76,27 @@ async function cellOf(questions, { path, kind }, user, groups) {
   const allowed = await questions.mayDo({ path, kind }, user, groups);
   const barrier = await questions.barrier(path, user, groups);
   const level = barrier.folder ? SHUT_OUT : allowed === null ? NOT_KNOWN : levelOf(allowed, kind);
-  return { path, kind, user, allowed, barrier, level };
+  const why = allowed === null ? "" : await whyWords(questions, { path, kind }, user, groups);
+  return { path, kind, user, allowed, barrier, level, why };
+}
+
+/** Which entries of the object's list decide, in words, where they may be seen and come to what the room says. */
+async function whyWords(questions, { path, kind }, user, groups) {
+  const object = await questions.object(path);
+  const how = { rights: askedOf(ALL, kind), allowed: await questions.allowed(path, user, groups) };
+  const places = object && groups && deciding(object, user, groups, how);
+  if (!places) return "";
+  const entries = places.map((at) => `${at + 1}. ${ruling(object.entries[at], kind, object)}`);
+  const always = user === object.owner ? " An owner may always see the list and change it." : "";
+  return (entries.length ? ` By its entries: ${entries.join(" ")}` : ` No entry of it is for ${user}.`) + always;
 }
 
 /** A cell in whole sentences. */
-function told({ path: itsPath, kind, user, allowed, barrier }) {
+function told({ path: itsPath, kind, user, allowed, barrier, why }) {
   const path = shown(itsPath);
   if (allowed === null && !barrier.folder) return `What ${user} may do with ${path}: ${NOT_KNOWN.tells}.`;
   const rights = joined(rightsIn(askedOf(allowed, kind), kind)) || "do nothing with it";
-  const may = allowed === null ? "" : `The list of ${path} lets ${user} ${rights}.`;
+  const may = allowed === null ? "" : `The list of ${path} lets ${user} ${rights}.${why}`;
   if (barrier.folder) return `${user} may not pass through ${shown(barrier.folder)}, so cannot get at ${path}. ${may}`;
   return barrier.isKnown ? may : `${may} Whether ${user} may pass through each folder above is not known to you.`;
 }

@@ -41,6 +41,8 @@ export const PASS_THROUGH = 0x20;
 export const DELETE_CHILD = 0x40;
 export const DELETE = 0x10000;
 
+export const OF_OWNERS = 0x60000; // to see its list and to change it, which an owner always may
+
 export const VIEW = 0x1200a9; // what a new room gives to its group
 
 /** Sets of rights, by the names that they have everywhere. */
