@@ -6,6 +6,9 @@ import { watch } from "./unsaved.js";
 const SLOW = 500; // milliseconds after which it is said that something is under way
 const open = new Set();
 
+/** The question before what was typed is lost. */
+export const UNSAVED = { told: "What you typed is not saved.", keep: "Go on typing", lose: "Discard it" };
+
 /** Closes all of them: the page goes elsewhere. */
 export const closeAll = () => open.forEach((it) => it.end(null));
 
@@ -22,17 +25,19 @@ function valueOf(field) {
 
 class Dialog {
   /** See `ask`. */
-  constructor({ title, words = [], fields = {}, does, faultOf = () => "", task = () => {}, others = [], first }) {
+  constructor({ title, words = [], fields = {}, does, faultOf = () => "", task = () => {}, others = [], first,
+    stays = "Cancel" }) {
     Object.assign(this, { faultOf, task, first, fields: Object.values(fields).map((it) => it.field), isAtWork: false });
     this.fault = make("p", { className: "fault", role: "alert" });
-    this.leaving = make("p", { className: "fault", role: "alert", hidden: true }, "What you typed is not saved. ",
-      button("Go on typing", () => this.stay()), " ", button("Discard it", () => this.end(null)));
+    this.leaving = make("p", { className: "fault", role: "alert", hidden: true }, UNSAVED.told, " ",
+      button(UNSAVED.keep, () => this.stay()), " ", button(UNSAVED.lose, () => this.end(null)));
     this.atWork = make("p", { role: "status" });
     this.form = make("form", { method: "dialog" }, make("h2", {}, title), ...[words].flat(),
-      ...Object.values(fields).map(({ label, field }) => labelled(label, field)), this.fault, this.leaving, this.atWork,
+      ...Object.values(fields).map(({ label, field }) => labelled(label, field)), this.fault,
+      ...(this.fields.length ? [this.leaving] : []), this.atWork,
       make("p", { className: "actions" }, make("button", { className: "main" }, does),
         ...others.map((it) => button(it.words, () => this.run(it.task ?? (() => {}), it.value))),
-        button("Cancel", () => this.leave())));
+        button(stays, () => this.leave())));
     this.element = make("dialog", { "aria-label": title, closedby: "none" }, this.form);
     this.form.onsubmit = (event) => this.submit(event);
     this.element.onkeydown = (event) => this.key(event);
@@ -118,8 +123,9 @@ class Dialog {
 
 /** Asks for `fields`, elements by name with their labels; `faultOf` tells why what was put in will not do, or nothing;
  * `task` does it, and the dialog stays until it is done. `others` are further buttons, `{words, value, task}`; `first`
- * names the button that has the focus at first, where that is not the first field. What it gives is true, the value of
- * another button once its task is done, or null where it was closed. */
+ * names the button that has the focus at first, where that is not the first field, and `stays` has the words of the one
+ * that closes it. What it gives is true, the value of another button once its task is done, or null where it was
+ * closed. */
 export const ask = (how) => new Dialog(how).show();
 
 export const input = (value = "", how = {}) =>

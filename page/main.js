@@ -3,7 +3,7 @@ import * as busy from "./busy.js";
 import { showAccess } from "./access.js";
 import { Refusal } from "./codes.js";
 import { showContents } from "./contents.js";
-import { ask, closeAll, untilClosed } from "./dialogs.js";
+import { UNSAVED, ask, closeAll, untilClosed } from "./dialogs.js";
 import { button, link, make } from "./dom.js";
 import { showFind } from "./find.js";
 import { head } from "./heads.js";
@@ -153,8 +153,8 @@ const INSECURE = "This page needs https, or the address 127.0.0.1: elsewhere a b
   "tabs from one session.";
 
 /** Whether the user wants to lose what is typed. */
-const mayLose = () => ask({ title: "Leave this?", words: make("p", {}, "What you typed is not saved."),
-  does: "Leave, and lose it", first: "Cancel" });
+const mayLose = () => ask({ title: "Leave this?", words: make("p", {}, UNSAVED.told), does: UNSAVED.lose,
+  stays: UNSAVED.keep, first: UNSAVED.keep });
 
 function fail(words) {
   part("main").replaceChildren(make("p", { className: "fault" }, words));

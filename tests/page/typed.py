@@ -71,9 +71,9 @@ def asks(browser, differs, words, does, place):
     """It asks, and who does not want to lose anything is where they were."""
     does()
     browser.sees("Leave this?", "dialog h2")
-    differs(f"{words}: nothing is lost by a key", browser.script(FOCUS), "Cancel")
+    differs(f"{words}: nothing is lost by a key", browser.script(FOCUS), "Go on typing")
     differs(f"{words}: the address stays", browser.script("return location.hash"), place)
-    browser.press("Cancel", "//dialog[@aria-label='Leave this?']")
+    browser.press("Go on typing", "//dialog[@aria-label='Leave this?']")
     browser.until("the question goes", lambda: "Leave this?" not in browser.shown())
     differs(f"{words}: what is shown stays", browser.script(PLACE), place)
 
@@ -81,7 +81,7 @@ def asks(browser, differs, words, does, place):
 def leaves(browser, differs, does, place):
     """It asks, and who wants to lose it is elsewhere, and asked no more."""
     does()
-    browser.press("Leave, and lose it", "//dialog[@aria-label='Leave this?']")
+    browser.press("Discard it", "//dialog[@aria-label='Leave this?']")
     browser.until(place, lambda: browser.script(PLACE) == place)
     differs(f"{place}: no dialog is left", browser.script(DIALOG), False)
     differs(f"{place}: nothing is unsaved", browser.script(ASKED), False)
