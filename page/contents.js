@@ -5,7 +5,8 @@ import { Refusal } from "./codes.js";
 import { button, link, make } from "./dom.js";
 import { ACCESS, isRefused, manifestAt, readFile } from "./files.js";
 import { head } from "./heads.js";
-import { isPart } from "./manifest.js";
+import { joined } from "./lists.js";
+import { beside, isPart } from "./manifest.js";
 import { emptyTrash } from "./moving.js";
 import { byName, shown } from "./names.js";
 import { tellFault } from "./notices.js";
@@ -67,12 +68,16 @@ function makers(app, path, own) {
   return does.filter(([isOffered]) => isOffered).map(([, it]) => it());
 }
 
-/** What stopped replacements of documents left in a folder. */
-function leftWords(names) {
-  const count = names.filter(([name]) => isPart(name)).length;
-  const words = "Something is left here of a large file that was to take a document's place, and was stopped: " +
-    "upload that file again, by the same name.";
-  return count ? [make("p", { className: "fault" }, words)] : [];
+/** What stopped replacements of documents left in a folder, by their names, where these are still there. */
+async function leftWords(names) {
+  const left = new Set(names.map(([name]) => name).filter(isPart));
+  if (left.size === 0) return [];
+  const marks = await Promise.all(names.map(async ([name]) => ({ name, ...await beside(name) })));
+  const called = marks.filter(({ its, gone }) => left.has(its) || left.has(gone)).map(({ name }) => shown(name));
+  const whose = called.length ? `the place of ${joined(called)}` : "a document's place";
+  const words = `Something is left here of a large file that was to take ${whose}, and was stopped: upload that file ` +
+    "again, by the same name.";
+  return [make("p", { className: "fault" }, words)];
 }
 
 /** At the top the way to the user's trash, where there is one; in it, its end. */
@@ -95,7 +100,7 @@ async function folder(app, place, stat, rights, found) {
   const names = found.names.filter(([name]) => !isPart(name)).sort(byName);
   const words = isTrash ? IN_TRASH : rights.own & ADD_FILE ? "Files can be dropped here." : "";
   const hint = words ? [make("p", { className: "about" }, words)] : [];
-  const area = make("div", {}, ...leftWords(found.names), things(app, place, names, rights), ...hint);
+  const area = make("div", {}, ...await leftWords(found.names), things(app, place, names, rights), ...hint);
   if (rights.own & ADD_FILE && !isTrash) takeDrops(app, place.path, area);
   return [bar, about(place, stat, `${names.length} in it`), area];
 }

@@ -9,9 +9,10 @@ import { showFind } from "./find.js";
 import { head } from "./heads.js";
 import { Login, logOut } from "./login.js";
 import { showMatrix } from "./matrix.js";
+import { isPart } from "./manifest.js";
 import { shown } from "./names.js";
 import { pass, say, settle, tellFault } from "./notices.js";
-import { ROOT, addressOf, placeOf } from "./places.js";
+import { ROOT, addressOf, namesOf, pathOf, placeOf } from "./places.js";
 import { Room } from "./room.js";
 import { arrive, leave, standing } from "./stand.js";
 import { sessionOfTab } from "./tabs.js";
@@ -44,7 +45,7 @@ class App {
   /** Tells how a request ended that was under way when a tab ended. */
   tellLeft(command, reply, fault) {
     const { cmd, path } = command;
-    if (!reply && !fault) return tellFault(LEFT);
+    if (!reply && !fault) return tellFault(leftAt(path));
     if (["STAT", "LIST", "READ", "GETLIST", "ACCESS"].includes(cmd)) return;
     const end = fault?.message ?? (reply.code === 0 ? "it is done, once." : new Refusal(reply, command).message);
     (reply?.code === 0 ? say : tellFault)(`A request from before was sent again, ${cmd} of ${shown(path)}: ${end}`);
@@ -145,8 +146,15 @@ class App {
   }
 }
 
-const LEFT = "An upload, a copy or a removal was under way as the page ended, and is not whole. Look at what is " +
-  "there, and do it again.";
+/** Of what a step at that path was a part, in words. The path of a large file's part tells the file. */
+function leftAt(path) {
+  const names = namesOf(path);
+  const part = names.findIndex(isPart);
+  const its = pathOf(part < 0 ? names : names.slice(0, part));
+  return `An upload, a copy or a removal of ${shown(its)} was under way as the page ended, and is not whole. Look at ` +
+    "what is there, and do it again.";
+}
+
 const isAt = (path, from) => path === from || path.startsWith(`${from}/`);
 
 const INSECURE = "This page needs https, or the address 127.0.0.1: elsewhere a browser has no locks, which keep two " +
