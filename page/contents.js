@@ -11,12 +11,12 @@ import { emptyTrash } from "./moving.js";
 import { byName, shown } from "./names.js";
 import { tellFault } from "./notices.js";
 import { offersFor, rightsAt, textOffers } from "./offers.js";
-import { ROOT, addressOf, inFolder, lastName } from "./places.js";
+import { ROOT, addressOf, folderOf, inFolder, lastName } from "./places.js";
 import { canShow, nothing, preview } from "./preview.js";
 import { ADD_FILE, ADD_FOLDER, FILE, FOLDER, LARGE, READ } from "./rights.js";
 import { things } from "./things.js";
 import { sizeWords } from "./transfers.js";
-import { beforeWords, pathOfTrash, trashOf } from "./trash.js";
+import { TRASH, beforeWords, pathOfTrash, trashOf } from "./trash.js";
 import { kindBy } from "./trees.js";
 import { dropped, filesButton, upload } from "./uploads.js";
 
@@ -80,12 +80,12 @@ async function leftWords(names) {
   return [make("p", { className: "fault" }, words)];
 }
 
-/** At the top the way to the user's trash, where there is one; in it, its end. */
-async function trashTools(app, { path, room }) {
+/** At the top the way to the user's trash, where there is one; in it, where it has something in it, its end. */
+async function trashTools(app, { path, room }, isEmpty) {
   const trash = [ROOT, pathOfTrash(app)].includes(path) && await trashOf(app);
   if (!trash) return [];
-  return [path === ROOT ? link(addressOf({ room, path: trash }), "Your trash")
-    : button("Empty the trash", () => emptyTrash(app, path))];
+  if (path === ROOT) return [link(addressOf({ room, path: trash }), "Your trash")];
+  return isEmpty ? [] : [button("Empty the trash", () => emptyTrash(app, path))];
 }
 
 const IN_TRASH = "What you removed lies here, until you remove it here too. The button ⋯ puts it back.";
@@ -94,7 +94,7 @@ async function folder(app, place, stat, rights, found) {
   const search = link(addressOf({ ...place, view: "find" }), "Search");
   const isTrash = place.path === pathOfTrash(app);
   const offers = isTrash ? [] : [...makers(app, place.path, rights.own), ...offersFor(app, place.path, FOLDER, rights)];
-  const bar = tools(...offers, search, ...await trashTools(app, place));
+  const bar = tools(...offers, search, ...await trashTools(app, place, found.names?.length === 0));
   if (found instanceof Refusal) return [bar, about(place, stat, "folder"),
     make("p", { className: "fault" }, found.message)];
   const names = found.names.filter(([name]) => !isPart(name)).sort(byName);
@@ -147,5 +147,7 @@ export async function showContents(app, place) {
   const kind = found.names ? kindBy(found.names) : FOLDER;
   if (kind === "unfinished") return [...head(place), ...unfinished(app, place, stat, rights)];
   const shownLarge = kind === "file" && await large(app, place, stat, rights);
-  return [...head(place), ...shownLarge || await folder(app, place, stat, rights, found)];
+  if (shownLarge) return [...head(place), ...shownLarge];
+  const title = folderOf(place.path) === TRASH ? `Trash of ${lastName(place.path)}` : undefined;
+  return [...head(place, title), ...await folder(app, place, stat, rights, found)];
 }

@@ -22,7 +22,7 @@ function views(place) {
   return make("nav", { className: "views", "aria-label": "Views" }, ...links);
 }
 
-export function head(place) {
-  const title = make("h1", { tabIndex: -1 }, nameText(nameOf(place, place.path)));
-  return [...(place.path === ROOT ? [] : [way(place)]), title, views(place)];
+export function head(place, title = nameOf(place, place.path)) {
+  const its = make("h1", { tabIndex: -1 }, nameText(title));
+  return [...(place.path === ROOT ? [] : [way(place)]), its, views(place)];
 }

@@ -7,11 +7,12 @@ import { ACCESS, EXIST, NOBODY, NOENT, NOTDIR, isRefused, manifestAt, orElse, re
 import { isPart } from "./manifest.js";
 import { byName, clean, forDisk, shown } from "./names.js";
 import { tellFault } from "./notices.js";
-import { ROOT, folderOf, inFolder, nameFault, namesOf } from "./places.js";
+import { ROOT, folderOf, inFolder, lastName, nameFault, namesOf } from "./places.js";
 import { ADD_FILE, ADD_FOLDER, FILE, FOLDER } from "./rights.js";
 import { plural, sizeWords, transferring } from "./transfers.js";
 import { TRASH, calledAt, makeTrash, mayMakeTrash, nameAt, toTrash, toldBy, trashOf } from "./trash.js";
 import { below, copy, kindBy } from "./trees.js";
+import { freePath } from "./uploads.js";
 import { Zip } from "./zip.js";
 
 const LIKE_FILE = /\.[^.]{1,5}$/; // of such folders it is asked whether they are large files
@@ -63,8 +64,11 @@ class Chooser {
   }
 }
 
-async function askWhere(app, path, { words, does, way = make("p", {}, words), start = folderOf(path) }, task) {
-  const [chooser, name] = [new Chooser(app, path, start), input(nameAt(path))];
+const HERE = "That is where it is: choose another folder above, or another name.";
+
+async function askWhere(app, path, { words, does, way = make("p", {}, words), start = folderOf(path),
+  called = nameAt(path) }, task) {
+  const [chooser, name] = [new Chooser(app, path, start), input(called)];
   const to = () => inFolder(chooser.value, clean(name.value));
   const isDone = await ask({ title: `${does} ${shown(nameAt(path))}`, does: `${does} it there`,
     words: [way, chooser.element], fields: { name: { label: "Name there", field: name } },
@@ -184,8 +188,9 @@ export async function putBack(app, path) {
   if (!isTried) return;
   if (why) {
     const start = await app.room.asideIfAllowed("LIST", folderOf(place ?? ROOT)) ? folderOf(place ?? ROOT) : ROOT;
-    const way = make("p", { className: "fault" }, why);
-    to = await askWhere(app, path, { way, does: "Put", start }, (it) => app.room.run("RENAME", path, { to: it }));
+    const how = { way: make("p", { className: "fault" }, why), does: "Put", start,
+      called: lastName(await freePath(app.room, inFolder(start, nameAt(path)))) };
+    to = await askWhere(app, path, how, (it) => app.room.run("RENAME", path, { to: it }));
   }
   if (to) await app.done(`${shown(to)} is there again.`, { from: path, to });
 }

@@ -6,7 +6,7 @@ import * as moving from "./moving.js";
 import { ROOT, folderOf } from "./places.js";
 import { ADD_FILE, ADD_FOLDER, ALL, APPEND, DELETE, DELETE_CHILD, FILE, FOLDER, LARGE, PASS_THROUGH as PASS, READ,
   WRITE } from "./rights.js";
-import { toldBy } from "./trash.js";
+import { TRASH, toldBy } from "./trash.js";
 import { filesButton, newVersion } from "./uploads.js";
 
 /** The rights that the caller has on it. */
@@ -26,7 +26,8 @@ export async function rightsAt(room, path) {
 export function offersFor(app, path, kind, { own, above, size }) {
   const [isFile, isLarge, isTop, isThrown] = [kind === FILE, kind === LARGE, path === ROOT, toldBy(path) !== null];
   const isOver = (isLarge || kind === "unfinished") && has(own, ADD_FILE, ADD_FOLDER, PASS);
-  const isMovable = !isTop && (has(own, DELETE) || has(above, DELETE_CHILD));
+  const isTrash = kind === FOLDER && folderOf(path) === TRASH; // (somebody's, with what they may want back)
+  const isMovable = !isTop && !isTrash && (has(own, DELETE) || has(above, DELETE_CHILD));
   const replaces = kind === "unfinished" ? null : { mayKeep: has(own, READ) && has(above, ADD_FILE, ADD_FOLDER) };
   const does = [
     [isFile && has(own, READ) || isLarge && has(own, READ, PASS),

@@ -111,6 +111,8 @@ class Folders {
 }
 
 async function clashesOf(wanted, folders) {
+export const freePath = (room, path) => new Folders(room).free(path);
+
   const found = [];
   for (const it of wanted) {
     if (it.file && (await folders.names(folderOf(it.path))).has(lastName(it.path))) found.push(it);

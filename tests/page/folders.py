@@ -202,6 +202,13 @@ def trashed(club, differs):
     browser.press("Remove all of it")
     browser.sees("The trash is empty.", "#notices")
     differs("it is empty", names_at(club, "/trash/ann"), {})
+    differs("its name", browser.sees("Trash of ann", "h1"), True)
+    browser.until("it is not emptied once more", lambda: "Empty the trash" not in browser.shown())
+    club.go("#open/club/trash")
+    browser.press("More for eve")
+    offers = "return [...document.querySelectorAll('.things .tools')].map((it) => it.innerText).join('')"
+    browser.until("what is offered", lambda: browser.script(offers))
+    differs("for eve's trash", "Remove" in browser.script(offers), False)
 
 
 def elsewhere(club, differs):
@@ -229,7 +236,8 @@ def elsewhere(club, differs):
         if called != "taken.txt":
             browser.press("other", "//dialog[@open]")
         browser.sees("To the folder /other", "dialog")
-        differs("its own name", browser.script("return document.querySelector('dialog input').value"), called)
+        name = browser.script("return document.querySelector('dialog input').value")
+        differs("its own name, or one that is free", name, "taken (2).txt" if called == "taken.txt" else called)
         browser.fill("Name there", f"back {called}")
         browser.press("Put it there")
         browser.sees(f"/other/back {called} is there again.", "#notices")
