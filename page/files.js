@@ -98,7 +98,8 @@ async function wholeOf(room, path, its, transfer) {
   return size === its.size && await form.sumOf(bytes) === its.sha256 ? bytes : null;
 }
 
-/** Makes the file, or a new version of it; with `isNew` only where nothing is there. */
+/** Makes the file, or a new version of it; with `isNew` only where nothing is there. Where it is then: a version that
+ * another one overtook may be kept as a copy. */
 export async function writeFile(room, path, bytes, transfer = NOBODY, isNew = false) {
   if (bytes.length > form.MOST) throw new Error(`${shown(lastName(path))} has more than 16 MiB, and was not sent.`);
   if (bytes.length > MOST_BYTES) return new Upload(room, path, bytes, transfer).run(isNew);
@@ -106,8 +107,8 @@ export async function writeFile(room, path, bytes, transfer = NOBODY, isNew = fa
   const small = () => room.aside("CREATE", path, { data });
   const made = isNew ? await small() : await orElse(small(), null, EXIST);
   const put = made ?? await orElse(room.aside("WRITE", path, { data }), null, ISDIR);
-  if (put) transfer.add(bytes.length);
-  else await new Upload(room, path, bytes, transfer).run(isNew);
+  if (!put) return new Upload(room, path, bytes, transfer).run(isNew);
+  transfer.add(bytes.length);
   return path;
 }
 

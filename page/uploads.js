@@ -110,10 +110,10 @@ class Folders {
   }
 }
 
-async function clashesOf(wanted, folders) {
 export const freePath = (room, path) => new Folders(room).free(path);
 
   const found = [];
+async function clashesOf(wanted, folders) {
   for (const it of wanted) {
     if (it.file && (await folders.names(folderOf(it.path))).has(lastName(it.path))) found.push(it);
   }
@@ -148,18 +148,30 @@ async function mayOverflow(wanted, folder, folders) {
     does: "Upload what fits" });
 }
 
+/** What became of what was there before these, in words. */
+function beforeWords(replaced) {
+  const [one, ...others] = replaced;
+  if (!one) return "";
+  const what = others.length ? `${replaced.length} of them` : shown(lastName(one.path));
+  const kept = one.kept ? `kept as ${shown(lastName(one.kept))}` : "not kept";
+  return ` ${what} took the place of what was there, which is ${kept}.`;
+}
+
 async function sendAll(app, transfer, wanted, folder) {
   const { room } = app;
   for (const path of foldersOf(wanted, folder)) await orElse(room.step("MKDIR", path), null, EXIST);
   const [start, files, isOne] = [performance.now(), wanted.filter((it) => it.file), wanted.length === 1];
   let [count, size] = [0, 0];
-  await forEach(files, async ({ path, file, isNew }) => {
+  const replaced = [];
+  await forEach(files, async (it) => {
+    const { path, file, isNew } = it;
     transfer.check();
     try {
-      await writeFile(room, path, new Uint8Array(await file.arrayBuffer()), transfer, isNew);
+      const at = await writeFile(room, path, new Uint8Array(await file.arrayBuffer()), transfer, isNew);
       settle(aboutOf(room, path));
       [count, size] = [count + 1, size + file.size];
     } catch (fault) {
+      if (it.replaces && at === path) replaced.push(it); // (else it lies beside somebody else's newer one)
       transfer.check();
       transfer.fail(isOne ? fault.message : `${shown(path)}: ${fault.message}`, aboutOf(room, path));
     }
@@ -168,7 +180,8 @@ async function sendAll(app, transfer, wanted, folder) {
   if (failed && !isOne) transfer.title = `${failed} of ${plural(files.length, "file")} failed`;
   if (failed && count === 0) return "";
   const seconds = (performance.now() - start) / 1_000;
-  return `${plural(count, "file")} uploaded: ${sizeWords(size)} in ${seconds.toFixed(1)} seconds.`;
+  const words = `${plural(count, "file")} uploaded: ${sizeWords(size)} in ${seconds.toFixed(1)} seconds.`;
+  return words + beforeWords(replaced);
 }
 
 /** What is to be sent of what was chosen, and how, by the user's word. */
@@ -182,7 +195,7 @@ async function wantedOf(app, folder, chosen) {
   if (answer === "skip") wanted = wanted.filter((it) => !clashes.includes(it));
   for (const it of clashes) {
     if (answer === "both") it.path = await folders.free(it.path);
-    else it.isNew = false;
+    else Object.assign(it, { isNew: false, replaces: true });
   }
   return wanted.length && await mayOverflow(wanted, folder, folders) ? wanted : [];
 }
@@ -197,17 +210,20 @@ export async function upload(app, folder, chosen) {
   }
 }
 
-/** Makes a copy of a file beside it, before it is replaced. */
+/** Makes a copy of a file beside it, before it is replaced. Its path. */
 async function keepOld(room, path) {
   const day = new Date().toISOString().slice(0, 10);
-  const beside = inFolder(folderOf(path), withMark(lastName(path), `before ${day}`));
-  await writeFile(room, await new Folders(room).free(beside), await readFile(room, path), NOBODY, true);
+  const beside = await freePath(room, inFolder(folderOf(path), withMark(lastName(path), `before ${day}`)));
+  return writeFile(room, beside, await readFile(room, path), NOBODY, true);
 }
 
-/** Asks whether a file shall take the place of what is there. Whether it may. */
-function askToReplace(app, path, file, mayKeep) {
+/** Asks whether a file shall take the place of what is there. Whether it may; `kept` of it is where the old one is. */
+function askToReplace(app, wanted, mayKeep) {
+  const { path, file } = wanted;
   const words = `${shown(file.name)} (${sizeWords(file.size)}) takes the place of what is there, which is gone then.`;
-  const kept = { words: "Keep the old one too", value: true, task: () => keepOld(app.room, path) };
+  const kept = { words: "Keep the old one too", value: true, task: async () => {
+    wanted.kept = await keepOld(app.room, path);
+  } };
   return ask({ title: `Replace ${shown(lastName(path))}?`, does: "Replace it", words: make("p", {}, words),
     others: mayKeep ? [kept] : [] });
 }
@@ -217,8 +233,9 @@ function askToReplace(app, path, file, mayKeep) {
 export async function newVersion(app, path, [it], replaces) {
   const fault = faultOf({ ...it, names: [lastName(path)] });
   if (fault) return tellFault(`${fault} Nothing was sent.`, aboutOf(app.room, path));
-  if (replaces && !await askToReplace(app, path, it.file, replaces.mayKeep)) return;
-  await start(app, [{ path, file: it.file, isNew: false }], folderOf(path));
+  const wanted = { path, file: it.file, isNew: false, replaces: replaces !== null };
+  if (replaces && !await askToReplace(app, wanted, replaces.mayKeep)) return;
+  await start(app, [wanted], folderOf(path));
 }
 
 function start(app, wanted, folder) {

@@ -153,7 +153,8 @@ def versions(club, differs):
         data = dice.randbytes(size)
         club.go(f"#open/club{path.replace(' ', '%20')}")
         replace(browser, on_disk(club, name, data), words)
-        browser.sees("1 file uploaded", "#notices")
+        became = "not kept" if name == "v2" else "kept as of 65537 (before "
+        browser.sees(f"of 65537 took the place of what was there, which is {became}", "#notices")
         differs(f"{name} is there", held(club, path) == data, True)
         differs(f"{name} alone", len(names_at(club, path)), 2)
         kept = [it for it in names_at(club, "/big") if it.startswith("of 65537 (before ")]
