@@ -10,12 +10,18 @@ const EXIST = 4;
 export const NOBODY_KNOWS = "The room keeps no record of who it was.";
 
 function tooLong(bytes) {
-  return bytes.length > MOST_BYTES ? `These are ${bytes.length} bytes, and 65,536 are the most of a text.` : "";
+  return bytes.length > MOST_BYTES ? `This counts as ${bytes.length} letters, and 65,536 are the most of a text: ` +
+    "letters with accents count double or more." : "";
 }
+
+/** Who may do what with something new. */
+const whoseWords = (what) =>
+  make("p", {}, `The ${what} is yours. What others may do with it is what the access list of this folder hands down.`);
 
 export async function makeFolder(app, folder) {
   const name = input();
-  const isDone = await ask({ title: "New folder", does: "Make", fields: { name: { label: "Name", field: name } },
+  const isDone = await ask({ title: "New folder", does: "Make", words: whoseWords("new folder"),
+    fields: { name: { label: "Name", field: name } },
     faultOf: () => nameFault(clean(name.value)),
     task: () => app.room.run("MKDIR", inFolder(folder, clean(name.value))) });
   if (isDone) await app.done(`Folder ${shown(clean(name.value))} is made.`);
@@ -23,7 +29,7 @@ export async function makeFolder(app, folder) {
 
 export async function makeDocument(app, folder) {
   const [name, text] = [input(), area()];
-  const isDone = await ask({ title: "New document", does: "Make",
+  const isDone = await ask({ title: "New document", does: "Make", words: whoseWords("document"),
     fields: { name: { label: "Name", field: name }, text: { label: "Text", field: text } },
     faultOf: () => nameFault(clean(name.value)) || tooLong(fromText(text.value)),
     task: () => app.room.run("CREATE", inFolder(folder, clean(name.value)), { data: toBase64(fromText(text.value)) }),

@@ -21,7 +21,7 @@ function tell() {
   if (!told) return;
   const which = waiting.size > 1 ? `${waiting.size} requests are kept, and` : "The request is kept, and";
   words.textContent = `${told.why} ${which} sent again until ${waiting.size > 1 ? "they are" : "it is"} ` +
-    `answered. Sent so far: ${told.times}.`;
+    `answered. Tried ${told.times} times so far.`;
 }
 
 /** What a request waits by: longer each time, or until a button is pressed. */

@@ -101,7 +101,8 @@ async function wholeOf(room, path, its, transfer) {
 /** Makes the file, or a new version of it; with `isNew` only where nothing is there. Where it is then: a version that
  * another one overtook may be kept as a copy. */
 export async function writeFile(room, path, bytes, transfer = NOBODY, isNew = false) {
-  if (bytes.length > form.MOST) throw new Error(`${shown(lastName(path))} has more than 16 MiB, and was not sent.`);
+  const fault = form.sizeFault(bytes.length);
+  if (fault) throw new Error(`${shown(lastName(path))} ${fault}. It was not sent.`);
   if (bytes.length > MOST_BYTES) return new Upload(room, path, bytes, transfer).run(isNew);
   const data = toBase64(bytes);
   const small = () => room.aside("CREATE", path, { data });
@@ -307,7 +308,8 @@ async function clear(room, at, name, transfer) {
     if (!name.startsWith(form.GONE)) await room.step("RENAME", inFolder(at, name), { to: gone });
     await removeAll(room, gone);
   } catch (fault) {
-    if (!isRefused(fault, NOENT, NOTDIR)) transfer.fail(`Something is left of the upload: ${fault.message}`);
+    const what = `Something is left of the upload to ${shown(at)}`;
+    if (!isRefused(fault, NOENT, NOTDIR)) transfer.fail(`${what}: ${fault.message}`);
   }
 }
 

@@ -5,6 +5,7 @@ import { head } from "./heads.js";
 import { inOrder, shown } from "./names.js";
 import { addressOf, lastName } from "./places.js";
 import { FOLDER } from "./rights.js";
+import { plural } from "./transfers.js";
 import { matches, walk } from "./trees.js";
 
 const MOST = 500; // names that are shown
@@ -58,8 +59,8 @@ class Search {
 
   tell({ looked, found, shut }, end) {
     const more = found > MOST ? ` The first ${MOST} are shown.` : "";
-    const hidden = shut ? ` You may not look into ${shut} folders.` : "";
-    this.told.textContent = `${found} found among ${looked} names.${more}${hidden} ${end}`;
+    const hidden = shut ? ` You may not look into ${plural(shut, "folder")}.` : "";
+    this.told.textContent = `${found} found among ${plural(looked, "name")}.${more}${hidden} ${end}`;
   }
 
   row({ path, kind }) {

@@ -9,6 +9,12 @@ export const GONE = `${PART}gone-`;
 const NEW = `${PART}new-`;
 export const PIECE = 65_536; // bytes of each piece but the last
 export const MOST = 2 ** 24; // bytes of a file
+
+/** Why so many bytes are too many for a file, or nothing. */
+export function sizeFault(bytes) {
+  const size = Math.ceil(bytes / 2 ** 20 * 10) / 10;
+  return bytes > MOST ? `has ${size} MiB, and ${MOST / 2 ** 20} MiB is the most` : "";
+}
 const MOST_PIECES = 256;
 export const DEEPEST = 14; // names of the path of a large file
 

@@ -72,7 +72,7 @@ async function askWhere(app, path, { words, does, way = make("p", {}, words), st
   const to = () => inFolder(chooser.value, clean(name.value));
   const isDone = await ask({ title: `${does} ${shown(nameAt(path))}`, does: `${does} it there`,
     words: [way, chooser.element], fields: { name: { label: "Name there", field: name } },
-    faultOf: () => nameFault(clean(name.value)), task: () => task(to()) });
+    faultOf: () => nameFault(clean(name.value)) || (to() === path ? HERE : ""), task: () => task(to()) });
   return isDone && to();
 }
 
@@ -89,12 +89,13 @@ async function needRight(room, kind, path) {
 }
 
 export async function copyTo(app, path) {
-  const words = "A copy is yours, and takes over what its new folder hands down.";
+  const words = "A copy is yours. What others may do with it is what the access list of its new folder hands down, " +
+    "whatever the list of the original says.";
   const { room } = app;
   const to = await askWhere(app, path, { words, does: "Copy" }, async (it) => {
-    if (`${it}/`.startsWith(`${path}/`)) throw new Error("Choose another place or name.");
+    if (isIn(it, path)) throw new Error("Nothing can be copied into itself: choose another folder.");
     await needRight(room, (await room.standing(path)).kind, folderOf(it));
-    const isThere = await room.aside("STAT", it).then(() => true, (fault) => !isRefused(fault, 1));
+    const isThere = await room.aside("STAT", it).then(() => true, (fault) => !isRefused(fault, NOENT));
     if (isThere) throw new Error("Something has this name already.");
   });
   if (!to) return;
@@ -235,6 +236,7 @@ export async function downloadFolder(app, path) {
     }
     transfer.check();
     save(zip.end(), `${name}.zip`);
-    return `${shown(name)}.zip is made, of ${found.length} things.`;
+    const all = plural(found.length, "thing");
+    return `${shown(name)}.zip is made, of ${zip.count < found.length ? `${zip.count} of ${all}` : all}.`;
   });
 }

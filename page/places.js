@@ -37,7 +37,8 @@ export function nameFault(name) {
   if (name === "" || name === "." || name === "..") return "A name is wanted, other than . and ..";
   if (/[/\u0000-\u001f\u007f]/.test(name)) return "A name has no / and no control character.";
   const bytes = new TextEncoder().encode(name).length;
-  return bytes > MAX_NAME_BYTES ? `This name has ${bytes} bytes, and ${MAX_NAME_BYTES} is the most.` : "";
+  return bytes > MAX_NAME_BYTES ? `This name counts as ${bytes} letters, and ${MAX_NAME_BYTES} are the most: letters ` +
+    "with accents count double or more." : "";
 }
 
 /** Why the room would not take this as a path, or nothing. */

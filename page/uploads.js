@@ -2,7 +2,7 @@
 import { ask } from "./dialogs.js";
 import { button, make } from "./dom.js";
 import { EXIST, NOBODY, forEach, orElse, readFile, writeFile } from "./files.js";
-import { MOST } from "./manifest.js";
+import { sizeFault } from "./manifest.js";
 import { clean, shown } from "./names.js";
 import { settle, tellFault } from "./notices.js";
 import { MOST_THINGS, folderOf, inFolder, lastName, nameFault, namesOf, withMark } from "./places.js";
@@ -48,7 +48,8 @@ export async function dropped(data) {
 function faultOf({ names, file }) {
   const fault = names.map(clean).map(nameFault).find((it) => it !== "");
   if (fault) return `${shown(names.join("/"))}: ${fault}`;
-  return file?.size > MOST ? `${shown(names.join("/"))} has more than 16 MiB.` : "";
+  const its = sizeFault(file?.size ?? 0);
+  return its ? `${shown(names.join("/"))} ${its}.` : "";
 }
 
 /** What an upload to these paths is, among all that is done. */
@@ -112,8 +113,8 @@ class Folders {
 
 export const freePath = (room, path) => new Folders(room).free(path);
 
-  const found = [];
 async function clashesOf(wanted, folders) {
+  const found = [];
   for (const it of wanted) {
     if (it.file && (await folders.names(folderOf(it.path))).has(lastName(it.path))) found.push(it);
   }
@@ -161,8 +162,8 @@ async function sendAll(app, transfer, wanted, folder) {
   const { room } = app;
   for (const path of foldersOf(wanted, folder)) await orElse(room.step("MKDIR", path), null, EXIST);
   const [start, files, isOne] = [performance.now(), wanted.filter((it) => it.file), wanted.length === 1];
-  let [count, size] = [0, 0];
   const replaced = [];
+  let [count, size] = [0, 0];
   await forEach(files, async (it) => {
     const { path, file, isNew } = it;
     transfer.check();
@@ -170,8 +171,8 @@ async function sendAll(app, transfer, wanted, folder) {
       const at = await writeFile(room, path, new Uint8Array(await file.arrayBuffer()), transfer, isNew);
       settle(aboutOf(room, path));
       [count, size] = [count + 1, size + file.size];
-    } catch (fault) {
       if (it.replaces && at === path) replaced.push(it); // (else it lies beside somebody else's newer one)
+    } catch (fault) {
       transfer.check();
       transfer.fail(isOne ? fault.message : `${shown(path)}: ${fault.message}`, aboutOf(room, path));
     }

@@ -93,7 +93,8 @@ def sizes(club, differs):
     differs("what comes back", saved(club, "of 65537") == data["of 65537"], True)
     sent = len(club.lossy.bodies)
     put(club, "/big", on_disk(club, "too large", bytes(16 * MIB + 1)))
-    differs("too large", browser.sees("too large has more than 16 MiB. Nothing was sent.", "#notices"), True)
+    most = "too large has 16.1 MiB, and 16 MiB is the most."
+    differs("too large", browser.sees(f"{most} Nothing was sent.", "#notices"), True)
     long_name = "\u00e4" * 33
     both = on_disk(club, "too large", bytes(16 * MIB + 1)), on_disk(club, long_name, b"x")
     put(club, "/big", *both)
@@ -102,7 +103,7 @@ def sizes(club, differs):
     differs("nothing was sent of it", [it for it in club.lossy.bodies[sent:] if b"CREATE" in it or b"MKDIR" in it], [])
     put(club, "/big", *both, on_disk(club, "fits", b"fits"))
     browser.sees("2 of 3 cannot be uploaded", "dialog")
-    for told in "too large has more than 16 MiB.", f"{long_name}: This name has 66 bytes, and 64 is the most.":
+    for told in most, f"{long_name}: This name counts as 66 letters, and 64 are the most: letters with accents":
         differs(told, browser.sees(told, "dialog li"), True)
     browser.press("Upload the other 1")
     browser.sees("1 file uploaded", "#notices")

@@ -63,7 +63,7 @@ def failed(club, differs):
     differs("where plain words are gone", "uploaded" in browser.script(NOTICES), False)
     club.go(f"#open/club{TOP}")
     sends(browser, on_disk(club, "told/too large", bytes((1 << 24) + 1)))
-    browser.sees("too large has more than 16 MiB. Nothing was sent.", "#notices")
+    browser.sees("too large has 16.1 MiB, and 16 MiB is the most. Nothing was sent.", "#notices")
     differs("beside another fault", len(lines(browser)), 4)
     browser.act("//*[@id='notices']/*[contains(., 'too large')]//button", "click")
     browser.until("it is closed", lambda: len(browser.script(LINES)) == 3)
@@ -93,8 +93,10 @@ def lacking(club, differs):
     club.log_in("eve")
     club.go(f"#open/club{TOP}")
     browser.press("Download as zip")
-    browser.sees("told.zip is made", "#notices")
-    club.go("#find/club")
+    differs("how much of it", browser.sees("told.zip is made, of 11 of 12 things.", "#notices"), True)
+    club.go(f"#find/club{TOP}")
+    browser.press("Search", "//main")
+    differs("one folder", browser.sees("You may not look into 1 folder. That is all.", "main"), True)
     differs("what is not in it", lines(browser), sorted([
         f"{TOP}/closed is empty in it: you may not look into it.",
         f"{TOP}/{SHUT[0]} is not in it. The list of {TOP}/{SHUT[0]} does not allow you to read it. Ask its owner, or "
@@ -126,6 +128,8 @@ def copies(club, differs):
     club.log_in("eve")
     club.go(f"#open/club{TOP}/{NAMES[0]}")
     browser.press("Copy", "//main")
+    browser.press("Copy it there")
+    differs("where it is", browser.sees("That is where it is: choose another folder above", "dialog"), True)
     browser.press("One up", "//dialog[@open]")
     browser.sees("To the folder club", "dialog")
     browser.fill("Name there", "copied")
