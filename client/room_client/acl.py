@@ -1,5 +1,6 @@
 """The command `room acl`: shows and sets an access list in words."""
 import sys
+from collections.abc import Callable
 
 from . import words
 from .faults import BadWords, Refused
@@ -13,7 +14,8 @@ ACL = """\
 without an action: shows the list as lines that `give` takes back. Actions:
 
   set ENTRY..     these are its own entries, and no others
-  add ENTRY..     puts them in front of its own entries (where one is there already, it goes to the front)
+  add ENTRY..     puts them in front of its own entries (where one is there already, it goes to the front;
+                  where all of them are in front already, nothing is sent)
   drop ENTRY..    takes them away
   flags WORDS     sets the flags; where it no longer follows its folder, what it inherited becomes its own
   give [FILE]     sets the list as FILE or standard input says, in the form that is shown
@@ -29,10 +31,15 @@ Between seeing and setting somebody else may set it too: the last one counts.
 def acl(room: Room, asked) -> None:
     if asked.action is None:
         return show_list(room, asked)
-    aclflag, own = new_list(room, asked)
-    if asked.action != "drop" and large_at(room, asked.path):  # (what is said of a large file is said of its pieces)
-        own = [it if it["flag"] & words.INHERITED else carried(it) for it in own]
-    show(asked, room.set_list(asked.path, aclflag, own), f"{shown(asked.path)}: list set")
+    new = new_list(room, asked, widened if large_at(room, asked.path) else list)
+    if new is None:
+        return show(asked, {"code": 0}, f"{shown(asked.path)}: that is there already, and nothing was set")
+    show(asked, room.set_list(asked.path, *new), f"{shown(asked.path)}: list set")
+
+
+def widened(entries: list[dict]) -> list[dict]:
+    """As a large file has them: what is said of it is said of its pieces."""
+    return [it if it["flag"] & words.INHERITED else carried(it) for it in entries]
 
 
 def show_list(room: Room, asked) -> None:
@@ -50,31 +57,38 @@ def show_list(room: Room, asked) -> None:
     sys.stdout.flush()
 
 
-def new_list(room: Room, asked) -> tuple[int, list[dict]]:
-    """The flags and entries that are to be set. Inherited ones are the room's to give, where the object follows; where
-    `flags` makes that end, they become its own, so that nobody is shut out by it."""
+def new_list(room: Room, asked, wide: Callable[[list[dict]], list[dict]]) -> tuple[int, list[dict]] | None:
+    """The flags and entries that are to be set, or None where they are set already; `wide` makes entries as the object
+    has them. Inherited ones are the room's to give, where the object follows; where `flags` makes that end, they become
+    its own, so that nobody is shut out by it."""
     flags, given = asked.given
     if asked.action == "give" and flags is not None:
-        return flags, given
+        return flags, wide(given)
     now = room.get_list(asked.path)
     if asked.action == "flags":
-        return flags, now["entries"]
+        return flags, wide(now["entries"])
     flags = now["aclflag"] if flags is None else flags
     own = [it for it in now["entries"] if not it["flag"] & words.INHERITED]
     if asked.action == "add":
-        return flags, given + [it for it in own if it not in given]  # (the same, given again, is in front once)
+        after = each_once(wide(given + own))
+        return None if after == own else (flags, after)
     if asked.action == "drop":
-        return flags, without(own, given)
-    return flags, given
+        return flags, without(own, given, wide(given))
+    return flags, wide(given)
 
 
-def without(own: list[dict], given: list[dict]) -> list[dict]:
-    left = [it for it in own if it not in given]
-    missing = next((it for it in given if it not in own), None)
+def each_once(entries: list[dict]) -> list[dict]:
+    return [it for at, it in enumerate(entries) if it not in entries[:at]]
+
+
+def without(own: list[dict], given: list[dict], wide: list[dict]) -> list[dict]:
+    """Takes away what is given, as it stands there or as the object has it."""
+    gone = [it if it in own else other for it, other in zip(given, wide)]
+    missing = next((it for it, other in zip(given, gone) if other not in own), None)
     if missing:
         its = words.entry_words(missing, words.FOLDER)
         raise BadWords(f"the list has no entry of its own '{its}': nothing was set")
-    return left
+    return [it for it in own if it not in gone]
 
 
 def read_given(asked) -> None:

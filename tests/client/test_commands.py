@@ -73,9 +73,12 @@ class Commands(Desk):
         self.prints("acl", "/plans", want=shown)
         again = ["deny group:staff write", "allow bob list inherit"]
         self.prints("acl", "/plans", "add", *again, want="/plans: list set\n")
+        self.prints("acl", "/plans", "add", *again, want="/plans: that is there already, and nothing was set\n")
+        self.prints("acl", "/plans", "add", again[0], "--json", want='{"code": 0}\n')
+        self.prints("acl", "/plans", "add", "deny zoe all", "deny zoe all", want="/plans: list set\n")
         with self.room() as room:
             entries = room.get_list("/plans")["entries"]
-            self.assertEqual([it["who"] for it in entries], ["staff", "bob", "OWNER@", "GROUP@"])
+            self.assertEqual([it["who"] for it in entries], ["zoe", "staff", "bob", "OWNER@", "GROUP@"])
         self.prints("acl", "/plans", "set", "deny bob none", "allow OWNER@ all", want="/plans: list set\n")
         self.prints("acl", "/plans", "drop", "deny bob none", want="/plans: list set\n")
         self.prints("acl", "/plans", "flags", "protected,auto-inherit", want="/plans: list set\n")

@@ -566,6 +566,13 @@ class Kept(Behind):
         self.prints("acl", "/a", "add", "allow bob read", want="/a: list set\n")
         with self.room(user="bob") as bob:
             self.assertEqual(files.read(bob, "/a"), data)
+        self.prints("acl", "/a", "add", "allow bob read", want="/a: that is there already, and nothing was set\n")
+        self.prints("acl", "/a", "add", "allow zoe read", want="/a: list set\n")
+        self.prints("acl", "/a", "drop", "allow zoe read", want="/a: list set\n")
+        self.prints("acl", "/a", want="# /a: large file of owner ann and group eng\nflags auto-inherit\n"
+                    "allow bob read,execute inherit\nallow OWNER@ all inherit inherited\n")
+        self.refuses("acl", "/a", "drop", "allow zoe read", status=2,
+                     want="the list has no entry of its own 'allow zoe list': nothing was set")
         self.prints("acl", "/a", "set", want="/a: list set\n")
         self.prints("chown", "bob:staff", "/a", want="/a: owner bob, group staff\n")
         with self.room(user="bob") as bob:
