@@ -406,6 +406,7 @@ def looked_at(machine, tally):
         tally.differs(f"a certificate of {days} days", machine.does("check")[0], status)
     tally.differs("nothing is wrong", machine.does("check"), (0, NOTHING, ""))
     passed_by(machine, tally)
+    open_to_many(machine, tally)
     # (what is found, or those that are; and how it comes to be so)
     put_wrong = {
         "the page has another roster": lambda: machine.write("etc/fileroom/club.toml", "[users]\nann = []\n"),
@@ -414,11 +415,7 @@ def looked_at(machine, tally):
                                         "etc/nginx/modules-enabled/60-fileroom.conf")},
         "has a login, and is in no roster": lambda: machine.write(
             "etc/nginx/fileroom/users", text_of(machine.at("etc/nginx/fileroom/users")) + "zed:x\n"),
-        "key.pem is open to too many": lambda: os.chmod(machine.at("etc/nginx/fileroom/tls/key.pem"), 0o644),
-        "users is open to too many": lambda: os.chmod(machine.at("etc/nginx/fileroom/users"), 0o644),
-        "plans is open to too many": lambda: os.chmod(machine.at("var/lib/fileroom/plans"), 0o755),
         "in the clear": lambda: machine.write("etc/nginx/fileroom/listen.conf", "listen 8080;\n"),
-        "plans.toml is open to too many": lambda: os.chmod(machine.at("etc/fileroom/plans.toml"), 0o664),
         "a change was stopped": lambda: machine.write("etc/fileroom/admin.journal", "{}"),
         "nginx does not take its files": lambda: machine.write("etc/nginx/conf.d/other.conf", "no such word;\n"),
         "plans: its place in the front": lambda: machine.write("etc/nginx/fileroom/rooms/plans.conf", ""),
@@ -431,8 +428,9 @@ def looked_at(machine, tally):
         "has no backup": lambda: shutil.rmtree(machine.at("var/backups/fileroom/club")),
         "hours old": lambda: os.rename(machine.at("var/backups/fileroom/club/2999-01-01T00-00-00Z"),
                                        machine.at("var/backups/fileroom/club/2020-01-01T00-00-00Z")),
-        "the front has no backup": lambda: os.utime(
-            machine.at("var/backups/fileroom-front/2999-01-01.tar.gz"), (1, 1)),
+        "the front has no backup": lambda: os.rename(  # (as one that was killed leaves it)
+            machine.at("var/backups/fileroom-front/2999-01-01.tar.gz"),
+            machine.at("var/backups/fileroom-front/.new-x")),
         **{f"{it} does not run": lambda it=it: machine.breaks(it)
            for it in ("nginx", "fileroom@plans", "fileroom-backup@plans.timer")},
         ("club: its place in the front", "reach its port"): lambda: machine.write(
@@ -455,6 +453,20 @@ def looked_at(machine, tally):
         machine.env.update(PATH=path)
         machine.stand_in("room", STAND_INS["room"])
         machine.mended()
+
+
+def open_to_many(machine, tally):
+    """Each right that is too many, alone."""
+    for path, modes in (
+            ("etc/nginx/fileroom/tls/key.pem", (0o640, 0o604)), ("var/lib/fileroom/plans", (0o750, 0o705)),
+            ("etc/nginx/fileroom/users", (0o644, 0o641, 0o660)), ("etc/fileroom/plans.toml", (0o664, 0o646))):
+        before = os.stat(machine.at(path)).st_mode & 0o777
+        for mode in modes:
+            os.chmod(machine.at(path), mode)
+            found = machine.does("check")[1].splitlines()
+            tally.differs(f"{path} of {mode:o}", (found[0], len(found)), (
+                f"{machine.at(path)} is open to too many", 2))
+        os.chmod(machine.at(path), before)
 
 
 def passed_by(machine, tally):
@@ -491,7 +503,7 @@ def disks(machine, tally):
     if subprocess.run([*unshare, "mount", "-t", "tmpfs", "small", machine.tools], capture_output=True).returncode:
         return ["a disk of its own (unshare)"]
     for folder in "var/lib/fileroom", "var/backups/fileroom":
-        for filled, status in ("1K", 0), ("7400K", 1):
+        for filled, status in ("6500K", 0), ("7400K", 1):
             within = [*unshare, "bash", "-c", SMALL, "bash", machine.at(folder), filled]
             found = machine.does("check", within=within)
             tally.differs(f"check: {filled} of 8 MiB filled in {folder}: {found}", (found[0], found[1].count(
@@ -636,13 +648,17 @@ def a_standby(machine, tally, top):
     os.makedirs(folder)
     for it in "", "-rejoin", "-standby":
         os.symlink("/dev/null", os.path.join(folder, f"fileroom{it}@plans.service"))
-    said = machine.does("check", first=installed)[1]
-    tally.differs("what it asks", "fileroom-standby check plans" in machine.told(), True)
-    found = [it for it in said.splitlines() if not it.startswith("    move it away")]
-    tally.differs("check of a standby", found, [
-        *(f"{folder}/fileroom-{it}@plans.service hides the installed unit" for it in ("rejoin", "standby")),
-        "fileroom@plans runs, and the room has a standby", "    systemctl disable --now fileroom@plans",
-        "plans: its standby is not as it must be", "    fileroom-standby check plans"])
+    shutil.rmtree(machine.at("var/backups/fileroom/plans"))
+    hidden = [f"{folder}/fileroom-{it}@plans.service hides the installed unit" for it in ("rejoin", "standby")]
+    runs = ["fileroom@plans runs, and the room has a standby", "    systemctl disable --now fileroom@plans"]
+    # (on a machine where the room is not, neither front nor room runs)
+    for broken, found in ("", runs), ("nginx\nfileroom@plans", []):
+        machine.breaks(broken)
+        said = machine.does("check", first=installed)[1].splitlines()
+        tally.differs("what it asks", "fileroom-standby check plans" in machine.told(), True)
+        tally.differs("check of a standby", [it for it in said if not it.startswith("    move it away")], [
+            *hidden, *found, "plans: its standby is not as it must be", "    fileroom-standby check plans"])
+    machine.mended()
 
 
 def tried(folder, tally):

@@ -194,7 +194,7 @@ class Findings:
 
     def backup_of_front(self, hours):
         folder = self.places.at("var/backups/fileroom-front")
-        names = os.listdir(folder) if os.path.isdir(folder) else []
+        names = [it for it in (os.listdir(folder) if os.path.isdir(folder) else []) if it.endswith(".tar.gz")]
         made = [os.stat(os.path.join(folder, it)).st_mtime for it in names]
         if not made or time.time() - max(made) > hours * 3600:
             self.add("the front has no backup of the last day", f"fileroom-backup --front {folder}")
