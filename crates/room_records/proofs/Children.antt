@@ -1,18 +1,18 @@
 -- The nodes in a folder, read off the index by place.
 use Rattle.std.proofs.Common.{◌≡◌, ℕ, ◌+◌, refl, ap, sym, ◌∙◌, Bool, true, List, [], ◌∷◌}
-use Rattle.std.proofs.Common.{Option, None, Some, arith, nat_cmp, inl, inr, ◌⊎◌}
+use Rattle.std.proofs.Common.{Option, None, Some, arith, nat_cmp, inl, inr, ◌⊎◌, map, false, eqb}
 use Rattle.std.specs.Prelude.{not, ◌&&◌}
-use Rattle.std.specs.List.{AllByRecursion, Contains, filter_map}
+use Rattle.std.specs.List.{AllByRecursion, Contains, IsDistinct, filter_map}
 use Rattle.std.specs.List.Sorted.{IsStrictlySortedBy}
 use Rattle.std.specs.Map.{keys_of, lookup}
 use Rattle.std.specs.Option.{option_and_then, option_cmp}
 use Rattle.std.specs.Ordering.{is_le, ordering_then}
 use Rattle.std.specs.declared.cmp.Ordering.{Ordering}
-use Rattle.std.specs.declared.cmp.Ordering.TheVariants.{Less, Greater}
+use Rattle.std.specs.declared.cmp.Ordering.TheVariants.{Less, Equal, Greater}
 use Rattle.std.specs.declared.ops.Bound.TheVariants.{Included, Excluded}
 use Rattle.std.specs.BTreeMap.{IsOrdered, get, is_at}
 use Rattle.std.specs.BTreeMap.Range.{range_contains, entries_between}
-use Rattle.std.proofs.lemmas.Bool.{cases_Bool, cases_eq}
+use Rattle.std.proofs.lemmas.Bool.{cases_Bool, cases_eq, ne_eqb}
 use Rattle.std.proofs.lemmas.Cmp.{tied_itself, nat_cmp_total}
 use Rattle.std.proofs.lemmas.List.Elements.{All-weaker, recursion_from_All}
 use Rattle.std.proofs.lemmas.Map.Keys.{sorted_head, sorted_tail}
@@ -43,6 +43,12 @@ is_place_in parent = range_contains place_cmp (Included (parent, None)) (Exclude
 
 abbrev pub places_between : ℕ → List PlaceEntry → List PlaceEntry
 places_between parent es = entries_between place_cmp (Included (parent, None)) (Excluded (parent + 1, None)) es
+
+not_below_itself : (p q : PlaceKey) → place_cmp p q ≡ Less → p ≡ q → ⊥
+not_below_itself p q less same =
+    let tied = tied_itself place_total q in
+    let less = ap (λ k. place_cmp k q) (sym same) ∙ less in
+    absurd (let bad : Equal ≡ Less = sym tied ∙ less in cc)
 
 none_first : (name : Option Name) → option_cmp name_cmp None name ≡ Greater → ⊥
 none_first name e = grind arith
@@ -141,6 +147,68 @@ module _ (t : ObjectRecords) (places : PlaceKey → Option ℕ) (index : IsIndex
         ])
   ]
 
+  -- what an order of places says of the nodes at them
+  abbrev TellsOf : (Node → Node → Type 0) → Type 0
+  TellsOf R = (p q : PlaceKey) (a b : Node) → IsAt p a → IsAt q b → place_cmp p q ≡ Less → R a b
+
+  -- each node and each one after it
+  abbrev EachPair : (Node → Node → Type 0) → List Node → Type 0
+  EachPair R [] = Unit {0}
+  EachPair R (a ∷ nodes) = AllByRecursion (R a) nodes × EachPair R nodes
+
+  module _ (R : Node → Node → Type 0) (tells : TellsOf R) where
+    all_behind : (place : PlaceKey) (a : Node) → IsAt place a → (es : List PlaceEntry) → AreHeld es
+        → AllByRecursion (λ k. place_cmp place k ≡ Less) (keys_of es) → AllByRecursion (R a) (children_in es)
+    all_behind place a here [] held less = tt
+    all_behind place a here (e ∷ es) held less = elim (next_shown e es held.0) [
+      | inl same ↦ rw same (all_behind place a here es held.1 less.1)
+      | inr next ↦ rw next.1 (
+        tells place e.0 a next.0 here next.2 less.0,
+        all_behind place a here es held.1 less.1,
+      )
+    ]
+
+    pairs_shown : (es : List PlaceEntry) → AreHeld es
+        → IsStrictlySortedBy place_cmp (keys_of es) → EachPair R (children_in es)
+    pairs_shown [] held sorted = tt
+    pairs_shown (e ∷ es) held sorted =
+        let rest = pairs_shown es held.1 (sorted_tail place_cmp e.0 (keys_of es) sorted) in
+        elim (next_shown e es held.0) [
+          | inl same ↦ rw same rest
+          | inr next ↦ rw next.1 (
+            all_behind e.0 next.0 next.2 es held.1 (sorted_head place_cmp e.0 (keys_of es) sorted),
+            rest,
+          )
+        ]
+
+  -- another place has another node
+  abbrev AreApart : Node → Node → Type 0
+  AreApart a b = eqb a.id b.id ≡ false
+
+  are_apart : TellsOf AreApart
+  are_apart p q a b at_p at_q less = ne_eqb a.id b.id (λ same.
+      let node : a ≡ b = some_is a b (sym at_p.child.stands ∙ ap t.node same ∙ at_q.child.stands) in
+      let place : p ≡ q = (λ i. (
+        (at_p.inside ∙ sym at_q.inside) i,
+        (sym at_p.named ∙ ap (λ (n : Node). n.name) node ∙ at_q.named) i,
+      )) in
+      not_below_itself p q less place)
+
+  pub once_shown : (es : List PlaceEntry) → AreHeld es → IsStrictlySortedBy place_cmp (keys_of es)
+      → IsDistinct eqb (map (λ (node : Node). node.id) (children_in es))
+  unfolding IsDistinct
+  once_shown es held sorted = distinct (children_in es) (pairs_shown AreApart are_apart es held sorted)
+    where
+      heads : (a : Node) (nodes : List Node) → AllByRecursion (AreApart a) nodes
+          → AllByRecursion (λ id. eqb a.id id ≡ false) (map (λ (node : Node). node.id) nodes)
+      heads a [] all = tt
+      heads a (b ∷ nodes) all = (all.0, heads a nodes all.1)
+
+      distinct : (nodes : List Node) → EachPair AreApart nodes
+          → IsDistinct eqb (map (λ (node : Node). node.id) nodes)
+      distinct [] pairs = tt
+      distinct (a ∷ nodes) pairs = (heads a nodes pairs.0, distinct nodes pairs.1)
+
   -- each child has a name
   abbrev pub AreNamed : Type 0
   AreNamed = (node : Node) → IsChild t parent node → (name : Name) × (node.name ≡ Some name)
@@ -148,7 +216,7 @@ module _ (t : ObjectRecords) (places : PlaceKey → Option ℕ) (index : IsIndex
   abbrev pub IsBefore : Node → Node → Type 0
   IsBefore a b = name_cmp (name_of a) (name_of b) ≡ Less
 
-  is_before : AreNamed → (p q : PlaceKey) (a b : Node) → IsAt p a → IsAt q b → place_cmp p q ≡ Less → IsBefore a b
+  is_before : AreNamed → TellsOf IsBefore
   is_before named p q a b at_p at_q less =
       let m = named a at_p.child in
       let n = named b at_q.child in
@@ -162,32 +230,15 @@ module _ (t : ObjectRecords) (places : PlaceKey → Option ℕ) (index : IsIndex
         tied_itself nat_cmp_total parent,
       ) at less)
 
-  all_before : AreNamed → (place : PlaceKey) (a : Node) → IsAt place a → (es : List PlaceEntry) → AreHeld es
-      → AllByRecursion (λ k. place_cmp place k ≡ Less) (keys_of es) → AllByRecursion (IsBefore a) (children_in es)
-  all_before named place a here [] held less = tt
-  all_before named place a here (e ∷ es) held less = elim (next_shown e es held.0) [
-    | inl same ↦ rw same (all_before named place a here es held.1 less.1)
-    | inr next ↦ rw next.1 (
-      is_before named place e.0 a next.0 here next.2 less.0,
-      all_before named place a here es held.1 less.1,
-    )
-  ]
-
-  put_first : (a : Node) (nodes : List Node) → AllByRecursion (IsBefore a) nodes
-      → InNameOrder nodes → InNameOrder (a ∷ nodes)
-  put_first a [] less order = tt
-  put_first a (b ∷ nodes) less order = (less.0, order)
+  in_order : (nodes : List Node) → EachPair IsBefore nodes → InNameOrder nodes
+  in_order [] pairs = tt
+  in_order (a ∷ []) pairs = tt
+  in_order (a ∷ b ∷ nodes) pairs = (pairs.0.0, in_order (b ∷ nodes) pairs.1)
 
   order_shown : AreNamed → (es : List PlaceEntry) → AreHeld es
       → IsStrictlySortedBy place_cmp (keys_of es) → InNameOrder (children_in es)
-  order_shown named [] held sorted = tt
-  order_shown named (e ∷ es) held sorted =
-      let rest = order_shown named es held.1 (sorted_tail place_cmp e.0 (keys_of es) sorted) in
-      elim (next_shown e es held.0) [
-        | inl same ↦ rw same rest
-        | inr next ↦ rw next.1 (put_first next.0 (children_in es) (all_before named e.0 next.0 next.2 es held.1
-            (sorted_head place_cmp e.0 (keys_of es) sorted)) rest)
-      ]
+  order_shown named es held sorted =
+      in_order (children_in es) (pairs_shown IsBefore (is_before named) es held sorted)
 
 -- by the rules each child has a name
 pub named_by_rules : (t : ObjectRecords) → NodeRules t.node → (parent : ℕ) (node : Node)
@@ -207,13 +258,13 @@ module _ (t : ObjectRecords) (places : Places) (index : IsIndex t.node (id_at pl
   slot_of : (o : Option (Option ℕ)) (id : ℕ) → value_in o ≡ Some id → o ≡ Some (Some id)
   slot_of o id h = grind arith
 
-  pub children_are : NodeRules t.node → (parent : ℕ)
-      → AreChildren t parent (shown t.node (places_between parent places.entries))
-  children_are rules parent = record {
+  pub children_are : (parent : ℕ) → AreChildren t parent (shown t.node (places_between parent places.entries))
+  children_are parent = record {
     each = each_shown t (id_at places) index parent places.entries are_held;
     every = λ node child. every_shown t (id_at places) index parent places.entries are_held node.name node.id node
         (slot_of (get place_cmp places (parent, node.name)) node.id (placed t (id_at places) index parent node child))
         child.stands;
-    in_order = order_shown t (id_at places) index parent
+    once = once_shown t (id_at places) index parent places.entries are_held ordered;
+    in_order = λ rules. order_shown t (id_at places) index parent
         (named_by_rules t rules parent) places.entries are_held ordered;
   }

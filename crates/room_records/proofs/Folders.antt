@@ -87,14 +87,14 @@ module _ (t : ObjectRecords) (room : Room) (stand : RepresentsRoom t room)
         let child = object_child name found.0 found.1 in
         let is : name_of child.0 ≡ name = ap (λ (n : Option Name). unwrap_or n []) child.2 in
         let there = child_object child.0 name child.1 is in
-        rw is at (listed_kind nodes are.in_order child.0 (are.every child.0 child.1))
+        rw is at (listed_kind nodes (are.in_order stand.rules.nodes) child.0 (are.every child.0 child.1))
         ∙ ap Some there.2 ∙ sym (rw there.1 at (kind_of_child room path name)))
   ]
 
   -- the nodes in a folder, by name, show what is in it
   pub nodes_are_children : (nodes : List Node) → AreChildren t id nodes → map pair_of nodes ≡ children room path
   nodes_are_children nodes are = same_entries (map pair_of nodes) (children room path)
-      (pairs_rise nodes are.in_order) (children_rise room path) (same_kinds nodes are)
+      (pairs_rise nodes (are.in_order stand.rules.nodes)) (children_rise room path) (same_kinds nodes are)
 
   -- and a count of them is how many there are
   pub child_count_is : (count : ℕ) → IsChildCount t id count → count ≡ length (children room path)

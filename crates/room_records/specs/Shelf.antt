@@ -1,7 +1,7 @@
 -- What calls of a shelf say.
 use Rattle.std.specs.Prelude.{◌≡◌, ◌≢◌, ℕ, ◌-◌, ◌^◌, ◌<◌, ◌≤◌, ◌⊎◌, List, [], ◌∷◌, Option, None, Some, MatchOption}
-use Rattle.std.specs.Prelude.{Result, Ok, Err, IfOk, unwrap_or, length}
-use Rattle.std.specs.List.{AllByRecursion, Contains, filter_map}
+use Rattle.std.specs.Prelude.{Result, Ok, Err, IfOk, unwrap_or, length, map, eqb}
+use Rattle.std.specs.List.{AllByRecursion, Contains, IsDistinct, filter_map}
 use Rattle.std.specs.Option.{option_map}
 use Rattle.std.specs.declared.cmp.Ordering.TheVariants.{Less}
 use Rattle.room_acl.specs.declared.subject.Kind.{Kind}
@@ -10,6 +10,7 @@ use Rattle.room_records.specs.declared.shelf.ShelfFault.{ShelfFault}
 use Rattle.room_records.specs.declared.shelf.ShelfFault.TheVariants.{Store}
 use Rattle.room_records.specs.Names.{Name, name_cmp}
 use Rattle.room_records.specs.Records.{ObjectRecords, Records, IsChild}
+use Rattle.room_records.specs.Rules.{NodeRules}
 
 -- the count of failures rose, or is where it is no longer kept
 abbrev pub FailureCounted : ℕ → ℕ → Type 0
@@ -85,17 +86,18 @@ InNameOrder [] = Unit {0}
 InNameOrder (a ∷ []) = Unit {0}
 InNameOrder (a ∷ b ∷ nodes) = (name_cmp (name_of a) (name_of b) ≡ Less) × InNameOrder (b ∷ nodes)
 
--- these are the nodes in a folder, by name
+-- these are the nodes in a folder, each once, and by the rules on nodes in order of their names
 pub record AreChildren (t : ObjectRecords) (parent : ℕ) (nodes : List Node) : Type 0 where
   pub each : AllByRecursion (IsChild t parent) nodes
   pub every : (node : Node) → IsChild t parent node → Contains nodes node
-  pub in_order : InNameOrder nodes
+  pub once : IsDistinct eqb (map (λ (node : Node). node.id) nodes)
+  pub in_order : NodeRules t.node → InNameOrder nodes
 
 -- what a listing shows of a node with a name
 abbrev pub listed : Node → Option (Name × Kind)
 listed node = option_map (λ (name : Name). (name, node.kind)) node.name
 
--- the names and kinds of the nodes in a folder, by name
+-- the names and kinds of the nodes in a folder, in the order of the nodes
 abbrev pub AreNames : ObjectRecords → ℕ → List (Name × Kind) → Type 0
 AreNames t parent names = (nodes : List Node) × AreChildren t parent nodes × (names ≡ filter_map listed nodes)
 

@@ -2,7 +2,6 @@
 ghost use Rattle.std.specs.Prelude.{◌≡◌, [], length, unwrap_or, OnOk};
 ghost use Rattle.room_acl.specs.Access.{decision};
 ghost use Rattle.room_records.specs.Records.{Records};
-ghost use Rattle.room_records.specs.Rules.{NodeRules};
 ghost use Rattle.room_records.specs.Changes.{apply_changes, RulesHoldAfterEach, Untouched};
 ghost use Rattle.room_records.specs.Shelf.{View, ShelfCall, ShelfRead, Tells, fault_in, AreChildren};
 ghost use Rattle.room_records.specs.Shelf.{AreNames, IsChildCount, IsChildNamed, LeavesOldOrNew};
@@ -64,24 +63,25 @@ pub trait Shelf {
         ensures there { (view self.new).is_intact → OnOk result (view self.new).is_available }
         ensures frame { ShelfRead (view self.old) (view self.new) (fault_in result) };
 
-    /// The nodes in a folder, in order of their names by bytes.
+    /// The nodes in a folder, each once, and by the rules on nodes in order of their names by bytes.
     fn children(&mut self, parent: u32) -> Result<Vec<Node>, ShelfFault>
-        ensures value { Tells (view self.old) (view self.new) result (λ records found.
-            NodeRules records.objects.node → AreChildren records.objects parent found.items) }
+        ensures value { Tells (view self.old) (view self.new) result
+            (λ records found. AreChildren records.objects parent found.items) }
         ensures there { (view self.new).is_intact → OnOk result (view self.new).is_available }
         ensures frame { ShelfRead (view self.old) (view self.new) (fault_in result) };
 
-    /// The names and kinds of the nodes in a folder, in order of the names by bytes. No more than these need be read.
+    /// The name and the kind of each node in a folder that has a name, by the rules on nodes in order of the names by
+    /// bytes. No more than these need be read.
     fn names(&mut self, parent: u32) -> Result<Vec<(FileName, Kind)>, ShelfFault>
-        ensures value { Tells (view self.old) (view self.new) result (λ records found.
-            NodeRules records.objects.node → AreNames records.objects parent found.items) }
+        ensures value { Tells (view self.old) (view self.new) result
+            (λ records found. AreNames records.objects parent found.items) }
         ensures there { (view self.new).is_intact → OnOk result (view self.new).is_available }
         ensures frame { ShelfRead (view self.old) (view self.new) (fault_in result) };
 
     /// How many nodes are in a folder.
     fn child_count(&mut self, parent: u32) -> Result<u64, ShelfFault>
-        ensures value { Tells (view self.old) (view self.new) result (λ records count.
-            NodeRules records.objects.node → IsChildCount records.objects parent count) }
+        ensures value { Tells (view self.old) (view self.new) result
+            (λ records count. IsChildCount records.objects parent count) }
         ensures there { (view self.new).is_intact → OnOk result (view self.new).is_available }
         ensures frame { ShelfRead (view self.old) (view self.new) (fault_in result) };
 

@@ -3,7 +3,7 @@ use Rattle.std.proofs.Common.{◌≡◌, ℕ, ◌≤◌, refl, ap, sym, ◌∙�
 use Rattle.std.proofs.Common.{List, [], ◌∷◌, ◌++◌, length, append_assoc, append-nil, Option, None, Some, Ordering, Less}
 use Rattle.std.proofs.Common.{Equal, Greater, unwrap_or}
 use Rattle.std.specs.Map.{lookup}
-use Rattle.std.specs.List.{flat_map}
+use Rattle.std.specs.List.{IsDistinct, flat_map}
 use Rattle.std.specs.BTreeMap.{insert_entry}
 use Rattle.std.specs.Ordering.{match_ordering, ordering_reverse}
 use Rattle.std.proofs.lemmas.Bool.{both_ways, cases_Bool}
@@ -217,7 +217,13 @@ module _ (t : ObjectRecords) (room : Room) (stand : RepresentsRoom t room)
       (found.0, found.1)
 
   no_children : ((node : Node) → IsChild t id node → ⊥) → AreChildren t id []
-  no_children none = record { each = tt; every = λ node child. absurd (none node child); in_order = tt }
+  unfolding IsDistinct
+  no_children none = record {
+    each = tt;
+    every = λ node child. absurd (none node child);
+    once = tt;
+    in_order = λ rules. tt;
+  }
 
   -- nothing is in a file
   pub none_in_a_file : (o : Object) → object_at room path ≡ Some o → o.kind ≡ File → AreChildren t id []
@@ -249,7 +255,7 @@ module _ (t : ObjectRecords) (room : Room) (stand : RepresentsRoom t room)
           (λ a b x y less h k. fronts_apart path (name_of a) (name_of b) x.0 y.0 less
           (listed_below room stand.lawful (path ++ name_of a ∷ []) x h).1
           (listed_below room stand.lawful (path ++ name_of b ∷ []) y k).1)
-          nodes (nodes_rise nodes are.in_order),
+          nodes (nodes_rise nodes (are.in_order stand.rules.nodes)),
     )
 
     under_child : (x : Pair) (name : Name) (rest : Path) → object_at room x.0 ≡ Some x.1

@@ -1,11 +1,11 @@
 -- The children of a folder, as the rows show them.
-use Rattle.std.proofs.Common.{◌≡◌, ◌≢◌, inl, inr, ℕ, suc, ◌≤◌, pos, Bool, true, false, cond, List, [], ◌∷◌}
+use Rattle.std.proofs.Common.{◌≡◌, ◌≢◌, inl, inr, ℕ, suc, ◌≤◌, pos, Bool, true, false, cond, eqb, List, [], ◌∷◌}
 use Rattle.std.proofs.Common.{length, map, filter, slice_get, Option, None, Some, option_map, unwrap_or, refl, sym, ap}
 use Rattle.std.proofs.Common.{ap₂, subst, ◌∙◌, true≢false, arith, Ordering, Less, Equal, is_gt, IsPermutation}
-use Rattle.std.specs.List.{AllByRecursion}
+use Rattle.std.specs.List.{AllByRecursion, IsDistinct}
 use Rattle.std.specs.Ordering.{nat_cmp, ordering_then}
 use Rattle.std.specs.Cmp.Lexicographic.{slice_cmp}
-use Rattle.std.proofs.lemmas.Bool.{and_from}
+use Rattle.std.proofs.lemmas.Bool.{and_from, ne_eqb, eqb-false}
 use Rattle.std.proofs.lemmas.Grind.{common_steps}
 use Rattle.std.proofs.lemmas.Map.Lookups.{exact_bytes}
 use Rattle.std.proofs.lemmas.List.Sorted.{length_permutation, IsPermutation-sym}
@@ -31,6 +31,7 @@ use Rattle.room_records.specs.Names.{name_cmp}
 use Rattle.room_records.specs.Records.{ObjectRecords, IsChild}
 use Rattle.room_records.specs.Rules.{NodeRules}
 use Rattle.room_records.specs.Shelf.{AreChildren, IsChildCount, IsChildNamed, InNameOrder, name_of}
+use Rattle.room_records.proofs.Children.{named_by_rules}
 use Rattle.room_tables.specs.Rows.{has, is_child_named, only, number_in, parent_in, name_of_text, name_in, shown_node}
 use Rattle.room_tables.specs.Rows.{node_of, nodes_in, named_rows, child_rows, records_of}
 use Rattle.room_tables.specs.Layout.{HasNumbers, IsRoomDatabase, parent_value}
@@ -129,36 +130,66 @@ shown_once db p id rows room same =
     [ inl none ↦ rw none (omega arith) | inr one ↦ rw one.1 (omega arith) ]) in
     omega (arith, few, length_permutation _ _ (IsPermutation-filter (has 0 id) _ _ same))
 
--- a row of a child, with its number and its name
+-- a row of a child, with its number
 record Shown (t : ObjectRecords) (p : ℕ) (s : Row) : Type 0 where
   id : ℕ
   has_id : column s 0 ≡ Int (pos id)
-  text : List ℕ
-  has_text_in : column s 2 ≡ Text text
   child : IsChild t p (node_of s)
 
 child_shown : (db : Database) (p : ℕ) (rows : List Row) → IsRoomDatabase db
-    → NodeRules (records_of db.trees).objects.node → IsPermutation (child_rows db.trees p) rows
-    → AllByRecursion (Shown (records_of db.trees).objects p) rows
-child_shown db p rows room rules same = all_from (Shown (records_of db.trees).objects p) rows (λ s h.
+    → IsPermutation (child_rows db.trees p) rows → AllByRecursion (Shown (records_of db.trees).objects p) rows
+child_shown db p rows room same = all_from (Shown (records_of db.trees).objects p) rows (λ s h.
     let shown = shown_of shown_node (has 2 p) (db.trees 1) rows same s h in
     let r = shown.0 in
-    let child = row_is_child db p r room shown.1 shown.2 in
     let n = all_has HasNumbers (db.trees 1) r room.numbered shown.1 in
-    let node = node_of (shown_node r) in
-    let below = rules.below node.id node child.stands (λ is.
-    not_root node (subst (λ i. (records_of db.trees).objects.node i ≡ Some node) is child.stands) child.inside) in
-    subst (Shown (records_of db.trees).objects p) (sym shown.3) (record {
-      id = n.id;
-      has_id = n.has_id;
-      text = below.name;
-      has_text_in = name_is _ below.name below.named;
-      child = child;
-    }))
+    subst (Shown (records_of db.trees).objects p) (sym shown.3)
+    (record { id = n.id; has_id = n.has_id; child = row_is_child db p r room shown.1 shown.2 }))
+
+-- numbers that are shown once differ
+numbers_differ : (t : ObjectRecords) (p : ℕ) (rows : List Row) → AllByRecursion (Shown t p) rows
+    → ((id : ℕ) → length (filter (has 0 id) rows) ≤ 1)
+    → IsDistinct eqb (map (λ (node : Node). node.id) (map node_of rows))
+unfolding IsDistinct
+numbers_differ t p [] all once = tt
+numbers_differ t p (a ∷ rows) all once = (others rows all.1 none_more, numbers_differ t p rows all.1 tail_once)
   where
-    not_root : (node : Node) → (records_of db.trees).objects.node 1 ≡ Some node → node.parent ≡ Some p → ⊥
-    not_root node stands inside = let root = (rw stands at rules.root) in
-        absurd (let bad = sym root.no_parent ∙ inside in cc)
+    x : Shown t p a
+    x = all.0
+
+    fewer : (c : Bool) (l : List Row) (r : Row) → length l ≤ length (cond c (r ∷ l) l)
+    fewer true l r = omega arith
+    fewer false l r = omega arith
+
+    tail_once : (id : ℕ) → length (filter (has 0 id) rows) ≤ 1
+    tail_once id = omega (arith, once id, fewer (has 0 id a) (filter (has 0 id) rows) a)
+
+    none_more : length (filter (has 0 x.id) rows) ≤ 0
+    none_more =
+        let first : has 0 x.id a ≡ true = int_has 0 x.id a x.has_id in
+        let one_more : length (filter (has 0 x.id) (a ∷ rows)) ≡ suc (length (filter (has 0 x.id) rows)) =
+        rw first refl in
+        omega (arith, one_more, once x.id)
+
+    others : (l : List Row) → AllByRecursion (Shown t p) l → length (filter (has 0 x.id) l) ≤ 0
+        → AllByRecursion (λ id. eqb (node_of a).id id ≡ false) (map (λ (node : Node). node.id) (map node_of l))
+    others [] those few = tt
+    others (b ∷ l) those few = (
+      ne_eqb (node_of a).id (node_of b).id (λ same.
+          let y = those.0 in
+          let number : y.id ≡ x.id = sym (ap number_in y.has_id) ∙ sym same ∙ ap number_in x.has_id in
+          let second : has 0 x.id b ≡ true = int_has 0 x.id b (y.has_id ∙ ap (λ n. Int (pos n)) number) in
+          let one_more : length (filter (has 0 x.id) (b ∷ l)) ≡ suc (length (filter (has 0 x.id) l)) =
+          rw second refl in
+          absurd (omega (arith, one_more, few))),
+      others l those.1 (omega (arith, few, fewer (has 0 x.id b) (filter (has 0 x.id) l) b)),
+    )
+
+-- by the rules it has a name
+text_of : (t : ObjectRecords) (p : ℕ) (s : Row) → NodeRules t.node → IsChild t p (node_of s)
+    → (text : List ℕ) × (column s 2 ≡ Text text)
+text_of t p s rules child =
+    let name = named_by_rules t rules p (node_of s) child in
+    (name.0, name_is _ name.0 name.1)
 
 text_back : (t : List ℕ) → unwrap_or (name_of_text t) [] ≡ t
 text_back [] = refl
@@ -167,55 +198,45 @@ text_back (b ∷ bytes) = refl
 shown_name : (s : Row) (t : List ℕ) → column s 2 ≡ Text t → name_of (node_of s) ≡ t
 shown_name s t e = ap (λ v. unwrap_or (name_in v) []) e ∙ text_back t
 
--- two rows of one folder that have one name have one number
-same_number : (t : ObjectRecords) (p : ℕ) (a b : Row) (x : Shown t p a) (y : Shown t p b)
-    → NodeRules t.node → x.text ≡ y.text → x.id ≡ y.id
-same_number t p a b x y rules same =
-    let name : (node_of a).name ≡ (node_of b).name = ap name_in (x.has_text_in ∙ ap Text same ∙ sym y.has_text_in) in
-    sym (ap number_in x.has_id) ∙ rules.once (node_of a) (node_of b) x.child.stands
-    y.child.stands (x.child.inside ∙ sym y.child.inside) name ∙ ap number_in y.has_id
-
 not_greater : (o : Ordering) → is_gt (ordering_then o Equal) ≡ false → o ≢ Equal → o ≡ Less
 not_greater o h apart = grind (arith, common_steps)
 
+-- by the rules two rows of one folder do not have one name
 in_order : (t : ObjectRecords) (p : ℕ) (rows : List Row) → NodeRules t.node → AllByRecursion (Shown t p) rows
-    → IsAscending ByName rows → ((id : ℕ) → length (filter (has 0 id) rows) ≤ 1) → InNameOrder (map node_of rows)
+    → IsAscending ByName rows → IsDistinct eqb (map (λ (node : Node). node.id) (map node_of rows))
+    → InNameOrder (map node_of rows)
+unfolding IsDistinct
 in_order t p [] rules all up once = tt
 in_order t p (a ∷ []) rules all up once = tt
 in_order t p (a ∷ b ∷ rows) rules all up once =
-    let x = all.0 in
-    let y = all.1.0 in
+    let x = text_of t p a rules all.0.child in
+    let y = text_of t p b rules all.1.0.child in
     let low = up.0.0 in
-    let values : value_cmp (column a 2) (column b 2) ≡ slice_cmp nat_cmp x.text y.text =
-    ap₂ value_cmp x.has_text_in y.has_text_in ∙ value_cmp-Text x.text y.text in
-    let apart : slice_cmp nat_cmp x.text y.text ≢ Equal = (λ tie. twice x y (exact_bytes _ _ tie)) in
+    let values : value_cmp (column a 2) (column b 2) ≡ slice_cmp nat_cmp x.0 y.0 =
+    ap₂ value_cmp x.1 y.1 ∙ value_cmp-Text x.0 y.0 in
+    let apart : slice_cmp nat_cmp x.0 y.0 ≢ Equal = (λ tie. twice x y (exact_bytes _ _ tie)) in
     let less = not_greater _ (ap (λ o. is_gt (ordering_then o Equal)) (sym values) ∙ low) apart in (
-      ap₂ name_cmp (shown_name a x.text x.has_text_in) (shown_name b y.text y.has_text_in) ∙ less,
-      in_order t p (b ∷ rows) rules all.1 up.1 tail_once,
+      ap₂ name_cmp (shown_name a x.0 x.1) (shown_name b y.0 y.1) ∙ less,
+      in_order t p (b ∷ rows) rules all.1 up.1 once.1,
     )
   where
-    fewer : (c : Bool) (l : List Row) (r : Row) → length l ≤ length (cond c (r ∷ l) l)
-    fewer true l r = omega arith
-    fewer false l r = omega arith
+    Named : Row → Type 0
+    Named s = (text : List ℕ) × (column s 2 ≡ Text text)
 
-    tail_once : (id : ℕ) → length (filter (has 0 id) (b ∷ rows)) ≤ 1
-    tail_once id = omega (arith, once id, fewer (has 0 id a) (filter (has 0 id) (b ∷ rows)) a)
-
-    twice : (x : Shown t p a) (y : Shown t p b) → x.text ≡ y.text → ⊥
+    twice : (x : Named a) (y : Named b) → x.0 ≡ y.0 → ⊥
     twice x y same =
-        let first : has 0 x.id a ≡ true = int_has 0 x.id a x.has_id in
-        let second : has 0 x.id b ≡ true =
-        int_has 0 x.id b (y.has_id ∙ ap (λ n. Int (pos n)) (sym (same_number t p a b x y rules same))) in
-        let two : length (filter (has 0 x.id) (a ∷ b ∷ rows)) ≡ suc (suc (length (filter (has 0 x.id) rows))) =
-        rw (first, second) refl in
-        absurd (omega (arith, two, once x.id))
+        let m = all.0.child in
+        let n = all.1.0.child in
+        let name : (node_of a).name ≡ (node_of b).name = ap name_in (x.1 ∙ ap Text same ∙ sym y.1) in
+        eqb-false (node_of a).id (node_of b).id once.0.0
+        (rules.once (node_of a) (node_of b) m.stands n.stands (m.inside ∙ sym n.inside) name)
 
 pub are_children : (db : Database) (p : ℕ) (rows : List Row) → IsRoomDatabase db
-    → NodeRules (records_of db.trees).objects.node
     → IsPermutation (child_rows db.trees p) rows → IsAscending ByName rows
     → AreChildren (records_of db.trees).objects p (map node_of rows)
-are_children db p rows room rules same up =
-    let all = child_shown db p rows room rules same in
+are_children db p rows room same up =
+    let all = child_shown db p rows room same in
+    let once = numbers_differ (records_of db.trees).objects p rows all (λ id. shown_once db p id rows room same) in
     record {
       each = Rattle.sqlite_keyed.proofs.ListLemmas.all_map (IsChild (records_of db.trees).objects p)
           node_of rows (Rattle.sqlite_keyed.proofs.ListLemmas.all_weaker _ _ (λ s x. x.child) rows all);
@@ -224,20 +245,21 @@ are_children db p rows room rules same up =
           let there = is_shown shown_node (has 2 p) (db.trees 1) rows same r.0 r.1 r.2 in
           contains_had (map node_of rows) node
           (subst (Has (map node_of rows)) r.3 (mapped_has node_of rows (shown_node r.0) there));
-      in_order = in_order (records_of db.trees).objects p rows rules all up (λ id. shown_once db p id rows room same);
+      once = once;
+      in_order = λ rules. in_order (records_of db.trees).objects p rows rules all up once;
     }
 
 -- their number is that of the rows
-pub count_children : (db : Database) (p : ℕ) → IsRoomDatabase db → NodeRules (records_of db.trees).objects.node
+pub count_children : (db : Database) (p : ℕ) → IsRoomDatabase db
     → IsChildCount (records_of db.trees).objects p (length (child_rows db.trees p))
-count_children db p room rules =
+count_children db p room =
     let cmp = λ (a b : Row). key_cmp 0 name_keys (name_key a) (name_key b) in
     let total = key_cmp_total name_keys 0 in
     let total_on = Rattle.std.proofs.lemmas.Cmp.on_total name_key total in
     let rows = sort_by cmp (child_rows db.trees p) in
     let same = IsPermutation-sym _ _ (IsPermutation-sort_by cmp total_on (child_rows db.trees p)) in (
       map node_of rows,
-      are_children db p rows room rules same (ascending-sort_by cmp total_on (child_rows db.trees p)),
+      are_children db p rows room same (ascending-sort_by cmp total_on (child_rows db.trees p)),
       sym (Rattle.std.proofs.lemmas.List.length-map rows node_of ∙ length_permutation _ _ same),
     )
 

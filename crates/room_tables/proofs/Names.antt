@@ -8,7 +8,6 @@ use Rattle.sqlite_keyed.proofs.ListLemmas.{ascending-map, map-map}
 use Rattle.sqlite.specs.State.{State, Shown}
 use Rattle.sqlite.specs.Effect.{Database}
 use Rattle.room_slots.specs.Slots.{kept_seq}
-use Rattle.room_records.specs.Rules.{NodeRules}
 use Rattle.room_records.specs.Shelf.{AreNames, listed}
 use Rattle.room_tables.specs.Tables.{room_schema}
 use Rattle.room_tables.specs.Layout.{IsRoomDatabase}
@@ -44,11 +43,11 @@ same_listed [] = refl
 same_listed (r ∷ nodes) = ap (cons_option (listed (node_of r))) (same_listed nodes)
 
 pub are_names : (db : Database) (p : ℕ) (rows : List Row) → IsRoomDatabase db
-    → NodeRules (records_of db.trees).objects.node → AreNameRows db.trees p rows
+    → AreNameRows db.trees p rows
     → AreNames (records_of db.trees).objects p (filter_map listed_of rows)
-are_names db p rows room rules h = (
+are_names db p rows room h = (
   map node_of h.0,
-  are_children db p h.0 room rules h.1 h.2,
+  are_children db p h.0 room h.1 h.2,
   ap (filter_map listed_of) h.3 ∙ same_listed h.0,
 )
 

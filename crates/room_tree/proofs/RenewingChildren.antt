@@ -181,8 +181,8 @@ module _ {t : ObjectRecords} {room : Room} (stand : RepresentsRoom t room) (path
       take_more nodes i node below ∙ ap (λ n. take i nodes ++ n ∷ []) (sym is) in
       let split : nodes ≡ (take i nodes ++ node ∷ []) ++ drop (i + 1) nodes =
       sym (take-append-drop (i + 1) nodes) ∙ ap (λ front. front ++ drop (i + 1) nodes) more in
-      let order =
-      order_of_front (take i nodes ++ node ∷ []) (drop (i + 1) nodes) (subst InNameOrder split are.in_order) in
+      let order = order_of_front (take i nodes ++ node ∷ []) (drop (i + 1) nodes)
+      (subst InNameOrder split (are.in_order stand.rules.nodes)) in
       record {
         added = so.added ++ ys;
         goes_on = goes_on ∙ ap (λ before. before ++ ys) so.goes_on ∙ append_assoc old so.added ys;

@@ -2,7 +2,6 @@
 ghost use Rattle.std.specs.Prelude.{◌≡◌, ◌≢◌, ℕ, ◌==◌, OnOk, IfOk, None, Some, IsSome, if◌then◌else◌};
 ghost use Rattle.std.specs.Prelude.{◌+◌};
 ghost use Rattle.room_records.specs.Records.{ObjectRecords};
-ghost use Rattle.room_records.specs.Rules.{NodeRules};
 ghost use Rattle.room_records.specs.Shelf.{AreChildren, IsChildCount, IsChildNamed};
 ghost use Rattle.room_records.specs.Table.{HasSpace};
 ghost use Rattle.room_records.specs.NodeIndex.{PlaceKey, node_in, id_at, place_of, IsNumbered, ArePlaced, AreAtPlace};
@@ -76,7 +75,7 @@ impl NodeIndex {
     /// The nodes in a folder, by name. It reads the folder, and nothing else.
     pub(crate) fn children(&self, alloc: Global, parent: u32) -> Result<Vec<Node>, AllocError>
         ensures { (t : ObjectRecords) → t.node ≡ node_in self.now.nodes.slots
-            → NodeRules t.node → IfOk result (λ found. AreChildren t parent found.items) }
+            → IfOk result (λ found. AreChildren t parent found.items) }
     {
         let mut found = Vec::new(alloc);
         for (_, slot) in self.places.slots.range(places_in(parent)) {
@@ -91,8 +90,7 @@ impl NodeIndex {
 
     /// How many nodes are in a folder. It reads the folder, and nothing else.
     pub(crate) fn child_count(&self, parent: u32) -> u64
-        ensures { (t : ObjectRecords) → t.node ≡ node_in self.now.nodes.slots
-            → NodeRules t.node → IsChildCount t parent result }
+        ensures { (t : ObjectRecords) → t.node ≡ node_in self.now.nodes.slots → IsChildCount t parent result }
     {
         let mut count = 0u64;
         for (_, slot) in self.places.slots.range(places_in(parent)) {

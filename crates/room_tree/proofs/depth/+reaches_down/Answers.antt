@@ -24,7 +24,7 @@ loop-node-init g m c = record {
   frame = c.in_ok-nodes.ensures.frame;
   children = λ available laid_out t e room stand.
       rw c.deref-node-items.ensures.value
-      (rw (← e) (c.in_ok-nodes.ensures.value available laid_out (rw e stand.rules.nodes)));
+      (rw (← e) (c.in_ok-nodes.ensures.value available laid_out));
   none = λ available laid_out t e room stand path node at stands kind. tt;
 }
 

@@ -44,7 +44,7 @@ loop-node-init g m c = record {
   frame = c.in_ok-nodes.ensures.frame;
   children = λ available laid_out t e room stand.
       rw c.deref-node-items.ensures.value
-      (rw (← e) (c.in_ok-nodes.ensures.value available laid_out (rw e stand.rules.nodes)));
+      (rw (← e) (c.in_ok-nodes.ensures.value available laid_out));
   renews = λ available laid_out t e room stand path at deep.
       none_so_far stand path c.args.list.now c.args.out.now.items;
   adds = adds_none c.args.out.now.items c.args.out.now.items refl;

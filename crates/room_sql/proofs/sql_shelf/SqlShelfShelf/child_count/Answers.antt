@@ -8,9 +8,9 @@ use Rattle.room_sql.proofs.sql_shelf.SqlShelfShelf.child_count.Goals as goal
 
 -- the count that is remembered is that of the rows
 pub returns-in-Some-clause-value : goal.returns-in-Some-clause-value
-returns-in-Some-clause-value g c available laid_out rules =
+returns-in-Some-clause-value g c available laid_out =
     subst (IsChildCount _ c.args.parent) (sym (c.in-Some.ensures.true_of _ laid_out.1 ∙ sym (length-map _ shown_node)))
-    (count_children _ c.args.parent laid_out.0.room rules)
+    (count_children _ c.args.parent laid_out.0.room)
 
 pub returns-in_err-rows-clause-frame : goal.returns-in_err-rows-clause-frame
 returns-in_err-rows-clause-frame g c =
@@ -33,11 +33,11 @@ returns-in_err-count-clause-frame g c =
     (rw fell at c.or_fault-2.ensures.counted))
 
 pub returns-clause-value : goal.returns-clause-value
-returns-clause-value g c available laid_out rules =
+returns-clause-value g c available laid_out =
     let rows = rw c.in_ok-rows.ensures.ok at (c.count_rows-rows.ensures.rows available.0 laid_out.0.room) in
     subst (IsChildCount _ c.args.parent)
     (sym ((rw c.in_ok-count.ensures.ok at c.one_count-found.ensures.value) _ (c.as_slice.ensures.value ∙ rows)))
-    (count_children _ c.args.parent laid_out.0.room rules)
+    (count_children _ c.args.parent laid_out.0.room)
 
 pub returns-clause-frame : goal.returns-clause-frame
 returns-clause-frame g c =

@@ -8,11 +8,11 @@ use Rattle.room_sql.proofs.sql_shelf.SqlShelfShelf.names.Goals as goal
 
 -- the names that are remembered are those of the rows
 pub returns-in-Some-clause-value : goal.returns-in-Some-clause-value
-returns-in-Some-clause-value g c available laid_out rules =
+returns-in-Some-clause-value g c available laid_out =
     let it = c.in-Some.ensures.true_of _ laid_out.1 in
     subst (AreNames _ c.args.parent)
     (sym (c.in_ok-copy_names.ensures ∙ c.as_slice.ensures.value ∙ c.names.ensures ∙ it.2))
-    (are_names _ c.args.parent it.0 laid_out.0.room rules it.1)
+    (are_names _ c.args.parent it.0 laid_out.0.room it.1)
 
 pub returns-in_err-rows-clause-frame : goal.returns-in_err-rows-clause-frame
 returns-in_err-rows-clause-frame g c =
@@ -35,11 +35,11 @@ returns-in_err-names-clause-frame g c =
     (rw fell at c.or_fault-2.ensures.counted))
 
 pub returns-clause-value : goal.returns-clause-value
-returns-clause-value g c available laid_out rules =
+returns-clause-value g c available laid_out =
     let rows = rw c.in_ok-rows.ensures.ok at (c.name_rows-rows.ensures.rows available.0 laid_out.0.room) in
     let found = rw c.in_ok-names.ensures.ok at c.all_names-found.ensures.value in
     subst (AreNames _ c.args.parent) (sym (found ∙ ap (filter_map listed_of) c.as_slice-2.ensures.value))
-    (are_names _ c.args.parent _ laid_out.0.room rules rows)
+    (are_names _ c.args.parent _ laid_out.0.room rows)
 
 pub returns-clause-frame : goal.returns-clause-frame
 returns-clause-frame g c =
