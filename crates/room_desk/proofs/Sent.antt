@@ -66,7 +66,7 @@ answered_by_kept sent {found} {a} {b} {answered} read there tells (kept, again, 
   idle = λ h d start past stand idle. read.same h d;
   few = λ h d start past stand other.
       let (event, asks, says, idle) = kept_text stand sent kept (sym (tells h d) ∙ again) answered same told in
-      rw asks (idle_few start past event a.records b.records idle);
+      rw asks (idle_few start past event a.records b.records idle (read.same h d));
   crash = λ k start past stands left may. inl (read.crash left may);
   stays_laid_out = λ k start past stands. read.stays_laid_out k;
 }

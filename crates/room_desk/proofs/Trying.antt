@@ -29,12 +29,12 @@ pub there_where_ok : {a b : View} (r : Result Answer ShelfFault) → ShelfCall a
 there_where_ok (Ok answer) call there intact = call.alive intact (there intact)
 there_where_ok (Err fault) call there intact = tt
 
--- an event that changes nothing is no accepted request
+-- an event that changes nothing is no accepted request, and leaves the same rows
 pub idle_few : (start : Room) (past : History) (event : EventModel) (old new : Records)
-    → changes_rows past event ≡ false → EventChangesFew start past event old new
-idle_few start past (Open caller sid slots) old new idle = tt
-idle_few start past (Close caller sid) old new idle = tt
-idle_few start past (Slot q) old new idle = λ accepted. absurd (both_ways _ idle accepted)
+    → changes_rows past event ≡ false → new ≡ old → EventChangesFew start past event old new
+idle_few start past (Open caller sid slots) old new idle same = rw same refl
+idle_few start past (Close caller sid) old new idle same = rw same refl
+idle_few start past (Slot q) old new idle same = λ accepted. absurd (both_ways _ idle accepted)
 
 -- reads alone: the answer is the history's, to an event that changes nothing
 pub joins_by_reads : {start : Room} {past : History} {event : EventModel} {a b : View} {r : Result Answer ShelfFault}
@@ -47,7 +47,7 @@ joins_by_reads {start} {past} {event} {a} {b} {r} read stands says = record {
       (λ answer told. (told.0, rw (read.same h d) (stand_after_idle start a.records past event told.1 stand)));
   idle = λ h idle. read.same h (stands (read.call.was_available h)).0;
   few = λ h. let (d, stand) = stands (read.call.was_available h) in if_ok_then r (says h d stand)
-      (λ answer told. idle_few start past event a.records b.records told.1);
+      (λ answer told. idle_few start past event a.records b.records told.1 (read.same h d));
   crash = λ k left may. inl (read.crash left may);
   stays_laid_out = read.stays_laid_out;
 }
@@ -59,7 +59,7 @@ pub joins_at_once : {start : Room} {past : History} {event : EventModel} {a : Vi
 joins_at_once {start} {past} {event} {a} stand says idle = record {
   step = λ h. (says, stand_after_idle start a.records past event idle stand);
   idle = λ h idle. refl;
-  few = λ h. idle_few start past event a.records a.records idle;
+  few = λ h. idle_few start past event a.records a.records idle refl;
   crash = λ k left may. inl may;
   stays_laid_out = λ k l. l;
 }

@@ -70,10 +70,10 @@ pub record ChangesFew (r : Records) (room : Room) (q : Request) (new : Records) 
   pub numbers : KeepsNumbers r.objects (apply_all_to_objects changes r.objects) room q.caller q.command
   pub leaves : new ≡ apply_changes (changes ++ PutSlot (ran_row room q) ∷ []) r
 
--- an event changes so few rows, where it is an accepted request; an OPEN and a CLOSE change rows of sessions and slots
+-- an event changes so few rows, where it is an accepted request; an OPEN and a CLOSE change no row of an object
 abbrev pub EventChangesFew : Room → History → EventModel → (old new : Records) → Type 0
-EventChangesFew start past (Open caller sid slots) old new = Unit {0}
-EventChangesFew start past (Close caller sid) old new = Unit {0}
+EventChangesFew start past (Open caller sid slots) old new = new.objects ≡ old.objects
+EventChangesFew start past (Close caller sid) old new = new.objects ≡ old.objects
 EventChangesFew start past (Slot q) old new = is_accepted past q ≡ true → ChangesFew old (state_after start past) q new
 
 -- a command was run: its reply, and the records after its changes and its slot row

@@ -65,11 +65,11 @@ AskChangesFew start past (Ok (Event event)) old new = EventChangesFew start past
 AskChangesFew start past (Err fault) old new = Unit {0}
 
 -- what a shelf is after an answer: the rows stand for the history before it, or for one event more. While the store is
--- available, they are the same rows after a refusal, and where what was asked changes nothing; an accepted
--- request changes few. Save where the answer is
--- DELAY, the count of failures is the same, and an intact store is available where an event was asked. A crash leaves
--- what it could leave before, or, of an event that changes what is kept and found the store there, the rows that stand
--- for the history with it; and that stays laid out
+-- available, they are the same rows after a refusal, and where what was asked changes nothing; an accepted request
+-- changes few, and an OPEN and a CLOSE none of an object. Save where the answer is DELAY, the count of failures is the
+-- same, and an intact store is available where an event was asked. A crash leaves what it could leave before, or, of an
+-- event that changes what is kept and found the store there, the rows that stand for the history with it; and that
+-- stays laid out
 pub record Answered (ask : Result AskModel WireFault) (before : View)
     (answered : AnswerModel) (after : View) : Type 0 where
   pub frame : DeskCall before after

@@ -11,9 +11,9 @@ use Rattle.room_desk.specs.Representation.{RepresentsHistory, StandsFor, StandsW
 use Rattle.room_desk.specs.RowAnswers.{EventChangesFew}
 
 -- the call over rows that stood for this history: an answer is the history's, and the event joins it. The rows are the
--- same where the event changes nothing, and an accepted request changes few. A crash leaves what it could leave before,
--- or, of an event that changes what is kept and found the store there, the rows that stand for the history with it; and
--- it stays laid out
+-- same where the event changes nothing, an accepted request changes few, and an OPEN and a CLOSE none of an object. A
+-- crash leaves what it could leave before, or, of an event that changes what is kept and found the store there, the
+-- rows that stand for the history with it; and it stays laid out
 pub record JoinsHistory (start : Room) (past : History) (event : EventModel)
     (old new : View) (result : Result Answer ShelfFault) : Type 0 where
   pub step : new.is_available → IfOk result (λ answer. (answer_model answer ≡ answer_to start past event)

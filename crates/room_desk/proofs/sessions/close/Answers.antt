@@ -1,4 +1,4 @@
-use Rattle.std.proofs.Common.{◌≡◌, ◌∙◌, sym, inl, inr, Some}
+use Rattle.std.proofs.Common.{◌≡◌, ◌∙◌, refl, sym, inl, inr, Some}
 use Rattle.std.proofs.lemmas.Bool.{both_ways, cases_Bool}
 use Rattle.room_records.specs.Shelf.{ShelfRead, fault_in}
 use Rattle.room_wire.specs.Asks.EventModel.{Close}
@@ -42,7 +42,7 @@ returns g c =
     let all = all_rules stand caller some mine in
     elim (cases_Bool c.in-Some.row.is_open) [
       | inl is_open ↦ joins_by_commit read (changes ∙ is_open)
-          (λ left is. rw is (close_stands stand caller some mine)) (λ left is. tt)
+          (λ left is. rw is (close_stands stand caller some mine)) (λ left is. rw is refl)
           (λ h. if_ok_both c.close_owned.result done.reply (done.ok is_open h laid_out puts all)
           (λ answer says after. (says ∙ answered, after)))
           (λ k left may. leaves_either (done.crash laid_out puts all left may) (λ old. old) (λ made. made.1))

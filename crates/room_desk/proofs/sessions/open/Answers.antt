@@ -1,4 +1,4 @@
-use Rattle.std.proofs.Common.{◌≡◌, ◌∙◌, sym, None}
+use Rattle.std.proofs.Common.{◌≡◌, ◌∙◌, refl, sym, None}
 use Rattle.room_desk.proofs.Opening.{open_answer, open_rules, open_stands}
 use Rattle.room_desk.proofs.Results.{if_ok_then, if_ok_both}
 use Rattle.room_desk.proofs.Trying.{tried_after_read, joins_by_commit}
@@ -16,7 +16,7 @@ returns-in-None g c =
     let rules = open_rules stand c.args.subject.now c.args.slots none in
     let laid_out = first.call.laid_out read d in
     let opens = open_stands stand c.args.subject.now c.args.slots none in
-    joins_by_commit read opens.0 (λ left is. rw is opens.1) (λ left is. tt)
+    joins_by_commit read opens.0 (λ left is. rw is opens.1) (λ left is. rw is refl)
     (λ h. if_ok_both c.open_first.result made.reply (made.ok h laid_out rules)
     (λ answer reply after. (reply ∙ sym (open_answer stand c.args.subject.now c.args.slots none), after)))
     (λ k. made.crash laid_out rules) (λ k. made.frame.left_laid_out k read laid_out))
