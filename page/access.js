@@ -31,6 +31,7 @@ class ListView {
     Object.assign(this, { app, place, standing, list, roster });
     this.aclflag = list.aclflag;
     this.own = ownOf(list);
+    this.copied = []; // of what was handed down
     this.opened = null;
     this.element = make("div", { className: "typed" });
     this.element.isUnsaved = () => this.text !== this.start;
@@ -66,13 +67,15 @@ class ListView {
     const its = follows(this.aclflag);
     return make("div", {},
       checkbox("It takes over what the folder above hands down", its, (it) => this.take(it)),
-      make("p", { className: "about" }, its ? WITHOUT : this.taken ? TAKEN : ALONE));
+      make("p", { className: "about" }, its ? WITHOUT : this.copied.length ? TAKEN : ALONE));
   }
 
-  /** Without the folder's entries, copies of them become its own: what counted goes on counting until it is changed. */
+  /** Without the folder's entries, copies of them become its own: what counted goes on counting until it is changed.
+   * With them again, the copies go that were not changed. */
   take(isWanted) {
-    this.taken = isWanted ? 0 : this.inherited.length;
-    if (!isWanted) this.own.push(...this.inherited.map(asOwn));
+    this.own = this.own.filter((it) => !this.copied.includes(it));
+    this.copied = isWanted ? [] : this.inherited.map(asOwn);
+    this.own.push(...this.copied);
     this.aclflag = withFollows(this.aclflag, isWanted);
     this.draw();
   }
@@ -149,7 +152,8 @@ class ListView {
 const WITHOUT = "Without the tick, what is handed down now stays, as entries of its own: remove what shall not count " +
   "any more. What the folder above hands down later does not come.";
 const TAKEN = "What was handed down stands among its own entries now: remove there what shall not count any more.";
-const ALONE = "What the folder above hands down does not count here.";
+const ALONE = "What the folder above hands down does not count here. With the tick it stands behind its own entries, " +
+  "which stay.";
 
 function needWhom() {
   throw new Error("An entry is for nobody yet. Choose for whom it counts, or remove it.");
