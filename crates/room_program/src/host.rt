@@ -1,5 +1,5 @@
 //! The machine that the program runs on.
-ghost use Rattle.std.specs.Prelude.{◌≡◌, [], ◌∷◌};
+ghost use Rattle.std.specs.Prelude.{◌≡◌, [], ◌∷◌, false};
 ghost use Rattle.std.specs.Net.Addr.{ipv4_octets};
 ghost use Rattle.std.specs.Net.Socket.{v4_ip, v4_port};
 ghost use Rattle.sqlite.specs.WalFiles.{image_at};
@@ -44,8 +44,9 @@ pub struct HostOver<'a, S: Start, D: Disk> {
 
 impl<'a, S: Start, D: Disk> HostOver<'a, S, D> {
     /// The system of this runtime. It opens one store, whose files hold what `start` stands for, and listens for
-    /// nothing yet.
+    /// nothing yet. The store supposes nothing of a write that a crash cuts.
     pub fn new(rt: &'a HostRuntime, start: S) -> HostOver<'a, S, D>
+        requires { S.Start.is_mixing ≡ false }
         ensures { result.left ≡ Left.Nothing }
     {
         HostOver {
