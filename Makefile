@@ -101,7 +101,7 @@ front: build
 standby: build
 	tests/standby/run
 
-# A million requests to one served room: its memory stays, and so does the time of a request. Not part of `make test`.
+# A million requests to one served room: its memory stays, and so does the time of a request. `make test` sends 40,000.
 soak: build
 	tests/soak/run
 
