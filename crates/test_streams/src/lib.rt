@@ -1,13 +1,7 @@
-//! What no text of messages and answers can say: how often a reader is asked, readers that fail in mid-stream,
-//! connections that wait, runs of the program, and the calls behind an answer.
+//! What only the program can show: its runs over streams and over a machine in memory, connections that wait, and a
+//! room in files that is asked again.
 #![tactic(auto)]
 
-#[cfg(test)]
-mod answers;
-#[cfg(test)]
-mod calls;
-#[cfg(test)]
-mod failures;
 #[cfg(test)]
 mod instance;
 #[cfg(test)]

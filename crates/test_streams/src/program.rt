@@ -1,10 +1,9 @@
 //! Runs of the program over streams in memory.
-use crate::answers::{ANSWER, BAD_HTTP, QUESTION};
 use crate::words::words_of;
 use room_program::{Host, Wary, run_program};
 use std::io::{Read, Write};
 use std::test::Fail;
-use test_support::{BoundedWriter, Full, Pieces, must};
+use test_support::{ANSWER, BAD_HTTP, BoundedWriter, Full, Pieces, QUESTION, must};
 
 /// The status with which the program ends on these words.
 fn ended<R: Read, W: Write, E: Write>(

@@ -1,27 +1,30 @@
 //! The public calls behind an answer.
-use crate::answers::QUESTION;
+use crate::checks::same;
 use room_wire::{
-    CheckRoute, Take, check_answer, command_text, decode_check, read_command, rest_of_stream,
-    take_message,
+    CheckRoute, Message, Take, check_answer, command_text, decode_check, read_command,
+    rest_of_stream, take_message,
 };
 use std::alloc::Global;
 use std::test::Fail;
+use test_support::QUESTION;
+
+/// The answer to the question of a message.
+fn answer_to(alloc: Global, message: &Message<'_>) -> Result<Vec<u8>, Fail> {
+    let route = CheckRoute::new(alloc)?;
+    let question = decode_check(alloc, message, &route)?;
+    Ok(check_answer(alloc, &question)?)
+}
 
 /// One question by the calls that serving makes.
 #[test]
 fn one_question_by_its_calls(rt: HostRuntime) -> Result<(), Fail> {
-    let alloc = rt.alloc();
-    let route = CheckRoute::new(alloc)?;
     let Take::Whole(message) = take_message(QUESTION.as_bytes()) else {
         return Err(Fail::new("no message"));
     };
-    assert_eq!(rt; message.size, QUESTION.len());
-    let question = decode_check(alloc, &message, &route)?;
-    let text = check_answer(alloc, &question)?;
-    assert_eq!(rt;
-        text.as_slice(),
-        br#"{"allowed":0,"bit":1,"code":0}"#.as_slice()
-    );
+    same(&rt, message.size, QUESTION.len(), "the message's size");
+    let text = answer_to(rt.alloc(), &message)?;
+    let due = br#"{"allowed":0,"bit":1,"code":0}"#.as_slice();
+    same(&rt, text.as_slice(), due, "the answer");
     Ok(())
 }
 
@@ -31,14 +34,12 @@ const LAST: &str =
 
 #[test]
 fn what_stands_behind_the_last_message(rt: HostRuntime) {
-    assert_eq!(rt;
-        rest_of_stream(LAST.as_bytes()),
-        b"not looked at".as_slice()
-    );
+    let rest = rest_of_stream(LAST.as_bytes());
+    same(&rt, rest, b"not looked at".as_slice(), "the rest");
 }
 
 /// Texts of commands as they are kept.
-const KEPT: [&str; 13] = [
+static KEPT: [&str; 13] = [
     r#"{"cmd":"STAT","path":"/"}"#,
     r#"{"cmd":"LIST","path":"/a"}"#,
     r#"{"cmd":"MKDIR","path":"/a/b c"}"#,
@@ -71,7 +72,7 @@ fn is_kept_as(alloc: Global, body: &[u8], wanted: &str, wants_reply: bool) -> Re
 /// A text as it is kept, and one with blanks, escapes and another order, which is kept without them.
 #[test]
 fn commands_are_kept_as_text(rt: HostRuntime) -> Result<(), Fail> {
-    for text in KEPT {
+    for text in &KEPT {
         is_kept_as(rt.alloc(), text.as_bytes(), text, true)?;
     }
     let body = b" {\"path\" : \"/\\u0061\",\n\t\"data\":\"aGk=\", \"cmd\":\"WRITE\" }\r\n";
@@ -83,20 +84,23 @@ fn commands_are_kept_as_text(rt: HostRuntime) -> Result<(), Fail> {
     )
 }
 
+/// Bodies that ask the same, and whether its reply is to be kept.
+static BODIES: [(&str, bool); 4] = [
+    (r#"{"cmd":"STAT","keep":false,"path":"/"}"#, false),
+    (r#"{"cmd":"STAT","keep":true,"path":"/"}"#, true),
+    (r#"{"keep":false,"path":"/","cmd":"STAT"}"#, false),
+    (r#"{"path":"/","cmd":"STAT","keep":true}"#, true),
+];
+
 /// `keep` is no part of the text, wherever it stands.
 #[test]
 fn keep_is_no_part_of_the_text(rt: HostRuntime) -> Result<(), Fail> {
-    for (body, wants_reply) in [
-        (r#"{"cmd":"STAT","keep":false,"path":"/"}"#, false),
-        (r#"{"cmd":"STAT","keep":true,"path":"/"}"#, true),
-        (r#"{"keep":false,"path":"/","cmd":"STAT"}"#, false),
-        (r#"{"path":"/","cmd":"STAT","keep":true}"#, true),
-    ] {
+    for (body, wants_reply) in &BODIES {
         is_kept_as(
             rt.alloc(),
             body.as_bytes(),
             r#"{"cmd":"STAT","path":"/"}"#,
-            wants_reply,
+            *wants_reply,
         )?;
     }
     Ok(())

@@ -1,22 +1,10 @@
-//! What is sent, what serves it, and what must be answered.
+//! What serves a stream, and what must be answered.
 use room_desk::Desk;
 use room_wire::{ServeEnd, Why, serve_checks};
 use std::alloc::Global;
 use std::io::Read;
 use std::test::Fail;
 use test_support::{in_memory, roster};
-
-/// The worked question, to the byte.
-pub const QUESTION: &str = "POST /v1/check HTTP/1.1\r\ncontent-length: 70\r\n\r\n\
-{\"entries\":[],\"group\":\"g\",\"groups\":[],\"mask\":1,\"owner\":\"o\",\"user\":\"u\"}";
-
-/// The answer to it, to the byte.
-pub const ANSWER: &str = "HTTP/1.1 200 OK\r\ncontent-type: application/json\r\n\
-content-length: 30\r\n\r\n{\"allowed\":0,\"bit\":1,\"code\":0}";
-
-/// The answer where no message can come.
-pub const BAD_HTTP: &str = "HTTP/1.1 400 Bad Request\r\ncontent-type: application/json\r\n\
-content-length: 30\r\nconnection: close\r\n\r\n{\"code\":40,\"error\":\"BAD_HTTP\"}";
 
 /// What serves a stream. Both answer questions alike.
 #[derive(Clone, Copy, Debug)]
@@ -26,7 +14,7 @@ pub enum Server {
     Room,
 }
 
-pub const SERVERS: [Server; 2] = [Server::Questions, Server::Room];
+pub static SERVERS: [Server; 2] = [Server::Questions, Server::Room];
 
 /// What is written of a stream, and how it ends.
 fn served<R: Read>(
