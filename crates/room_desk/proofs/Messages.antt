@@ -22,7 +22,8 @@ use Rattle.room_wire.specs.Serving.Outputs.{Outputs}
 use Rattle.room_desk.specs.AnswerModel.{AnswerModel, Refused}
 use Rattle.room_desk.specs.History.{History}
 use Rattle.room_desk.specs.Representation.{StandsFor}
-use Rattle.room_desk.specs.Serving.{AnswersOrDelays, AnswersMessage, DeskCall, Answered, AskChangesFew, MayAnswer}
+use Rattle.room_desk.specs.Serving.{AnswersOrDelays, AnswersMessage, DeskCall, Answered, AskChangesFew, IsLeftAlone}
+use Rattle.room_desk.specs.Serving.{MayAnswer}
 use Rattle.room_desk.proofs.Calls.{no_call, calls_then}
 
 -- what is answered otherwise than by DELAY and asks no event changes nothing
@@ -32,6 +33,17 @@ few_unasked : (start : Room) (past : History) (ask : Result AskModel WireFault) 
 few_unasked start past (Ok (Check question)) r answered delays other = tt
 few_unasked start past (Ok (Event event)) r answered delays other = absurd (other (delays event refl))
 few_unasked start past (Err fault) r answered delays other = tt
+
+left_alone : (s : View) → IsLeftAlone s s
+left_alone s = record {
+  records = refl;
+  failures = refl;
+  intact = λ h. h;
+  available = λ h. h;
+  laid_out = λ d. d;
+  crash = λ left may. may;
+  leaves_laid_out = λ l. l;
+}
 
 -- an answer that leaves the shelf as it was
 pub stays : (ask : Result AskModel WireFault) (s : View) (answered : AnswerModel)
@@ -47,6 +59,7 @@ stays ask s answered delays says = record {
   few = λ h d start past stands other. few_unasked start past ask s.records answered delays other;
   crash = λ k start past stands left may. inl may;
   stays_laid_out = λ k start past stands l. l;
+  alone = λ none. left_alone s;
 }
 
 pub question_stays : (q : QuestionModel) (s : View) (answered : AnswerModel)

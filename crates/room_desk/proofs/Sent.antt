@@ -1,22 +1,27 @@
 -- Reads before a request is answered, and what is answered by them alone.
-use Rattle.std.proofs.Common.{◌≡◌, ◌∙◌, sym, refl, ◌∷◌, Option, None, Some, Result, IfOk, inl, inr}
+use Rattle.std.proofs.Common.{◌≡◌, ◌≢◌, ◌∙◌, Bool, false, sym, subst, refl, ◌∷◌, Option, None, Some}
+use Rattle.std.proofs.Common.{Result, Err, IfOk, inl, inr}
 use Rattle.room_records.specs.declared.shelf.ShelfFault.{ShelfFault}
 use Rattle.room_records.specs.declared.shelf.ShelfFault.TheVariants.{Store}
 use Rattle.room_records.specs.Room.{Room}
 use Rattle.room_records.specs.Shelf.{View, ShelfCall, ShelfRead, fault_in}
 use Rattle.room_records.proofs.Shelves.{none_not_store}
+use Rattle.room_commands.specs.CommandModel.{CommandModel}
 use Rattle.room_wire.specs.declared.answers.answer.Answer.{Answer}
-use Rattle.room_wire.specs.declared.answers.code.Code.TheVariants.{Delay}
+use Rattle.room_wire.specs.declared.answers.code.Code.TheVariants.{BadRequest, Delay}
 use Rattle.room_wire.specs.declared.asks.routed.SentRequest.{SentRequest}
 use Rattle.room_wire.specs.declared.fault.WireFault.{WireFault}
-use Rattle.room_wire.specs.Asks.AskOf.{AskModel, event_asked, sent_event}
-use Rattle.room_wire.specs.Asks.EventModel.{Request, Slot}
+use Rattle.room_wire.specs.declared.fault.WireFault.TheVariants as W
+use Rattle.room_wire.specs.Asks.AskOf.{event_asked, request_by, sent_event}
+use Rattle.room_wire.specs.Asks.EventModel.{EventModel, Request, Slot}
+use Rattle.room_wire.specs.Forms.Commands.{ReadsCommand, command_of_body}
+use Rattle.room_wire.specs.Serving.CheckService.{fault_code}
 use Rattle.room_desk.specs.declared.requests.Found.{Found}
 use Rattle.room_desk.specs.AnswerModel.{AnswerModel, Refused, answer_model, IsTurnedAway}
 use Rattle.room_desk.specs.History.{History}
 use Rattle.room_desk.specs.Representation.{RepresentsHistory, StandsFor}
 use Rattle.room_desk.specs.RowAnswers.{AnswersText, found_by, found_for}
-use Rattle.room_desk.specs.Serving.{Answered}
+use Rattle.room_desk.specs.Serving.{Answered, may_ask_shelf}
 use Rattle.room_desk.specs.Trying.{EventTried, JoinsHistory}
 use Rattle.room_desk.proofs.Alike.{stand_after_idle}
 use Rattle.room_desk.proofs.Bodies.{kept_text}
@@ -30,20 +35,55 @@ stand_after_read read start past stands = λ h.
     let stood = stands (read.call.was_available h) in
     (read.call.laid_out h stood.0, rw (read.same h stood.0) stood.1)
 
--- a read that failed is answered DELAY
-pub delayed_by_read : (ask : Result AskModel WireFault) (a b : View) (fault : ShelfFault)
-    → ShelfRead a b (Some fault) → Answered ask a (Refused Delay) b
-delayed_by_read ask a b fault read = record {
-  frame = one_call a b (Some fault) read.call;
+-- an event, or what should have been one, may ask for rows
+pub event_may_ask : (event : Option EventModel) → may_ask_shelf (event_asked event) ≢ false
+event_may_ask None none = absurd (cc)
+event_may_ask (Some event) none = absurd (cc)
+
+-- what is answered DELAY after a read
+pub delayed_by_read : (event : Option EventModel) (a b : View) (fault : Option ShelfFault)
+    → ShelfRead a b fault → Answered (event_asked event) a (Refused Delay) b
+delayed_by_read event a b fault read = record {
+  frame = one_call a b fault read.call;
   quiet = λ other. absurd (other refl);
-  alive = λ k event is other. absurd (other refl);
+  alive = λ k asked is other. absurd (other refl);
   step = λ k start past stands. (past, inr (refl, refl), stand_after_read read start past stands);
   refused = λ h d away. read.same h d;
   idle = λ h d start past stand idle. read.same h d;
   few = λ h d start past stand other. absurd (other refl);
   crash = λ k start past stands left may. inl (read.crash left may);
   stays_laid_out = λ k start past stands. read.stays_laid_out k;
+  alone = λ none. absurd (event_may_ask event none);
 }
+
+-- a body that asks no command is refused, after a read
+refused_by_body : {a b : View} → ShelfRead a b None → (b.is_intact → b.is_available)
+    → Answered (Err W.BadRequest) a (Refused BadRequest) b
+refused_by_body {a} {b} read there = record {
+  frame = one_call a b None read.call;
+  quiet = λ other. read.call.quiet (none_not_store Store);
+  alive = λ k event is other. there k;
+  step = λ k start past stands. (past, inl (refl, refl), stand_after_read read start past stands);
+  refused = λ h d away. read.same h d;
+  idle = λ h d start past stand idle. read.same h d;
+  few = λ h d start past stand other. tt;
+  crash = λ k start past stands left may. inl (read.crash left may);
+  stays_laid_out = λ k start past stands. read.stays_laid_out k;
+  alone = λ none. absurd (cc);
+}
+
+-- a body that is not read is refused, after a read of its slot
+pub refused_after_read : (sent : SentRequest) (fault : WireFault) {a b : View}
+    → ReadsCommand (command_of_body sent.body.now) (Err fault) → ShelfRead a b None → (b.is_intact → b.is_available)
+    → Answered (event_asked (sent_event sent)) a (Refused (fault_code fault)) b
+refused_after_read sent W.BadRequest {a} {b} none read there =
+    let event : Option (CommandModel × Bool) → Option EventModel =
+    request_by sent.subject (Some sent.sid) (Some sent.slot) (Some sent.seq) in
+    subst (λ wanted. Answered (event_asked (event wanted)) a (Refused BadRequest) b) (sym none)
+    (refused_by_body read there)
+refused_after_read sent W.Memory {a} {b} none read there = delayed_by_read (sent_event sent) a b None read
+refused_after_read sent W.BadRoute none read there = absurd none
+refused_after_read sent W.UnknownUser none read there = absurd none
 
 -- what is answered by the kept text, after a read of it
 pub answered_by_kept : (sent : SentRequest) {found : Found} {a b : View} {answered : AnswerModel}
@@ -69,6 +109,7 @@ answered_by_kept sent {found} {a} {b} {answered} read there tells (kept, again, 
       rw asks (idle_few start past event a.records b.records idle (read.same h d));
   crash = λ k start past stands left may. inl (read.crash left may);
   stays_laid_out = λ k start past stands. read.stays_laid_out k;
+  alone = λ none. absurd (event_may_ask (sent_event sent) none);
 }
 
 -- a request that is answered by what a look-up found

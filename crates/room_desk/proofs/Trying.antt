@@ -132,6 +132,7 @@ module _ {event : EventModel} {a b : View} where
     few = λ h d start past stand other. (tried.joins start past (λ _. (d, stand))).few h;
     crash = λ k start past stands. (tried.joins start past stands).crash k;
     stays_laid_out = λ k start past stands. (tried.joins start past stands).stays_laid_out k;
+    alone = λ asks. absurd (cc);
   }
 
   pub answered_err : {fault : ShelfFault} → EventTried event a b (Err fault)
@@ -152,4 +153,5 @@ module _ {event : EventModel} {a b : View} where
     few = λ h d start past stand other. absurd (other refl);
     crash = λ k start past stands. (tried.joins start past stands).crash k;
     stays_laid_out = λ k start past stands. (tried.joins start past stands).stays_laid_out k;
+    alone = λ asks. absurd (cc);
   }

@@ -1,12 +1,13 @@
 -- What is answered over a room to an event or a message and to runs of messages, and what calls of a desk leave (our
 -- own rules).
-use Rattle.std.specs.Prelude.{◌≡◌, ◌≢◌, ℕ, ◌≤◌, ◌⊎◌, Bool, false, List, ◌∷◌, Result, Ok, Err}
+use Rattle.std.specs.Prelude.{◌≡◌, ◌≢◌, ℕ, ◌≤◌, ◌⊎◌, Bool, true, false, List, ◌∷◌, Result, Ok, Err}
 use Rattle.room_acl.specs.SubjectModel.{SubjectModel}
 use Rattle.room_records.specs.Records.{Records}
 use Rattle.room_records.specs.Room.{Room}
 use Rattle.room_records.specs.Shelf.{View, LeavesOldOrNew}
 use Rattle.room_wire.specs.declared.answers.code.Code.TheVariants.{Delay}
 use Rattle.room_wire.specs.declared.fault.WireFault.{WireFault}
+use Rattle.room_wire.specs.declared.fault.WireFault.TheVariants.{BadRoute, UnknownUser, BadRequest, Memory}
 use Rattle.room_wire.specs.Asks.EventModel.{EventModel}
 use Rattle.room_wire.specs.Asks.AskOf.{AskModel, Check, Event, ask_of}
 use Rattle.room_wire.specs.Questions.CheckAnswers.{answer_text}
@@ -64,12 +65,32 @@ AskChangesFew start past (Ok (Check question)) old new = Unit {0}
 AskChangesFew start past (Ok (Event event)) old new = EventChangesFew start past event old new
 AskChangesFew start past (Err fault) old new = Unit {0}
 
+-- what is asked may ask for rows: an event does, and so may a request of a user that is refused for what it asks. A
+-- question does not, nor a message that is refused for its route or its user
+abbrev pub may_ask_shelf : Result AskModel WireFault → Bool
+may_ask_shelf (Ok (Check question)) = false
+may_ask_shelf (Ok (Event event)) = true
+may_ask_shelf (Err BadRoute) = false
+may_ask_shelf (Err UnknownUser) = false
+may_ask_shelf (Err BadRequest) = true
+may_ask_shelf (Err Memory) = true
+
+-- all that contracts see of the shelf is as it was
+pub record IsLeftAlone (old new : View) : Type 0 where
+  pub records : new.records ≡ old.records
+  pub failures : new.failures ≡ old.failures
+  pub intact : old.is_intact → new.is_intact
+  pub available : old.is_available → new.is_available
+  pub laid_out : old.is_laid_out → new.is_laid_out
+  pub crash : (left : Records) → new.crash_may_leave left → old.crash_may_leave left
+  pub leaves_laid_out : old.leaves_laid_out → new.leaves_laid_out
+
 -- what a shelf is after an answer: the rows stand for the history before it, or for one event more. While the store is
 -- available, they are the same rows after a refusal, and where what was asked changes nothing; an accepted request
 -- changes few, and an OPEN and a CLOSE none of an object. Save where the answer is DELAY, the count of failures is the
 -- same, and an intact store is available where an event was asked. A crash leaves what it could leave before, or, of an
 -- event that changes what is kept and found the store there, the rows that stand for the history with it; and that
--- stays laid out
+-- stays laid out. Where no rows may be asked for, the shelf is as it was
 pub record Answered (ask : Result AskModel WireFault) (before : View)
     (answered : AnswerModel) (after : View) : Type 0 where
   pub frame : DeskCall before after
@@ -89,6 +110,7 @@ pub record Answered (ask : Result AskModel WireFault) (before : View)
       LeavesOldOrNew before after (λ left. before.is_available × StandsWithAsked start past ask left)
   pub stays_laid_out : after.is_intact → (start : Room) (past : History) → StandsFor start past before →
       before.leaves_laid_out → after.leaves_laid_out
+  pub alone : may_ask_shelf ask ≡ false → IsLeftAlone before after
 
 -- what a shelf is after an event was answered
 abbrev pub EventAnswered : {S : Type 0} (view : S → View) → S → EventModel → AnswerModel → S → Type 0
