@@ -39,9 +39,12 @@ fn decision<S: Shelf>(alloc: Global, shelf: &mut S) -> Result<Result<Decision, S
     Ok(shelf.decide_at(1, &subject(alloc, "bob")?, &standing, wanted))
 }
 
+/// A place, steps, and what is decided.
+type Row = (usize, u64, Result<Decision, ShelfFault>);
+
 /// What is decided of bob's right to write, where the entry at a place gives it and each query may take so many
 /// steps: a row that is fetched takes two, and three come on top. Else the store fails.
-static STEPS: [(usize, u64, Result<Decision, ShelfFault>); 7] = [
+static STEPS: [Row; 7] = [
     (0, 3, Ok(Decision::Allowed)),
     (1, 4, Err(ShelfFault::Store)),
     (1, 5, Ok(Decision::Allowed)),
@@ -75,13 +78,21 @@ fn decided_in<S: Alter + Drop>(
     decision(alloc, &mut shelf)
 }
 
+/// In a fresh room, it is decided so.
+fn is_decided(alloc: Global, row: &Row) -> Result<(), Fail> {
+    let (place, steps, wanted) = *row;
+    let got = decided_in(alloc, in_tables(alloc)?, place, steps)?;
+    if got != wanted {
+        return Err(Fail::new(format_args!("at {place} within {steps} steps: {got:?}")));
+    }
+    Ok(())
+}
+
 /// A body that fetches a row more than it needs is interrupted, and so is one that fetches all of them.
 #[test]
 fn rows_behind_the_deciding_one_are_not_fetched(rt: HostRuntime) -> Result<(), Fail> {
-    for (place, steps, wanted) in &STEPS {
-        let shelf = in_tables(rt.alloc())?;
-        let got = decided_in(rt.alloc(), shelf, *place, *steps)?;
-        assert!(rt; got == *wanted, "at {place} within {steps} steps: {got:?}");
+    for row in &STEPS {
+        is_decided(rt.alloc(), row)?;
     }
     Ok(())
 }

@@ -3,12 +3,10 @@ use crate::stores::{in_tables, made, taken};
 use crate::tables::databases::{Opening, database, is_refused, number};
 use room_records::{Change, Node, Shelf};
 use room_sql::{OpenFault, SqlShelf};
-use sqlite::{Connection, MemStore};
+use sqlite::{Alter, Connection};
 use std::alloc::Global;
 use std::test::Fail;
 use test_support::{commit, must};
-
-type Room = SqlShelf<MemStore>;
 
 /// What a room shows of its root, which is there or not: how many entries and children it has, and the next number.
 #[derive(Clone, Copy, Debug, PartialEq, Eq)]
@@ -33,7 +31,7 @@ fn is_root(node: Option<&Node>) -> bool {
     }
 }
 
-fn root_is_there(shelf: &mut Room) -> Result<bool, Fail> {
+fn root_is_there<P: Shelf>(shelf: &mut P) -> Result<bool, Fail> {
     let root = shelf.node(1)?;
     Ok(is_root(root.as_ref()))
 }
@@ -46,7 +44,7 @@ fn children<P: Shelf>(shelf: &mut P) -> Result<usize, Fail> {
     Ok(listed)
 }
 
-fn seen(shelf: &mut Room) -> Result<Shown, Fail> {
+fn seen<P: Shelf>(shelf: &mut P) -> Result<Shown, Fail> {
     let is_there = root_is_there(shelf)?;
     let entries = shelf.entries(1)?.len();
     let children = children(shelf)?;
@@ -58,7 +56,7 @@ fn seen(shelf: &mut Room) -> Result<Shown, Fail> {
     })
 }
 
-fn shows(shelf: &mut Room, wanted: Shown, what: &str) -> Result<(), Fail> {
+fn shows<P: Shelf>(shelf: &mut P, wanted: Shown, what: &str) -> Result<(), Fail> {
     let found = seen(shelf)?;
     if found == wanted {
         return Ok(());
@@ -66,29 +64,46 @@ fn shows(shelf: &mut Room, wanted: Shown, what: &str) -> Result<(), Fail> {
     Err(Fail::new(format_args!("{what}: {found:?}")))
 }
 
-/// A statement of another program makes the room one of another version.
-fn with_version_3(conn: Connection<MemStore>) -> Result<Connection<MemStore>, Fail> {
+// (Over any store, as little as can be over tables in memory: each call there makes a proof longer.)
+
+/// The room that is made in a database that is none.
+fn made_once<S: Alter + Drop>(alloc: Global, conn: Connection<S>) -> Result<SqlShelf<S>, Fail> {
+    let conn = is_refused(alloc, conn, Opening::Adopt, OpenFault::NotARoom)?;
+    made(alloc, conn)
+}
+
+/// The room in a database, in which no second one is made.
+fn taken_again<S: Alter + Drop>(alloc: Global, conn: Connection<S>) -> Result<SqlShelf<S>, Fail> {
+    let conn = is_refused(alloc, conn, Opening::Init, OpenFault::RoomExists)?;
+    taken(alloc, conn)
+}
+
+/// A statement of another program makes the room one of another version, which is none.
+fn is_of_no_use<S: Alter + Drop>(alloc: Global, conn: Connection<S>) -> Result<(), Fail> {
     let mut conn = conn;
     conn.execute("UPDATE room SET version = 3", &[])?;
-    Ok(conn)
+    let _ = is_refused(alloc, conn, Opening::Adopt, OpenFault::NotARoom)?;
+    Ok(())
+}
+
+/// A fresh room shows itself, and its next number is set.
+fn set_next<P: Shelf>(alloc: Global, shelf: &mut P) -> Result<(), Fail> {
+    shows(shelf, FRESH, "made")?;
+    commit(shelf, vec![in alloc; Change::PutNext(7)]?)
+}
+
+fn is_made_and_taken<S: Alter + Drop>(alloc: Global, conn: Connection<S>) -> Result<(), Fail> {
+    let mut shelf = made_once(alloc, conn)?;
+    set_next(alloc, &mut shelf)?;
+    let mut shelf = taken_again(alloc, shelf.into_connection())?;
+    shows(&mut shelf, Shown { next: 7, ..FRESH }, "taken")?;
+    is_of_no_use(alloc, shelf.into_connection())
 }
 
 /// An empty database is no room, and a room can be made in it, but no second one.
 #[test]
 fn a_fresh_room(rt: HostRuntime) -> Result<(), Fail> {
-    let alloc = rt.alloc();
-    let conn = database(alloc, "")?;
-    let conn = is_refused(alloc, conn, Opening::Adopt, OpenFault::NotARoom)?;
-    let mut shelf = made(alloc, conn)?;
-    shows(&mut shelf, FRESH, "made")?;
-    commit(&mut shelf, vec![in alloc; Change::PutNext(7)]?)?;
-    let conn = shelf.into_connection();
-    let conn = is_refused(alloc, conn, Opening::Init, OpenFault::RoomExists)?;
-    let mut shelf = taken(alloc, conn)?;
-    shows(&mut shelf, Shown { next: 7, ..FRESH }, "taken")?;
-    let conn = with_version_3(shelf.into_connection())?;
-    let _ = is_refused(alloc, conn, Opening::Adopt, OpenFault::NotARoom)?;
-    Ok(())
+    is_made_and_taken(rt.alloc(), database(rt.alloc(), "")?)
 }
 
 /// A commit by what it does, whether it succeeds, and what the room shows then: the root's document, and the rest.
@@ -133,22 +148,33 @@ fn has_document<P: Shelf>(shelf: &mut P, wanted: &[u8], what: &str) -> Result<()
     must(shelf.doc_size(1)? == wanted.len() as u64, what)
 }
 
-fn is_as_told(shelf: &mut Room, changes: Vec<Change>, step: &Step) -> Result<(), Fail> {
+fn is_as_told<P: Shelf>(shelf: &mut P, changes: Vec<Change>, step: &Step) -> Result<(), Fail> {
     let Step(what, succeeds, document, wanted) = *step;
     must(shelf.commit(changes.as_slice()).is_ok() == succeeds, what)?;
     has_document(shelf, document, what)?;
     shows(shelf, wanted, what)
 }
 
+fn are_as_told<P: Shelf>(alloc: Global, shelf: &mut P) -> Result<(), Fail> {
+    for (at, step) in STEPS.iter().enumerate() {
+        is_as_told(shelf, changes(alloc, at)?, step)?;
+    }
+    Ok(())
+}
+
+/// The tables have no document, and the next number.
+fn are_tables_left<S: Alter>(conn: &mut Connection<S>) -> Result<(), Fail> {
+    must(
+        number(conn, "SELECT count(*) FROM doc")? == 0,
+        "the documents",
+    )?;
+    must(number(conn, "SELECT next FROM room")? == 7, "the number")
+}
+
 #[test]
 fn all_changes_or_none(rt: HostRuntime) -> Result<(), Fail> {
-    let alloc = rt.alloc();
-    let mut shelf = in_tables(alloc)?;
-    for (at, step) in STEPS.iter().enumerate() {
-        is_as_told(&mut shelf, changes(alloc, at)?, step)?;
-    }
+    let mut shelf = in_tables(rt.alloc())?;
+    are_as_told(rt.alloc(), &mut shelf)?;
     let mut conn = shelf.into_connection();
-    assert_eq!(rt; number(&mut conn, "SELECT count(*) FROM doc")?, 0);
-    assert_eq!(rt; number(&mut conn, "SELECT next FROM room")?, 7);
-    Ok(())
+    are_tables_left(&mut conn)
 }
