@@ -10,7 +10,7 @@ use crate::rooms::in_memory;
 use crate::scenes::{Example, Step};
 use crate::shelves::{do_step, expect_whole_lists, prepared};
 use crate::ways::serving::{Ended, Line, expect_end, serve};
-use room_records::{MemShelf, Shelf};
+use room_records::{MemShelf, Shelf, Sid};
 use room_wire::{Event, Why};
 
 /// An answer is lost behind each of so many bytes at its front, then behind every so many, and behind all but the last.
@@ -112,27 +112,48 @@ fn expect_whole(
     expect_end(example, 1, ended.end, differences)
 }
 
-/// Whether the request runs now, and says that its reply need not be kept. One with the kept number ran before.
-fn is_unkept(play: &Play<'_>, shelf: &mut MemShelf, example: &Example) -> Result<bool, Fault> {
-    let asked = ask_of(play, example.sent.as_slice());
-    let Asked::Event(
+/// The session, the slot and the number of a request that says that its reply need not be kept.
+fn unkept_slot(event: &Event) -> Option<(&Sid, u32, u32)> {
+    match event {
         Event::Slot {
-            subject: _,
             sid,
             slot,
             seq,
-            command: _,
-            keep: false,
+            keep,
+            ..
+        } => if *keep {
+            None
+        } else {
+            Some((sid, *slot, *seq))
         },
-    ) = &asked
-    else {
-        return Ok(false);
-    };
-    match shelf.slot(sid, *slot) {
-        Ok(Some(kept)) => Ok(example.due.is_reply && kept.seq != *seq),
-        Ok(None) => Ok(example.due.is_reply),
+        Event::Open { .. } | Event::Close { .. } => None,
+    }
+}
+
+/// Whether a request with this number runs now. One with the kept number ran before.
+fn runs(shelf: &mut MemShelf, sid: &Sid, slot: u32, seq: u32) -> Result<bool, Fault> {
+    match shelf.slot(sid, slot) {
+        Ok(Some(kept)) => Ok(kept.seq != seq),
+        Ok(None) => Ok(true),
         Err(_) => Err(Fault::Because("a slot that was not read")),
     }
+}
+
+/// Whether an event runs now, and its reply need not be kept.
+fn runs_unkept(shelf: &mut MemShelf, event: &Event) -> Result<bool, Fault> {
+    match unkept_slot(event) {
+        Some((sid, slot, seq)) => runs(shelf, sid, slot, seq),
+        None => Ok(false),
+    }
+}
+
+/// Whether the request runs now, and its reply need not be kept.
+fn is_unkept(play: &Play<'_>, shelf: &mut MemShelf, example: &Example) -> Result<bool, Fault> {
+    let runs = match ask_of(play, example.sent.as_slice()) {
+        Asked::Event(event) => runs_unkept(shelf, &event),
+        Asked::Other(_) => Ok(false),
+    };
+    Ok(runs? && example.due.is_reply)
 }
 
 /// What is due from then on to a request whose reply is not kept.
