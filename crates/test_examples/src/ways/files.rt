@@ -8,6 +8,7 @@ use crate::playing::Play;
 use crate::rooms::made;
 use crate::scenes::{Example, Step};
 use crate::shelves::{answered, do_step, expect_whole_lists, prepared};
+use room_records::Shelf;
 use room_sql::SqlShelf;
 use sqlite::{Alter, Connection, FileStore, Options};
 use sqlite_disk::{Files, Memory};
@@ -57,69 +58,88 @@ fn taken<S: Alter + Drop>(alloc: Global, conn: Connection<S>) -> Result<SqlShelf
     }
 }
 
-fn ask<S: Alter + Drop>(
+fn ask<P: Shelf + Drop>(
     play: &Play<'_>,
-    shelf: SqlShelf<S>,
+    shelf: P,
     example: &Example,
     differences: &mut Differences<'_>,
-) -> Result<SqlShelf<S>, Fault> {
+) -> Result<P, Fault> {
     let (answer, shelf) = answered(play, shelf, example.sent.as_slice());
     differences.expect(example.line, answer.body(), example.due.body.as_slice())?;
     Ok(shelf)
 }
 
-fn take<S: Alter + Drop>(
+fn take<P: Shelf + Drop>(
     play: &Play<'_>,
-    shelf: SqlShelf<S>,
+    shelf: P,
     step: &Step,
     differences: &mut Differences<'_>,
-) -> Result<SqlShelf<S>, Fault> {
+) -> Result<P, Fault> {
     let mut shelf = shelf;
-    match step {
-        Step::Ask(example) => ask(play, shelf, example, differences),
-        Step::Reopen => Ok(shelf),
-        Step::Report { .. } | Step::Next(_) => {
-            do_step(play, &mut shelf, step, differences)?;
-            Ok(shelf)
-        }
+    if let Step::Ask(example) = step {
+        return ask(play, shelf, example, differences);
     }
+    do_step(play, &mut shelf, step, differences)?;
+    Ok(shelf)
 }
 
 /// Behind all steps the lists are compared.
-fn end<S: Alter + Drop>(
+fn end<P: Shelf + Drop>(
     play: &Play<'_>,
-    shelf: SqlShelf<S>,
+    shelf: P,
     differences: &mut Differences<'_>,
-) -> Result<SqlShelf<S>, Fault> {
+) -> Result<P, Fault> {
     let mut shelf = shelf;
     expect_whole_lists(play, &mut shelf, play.line, differences)?;
     Ok(shelf)
 }
 
-/// What is done between two openings: at 0 the room is made as the earlier scenes leave it, then come the steps, and
-/// then the end. (Over any store: each call over a store of files makes a proof half a minute longer.)
-fn stage<S: Alter + Drop>(
+/// What is done with the room between two openings: at 0 it becomes as the earlier scenes leave it, then come the
+/// steps, and then the end. (Over any shelf: each call over tables makes a proof longer.)
+fn stage<P: Shelf + Drop>(
+    play: &Play<'_>,
+    shelf: P,
+    at: usize,
+    differences: &mut Differences<'_>,
+) -> Result<P, Fault> {
+    if at == 0 {
+        return prepared(play, shelf);
+    }
+    match play.steps.get(at - 1) {
+        Some(step) => take(play, shelf, step, differences),
+        None => end(play, shelf, differences),
+    }
+}
+
+/// The room in a database: at 0 it is made, then it is there.
+fn room<S: Alter + Drop>(
+    alloc: Global,
+    conn: Connection<S>,
+    at: usize,
+) -> Result<SqlShelf<S>, Fault> {
+    if at == 0 {
+        made(alloc, conn)
+    } else {
+        taken(alloc, conn)
+    }
+}
+
+/// A stage over tables in a store. (Over any store: each call over a store of files makes a proof half a minute
+/// longer.)
+fn stage_in<S: Alter + Drop>(
     play: &Play<'_>,
     conn: Connection<S>,
     at: usize,
     differences: &mut Differences<'_>,
 ) -> Result<Connection<S>, Fault> {
-    if at == 0 {
-        let shelf = prepared(play, made(play.alloc, conn)?)?;
-        return Ok(shelf.into_connection());
-    }
-    let shelf = taken(play.alloc, conn)?;
-    let shelf = match play.steps.get(at - 1) {
-        Some(step) => take(play, shelf, step, differences)?,
-        None => end(play, shelf, differences)?,
-    };
-    Ok(shelf.into_connection())
+    let shelf = room(play.alloc, conn, at)?;
+    Ok(stage(play, shelf, at, differences)?.into_connection())
 }
 
 pub fn play(play: &Play<'_>, differences: &mut Differences<'_>) -> Result<(), Fault> {
     let mut conn = opened(play.alloc, Memory::new(play.alloc), Memory::new(play.alloc))?;
     for at in 0..play.steps.len().saturating_add(2) {
-        conn = reopened(play.alloc, stage(play, conn, at, differences)?)?;
+        conn = reopened(play.alloc, stage_in(play, conn, at, differences)?)?;
     }
     Ok(())
 }
