@@ -20,6 +20,7 @@ from served import end_with_parent
 COUNTS = re.compile(r"(\d+) passed, (\d+) failed")
 SKIPPED = re.compile(r"skipped: (.+)")
 GRACE = 20  # seconds to end in order
+MOMENT = 5  # seconds for what ends with a part to see that it has ended, where other work comes first
 TICKS = os.sysconf("SC_CLK_TCK")
 
 
@@ -149,12 +150,14 @@ class Part:
                 self.why.append(f"it took longer than {self.limit} seconds")
                 self.stop()
             return False
+        self.ended = self.ended or time.monotonic()
         left = below(self.child.pid)
+        if left and time.monotonic() - self.ended < MOMENT:
+            return False
         if left:
             self.why.append(f"it left processes behind: {', '.join(' '.join(it.words())[:80] for it in left)}")
             for it in left:
                 send(it.pid, signal.SIGKILL)
-        self.ended = self.ended or time.monotonic()
         if self.is_open and time.monotonic() - self.ended > GRACE:
             self.why.append("something that it started goes on and holds its output")
             self.is_open = False
