@@ -12,6 +12,7 @@ use Rattle.room_records.specs.Records.{Records}
 use Rattle.room_cache.specs.declared.known.Known.{Known}
 use Rattle.room_cache.specs.Known.{IsTrueOf}
 use Rattle.room_tables.specs.Tables.{schema_0, has_a_table, has_room, has_first_room}
+use Rattle.room_tables.specs.Beside.{IsBeside}
 use Rattle.room_tables.specs.Fresh.{IsFreshRoom, MayBeMade}
 use Rattle.room_sql.specs.declared.sql_shelf.SqlShelf.{SqlShelf}
 use Rattle.room_sql.specs.NodeFacts.{KnowsNothing}
@@ -119,14 +120,15 @@ abbrev pub Takes : {S : Type 0} (g : Ghosts S) → (opened : Held S)
 Takes g opened (Ok taken) = Adopted g opened taken
 Takes g opened (Err (fault, let_go)) = Untaken g opened let_go fault
 
--- a store that was opened had no table of a room, and a fresh room was made in it and committed, as `SqlShelf::init`
--- has it
+-- a store that was opened had no table of a room, and a fresh room was made in it and committed, beside what was there,
+-- as `SqlShelf::init` has it
 abbrev pub Made : {S : Type 0} → Ghosts S → (owner group : List ℕ) → (opened made : Held S) → Type 0
 Made g owner group opened made = (has_a_table opened.schema ≡ false)
     × (IsTrue (state g made).is_open → (state g made).now.trees ≡ (state g made).committed.trees)
     × (HasCleanDisk (state g made) → IsTrue (state g made).is_open
     × (opened.schema ≡ schema_0 → IsFreshRoom owner group (state g made).now))
     × Survives (state g opened) (state g made) (MayBeMade owner group (state g opened).now)
+    × (HasCleanDisk (state g made) → IsBeside (state g opened).now (state g made).now)
 
 -- why no room was made in a store that was opened, and what is let go: it had a table of a room and is as it was, with
 -- what it shows committed; or it had none and is spared

@@ -11,6 +11,7 @@ ghost use Rattle.room_tables.specs.Tables.{has_columns, has_five, has_slots, has
 ghost use Rattle.room_tables.specs.Rows.{version_rows, IsVersion};
 ghost use Rattle.room_tables.specs.Versions.{find_version_text, TellsVersion};
 ghost use Rattle.room_sql.specs.Taken.{IsTaken, MayBeTaken, IsAsBefore, HasItsVersion, HasAnotherVersion};
+ghost use Rattle.room_tables.specs.Beside.{IsBeside};
 ghost use Rattle.room_tables.specs.Fresh.{IsFreshRoom, MayBeMade};
 ghost use Rattle.room_sql.specs.Frames.{QueryFrame};
 ghost use Rattle.room_sql.specs.NodeFacts.{KnowsNothing};
@@ -167,9 +168,9 @@ impl<S: Alter> SqlShelf<S> {
     /// nowhere else no clause says. The form of the tables is our own.
     ///
     /// The room, and what a crash leaves of it, are promised of a database without any table,
-    /// index or view. It works in others too, beside what is there; of them it is promised that
-    /// no table had one of the seven names, and after a refusal that the database is as it was,
-    /// and no more: not that its rows stand for a room, nor what became of the other tables.
+    /// index or view. It works in others too, beside what is there: no table had one of the seven
+    /// names, each that was there stands first, as it was, and has its rows, also after a crash, and
+    /// after a refusal the database is as it was. Not that the rows of the new tables stand for a room.
     pub fn init(
         alloc: Global,
         connection: Connection<S>,
@@ -180,6 +181,8 @@ impl<S: Alter> SqlShelf<S> {
         ensures fresh { IfOk result (λ shelf. HasCleanDisk (state S.Store shelf.conn)
             → IsTrue (state S.Store shelf.conn).is_open × (connection.schema ≡ schema_0 →
             IsFreshRoom owner.now group.now (state S.Store shelf.conn).now)) }
+        ensures beside { IfOk result (λ shelf. HasCleanDisk (state S.Store shelf.conn)
+            → IsBeside (state S.Store connection).now (state S.Store shelf.conn).now) }
         ensures absent { IfOk result (λ shelf. has_a_table connection.schema ≡ false) }
         ensures started { IfOk result (λ shelf. shelf.failures ≡ 0) }
         ensures known { IfOk result (λ shelf. KnowsNothing shelf.known) }

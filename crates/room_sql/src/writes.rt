@@ -14,6 +14,7 @@ ghost use Rattle.room_records.specs.declared.change.Change.TheVariants.{PutSessi
 ghost use Rattle.room_tables.specs.Tables.{Upgraded, room_schema};
 ghost use Rattle.room_tables.specs.Rows.{version_rows, IsVersion};
 ghost use Rattle.room_tables.specs.Layout.{IsRoomDatabase};
+ghost use Rattle.room_tables.specs.Beside.{StaysBeside};
 ghost use Rattle.room_tables.specs.Rows.{records_of, five_columns};
 ghost use Rattle.room_tables.specs.Steps.{Steps, SeesSound, Lists, MayBecome, StaysRoom, IsReadBack, placed};
 ghost use Rattle.room_sql.specs.NewObject.{after_change, NoEntriesIfKnown};
@@ -79,7 +80,7 @@ fn run_or<S: Alter>(
 }
 
 /// Replaces the row of the node's number, and adds it where there was none. Entries and document stay.
-pub(crate) fn put_node<S: Alter>(tx: &mut Transaction<'_, S>, node: &Node) -> Result<(), Error>
+fn put_node<S: Alter>(tx: &mut Transaction<'_, S>, node: &Node) -> Result<(), Error>
     ensures frame { InsideFrame S.Store tx.old tx.new result }
     ensures ok { HasCleanDisk (state S.Store tx.new.conn.now)
         → OnOk result (IsRoomDatabase (state S.Store tx.old.conn.now).now →
@@ -101,7 +102,7 @@ pub(crate) fn put_node<S: Alter>(tx: &mut Transaction<'_, S>, node: &Node) -> Re
 }
 
 /// Adds the row of a node whose number no row has. An UPDATE that finds none costs a third as much again.
-fn put_new_node<S: Alter>(tx: &mut Transaction<'_, S>, node: &Node) -> Result<(), Error>
+pub(crate) fn put_new_node<S: Alter>(tx: &mut Transaction<'_, S>, node: &Node) -> Result<(), Error>
     ensures frame { InsideFrame S.Store tx.old tx.new result }
     ensures ok { HasCleanDisk (state S.Store tx.new.conn.now)
         → OnOk result (IsRoomDatabase (state S.Store tx.old.conn.now).now →
@@ -109,6 +110,8 @@ fn put_new_node<S: Alter>(tx: &mut Transaction<'_, S>, node: &Node) -> Result<()
     ensures no_entries { HasCleanDisk (state S.Store tx.new.conn.now)
         → OnOk result (IsRoomDatabase (state S.Store tx.old.conn.now).now → SeesSound (state S.Store tx.old.conn.now) →
         (records_of (state S.Store tx.new.conn.now).now.trees).objects.entries node.now.id ≡ []) }
+    ensures spares { HasCleanDisk (state S.Store tx.new.conn.now) → OnOk result
+        (StaysBeside (state S.Store tx.old.conn.now).now (state S.Store tx.new.conn.now).now) }
 {
     let name = name_text(node);
     let id = node_number(node);
@@ -156,6 +159,8 @@ fn add_one<S: Alter>(
         → OnOk result ((was : Database) (before : _) → length before ≡ place →
         Lists was id before (state S.Store tx.old.conn.now).now
         → Lists was id (before ++ a.now ∷ []) (state S.Store tx.new.conn.now).now) }
+    ensures spares { HasCleanDisk (state S.Store tx.new.conn.now) → OnOk result
+        (StaysBeside (state S.Store tx.old.conn.now).now (state S.Store tx.new.conn.now).now) }
 {
     let a = entry_row(place, a);
     run(
@@ -179,6 +184,8 @@ fn add_two<S: Alter>(
         → OnOk result ((was : Database) (before : _) → length before ≡ place →
         Lists was id before (state S.Store tx.old.conn.now).now
         → Lists was id (before ++ a.now ∷ b.now ∷ []) (state S.Store tx.new.conn.now).now) }
+    ensures spares { HasCleanDisk (state S.Store tx.new.conn.now) → OnOk result
+        (StaysBeside (state S.Store tx.old.conn.now).now (state S.Store tx.new.conn.now).now) }
 {
     let a = entry_row(place, a);
     let b = entry_row(place + 1, b);
@@ -217,6 +224,8 @@ fn add_three<S: Alter>(
         → OnOk result ((was : Database) (before : _) → length before ≡ place →
         Lists was id before (state S.Store tx.old.conn.now).now
         → Lists was id (before ++ a.now ∷ b.now ∷ c.now ∷ []) (state S.Store tx.new.conn.now).now) }
+    ensures spares { HasCleanDisk (state S.Store tx.new.conn.now) → OnOk result
+        (StaysBeside (state S.Store tx.old.conn.now).now (state S.Store tx.new.conn.now).now) }
 {
     let a = entry_row(place, a);
     let b = entry_row(place + 1, b);
@@ -262,6 +271,8 @@ fn add_four<S: Alter>(
         → OnOk result ((was : Database) (before : _) → length before ≡ place →
         Lists was id before (state S.Store tx.old.conn.now).now
         → Lists was id (before ++ a.now ∷ b.now ∷ c.now ∷ d.now ∷ []) (state S.Store tx.new.conn.now).now) }
+    ensures spares { HasCleanDisk (state S.Store tx.new.conn.now) → OnOk result
+        (StaysBeside (state S.Store tx.old.conn.now).now (state S.Store tx.new.conn.now).now) }
 {
     let a = entry_row(place, a);
     let b = entry_row(place + 1, b);
@@ -316,6 +327,8 @@ fn add_batch<S: Alter>(
         → OnOk result ((was : Database) (before : _) → length before ≡ place →
         Lists was id before (state S.Store tx.old.conn.now).now
         → Lists was id (before ++ batch.now) (state S.Store tx.new.conn.now).now) }
+    ensures spares { HasCleanDisk (state S.Store tx.new.conn.now) → OnOk result
+        (StaysBeside (state S.Store tx.old.conn.now).now (state S.Store tx.new.conn.now).now) }
 {
     match batch {
         [] => Ok(()),
@@ -340,6 +353,8 @@ fn add_entries<S: Alter>(
     ensures ok { HasCleanDisk (state S.Store tx.new.conn.now)
         → OnOk result ((was : Database) → Lists was id (take from entries.now) (state S.Store tx.old.conn.now).now →
         Lists was id entries.now (state S.Store tx.new.conn.now).now) }
+    ensures spares { HasCleanDisk (state S.Store tx.new.conn.now) → OnOk result
+        (StaysBeside (state S.Store tx.old.conn.now).now (state S.Store tx.new.conn.now).now) }
 {
     if u32::try_from(entries.len()).is_err() {
         return Err(Error::SqliteFailure(ErrorCode::TooBig));
@@ -518,7 +533,7 @@ fn list_rows<S: Alter>(tx: &mut Transaction<'_, S>, id: u32) -> Result<Vec<Row>,
 
 /// Makes these the object's entries, in place where the stored rows are entries at the places 0, 1, 2, .., and else by
 /// other rows: so too where memory was refused to read the stored ones by.
-pub(crate) fn put_entries<S: Alter>(
+fn put_entries<S: Alter>(
     tx: &mut Transaction<'_, S>,
     id: u32,
     entries: &Vec<Entry>,
@@ -537,7 +552,7 @@ pub(crate) fn put_entries<S: Alter>(
 }
 
 /// Puts the entries of an object that was just added, and has none. Their places are 0, 1, 2, ..
-fn put_new_entries<S: Alter>(
+pub(crate) fn put_new_entries<S: Alter>(
     tx: &mut Transaction<'_, S>,
     id: u32,
     entries: &Vec<Entry>,
@@ -548,6 +563,8 @@ fn put_new_entries<S: Alter>(
         → OnOk result (IsRoomDatabase (state S.Store tx.old.conn.now).now →
         (records_of (state S.Store tx.old.conn.now).now.trees).objects.entries id ≡ [] →
         MakesChange (PutEntries id entries.now) (state S.Store tx.old.conn.now) (state S.Store tx.new.conn.now)) }
+    ensures spares { HasCleanDisk (state S.Store tx.new.conn.now) → OnOk result
+        (StaysBeside (state S.Store tx.old.conn.now).now (state S.Store tx.new.conn.now).now) }
 {
     add_entries(tx, id, 0, entries.as_slice())
 }

@@ -364,6 +364,13 @@ change_sets_next old new n count room h = sets_put old new n room (next_changed 
     (λ s. (changes_next Upgraded old new n (suc count) s room.keyed.room
     h.0).put.tables.1.1.1.1.1.0 (omega arith))
 
+-- an INSERT alone
+pub first_sets_next : (old new : State) (n count : ℕ) → IsRoomDatabase old.now
+    → ExecutesInside 0 T.add_next_text (Int (pos n) ∷ []) old new (Ok count) → SetsNext old new n
+first_sets_next old new n count room one =
+    sets_put old new n room (adds_next room.layout old new n count room.schema one.0)
+    (λ s. (adds_next Upgraded old new n count s one.0).put.tables.1.1.1.1.1.0 (omega arith))
+
 -- where it changed none, the INSERT behind it adds the row
 pub add_sets_next : (old mid new : State) (n count : ℕ) → IsRoomDatabase old.now
     → ExecutesInside 0 T.change_next_text (Int (pos n) ∷ []) old mid (Ok 0)
@@ -371,8 +378,7 @@ pub add_sets_next : (old mid new : State) (n count : ℕ) → IsRoomDatabase old
 add_sets_next old mid new n count room none one =
     let left = next_changed old mid n 0 room none in
     let a = steps_left 0 old mid room left.leaves in
-    let b = sets_put mid new n a.room (adds_next a.room.layout mid new n count a.room.schema one.0)
-    (λ s. (adds_next Upgraded mid new n count s one.0).put.tables.1.1.1.1.1.0 (omega arith)) in
+    let b = first_sets_next mid new n count a.room one in
     record {
       version = b.version;
       sound = b.sound;

@@ -31,3 +31,4 @@ pub mod Reading
 pub mod Onward
 pub mod Names
 pub mod Sizes
+pub mod Beside

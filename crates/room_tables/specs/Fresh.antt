@@ -17,6 +17,7 @@ use Rattle.room_records.specs.Representation.{RepresentsRoom}
 use Rattle.room_tables.specs.Tables.{Fresh, schema_0, room_schema}
 use Rattle.room_tables.specs.Rows.{records_of}
 use Rattle.room_tables.specs.Layout.{IsRoomOfVersion2, under}
+use Rattle.room_tables.specs.Beside.{SparesTables}
 
 -- the tables are there, and have no row
 pub record IsMade (wanted : Schema) (db : Database) : Type 0 where
@@ -45,12 +46,14 @@ abbrev pub IsFilled : Node → Vec EntryModel Global → Database → Type 0
 IsFilled root entries db = IsInSix db × (records_of db.trees ≡ filled root entries)
 
 abbrev pub MayBeFilled : Node → Vec EntryModel Global → Database → Trees → Type 0
-MayBeFilled root entries db trees = db.schema ≡ schema_0 → IsFilled root entries (under Fresh trees)
+MayBeFilled root entries db trees =
+    (db.schema ≡ schema_0 → IsFilled root entries (under Fresh trees)) × SparesTables db trees
 
 -- a fresh room
 abbrev pub IsFreshRoom : List ℕ → List ℕ → Database → Type 0
 IsFreshRoom owner group db = IsInSix db × IsFresh owner group (records_of db.trees)
 
--- a commit leaves such trees where there was no table before
+-- a commit leaves such trees: a fresh room where there was no table before, and else what was there
 abbrev pub MayBeMade : List ℕ → List ℕ → Database → Trees → Type 0
-MayBeMade owner group db trees = db.schema ≡ schema_0 → IsFreshRoom owner group (under Fresh trees)
+MayBeMade owner group db trees =
+    (db.schema ≡ schema_0 → IsFreshRoom owner group (under Fresh trees)) × SparesTables db trees

@@ -6,3 +6,4 @@ pub mod Names
 pub mod Fresh
 pub mod Versions
 pub mod Upgrade
+pub mod Beside

@@ -7,7 +7,7 @@ pub returns-in-Ok : goal.returns-in-Ok
 returns-in-Ok g c =
     let e = c.in-Ok.ensures in
     let closed = rw c.into_connection.ensures.same at c.close.ensures.closed in
-    (c.in-Ok.shelf.conn, (e.absent, c.in-Ok.shelf.rests, e.fresh, e.made), closed)
+    (c.in-Ok.shelf.conn, (e.absent, c.in-Ok.shelf.rests, e.fresh, e.made, e.beside), closed)
 
 pub returns-in-Err-RoomExists-default : goal.returns-in-Err-RoomExists-default
 returns-in-Err-RoomExists-default g c =

@@ -1,7 +1,15 @@
-use Rattle.std.proofs.Common.{◌≡◌, refl, rules, ◌∙◌}
+use Rattle.std.proofs.Common.{◌≡◌, refl, sym, subst, rules, ◌∙◌}
+use Rattle.sqlite.specs.State.{HasCleanDisk}
+use Rattle.sqlite.specs.Change.{KeepsRows}
+use Rattle.sqlite.proofs.StateLemmas.{survives_then}
+use Rattle.sqlite.proofs.Callers.{survives_begin}
+use Rattle.room_tables.specs.Tables.{Fresh, room_schema}
+use Rattle.room_tables.specs.Fresh.{IsFilled, MayBeFilled}
+use Rattle.room_tables.specs.Beside.{IsBeside}
+use Rattle.room_tables.proofs.Moves.{by_trees}
 use Rattle.sqlite.specs.Held.{state}
 use Rattle.room_tables.proofs.Changes.{fails_back, on_err}
-use Rattle.room_sql.proofs.Frames.{was_clean}
+use Rattle.room_sql.proofs.Frames.{was_clean, ok_then}
 use Rattle.room_sql.proofs.tables.commit_fresh.Goals as goal
 
 pub returns-clause-err : goal.returns-clause-err
@@ -13,3 +21,42 @@ returns-clause-err g c clean is =
     rw (← same) (on_err c.commit.result _ _ (λ e h. fails_back (state g.S.Store c.transaction-tx.result.conn.now)
     _ _ e (rw begun refl) (c.in_ok-make_fresh.ensures.frame.inside early) (c.make_fresh.ensures.frame.kept early) h
     (rw same is) ∙ rw begun refl) (c.commit.ensures.err late))
+
+pub returns-clause-frame : goal.returns-clause-frame
+returns-clause-frame g c =
+    let old = c.args.conn.now in
+    let last = c.make_fresh.new.tx.conn.now in
+    let root = c.args.root.now in
+    let entries = c.args.entries.now in
+    let begun = c.transaction-tx.ensures.begun in
+    let filled = λ (clean : HasCleanDisk (state g.S.Store last)). rw begun at (c.in_ok-make_fresh.ensures.ok clean) in
+    let spares = λ (clean : HasCleanDisk (state g.S.Store last)).
+    rw begun at (c.in_ok-make_fresh.ensures.spares clean) in
+    let same : c.commit.new.self.0 ≡ c.conn-2-1.given.0 = search rules in
+    record {
+      mode = search rules;
+      was_open = search rules;
+      crash = rw (← same) (survives_then (state g.S.Store old) (state g.S.Store last)
+          (state g.S.Store c.commit.new.self.0) _ _ (MayBeFilled root entries (state g.S.Store old).now)
+          (λ _ db none. absurd none)
+          (λ clean db is.
+          let early = was_clean c.commit.ensures.survives clean in (
+            λ none.
+                let it = filled early none in
+                by_trees (room_schema Fresh) (IsFilled root entries) (state g.S.Store last).now db it.0.schema is it,
+            λ none. subst (KeepsRows (state g.S.Store old).now.schema.tables (state g.S.Store old).now.trees) (sym is)
+                (spares early none).rows,
+          ))
+          (survives_begin g.S.Store old (state g.S.Store last) _ (rw begun at c.make_fresh.ensures.frame.crash))
+          c.commit.ensures.survives);
+    }
+
+pub returns-clause-spares : goal.returns-clause-spares
+returns-clause-spares g c clean =
+    let same : c.commit.new.self.0 ≡ c.conn-2-1.given.0 = search rules in
+    let late = rw (← same) at clean in
+    let early = was_clean c.commit.ensures.survives late in
+    let begun = c.transaction-tx.ensures.begun in
+    let spares = rw begun at (c.in_ok-make_fresh.ensures.spares early) in
+    rw (← same) (ok_then c.commit.result (c.commit.ensures.ok late) (λ it none.
+    subst (IsBeside (state g.S.Store c.args.conn.now).now) (sym it.1.now_is) (spares none)))

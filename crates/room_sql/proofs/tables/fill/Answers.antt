@@ -1,18 +1,18 @@
 use Rattle.std.proofs.Common.{◌∙◌, ap}
 use Rattle.room_records.specs.declared.change.Change.TheVariants.{PutEntries, PutNext}
 use Rattle.room_records.specs.Changes.{apply_change}
-use Rattle.room_sql.proofs.Frames.{was_clean, ok_then, both}
+use Rattle.room_sql.proofs.Frames.{was_clean, ok_then}
 use Rattle.room_sql.proofs.tables.fill.Goals as goal
 
 pub returns-clause-ok : goal.returns-clause-ok
 returns-clause-ok g c clean =
-    let late = was_clean c.put_next.ensures.frame.crash clean in
-    let early = was_clean c.put_entries.ensures.frame.crash late in
-    let put = both c.put_next.result _ _ (c.put_next.ensures.ok clean) (c.put_next.ensures.beside clean) in
-    ok_then c.put_next.result put (λ all room.
-    let one = (c.in_ok-put_node.ensures.ok early room).steps in
-    let two = (c.in_ok-put_entries.ensures.ok late one.room).steps in
-    let three = all.0 two.room in
+    let late = was_clean c.put_first_next.ensures.frame.crash clean in
+    let early = was_clean c.put_new_entries.ensures.frame.crash late in
+    ok_then c.put_first_next.result (c.put_first_next.ensures.ok clean) (λ all room sound.
+    let one = (c.in_ok-put_new_node.ensures.ok early room).steps in
+    let bare = rw c.requires at (c.in_ok-put_new_node.ensures.no_entries early room (λ _. sound)) in
+    let two = (c.in_ok-put_new_entries.ensures.ok late one.room bare).steps in
+    let three = all two.room in
     let last = three.0.steps in (
       record {
         room = last.room;
@@ -24,5 +24,13 @@ returns-clause-ok g c clean =
         lists = λ s. last.lists (two.lists (one.lists s));
       },
       three.1,
-      (all.1 two.room).0,
+      three.2,
     ))
+
+pub returns-clause-spares : goal.returns-clause-spares
+returns-clause-spares g c clean =
+    let late = was_clean c.put_first_next.ensures.frame.crash clean in
+    let early = was_clean c.put_new_entries.ensures.frame.crash late in
+    ok_then c.put_first_next.result (c.put_first_next.ensures.spares clean) (λ three before none was.
+    three before none (c.in_ok-put_new_entries.ensures.spares late before none
+    (c.in_ok-put_new_node.ensures.spares early before none was)))

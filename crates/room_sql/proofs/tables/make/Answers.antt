@@ -22,6 +22,6 @@ pub returns-clause-frame : goal.returns-clause-frame
 returns-clause-frame g c = record {
   mode = c.commit_fresh.ensures.frame.mode;
   was_open = c.commit_fresh.ensures.frame.was_open;
-  crash = survives_weaker _ _ _ _ (λ _ db h none. ((h none).0, fresh g c _ (h none).1))
+  crash = survives_weaker _ _ _ _ (λ _ db h. (λ none. ((h.0 none).0, fresh g c _ (h.0 none).1), h.1))
       c.commit_fresh.ensures.frame.crash;
 }

@@ -21,6 +21,8 @@ loop-batch-preserved g c =
           let before = inv.done (was_clean c.add_batch.ensures.frame.crash clean) records was in
           rw next.0 (c.in_ok-add_batch.ensures.ok clean records (take place xs)
           (length-take-le place xs inv.within) before);
+      spares = λ clean before none was. c.in_ok-add_batch.ensures.spares clean before none
+          (inv.spares (was_clean c.add_batch.ensures.frame.crash clean) before none was);
     }
 
 pub returns-clause-ok : goal.returns-clause-ok

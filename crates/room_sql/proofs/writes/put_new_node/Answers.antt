@@ -6,6 +6,7 @@ use Rattle.room_sql.proofs.Frames.{ok_then}
 use Rattle.room_sql.proofs.Made.{new_node_made}
 use Rattle.room_sql.proofs.writes.put_new_node.Given.{Over}
 use Rattle.room_sql.proofs.writes.put_new_node.Goals as goal
+use Rattle.room_tables.proofs.Beside.{node_beside}
 
 params : (g : Over) (c : goal.Joined-parent g) → bound (c.params-to_sql.result ∷ c.params-to_sql-2.result
     ∷ c.params-to_sql-3.result ∷ c.params-to_sql-4.result ∷ c.params-to_sql-5.result ∷ c.params-to_sql-6.result
@@ -34,3 +35,7 @@ returns-clause-ok g c clean = ok_then c.run.result (c.run.ensures.done clean) (�
 pub returns-clause-no_entries : goal.returns-clause-no_entries
 returns-clause-no_entries g c clean = ok_then c.run.result (c.run.ensures.done clean) (λ ran room.
     added_bare _ _ c.args.node.now c.name_text-name.result.now _ ran.0 room (params g c) ran.1)
+
+pub returns-clause-spares : goal.returns-clause-spares
+returns-clause-spares g c clean =
+    ok_then c.run.result (c.run.ensures.done clean) (λ ran. node_beside _ _ _ ran.0 ran.1)
