@@ -12,8 +12,7 @@ use Rattle.room_records.specs.Records.{Records}
 use Rattle.room_cache.specs.declared.known.Known.{Known}
 use Rattle.room_cache.specs.Known.{IsTrueOf}
 use Rattle.room_tables.specs.Tables.{schema_0, has_a_table, has_room, has_first_room}
-use Rattle.room_tables.specs.Beside.{IsBeside}
-use Rattle.room_tables.specs.Fresh.{IsFreshRoom, MayBeMade}
+use Rattle.room_tables.specs.Fresh.{IsFresh, IsFreshRoom, StandsBeside, MayBeMade}
 use Rattle.room_sql.specs.declared.sql_shelf.SqlShelf.{SqlShelf}
 use Rattle.room_sql.specs.NodeFacts.{KnowsNothing}
 use Rattle.room_sql.specs.Taken as adoption
@@ -128,7 +127,7 @@ Made g owner group opened made = (has_a_table opened.schema ≡ false)
     × (HasCleanDisk (state g made) → IsTrue (state g made).is_open
     × (opened.schema ≡ schema_0 → IsFreshRoom owner group (state g made).now))
     × Survives (state g opened) (state g made) (MayBeMade owner group (state g opened).now)
-    × (HasCleanDisk (state g made) → IsBeside (state g opened).now (state g made).now)
+    × (HasCleanDisk (state g made) → StandsBeside (IsFresh owner group) (state g opened).now (state g made).now)
 
 -- why no room was made in a store that was opened, and what is let go: it had a table of a room and is as it was, with
 -- what it shows committed; or it had none and is spared

@@ -11,8 +11,7 @@ ghost use Rattle.room_tables.specs.Tables.{has_columns, has_five, has_slots, has
 ghost use Rattle.room_tables.specs.Rows.{version_rows, IsVersion};
 ghost use Rattle.room_tables.specs.Versions.{find_version_text, TellsVersion};
 ghost use Rattle.room_sql.specs.Taken.{IsTaken, MayBeTaken, IsAsBefore, HasItsVersion, HasAnotherVersion};
-ghost use Rattle.room_tables.specs.Beside.{IsBeside};
-ghost use Rattle.room_tables.specs.Fresh.{IsFreshRoom, MayBeMade};
+ghost use Rattle.room_tables.specs.Fresh.{IsFresh, IsFreshRoom, StandsBeside, MayBeMade};
 ghost use Rattle.room_sql.specs.Frames.{QueryFrame};
 ghost use Rattle.room_sql.specs.NodeFacts.{KnowsNothing};
 
@@ -167,10 +166,13 @@ impl<S: Alter> SqlShelf<S> {
     /// where memory was refused, and `Store` where a call of `sqlite` answered another fault; that these two come
     /// nowhere else no clause says. The form of the tables is our own.
     ///
-    /// The room, and what a crash leaves of it, are promised of a database without any table,
-    /// index or view. It works in others too, beside what is there: no table had one of the seven
-    /// names, each that was there stands first, as it was, and has its rows, also after a crash, and
-    /// after a refusal the database is as it was. Not that the rows of the new tables stand for a room.
+    /// In a database without any table, index or view there is the fresh room then, and nothing else
+    /// (`fresh`). In others each table that `sqlite` reads, none of which has one of the seven names,
+    /// stands first, as it was, with its rows, and behind them the six, whose rows stand for a fresh
+    /// room (`beside`); but which tables these are is not said where one has AUTOINCREMENT and
+    /// `sqlite_sequence` is missing, which SQLite never leaves. A crash leaves the room so, or what
+    /// was there before; a refusal leaves that. Of what a shelf does in a database with other tables
+    /// nothing is promised (`adopt`).
     pub fn init(
         alloc: Global,
         connection: Connection<S>,
@@ -182,7 +184,8 @@ impl<S: Alter> SqlShelf<S> {
             → IsTrue (state S.Store shelf.conn).is_open × (connection.schema ≡ schema_0 →
             IsFreshRoom owner.now group.now (state S.Store shelf.conn).now)) }
         ensures beside { IfOk result (λ shelf. HasCleanDisk (state S.Store shelf.conn)
-            → IsBeside (state S.Store connection).now (state S.Store shelf.conn).now) }
+            → StandsBeside (IsFresh owner.now group.now)
+            (state S.Store connection).now (state S.Store shelf.conn).now) }
         ensures absent { IfOk result (λ shelf. has_a_table connection.schema ≡ false) }
         ensures started { IfOk result (λ shelf. shelf.failures ≡ 0) }
         ensures known { IfOk result (λ shelf. KnowsNothing shelf.known) }

@@ -1,7 +1,8 @@
 //! The tables, and a fresh room in them.
 
-ghost use Rattle.std.specs.Prelude.{◌≡◌, OnOk, OnErr, false, IsTrue};
-ghost use Rattle.sqlite.specs.Effect.{IsDatabase};
+ghost use Rattle.std.specs.Prelude.{◌≡◌, [], OnOk, OnErr, false, IsTrue};
+ghost use Rattle.sqlite_trees.specs.Tree.{no_trees};
+ghost use Rattle.sqlite.specs.Effect.{Database, IsDatabase};
 ghost use Rattle.sqlite.specs.State.{HasCleanDisk};
 ghost use Rattle.sqlite.specs.Held.{state};
 ghost use Rattle.room_records.specs.Changes.{apply_change};
@@ -9,12 +10,13 @@ ghost use Rattle.room_records.specs.declared.change.Change.TheVariants.{PutNode,
 ghost use Rattle.room_tables.specs.Tables.{schema_0, schema_1, schema_2, schema_3, schema_4, schema_5};
 ghost use Rattle.room_tables.specs.Tables.{Fresh, room_schema, first_schema};
 ghost use Rattle.room_tables.specs.Tables.{has_a_table};
-ghost use Rattle.room_tables.specs.Beside.{IsBeside, StaysBeside};
+ghost use Rattle.room_tables.specs.Beside.{IsBeside, AddsTables, Fills, six};
 ghost use Rattle.room_tables.specs.Upgrade.{IsWidened};
 ghost use Rattle.room_tables.specs.Rows.{version_rows, IsVersion};
 ghost use Rattle.room_tables.specs.Layout.{IsRoomDatabase};
 ghost use Rattle.room_tables.specs.Steps.{Steps};
-ghost use Rattle.room_tables.specs.Fresh.{IsMade, IsFilled, IsFreshRoom, MayBeFilled, MayBeMade};
+ghost use Rattle.room_tables.specs.Fresh.{IsMade, IsFresh, IsFilled, IsFreshRoom, MayBeFilled, MayBeMade, filled};
+ghost use Rattle.room_tables.specs.Fresh.{StandForNext, StandsBeside};
 ghost use Rattle.room_sql.specs.Frames.{InsideFrame, CommitFrame};
 ghost use Rattle.room_sql.specs.NodeRows.{MakesChange};
 
@@ -29,7 +31,7 @@ fn make_room<S: Alter>(tx: &mut Transaction<'_, S>) -> Result<(), Error>
     ensures ok { HasCleanDisk (state S.Store tx.new.conn.now)
         → OnOk result (tx.old.conn.now.schema ≡ schema_0 → IsMade schema_1 (state S.Store tx.new.conn.now).now) }
     ensures spares { HasCleanDisk (state S.Store tx.new.conn.now) → OnOk result
-        (StaysBeside (state S.Store tx.old.conn.now).now (state S.Store tx.new.conn.now).now) }
+        (AddsTables schema_0 schema_1 (state S.Store tx.old.conn.now).now (state S.Store tx.new.conn.now).now) }
 {
     tx.execute(
         "CREATE TABLE room (one INTEGER PRIMARY KEY CHECK (one = 1), version INTEGER NOT NULL, \
@@ -44,7 +46,7 @@ fn make_node<S: Alter>(tx: &mut Transaction<'_, S>) -> Result<(), Error>
     ensures ok { HasCleanDisk (state S.Store tx.new.conn.now) → OnOk result
         (IsMade schema_1 (state S.Store tx.old.conn.now).now → IsMade schema_2 (state S.Store tx.new.conn.now).now) }
     ensures spares { HasCleanDisk (state S.Store tx.new.conn.now) → OnOk result
-        (StaysBeside (state S.Store tx.old.conn.now).now (state S.Store tx.new.conn.now).now) }
+        (AddsTables schema_1 schema_2 (state S.Store tx.old.conn.now).now (state S.Store tx.new.conn.now).now) }
 {
     tx.execute(
         "CREATE TABLE node (id INTEGER PRIMARY KEY, parent INTEGER REFERENCES node(id), name TEXT NOT NULL, \
@@ -60,7 +62,7 @@ fn make_entry<S: Alter>(tx: &mut Transaction<'_, S>) -> Result<(), Error>
     ensures ok { HasCleanDisk (state S.Store tx.new.conn.now) → OnOk result
         (IsMade schema_2 (state S.Store tx.old.conn.now).now → IsMade schema_3 (state S.Store tx.new.conn.now).now) }
     ensures spares { HasCleanDisk (state S.Store tx.new.conn.now) → OnOk result
-        (StaysBeside (state S.Store tx.old.conn.now).now (state S.Store tx.new.conn.now).now) }
+        (AddsTables schema_2 schema_3 (state S.Store tx.old.conn.now).now (state S.Store tx.new.conn.now).now) }
 {
     tx.execute(
         "CREATE TABLE entry (node INTEGER NOT NULL REFERENCES node(id) ON DELETE CASCADE, \
@@ -76,7 +78,7 @@ fn make_doc<S: Alter>(tx: &mut Transaction<'_, S>) -> Result<(), Error>
     ensures ok { HasCleanDisk (state S.Store tx.new.conn.now) → OnOk result
         (IsMade schema_3 (state S.Store tx.old.conn.now).now → IsMade schema_4 (state S.Store tx.new.conn.now).now) }
     ensures spares { HasCleanDisk (state S.Store tx.new.conn.now) → OnOk result
-        (StaysBeside (state S.Store tx.old.conn.now).now (state S.Store tx.new.conn.now).now) }
+        (AddsTables schema_3 schema_4 (state S.Store tx.old.conn.now).now (state S.Store tx.new.conn.now).now) }
 {
     tx.execute(
         "CREATE TABLE doc (node INTEGER PRIMARY KEY REFERENCES node(id) ON DELETE CASCADE, bytes BLOB NOT NULL) STRICT",
@@ -90,7 +92,7 @@ fn make_session<S: Alter>(tx: &mut Transaction<'_, S>) -> Result<(), Error>
     ensures ok { HasCleanDisk (state S.Store tx.new.conn.now) → OnOk result
         (IsMade schema_4 (state S.Store tx.old.conn.now).now → IsMade schema_5 (state S.Store tx.new.conn.now).now) }
     ensures spares { HasCleanDisk (state S.Store tx.new.conn.now) → OnOk result
-        (StaysBeside (state S.Store tx.old.conn.now).now (state S.Store tx.new.conn.now).now) }
+        (AddsTables schema_4 schema_5 (state S.Store tx.old.conn.now).now (state S.Store tx.new.conn.now).now) }
 {
     tx.execute(
         "CREATE TABLE session (sid TEXT PRIMARY KEY NOT NULL, owner TEXT NOT NULL, slots INTEGER NOT NULL, \
@@ -109,8 +111,8 @@ pub(crate) fn make_kept<S: Alter>(tx: &mut Transaction<'_, S>) -> Result<(), Err
     ensures beside { HasCleanDisk (state S.Store tx.new.conn.now) → OnOk result
         (IsTrue (state S.Store tx.old.conn.now).is_open × (tx.old.conn.now.schema ≡ first_schema →
         IsWidened (state S.Store tx.old.conn.now).now (state S.Store tx.new.conn.now).now)) }
-    ensures spares { HasCleanDisk (state S.Store tx.new.conn.now) → OnOk result
-        (StaysBeside (state S.Store tx.old.conn.now).now (state S.Store tx.new.conn.now).now) }
+    ensures spares { HasCleanDisk (state S.Store tx.new.conn.now) → OnOk result (AddsTables schema_5
+        (room_schema Fresh) (state S.Store tx.old.conn.now).now (state S.Store tx.new.conn.now).now) }
 {
     run(
         tx,
@@ -125,7 +127,7 @@ fn make_half<S: Alter>(tx: &mut Transaction<'_, S>) -> Result<(), Error>
     ensures ok { HasCleanDisk (state S.Store tx.new.conn.now)
         → OnOk result (tx.old.conn.now.schema ≡ schema_0 → IsMade schema_3 (state S.Store tx.new.conn.now).now) }
     ensures spares { HasCleanDisk (state S.Store tx.new.conn.now) → OnOk result
-        (StaysBeside (state S.Store tx.old.conn.now).now (state S.Store tx.new.conn.now).now) }
+        (AddsTables schema_0 schema_3 (state S.Store tx.old.conn.now).now (state S.Store tx.new.conn.now).now) }
 {
     make_room(tx)?;
     make_node(tx)?;
@@ -137,8 +139,8 @@ fn make_tables<S: Alter>(tx: &mut Transaction<'_, S>) -> Result<(), Error>
     ensures ok { HasCleanDisk (state S.Store tx.new.conn.now)
         → OnOk result (tx.old.conn.now.schema ≡ schema_0
         → IsMade (room_schema Fresh) (state S.Store tx.new.conn.now).now) }
-    ensures spares { HasCleanDisk (state S.Store tx.new.conn.now) → OnOk result
-        (StaysBeside (state S.Store tx.old.conn.now).now (state S.Store tx.new.conn.now).now) }
+    ensures spares { HasCleanDisk (state S.Store tx.new.conn.now) → OnOk result (AddsTables schema_0
+        (room_schema Fresh) (state S.Store tx.old.conn.now).now (state S.Store tx.new.conn.now).now) }
 {
     make_half(tx)?;
     make_doc(tx)?;
@@ -154,8 +156,11 @@ fn put_first_next<S: Alter>(tx: &mut Transaction<'_, S>, next: u32) -> Result<()
         MakesChange (PutNext next) (state S.Store tx.old.conn.now) (state S.Store tx.new.conn.now)
         × IsVersion 2 (version_rows (state S.Store tx.new.conn.now).now.trees)
         × IsDatabase (state S.Store tx.new.conn.now).now) }
-    ensures spares { HasCleanDisk (state S.Store tx.new.conn.now) → OnOk result
-        (StaysBeside (state S.Store tx.old.conn.now).now (state S.Store tx.new.conn.now).now) }
+    ensures spares { HasCleanDisk (state S.Store tx.new.conn.now)
+        → OnOk result (Fills 0 (λ rows. rows ≡ []) (StandForNext next)
+        (state S.Store tx.old.conn.now).now (state S.Store tx.new.conn.now).now) }
+    ensures sound { HasCleanDisk (state S.Store tx.new.conn.now)
+        → OnOk result (IsDatabase (state S.Store tx.new.conn.now).now) }
 {
     run(
         tx,
@@ -179,8 +184,10 @@ fn fill<S: Alter>(
         apply_change (PutNext 2) (apply_change (PutEntries 1 entries.now) (apply_change (PutNode root.now) r)))
         × IsVersion 2 (version_rows (state S.Store tx.new.conn.now).now.trees)
         × IsDatabase (state S.Store tx.new.conn.now).now) }
-    ensures spares { HasCleanDisk (state S.Store tx.new.conn.now) → OnOk result
-        (StaysBeside (state S.Store tx.old.conn.now).now (state S.Store tx.new.conn.now).now) }
+    ensures spares { HasCleanDisk (state S.Store tx.new.conn.now)
+        → OnOk result ((before : Database) → has_a_table before.schema ≡ false →
+        IsBeside six no_trees before (state S.Store tx.old.conn.now).now →
+        StandsBeside (λ r. r ≡ filled root.now entries.now) before (state S.Store tx.new.conn.now).now) }
 {
     put_new_node(tx, root)?;
     put_new_entries(tx, 1, entries)?;
@@ -199,7 +206,8 @@ fn make_fresh<S: Alter>(
         IsFilled root.now entries.now (state S.Store tx.new.conn.now).now) }
     ensures spares { HasCleanDisk (state S.Store tx.new.conn.now)
         → OnOk result (has_a_table tx.old.conn.now.schema ≡ false →
-        IsBeside (state S.Store tx.old.conn.now).now (state S.Store tx.new.conn.now).now) }
+        StandsBeside (λ r. r ≡ filled root.now entries.now)
+        (state S.Store tx.old.conn.now).now (state S.Store tx.new.conn.now).now) }
 {
     make_tables(tx)?;
     fill(tx, root, entries)
@@ -219,7 +227,8 @@ fn commit_fresh<S: Alter>(
     ensures err { HasCleanDisk (state S.Store conn.new) → IsTrue (state S.Store conn.new).is_open
         → OnErr result ((state S.Store conn.new).now ≡ (state S.Store conn.old).committed) }
     ensures spares { HasCleanDisk (state S.Store conn.new) → OnOk result (has_a_table conn.old.schema ≡ false →
-        IsBeside (state S.Store conn.old).now (state S.Store conn.new).now) }
+        StandsBeside (λ r. r ≡ filled root.now entries.now)
+        (state S.Store conn.old).now (state S.Store conn.new).now) }
 {
     let mut tx = conn.transaction();
     make_fresh(&mut tx, root, entries)?;
@@ -242,7 +251,7 @@ pub(crate) fn make<S: Alter>(
         → (state S.Store conn.old).now ≡ (state S.Store conn.old).committed
         → OnErr result ((state S.Store conn.new).now ≡ (state S.Store conn.old).now) }
     ensures spares { HasCleanDisk (state S.Store conn.new) → OnOk result (has_a_table conn.old.schema ≡ false →
-        IsBeside (state S.Store conn.old).now (state S.Store conn.new).now) }
+        StandsBeside (IsFresh owner.now group.now) (state S.Store conn.old).now (state S.Store conn.new).now) }
 {
     let root = fresh_root(owner.clone()?, group.clone()?);
     let entries = fresh_entries(alloc)?;

@@ -14,7 +14,8 @@ ghost use Rattle.room_records.specs.declared.change.Change.TheVariants.{PutSessi
 ghost use Rattle.room_tables.specs.Tables.{Upgraded, room_schema};
 ghost use Rattle.room_tables.specs.Rows.{version_rows, IsVersion};
 ghost use Rattle.room_tables.specs.Layout.{IsRoomDatabase};
-ghost use Rattle.room_tables.specs.Beside.{StaysBeside};
+ghost use Rattle.room_tables.specs.Beside.{Fills};
+ghost use Rattle.room_tables.specs.Fresh.{StandForNode, StandForEntries};
 ghost use Rattle.room_tables.specs.Rows.{records_of, five_columns};
 ghost use Rattle.room_tables.specs.Steps.{Steps, SeesSound, Lists, MayBecome, StaysRoom, IsReadBack, placed};
 ghost use Rattle.room_sql.specs.NewObject.{after_change, NoEntriesIfKnown};
@@ -110,8 +111,9 @@ pub(crate) fn put_new_node<S: Alter>(tx: &mut Transaction<'_, S>, node: &Node) -
     ensures no_entries { HasCleanDisk (state S.Store tx.new.conn.now)
         → OnOk result (IsRoomDatabase (state S.Store tx.old.conn.now).now → SeesSound (state S.Store tx.old.conn.now) →
         (records_of (state S.Store tx.new.conn.now).now.trees).objects.entries node.now.id ≡ []) }
-    ensures spares { HasCleanDisk (state S.Store tx.new.conn.now) → OnOk result
-        (StaysBeside (state S.Store tx.old.conn.now).now (state S.Store tx.new.conn.now).now) }
+    ensures spares { HasCleanDisk (state S.Store tx.new.conn.now)
+        → OnOk result (Fills 1 (λ rows. rows ≡ []) (StandForNode node.now)
+        (state S.Store tx.old.conn.now).now (state S.Store tx.new.conn.now).now) }
 {
     let name = name_text(node);
     let id = node_number(node);
@@ -159,8 +161,10 @@ fn add_one<S: Alter>(
         → OnOk result ((was : Database) (before : _) → length before ≡ place →
         Lists was id before (state S.Store tx.old.conn.now).now
         → Lists was id (before ++ a.now ∷ []) (state S.Store tx.new.conn.now).now) }
-    ensures spares { HasCleanDisk (state S.Store tx.new.conn.now) → OnOk result
-        (StaysBeside (state S.Store tx.old.conn.now).now (state S.Store tx.new.conn.now).now) }
+    ensures spares { HasCleanDisk (state S.Store tx.new.conn.now)
+        → OnOk result ((before : _) → length before ≡ place →
+        Fills 3 (StandForEntries id before) (StandForEntries id (before ++ a.now ∷ []))
+        (state S.Store tx.old.conn.now).now (state S.Store tx.new.conn.now).now) }
 {
     let a = entry_row(place, a);
     run(
@@ -184,8 +188,10 @@ fn add_two<S: Alter>(
         → OnOk result ((was : Database) (before : _) → length before ≡ place →
         Lists was id before (state S.Store tx.old.conn.now).now
         → Lists was id (before ++ a.now ∷ b.now ∷ []) (state S.Store tx.new.conn.now).now) }
-    ensures spares { HasCleanDisk (state S.Store tx.new.conn.now) → OnOk result
-        (StaysBeside (state S.Store tx.old.conn.now).now (state S.Store tx.new.conn.now).now) }
+    ensures spares { HasCleanDisk (state S.Store tx.new.conn.now)
+        → OnOk result ((before : _) → length before ≡ place →
+        Fills 3 (StandForEntries id before) (StandForEntries id (before ++ a.now ∷ b.now ∷ []))
+        (state S.Store tx.old.conn.now).now (state S.Store tx.new.conn.now).now) }
 {
     let a = entry_row(place, a);
     let b = entry_row(place + 1, b);
@@ -224,8 +230,10 @@ fn add_three<S: Alter>(
         → OnOk result ((was : Database) (before : _) → length before ≡ place →
         Lists was id before (state S.Store tx.old.conn.now).now
         → Lists was id (before ++ a.now ∷ b.now ∷ c.now ∷ []) (state S.Store tx.new.conn.now).now) }
-    ensures spares { HasCleanDisk (state S.Store tx.new.conn.now) → OnOk result
-        (StaysBeside (state S.Store tx.old.conn.now).now (state S.Store tx.new.conn.now).now) }
+    ensures spares { HasCleanDisk (state S.Store tx.new.conn.now)
+        → OnOk result ((before : _) → length before ≡ place →
+        Fills 3 (StandForEntries id before) (StandForEntries id (before ++ a.now ∷ b.now ∷ c.now ∷ []))
+        (state S.Store tx.old.conn.now).now (state S.Store tx.new.conn.now).now) }
 {
     let a = entry_row(place, a);
     let b = entry_row(place + 1, b);
@@ -271,8 +279,10 @@ fn add_four<S: Alter>(
         → OnOk result ((was : Database) (before : _) → length before ≡ place →
         Lists was id before (state S.Store tx.old.conn.now).now
         → Lists was id (before ++ a.now ∷ b.now ∷ c.now ∷ d.now ∷ []) (state S.Store tx.new.conn.now).now) }
-    ensures spares { HasCleanDisk (state S.Store tx.new.conn.now) → OnOk result
-        (StaysBeside (state S.Store tx.old.conn.now).now (state S.Store tx.new.conn.now).now) }
+    ensures spares { HasCleanDisk (state S.Store tx.new.conn.now)
+        → OnOk result ((before : _) → length before ≡ place →
+        Fills 3 (StandForEntries id before) (StandForEntries id (before ++ a.now ∷ b.now ∷ c.now ∷ d.now ∷ []))
+        (state S.Store tx.old.conn.now).now (state S.Store tx.new.conn.now).now) }
 {
     let a = entry_row(place, a);
     let b = entry_row(place + 1, b);
@@ -327,8 +337,10 @@ fn add_batch<S: Alter>(
         → OnOk result ((was : Database) (before : _) → length before ≡ place →
         Lists was id before (state S.Store tx.old.conn.now).now
         → Lists was id (before ++ batch.now) (state S.Store tx.new.conn.now).now) }
-    ensures spares { HasCleanDisk (state S.Store tx.new.conn.now) → OnOk result
-        (StaysBeside (state S.Store tx.old.conn.now).now (state S.Store tx.new.conn.now).now) }
+    ensures spares { HasCleanDisk (state S.Store tx.new.conn.now)
+        → OnOk result ((before : _) → length before ≡ place →
+        Fills 3 (StandForEntries id before) (StandForEntries id (before ++ batch.now))
+        (state S.Store tx.old.conn.now).now (state S.Store tx.new.conn.now).now) }
 {
     match batch {
         [] => Ok(()),
@@ -353,8 +365,9 @@ fn add_entries<S: Alter>(
     ensures ok { HasCleanDisk (state S.Store tx.new.conn.now)
         → OnOk result ((was : Database) → Lists was id (take from entries.now) (state S.Store tx.old.conn.now).now →
         Lists was id entries.now (state S.Store tx.new.conn.now).now) }
-    ensures spares { HasCleanDisk (state S.Store tx.new.conn.now) → OnOk result
-        (StaysBeside (state S.Store tx.old.conn.now).now (state S.Store tx.new.conn.now).now) }
+    ensures spares { HasCleanDisk (state S.Store tx.new.conn.now)
+        → OnOk result (Fills 3 (StandForEntries id (take from entries.now)) (StandForEntries id entries.now)
+        (state S.Store tx.old.conn.now).now (state S.Store tx.new.conn.now).now) }
 {
     if u32::try_from(entries.len()).is_err() {
         return Err(Error::SqliteFailure(ErrorCode::TooBig));
@@ -563,8 +576,9 @@ pub(crate) fn put_new_entries<S: Alter>(
         → OnOk result (IsRoomDatabase (state S.Store tx.old.conn.now).now →
         (records_of (state S.Store tx.old.conn.now).now.trees).objects.entries id ≡ [] →
         MakesChange (PutEntries id entries.now) (state S.Store tx.old.conn.now) (state S.Store tx.new.conn.now)) }
-    ensures spares { HasCleanDisk (state S.Store tx.new.conn.now) → OnOk result
-        (StaysBeside (state S.Store tx.old.conn.now).now (state S.Store tx.new.conn.now).now) }
+    ensures spares { HasCleanDisk (state S.Store tx.new.conn.now)
+        → OnOk result (Fills 3 (StandForEntries id []) (StandForEntries id entries.now.items)
+        (state S.Store tx.old.conn.now).now (state S.Store tx.new.conn.now).now) }
 {
     add_entries(tx, id, 0, entries.as_slice())
 }

@@ -171,7 +171,7 @@ HasAll rows new (tail ∷ tails) = (rowid : ℤ) × (is_taken rows (Int rowid �
 abbrev pub unnumbered : List Row → List Row
 unnumbered tails = map (λ tail. Null ∷ tail) tails
 
-all_chosen : (rows tails : List Row) → are_fresh rows (numbered Chosen rows (unnumbered tails)) ≡ true
+pub all_chosen : (rows tails : List Row) → are_fresh rows (numbered Chosen rows (unnumbered tails)) ≡ true
     → HasAll rows (put_all rows (numbered Chosen rows (unnumbered tails))) tails
 all_chosen rows [] fresh = refl
 all_chosen rows (tail ∷ tails) fresh =

@@ -167,7 +167,7 @@ kind_back Folder = refl
 abbrev pub row_of_node : Node → List ℕ → Row
 row_of_node node name = stored_node node.id node.parent name (kind_number node.kind) node.owner node.group node.aclflag
 
-node_back : (node : Node) (name : List ℕ) → name_of_text name ≡ node.name
+pub node_back : (node : Node) (name : List ℕ) → name_of_text name ≡ node.name
     → node_of (shown_node (row_of_node node name)) ≡ node
 node_back node name named =
     λ i. record node { parent = parent_back node.parent i; name = named i; kind = kind_back node.kind i }

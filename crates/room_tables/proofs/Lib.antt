@@ -31,4 +31,7 @@ pub mod Reading
 pub mod Onward
 pub mod Names
 pub mod Sizes
+pub mod Ours
 pub mod Beside
+pub mod Fills
+pub mod Stands

@@ -206,7 +206,7 @@ grown id es e rowid rows free keyed was = record {
         (filter (has 1 id) rows))) mine (IsPermutation-filter (has 1 id) _ _ (put_is_one_more row rows free))
 
 -- the same of some rows, at the places that follow
-all_grown : (id at : ℕ) (es batch : List EntryModel) (rows new : List Row)
+pub all_grown : (id at : ℕ) (es batch : List EntryModel) (rows new : List Row)
     → at ≡ length es → IsKeyed rows → in_order (filter (has 1 id) rows) ≡ placed 0 es
     → HasAll rows new (stored id at batch) → Grown id (es ++ batch) rows new
 all_grown id at es [] rows new place keyed was all = record {

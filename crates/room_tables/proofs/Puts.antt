@@ -99,7 +99,7 @@ module _ (l : Layout) (id : ℕ) (parent : Option ℕ) (name : List ℕ) (kind :
   abbrev stored : Row
   stored = stored_node id parent name kind owner group aclflag
 
-  cast_node : (i : ℤ) → cast_row node_table (Int i ∷ Null ∷ drop 1 params) ≡ Int i ∷ Null ∷ drop 1 params
+  pub cast_node : (i : ℤ) → cast_row node_table (Int i ∷ Null ∷ drop 1 params) ≡ Int i ∷ Null ∷ drop 1 params
   cast_node i = rw (cast_int i, cast_null, cast_parent parent, cast_int (pos kind), cast_int (pos aclflag))
 
   pub node_update : IsUpdate l node_table (has 0 id) T.change_node_query.filter T.change_node_query.project params
@@ -166,7 +166,7 @@ adds_doc l old new id bytes count schema h =
 abbrev pub stored_next : ℕ → Row
 stored_next n = Int (pos 1) ∷ Null ∷ Int (pos 2) ∷ Int (pos n) ∷ []
 
-cast_next : (n : ℕ) (i : ℤ) → cast_row room_table (Int i ∷ Null ∷ Int (pos 2) ∷ Int (pos n) ∷ [])
+pub cast_next : (n : ℕ) (i : ℤ) → cast_row room_table (Int i ∷ Null ∷ Int (pos 2) ∷ Int (pos n) ∷ [])
     ≡ Int i ∷ Null ∷ Int (pos 2) ∷ Int (pos n) ∷ []
 cast_next n i = rw (cast_int i, cast_null, cast_int (pos 2), cast_int (pos n))
 

@@ -79,7 +79,7 @@ abbrev pub bound_entries : ℕ → List EntryModel → Row
 bound_entries at [] = []
 bound_entries at (e ∷ es) = shown_as at e ++ bound_entries (suc at) es
 
-cast_stored : (node at : ℕ) (es : List EntryModel)
+pub cast_stored : (node at : ℕ) (es : List EntryModel)
     → map (λ row. cast_row entry_table (drop 0 row)) (unnumbered (stored node at es)) ≡ unnumbered (stored node at es)
 cast_stored node at [] = refl
 cast_stored node at (e ∷ es) = ap₂ (λ row rows. row ∷ rows) one (cast_stored node (suc at) es)

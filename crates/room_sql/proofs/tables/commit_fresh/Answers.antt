@@ -1,11 +1,10 @@
 use Rattle.std.proofs.Common.{◌≡◌, refl, sym, subst, rules, ◌∙◌}
 use Rattle.sqlite.specs.State.{HasCleanDisk}
-use Rattle.sqlite.specs.Change.{KeepsRows}
 use Rattle.sqlite.proofs.StateLemmas.{survives_then}
 use Rattle.sqlite.proofs.Callers.{survives_begin}
+use Rattle.room_records.specs.Records.{Records}
 use Rattle.room_tables.specs.Tables.{Fresh, room_schema}
-use Rattle.room_tables.specs.Fresh.{IsFilled, MayBeFilled}
-use Rattle.room_tables.specs.Beside.{IsBeside}
+use Rattle.room_tables.specs.Fresh.{IsFilled, MayBeFilled, StandsBeside, filled}
 use Rattle.room_tables.proofs.Moves.{by_trees}
 use Rattle.sqlite.specs.Held.{state}
 use Rattle.room_tables.proofs.Changes.{fails_back, on_err}
@@ -29,7 +28,8 @@ returns-clause-frame g c =
     let root = c.args.root.now in
     let entries = c.args.entries.now in
     let begun = c.transaction-tx.ensures.begun in
-    let filled = λ (clean : HasCleanDisk (state g.S.Store last)). rw begun at (c.in_ok-make_fresh.ensures.ok clean) in
+    let Such = λ (r : Records). r ≡ filled root entries in
+    let fills = λ (clean : HasCleanDisk (state g.S.Store last)). rw begun at (c.in_ok-make_fresh.ensures.ok clean) in
     let spares = λ (clean : HasCleanDisk (state g.S.Store last)).
     rw begun at (c.in_ok-make_fresh.ensures.spares clean) in
     let same : c.commit.new.self.0 ≡ c.conn-2-1.given.0 = search rules in
@@ -42,10 +42,13 @@ returns-clause-frame g c =
           (λ clean db is.
           let early = was_clean c.commit.ensures.survives clean in (
             λ none.
-                let it = filled early none in
+                let it = fills early none in
                 by_trees (room_schema Fresh) (IsFilled root entries) (state g.S.Store last).now db it.0.schema is it,
-            λ none. subst (KeepsRows (state g.S.Store old).now.schema.tables (state g.S.Store old).now.trees) (sym is)
-                (spares early none).rows,
+            λ none. (
+              (state g.S.Store last).now.schema,
+              subst (λ trees. StandsBeside Such (state g.S.Store old).now
+                  (record { schema = (state g.S.Store last).now.schema; trees = trees })) (sym is) (spares early none),
+            ),
           ))
           (survives_begin g.S.Store old (state g.S.Store last) _ (rw begun at c.make_fresh.ensures.frame.crash))
           c.commit.ensures.survives);
@@ -59,4 +62,5 @@ returns-clause-spares g c clean =
     let begun = c.transaction-tx.ensures.begun in
     let spares = rw begun at (c.in_ok-make_fresh.ensures.spares early) in
     rw (← same) (ok_then c.commit.result (c.commit.ensures.ok late) (λ it none.
-    subst (IsBeside (state g.S.Store c.args.conn.now).now) (sym it.1.now_is) (spares none)))
+    subst (StandsBeside (λ r. r ≡ filled c.args.root.now c.args.entries.now) (state g.S.Store c.args.conn.now).now)
+    (sym it.1.now_is) (spares none)))

@@ -1,7 +1,8 @@
 use Rattle.std.proofs.Common.{◌∙◌, ap}
 use Rattle.room_records.specs.declared.change.Change.TheVariants.{PutEntries, PutNext}
 use Rattle.room_records.specs.Changes.{apply_change}
-use Rattle.room_sql.proofs.Frames.{was_clean, ok_then}
+use Rattle.room_tables.proofs.Stands.{stands_filled}
+use Rattle.room_sql.proofs.Frames.{was_clean, ok_then, both}
 use Rattle.room_sql.proofs.tables.fill.Goals as goal
 
 pub returns-clause-ok : goal.returns-clause-ok
@@ -31,6 +32,7 @@ pub returns-clause-spares : goal.returns-clause-spares
 returns-clause-spares g c clean =
     let late = was_clean c.put_first_next.ensures.frame.crash clean in
     let early = was_clean c.put_new_entries.ensures.frame.crash late in
-    ok_then c.put_first_next.result (c.put_first_next.ensures.spares clean) (λ three before none was.
-    three before none (c.in_ok-put_new_entries.ensures.spares late before none
-    (c.in_ok-put_new_node.ensures.spares early before none was)))
+    ok_then c.put_first_next.result (both c.put_first_next.result _ _ (c.put_first_next.ensures.spares clean)
+    (c.put_first_next.ensures.sound clean)) (λ three before none was.
+    stands_filled c.args.root.now c.args.entries.now _ _ _ _ before c.requires none was
+    (c.in_ok-put_new_node.ensures.spares early) (c.in_ok-put_new_entries.ensures.spares late) three.0 three.1)

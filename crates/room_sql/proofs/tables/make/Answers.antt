@@ -5,6 +5,7 @@ use Rattle.room_records.specs.Fresh.{fresh_root}
 use Rattle.room_records.specs.Records.{Records}
 use Rattle.room_tables.specs.Fresh.{IsFresh, filled}
 use Rattle.room_tables.proofs.Creates.{fresh_from}
+use Rattle.room_tables.proofs.Stands.{stands_such, may_stand}
 use Rattle.room_sql.proofs.tables.make.Given.{Over}
 use Rattle.room_sql.proofs.tables.make.Goals as goal
 
@@ -22,6 +23,14 @@ pub returns-clause-frame : goal.returns-clause-frame
 returns-clause-frame g c = record {
   mode = c.commit_fresh.ensures.frame.mode;
   was_open = c.commit_fresh.ensures.frame.was_open;
-  crash = survives_weaker _ _ _ _ (λ _ db h. (λ none. ((h.0 none).0, fresh g c _ (h.0 none).1), h.1))
+  crash = survives_weaker _ _ _ _ (λ _ db h. (
+    λ none. ((h.0 none).0, fresh g c _ (h.0 none).1),
+    may_stand _ _ _ db (fresh g c) h.1,
+  ))
       c.commit_fresh.ensures.frame.crash;
 }
+
+pub returns-clause-spares : goal.returns-clause-spares
+returns-clause-spares g c clean =
+    IfOk-weaker c.commit_fresh.result _ _ (λ _ h none. stands_such _ _ _ _ (fresh g c) (h none))
+    (c.commit_fresh.ensures.spares clean)

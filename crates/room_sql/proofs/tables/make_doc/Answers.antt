@@ -1,9 +1,7 @@
 use Rattle.room_tables.proofs.Changes.{was_inside}
 use Rattle.room_tables.proofs.Creates.{doc_step}
 use Rattle.room_sql.proofs.tables.make_doc.Goals as goal
-use Rattle.std.proofs.Common.{[]}
-use Rattle.room_tables.specs.Tables.{doc_text}
-use Rattle.room_tables.proofs.Beside.{create_beside, doc_creates}
+use Rattle.room_tables.proofs.Beside.{doc_beside}
 
 pub returns-clause-ok : goal.returns-clause-ok
 returns-clause-ok g c clean =
@@ -13,4 +11,4 @@ returns-clause-ok g c clean =
 pub returns-clause-spares : goal.returns-clause-spares
 returns-clause-spares g c clean =
     let inside = was_inside _ _ c.in_ok-execute.field-0 _ _ c.execute.ensures.ended c.in_ok-execute.was in
-    create_beside doc_text [] _ _ c.in_ok-execute.field-0 doc_creates (c.in_ok-execute.ensures.runs clean inside)
+    doc_beside _ _ c.in_ok-execute.field-0 (c.in_ok-execute.ensures.runs clean inside)

@@ -2,9 +2,7 @@ use Rattle.room_tables.proofs.Changes.{was_inside}
 use Rattle.room_tables.proofs.Creates.{entry_step}
 use Rattle.room_sql.proofs.Frames.{inside_err, statement_ran}
 use Rattle.room_sql.proofs.tables.make_entry.Goals as goal
-use Rattle.std.proofs.Common.{[]}
-use Rattle.room_tables.specs.Tables.{entry_text}
-use Rattle.room_tables.proofs.Beside.{create_beside, entry_creates}
+use Rattle.room_tables.proofs.Beside.{entry_beside}
 
 pub returns-clause-ok : goal.returns-clause-ok
 returns-clause-ok g c clean =
@@ -19,4 +17,4 @@ returns-in_err-execute-clause-frame g c =
 pub returns-clause-spares : goal.returns-clause-spares
 returns-clause-spares g c clean =
     let inside = was_inside _ _ c.in_ok-execute.field-0 _ _ c.execute.ensures.ended c.in_ok-execute.was in
-    create_beside entry_text [] _ _ c.in_ok-execute.field-0 entry_creates (c.in_ok-execute.ensures.runs clean inside)
+    entry_beside _ _ c.in_ok-execute.field-0 (c.in_ok-execute.ensures.runs clean inside)

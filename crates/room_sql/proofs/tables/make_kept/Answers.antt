@@ -3,9 +3,7 @@ use Rattle.room_tables.proofs.Creates.{kept_step}
 use Rattle.room_tables.proofs.Moves.{widens}
 use Rattle.room_sql.proofs.Frames.{ok_then}
 use Rattle.room_sql.proofs.tables.make_kept.Goals as goal
-use Rattle.std.proofs.Common.{[]}
-use Rattle.room_tables.specs.Tables.{kept_text}
-use Rattle.room_tables.proofs.Beside.{create_beside, kept_creates}
+use Rattle.room_tables.proofs.Beside.{kept_beside}
 
 pub returns-clause-ok : goal.returns-clause-ok
 returns-clause-ok g c clean =
@@ -17,4 +15,4 @@ returns-clause-beside g c clean = ok_then c.run.result (c.run.ensures.done clean
 
 pub returns-clause-spares : goal.returns-clause-spares
 returns-clause-spares g c clean = ok_then c.run.result (c.run.ensures.done clean)
-    (λ ran. create_beside kept_text [] _ _ ran.0 kept_creates ran.1)
+    (λ ran. kept_beside _ _ ran.0 ran.1)

@@ -1,9 +1,7 @@
 use Rattle.room_tables.proofs.Changes.{was_inside}
 use Rattle.room_tables.proofs.Creates.{room_step}
 use Rattle.room_sql.proofs.tables.make_room.Goals as goal
-use Rattle.std.proofs.Common.{[]}
-use Rattle.room_tables.specs.Tables.{room_text}
-use Rattle.room_tables.proofs.Beside.{create_beside, room_creates}
+use Rattle.room_tables.proofs.Beside.{room_beside}
 
 pub returns-clause-ok : goal.returns-clause-ok
 returns-clause-ok g c clean none =
@@ -13,4 +11,4 @@ returns-clause-ok g c clean none =
 pub returns-clause-spares : goal.returns-clause-spares
 returns-clause-spares g c clean =
     let inside = was_inside _ _ c.in_ok-execute.field-0 _ _ c.execute.ensures.ended c.in_ok-execute.was in
-    create_beside room_text [] _ _ c.in_ok-execute.field-0 room_creates (c.in_ok-execute.ensures.runs clean inside)
+    room_beside _ _ c.in_ok-execute.field-0 (c.in_ok-execute.ensures.runs clean inside)

@@ -1,9 +1,7 @@
 use Rattle.room_tables.proofs.Changes.{was_inside}
 use Rattle.room_tables.proofs.Creates.{session_step}
 use Rattle.room_sql.proofs.tables.make_session.Goals as goal
-use Rattle.std.proofs.Common.{[]}
-use Rattle.room_tables.specs.Tables.{session_text}
-use Rattle.room_tables.proofs.Beside.{create_beside, session_creates}
+use Rattle.room_tables.proofs.Beside.{session_beside}
 
 pub returns-clause-ok : goal.returns-clause-ok
 returns-clause-ok g c clean =
@@ -13,5 +11,5 @@ returns-clause-ok g c clean =
 pub returns-clause-spares : goal.returns-clause-spares
 returns-clause-spares g c clean =
     let inside = was_inside _ _ c.in_ok-execute.field-0 _ _ c.execute.ensures.ended c.in_ok-execute.was in
-    create_beside session_text [] _ _ c.in_ok-execute.field-0 session_creates
+    session_beside _ _ c.in_ok-execute.field-0
     (c.in_ok-execute.ensures.runs clean inside)

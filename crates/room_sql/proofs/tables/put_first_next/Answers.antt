@@ -1,5 +1,5 @@
 use Rattle.room_tables.proofs.Effects.{first_sets_next}
-use Rattle.room_tables.proofs.Beside.{next_beside}
+use Rattle.room_tables.proofs.Stands.{fills_next, next_sound}
 use Rattle.room_sql.proofs.Frames.{ok_then}
 use Rattle.room_sql.proofs.tables.put_first_next.Goals as goal
 
@@ -10,4 +10,10 @@ returns-clause-ok g c clean = ok_then c.run.result (c.run.ensures.done clean) (�
 
 pub returns-clause-spares : goal.returns-clause-spares
 returns-clause-spares g c clean =
-    ok_then c.run.result (c.run.ensures.done clean) (λ ran. next_beside _ _ _ ran.0 ran.1)
+    ok_then c.run.result (c.run.ensures.done clean) (λ ran.
+    fills_next _ _ c.args.next ran.0 (rw c.params-to_sql.ensures at ran.1))
+
+pub returns-clause-sound : goal.returns-clause-sound
+returns-clause-sound g c clean =
+    ok_then c.run.result (c.run.ensures.done clean) (λ ran.
+    next_sound _ _ c.args.next ran.0 (rw c.params-to_sql.ensures at ran.1))

@@ -1,5 +1,10 @@
-use Rattle.std.proofs.Common.{◌≡◌, ◌∙◌, ◌≤◌, length, take, drop, sym, ap, arith}
+use Rattle.std.proofs.Common.{◌≡◌, ◌∙◌, ◌≤◌, List, ◌++◌, length, take, drop, sym, ap, subst, arith}
+use Rattle.sqlite.specs.Held.{state}
+use Rattle.room_acl.specs.Entries.{EntryModel}
+use Rattle.room_tables.specs.Beside.{Fills}
+use Rattle.room_tables.specs.Fresh.{StandForEntries}
 use Rattle.std.proofs.lemmas.List.{take_all, length-take-le, length-drop}
+use Rattle.room_tables.proofs.Stands.{fills_more}
 use Rattle.room_sql.proofs.Bound.{next_batch}
 use Rattle.room_sql.proofs.Frames.{was_clean, inside_then, inside_err}
 use Rattle.room_sql.proofs.writes.add_entries.Goals as goal
@@ -21,8 +26,10 @@ loop-batch-preserved g c =
           let before = inv.done (was_clean c.add_batch.ensures.frame.crash clean) records was in
           rw next.0 (c.in_ok-add_batch.ensures.ok clean records (take place xs)
           (length-take-le place xs inv.within) before);
-      spares = λ clean before none was. c.in_ok-add_batch.ensures.spares clean before none
-          (inv.spares (was_clean c.add_batch.ensures.frame.crash clean) before none was);
+      spares = λ clean.
+          let before = inv.spares (was_clean c.add_batch.ensures.frame.crash clean) in
+          fills_more c.args.id (take c.args.from xs) (take place xs) (take place xs ++ batch) _ _ _ _ next.0 before
+          (c.in_ok-add_batch.ensures.spares clean (take place xs) (length-take-le place xs inv.within));
     }
 
 pub returns-clause-ok : goal.returns-clause-ok
@@ -32,6 +39,17 @@ returns-clause-ok g c clean records was =
     let none : length (drop place xs) ≡ 0 = ap length (sym c.loop-batch.invariant.rest) ∙ c.in-None.ensures.steps.1.0 in
     let all : length xs ≤ place = omega (arith, length-drop place xs, none) in
     rw take_all at (c.loop-batch.invariant.done clean records was)
+
+pub returns-clause-spares : goal.returns-clause-spares
+returns-clause-spares g c clean =
+    let xs = c.args.entries.now in
+    let place = c.loop-batch.place in
+    let none : length (drop place xs) ≡ 0 = ap length (sym c.loop-batch.invariant.rest) ∙ c.in-None.ensures.steps.1.0 in
+    let all : length xs ≤ place = omega (arith, length-drop place xs, none) in
+    let Grows = λ (l : List EntryModel). Fills 3 (StandForEntries c.args.id (take c.args.from xs))
+    (StandForEntries c.args.id l)
+    (state g.S.Store c.args.tx.now.conn.now).now (state g.S.Store c.loop-batch.tx.conn.now).now in
+    subst Grows (take_all place xs all) (c.loop-batch.invariant.spares clean)
 
 pub returns-in_err-add_batch-clause-frame : goal.returns-in_err-add_batch-clause-frame
 returns-in_err-add_batch-clause-frame g c =

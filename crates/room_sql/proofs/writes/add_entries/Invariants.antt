@@ -3,7 +3,8 @@ use Rattle.sqlite.specs.State.{HasCleanDisk}
 use Rattle.sqlite.specs.Held.{state}
 use Rattle.sqlite.specs.Effect.{Database}
 use Rattle.room_tables.specs.Steps.{Lists}
-use Rattle.room_tables.specs.Beside.{StaysBeside}
+use Rattle.room_tables.specs.Beside.{Fills}
+use Rattle.room_tables.specs.Fresh.{StandForEntries}
 use Rattle.room_sql.specs.Frames.{InsideFrame}
 use Rattle.room_sql.proofs.writes.add_entries.Given as goal
 
@@ -18,5 +19,7 @@ invariant-loop-batch g l =
       within : l.place ≤ length l.entries;
       done : HasCleanDisk now → (was : Database) → Lists was l.id (take l.from l.entries) old.now
           → Lists was l.id (take l.place l.entries) now.now;
-      spares : HasCleanDisk now → StaysBeside old.now now.now;
+      spares : HasCleanDisk now
+          → Fills 3 (StandForEntries l.id (take l.from l.entries)) (StandForEntries l.id (take l.place l.entries))
+          old.now now.now;
     }

@@ -8,7 +8,7 @@ use Rattle.room_sql.proofs.Bound.{columns, entry_then}
 use Rattle.room_sql.proofs.Frames.{ok_then}
 use Rattle.room_sql.proofs.writes.add_one.Given.{Over}
 use Rattle.room_sql.proofs.writes.add_one.Goals as goal
-use Rattle.room_tables.proofs.Beside.{entries_beside, one_insert}
+use Rattle.room_tables.proofs.Stands.{fills_entries, one_insert}
 
 params : (g : Over) (c : goal.After-run g) → bound (c.to_sql.result ∷ columns (c.entry_row-a.result ∷ []))
     ≡ Int (pos c.args.id) ∷ bound_entries c.args.place (c.args.a.now ∷ [])
@@ -22,5 +22,7 @@ returns-clause-ok g c clean = ok_then c.run.result (c.run.ensures.done clean) (�
     (c.entry_row-a.ensures.back, tt) was (rw (params g c) at done.1))
 
 pub returns-clause-spares : goal.returns-clause-spares
-returns-clause-spares g c clean = ok_then c.run.result (c.run.ensures.done clean)
-    (λ ran. entries_beside add_entry_text _ _ _ ran.0 one_insert ran.1)
+returns-clause-spares g c clean = ok_then c.run.result (c.run.ensures.done clean) (λ done before len.
+    fills_entries add_entry_text c.args.id c.args.place before (c.args.a.now ∷ [])
+    (one_insert c.args.id c.args.place c.args.a.now) (sym len)
+    (c.entry_row-a.ensures.back, tt) _ _ done.0 (rw (params g c) at done.1))

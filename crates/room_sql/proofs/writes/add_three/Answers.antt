@@ -8,7 +8,7 @@ use Rattle.room_sql.proofs.Bound.{columns, entry_then}
 use Rattle.room_sql.proofs.Frames.{ok_then}
 use Rattle.room_sql.proofs.writes.add_three.Given.{Over}
 use Rattle.room_sql.proofs.writes.add_three.Goals as goal
-use Rattle.room_tables.proofs.Beside.{entries_beside, three_insert}
+use Rattle.room_tables.proofs.Stands.{fills_entries, three_insert}
 
 params : (g : Over) (c : goal.After-run g)
     → bound (c.to_sql.result ∷ columns (c.entry_row-a.result ∷ c.entry_row-b.result ∷ c.entry_row-c.result ∷ []))
@@ -28,5 +28,8 @@ returns-clause-ok g c clean = ok_then c.run.result (c.run.ensures.done clean) (�
     (rw (params g c) at done.1))
 
 pub returns-clause-spares : goal.returns-clause-spares
-returns-clause-spares g c clean = ok_then c.run.result (c.run.ensures.done clean)
-    (λ ran. entries_beside add_three_text _ _ _ ran.0 three_insert ran.1)
+returns-clause-spares g c clean = ok_then c.run.result (c.run.ensures.done clean) (λ done before len.
+    fills_entries add_three_text c.args.id c.args.place before (c.args.a.now ∷ c.args.b.now ∷ c.args.c.now ∷ [])
+    (three_insert c.args.id c.args.place c.args.a.now c.args.b.now c.args.c.now) (sym len)
+    (c.entry_row-a.ensures.back, (c.entry_row-b.ensures.back, (c.entry_row-c.ensures.back, tt))) _ _ done.0
+    (rw (params g c) at done.1))

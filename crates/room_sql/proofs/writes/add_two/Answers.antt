@@ -8,7 +8,7 @@ use Rattle.room_sql.proofs.Bound.{columns, entry_then}
 use Rattle.room_sql.proofs.Frames.{ok_then}
 use Rattle.room_sql.proofs.writes.add_two.Given.{Over}
 use Rattle.room_sql.proofs.writes.add_two.Goals as goal
-use Rattle.room_tables.proofs.Beside.{entries_beside, two_insert}
+use Rattle.room_tables.proofs.Stands.{fills_entries, two_insert}
 
 params : (g : Over) (c : goal.After-run g)
     → bound (c.to_sql.result ∷ columns (c.entry_row-a.result ∷ c.entry_row-b.result ∷ []))
@@ -24,5 +24,7 @@ returns-clause-ok g c clean = ok_then c.run.result (c.run.ensures.done clean) (�
     (c.entry_row-a.ensures.back, (c.entry_row-b.ensures.back, tt)) was (rw (params g c) at done.1))
 
 pub returns-clause-spares : goal.returns-clause-spares
-returns-clause-spares g c clean = ok_then c.run.result (c.run.ensures.done clean)
-    (λ ran. entries_beside add_two_text _ _ _ ran.0 two_insert ran.1)
+returns-clause-spares g c clean = ok_then c.run.result (c.run.ensures.done clean) (λ done before len.
+    fills_entries add_two_text c.args.id c.args.place before (c.args.a.now ∷ c.args.b.now ∷ [])
+    (two_insert c.args.id c.args.place c.args.a.now c.args.b.now) (sym len)
+    (c.entry_row-a.ensures.back, (c.entry_row-b.ensures.back, tt)) _ _ done.0 (rw (params g c) at done.1))

@@ -9,3 +9,6 @@ returns-clause-ok g c clean =
     entries_made c.args.id c.args.entries.now c.as_slice.result.now _ _ c.as_slice.ensures.value
     (c.add_entries.ensures.frame.kept clean).was_open (all _ (lists_bare _ c.args.id room none)))
     (c.add_entries.ensures.ok clean)
+
+pub returns-clause-spares : goal.returns-clause-spares
+returns-clause-spares g c clean = rw c.as_slice.ensures.value at (c.add_entries.ensures.spares clean)

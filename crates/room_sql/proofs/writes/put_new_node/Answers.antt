@@ -6,7 +6,7 @@ use Rattle.room_sql.proofs.Frames.{ok_then}
 use Rattle.room_sql.proofs.Made.{new_node_made}
 use Rattle.room_sql.proofs.writes.put_new_node.Given.{Over}
 use Rattle.room_sql.proofs.writes.put_new_node.Goals as goal
-use Rattle.room_tables.proofs.Beside.{node_beside}
+use Rattle.room_tables.proofs.Stands.{fills_node}
 
 params : (g : Over) (c : goal.Joined-parent g) → bound (c.params-to_sql.result ∷ c.params-to_sql-2.result
     ∷ c.params-to_sql-3.result ∷ c.params-to_sql-4.result ∷ c.params-to_sql-5.result ∷ c.params-to_sql-6.result
@@ -38,4 +38,5 @@ returns-clause-no_entries g c clean = ok_then c.run.result (c.run.ensures.done c
 
 pub returns-clause-spares : goal.returns-clause-spares
 returns-clause-spares g c clean =
-    ok_then c.run.result (c.run.ensures.done clean) (λ ran. node_beside _ _ _ ran.0 ran.1)
+    ok_then c.run.result (c.run.ensures.done clean) (λ ran. fills_node _ _ c.args.node.now c.name_text-name.result.now
+    ran.0 c.name_text-name.ensures (rw (params g c) at ran.1))
