@@ -154,13 +154,6 @@ module _ {S : Type 0} (store : Ghosts S) where
       read_err store old new frame settled nothing never (λ other. quiet (λ is. other (let e = is in cc)))
       (λ is. counted (ap Err is))
 
--- where no row was read, none passed the test
-pub none_found : (rows read : List Row) (n : ℕ) → IsPermutation (map shown_node rows) read
-    → length read ≡ n → (n == 0) ≡ true → rows ≡ []
-none_found rows read n same len none =
-    let zero : n ≡ 0 = grind (arith, nat_tests) in
-    nil_from_length rows (omega (arith, length-map rows shown_node, length_permutation (map shown_node rows) read same))
-
 -- what was read is handed on
 pub read : {T : Type 0} {Q : T → Type 0} {answer : Result T Error} (result : Result T ShelfFault)
     → IfOk result (λ value. answer ≡ Ok value) → ((value : T) → answer ≡ Ok value → Q value) → IfOk result Q

@@ -72,12 +72,6 @@ one_more id parent row db next is it none = record {
 
 -- ---- changes in turn
 
--- one change more
-pub nodes_then : (changes : List Change) (change : Change) (a b c : List Row)
-    → AfterAll changes a b → After change b c → AfterAll (changes ++ change ∷ []) a c
-nodes_then [] change a b c same last = (c, rw same at last, refl)
-nodes_then (x ∷ xs) change a b c all last = (all.0, all.1, nodes_then xs change all.0 b c all.2 last)
-
 -- the next change, and those behind it
 pub next_change : {X : Type 0} (k : ℕ) (xs : List X) (x : X)
     → k < length xs → x ≡ get_or xs k x → drop k xs ≡ x ∷ drop (k + 1) xs

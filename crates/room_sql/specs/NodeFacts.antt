@@ -9,19 +9,18 @@ use Rattle.room_cache.specs.Rows.{row_at}
 use Rattle.room_tables.specs.Rows.{listed_of}
 use Rattle.room_tables.specs.Names.{AreNameRows}
 use Rattle.room_sql.specs.declared.node_facts.NodeFacts.{NodeFacts}
-use Rattle.room_sql.specs.NodeRows.{in_folder, HasNone}
+use Rattle.room_sql.specs.NodeRows.{in_folder}
 
 -- the names and kinds of a folder's rows, in order of the names, as they are read
 abbrev pub AreListed : ℕ → List Row → List (Name × Kind) → Type 0
 AreListed folder rows names =
     (shown : List Row) × AreNameRows (λ tree. rows) folder shown × (names ≡ filter_map listed_of shown)
 
--- counts and names are those of the rows in their folder, exactly, and no row has the number that is free
+-- counts and names are those of the rows in their folder, exactly
 pub record IsTrueOf (known : NodeFacts) (rows : List Row) : Type 0 where
   pub counts : (folder count : ℕ) → row_at nat_cmp known.counts folder ≡ Some count → count ≡ in_folder folder rows
   pub names : (folder : ℕ) (names : List (Name × Kind)) → row_at nat_cmp known.names folder ≡ Some names
       → AreListed folder rows names
-  pub free : (id : ℕ) → known.free ≡ Some id → HasNone id rows
 
 -- it is true of any rows
 abbrev pub KnowsNothing : NodeFacts → Type 0

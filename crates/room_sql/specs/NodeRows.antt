@@ -1,5 +1,5 @@
 -- What changes do to the rows of nodes. It speaks of rows, and so needs no rule of the records.
-use Rattle.std.specs.Prelude.{◌≡◌, ◌+◌, ℕ, Bool, false, ◌==◌, List, [], ◌∷◌, length, filter, Option, None, Some}
+use Rattle.std.specs.Prelude.{◌≡◌, ◌+◌, ℕ, Bool, true, false, ◌==◌, List, [], ◌∷◌, length, filter, Option, None, Some}
 use Rattle.std.specs.Prelude.{if◌then◌else◌}
 use Rattle.sqlite_value.specs.Order.{Row}
 use Rattle.sqlite.specs.State.{State}
@@ -8,6 +8,8 @@ use Rattle.room_records.specs.declared.change.Change.TheVariants.{PutNode, DropN
 use Rattle.room_records.specs.Changes.{apply_change}
 use Rattle.room_tables.specs.Rows.{has}
 use Rattle.room_tables.specs.Steps.{Steps}
+use Rattle.room_sql.specs.declared.new_object.NewObject.{NewObject}
+use Rattle.room_sql.specs.NewObject.{is_new, after_change}
 
 -- the rows in a folder
 abbrev pub rows_in : ℕ → List Row → List Row
@@ -43,7 +45,13 @@ pub record MakesChange (change : Change) (old new : State) : Type 0 where
   pub steps : Steps old new (apply_change change)
   pub nodes : After change (old.now.trees 1) (new.now.trees 1)
 
--- what changes do in their order
-abbrev pub AfterAll : List Change → List Row → List Row → Type 0
-AfterAll [] old new = new ≡ old
-AfterAll (change ∷ changes) old new = (mid : List Row) × After change old mid × AfterAll changes mid new
+-- a node that a commit takes as new had no row
+abbrev pub IsNewIfKnown : NewObject → Change → List Row → Type 0
+IsNewIfKnown object (PutNode node) old = is_new object node.id ≡ true → HasNone node.id old
+IsNewIfKnown object _ old = Unit {0}
+
+-- what changes do in their order, by what is known of an object before them
+abbrev pub AfterAll : NewObject → List Change → List Row → List Row → Type 0
+AfterAll object [] old new = new ≡ old
+AfterAll object (change ∷ changes) old new = (mid : List Row) × IsNewIfKnown object change old × After change old mid
+    × AfterAll (after_change object change) changes mid new

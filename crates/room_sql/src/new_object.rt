@@ -1,19 +1,19 @@
 //! What a commit knows of the object that it makes, so that it adds rows where none can be.
 
 ghost use Rattle.std.specs.Prelude.{◌≡◌};
-ghost use Rattle.room_sql.specs.NewObject.{before_all, is_free, lacks_entries, lacks_doc, after_change};
+ghost use Rattle.room_sql.specs.NewObject.{is_new, lacks_entries, lacks_doc, after_change};
 
 use room_records::Change;
 
-/// What a commit knows of one object, as it makes its changes one after another. It begins with the free number of
-/// `NodeFacts`, and chooses the statements: it forgets all behind a change that makes no part of that object, whatever
-/// the shelf still remembers.
+/// What a commit knows of one object, as it makes its changes one after another. It chooses the statements, and forgets
+/// all after a change that makes no part of that object.
 #[derive(Clone, Copy)]
 pub(crate) enum NewObject {
     /// Nothing is known of any.
     Unknown,
-    /// No row of `node` has this number.
-    Free(u32),
+    /// The commit has made the number after this one the next, so a node of this number is new: an INSERT adds it, and
+    /// is refused where a row has the number.
+    New(u32),
     /// The commit has added the row of this number. None of `entry` or `doc` refers to it.
     WithoutEntries(u32),
     /// The commit has added the row of this number. None of `doc` refers to it.
@@ -21,22 +21,12 @@ pub(crate) enum NewObject {
 }
 
 impl NewObject {
-    /// What is known before the first change, by the number that no row of `node` has.
-    pub(crate) fn before_all(free: Option<u32>) -> NewObject
-        ensures { result ≡ before_all free }
-    {
-        match free {
-            Some(id) => NewObject::Free(id),
-            None => NewObject::Unknown,
-        }
-    }
-
-    /// Whether no row of `node` is known to have the number.
-    pub(crate) fn is_free(self, id: u32) -> bool
-        ensures { result ≡ is_free self id }
+    /// Whether a node of the number is new.
+    pub(crate) fn is_new(self, id: u32) -> bool
+        ensures { result ≡ is_new self id }
     {
         match self {
-            NewObject::Free(free) => free == id,
+            NewObject::New(new) => new == id,
             _ => false,
         }
     }
@@ -67,9 +57,9 @@ impl NewObject {
         ensures { result ≡ after_change self change.now }
     {
         match change {
-            Change::PutNode(node) if self.is_free(node.id) => NewObject::WithoutEntries(node.id),
+            Change::PutNode(node) if self.is_new(node.id) => NewObject::WithoutEntries(node.id),
             Change::PutEntries(id, _) if self.lacks_entries(*id) => NewObject::WithoutDocument(*id),
-            Change::PutNext(_) => self,
+            Change::PutNext(next) if *next > 0 => NewObject::New(*next - 1),
             _ => NewObject::Unknown,
         }
     }

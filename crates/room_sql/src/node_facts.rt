@@ -7,19 +7,19 @@ ghost use Rattle.room_acl.specs.declared.subject.Kind.{Kind};
 ghost use Rattle.room_records.specs.declared.change.Change.TheVariants.{PutNode};
 ghost use Rattle.room_records.specs.Names.{Name};
 ghost use Rattle.room_cache.specs.Rows.{row_at};
-ghost use Rattle.room_sql.specs.NodeRows.{in_folder, HasNone, is_parent, After, AfterAll};
+ghost use Rattle.room_sql.specs.NodeRows.{in_folder, HasNone, is_parent, IsNewIfKnown, After, AfterAll};
+ghost use Rattle.room_sql.specs.declared.new_object.NewObject.TheVariants.{Unknown};
 ghost use Rattle.room_sql.specs.NodeFacts.{AreListed, IsTrueOf, KnowsNothing};
 
 use crate::names::NameList;
+use crate::new_object::NewObject;
 use room_acl::Kind;
 use room_cache::Rows;
 use room_records::{Change, FileName, Node, copy_names};
 use std::alloc::Global;
 
-/// The counts of at most 256 folders, the names in as many, and one number that no row has: all that a shelf remembers.
-/// A commit chooses its statements by `NewObject`; only where it succeeded are its changes followed here, and other
-/// changes may stand before the node that takes the free number: its folder's count is raised still, and that folder's
-/// names alone are forgotten.
+/// The counts of at most 256 folders, and the names in as many. Only where a commit succeeded are its changes followed
+/// here: a new node raises the count of its folder, and that folder's names alone are forgotten.
 #[derive(Drop)]
 pub(crate) struct NodeFacts {
     /// True only where no fault came since a count or names were read, so that the store is there if it is intact.
@@ -28,8 +28,6 @@ pub(crate) struct NodeFacts {
     counts: Rows<u32, u64>,
     /// The names and kinds of what is in these folders.
     names: Rows<u32, NameList>,
-    /// A number that no row has, if one is known.
-    pub(crate) free: Option<u32>,
 }
 
 impl NodeFacts {
@@ -42,7 +40,6 @@ impl NodeFacts {
             has_answered: false,
             counts: Rows::new(alloc),
             names: Rows::new(alloc),
-            free: None,
         }
     }
 
@@ -54,7 +51,6 @@ impl NodeFacts {
         self.has_answered = false;
         self.counts.clear();
         self.names.clear();
-        self.free = None;
     }
 
     /// The count of this folder, if it is remembered.
@@ -106,27 +102,6 @@ impl NodeFacts {
         }
     }
 
-    /// Remembers that no row has this number, if that was found, in the place of another.
-    pub(crate) fn keep_free(&mut self, id: u32, is_free: bool)
-        ensures true_of { (rows : List Row) → IsTrueOf self.old rows
-            → (is_free ≡ true → HasNone id rows) → IsTrueOf self.new rows }
-        ensures answered { self.new.has_answered ≡ self.old.has_answered }
-    {
-        if is_free {
-            self.free = Some(id);
-        }
-    }
-
-    /// Whether the number is known to be free.
-    fn is_free(&self, id: u32) -> bool
-        ensures { result ≡ true → self.now.free ≡ Some id }
-    {
-        match self.free {
-            Some(free) => free == id,
-            None => false,
-        }
-    }
-
     /// Raises the count of the folder that is the parent, if it is remembered. One that has no greater is forgotten.
     fn raise_count(&mut self, parent: Option<u32>)
         ensures counts { (folder count : ℕ) → row_at nat_cmp self.new.counts folder ≡ Some count
@@ -156,25 +131,25 @@ impl NodeFacts {
         }
     }
 
-    /// After a node is put: where its number was free it is one row more in its folder, and its number is taken.
-    fn follow_put(&mut self, node: &Node)
-        ensures { (old new : List Row) → IsTrueOf self.old old → After (PutNode node.now) old new
-            → IsTrueOf self.new new }
+    /// After a node is put: where it is new it is one row more in its folder.
+    fn follow_put(&mut self, is_new: bool, node: &Node)
+        ensures { (old new : List Row) → IsTrueOf self.old old → (is_new ≡ true → HasNone node.now.id old)
+            → After (PutNode node.now) old new → IsTrueOf self.new new }
     {
-        if !self.is_free(node.id) {
+        if !is_new {
             self.forget();
             return;
         }
         self.raise_count(node.parent);
         self.forget_names(node.parent);
-        self.free = None;
     }
 
-    fn follow_one(&mut self, change: &Change)
-        ensures { (old new : List Row) → IsTrueOf self.old old → After change.now old new → IsTrueOf self.new new }
+    fn follow_one(&mut self, object: NewObject, change: &Change)
+        ensures { (old new : List Row) → IsTrueOf self.old old → IsNewIfKnown object change.now old
+            → After change.now old new → IsTrueOf self.new new }
     {
         match change {
-            Change::PutNode(node) => self.follow_put(node),
+            Change::PutNode(node) => self.follow_put(object.is_new(node.id), node),
             Change::DropNode(_) => self.forget(),
             _ => {},
         }
@@ -182,10 +157,13 @@ impl NodeFacts {
 
     /// What is still true after a commit of these changes.
     pub(crate) fn follow(&mut self, changes: &[Change])
-        ensures { (old new : List Row) → IsTrueOf self.old old → AfterAll changes.now old new → IsTrueOf self.new new }
+        ensures { (old new : List Row) → IsTrueOf self.old old → AfterAll Unknown changes.now old new
+            → IsTrueOf self.new new }
     {
+        let mut object = NewObject::Unknown;
         for change in changes {
-            self.follow_one(change);
+            self.follow_one(object, change);
+            object = object.after(change);
         }
     }
 }

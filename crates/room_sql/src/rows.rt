@@ -1,7 +1,7 @@
 //! Rows of the tables, read as values of a room. A row that is no value of its type is an error.
 
-ghost use Rattle.std.specs.Prelude.{◌≡◌, ◌==◌, ℕ, pos, [], ◌∷◌, Some, None, map, slice_get, unwrap_or};
-ghost use Rattle.std.specs.Prelude.{option_map, IfOk, string_bytes};
+ghost use Rattle.std.specs.Prelude.{◌≡◌, ◌≢◌, ◌==◌, ◌<◌, ◌-◌, ◌^◌, ℕ, pos, [], ◌∷◌, Some, None, map, slice_get};
+ghost use Rattle.std.specs.Prelude.{unwrap_or, option_map, IfOk, IfErr, string_bytes};
 ghost use Rattle.std.specs.List.{AllByRecursion, filter_map};
 ghost use Rattle.sqlite_value.specs.Order.{column};
 ghost use Rattle.sqlite_value.specs.declared.value.Value.TheVariants.{Int, Text};
@@ -251,9 +251,12 @@ pub(crate) fn first_node(alloc: Global, rows: &[Row]) -> Result<Option<Node>, Er
     }
 }
 
-/// How many rows the one row says there are. A count of 2^63 - 1 or more is not told exactly.
+/// How many rows the one row says there are. A count of 2^63 - 1 or more is not told exactly, and an error; else one
+/// comes of want of memory alone.
 pub(crate) fn one_count(rows: &[Row]) -> Result<u64, Error>
     ensures value { IfOk result (λ count. (n : ℕ) → rows.now ≡ counted_row n ∷ [] → count ≡ n) }
+    ensures told { IfErr result (λ e. e ≢ Error.SqliteFailure ErrorCode.OutOfMemory
+        → (n : ℕ) → n < 2 ^ 63 - 1 → rows.now ≢ counted_row n ∷ []) }
 {
     match rows {
         [row] => {

@@ -23,10 +23,12 @@ use std::alloc::Global;
 
 /// A shelf whose records are the rows of the six tables in its connection's database, and nothing beside them.
 /// The connection is outside a transaction between calls. It remembers, while the connection is open, how many children
-/// up to 256 folders have, the names of up to 256 in each of as many, by the sizes of the types 6.3 MB at worst, and
-/// one number that no row has; any fault makes it forget all. Where memory is refused for names that would be
-/// remembered, the call is answered still; where it is refused for the copy that is the answer, the call answers
-/// `Memory`, and nothing is forgotten.
+/// up to 256 folders have, and the names of up to 256 in each of as many, by the sizes of the types 6.3 MB at worst.
+/// Any fault makes it forget all. Where memory is refused for names that would be remembered, the call is answered
+/// still; where it is refused for the copy that is the answer, the call answers `Memory`, and nothing is forgotten.
+///
+/// A commit that puts the next number and then the node below it takes that node as new: it fails where a row has that
+/// number.
 #[derive(Drop)]
 pub struct SqlShelf<S: Alter> {
     alloc: Global,
@@ -137,7 +139,6 @@ impl<S: Alter> Shelf for SqlShelf<S> {
         let rows = reads::node_rows(&mut self.conn, id);
         let _rests = self.conn.is_autocommit();
         let rows = or_fault(&mut self.failures, &mut self.known, rows)?;
-        self.known.keep_free(id, rows.is_empty());
         let found = one_node(self.alloc, rows.as_slice());
         or_fault(&mut self.failures, &mut self.known, found)
     }
@@ -286,7 +287,7 @@ impl<S: Alter> Shelf for SqlShelf<S> {
             ((state S.Store self.new.conn).now.schema ≡ (state S.Store self.old.conn).now.schema) }
     {
         let _outside = self.conn.is_autocommit();
-        let done = writes::commit(&mut self.conn, self.known.free, changes);
+        let done = writes::commit(&mut self.conn, changes);
         let _rests = self.conn.is_autocommit();
         // The database is sound.
         let _live = self.conn.schema();

@@ -20,7 +20,8 @@ ghost use Rattle.room_tables.specs.Rows.{records_of, five_columns};
 ghost use Rattle.room_tables.specs.Steps.{Steps, SeesSound, Lists, MayBecome, StaysRoom, IsReadBack, placed};
 ghost use Rattle.room_sql.specs.NewObject.{after_change, NoEntriesIfKnown};
 ghost use Rattle.room_sql.specs.Frames.{RunsOr, InsideFrame, CommitFrame};
-ghost use Rattle.room_sql.specs.NodeRows.{MakesChange, AfterAll};
+ghost use Rattle.room_sql.specs.NodeRows.{HasNone, IsNewIfKnown, MakesChange, AfterAll};
+ghost use Rattle.room_sql.specs.declared.new_object.NewObject.TheVariants.{Unknown};
 
 use crate::new_object::NewObject;
 use crate::rows::placed_entries;
@@ -102,12 +103,15 @@ fn put_node<S: Alter>(tx: &mut Transaction<'_, S>, node: &Node) -> Result<(), Er
     )
 }
 
-/// Adds the row of a node whose number no row has. An UPDATE that finds none costs a third as much again.
+/// Adds the row of a node, whose number no row may have. An UPDATE that finds none costs a third as much again.
 pub(crate) fn put_new_node<S: Alter>(tx: &mut Transaction<'_, S>, node: &Node) -> Result<(), Error>
     ensures frame { InsideFrame S.Store tx.old tx.new result }
     ensures ok { HasCleanDisk (state S.Store tx.new.conn.now)
         → OnOk result (IsRoomDatabase (state S.Store tx.old.conn.now).now →
         MakesChange (PutNode node.now) (state S.Store tx.old.conn.now) (state S.Store tx.new.conn.now)) }
+    ensures new { HasCleanDisk (state S.Store tx.new.conn.now)
+        → OnOk result (IsRoomDatabase (state S.Store tx.old.conn.now).now →
+        HasNone node.now.id ((state S.Store tx.old.conn.now).now.trees 1)) }
     ensures no_entries { HasCleanDisk (state S.Store tx.new.conn.now)
         → OnOk result (IsRoomDatabase (state S.Store tx.old.conn.now).now → SeesSound (state S.Store tx.old.conn.now) →
         (records_of (state S.Store tx.new.conn.now).now.trees).objects.entries node.now.id ≡ []) }
@@ -697,10 +701,11 @@ fn apply<S: Alter>(
         → OnOk result (IsRoomDatabase (state S.Store tx.old.conn.now).now → SeesSound (state S.Store tx.old.conn.now) →
         NoEntriesIfKnown object (state S.Store tx.old.conn.now).now.trees →
         MakesChange change.now (state S.Store tx.old.conn.now) (state S.Store tx.new.conn.now)
+        × IsNewIfKnown object change.now ((state S.Store tx.old.conn.now).now.trees 1)
         × NoEntriesIfKnown (after_change object change.now) (state S.Store tx.new.conn.now).now.trees) }
 {
     match change {
-        Change::PutNode(node) if object.is_free(node.id) => put_new_node(tx, node),
+        Change::PutNode(node) if object.is_new(node.id) => put_new_node(tx, node),
         Change::PutNode(node) => put_node(tx, node),
         Change::DropNode(id) => drop_node(tx, *id),
         Change::PutEntries(id, entries) if object.lacks_entries(*id) => put_new_entries(
@@ -716,23 +721,18 @@ fn apply<S: Alter>(
     }
 }
 
-fn apply_all<S: Alter>(
-    tx: &mut Transaction<'_, S>,
-    object: NewObject,
-    changes: &[Change],
-) -> Result<(), Error>
+fn apply_all<S: Alter>(tx: &mut Transaction<'_, S>, changes: &[Change]) -> Result<(), Error>
     requires inside { tx.old.conn.now.in_transaction ≡ true }
     requires sound { SeesSound (state S.Store tx.old.conn.now) }
-    requires no_entries { NoEntriesIfKnown object (state S.Store tx.old.conn.now).now.trees }
     ensures frame { InsideFrame S.Store tx.old tx.new result }
     ensures ok { HasCleanDisk (state S.Store tx.new.conn.now)
         → OnOk result (IsRoomDatabase (state S.Store tx.old.conn.now).now →
         Steps (state S.Store tx.old.conn.now) (state S.Store tx.new.conn.now) (apply_changes changes.now)) }
     ensures nodes { HasCleanDisk (state S.Store tx.new.conn.now)
-        → OnOk result (IsRoomDatabase (state S.Store tx.old.conn.now).now → AfterAll changes.now
+        → OnOk result (IsRoomDatabase (state S.Store tx.old.conn.now).now → AfterAll Unknown changes.now
         ((state S.Store tx.old.conn.now).now.trees 1) ((state S.Store tx.new.conn.now).now.trees 1)) }
 {
-    let mut known = object;
+    let mut known = NewObject::Unknown;
     for change in changes {
         apply(tx, known, change)?;
         known = known.after(change);
@@ -740,12 +740,8 @@ fn apply_all<S: Alter>(
     Ok(())
 }
 
-/// All changes in order, or none, also over a crash. No row of `node` has the number that is free, if one is known.
-pub(crate) fn commit<S: Alter>(
-    conn: &mut Connection<S>,
-    free: Option<u32>,
-    changes: &[Change],
-) -> Result<(), Error>
+/// All changes in order, or none, also over a crash.
+pub(crate) fn commit<S: Alter>(conn: &mut Connection<S>, changes: &[Change]) -> Result<(), Error>
     requires { conn.old.in_transaction ≡ false }
     ensures frame { CommitFrame S.Store (MayBecome changes.now) conn.old conn.new result }
     ensures ok { HasCleanDisk (state S.Store conn.new)
@@ -753,7 +749,7 @@ pub(crate) fn commit<S: Alter>(
         IsRoomDatabase (state S.Store conn.new).now
         × MayBecome changes.now (state S.Store conn.old).now (state S.Store conn.new).now.trees)) }
     ensures nodes { HasCleanDisk (state S.Store conn.new) → OnOk result (IsRoomDatabase (state S.Store conn.old).now
-        → AfterAll changes.now ((state S.Store conn.old).now.trees 1) ((state S.Store conn.new).now.trees 1)) }
+        → AfterAll Unknown changes.now ((state S.Store conn.old).now.trees 1) ((state S.Store conn.new).now.trees 1)) }
     ensures version { HasCleanDisk (state S.Store conn.new) → OnOk result (IsRoomDatabase (state S.Store conn.old).now
         → IsVersion 2 (version_rows (state S.Store conn.old).now.trees) →
         IsVersion 2 (version_rows (state S.Store conn.new).now.trees)) }
@@ -767,6 +763,6 @@ pub(crate) fn commit<S: Alter>(
     // The database is sound.
     let _live = conn.schema();
     let mut tx = conn.transaction();
-    apply_all(&mut tx, NewObject::before_all(free), changes)?;
+    apply_all(&mut tx, changes)?;
     tx.commit()
 }

@@ -22,6 +22,20 @@ use Rattle.room_tables.proofs.Effects.{params_of_node, node_added, id_is}
 use Rattle.room_tables.proofs.Drops.{no_entries}
 use Rattle.room_tables.proofs.Placed.{lists_stored, lists_records}
 
+-- an INSERT that answers Ok tells that no row had the number of its node
+pub none_before : (old new : State) (node : Node) (name : List ℕ) (params : Row) (count : ℕ) → IsRoomDatabase old.now
+    → params ≡ params_of_node node name → ExecutesInside 0 add_node_text params old new (Ok count)
+    → filter (has 0 node.id) (old.now.trees 1) ≡ []
+none_before old new node name params count room params_are ran =
+    let h = subst (λ p. ExecutesInside 0 add_node_text p old new (Ok count)) params_are ran in
+    let it = (node_added old new node name count (λ _. ⊥) room h).put in
+    let id : it.id ≡ pos node.id = id_is (sym it.has_id ∙ ap rowid it.fits) in
+    filter_none (has 0 node.id) (old.now.trees 1)
+    (all_from (λ r. has 0 node.id r ≡ false) (old.now.trees 1) (λ r there. elim (cases_Bool (has 0 node.id r)) [
+      | inl mine ↦ absurd (it.gone r there (ap (λ i. has_rowid i r) id ∙ same_test node.id r ∙ mine))
+      | inr other ↦ other
+    ]))
+
 -- entries would have referred to a node that was not there
 pub added_bare : (old new : State) (node : Node) (name : List ℕ) (params : Row) (count : ℕ) → IsRoomDatabase old.now
     → params ≡ params_of_node node name → ExecutesInside 0 add_node_text params old new (Ok count) → SeesSound old
@@ -29,15 +43,9 @@ pub added_bare : (old new : State) (node : Node) (name : List ℕ) (params : Row
 added_bare old new node name params count room params_are ran sound =
     let h = subst (λ p. ExecutesInside 0 add_node_text p old new (Ok count)) params_are ran in
     let it = (node_added old new node name count (λ _. ⊥) room h).put in
-    let id : it.id ≡ pos node.id = id_is (sym it.has_id ∙ ap rowid it.fits) in
-    let none : filter (has 0 node.id) (old.now.trees 1) ≡ [] = filter_none (has 0 node.id) (old.now.trees 1)
-    (all_from (λ r. has 0 node.id r ≡ false) (old.now.trees 1) (λ r there. elim (cases_Bool (has 0 node.id r)) [
-      | inl mine ↦ absurd (it.gone r there (ap (λ i. has_rowid i r) id ∙ same_test node.id r ∙ mine))
-      | inr other ↦ other
-    ])) in
     ap (λ rows. entries_in rows node.id) (it.others.entry (omega arith))
     ∙ ap (λ rows. map entry_of (in_order rows)) (no_entries room.layout old.now node.id room.schema
-    (sound h.1.was_open) none)
+    (sound h.1.was_open) (none_before old new node name params count room params_are ran))
 
 none_mapped : {X Y : Type 0} (f : X → Y) (xs : List X) → map f xs ≡ [] → xs ≡ []
 none_mapped f [] none = refl

@@ -5,5 +5,4 @@ use Rattle.room_sql.proofs.writes.apply.Goals as goal
 pub returns-in-PutNext-clause-ok : goal.returns-in-PutNext-clause-ok
 returns-in-PutNext-clause-ok g c clean =
     ok_then c.put_next.result (c.put_next.ensures.ok clean) (λ done room sound so.
-    let made = (done room).0 in
-    rw c.in-PutNext.is (made, no_entries_after_next c.args.object _ _ c.in-PutNext.next made.steps so))
+    rw c.in-PutNext.is ((done room).0, tt, no_entries_after_next c.args.object c.in-PutNext.next _))

@@ -1,8 +1,10 @@
-use Rattle.std.proofs.Common.{◌≡◌, ◌∙◌, ◌++◌, ◌<◌, [], ◌∷◌, ◌+◌, length, take, sym, ap, arith}
-use Rattle.std.proofs.lemmas.List.{take_more}
+use Rattle.std.proofs.Common.{◌≡◌, ◌∙◌, ◌++◌, ◌<◌, [], ◌∷◌, ◌+◌, length, take, drop, refl, sym, ap, subst, arith}
+use Rattle.std.proofs.lemmas.List.{take_more, length-drop, nil_from_length}
+use Rattle.sqlite.specs.Held.{state}
 use Rattle.room_tables.proofs.Effects.{steps_more}
+use Rattle.room_sql.specs.NodeRows.{AfterAll}
 use Rattle.room_sql.proofs.Frames.{was_clean, inside_then, inside_err}
-use Rattle.room_sql.proofs.NodeRows.{nodes_then}
+use Rattle.room_sql.proofs.NodeRows.{next_change}
 use Rattle.room_sql.proofs.writes.apply_all.Goals as goal
 
 pub loop-change-preserved : goal.loop-change-preserved
@@ -19,14 +21,31 @@ loop-change-preserved g c =
       done = λ clean room.
           let was = inv.done (was_clean c.apply.ensures.frame.crash clean) room in
           let one = c.in_ok-apply.ensures.ok clean was.0.room (was.0.sound c.requires.sound) was.1 in
-          (steps_more _ _ _ (take k xs) (take (k + 1) xs) item more was.0 one.0.steps, rw c.after-known.ensures one.1);
-      nodes = λ clean room.
+          (steps_more _ _ _ (take k xs) (take (k + 1) xs) item more was.0 one.0.steps, rw c.after-known.ensures one.2);
+      nodes = λ clean room last rest.
           let early = was_clean c.apply.ensures.frame.crash clean in
           let was = inv.done early room in
           let one = c.in_ok-apply.ensures.ok clean was.0.room (was.0.sound c.requires.sound) was.1 in
-          rw more (nodes_then (take k xs) item _ _ _ (inv.nodes early room) one.0.nodes);
+          let rows = (state g.S.Store c.loop-change.tx.conn.now).now.trees 1 in
+          let next = (state g.S.Store c.apply.new.tx.conn.now).now.trees 1 in
+          inv.nodes early room last (subst (λ changes. AfterAll c.loop-change.known changes rows last)
+          (sym (next_change k xs item within c.change-item.is)) (
+            next,
+            one.1,
+            one.0.nodes,
+            subst (λ object. AfterAll object (drop (k + 1) xs) next last) c.after-known.ensures rest,
+          ));
     }
 
 pub returns-in_err-apply-clause-frame : goal.returns-in_err-apply-clause-frame
 returns-in_err-apply-clause-frame g c =
     inside_err c.from_residual.ensures.0 (inside_then c.loop-change.invariant.frame c.in_err-apply.ensures.frame)
+
+pub returns-clause-nodes : goal.returns-clause-nodes
+returns-clause-nodes g c clean room =
+    let xs = c.args.changes.now in
+    let k = c.loop-change.change-index in
+    let none : length (drop k xs) ≡ 0 = omega (arith, length-drop k xs) in
+    let rows = (state g.S.Store c.loop-change.tx.conn.now).now.trees 1 in
+    c.loop-change.invariant.nodes clean room rows (subst (λ changes. AfterAll c.loop-change.known changes rows rows)
+    (sym (nil_from_length (drop k xs) none)) refl)

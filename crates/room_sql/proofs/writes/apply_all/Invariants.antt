@@ -1,9 +1,11 @@
-use Rattle.std.proofs.Common.{take, Ok}
+use Rattle.std.proofs.Common.{List, take, drop, Ok}
+use Rattle.sqlite_value.specs.Order.{Row}
 use Rattle.sqlite.specs.State.{HasCleanDisk}
 use Rattle.sqlite.specs.Held.{state}
 use Rattle.room_records.specs.Changes.{apply_changes}
 use Rattle.room_tables.specs.Layout.{IsRoomDatabase}
 use Rattle.room_tables.specs.Steps.{Steps}
+use Rattle.room_sql.specs.declared.new_object.NewObject.TheVariants.{Unknown}
 use Rattle.room_sql.specs.NewObject.{NoEntriesIfKnown}
 use Rattle.room_sql.specs.Frames.{InsideFrame}
 use Rattle.room_sql.specs.NodeRows.{AfterAll}
@@ -17,6 +19,7 @@ invariant-loop-change g l =
       frame : InsideFrame g.S.Store {T = Unit {0}} l.fn.tx l.tx (Ok tt);
       done : HasCleanDisk now → IsRoomDatabase old.now
           → Steps old now (apply_changes (take l.change-index l.changes)) × NoEntriesIfKnown l.known now.now.trees;
-      nodes : HasCleanDisk now → IsRoomDatabase old.now
-          → AfterAll (take l.change-index l.changes) (old.now.trees 1) (now.now.trees 1);
+      nodes : HasCleanDisk now → IsRoomDatabase old.now → (last : List Row)
+          → AfterAll l.known (drop l.change-index l.changes) (now.now.trees 1) last
+          → AfterAll Unknown l.changes (old.now.trees 1) last;
     }

@@ -1,7 +1,7 @@
 use Rattle.std.proofs.Common.{◌≡◌, [], ◌∷◌, refl}
 use Rattle.sqlite.specs.Values.{bound}
 use Rattle.room_tables.proofs.Effects.{params_of_node, bound_parent}
-use Rattle.room_tables.proofs.FirstEntries.{added_bare}
+use Rattle.room_tables.proofs.FirstEntries.{none_before, added_bare}
 use Rattle.room_sql.proofs.Frames.{ok_then}
 use Rattle.room_sql.proofs.Made.{new_node_made}
 use Rattle.room_sql.proofs.writes.put_new_node.Given.{Over}
@@ -31,6 +31,10 @@ params g c = rw (
 pub returns-clause-ok : goal.returns-clause-ok
 returns-clause-ok g c clean = ok_then c.run.result (c.run.ensures.done clean) (λ ran room.
     new_node_made c.args.node.now _ _ _ ran.0 c.name_text-name.ensures room (rw (params g c) at ran.1))
+
+pub returns-clause-new : goal.returns-clause-new
+returns-clause-new g c clean = ok_then c.run.result (c.run.ensures.done clean) (λ ran room.
+    none_before _ _ c.args.node.now c.name_text-name.result.now _ ran.0 room (params g c) ran.1)
 
 pub returns-clause-no_entries : goal.returns-clause-no_entries
 returns-clause-no_entries g c clean = ok_then c.run.result (c.run.ensures.done clean) (λ ran room.

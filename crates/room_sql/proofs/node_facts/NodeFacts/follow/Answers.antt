@@ -1,5 +1,6 @@
-use Rattle.std.proofs.Common.{◌≡◌, ◌<◌, length, drop, arith}
+use Rattle.std.proofs.Common.{◌≡◌, ◌<◌, ◌+◌, length, drop, sym, subst, arith}
 use Rattle.std.proofs.lemmas.List.{length-drop, nil_from_length}
+use Rattle.room_sql.specs.NodeRows.{AfterAll}
 use Rattle.room_sql.proofs.NodeRows.{next_change}
 use Rattle.room_sql.proofs.node_facts.NodeFacts.follow.Goals as goal
 
@@ -9,8 +10,11 @@ loop-change-preserved c = λ old new true_of all.
     let k = c.loop-change.change-index in
     let was = c.loop-change.invariant old new true_of all in
     let within : k < length xs = omega arith in
-    let next = rw (next_change k xs c.change-item.result within c.change-item.is) at was.2 in
-    (next.0, c.follow_one.ensures was.0 next.0 was.1 next.1, next.2)
+    let next = rw (next_change k xs c.change-item.result within c.change-item.is) at was.2 in (
+      next.0,
+      c.follow_one.ensures was.0 next.0 was.1 next.1 next.2,
+      subst (λ object. AfterAll object (drop (k + 1) xs) next.0 new) (sym c.after-object.ensures) next.3,
+    )
 
 pub returns : goal.returns
 returns c old new true_of all =
